@@ -1,0 +1,112 @@
+//! The laws of the machine: what holds after every legal list of entries, for whoever keeps the tables by such a list.
+//! Each law is a function without parameters that does nothing: its clause speaks of every list. A crate above cites a law by calling it.
+//! Their words stand in `specs/Laws.antt`. First what holds after a list, then what one step keeps, for a type that keeps it.
+//! Limits: a restart releases every ACTIVE row before its settings come into force, and a claim picks only below the limits.
+//! So no limit is ever passed, lower ones after a restart among them.
+ghost use Rattle.std.specs.Prelude.{
+  ◌≡◌,
+  ℕ,
+  ◌+◌,
+  ◌-◌,
+  ◌≤◌,
+  Some,
+  slice_get,
+  List,
+  [],
+  ◌∷◌,
+  ◌++◌,
+  IsTrue,
+  count_by,
+};
+ghost use Rattle.fts_tables.specs.SettingsData.{SettingsData};
+ghost use Rattle.fts_tables.specs.Tables.{Tables, AreWellFormed, is_active, is_settled, row_at};
+ghost use Rattle.fts_tables.specs.Limits.{held, is_eligible};
+ghost use Rattle.fts_tables.specs.Choice.{pick};
+ghost use Rattle.fts_tables.specs.Step.{step};
+ghost use Rattle.fts_tables.specs.History.{
+  IsAccepted,
+  tables_after,
+  IsLegal,
+  tables_of,
+  out_of_list,
+  claims,
+  reports,
+  releases,
+};
+ghost use Rattle.fts_tables.specs.Laws.{
+  AreTheActive,
+  AreWithinLimits,
+  RowsMoved,
+  RowsStay,
+  IsStanding,
+};
+ghost use Rattle.fts_tables.specs.declared.rows.FileRow.{FileRow};
+ghost use Rattle.fts_tables.specs.declared.commands.Command.{Command};
+ghost use Rattle.fts_tables.specs.declared.commands.Command.TheVariants.{Restart};
+ghost use Rattle.fts_tables.specs.declared.commands.Entry.{Entry};
+
+/// Jobs and rows are numbered from 1, and each job's rows stand together, job after job.
+pub fn tables_are_well_formed()
+    ensures formed { (entries : List Entry) → IsLegal entries → AreWellFormed (tables_of entries) }
+{}
+
+/// The files that are out, by the claims, reports and restarts alone, are the ACTIVE rows, each once.
+pub fn files_out_are_the_active_rows()
+    ensures out { (entries : List Entry) → IsLegal entries → AreTheActive (out_of_list entries) (tables_of entries).rows }
+{}
+
+/// What a link was claimed for is held, was reported or was released: with sums, and with differences.
+pub fn slots_balance()
+    ensures sums { (entries : List Entry) (source dest : List ℕ) → IsLegal entries → claims source dest entries ≡ held (tables_of entries).rows source dest + (reports source dest entries + releases source dest entries) }
+    ensures differences { (entries : List Entry) (source dest : List ℕ) → IsLegal entries → held (tables_of entries).rows source dest ≡ claims source dest entries - reports source dest entries - releases source dest entries }
+{}
+
+/// No link and no endpoint has more ACTIVE rows than the settings in force allow, and no place two that go there.
+pub fn limits_hold()
+    ensures limits { (entries : List Entry) → IsLegal entries → AreWithinLimits (tables_of entries) }
+{}
+
+/// A restart leaves no row ACTIVE, whatever the tables and its settings.
+pub fn restarts_release_all()
+    ensures none { (tables : Tables) (now : ℕ) (settings : SettingsData) → count_by (λ row. is_active row.state) (tables_after tables (step tables (Restart now settings))).rows ≡ 0 }
+{}
+
+/// A claim takes a row that may be claimed: one that waits, in time, below each limit, and with its destination free.
+pub fn picked_rows_are_eligible()
+    ensures eligible { (tables : Tables) (now word : ℕ) (row : FileRow) → pick tables now word ≡ Some row → IsTrue (is_eligible tables now row) }
+{}
+
+/// One entry more moves each row by an allowed step or not at all.
+pub fn rows_move_by_allowed_steps()
+    ensures moved { (entries : List Entry) (next : Entry) → IsLegal (entries ++ next ∷ []) → RowsMoved (tables_of entries).rows (tables_of (entries ++ next ∷ [])).rows }
+{}
+
+/// Each row stays for good at its place, with its id, job, index, places, wanted digest and activity.
+pub fn rows_stay()
+    ensures stay { (entries more : List Entry) → IsLegal (entries ++ more) → RowsStay (tables_of entries).rows (tables_of (entries ++ more)).rows }
+{}
+
+/// A row that is FINISHED, FAILED or CANCELED stays for good as it is.
+pub fn settled_rows_stay()
+    ensures stay { (entries more : List Entry) (id : ℕ) (row : FileRow) → IsLegal (entries ++ more) → row_at (tables_of entries).rows id ≡ Some row → IsTrue (is_settled row.state) → row_at (tables_of (entries ++ more)).rows id ≡ Some row }
+{}
+
+/// A step that is accepted keeps the form and the limits, whatever list the tables come from.
+pub fn steps_keep_standing()
+    ensures standing { (tables : Tables) (command : Command) → IsStanding tables → IsAccepted (step tables command) → IsStanding (tables_after tables (step tables command)) }
+{}
+
+/// A step that is accepted moves each row by an allowed step or not at all.
+pub fn steps_move_rows()
+    ensures moved { (tables : Tables) (command : Command) → IsStanding tables → IsAccepted (step tables command) → RowsMoved tables.rows (tables_after tables (step tables command)).rows }
+{}
+
+/// The row that a claim picks stands at the place before its id.
+pub fn picked_rows_stand()
+    ensures place { (tables : Tables) (now word : ℕ) (row : FileRow) → AreWellFormed tables → pick tables now word ≡ Some row → (1 ≤ row.id) × (slice_get tables.rows (row.id - 1) ≡ Some row) }
+{}
+
+/// A row that is found by its id stands at the place before it.
+pub fn found_rows_stand()
+    ensures place { (tables : Tables) (id : ℕ) (row : FileRow) → AreWellFormed tables → row_at tables.rows id ≡ Some row → (1 ≤ id) × (slice_get tables.rows (id - 1) ≡ Some row) }
+{}
