@@ -1,0 +1,10 @@
+pub mod Outside
+pub mod Piece
+pub mod Look
+pub mod RequestData
+pub mod Requests
+pub mod RoomData
+pub mod Room
+pub mod Taken
+pub mod Answered
+pub mod Response

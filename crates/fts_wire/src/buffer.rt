@@ -1,0 +1,98 @@
+//! The bytes at hand: read, and not yet taken away.
+//! Contracts see them as a list. They begin at `start`, and move to the front only where there is no room for a piece more,
+//! so a request costs its own bytes, however many are kept behind it.
+//! Called by `request` alone.
+ghost use Rattle.std.specs.Prelude.{◌≡◌, ◌+◌, ◌≤◌, [], length, drop, vec_capacity, IfOk, OnErr};
+ghost use Rattle.fts_wire.specs.Outside.{CountsFaults};
+ghost use Rattle.fts_wire.specs.Piece.{AddsPiece};
+
+use crate::{Source, SourceFailed};
+use fts_tables::Memory;
+use std::alloc::Global;
+use std::marker::Model;
+
+/// At most this many bytes are asked of a source at a time.
+pub const PIECE_BYTES: usize = 65_536;
+
+/// What is short of a request, and one piece more: 1,048,576 of a body, 48 of a head, and the piece.
+pub const BUFFER_BYTES: usize = 1_114_176;
+
+/// The bytes at hand.
+#[derive(Drop)]
+pub struct Buffer {
+    bytes: Vec<u8>,
+    start: usize,
+    piece: Vec<u8>,
+}
+
+impl Model for Buffer {
+    ghost use Rattle.std.specs.Prelude.{List, ℕ};
+
+    ghost Value = { List ℕ };
+
+    ghost use Rattle.fts_wire.specs.Room.{bytes_at_hand, IsBuffer};
+
+    ghost view = { bytes_at_hand };
+
+    ghost invariant = { IsBuffer };
+}
+
+impl Buffer {
+    /// The buffer, with nothing in it. Its memory is taken here, once.
+    pub fn new(alloc: Global) -> Result<Buffer, Memory>
+        ensures { IfOk result (λ b. b ≡ []) }
+    {
+        let bytes = Vec::with_capacity(alloc, BUFFER_BYTES)?;
+        let piece = vec![in alloc; 0; PIECE_BYTES]?;
+        Ok(Buffer {
+            bytes,
+            start: 0,
+            piece,
+        })
+    }
+
+    /// The bytes.
+    pub fn as_slice(&self) -> &[u8]
+        ensures { result.now ≡ self.now }
+    {
+        &self.bytes[self.start..]
+    }
+
+    /// Takes this many bytes away from the front.
+    pub fn skip(&mut self, n: usize)
+        requires { n ≤ length self.old }
+        ensures { self.new ≡ drop n self.old }
+    {
+        self.start += n;
+    }
+
+    /// Reads a piece behind the bytes, and gives its length. 0 is the end of the input.
+    pub fn read_from<S: Source>(&mut self, source: &mut S) -> Result<usize, SourceFailed>
+        requires room { length self.old + PIECE_BYTES ≤ BUFFER_BYTES }
+        ensures piece { IfOk result (λ n. AddsPiece (S.left source.old) (S.left source.new) self.old self.new n) }
+        ensures err { OnErr result ((self.new ≡ self.old) × (S.left source.new ≡ S.left source.old)) }
+        ensures cause { CountsFaults (S.faults source.old) (S.faults source.new) result }
+        ensures beside { S.beside source.new ≡ S.beside source.old }
+    {
+        let n = source.read(self.piece.as_mut_slice())?;
+        if self.bytes.len() > BUFFER_BYTES - PIECE_BYTES {
+            drop_front(&mut self.bytes, self.start);
+            self.start = 0;
+        }
+        match self.bytes.extend_from_slice(&self.piece[..n]) {
+            Ok(()) => Ok(n),
+            Err(_) => unreachable!(),
+        }
+    }
+}
+
+/// Drops bytes from the front.
+fn drop_front(bytes: &mut Vec<u8>, n: usize)
+    requires { n ≤ length bytes.old.items }
+    ensures items { bytes.new.items ≡ drop n bytes.old.items }
+    ensures capacity { vec_capacity bytes.old ≤ vec_capacity bytes.new }
+{
+    let left = bytes.len() - n;
+    bytes.rotate_left(n);
+    bytes.truncate(left);
+}

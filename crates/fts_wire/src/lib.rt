@@ -1,0 +1,21 @@
+//! The bytes of HTTP: requests that come in from a source, and responses that go out to a sink (HTTP/1.1, RFC 9112).
+//! Keeps: where a request ends does not depend on how its bytes were cut into reads (`Room::load`, clauses `next` and `taken`);
+//! a response is all of its bytes or, after a failed write, a part of them (`write_response`, clause `sent`).
+//! Called by fts_top. It never looks into a body. Formats: docs/DEFINITIONS.md, "HTTP".
+#![tactic(auto)]
+
+mod buffer;
+mod look;
+mod memory;
+mod outside;
+mod request;
+mod response;
+mod standard;
+#[cfg(test)]
+mod tests;
+
+pub use memory::{MemoryLine, MemorySink, MemorySource};
+pub use outside::{Sink, SinkFailed, Source, SourceFailed};
+pub use request::{Request, Room, WireFault, next_request};
+pub use response::{Allow, Reply, write_response};
+pub use standard::{StdSink, StdSource};
