@@ -1,2 +1,7 @@
 pub mod Fronts
+pub mod Bounds
+pub mod Stable
+pub mod Lengths
+pub mod Pieces
+pub mod Next
 pub mod Sent

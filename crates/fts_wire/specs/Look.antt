@@ -1,7 +1,6 @@
 -- What bytes are the beginning of: less than a request, no request, or a whole one.
 -- A request is a plain head, POST /jobs with its length alone, and a body of that length (HTTP/1.1, RFC 9112, sections 2 and 6).
 use Rattle.std.specs.Prelude.{ℕ, ◌+◌, Bool, ◌&&◌, nat_le, ◌==◌, if◌then◌else◌, List, [], ◌∷◌, length, drop, codes}
-use Rattle.std.specs.List.{take_while}
 use Rattle.std.specs.Str.Parse.{digits_value}
 use Rattle.fts_tables.specs.declared.limits.TheConstants.{MAX_BODY_BYTES}
 use Rattle.fts_wire.specs.declared.look.TheConstants.{MAX_LENGTH_DIGITS}
@@ -29,7 +28,8 @@ is_digit b = nat_le 48 b && nat_le b 57
 
 -- the decimal digits at the front of bytes
 abbrev pub digits_of : List ℕ → List ℕ
-digits_of bytes = take_while is_digit bytes
+digits_of [] = []
+digits_of (b ∷ bs) = if is_digit b then b ∷ digits_of bs else []
 
 -- digits of a length: few, and their value within the limit
 abbrev pub is_length : List ℕ → Bool

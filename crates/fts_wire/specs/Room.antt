@@ -16,10 +16,15 @@ pub record IsBuffer (b : BufferInside) : Type 0 where
   pub capacity : BUFFER_BYTES ≤ vec_capacity b.bytes
   pub piece : length b.piece.items ≡ PIECE_BYTES
 
+-- a head and a body of these lengths stand in bytes, and are no more than a buffer holds
+pub record IsWithin (head body : ℕ) (bytes : List ℕ) : Type 0 where
+  pub within : head + body ≤ length bytes
+  pub few : head + body ≤ BUFFER_BYTES
+
 -- the body stands behind the head, and what was read past them is kept
 abbrev pub room_data : Inside → RoomData
 room_data r = record { request = plain_request (take r.body (drop r.head r.buffer)); kept = drop (r.head + r.body) r.buffer }
 
 -- the loaded request stands in the bytes at hand
 abbrev pub IsRoom : Inside → Type 0
-IsRoom r = r.head + r.body ≤ length r.buffer
+IsRoom r = IsWithin r.head r.body r.buffer

@@ -45,12 +45,13 @@ Takes kept None bytes after = after ≡ None
 Takes kept (Some left) bytes None = ⊥
 Takes kept (Some left) bytes (Some rest) = TakenFrom kept left bytes rest
 
--- what a call found in the bytes at hand, of which the source has this rest left: it is known by them alone
+-- What a call found in the bytes at hand, behind which the source has this rest left: it is known by them alone.
+-- A request is taken away from them; otherwise all of them are kept.
 abbrev pub StandsIn : List ℕ → List ℕ → RoomData → Result Bool WireFault → Type 0
 StandsIn bytes rest room (Ok true) = next_of bytes ≡ Asks room.request room.kept
-StandsIn bytes rest room (Ok false) = (bytes ≡ []) × (rest ≡ [])
-StandsIn bytes rest room (Err NotBuiltFault) = next_of bytes ≡ NotBuilt
-StandsIn bytes rest room (Err EndsInsideFault) = (next_of bytes ≡ EndsInside) × (rest ≡ [])
+StandsIn bytes rest room (Ok false) = (bytes ≡ []) × ((rest ≡ []) × (room.kept ≡ bytes))
+StandsIn bytes rest room (Err NotBuiltFault) = (next_of bytes ≡ NotBuilt) × (room.kept ≡ bytes)
+StandsIn bytes rest room (Err EndsInsideFault) = (next_of bytes ≡ EndsInside) × ((rest ≡ []) × (room.kept ≡ bytes))
 StandsIn bytes rest room (Err SourceFailed) = IsShort bytes × (room.kept ≡ bytes)
 
 -- what a call took, and what it found in that

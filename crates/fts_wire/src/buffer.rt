@@ -74,11 +74,8 @@ impl Buffer {
         ensures cause { CountsFaults (S.faults source.old) (S.faults source.new) result }
         ensures beside { S.beside source.new ≡ S.beside source.old }
     {
+        self.start = make_room(&mut self.bytes, self.start);
         let n = source.read(self.piece.as_mut_slice())?;
-        if self.bytes.len() > BUFFER_BYTES - PIECE_BYTES {
-            drop_front(&mut self.bytes, self.start);
-            self.start = 0;
-        }
         match self.bytes.extend_from_slice(&self.piece[..n]) {
             Ok(()) => Ok(n),
             Err(_) => unreachable!(),
@@ -86,13 +83,20 @@ impl Buffer {
     }
 }
 
-/// Drops bytes from the front.
-fn drop_front(bytes: &mut Vec<u8>, n: usize)
-    requires { n ≤ length bytes.old.items }
-    ensures items { bytes.new.items ≡ drop n bytes.old.items }
+/// Makes room for a piece behind the bytes from a start on, and gives where they start now.
+fn make_room(bytes: &mut Vec<u8>, start: usize) -> usize
+    requires within { start ≤ length bytes.old.items }
+    requires few { length (drop start bytes.old.items) + PIECE_BYTES ≤ BUFFER_BYTES }
+    ensures kept { drop result bytes.new.items ≡ drop start bytes.old.items }
+    ensures within { result ≤ length bytes.new.items }
+    ensures room { length bytes.new.items + PIECE_BYTES ≤ BUFFER_BYTES }
     ensures capacity { vec_capacity bytes.old ≤ vec_capacity bytes.new }
 {
-    let left = bytes.len() - n;
-    bytes.rotate_left(n);
+    if bytes.len() <= BUFFER_BYTES - PIECE_BYTES {
+        return start;
+    }
+    let left = bytes.len() - start;
+    bytes.rotate_left(start);
     bytes.truncate(left);
+    0
 }

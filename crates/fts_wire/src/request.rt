@@ -3,11 +3,12 @@
 //! taken alone, and the last read of a call is made only while they are less than a request (clause `taken`).
 //! Order of a load: the last request's bytes are given up; then look, and read a piece, until the look is no longer short.
 //! Called by fts_top. Format: docs/DEFINITIONS.md, "HTTP".
-ghost use Rattle.std.specs.Prelude.{◌≡◌, ◌+◌, ◌≤◌, [], length, Err, IfOk, IfSome, ⊤};
+ghost use Rattle.std.specs.Prelude.{◌≡◌, ◌≤◌, [], Err, IfOk, IfSome, ⊤};
 ghost use Rattle.std.specs.Borrow.{sem, follows_so};
 ghost use mathlib.Core.Option.{none};
 ghost use Rattle.fts_wire.specs.Outside.{Rose};
 ghost use Rattle.fts_wire.specs.Taken.{pending, LooksLike, IsNext, IsTaken, Takes};
+ghost use Rattle.fts_wire.specs.Room.{IsWithin};
 ghost use Rattle.fts_wire.specs.Answered.{request_data, IsNextRequest, IsFound};
 ghost use Rattle.fts_wire.specs.contracts.request.Room.{the_row};
 
@@ -128,7 +129,7 @@ fn fill<S: Source>(
 ) -> Result<Option<(usize, usize)>, WireFault>
     ensures takes { Takes buffer.old (S.left source.old) buffer.new (S.left source.new) }
     ensures look { LooksLike buffer.new (S.left source.new) (S.faults source.old) (S.faults source.new) result }
-    ensures within { IfOk result (λ found. IfSome found (λ parts. parts.0 + parts.1 ≤ length buffer.new)) }
+    ensures within { IfOk result (λ found. IfSome found (λ parts. IsWithin parts.0 parts.1 buffer.new)) }
     ensures faults { S.faults source.old ≤ S.faults source.new }
     ensures beside { S.beside source.new ≡ S.beside source.old }
 {
