@@ -21,8 +21,9 @@ digit_here b low high = ap (λ t. t && nat_le b 57) (le-leb 48 b low) ∙ le-leb
 
 none_here : (b : ℕ) → (b < 48) ⊎ (57 < b) → is_digit b ≡ false
 none_here b out = false_from_ne_true (is_digit b) (λ e. elim out [
-    | inl low ↦ omega (arith, low, leb-true 48 b (both (nat_le 48 b) (nat_le b 57) e).0)
-    | inr high ↦ omega (arith, high, leb-true b 57 (both (nat_le 48 b) (nat_le b 57) e).1) ])
+  | inl low ↦ omega (arith, low, leb-true 48 b (both (nat_le 48 b) (nat_le b 57) e).0)
+  | inr high ↦ omega (arith, high, leb-true b 57 (both (nat_le 48 b) (nat_le b 57) e).1)
+])
 
 -- a digit more
 pub one_more : (rest : List ℕ) (i : ℕ) → i < length rest → 48 ≤ get_or rest i 0 → get_or rest i 0 ≤ 57 → DigitsTo rest i → DigitsTo rest (i + 1)
@@ -84,8 +85,9 @@ look_too_long rest i h long to =
     let digits = take (i + 1) rest in
     let count : length digits ≡ i + 1 = length-take-le (i + 1) rest (omega (arith, h)) in
     let none : is_length digits ≡ false = false_from_ne_true (is_length digits) (λ t. elim long [
-    | inl many ↦ omega (arith, many, count, (length_bounds digits t).0)
-    | inr great ↦ omega (arith, great, (length_bounds digits t).1) ]) in
+      | inl many ↦ omega (arith, many, count, (length_bounds digits t).0)
+      | inr great ↦ omega (arith, great, (length_bounds digits t).1)
+    ]) in
     ap (λ t. cond t (look_behind (digits_of rest) (drop (length (digits_of rest)) rest)) Refused)
     (ap is_length to ∙ longer_length digits (digits_of (drop (i + 1) rest)) none)
 

@@ -56,6 +56,7 @@ asks_more bytes more rest request e =
   where
     asks_not_closed : next_of bytes ≡ Closed → ⊥
     asks_not_closed c = cc (e, c)
+
     asks_not_inside : next_of bytes ≡ EndsInside → ⊥
     asks_not_inside c = cc (e, c)
 
@@ -67,6 +68,7 @@ refused_more bytes more e =
   where
     not_closed : next_of bytes ≡ Closed → ⊥
     not_closed c = cc (e, c)
+
     not_inside : next_of bytes ≡ EndsInside → ⊥
     not_inside c = cc (e, c)
 

@@ -2,7 +2,7 @@
 -- A request is a plain head, POST /jobs with its length alone, and a body of that length (HTTP/1.1, RFC 9112, sections 2 and 6).
 use Rattle.std.specs.Prelude.{ℕ, ◌+◌, Bool, ◌&&◌, nat_le, ◌==◌, if◌then◌else◌, List, [], ◌∷◌, length, drop, codes}
 use Rattle.std.specs.Str.Parse.{digits_value}
-use Rattle.fts_tables.specs.declared.limits.TheConstants.{MAX_BODY_BYTES}
+use Rattle.fts_tables.specs.declared.limits.TheConstants.{MAX_CONTENT_BYTES}
 use Rattle.fts_wire.specs.declared.look.TheConstants.{MAX_LENGTH_DIGITS}
 use Rattle.fts_wire.specs.declared.look.Front.{Front}
 use Rattle.fts_wire.specs.declared.look.Front.TheVariants.{Whole, Cut, Apart}
@@ -33,7 +33,7 @@ digits_of (b ∷ bs) = if is_digit b then b ∷ digits_of bs else []
 
 -- digits of a length: few, and their value within the limit
 abbrev pub is_length : List ℕ → Bool
-is_length digits = nat_le (length digits) MAX_LENGTH_DIGITS && nat_le (digits_value 10 digits) MAX_BODY_BYTES
+is_length digits = nat_le (length digits) MAX_LENGTH_DIGITS && nat_le (digits_value 10 digits) MAX_CONTENT_BYTES
 
 -- behind the whole head: the body, of which all has to be there
 abbrev pub look_body : List ℕ → List ℕ → Look

@@ -5,7 +5,7 @@ ghost use Rattle.std.specs.Prelude.{◌≡◌, ◌≤◌, length, take, drop};
 ghost use Rattle.std.specs.Str.Parse.{digits_value};
 ghost use Rattle.fts_wire.specs.Look.{front_of, head_end, look_length, look_end, look_of};
 
-use fts_tables::limits::MAX_BODY_BYTES;
+use fts_tables::limits::MAX_CONTENT_BYTES;
 
 /// At most this many digits of a length.
 pub const MAX_LENGTH_DIGITS: usize = 7;
@@ -54,7 +54,7 @@ fn look_at_length(rest: &[u8]) -> Look
             return look_at_end(rest, i, value);
         }
         value = value * 10 + (*b - b'0') as usize;
-        if i >= MAX_LENGTH_DIGITS || value > MAX_BODY_BYTES {
+        if i >= MAX_LENGTH_DIGITS || value > MAX_CONTENT_BYTES {
             return Look::Refused;
         }
     }

@@ -123,10 +123,7 @@ impl Room {
 }
 
 /// Reads until a request stands whole in the bytes, and gives the lengths of its head and its body.
-fn fill<S: Source>(
-    source: &mut S,
-    buffer: &mut Buffer,
-) -> Result<Option<(usize, usize)>, WireFault>
+fn fill<S: Source>(source: &mut S, buffer: &mut Buffer) -> Result<Option<(usize, usize)>, WireFault>
     ensures takes { Takes buffer.old (S.left source.old) buffer.new (S.left source.new) }
     ensures look { LooksLike buffer.new (S.left source.new) (S.faults source.old) (S.faults source.new) result }
     ensures within { IfOk result (λ found. IfSome found (λ parts. IsWithin parts.0 parts.1 buffer.new)) }

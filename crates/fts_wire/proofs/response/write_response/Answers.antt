@@ -11,6 +11,6 @@ returns-clause-sent g c =
     let first = c.min-first.result in
     let piece = c.as_slice.ensures.value ∙ c.first_piece-piece.ensures in
     let whole = ap (λ xs. xs ++ take (length body - first) (drop first body)) piece ∙ in_two c.response_head-head.result.bytes body first
-        ∙ ap (λ head. head ++ body) c.response_head-head.ensures
-        ∙ ap (λ b. head_of reply.status (length b) reply.allow c.args.close ++ b) c.body_bytes-body.ensures in
+    ∙ ap (λ head. head ++ body) c.response_head-head.ensures
+    ∙ ap (λ b. head_of reply.status (length b) reply.allow c.args.close ++ b) c.body_bytes-body.ensures in
     subst (λ xs. Sends {E = SinkFailed} (g.K.Sink.held c.args.sink.now) (g.K.Sink.held c.send_both.new.sink) xs c.send_both.result) whole c.send_both.ensures.sent
