@@ -5,3 +5,4 @@ pub mod Lengths
 pub mod Pieces
 pub mod Next
 pub mod Sent
+pub mod Worked
