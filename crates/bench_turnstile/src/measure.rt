@@ -1,0 +1,165 @@
+//! The measurements, each of both locks in the same run.
+ghost use Rattle.std.specs.Prelude.{◌≡◌, ◌<◌, ◌≤◌};
+ghost use Rattle.fts_turnstile.specs.Passes.{IsOf};
+
+use crate::lane::Lane;
+use crate::tally::Tally;
+use anyhow::{Result, bail};
+use fts_turnstile::{Pass, Turnstile};
+use std::alloc::{AllocError, Global};
+use std::io;
+use std::sync::{Mutex, Wait};
+use std::thread;
+use std::thread::{Threads, for_each_mut};
+use std::time::{Clock, CpuClock, Duration};
+
+/// Turns of all threads together in one measurement.
+const TURNS: u32 = 96_000;
+
+/// How many seconds one thread holds its turn while all others wait.
+const HELD: u64 = 1;
+
+// What a measurement took, in seconds: by the clock, and of all processors together.
+#[derive(Clone, Copy)]
+struct Taken {
+    clock: f64,
+    processor: f64,
+}
+
+// The time that some work takes.
+fn timed<R: Clock + CpuClock, F: FnOnce()>(rt: &R, work: F) -> io::Result<Taken>
+    requires { F.pre work }
+{
+    let processor = rt.process_cpu_time()?.as_secs_f64();
+    let clock = rt.monotonic()?.as_secs_f64();
+    work();
+    Ok(Taken {
+        clock: rt.monotonic()?.as_secs_f64() - clock,
+        processor: rt.process_cpu_time()?.as_secs_f64() - processor,
+    })
+}
+
+// A lane for each of so many passes.
+fn lanes<'a>(
+    alloc: Global,
+    lock: &'a Turnstile<Tally>,
+    first: &mut Pass<Tally>,
+    count: u32,
+) -> Result<Vec<Lane<'a>>, AllocError>
+    requires { IsOf lock.now first.old × (first.old.number ≡ 0) × (first.old.given ≡ 0) }
+{
+    let mut lanes = Vec::new(alloc);
+    for _ in 0..count {
+        let pass = lock.split(first);
+        lanes.push(Lane::new(lock, pass))?;
+    }
+    Ok(lanes)
+}
+
+// So many threads take all turns of a turnstile.
+fn turnstile_turns<R: Threads + Wait + Clock + CpuClock + Sync>(
+    rt: &R,
+    alloc: Global,
+    threads: u32,
+) -> Result<Taken>
+    requires { 0 < threads }
+{
+    let (lock, mut first) = match Turnstile::new(alloc, Tally { turns: 0 }) {
+        Ok(made) => made,
+        Err(_) => bail!("out of memory"),
+    };
+    let mut lanes = lanes(alloc, &lock, &mut first, threads)?;
+    let turns = TURNS / threads;
+    let work = |_: usize, lane: &mut Lane| lane.take_turns(rt, turns);
+    Ok(timed(rt, || for_each_mut(rt, lanes.as_mut_slice(), threads as usize, &work))?)
+}
+
+// So many threads take std's lock as often.
+fn mutex_turns<R: Threads + Wait + Clock + CpuClock + Sync>(
+    rt: &R,
+    alloc: Global,
+    threads: u32,
+) -> Result<Taken>
+    requires { 0 < threads }
+{
+    let lock = Mutex::new(Tally { turns: 0 });
+    let mut lanes = vec![in alloc; 0u32; threads as usize]?;
+    let turns = TURNS / threads;
+    let work = |_: usize, _: &mut u32| lock_often(rt, &lock, turns);
+    Ok(timed(rt, || for_each_mut(rt, lanes.as_mut_slice(), threads as usize, &work))?)
+}
+
+fn lock_often<R: Wait>(rt: &R, lock: &Mutex<Tally>, turns: u32) {
+    for _ in 0..turns {
+        lock.lock(rt).count();
+    }
+}
+
+// One of so many threads holds the turn, and all others wait for theirs.
+fn turnstile_waiting<R: Threads + Wait + Clock + CpuClock + Sync>(
+    rt: &R,
+    alloc: Global,
+    threads: u32,
+) -> Result<Taken>
+    requires { 0 < threads }
+{
+    let (lock, mut first) = match Turnstile::new(alloc, Tally { turns: 0 }) {
+        Ok(made) => made,
+        Err(_) => bail!("out of memory"),
+    };
+    let mut lanes = lanes(alloc, &lock, &mut first, threads)?;
+    let work = |place: usize, lane: &mut Lane| {
+        if place == 0 {
+            lane.hold(rt, Duration::from_secs(HELD));
+        } else {
+            lane.take_turns(rt, 1);
+        }
+    };
+    Ok(timed(rt, || for_each_mut(rt, lanes.as_mut_slice(), threads as usize, &work))?)
+}
+
+// The same with std's lock.
+fn mutex_waiting<R: Threads + Wait + Clock + CpuClock + Sync>(
+    rt: &R,
+    alloc: Global,
+    threads: u32,
+) -> Result<Taken>
+    requires { 0 < threads }
+{
+    let lock = Mutex::new(Tally { turns: 0 });
+    let mut lanes = vec![in alloc; 0u32; threads as usize]?;
+    let work = |place: usize, _: &mut u32| {
+        let mut tally = lock.lock(rt);
+        tally.count();
+        if place == 0 {
+            thread::sleep(rt, Duration::from_secs(HELD));
+        }
+    };
+    Ok(timed(rt, || for_each_mut(rt, lanes.as_mut_slice(), threads as usize, &work))?)
+}
+
+/// Prints a line for each number of threads, and then what waiting takes.
+pub fn measure<R: Threads + Wait + Clock + CpuClock + Print + Sync>(
+    rt: &R,
+    alloc: Global,
+) -> Result<()> {
+    println!(rt; "threads: turns/s, locks/s of a Mutex, turns to a lock; processors busy, with a Mutex")?;
+    for threads in [1, 2, 8, 24] {
+        let ours = turnstile_turns(rt, alloc, threads)?;
+        let theirs = mutex_turns(rt, alloc, threads)?;
+        print_rates(rt, threads, ours, theirs)?;
+    }
+    let ours = turnstile_waiting(rt, alloc, 24)?;
+    let theirs = mutex_waiting(rt, alloc, 24)?;
+    println!(rt; "23 threads wait for a second: {:.4} s of processor time, with a Mutex {:.4} s", ours.processor, theirs.processor)?;
+    Ok(())
+}
+
+fn print_rates<R: Print>(rt: &R, threads: u32, ours: Taken, theirs: Taken) -> io::Result<()> {
+    let turns = f64::from(TURNS);
+    println!(
+        rt; "{threads}: {:.0}, {:.0}, {:.3}; {:.2}, {:.2}",
+        turns / ours.clock, turns / theirs.clock, theirs.clock / ours.clock,
+        ours.processor / ours.clock, theirs.processor / theirs.clock
+    )
+}
