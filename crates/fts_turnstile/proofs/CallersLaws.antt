@@ -28,7 +28,6 @@ module _ {T I : Type 0} (items : T → List I) (names : I → ℕ) (shows : T �
   pub seen_more : (t : TookTurn items names shows work old new) → Begins old.seen new.seen
   seen_more t = (t.between ++ turn_of old.number t.added (shows t.after) ∷ [], t.seen ∙ append_assoc old.seen t.between (turn_of old.number t.added (shows t.after) ∷ []))
 
-
 -- items that name one number: all pass the test for it, and none that for another
 all_named : {I : Type 0} (names : I → ℕ) (n m : ℕ) (xs : List I) → AllName names m xs → filter (λ x. names x == n) xs ≡ cond (m == n) xs []
 all_named {I} names n m [] named = by_case (m == n)

@@ -72,7 +72,10 @@ impl<T: Logged> Turnstile<T> {
         ensures given { result ≡ pass_given pass.old }
         ensures fresh { own_items result ≡ [] }
     {
-        let number = self.table.shared.fetch_add::<DrawNumber>(&mut pass.seat, MADE, 1) as u32;
+        let number = self
+            .table
+            .shared
+            .fetch_add::<DrawNumber>(&mut pass.seat, MADE, 1) as u32;
         let seat = self.table.shared.split_seat::<GiveNumber>(&mut pass.seat);
         Pass { seat, number }
     }
@@ -91,7 +94,9 @@ impl<T: Logged> Turnstile<T> {
         ensures other_items { items_by (numbers_of other) pass.new.seen ≡ own_items other }
     {
         let Pass { seat, number: _ } = other;
-        self.table.shared.join_seat::<TakeInPass>(&mut pass.seat, seat);
+        self.table
+            .shared
+            .join_seat::<TakeInPass>(&mut pass.seat, seat);
         self.table.shared.load::<Learn>(&mut pass.seat, TURN);
     }
 
