@@ -1,6 +1,6 @@
 //! The measurements, each of both locks in the same run.
-ghost use Rattle.std.specs.Prelude.{◌≡◌, ◌<◌, ◌≤◌};
-ghost use Rattle.fts_turnstile.specs.Passes.{IsOf};
+ghost use Rattle.std.specs.Prelude.{◌≡◌, ◌<◌, IfOk};
+ghost use Rattle.fts_turnstile.specs.Passes.{IsOf, first_pass};
 
 use crate::lane::Lane;
 use crate::tally::Tally;
@@ -19,24 +19,40 @@ const TURNS: u32 = 96_000;
 /// How many seconds one thread holds its turn while all others wait.
 const HELD: u64 = 1;
 
-// What a measurement took, in seconds: by the clock, and of all processors together.
+// Two clocks in seconds: the wall's, and the processor time of all threads together.
 #[derive(Clone, Copy)]
 struct Taken {
     clock: f64,
     processor: f64,
 }
 
-// The time that some work takes.
-fn timed<R: Clock + CpuClock, F: FnOnce()>(rt: &R, work: F) -> io::Result<Taken>
-    requires { F.pre work }
+impl Taken {
+    // What both clocks show.
+    fn now<R: Clock + CpuClock>(rt: &R) -> io::Result<Taken> {
+        Ok(Taken {
+            clock: rt.monotonic()?.as_secs_f64(),
+            processor: rt.process_cpu_time()?.as_secs_f64(),
+        })
+    }
+
+    // What passed on both since then.
+    fn since<R: Clock + CpuClock>(self, rt: &R) -> Result<Taken> {
+        let now = Taken::now(rt)?;
+        Ok(Taken {
+            clock: now.clock - self.clock,
+            processor: now.processor - self.processor,
+        })
+    }
+}
+
+// A turnstile and its pass 0, which gave no number yet.
+fn new_turnstile(alloc: Global) -> Result<(Turnstile<Tally>, Pass<Tally>)>
+    ensures { IfOk result (λ made. made.1 ≡ first_pass made.0) }
 {
-    let processor = rt.process_cpu_time()?.as_secs_f64();
-    let clock = rt.monotonic()?.as_secs_f64();
-    work();
-    Ok(Taken {
-        clock: rt.monotonic()?.as_secs_f64() - clock,
-        processor: rt.process_cpu_time()?.as_secs_f64() - processor,
-    })
+    match Turnstile::new(alloc, Tally { turns: 0 }) {
+        Ok(made) => Ok(made),
+        Err(_) => bail!("out of memory"),
+    }
 }
 
 // A lane for each of so many passes.
@@ -64,14 +80,13 @@ fn turnstile_turns<R: Threads + Wait + Clock + CpuClock + Sync>(
 ) -> Result<Taken>
     requires { 0 < threads }
 {
-    let (lock, mut first) = match Turnstile::new(alloc, Tally { turns: 0 }) {
-        Ok(made) => made,
-        Err(_) => bail!("out of memory"),
-    };
+    let (lock, mut first) = new_turnstile(alloc)?;
     let mut lanes = lanes(alloc, &lock, &mut first, threads)?;
     let turns = TURNS / threads;
     let work = |_: usize, lane: &mut Lane| lane.take_turns(rt, turns);
-    Ok(timed(rt, || for_each_mut(rt, lanes.as_mut_slice(), threads as usize, &work))?)
+    let start = Taken::now(rt)?;
+    for_each_mut(rt, lanes.as_mut_slice(), threads as usize, &work);
+    start.since(rt)
 }
 
 // So many threads take std's lock as often.
@@ -86,7 +101,9 @@ fn mutex_turns<R: Threads + Wait + Clock + CpuClock + Sync>(
     let mut lanes = vec![in alloc; 0u32; threads as usize]?;
     let turns = TURNS / threads;
     let work = |_: usize, _: &mut u32| lock_often(rt, &lock, turns);
-    Ok(timed(rt, || for_each_mut(rt, lanes.as_mut_slice(), threads as usize, &work))?)
+    let start = Taken::now(rt)?;
+    for_each_mut(rt, lanes.as_mut_slice(), threads as usize, &work);
+    start.since(rt)
 }
 
 fn lock_often<R: Wait>(rt: &R, lock: &Mutex<Tally>, turns: u32) {
@@ -103,10 +120,7 @@ fn turnstile_waiting<R: Threads + Wait + Clock + CpuClock + Sync>(
 ) -> Result<Taken>
     requires { 0 < threads }
 {
-    let (lock, mut first) = match Turnstile::new(alloc, Tally { turns: 0 }) {
-        Ok(made) => made,
-        Err(_) => bail!("out of memory"),
-    };
+    let (lock, mut first) = new_turnstile(alloc)?;
     let mut lanes = lanes(alloc, &lock, &mut first, threads)?;
     let work = |place: usize, lane: &mut Lane| {
         if place == 0 {
@@ -115,7 +129,9 @@ fn turnstile_waiting<R: Threads + Wait + Clock + CpuClock + Sync>(
             lane.take_turns(rt, 1);
         }
     };
-    Ok(timed(rt, || for_each_mut(rt, lanes.as_mut_slice(), threads as usize, &work))?)
+    let start = Taken::now(rt)?;
+    for_each_mut(rt, lanes.as_mut_slice(), threads as usize, &work);
+    start.since(rt)
 }
 
 // The same with std's lock.
@@ -135,7 +151,9 @@ fn mutex_waiting<R: Threads + Wait + Clock + CpuClock + Sync>(
             thread::sleep(rt, Duration::from_secs(HELD));
         }
     };
-    Ok(timed(rt, || for_each_mut(rt, lanes.as_mut_slice(), threads as usize, &work))?)
+    let start = Taken::now(rt)?;
+    for_each_mut(rt, lanes.as_mut_slice(), threads as usize, &work);
+    start.since(rt)
 }
 
 /// Prints a line for each number of threads, and then what waiting takes.

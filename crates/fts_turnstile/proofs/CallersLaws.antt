@@ -1,11 +1,11 @@
 -- What callers may take from a turn and from the end.
-use Rattle.std.proofs.Common.{◌≡◌, ℕ, List, [], ◌∷◌, ◌++◌, Bool, true, false, cond, ◌==◌, ◌||◌, filter, refl, sym, ap, ◌∙◌, append_assoc, append-nil}
+use Rattle.std.proofs.Common.{◌≡◌, ℕ, List, [], ◌∷◌, ◌++◌, Bool, true, false, cond, ◌==◌, ◌||◌, filter, refl, sym, ap, ◌∙◌, append-nil}
 use Rattle.std.proofs.lemmas.List.{append_cancel_left}
 use Rattle.std.proofs.lemmas.List.Elements.{filter-append}
 use Rattle.fts_turnstile.specs.declared.turn.Turn.{Turn}
-use Rattle.fts_turnstile.specs.History.{Begins, is_among, turn_of, items_of, items_by, OnlyOthersSince, AllName, AllNamed}
-use Rattle.fts_turnstile.specs.Passes.{PassView, seen_list, own_items, numbers_of, TookTurn}
-use Rattle.fts_turnstile.proofs.Histories.{items_of-append, items_by-others}
+use Rattle.fts_turnstile.specs.History.{is_among, items_of, items_by, OnlyOthersSince, AllName, AllNamed}
+use Rattle.fts_turnstile.specs.Passes.{PassView, own_items, numbers_of, TookTurn}
+use Rattle.fts_turnstile.proofs.Histories.{items_by-others}
 
 -- a pass with the same numbers, which has seen more turns of others, has the same own items
 pub own_kept : {I : Type 0} → (p q : PassView I) → numbers_of q ≡ numbers_of p → OnlyOthersSince (numbers_of p) p.seen q.seen → own_items q ≡ own_items p
@@ -19,14 +19,6 @@ module _ {T I : Type 0} (items : T → List I) (names : I → ℕ) (shows : T �
   -- where it added nothing, the own items are as they were
   pub own_same : (t : TookTurn items names shows work old new) → items t.after ≡ items t.before → own_items new ≡ own_items old
   own_same t e = own_by t [] (e ∙ sym (append-nil (items t.before))) ∙ append-nil (own_items old)
-
-  -- the list that the turn worked on begins with what was seen
-  pub began_seen : (t : TookTurn items names shows work old new) → Begins (seen_list old) (items t.before)
-  began_seen t = (items_of t.between, t.began ∙ ap (λ l. old.opening ++ l) (items_of-append old.seen t.between) ∙ sym (append_assoc old.opening (items_of old.seen) (items_of t.between)))
-
-  -- what was seen begins what is seen then
-  pub seen_more : (t : TookTurn items names shows work old new) → Begins old.seen new.seen
-  seen_more t = (t.between ++ turn_of old.number t.added (shows t.after) ∷ [], t.seen ∙ append_assoc old.seen t.between (turn_of old.number t.added (shows t.after) ∷ []))
 
 -- items that name one number: all pass the test for it, and none that for another
 all_named : {I : Type 0} (names : I → ℕ) (n m : ℕ) (xs : List I) → AllName names m xs → filter (λ x. names x == n) xs ≡ cond (m == n) xs []

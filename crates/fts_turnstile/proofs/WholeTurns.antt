@@ -67,6 +67,8 @@ module _ {T I : Type 0} (items : T → List I) (names : I → ℕ) (shows : T �
             after = y;
             added = l.0;
             others = d.3.2;
+            grew = (rest ++ turn_of v.number l.0 (shows y) ∷ [], new_seen ∙ append_assoc v.seen rest (turn_of v.number l.0 (shows y) ∷ []));
+            met = begins_seen t v m x e;
             all_named = subst (AllNamed names) is d.4;
             seen = new_seen;
             began = d.5 ∙ ap (λ z. v.opening ++ items_of z) is;
