@@ -5,8 +5,8 @@ ghost use Rattle.fts_turnstile.specs.Passes.{IsOf};
 use crate::tally::Tally;
 use fts_turnstile::{Pass, Turnstile};
 use std::sync::Wait;
-use std::time::{Clock, Duration};
 use std::thread;
+use std::time::{Clock, Duration};
 
 /// A pass and its lock.
 #[derive(Drop)]
@@ -27,7 +27,8 @@ impl<'a> Lane<'a> {
     /// Takes so many turns, each of which counts itself.
     pub fn take_turns<R: Wait>(&mut self, rt: &R, turns: u32) {
         for _ in 0..turns {
-            self.lock.with_turn(rt, &mut self.pass, |tally: &mut Tally| tally.count());
+            self.lock
+                .with_turn(rt, &mut self.pass, |tally: &mut Tally| tally.count());
         }
     }
 

@@ -7,11 +7,10 @@ use crate::tally::Tally;
 use anyhow::{Result, bail};
 use fts_turnstile::{Pass, Turnstile};
 use std::alloc::{AllocError, Global};
-use std::io;
 use std::sync::{Mutex, Wait};
-use std::thread;
 use std::thread::{Threads, for_each_mut};
 use std::time::{Clock, CpuClock, Duration};
+use std::{io, thread};
 
 /// Turns of all threads together in one measurement.
 const TURNS: u32 = 96_000;
@@ -161,7 +160,9 @@ pub fn measure<R: Threads + Wait + Clock + CpuClock + Print + Sync>(
     rt: &R,
     alloc: Global,
 ) -> Result<()> {
-    println!(rt; "threads: turns/s, locks/s of a Mutex, turns to a lock; processors busy, with a Mutex")?;
+    println!(rt;
+        "threads: turns/s, locks/s of a Mutex, turns to a lock; processors busy, with a Mutex"
+    )?;
     for threads in [1, 2, 8, 24] {
         let ours = turnstile_turns(rt, alloc, threads)?;
         let theirs = mutex_turns(rt, alloc, threads)?;
@@ -169,15 +170,21 @@ pub fn measure<R: Threads + Wait + Clock + CpuClock + Print + Sync>(
     }
     let ours = turnstile_waiting(rt, alloc, 24)?;
     let theirs = mutex_waiting(rt, alloc, 24)?;
-    println!(rt; "23 threads wait for a second: {:.4} s of processor time, with a Mutex {:.4} s", ours.processor, theirs.processor)?;
+    println!(rt;
+        "23 threads wait for a second: {:.4} s of processor time, with a Mutex {:.4} s",
+        ours.processor, theirs.processor
+    )?;
     Ok(())
 }
 
 fn print_rates<R: Print>(rt: &R, threads: u32, ours: Taken, theirs: Taken) -> io::Result<()> {
     let turns = f64::from(TURNS);
-    println!(
-        rt; "{threads}: {:.0}, {:.0}, {:.3}; {:.2}, {:.2}",
-        turns / ours.clock, turns / theirs.clock, theirs.clock / ours.clock,
-        ours.processor / ours.clock, theirs.processor / theirs.clock
+    println!(rt;
+        "{threads}: {:.0}, {:.0}, {:.3}; {:.2}, {:.2}",
+        turns / ours.clock,
+        turns / theirs.clock,
+        theirs.clock / ours.clock,
+        ours.processor / ours.clock,
+        theirs.processor / theirs.clock
     )
 }
