@@ -1,4 +1,5 @@
 //! The measurements, each of both locks in the same run.
+//! Threads are started within each, so the first turns of one are taken while others start.
 ghost use Rattle.std.specs.Prelude.{◌≡◌, ◌<◌, IfOk};
 ghost use Rattle.fts_turnstile.specs.Passes.{IsOf, first_pass};
 

@@ -1,4 +1,5 @@
 //! What follows of any history, as contracts that a caller can cite.
+//! They are called for their clause alone, and do nothing when they run.
 ghost use Rattle.std.specs.Prelude.{◌≡◌, ℕ, ◌==◌, filter, List, [], ◌∷◌};
 ghost use Rattle.fts_turnstile.specs.declared.turn.Turn.{Turn};
 ghost use Rattle.fts_turnstile.specs.History.{items_of, items_by, AllNamed};

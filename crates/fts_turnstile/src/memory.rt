@@ -1,4 +1,5 @@
-//! Want of memory, which only making a lock can meet.
+//! Want of memory, which only making a lock can meet: no other call allocates.
+//! A type of its own, since this crate stands on nothing of the service.
 
 /// There was too little memory.
 #[derive(Debug, Drop)]

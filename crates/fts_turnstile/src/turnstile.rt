@@ -64,6 +64,7 @@ impl<T: Logged> Turnstile<T> {
     }
 
     /// A new pass with the next number, which has seen what pass 0 has and has added nothing.
+    /// Pass 0 alone splits, and gives the numbers from 1 to 4,294,967,295 in order.
     pub fn split(&self, pass: &mut Pass<T>) -> Pass<T>
         requires own { IsOf self.now pass.old }
         requires first { pass.old.number ≡ 0 }
@@ -80,7 +81,7 @@ impl<T: Logged> Turnstile<T> {
         Pass { seat, number }
     }
 
-    /// Takes in the other pass: what it has seen, its own items and its numbers.
+    /// Takes in the other pass, which is not pass 0: what it has seen, its own items and its numbers.
     pub fn join(&self, pass: &mut Pass<T>, other: Pass<T>)
         requires own { IsOf self.now pass.old × IsOf self.now other }
         requires other { other.number ≢ 0 }
