@@ -1,6 +1,6 @@
 -- The draw: its running sums, how many numbers draw each place, and when none is drawn.
 use Rattle.std.proofs.Common.{◌≡◌, ℕ, zero, suc, ◌+◌, ◌%◌, ◌<◌, ◌≤◌, Bool, true, false, cond, List, [], ◌∷◌, ◌++◌, length, get_or, take, Option, Some, None, refl, ap, sym, ◌∙◌, arith, add-zero, zero-add}
-use Rattle.std.specs.Prelude.{not, ◌==◌, ◌||◌, nat_lt, sum, count_by, position, option_map}
+use Rattle.std.specs.Prelude.{not, ◌==◌, nat_lt, sum, count_by, position, option_map}
 use Rattle.std.specs.List.{range_with_len, position_or_len, list_any}
 use Rattle.std.specs.Option.{option_map_or}
 use Rattle.std.proofs.Math.Nat.{mod-eq_of_lt}

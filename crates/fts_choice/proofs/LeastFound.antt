@@ -1,18 +1,11 @@
 -- The first of the open places than which none counts less, as a loop over places finds it; and the row that stands there.
-use Rattle.std.proofs.Common.{◌≡◌, ℕ, zero, suc, ◌+◌, ◌<◌, ◌≤◌, Bool, true, false, cond, List, [], ◌∷◌, ◌++◌, length, map, get_or, take, Option, Some, None, refl, ap, sym, ◌∙◌, arith, subst, inl, inr, append-nil, zero-add}
-use Rattle.std.specs.Prelude.{◌&&◌, ◌||◌, ◌↔◌, ◌⊎◌, nat_lt, filter, find, fold, if◌then◌else◌, position, slice_get, option_and_then, IfSome, unwrap_or}
-use Rattle.std.specs.List.{list_any, range_with_len, position_or_len}
+use Rattle.std.proofs.Common.{◌≡◌, ℕ, zero, suc, ◌+◌, ◌<◌, Bool, true, false, cond, List, [], ◌∷◌, ◌++◌, length, Option, Some, None, refl, ap, sym, ◌∙◌, arith, subst, append-nil, zero-add}
+use Rattle.std.specs.Prelude.{◌&&◌, ◌||◌, ◌↔◌, filter, fold, if◌then◌else◌, slice_get, IfSome}
+use Rattle.std.specs.List.{list_any, range_with_len}
 use Rattle.std.specs.Option.{option_map_or}
-use Rattle.std.proofs.lemmas.Bool.{ltb-true, ltb-false}
-use Rattle.std.proofs.lemmas.List.{get_or-map, take_all}
 use Rattle.std.proofs.lemmas.List.Sums.{fold_push}
-use Rattle.std.proofs.lemmas.List.Elements.{filter_more}
-use Rattle.std.proofs.lemmas.List.Folds.{find_at}
-use Rattle.std.proofs.lemmas.Option.{slice_get_cases, slice_get_past}
-use Rattle.fts_tables.specs.Tables.{is_not_used}
-use Rattle.fts_tables.specs.Choice.{least, load}
-use Rattle.fts_tables.specs.declared.rows.FileRow.{FileRow}
-use Rattle.fts_choice.specs.LeastPlaces.{is_lighter, least_place, is_better, is_not_used_at, load_of}
+use Rattle.fts_tables.specs.Choice.{least}
+use Rattle.fts_choice.specs.LeastPlaces.{is_lighter, least_place, is_better}
 
 -- one of two items, and the choice that keeps it
 some_of : {Item : Type 0} (answer : Bool) (one other : Item) → Some (cond answer one other) ≡ cond answer (Some one) (Some other)

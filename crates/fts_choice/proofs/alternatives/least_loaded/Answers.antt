@@ -1,4 +1,4 @@
-use Rattle.std.proofs.Common.{◌≡◌, cond, Some, sym, ◌∙◌, ap}
+use Rattle.std.proofs.Common.{cond, Some, sym, ◌∙◌, ap}
 use Rattle.fts_choice.specs.LeastPlaces.{is_not_used_at, load_of}
 use Rattle.fts_choice.proofs.LeastFound.{least_place-step}
 use Rattle.fts_choice.proofs.alternatives.least_loaded.Goals as goal

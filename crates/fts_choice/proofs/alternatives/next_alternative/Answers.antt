@@ -1,4 +1,4 @@
-use Rattle.std.proofs.Common.{◌≡◌, ◌<◌, length, sym, ◌∙◌, ap, subst}
+use Rattle.std.proofs.Common.{◌<◌, length, sym, ◌∙◌, ap, subst}
 use Rattle.std.specs.Prelude.{slice_get, option_and_then, IfSome}
 use Rattle.fts_tables.specs.Tables.{is_not_used}
 use Rattle.fts_tables.specs.Choice.{next_alternative}

@@ -1,7 +1,7 @@
-use Rattle.std.proofs.Common.{◌≡◌, ◌%◌, ◌<◌, ◌≤◌, None, sum, get_or, sym, ◌∙◌, ap, refl, arith}
+use Rattle.std.proofs.Common.{◌%◌, ◌<◌, sum, sym, ◌∙◌, ap, refl, arith}
 use Rattle.std.proofs.Math.Nat.{mod-lt}
 use Rattle.std.proofs.lemmas.Bool.{and_parts, leb-true}
-use Rattle.fts_tables.specs.Choice.{draw, shares}
+use Rattle.fts_tables.specs.Choice.{shares}
 use Rattle.fts_choice.specs.Draws.{first_above}
 use Rattle.fts_choice.proofs.Drawing.{place_is_first_above, none_above, fits_unless_above, nobody_waits, somebody_waits}
 use Rattle.fts_choice.proofs.weights.draw.Goals as goal
