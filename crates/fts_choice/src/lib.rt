@@ -13,5 +13,5 @@ mod weights;
 
 pub use alternatives::next_alternative;
 pub use hops::next_hop;
-pub use links::{LinkChance, pick_link};
+pub use links::{LinkChance, pick_link, picked_links_are_the_claims};
 pub use weights::{draw, draws_by_weight};

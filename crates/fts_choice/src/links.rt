@@ -1,6 +1,31 @@
 //! Which link a claim takes its file from.
-ghost use Rattle.std.specs.Prelude.{◌≡◌, ◌↔◌, ◌<◌, ◌&&◌, length, None, IfSome, IsFalse};
+ghost use Rattle.std.specs.Prelude.{
+  ◌≡◌,
+  ◌↔◌,
+  ◌<◌,
+  ◌&&◌,
+  ℕ,
+  List,
+  length,
+  map,
+  slice_get,
+  None,
+  IfSome,
+  IsFalse,
+  option_map,
+  option_and_then,
+};
 ghost use Rattle.std.specs.List.{list_any};
+ghost use Rattle.fts_tables.specs.Tables.{Tables};
+ghost use Rattle.fts_tables.specs.Limits.{eligible_rows};
+ghost use Rattle.fts_tables.specs.Choice.{least, is_link_before};
+ghost use Rattle.fts_choice.specs.LinkOrder.{
+  LinkNames,
+  link_of,
+  AreInOrder,
+  AreAllLinks,
+  chance_of,
+};
 ghost use Rattle.fts_choice.specs.LeastPlaces.{
   is_lighter,
   is_better,
@@ -68,3 +93,8 @@ pub fn pick_link(links: &[LinkChance]) -> Option<usize>
     }
     best
 }
+
+/// A law: of all links in order of their names, each with its chance, the picked place is that of the link on which the machine's claim takes a row.
+pub fn picked_links_are_the_claims()
+    ensures link { (tables : Tables) (now : ℕ) (links : List LinkNames) → AreInOrder links → AreAllLinks tables now links → option_and_then (slice_get links) (least_place (is_eligible_at (map (chance_of tables now) links)) (held_of (map (chance_of tables now) links)) (length links)) ≡ option_map link_of (least (is_link_before tables.rows) (eligible_rows tables now)) }
+{}
