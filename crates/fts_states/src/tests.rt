@@ -1,4 +1,6 @@
 //! What no clause says: that the rules give what operators expect, by rows written by hand.
+ghost use Rattle.std.specs.Prelude.{◌≡◌, IfOk};
+
 use crate::{CancelStep, Follow, after_cancel, after_report, after_restart, job_state};
 use fts_tables::{
     EndpointName, FileRow, FileState, JobKind, JobRow, JobState, Label, Memory, Outcome, PathKey,
@@ -17,7 +19,9 @@ fn place(alloc: Global, path: &str) -> Result<Place, Memory> {
 }
 
 /// A file of the first job in a state.
-fn row(alloc: Global, state: FileState) -> Result<FileRow, Memory> {
+fn row(alloc: Global, state: FileState) -> Result<FileRow, Memory>
+    ensures { IfOk result (λ row. row.state ≡ state) }
+{
     Ok(FileRow {
         id: 1,
         job: 1,
@@ -88,16 +92,19 @@ fn the_state_of_a_job_follows_from_its_rows(rt: HostRuntime) -> Result<(), Fail>
 
 #[test]
 fn a_failure_waits_for_the_delay_and_counts(rt: HostRuntime) -> Result<(), Fail> {
-    let row = row(rt.alloc(), FileState::Active)?;
-    let after = after_report(&row, &job(JobKind::Plain), &Outcome::StoreFailed, 1_000);
+    let first = row(rt.alloc(), FileState::Active)?;
+    let after = after_report(&first, &job(JobKind::Plain), &Outcome::StoreFailed, 1_000);
     assert_eq!(rt; after.state, FileState::Submitted);
     assert_eq!(rt; after.not_before, 1_060);
-    let again = FileRow { retries: 1, ..row };
     for (kind, follow) in [
         (JobKind::Plain, Follow::Nothing),
         (JobKind::Replica, Follow::NextAlternative),
         (JobKind::Multihop, Follow::Nothing),
     ] {
+        let again = FileRow {
+            retries: 1,
+            ..row(rt.alloc(), FileState::Active)?
+        };
         let after = after_report(&again, &job(kind), &Outcome::StoreFailed, 1_060);
         assert_eq!(rt; after.state, FileState::Failed, "{kind:?}");
         assert_eq!(rt; after.follow, follow, "{kind:?}");
