@@ -1,0 +1,5 @@
+mod Drawing
+mod LeastFound
+mod PlacedItems
+mod NextRows
+mod LeastLinks

@@ -1,0 +1,2 @@
+mod LinkCounts
+mod NamedPlaces

@@ -1,0 +1,2 @@
+pub mod SlotsData
+pub mod Slots

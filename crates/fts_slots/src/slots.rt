@@ -1,0 +1,140 @@
+//! The list of links held, with the limits that it keeps.
+//! Each count walks the list. `take` writes into room that `new` made: as many links as the outbound limits add up to, which no list within the limits passes.
+ghost use Rattle.std.specs.Prelude.{
+  ◌≡◌,
+  ◌≤◌,
+  ◌<◌,
+  ◌+◌,
+  ◌↔◌,
+  [],
+  ◌∷◌,
+  ◌++◌,
+  Bool,
+  length,
+  count_by,
+  if◌then◌else◌,
+  IsTrue,
+  IsFalse,
+  IfOk,
+  None,
+};
+ghost use Rattle.fts_tables.specs.SettingsData.{is_listed};
+ghost use Rattle.fts_tables.specs.declared.settings.LinkAt.{LinkAt as Link};
+ghost use Rattle.fts_slots.specs.SlotsData.{
+  SlotsData,
+  AreWithin,
+  IsInside,
+  is_free,
+  place_of_name,
+  held_of,
+  outbound_of,
+  inbound_of,
+  without_link,
+};
+
+use crate::counts::{count_from, count_link, count_to, place_of_link};
+use crate::limits::{
+    inbound_limit_of, link_limit_of, outbound_limit_of, place_of_endpoint, whole_outbound,
+};
+use fts_tables::{EndpointName, LinkAt, Memory, Settings};
+use std::alloc::Global;
+use std::marker::Model;
+
+/// The slots that ACTIVE files take, with the settings whose limits they keep.
+#[derive(Drop)]
+pub struct Slots {
+    settings: Settings,
+    links: Vec<LinkAt>,
+}
+
+impl Model for Slots {
+    ghost use Rattle.fts_slots.specs.SlotsData.{SlotsData};
+
+    ghost Value = { SlotsData };
+
+    ghost use Rattle.fts_slots.specs.Slots.{slots_data, AreSlots};
+
+    ghost view = { slots_data };
+
+    ghost invariant = { AreSlots };
+}
+
+impl Slots {
+    /// No slot taken, under a copy of the settings. Makes the room for all that their limits allow.
+    pub fn new(alloc: Global, settings: &Settings) -> Result<Slots, Memory>
+        ensures slots { IfOk result (λ slots. slots ≡ record { settings = settings.now; links = [] }) }
+    {
+        let links = Vec::with_capacity(alloc, whole_outbound(settings))?;
+        Ok(Slots {
+            settings: settings.copy(alloc)?,
+            links,
+        })
+    }
+
+    /// The place of the endpoint with a name, from 0. None exactly where the settings don't list it.
+    pub fn place(&self, name: &EndpointName) -> Option<u16>
+        ensures place { result ≡ place_of_name self.now.settings name.now }
+        ensures none { (result ≡ None) ↔ IsFalse (is_listed self.now.settings.endpoints name.now) }
+    {
+        let place = place_of_endpoint(self.settings.endpoints.as_slice(), name.as_str());
+        match place {
+            Some(place) => Some(place as u16),
+            None => None,
+        }
+    }
+
+    /// Whether the link's limit, its source's outbound limit and its destination's inbound limit each exceed what is taken.
+    pub fn free(&self, link: LinkAt) -> bool
+        requires inside { IsInside self.now.settings link }
+        ensures answer { result ≡ is_free self.now link }
+    {
+        self.held(link) < link_limit_of(&self.settings, link)
+            && self.outbound(link.source) < outbound_limit_of(&self.settings, link.source)
+            && self.inbound(link.dest) < inbound_limit_of(&self.settings, link.dest)
+    }
+
+    /// Takes a slot of a free link, in room that is there.
+    pub fn take(&mut self, link: LinkAt)
+        requires inside { IsInside self.old.settings link }
+        requires free { IsTrue (is_free self.old link) }
+        ensures slots { self.new ≡ record self.old { links = self.old.links ++ link ∷ [] } }
+    {
+        self.links.push_reserved(link);
+    }
+
+    /// Gives a slot of a link back that was taken: any count of links is one less where it counted this one.
+    pub fn give(&mut self, link: LinkAt)
+        requires held { 0 < held_of self.old.links link }
+        ensures slots { self.new ≡ record self.old { links = without_link link self.old.links } }
+        ensures counts { (test : Link → Bool) → count_by test self.old.links ≡ count_by test self.new.links + (if test link then 1 else 0) }
+    {
+        if let Some(place) = place_of_link(self.links.as_slice(), link) {
+            self.links.remove(place);
+        }
+    }
+
+    /// How many slots of a link are taken.
+    pub fn held(&self, link: LinkAt) -> u32
+        requires inside { IsInside self.now.settings link }
+        ensures count { result ≡ held_of self.now.links link }
+        ensures limits { AreWithin self.now }
+    {
+        count_link(self.links.as_slice(), link) as u32
+    }
+
+    /// How many slots are taken of what goes to the endpoint at a place.
+    pub fn inbound(&self, endpoint: u16) -> u32
+        requires inside { endpoint < length self.now.settings.endpoints }
+        ensures count { result ≡ inbound_of self.now.links endpoint }
+    {
+        count_to(self.links.as_slice(), endpoint) as u32
+    }
+
+    /// How many slots are taken of what comes from the endpoint at a place.
+    pub fn outbound(&self, endpoint: u16) -> u32
+        requires inside { endpoint < length self.now.settings.endpoints }
+        ensures count { result ≡ outbound_of self.now.links endpoint }
+    {
+        count_from(self.links.as_slice(), endpoint) as u32
+    }
+}
