@@ -1,5 +1,5 @@
 -- What a stop leaves of a disk in memory is one of the images at that moment.
-use Rattle.std.proofs.Common.{◌≡◌, inl, inr, ℕ, ◌+◌, ◌≤◌, ◌<◌, max, Bool, true, false, List, [], ◌∷◌, ◌++◌, length, take, drop, get_or, suc, IsTrue, refl, sym, ◌∙◌, ap, subst, arith, length-append, length-drop}
+use Rattle.std.proofs.Common.{◌≡◌, inr, ℕ, ◌+◌, ◌≤◌, ◌<◌, max, true, false, List, [], ◌∷◌, ◌++◌, length, take, drop, get_or, suc, IsTrue, refl, sym, ◌∙◌, ap, subst, arith, length-append, length-drop}
 use Rattle.std.proofs.lemmas.List.{length-take-le, length-replicate, take-append-drop, take_more, take_all}
 use Rattle.std.proofs.lemmas.Bool.{leb-true}
 use Rattle.std.proofs.Math.ListN.{replicate}
@@ -77,10 +77,10 @@ image_through : (byte : ℕ) (held : Held) (stopped : Stopped) (calls : List Cal
 image_through byte held stopped [] same is le within = is
 image_through byte held stopped (c ∷ calls) same is le within =
     image_through byte (held_after held c) (stopped_after byte stopped c) calls
-        (ap (λ (l : List ℕ). content_after l c) same ∙ sym (content_of byte stopped c))
-        (image_after byte held stopped c same is le (left_of _ _ within))
-        (stays_longer byte stopped c le (left_of _ _ within))
-        (rest_within byte stopped c calls within)
+    (ap (λ (l : List ℕ). content_after l c) same ∙ sym (content_of byte stopped c))
+    (image_after byte held stopped c same is le (left_of _ _ within))
+    (stays_longer byte stopped c le (left_of _ _ within))
+    (rest_within byte stopped c calls within)
 
 -- a content and what is left, put together again
 pair_of : (content left : List ℕ) (stopped : Stopped) → content ≡ stopped.content → left ≡ stopped.left → record { content = content; left = left } ≡ stopped
@@ -101,9 +101,9 @@ module _ (byte : ℕ) (first : List ℕ) (calls : List Call) (n k : ℕ) (conten
   pub next_within : (call : Call) → call ≡ get_or (take n calls) k call → k < length (take n calls) → IsTrue (is_within content call)
   next_within call is lt =
       let split : take n calls ≡ take k (take n calls) ++ (call ∷ drop (suc k) (take n calls)) =
-          sym (take-append-drop k (take n calls)) ∙ ap (λ (l : List Call). take k (take n calls) ++ l) (drop-cons (take n calls) k call lt ∙ ap (λ (x : Call). x ∷ drop (suc k) (take n calls)) (sym is)) in
+      sym (take-append-drop k (take n calls)) ∙ ap (λ (l : List Call). take k (take n calls) ++ l) (drop-cons (take n calls) k call lt ∙ ap (λ (x : Call). x ∷ drop (suc k) (take n calls)) (sym is)) in
       subst (λ (s : Stopped). IsTrue (is_within s.content call)) far
-          (call_within byte (stopped_on first) (take k (take n calls)) call (drop (suc k) (take n calls)) (subst (λ (l : List Call). IsTrue (are_within first l)) split (taken_within first calls n within)))
+      (call_within byte (stopped_on first) (take k (take n calls)) call (drop (suc k) (take n calls)) (subst (λ (l : List Call). IsTrue (are_within first l)) split (taken_within first calls n within)))
 
   -- what a stop leaves is no shorter than the content
   pub far_longer : length content ≤ length left

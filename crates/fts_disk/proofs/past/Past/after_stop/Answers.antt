@@ -11,7 +11,7 @@ lent_within first lent calls same within = subst (λ (l : List Call). IsTrue (ar
 pub pass-requires-clause-within : goal.pass-requires-clause-within
 pass-requires-clause-within c =
     next_within c.args.byte c.args.self.now.first.items c.deref-3.result.now c.args.calls c.loop-call.call-index _ _ c.loop-call.invariant (lent_within _ _ _ c.deref-3.ensures.value c.args.self.now.within)
-        c.call-item.result c.call-item.is c.loop-call-test.true
+    c.call-item.result c.call-item.is c.loop-call-test.true
 
 pub pass-requires-clause-longer : goal.pass-requires-clause-longer
 pass-requires-clause-longer c =
@@ -20,9 +20,9 @@ pass-requires-clause-longer c =
 pub loop-call-preserved : goal.loop-call-preserved
 loop-call-preserved c =
     further c.args.byte c.args.self.now.first.items c.deref-3.result.now c.args.calls c.loop-call.call-index _ _ c.loop-call.invariant (lent_within _ _ _ c.deref-3.ensures.value c.args.self.now.within)
-        c.call-item.result _ _ c.call-item.is c.loop-call-test.true c.in_ok-pass.ensures.content c.in_ok-pass.ensures.left
+    c.call-item.result _ _ c.call-item.is c.loop-call-test.true c.in_ok-pass.ensures.content c.in_ok-pass.ensures.left
 
 pub returns-clause-image : goal.returns-clause-image
 returns-clause-image c =
     subst (λ (l : List Call). (held_by c.args.self.now.first.items (take c.args.calls l)).images c.loop-call.left.items) c.deref-3.ensures.value
-        (ended_image c.args.byte c.args.self.now.first.items c.deref-3.result.now c.args.calls c.loop-call.call-index _ _ c.loop-call.invariant (lent_within _ _ _ c.deref-3.ensures.value c.args.self.now.within) c.loop-call-test.false)
+    (ended_image c.args.byte c.args.self.now.first.items c.deref-3.result.now c.args.calls c.loop-call.call-index _ _ c.loop-call.invariant (lent_within _ _ _ c.deref-3.ensures.value c.args.self.now.within) c.loop-call-test.false)
