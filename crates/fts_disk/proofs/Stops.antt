@@ -56,6 +56,7 @@ stays_longer byte stopped (Wrote at bytes false) le within =
 stays_longer byte stopped (Synced true) le within = omega arith
 stays_longer byte stopped (Synced false) le within = le
 
+-- and after any calls
 pub stays_longer_through : (byte : ℕ) (stopped : Stopped) (calls : List Call) → length stopped.content ≤ length stopped.left → IsTrue (are_within stopped.content calls) → length (stopped_through byte stopped calls).content ≤ length (stopped_through byte stopped calls).left
 stays_longer_through byte stopped [] le within = le
 stays_longer_through byte stopped (c ∷ calls) le within = stays_longer_through byte (stopped_after byte stopped c) calls (stays_longer byte stopped c le (left_of _ _ within)) (rest_within byte stopped c calls within)
