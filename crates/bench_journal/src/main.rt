@@ -49,7 +49,7 @@ fn floor_batch(rt: &HostRuntime, file: &File, end: u64) -> io::Result<Duration> 
 
 /// Appends a second, rounded down.
 fn rate(appends: u64, time: Duration) -> u64 {
-    let micros = time.as_micros() as u64;
+    let micros = u64::try_from(time.as_micros()).unwrap_or(u64::MAX);
     appends.saturating_mul(1_000_000) / micros.max(1)
 }
 
