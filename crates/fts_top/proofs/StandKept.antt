@@ -5,5 +5,20 @@ use Rattle.fts_top.specs.Stand.{settings_of_stand}
 
 pub stand_kept : IsSettings settings_of_stand
 stand_kept = record {
-  vo = refl; workers = refl; default_limit = refl; endpoint_count = refl; link_count = refl; weight_count = refl; endpoint_names = refl; endpoint_limits = refl;
-  link_pairs = refl; link_ends = refl; link_limits = refl; link_labels = refl; weight_names = refl; weight_labels = refl; weight_ranges = refl; default = refl }
+  vo = refl;
+  workers = refl;
+  default_limit = refl;
+  endpoint_count = refl;
+  link_count = refl;
+  weight_count = refl;
+  endpoint_names = refl;
+  endpoint_limits = refl;
+  link_pairs = refl;
+  link_ends = refl;
+  link_limits = refl;
+  link_labels = refl;
+  weight_names = refl;
+  weight_labels = refl;
+  weight_ranges = refl;
+  default = refl;
+}

@@ -198,16 +198,19 @@ module _ (entries : List Entry) (bytes held : Option (List ℕ)) (moments : Opti
   -- what came was refused, by a response that was written
   refused_whole : (left coming2 after2 : Option (List ℕ)) (room : RoomData) (response : List ℕ) → n < MAX_REQUESTS → IsNext coming coming2 room (Err NotBuiltFault)
       → IsRefusal response → Sends {E = SinkFailed} after after2 response (Ok tt) → SessionFrom entries bytes held moments EndRefused tables left after2
-  refused_whole left coming2 after2 room response few here refusal sent = ends_so EndRefused left after2 (omega (arith, few)) (λ b h m ip count.
-      ((subst (λ (k : ℕ). k < MAX_REQUESTS) (sym count) few, not_built_here ip.grown.rest coming2 room (subst (λ x. IsNext x coming2 room (Err NotBuiltFault)) ip.grown.told here)),
-      (response, (refusal, written_more h after after2 (progress_of entries m ip.grown.exchanges).responses response ip.written sent))))
+  refused_whole left coming2 after2 room response few here refusal sent = ends_so EndRefused left after2 (omega (arith, few)) (λ b h m ip count. (
+    (subst (λ (k : ℕ). k < MAX_REQUESTS) (sym count) few, not_built_here ip.grown.rest coming2 room (subst (λ x. IsNext x coming2 room (Err NotBuiltFault)) ip.grown.told here)),
+    (response, (refusal, written_more h after after2 (progress_of entries m ip.grown.exchanges).responses response ip.written sent)),
+  ))
 
   -- what came was refused, by a response that was cut short
   refused_cut : (left coming2 after2 : Option (List ℕ)) (room : RoomData) (response : List ℕ) (e : SinkFailed) → n < MAX_REQUESTS → IsNext coming coming2 room (Err NotBuiltFault)
       → IsRefusal response → Sends after after2 response (Err e) → SessionFrom entries bytes held moments EndSinkFailed tables left after2
   refused_cut left coming2 after2 room response e few here refusal sent = ends_so EndSinkFailed left after2 (omega (arith, few)) (λ b h m ip count.
-      inr ((subst (λ (k : ℕ). k < MAX_REQUESTS) (sym count) few, not_built_here ip.grown.rest coming2 room (subst (λ x. IsNext x coming2 room (Err NotBuiltFault)) ip.grown.told here)),
-      (response, (refusal, cut_more h after after2 (progress_of entries m ip.grown.exchanges).responses response e ip.written sent))))
+      inr (
+        (subst (λ (k : ℕ). k < MAX_REQUESTS) (sym count) few, not_built_here ip.grown.rest coming2 room (subst (λ x. IsNext x coming2 room (Err NotBuiltFault)) ip.grown.told here)),
+        (response, (refusal, cut_more h after after2 (progress_of entries m ip.grown.exchanges).responses response e ip.written sent)),
+      ))
 
   refused_by : (left coming2 after2 : Option (List ℕ)) (room : RoomData) (response : List ℕ) (result : Result (Unit {0}) SinkFailed) → n < MAX_REQUESTS
       → IsNext coming coming2 room (Err NotBuiltFault) → IsRefusal response → Sends after after2 response result

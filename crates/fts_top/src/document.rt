@@ -10,9 +10,7 @@ ghost use Rattle.fts_tables.specs.Places.{is_same_place};
 ghost use Rattle.fts_top.specs.Documents.{json_of, has_keys, member_of, only_of, only_item, rest_behind, is_plain_path_byte, path_of, place_on, place_of, place_under, plain_job, document_in, document_of, ReadsPlain};
 
 use crate::stand::read_endpoint;
-use fts_tables::{
-    Items, JobKind, Label, Memory, NewFile, NewJob, PathKey, Place, Strategy,
-};
+use fts_tables::{Items, JobKind, Label, Memory, NewFile, NewJob, PathKey, Place, Strategy};
 use serde_json::Value;
 use std::alloc::Global;
 
@@ -44,13 +42,7 @@ fn read_json(alloc: Global, body: &[u8]) -> Result<Option<Value>, Memory>
 {
     match Value::from_slice(alloc, body) {
         Ok(value) => Ok(Some(value)),
-        Err(e) => {
-            if e.is_memory() {
-                Err(Memory)
-            } else {
-                Ok(None)
-            }
-        }
+        Err(e) => { if e.is_memory() { Err(Memory) } else { Ok(None) } }
     }
 }
 

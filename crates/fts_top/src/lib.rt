@@ -10,6 +10,8 @@ mod notes;
 mod reply;
 mod session;
 mod stand;
+#[cfg(test)]
+mod tests;
 mod top;
 mod words;
 

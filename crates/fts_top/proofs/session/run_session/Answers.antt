@@ -97,7 +97,7 @@ returns-in-Err-clause-session g c =
     let coming2 = pending c.load.new.self.kept left in
     let loaded = rw c.in-Ok-true.field-0-test at c.in-Ok-true.ensures in
     let answered = subst (λ (body : List ℕ). Answers tables c.now-now.result (document_of body) c.answer-reply.result c.answer-reply.new.desk.tables)
-        (ap (λ (request : RequestData). request.body) c.request.ensures) c.answer-reply.ensures.answers in
+    (ap (λ (request : RequestData). request.body) c.request.ensures) c.answer-reply.ensures.answers in
     λ entries e. cut entries bytes held moments n tables coming after next (c.loop-done.invariant.progress entries e) left coming2 (g.K.Sink.held c.write_response.new.sink) (g.C.Clock.moments c.now-now.new.self) c.load.new.self c.now-now.result c.answer-reply.result c.answer-reply.new.desk.tables
     c.in-Err.field-0 c.loop-done-test.true loaded.next c.now-now.ensures answered c.in-Err.ensures.sent
 
@@ -115,7 +115,7 @@ loop-done-preserved g c =
     let coming2 = pending c.load.new.self.kept left in
     let loaded = rw c.in-Ok-true.field-0-test at c.in-Ok-true.ensures in
     let answered = subst (λ (body : List ℕ). Answers tables c.now-now.result (document_of body) c.answer-reply.result c.answer-reply.new.desk.tables)
-        (ap (λ (request : RequestData). request.body) c.request.ensures) c.answer-reply.ensures.answers in
+    (ap (λ (request : RequestData). request.body) c.request.ensures) c.answer-reply.ensures.answers in
     record {
       progress = λ entries e. turn entries bytes held moments n tables coming after next (c.loop-done.invariant.progress entries e) coming2 (g.K.Sink.held c.write_response.new.sink) (g.C.Clock.moments c.now-now.new.self) c.load.new.self c.now-now.result c.answer-reply.result c.answer-reply.new.desk.tables
           loaded.next c.now-now.ensures answered c.in-Ok.ensures.sent;
