@@ -1,6 +1,6 @@
 -- The standard settings keep their rules.
 use Rattle.std.proofs.Common.{refl}
-use Rattle.fts_tables.specs.SettingsData.{SettingsData, IsSettings}
+use Rattle.fts_tables.specs.SettingsData.{IsSettings}
 use Rattle.fts_top.specs.Stand.{settings_of_stand}
 
 pub stand_kept : IsSettings settings_of_stand

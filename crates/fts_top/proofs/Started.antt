@@ -1,5 +1,5 @@
 -- A session that began behind a Restart is a run.
-use Rattle.std.proofs.Common.{◌≡◌, inr, ℕ, List, [], ◌∷◌, ◌++◌, Option, Some, None, refl, ap, sym, ◌∙◌, subst}
+use Rattle.std.proofs.Common.{◌≡◌, inr, ℕ, List, [], ◌∷◌, ◌++◌, Option, Some, None, refl, ap, subst}
 use Rattle.fts_tables.specs.Coming.{Coming, Gives, later}
 use Rattle.fts_tables.specs.Tables.{Tables}
 use Rattle.fts_wire.specs.Taken.{pending}

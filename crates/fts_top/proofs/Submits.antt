@@ -1,5 +1,5 @@
 -- What a submission without an id is answered with.
-use Rattle.std.proofs.Common.{◌≡◌, ℕ, ◌+◌, Bool, true, false, cond, List, length, Some, None, Ok, Err, inr, ap, sym, ◌∙◌}
+use Rattle.std.proofs.Common.{◌≡◌, ℕ, ◌+◌, Bool, true, false, cond, List, length, None, Ok, Err, inr, ap, sym, ◌∙◌}
 use Rattle.std.specs.Prelude.{nat_lt, option_and_then, is_ok, unwrap_or, max}
 use Rattle.std.proofs.lemmas.Bool.{false≢true}
 use Rattle.fts_tables.specs.Tables.{Tables, number_of_id}

@@ -1,7 +1,7 @@
 -- Texts and their fronts, and names that are read.
-use Rattle.std.proofs.Common.{◌≡◌, ◌&&◌, Result, Ok, Err, ℕ, Bool, true, false, cond, List, length, drop, Option, Some, None, Bor, refl, ap, sym, subst, ◌∙◌, option_map}
-use Rattle.std.specs.Prelude.{MatchOption, nat_eq, IfOk}
-use Rattle.std.specs.List.{starts_with, list_all}
+use Rattle.std.proofs.Common.{◌≡◌, ◌&&◌, Result, Ok, Err, ℕ, Bool, true, false, cond, List, drop, Option, Some, None, Bor, refl, ap, sym, subst, ◌∙◌, option_map}
+use Rattle.std.specs.Prelude.{MatchOption, IfOk}
+use Rattle.std.specs.List.{list_all}
 use Rattle.std.specs.Str.Pattern.{FindsTextPrefix, StripsPrefix}
 use Rattle.std.specs.Str.{IsCharBoundary}
 use Rattle.std.proofs.lemmas.Str.Pattern.{starts_text}

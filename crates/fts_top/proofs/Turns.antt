@@ -2,7 +2,7 @@
 use Rattle.std.proofs.Common.{◌≡◌, inl, inr, ℕ, ◌+◌, ◌<◌, ◌≤◌, ◌==◌, Bool, true, false, List, [], ◌∷◌, ◌++◌, length, Option, Some, None, Result, Ok, Err, refl, ap, sym, ◌∙◌, subst, arith, append-nil}
 use Rattle.std.specs.List.{concat}
 use Rattle.std.proofs.lemmas.Bool.{false≢true}
-use Rattle.fts_tables.specs.Coming.{Coming, Gives, later}
+use Rattle.fts_tables.specs.Coming.{Coming, Gives}
 use Rattle.fts_tables.specs.Tables.{Tables}
 use Rattle.fts_tables.specs.History.{tables_of}
 use Rattle.fts_tables.specs.declared.limits.TheConstants.{MAX_REQUESTS}
@@ -16,7 +16,7 @@ use Rattle.fts_wire.specs.declared.outside.SinkFailed.{SinkFailed}
 use Rattle.fts_wire.specs.declared.response.Reply.{Reply}
 use Rattle.fts_top.specs.Documents.{document_of}
 use Rattle.fts_top.specs.Replies.{not_built, IsOrNoMemory, Answers}
-use Rattle.fts_top.specs.Session.{IfTold, AreWritten, AreCutShort, IsRefusal, IsReadCut, end_by, IsRefused, Ends, Session, SessionFrom, begun_with}
+use Rattle.fts_top.specs.Session.{IfTold, AreWritten, AreCutShort, IsRefusal, IsReadCut, end_by, IsRefused, Ends, SessionFrom}
 use Rattle.fts_top.specs.declared.session.SessionEnd.{SessionEnd}
 use Rattle.fts_top.specs.declared.session.SessionEnd.TheVariants.{Closed as EndClosed, EndsInside as EndEndsInside, Refused as EndRefused, Many as EndMany, SourceFailed as EndSourceFailed, SinkFailed as EndSinkFailed}
 use Rattle.fts_top.proofs.Growth.{Grown, progress_of, count_of_responses, pushed, concat-push}

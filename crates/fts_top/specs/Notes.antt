@@ -1,5 +1,5 @@
 -- The line that a run writes to its notes, by its exit status.
-use Rattle.std.specs.Prelude.{◌≡◌, ℕ, ◌==◌, if◌then◌else◌, List, [], codes, Option, Result}
+use Rattle.std.specs.Prelude.{ℕ, ◌==◌, if◌then◌else◌, List, [], codes, Option, Result}
 use Rattle.fts_wire.specs.Outside.{CountsFaults}
 use Rattle.fts_wire.specs.Response.{Sends}
 use Rattle.fts_wire.specs.declared.outside.SinkFailed.{SinkFailed}

@@ -1,4 +1,4 @@
-use Rattle.std.proofs.Common.{◌≡◌, ℕ, ap, sym, ◌∙◌, length, nat_eq, Option}
+use Rattle.std.proofs.Common.{ap, sym, ◌∙◌, nat_eq, Option}
 use Rattle.std.specs.Prelude.{false}
 use Rattle.std.specs.Option.{option_map_or}
 use Rattle.serde_json.specs.Data.{Members}

@@ -1,4 +1,4 @@
-use Rattle.std.proofs.Common.{rules, tests, arith}
+use Rattle.std.proofs.Common.{rules, tests}
 use Rattle.fts_top.proofs.Json.{json_of-read, json_of-refused}
 use Rattle.fts_top.proofs.document.read_json.Goals as goal
 

@@ -1,5 +1,5 @@
 -- One turn of a session's loop, and its ends.
-use Rattle.std.proofs.Common.{ℕ, ◌≡◌, List, subst, ap, arith}
+use Rattle.std.proofs.Common.{ℕ, List, subst, ap, arith}
 use Rattle.fts_wire.specs.RequestData.{RequestData}
 use Rattle.fts_wire.specs.Taken.{pending}
 use Rattle.fts_top.specs.Documents.{document_of}
