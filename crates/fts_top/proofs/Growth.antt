@@ -56,6 +56,7 @@ record Answered (so_far : Progress) (body : List ℕ) (reply : Reply) (tables : 
   pub replied : reply ≡ reply_over so_far.entries so_far.moments.0 body lacks
   pub folded : tables ≡ tables_of (so_far.entries ++ entries_over so_far.entries so_far.moments.0 body lacks)
 
+-- an answer is such a doing
 answered : (so_far : Progress) (body : List ℕ) (reply : Reply) (tables after : Tables) (now : ℕ) → tables ≡ tables_of so_far.entries → now ≡ so_far.moments.0
     → Answers tables now (document_of body) reply after → Answered so_far body reply after
 answered so_far body reply tables after now e m (inl h) = record {
@@ -101,6 +102,7 @@ pub count_of_responses : (entries : List Entry) (moments : Coming) (bytes : List
     → (g : Grown entries moments bytes n tables coming) → length (progress_of entries moments g.exchanges).responses ≡ n
 count_of_responses entries moments bytes n tables coming g = omega (arith, length-responses (begun_with entries moments) g.exchanges, g.count)
 
+-- a request that was found and answered is one more
 pub pushed : (entries : List Entry) (moments : Coming) (bytes : List ℕ) (n : ℕ) (tables : Tables) (coming : Option (List ℕ))
     → (g : Grown entries moments bytes n tables coming) (coming2 : Option (List ℕ)) (room : RoomData) (now : ℕ) (reply : Reply) (tables2 : Tables)
     → IsNext coming coming2 room (Ok true) → now ≡ (progress_of entries moments g.exchanges).moments.0 → Answers tables now (document_of room.request.body) reply tables2

@@ -13,6 +13,7 @@ use Rattle.fts_top.specs.Documents.{json_of, keys_count, only_of}
 pub json_of-read : (body : List ℕ) (value : Data) → IsUtf8 body → read body ≡ Some value → Some value ≡ json_of body
 json_of-read body value utf8 e = rw (is_utf8-from_IsUtf8 body utf8) (sym e)
 
+-- a body is no JSON if it is no UTF-8, or if nothing is read of it
 by_utf8 : (utf8 : Bool) (value : Option Data) → (utf8 ≡ true → value ≡ None) → None ≡ cond utf8 value None
 by_utf8 true value none = sym (none refl)
 by_utf8 false value none = refl

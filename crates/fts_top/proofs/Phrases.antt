@@ -19,6 +19,7 @@ pub record CanBeSent (reply : Reply) : Type 0 where
   pub phrase : IsTrue (has_phrase reply.status)
   pub methods : IsTrue (has_methods reply.status reply.allow)
 
+-- of the reply to an answer of the machine
 sent_answer : (answer : Answer) → CanBeSent (reply_to_answer answer)
 sent_answer (Restarted n) = record { phrase = refl; methods = refl }
 sent_answer (Submitted job id) = record { phrase = refl; methods = refl }
@@ -27,6 +28,7 @@ sent_answer (PrioritySet n) = record { phrase = refl; methods = refl }
 sent_answer (Claimed n m) = record { phrase = refl; methods = refl }
 sent_answer (Reported n s) = record { phrase = refl; methods = refl }
 
+-- of the reply to a refusal of the machine
 sent_refusal : (refusal : Refusal) → CanBeSent (reply_to_refusal refusal)
 sent_refusal NoJob = record { phrase = refl; methods = refl }
 sent_refusal NoFile = record { phrase = refl; methods = refl }
@@ -37,18 +39,22 @@ sent_refusal Idle = record { phrase = refl; methods = refl }
 sent_refusal (Stale s n) = record { phrase = refl; methods = refl }
 sent_refusal (Unchanged n) = record { phrase = refl; methods = refl }
 
+-- of the reply to what comes of a command
 sent_by : (outcome : Outcomes) → CanBeSent (reply_by outcome)
 sent_by (Ok done) = sent_answer done.1
 sent_by (Err refusal) = sent_refusal refusal
 
+-- of the reply to a document
 sent_to : (tables : Tables) (now : ℕ) (document : Document) → CanBeSent (reply_to tables now document)
 sent_to tables now NotJson = record { phrase = refl; methods = refl }
 sent_to tables now NotPlain = record { phrase = refl; methods = refl }
 sent_to tables now (Plain job) = sent_by (step tables (Submit now job))
 
+-- of want of memory
 sent_no_memory : CanBeSent no_memory
 sent_no_memory = record { phrase = refl; methods = refl }
 
+-- of what is not built
 sent_not_built : CanBeSent not_built
 sent_not_built = record { phrase = refl; methods = refl }
 

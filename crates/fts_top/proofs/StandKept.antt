@@ -3,6 +3,7 @@ use Rattle.std.proofs.Common.{refl}
 use Rattle.fts_tables.specs.SettingsData.{IsSettings}
 use Rattle.fts_top.specs.Stand.{settings_of_stand}
 
+-- each rule is a test that computes
 pub stand_kept : IsSettings settings_of_stand
 stand_kept = record {
   vo = refl;

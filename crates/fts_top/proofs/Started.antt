@@ -13,6 +13,7 @@ pending_nil : (kept : List ℕ) (left : Option (List ℕ)) → kept ≡ [] → p
 pending_nil kept None e = refl
 pending_nil kept (Some rest) e = ap (λ (x : List ℕ). Some (x ++ rest)) e
 
+-- by what is told of input, output and moments
 by_told : (ending : Ending) (bytes held : Option (List ℕ)) (moments moments2 : Option Coming) (now : ℕ) (end : SessionEnd) (tables : Tables) (left after : Option (List ℕ))
     → Gives moments moments2 now → SessionFrom (restart_at now ∷ []) bytes held moments2 end tables left after
     → ending.status ≡ status_of end → ending.tally ≡ tally_of tables → RanOver ending bytes left held after moments

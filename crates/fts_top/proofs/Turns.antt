@@ -99,6 +99,7 @@ is_read_end EndMany = false
 is_read_end EndSourceFailed = true
 is_read_end EndSinkFailed = false
 
+-- a refusal does not end by a read
 not_read : (result : Result (Unit {0}) SinkFailed) → end_by result ≡ EndSourceFailed → ⊥
 unfolding is_read_end
 not_read (Ok sent) e = false≢true (ap is_read_end e)
@@ -212,6 +213,7 @@ module _ (entries : List Entry) (bytes held : Option (List ℕ)) (moments : Opti
         (response, (refusal, cut_more h after after2 (progress_of entries m ip.grown.exchanges).responses response e ip.written sent)),
       ))
 
+  -- what came was refused, and that is the end that the writing of it makes
   refused_by : (left coming2 after2 : Option (List ℕ)) (room : RoomData) (response : List ℕ) (result : Result (Unit {0}) SinkFailed) → n < MAX_REQUESTS
       → IsNext coming coming2 room (Err NotBuiltFault) → IsRefusal response → Sends after after2 response result
       → SessionFrom entries bytes held moments (end_by result) tables left after2

@@ -1,3 +1,4 @@
+-- A turn of the loop that gives up the ACTIVE rows.
 use Rattle.std.proofs.Common.{set, ap, sym, ◌∙◌}
 use Rattle.std.proofs.lemmas.List.Edits.{map_over_more}
 use Rattle.fts_tables.specs.Step.{released}

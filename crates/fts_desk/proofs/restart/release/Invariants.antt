@@ -1,3 +1,4 @@
+-- The loop that gives up the ACTIVE rows: those before the turn's place are given up and counted.
 use Rattle.std.proofs.Common.{◌≡◌, ◌++◌, map, take, drop}
 use Rattle.std.specs.Prelude.{count_by}
 use Rattle.fts_tables.specs.Tables.{is_active}

@@ -1,3 +1,4 @@
+-- The loop that adds rows: those of the files so far stand behind the rows that were there.
 use Rattle.std.proofs.Common.{◌≡◌, ◌+◌, ◌++◌, length, vec_capacity}
 use Rattle.fts_tables.specs.Moves.{new_rows}
 use Rattle.fts_tables.specs.declared.rows.FileState.TheVariants.{Submitted}

@@ -1,3 +1,4 @@
+-- What is left of a text without its front.
 use Rattle.fts_top.proofs.Texts.{rest_behind-strip}
 use Rattle.fts_top.proofs.document.behind.Goals as goal
 

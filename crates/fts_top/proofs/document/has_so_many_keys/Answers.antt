@@ -1,3 +1,4 @@
+-- An object has as many keys as its map has entries.
 use Rattle.std.proofs.Common.{ap, sym, ◌∙◌, nat_eq, Option}
 use Rattle.std.specs.Prelude.{false}
 use Rattle.std.specs.Option.{option_map_or}

@@ -1,3 +1,4 @@
+-- A list of two or more has not one item.
 use Rattle.std.proofs.Common.{arith}
 use Rattle.fts_top.proofs.Json.{only_of-many}
 use Rattle.fts_top.proofs.document.only.Goals as goal

@@ -1,3 +1,4 @@
+-- A body that was read, and one that could not be.
 use Rattle.std.proofs.Common.{rules, tests}
 use Rattle.fts_top.proofs.Json.{json_of-read, json_of-refused}
 use Rattle.fts_top.proofs.document.read_json.Goals as goal

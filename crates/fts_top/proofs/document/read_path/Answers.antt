@@ -1,3 +1,4 @@
+-- A path in plain letters.
 use Rattle.std.proofs.Common.{sym, ◌∙◌}
 use Rattle.fts_top.proofs.Texts.{path_of-read}
 use Rattle.fts_top.proofs.document.read_path.Goals as goal

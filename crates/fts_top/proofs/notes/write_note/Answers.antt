@@ -1,3 +1,4 @@
+-- The line was written as far as the notes took it.
 use Rattle.std.proofs.Common.{List, ℕ, ◌∙◌, subst}
 use Rattle.fts_wire.specs.Response.{Sends}
 use Rattle.fts_top.proofs.notes.write_note.Goals as goal

@@ -1,3 +1,4 @@
+-- A write that took some bytes, and one that failed.
 use Rattle.std.proofs.Common.{◌≡◌, ◌+◌, ◌-◌, ◌++◌, ℕ, List, take, drop, length, length-drop, ap, sym, ◌∙◌, arith, subst, Ok, Err}
 use Rattle.std.proofs.lemmas.List.{take_rest, take-append-drop}
 use Rattle.std.proofs.Math.Seq.{take-add}

@@ -1,3 +1,4 @@
+-- The loop that writes a text.
 use Rattle.std.proofs.Common.{◌-◌, ◌≤◌, length, take, Ok}
 use Rattle.fts_wire.specs.Response.{Sends}
 use Rattle.fts_wire.specs.declared.outside.SinkFailed.{SinkFailed}

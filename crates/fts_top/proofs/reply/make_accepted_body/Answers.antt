@@ -1,3 +1,4 @@
+-- The text of an accepted submission's body.
 use Rattle.std.proofs.Common.{ℕ, List, ◌++◌, ap, ◌∙◌}
 use Rattle.std.specs.Prelude.{codes}
 use Rattle.uuid.specs.Text.{hyphenated_text, lower}

@@ -1,3 +1,4 @@
+-- The text of a refusal's body.
 use Rattle.std.proofs.Common.{ap, ◌∙◌}
 use Rattle.fts_top.proofs.reply.make_refusal_body.Goals as goal
 

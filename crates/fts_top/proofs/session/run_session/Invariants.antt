@@ -1,3 +1,4 @@
+-- The loop over the requests of a session.
 use Rattle.std.proofs.Common.{List, ◌≡◌, ◌+◌, ◌≤◌}
 use Rattle.fts_tables.specs.History.{tables_of}
 use Rattle.fts_tables.specs.declared.commands.Entry.{Entry}

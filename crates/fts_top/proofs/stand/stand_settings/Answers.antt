@@ -1,3 +1,4 @@
+-- The settings that were made keep their rules.
 use Rattle.std.proofs.Common.{◌≡◌, sym, subst, rules}
 use Rattle.fts_tables.specs.SettingsData.{SettingsData, IsSettings}
 use Rattle.fts_top.specs.Stand.{settings_of_stand}
