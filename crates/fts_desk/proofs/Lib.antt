@@ -1,0 +1,2 @@
+mod NewRows
+mod Released

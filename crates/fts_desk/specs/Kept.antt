@@ -1,0 +1,44 @@
+-- The lists behind a desk's tables: which tables they are, their limits, and the room in them.
+use Rattle.std.specs.Prelude.{◌≡◌, ℕ, ◌+◌, ◌<◌, ◌≤◌, length, vec_capacity, Result, Ok, Err}
+use Rattle.fts_tables.specs.Tables.{Tables}
+use Rattle.fts_tables.specs.declared.limits.TheConstants.{MAX_JOBS, MAX_ROWS}
+use Rattle.fts_tables.specs.declared.commands.Command.{Command}
+use Rattle.fts_tables.specs.declared.commands.Command.TheVariants.{Restart, Submit, CancelJob, CancelFile, SetPriority, Claim, Report}
+use Rattle.fts_tables.specs.declared.commands.Refusal.TheVariants.{JobsFull, RowsFull}
+use Rattle.fts_desk.specs.declared.kept.Kept.{Kept}
+use Rattle.fts_desk.specs.declared.desk.DeskFault.{DeskFault}
+use Rattle.fts_desk.specs.declared.desk.DeskFault.TheVariants.{Rule, Memory}
+
+-- the machine's tables that these lists are
+abbrev pub tables_kept : Kept → Tables
+tables_kept kept = record { jobs = kept.jobs.items; rows = kept.rows.items; moment = kept.moment; settings = kept.settings }
+
+-- no more jobs and rows than there may be
+pub record IsWithinLimits (kept : Kept) : Type 0 where
+  pub jobs : length kept.jobs.items ≤ MAX_JOBS
+  pub rows : length kept.rows.items ≤ MAX_ROWS
+
+-- room for one job more, of so many files: in memory, and within the limits
+pub record HasRoomFor (kept : Kept) (count : ℕ) : Type 0 where
+  pub job : length kept.jobs.items + 1 ≤ vec_capacity kept.jobs
+  pub files : length kept.rows.items + count ≤ vec_capacity kept.rows
+  pub job_limit : length kept.jobs.items < MAX_JOBS
+  pub row_limit : length kept.rows.items + count ≤ MAX_ROWS
+
+-- room for what a command adds
+abbrev pub HasRoom : Kept → Command → Type 0
+HasRoom kept (Restart now settings) = Unit {0}
+HasRoom kept (Submit now job) = HasRoomFor kept (length job.files)
+HasRoom kept (CancelJob now job) = Unit {0}
+HasRoom kept (CancelFile now job file) = Unit {0}
+HasRoom kept (SetPriority now job priority) = Unit {0}
+HasRoom kept (Claim now word) = Unit {0}
+HasRoom kept (Report now file attempt outcome) = Unit {0}
+
+-- the limits on the numbers of jobs and rows, in the order of the machine's refusals
+abbrev pub IsRoomFor : ℕ → ℕ → ℕ → Result (Unit {0}) DeskFault → Type 0
+IsRoomFor jobs rows files (Ok made) = Unit {0}
+IsRoomFor jobs rows files (Err Memory) = Unit {0}
+IsRoomFor jobs rows files (Err (Rule (JobsFull number))) = (number ≡ jobs) × (MAX_JOBS ≤ jobs)
+IsRoomFor jobs rows files (Err (Rule (RowsFull number))) = (number ≡ rows) × (jobs < MAX_JOBS) × (MAX_ROWS < rows + files)
+IsRoomFor jobs rows files (Err (Rule rule)) = ⊥

@@ -1,0 +1,4 @@
+pub mod DeskData
+pub mod Kept
+pub mod Desk
+pub mod Prepared

@@ -1,0 +1,13 @@
+//! The transfer machine's tables, as a running service keeps them.
+//! A command is applied in two steps: `Desk::prepare` refuses it or makes room for it, and `Desk::commit` does it, takes no memory and can't fail.
+//! What is done lies between them: the caller writes the command to its journal once it is prepared, and commits it once it is written.
+//! Here are Restart, and the submission of a plain job without an id. Each command is a module of its own, with its room and its step.
+#![tactic(auto)]
+
+mod desk;
+mod kept;
+mod restart;
+mod submit;
+
+pub use desk::{Desk, DeskFault, Plan};
+pub use submit::standard_id;

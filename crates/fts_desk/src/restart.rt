@@ -1,0 +1,61 @@
+//! Restart: each ACTIVE row is given up, and the settings are the new ones. It is never refused and needs no room.
+ghost use Rattle.std.specs.Prelude.{◌≡◌, ◌≤◌, length, map, count_by, Ok};
+ghost use Rattle.fts_tables.specs.Tables.{is_active};
+ghost use Rattle.fts_tables.specs.Step.{step, released};
+ghost use Rattle.fts_tables.specs.declared.commands.Command.TheVariants.{Restart};
+ghost use Rattle.fts_tables.specs.declared.limits.TheConstants.{MAX_ROWS};
+ghost use Rattle.fts_desk.specs.Kept.{tables_kept};
+
+use crate::kept::Kept;
+use fts_tables::{Answer, FileRow, FileState, Reason, Settings};
+
+/// Begins a run with these settings.
+pub fn restart(kept: &mut Kept, now: u64, settings: Settings) -> Answer
+    requires { length kept.old.rows.items ≤ MAX_ROWS }
+    ensures step { step (tables_kept kept.old) (Restart now settings) ≡ Ok (tables_kept kept.new, result) }
+    ensures jobs { kept.new.jobs.items ≡ kept.old.jobs.items }
+    ensures rows { length kept.new.rows.items ≡ length kept.old.rows.items }
+{
+    let released = release(&mut kept.rows);
+    kept.moment = kept.moment.max(now);
+    kept.settings = Some(settings);
+    Answer::Restarted { released }
+}
+
+/// Gives up each ACTIVE row, and counts them.
+fn release(rows: &mut [FileRow]) -> u32
+    requires { length rows.old ≤ MAX_ROWS }
+    ensures rows { rows.new ≡ map released rows.old }
+    ensures count { result ≡ count_by (λ row. is_active row.state) rows.old }
+{
+    let mut count = 0;
+    for row in rows.iter_mut() {
+        if release_one(row) {
+            count += 1;
+        }
+    }
+    count
+}
+
+/// Gives up a row where it is ACTIVE, and says whether it was.
+fn release_one(row: &mut FileRow) -> bool
+    ensures row { row.new ≡ released row.old }
+    ensures was { result ≡ is_active row.old.state }
+{
+    match row.state {
+        FileState::Active => {
+            if row.cancel_asked {
+                row.state = FileState::Canceled;
+                row.reason = Reason::Cancelled;
+            } else {
+                row.state = FileState::Submitted;
+            }
+            true
+        }
+        FileState::Submitted
+        | FileState::Finished
+        | FileState::Failed
+        | FileState::Canceled
+        | FileState::NotUsed => false,
+    }
+}

@@ -1,0 +1,69 @@
+-- Each answer is one that a response can be written of: its status has a phrase, and it is no refusal of a method.
+use Rattle.std.proofs.Common.{inl, inr, refl, ℕ, Ok, Err, sym, subst}
+use Rattle.std.specs.Prelude.{IsTrue}
+use Rattle.fts_tables.specs.Tables.{Tables}
+use Rattle.fts_tables.specs.Step.{Outcomes, step}
+use Rattle.fts_tables.specs.declared.commands.Command.TheVariants.{Submit}
+use Rattle.fts_tables.specs.declared.commands.Answer.{Answer}
+use Rattle.fts_tables.specs.declared.commands.Answer.TheVariants.{Restarted, Submitted, Cancelled, PrioritySet, Claimed, Reported}
+use Rattle.fts_tables.specs.declared.commands.Refusal.{Refusal}
+use Rattle.fts_tables.specs.declared.commands.Refusal.TheVariants.{NoJob, NoFile, Duplicate, JobsFull, RowsFull, Idle, Stale, Unchanged}
+use Rattle.fts_wire.specs.Response.{has_phrase, has_methods}
+use Rattle.fts_wire.specs.declared.response.Reply.{Reply}
+use Rattle.fts_top.specs.Replies.{reply_to_answer, reply_to_refusal, reply_by, reply_to, no_memory, not_built, IsOrNoMemory, Answers}
+use Rattle.fts_top.specs.declared.document.Document.{Document}
+use Rattle.fts_top.specs.declared.document.Document.TheVariants.{NotJson, NotPlain, Plain}
+
+-- a response can be written of a reply
+pub record CanBeSent (reply : Reply) : Type 0 where
+  pub phrase : IsTrue (has_phrase reply.status)
+  pub methods : IsTrue (has_methods reply.status reply.allow)
+
+-- of the reply to an answer of the machine
+sent_answer : (answer : Answer) → CanBeSent (reply_to_answer answer)
+sent_answer (Restarted n) = record { phrase = refl; methods = refl }
+sent_answer (Submitted job id) = record { phrase = refl; methods = refl }
+sent_answer (Cancelled n) = record { phrase = refl; methods = refl }
+sent_answer (PrioritySet n) = record { phrase = refl; methods = refl }
+sent_answer (Claimed n m) = record { phrase = refl; methods = refl }
+sent_answer (Reported n s) = record { phrase = refl; methods = refl }
+
+-- of the reply to a refusal of the machine
+sent_refusal : (refusal : Refusal) → CanBeSent (reply_to_refusal refusal)
+sent_refusal NoJob = record { phrase = refl; methods = refl }
+sent_refusal NoFile = record { phrase = refl; methods = refl }
+sent_refusal (Duplicate n) = record { phrase = refl; methods = refl }
+sent_refusal (JobsFull n) = record { phrase = refl; methods = refl }
+sent_refusal (RowsFull n) = record { phrase = refl; methods = refl }
+sent_refusal Idle = record { phrase = refl; methods = refl }
+sent_refusal (Stale s n) = record { phrase = refl; methods = refl }
+sent_refusal (Unchanged n) = record { phrase = refl; methods = refl }
+
+-- of the reply to what comes of a command
+sent_by : (outcome : Outcomes) → CanBeSent (reply_by outcome)
+sent_by (Ok done) = sent_answer done.1
+sent_by (Err refusal) = sent_refusal refusal
+
+-- of the reply to a document
+sent_to : (tables : Tables) (now : ℕ) (document : Document) → CanBeSent (reply_to tables now document)
+sent_to tables now NotJson = record { phrase = refl; methods = refl }
+sent_to tables now NotPlain = record { phrase = refl; methods = refl }
+sent_to tables now (Plain job) = sent_by (step tables (Submit now job))
+
+-- of want of memory
+sent_no_memory : CanBeSent no_memory
+sent_no_memory = record { phrase = refl; methods = refl }
+
+-- of what is not built
+sent_not_built : CanBeSent not_built
+sent_not_built = record { phrase = refl; methods = refl }
+
+-- of an answer
+pub sent_of_answer : (tables : Tables) (now : ℕ) (document : Document) (reply : Reply) (after : Tables) → Answers tables now document reply after → CanBeSent reply
+sent_of_answer tables now document reply after (inl h) = subst CanBeSent (sym h.0) sent_no_memory
+sent_of_answer tables now document reply after (inr h) = subst CanBeSent (sym h.0) (sent_to tables now document)
+
+-- of what is not built
+pub sent_of_refusal : (reply : Reply) → IsOrNoMemory reply not_built → CanBeSent reply
+sent_of_refusal reply (inl h) = subst CanBeSent (sym h) sent_not_built
+sent_of_refusal reply (inr h) = subst CanBeSent (sym h) sent_no_memory

@@ -1,0 +1,59 @@
+//! Replies with their bodies, which are spelled exactly (JSON, RFC 8259). Where there is no memory for a body, the reply is 500 without one.
+//! `specs/Replies.antt` has each reply.
+ghost use Rattle.std.specs.Prelude.{◌≡◌, IfOk};
+ghost use Rattle.fts_top.specs.Replies.{accepted_body, refusal_body, refusal_of, no_memory, IsOrNoMemory};
+
+use fts_tables::{Items, Memory};
+use fts_wire::{Allow, Reply};
+use std::alloc::Global;
+use uuid::Uuid;
+
+/// The reply where there is no memory for another one. It takes none.
+pub fn no_memory_reply(alloc: Global) -> Reply
+    ensures { result ≡ no_memory }
+{
+    Reply {
+        status: 500,
+        allow: Allow::None,
+        body: Items::new(alloc),
+    }
+}
+
+/// A refusal with its message, the number of the rule that was broken, and its status.
+pub fn refusal_reply(alloc: Global, message: &str, rule: u32, status: u16) -> Reply
+    ensures { IsOrNoMemory result (refusal_of message.now rule status) }
+{
+    match make_refusal_body(alloc, message, rule, status) {
+        Ok(body) => Reply {
+            status,
+            allow: Allow::None,
+            body,
+        },
+        Err(Memory) => no_memory_reply(alloc),
+    }
+}
+
+fn make_refusal_body(
+    alloc: Global,
+    message: &str,
+    rule: u32,
+    status: u16,
+) -> Result<Items<u8>, Memory>
+    ensures { IfOk result (λ body. body ≡ refusal_body message.now rule status) }
+{
+    let text = format!(in alloc;
+        "{{\"message\":\"{message}\",\"rule\":{rule},\"status\":{status}}}"
+    )?;
+    Ok(Items::from_vec(text.into_bytes()))
+}
+
+/// The body of the reply to an accepted submission: the job's id as a UUID in lower case (RFC 9562).
+pub fn make_accepted_body(alloc: Global, id: u128) -> Result<Items<u8>, Memory>
+    ensures { IfOk result (λ body. body ≡ accepted_body id) }
+{
+    let mut buffer = Uuid::encode_buffer();
+    let id = Uuid::from_u128(id).hyphenated();
+    let id = id.encode_lower(&mut buffer);
+    let text = format!(in alloc; "{{\"job_id\":\"{id}\"}}")?;
+    Ok(Items::from_vec(text.into_bytes()))
+}

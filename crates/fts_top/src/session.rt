@@ -1,0 +1,83 @@
+//! A session: the requests of one connection, answered one after another over one desk.
+//! Keeps, from request to request: the tables are those of the list so far, and what was written are its responses (`SessionFrom`).
+//! Order of a request: it is read, the clock is asked, it is answered, its response is written. The millionth response says close.
+ghost use Rattle.std.specs.Prelude.{◌≡◌, ◌≤◌, List};
+ghost use Rattle.fts_tables.specs.History.{tables_of};
+ghost use Rattle.fts_tables.specs.declared.commands.Entry.{Entry};
+ghost use Rattle.fts_wire.specs.Outside.{Rose};
+ghost use Rattle.fts_wire.specs.Taken.{pending};
+ghost use Rattle.fts_top.specs.Session.{SessionFrom, IsRefused};
+
+use crate::answer::answer;
+use crate::reply::refusal_reply;
+use fts_desk::Desk;
+use fts_tables::Clock;
+use fts_tables::limits::MAX_REQUESTS;
+use fts_wire::{Room, Sink, SinkFailed, Source, WireFault, write_response};
+use std::alloc::Global;
+
+/// How a session ended.
+#[derive(Clone, Copy, Debug, PartialEq, Eq)]
+pub enum SessionEnd {
+    /// The input ended between requests.
+    Closed,
+    /// The input ended inside a request.
+    EndsInside,
+    /// What came is no request that can be answered. It was refused.
+    Refused,
+    /// As many requests were answered as a connection may have.
+    Many,
+    /// A read failed.
+    SourceFailed,
+    /// A write failed.
+    SinkFailed,
+}
+
+/// Answers the requests of a connection. The room has kept nothing that a request of another connection left.
+pub fn run_session<S: Source, K: Sink, C: Clock>(
+    alloc: Global,
+    desk: &mut Desk,
+    room: &mut Room,
+    input: &mut S,
+    output: &mut K,
+    clock: &mut C,
+) -> SessionEnd
+    requires { desk.old.commands ≤ 1 }
+    // Whatever list the tables are of, the session goes on from it.
+    ensures session { (entries : List Entry) → desk.old.tables ≡ tables_of entries
+        → SessionFrom entries (pending room.old.kept (S.left input.old)) (K.held output.old) (C.moments clock.old)
+        result desk.new.tables (S.left input.new) (K.held output.new) }
+    ensures input { result ≡ SessionEnd.SourceFailed → Rose (S.faults input.old) (S.faults input.new) }
+    ensures output { result ≡ SessionEnd.SinkFailed → Rose (K.faults output.old) (K.faults output.new) }
+{
+    for done in 0..MAX_REQUESTS {
+        match room.load(input) {
+            Ok(true) => {}
+            Ok(false) => return SessionEnd::Closed,
+            Err(WireFault::EndsInside) => return SessionEnd::EndsInside,
+            Err(WireFault::SourceFailed) => return SessionEnd::SourceFailed,
+            Err(WireFault::NotBuilt) => return refuse(alloc, output),
+        }
+        let now = clock.now();
+        let reply = answer(alloc, desk, room.request().body, now);
+        let is_last = done + 1 == MAX_REQUESTS;
+        match write_response(output, false, is_last, &reply) {
+            Ok(()) => {}
+            Err(SinkFailed) => return SessionEnd::SinkFailed,
+        }
+    }
+    SessionEnd::Many
+}
+
+/// Refuses what came as not built, by the last response of its connection.
+fn refuse<K: Sink>(alloc: Global, output: &mut K) -> SessionEnd
+    ensures refused { IsRefused (K.held output.old) (K.held output.new) result }
+    ensures output { result ≡ SessionEnd.SinkFailed → Rose (K.faults output.old) (K.faults output.new) }
+    ensures keeps { K.faults output.old ≤ K.faults output.new }
+{
+    let reply = refusal_reply(alloc, "not built", 40, 501);
+    match write_response(output, false, true, &reply) {
+        Ok(()) => SessionEnd::Refused,
+        Err(SinkFailed) => SessionEnd::SinkFailed,
+    }
+}
