@@ -93,7 +93,7 @@ pub record IsRefused (before after : Option (List ℕ)) (end : SessionEnd) : Typ
   pub sent : Sends before after response result
   pub ended : end ≡ end_by result
 
--- the same as the last of the responses
+-- these responses and, as the last one, a refusal
 abbrev pub WithRefusal : (List (List ℕ) → Type 0) → List (List ℕ) → Type 0
 WithRefusal P responses = (response : List ℕ) × (IsRefusal response × P (responses ++ response ∷ []))
 
