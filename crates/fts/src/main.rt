@@ -6,7 +6,8 @@ mod outside;
 
 use fts_tables::Memory;
 use fts_top::{Outside, run};
-use outside::{StdSink, StdSource, SystemClock};
+use fts_wire::{StdSink, StdSource};
+use outside::SystemClock;
 use std::process::ExitCode;
 use std::{env, io};
 
