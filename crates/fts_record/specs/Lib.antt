@@ -1,0 +1,5 @@
+pub mod Spelling
+pub mod Fields
+pub mod Proper
+pub mod Reading
+pub mod Answers
