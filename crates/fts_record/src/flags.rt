@@ -55,7 +55,10 @@ pub fn wanted_at(bytes: &[u8]) -> Result<(Option<[u8; 16]>, &[u8]), Stop>
     match bytes {
         [0, rest @ ..] => Ok((None, rest)),
         [1, rest @ ..] => match digest_of(rest) {
-            Some((digest, rest)) => Ok((Some(digest), rest)),
+            Some(found) => {
+                let digest = found.0;
+                Ok((Some(digest), found.1))
+            }
             None => Err(Stop::Unspelled { left: bytes.len() }),
         },
         _ => Err(Stop::Unspelled { left: bytes.len() }),

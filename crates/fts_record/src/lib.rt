@@ -5,6 +5,7 @@
 #![tactic(auto)]
 
 mod flags;
+pub mod laws;
 mod numbers;
 mod stops;
 mod texts;

@@ -55,12 +55,14 @@ pub fn label_at(alloc: Global, bytes: &[u8]) -> Result<(Label, &[u8]), Stop>
 pub fn name_at(alloc: Global, bytes: &[u8]) -> Result<(EndpointName, &[u8]), Stop>
     ensures { Gives (λ x. (x.0, x.1.now)) result (name_read bytes.now) }
 {
-    if let Some((text, rest)) = text_of(bytes) {
-        if let Some(name) = EndpointName::read(alloc, text)? {
-            return Ok((name, rest));
-        }
+    let left = bytes.len();
+    match text_of(bytes) {
+        Some((text, rest)) => match EndpointName::read(alloc, text)? {
+            Some(name) => Ok((name, rest)),
+            None => Err(Stop::Unspelled { left }),
+        },
+        None => Err(Stop::Unspelled { left }),
     }
-    Err(Stop::Unspelled { left: bytes.len() })
 }
 
 /// The path of a file at the front.
@@ -68,10 +70,12 @@ pub fn name_at(alloc: Global, bytes: &[u8]) -> Result<(EndpointName, &[u8]), Sto
 pub fn path_at(alloc: Global, bytes: &[u8]) -> Result<(PathKey, &[u8]), Stop>
     ensures { Gives (λ x. (x.0, x.1.now)) result (path_read bytes.now) }
 {
-    if let Some((text, rest)) = text_of(bytes) {
-        if let Some(path) = PathKey::read(alloc, text)? {
-            return Ok((path, rest));
-        }
+    let left = bytes.len();
+    match text_of(bytes) {
+        Some((text, rest)) => match PathKey::read(alloc, text)? {
+            Some(path) => Ok((path, rest)),
+            None => Err(Stop::Unspelled { left }),
+        },
+        None => Err(Stop::Unspelled { left }),
     }
-    Err(Stop::Unspelled { left: bytes.len() })
 }
