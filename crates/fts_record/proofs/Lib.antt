@@ -3,3 +3,7 @@ pub mod Found
 pub mod Readers
 pub mod EntryLaws
 pub mod TextReader
+pub mod RuleLaws
+pub mod Bounds
+pub mod ListLoop
+pub mod NumberWriter

@@ -165,30 +165,65 @@ job_fields_at bytes = (made job_of ⊛ kind_at ⊛ strategy_at ⊛ asked_id_at �
 unfoldable pub job_at : List ℕ → Read JobData
 job_at bytes = ruled is_new_job job_fields_at bytes
 
+-- what stands behind the byte of each outcome that has fields
+abbrev pub verified_at : List ℕ → Read Outcome
+verified_at bytes = (made Verified ⊛ u64_at ⊛ digest_at) bytes
+
+abbrev pub source_size_at : List ℕ → Read Outcome
+source_size_at bytes = (made SourceSize ⊛ u64_at) bytes
+
+abbrev pub source_digest_at : List ℕ → Read Outcome
+source_digest_at bytes = (made SourceDigest ⊛ digest_at) bytes
+
+abbrev pub read_back_differs_at : List ℕ → Read Outcome
+read_back_differs_at bytes = (made ReadBackDiffers ⊛ u64_at) bytes
+
 -- an outcome: its byte, and its fields
 unfoldable pub outcome_at : List ℕ → Read Outcome
 outcome_at [] = Err 0
 outcome_at (byte ∷ bytes) =
-  if byte == 0 then (made Verified ⊛ u64_at ⊛ digest_at) bytes else (
+  if byte == 0 then verified_at bytes else (
   if byte == 1 then Ok (SourceMissing, bytes) else (
   if byte == 2 then Ok (DestinationExists, bytes) else (
-  if byte == 3 then (made SourceSize ⊛ u64_at) bytes else (
-  if byte == 4 then (made SourceDigest ⊛ digest_at) bytes else (
-  if byte == 5 then (made ReadBackDiffers ⊛ u64_at) bytes else (
+  if byte == 3 then source_size_at bytes else (
+  if byte == 4 then source_digest_at bytes else (
+  if byte == 5 then read_back_differs_at bytes else (
   if byte == 6 then Ok (StoreFailed, bytes) else (
   if byte == 7 then Ok (Stopped, bytes) else Err (suc (length bytes)))))))))
+
+-- what stands behind the byte of each command: its moment, and its fields
+abbrev pub restart_at : List ℕ → Read Command
+restart_at bytes = (made Restart ⊛ u64_at ⊛ settings_at) bytes
+
+abbrev pub submit_at : List ℕ → Read Command
+submit_at bytes = (made Submit ⊛ u64_at ⊛ job_at) bytes
+
+abbrev pub cancel_job_at : List ℕ → Read Command
+cancel_job_at bytes = (made CancelJob ⊛ u64_at ⊛ u32_at) bytes
+
+abbrev pub cancel_file_at : List ℕ → Read Command
+cancel_file_at bytes = (made CancelFile ⊛ u64_at ⊛ u32_at ⊛ u32_at) bytes
+
+abbrev pub set_priority_at : List ℕ → Read Command
+set_priority_at bytes = (made SetPriority ⊛ u64_at ⊛ u32_at ⊛ number_at MIN_PRIORITY MAX_PRIORITY) bytes
+
+abbrev pub claim_at : List ℕ → Read Command
+claim_at bytes = (made Claim ⊛ u64_at ⊛ word_at) bytes
+
+abbrev pub report_at : List ℕ → Read Command
+report_at bytes = (made Report ⊛ u64_at ⊛ u32_at ⊛ u32_at ⊛ outcome_at) bytes
 
 -- a command: its byte, its moment, and its fields
 unfoldable pub command_at : List ℕ → Read Command
 command_at [] = Err 0
 command_at (byte ∷ bytes) =
-  if byte == 1 then (made Restart ⊛ u64_at ⊛ settings_at) bytes else (
-  if byte == 2 then (made Submit ⊛ u64_at ⊛ job_at) bytes else (
-  if byte == 3 then (made CancelJob ⊛ u64_at ⊛ u32_at) bytes else (
-  if byte == 4 then (made CancelFile ⊛ u64_at ⊛ u32_at ⊛ u32_at) bytes else (
-  if byte == 5 then (made SetPriority ⊛ u64_at ⊛ u32_at ⊛ number_at MIN_PRIORITY MAX_PRIORITY) bytes else (
-  if byte == 6 then (made Claim ⊛ u64_at ⊛ word_at) bytes else (
-  if byte == 7 then (made Report ⊛ u64_at ⊛ u32_at ⊛ u32_at ⊛ outcome_at) bytes else Err (suc (length bytes))))))))
+  if byte == 1 then restart_at bytes else (
+  if byte == 2 then submit_at bytes else (
+  if byte == 3 then cancel_job_at bytes else (
+  if byte == 4 then cancel_file_at bytes else (
+  if byte == 5 then set_priority_at bytes else (
+  if byte == 6 then claim_at bytes else (
+  if byte == 7 then report_at bytes else Err (suc (length bytes))))))))
 
 -- an entry: the number of its writer, and its command
 abbrev pub entry_from : ℕ → Command → Entry

@@ -1,12 +1,15 @@
 //! Flags, options and what has a byte or a run of bytes of its own: digests, ids, words, a job's kind and its strategy.
 //! An option is one field, so a broken value behind a good flag is at the flag's place.
-ghost use Rattle.std.specs.Prelude.{◌≡◌, option_map};
+ghost use Rattle.std.specs.Prelude.{◌≡◌, ◌++◌, option_map, OnOk, IsTrue};
+ghost use Rattle.fts_record.specs.Spelling.{flag_bytes, option_bytes, digest_bytes, id_bytes, word_bytes, kind_bytes, strategy_bytes};
+ghost use Rattle.fts_record.specs.Proper.{is_digest, is_u128, is_none_or};
 ghost use Rattle.fts_record.specs.Fields.{digest_of as digest_found, id_of as id_found};
 ghost use Rattle.fts_record.specs.Reading.{flag_at as flag_read, wanted_at as wanted_read, asked_id_at as id_read, digest_at as digest_read, word_at as word_read, kind_at as kind_read, strategy_at as strategy_read};
 ghost use Rattle.fts_record.specs.Answers.{Gives};
 
+use crate::bytes::write_byte;
 use crate::stops::Stop;
-use fts_tables::{JobKind, Strategy};
+use fts_tables::{JobKind, Memory, Strategy};
 
 fn digest_of(bytes: &[u8]) -> Option<([u8; 16], &[u8])>
     ensures { option_map (λ found. (found.0, found.1.now)) result ≡ digest_found bytes.now }
@@ -113,5 +116,94 @@ pub fn strategy_at(bytes: &[u8]) -> Result<(Strategy, &[u8]), Stop>
         [0, rest @ ..] => Ok((Strategy::Auto, rest)),
         [1, rest @ ..] => Ok((Strategy::Orderly, rest)),
         _ => Err(Stop::Unspelled { left: bytes.len() }),
+    }
+}
+
+/// Appends a flag.
+pub fn write_flag(flag: bool, out: &mut Vec<u8>) -> Result<(), Memory>
+    ensures { OnOk result (out.new.items ≡ out.old.items ++ flag_bytes flag) }
+{
+    match flag {
+        false => write_byte(0, out),
+        true => write_byte(1, out),
+    }
+}
+
+/// Appends a digest.
+pub fn write_digest(digest: &[u8; 16], out: &mut Vec<u8>) -> Result<(), Memory>
+    ensures ok { OnOk result (out.new.items ≡ out.old.items ++ digest_bytes digest.now) }
+    ensures proper { OnOk result (IsTrue (is_digest digest.now)) }
+{
+    let bytes = *digest;
+    out.extend_from_slice(&bytes)?;
+    Ok(())
+}
+
+/// Appends a wanted digest, or none.
+pub fn write_wanted(wanted: &Option<[u8; 16]>, out: &mut Vec<u8>) -> Result<(), Memory>
+    ensures ok { OnOk result (out.new.items ≡ out.old.items ++ option_bytes digest_bytes wanted.now) }
+    ensures proper { OnOk result (IsTrue (is_none_or is_digest wanted.now)) }
+{
+    match wanted {
+        None => write_byte(0, out),
+        Some(digest) => {
+            write_byte(1, out)?;
+            write_digest(digest, out)
+        }
+    }
+}
+
+/// Appends an id, the greatest byte first.
+pub fn write_id(id: u128, out: &mut Vec<u8>) -> Result<(), Memory>
+    ensures ok { OnOk result (out.new.items ≡ out.old.items ++ id_bytes id) }
+    ensures proper { OnOk result (IsTrue (is_u128 id)) }
+{
+    let high = (id / (1 << 64)) as u64;
+    let low = (id % (1 << 64)) as u64;
+    out.extend_from_slice(&high.to_be_bytes())?;
+    out.extend_from_slice(&low.to_be_bytes())?;
+    Ok(())
+}
+
+/// Appends a job's id that was asked for, or none.
+pub fn write_asked_id(id: Option<u128>, out: &mut Vec<u8>) -> Result<(), Memory>
+    ensures ok { OnOk result (out.new.items ≡ out.old.items ++ option_bytes id_bytes id) }
+    ensures proper { OnOk result (IsTrue (is_none_or is_u128 id)) }
+{
+    match id {
+        None => write_byte(0, out),
+        Some(id) => {
+            write_byte(1, out)?;
+            write_id(id, out)
+        }
+    }
+}
+
+/// Appends a word, the least byte first.
+pub fn write_word(word: u64, out: &mut Vec<u8>) -> Result<(), Memory>
+    ensures { OnOk result (out.new.items ≡ out.old.items ++ word_bytes word) }
+{
+    out.extend_from_slice(&word.to_le_bytes())?;
+    Ok(())
+}
+
+/// Appends the kind of a job.
+pub fn write_kind(kind: JobKind, out: &mut Vec<u8>) -> Result<(), Memory>
+    ensures { OnOk result (out.new.items ≡ out.old.items ++ kind_bytes kind) }
+{
+    match kind {
+        JobKind::Plain => write_byte(0, out),
+        JobKind::Replica => write_byte(1, out),
+        JobKind::Multihop => write_byte(2, out),
+    }
+}
+
+/// Appends the strategy of a job.
+pub fn write_strategy(strategy: Strategy, out: &mut Vec<u8>) -> Result<(), Memory>
+    ensures { OnOk result (out.new.items ≡ out.old.items ++ strategy_bytes strategy) }
+{
+    match strategy {
+        Strategy::Auto => write_byte(0, out),
+        Strategy::Orderly => write_byte(1, out),
     }
 }

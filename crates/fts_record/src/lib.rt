@@ -4,8 +4,20 @@
 //! Called by fts_keep. Where entries are kept is not known here.
 #![tactic(auto)]
 
+mod bytes;
+mod commands;
+mod endpoints;
+mod entries;
 mod flags;
+mod jobs;
 pub mod laws;
+mod lists;
 mod numbers;
+mod outcomes;
+mod rules;
+mod settings;
 mod stops;
 mod texts;
+
+pub use entries::{read_entry, write_entry};
+pub use stops::ReadFault;

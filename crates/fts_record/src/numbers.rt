@@ -1,12 +1,13 @@
 //! Numbers: unsigned LEB128 (DWARF 5, section 7.6) in the shortest form, seven bits a byte and the lowest first.
 //! No number ends in a zero byte that it could do without, and none passes 64 bits: what reads is one spelling, `number_bytes`.
 //! `number_of` and `write_number` know no range; `number_at` and `small_at` read a field that has one.
-ghost use Rattle.std.specs.Prelude.{◌≡◌, ◌<◌, ◌≤◌, ◌^◌, ◌++◌, ℕ, length, option_map, IfOk, OnOk, OnErr, take, IfSome};
+ghost use Rattle.std.specs.Prelude.{◌≡◌, ◌<◌, ◌≤◌, ◌^◌, ◌++◌, ℕ, length, option_map, IfOk, OnOk, OnErr, IsTrue, take};
 ghost use Rattle.fts_record.specs.Spelling.{number_bytes};
-ghost use Rattle.fts_record.specs.Fields.{kept, is_u64, number_within, number_of as number_found};
+ghost use Rattle.fts_record.specs.Fields.{kept, is_u32, is_u64, number_within, number_of as number_found};
 ghost use Rattle.fts_record.specs.Reading.{number_at as number_read};
 ghost use Rattle.fts_record.specs.Answers.{Gives};
 
+use crate::bytes::write_byte;
 use crate::stops::Stop;
 use fts_tables::Memory;
 
@@ -61,4 +62,39 @@ pub fn small_at(bytes: &[u8], low: u32, high: u32) -> Result<(u32, &[u8]), Stop>
 {
     let (number, rest) = number_at(bytes, u64::from(low), u64::from(high))?;
     Ok((number as u32, rest))
+}
+
+fn push_number(mut number: u64, out: &mut Vec<u8>) -> Result<(), Memory>
+    ensures ok { OnOk result (out.new.items ≡ out.old.items ++ number_bytes number) }
+    ensures front { take (length out.old.items) out.new.items ≡ out.old.items }
+{
+    while number >= 128 {
+        write_byte((number % 128) as u8 + MORE, out)?;
+        number /= 128;
+    }
+    write_byte(number as u8, out)
+}
+
+/// Appends a number in its shortest form. At an `Err` nothing is appended.
+pub fn write_number(number: u64, out: &mut Vec<u8>) -> Result<(), Memory>
+    ensures ok { OnOk result (out.new.items ≡ out.old.items ++ number_bytes number) }
+    ensures err { OnErr result (out.new.items ≡ out.old.items) }
+    ensures range { IsTrue (is_u64 number) }
+{
+    let start = out.len();
+    match push_number(number, out) {
+        Ok(()) => Ok(()),
+        Err(Memory) => {
+            out.truncate(start);
+            Err(Memory)
+        }
+    }
+}
+
+/// Appends a number that 32 bits hold.
+pub fn write_small(number: u32, out: &mut Vec<u8>) -> Result<(), Memory>
+    ensures ok { OnOk result (out.new.items ≡ out.old.items ++ number_bytes number) }
+    ensures range { IsTrue (is_u32 number) }
+{
+    write_number(u64::from(number), out)
 }

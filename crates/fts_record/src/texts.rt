@@ -1,14 +1,17 @@
 //! Texts: a number, the length in bytes, and then the bytes in UTF-8; and runs of bytes without a length.
 //! `text_of` lends the text where it stands. A label, a name and a path are texts with a rule of their own, and are copied out.
-ghost use Rattle.std.specs.Prelude.{◌≡◌, option_map};
+ghost use Rattle.std.specs.Prelude.{◌≡◌, ◌++◌, option_map, OnOk, OnErr, IsTrue};
+ghost use Rattle.fts_tables.specs.SettingsData.{is_label};
+ghost use Rattle.fts_record.specs.Spelling.{text_bytes};
+ghost use Rattle.fts_record.specs.Proper.{is_label_text, is_name_text, is_path_text};
 ghost use Rattle.fts_record.specs.Fields.{text_of as text_found, bytes_of as bytes_found};
 ghost use Rattle.fts_record.specs.Reading.{label_at as label_read, name_at as name_read, path_at as path_read};
 ghost use Rattle.fts_record.specs.Answers.{Gives};
 
-use crate::numbers::number_of;
+use crate::numbers::{number_of, write_number};
 use crate::stops::Stop;
 use fts_tables::limits::MAX_LABEL_BYTES;
-use fts_tables::{EndpointName, Label, PathKey};
+use fts_tables::{EndpointName, Label, Memory, PathKey};
 use std::alloc::Global;
 
 /// So many bytes of a digest.
@@ -78,4 +81,49 @@ pub fn path_at(alloc: Global, bytes: &[u8]) -> Result<(PathKey, &[u8]), Stop>
         },
         None => Err(Stop::Unspelled { left }),
     }
+}
+
+/// Appends a text, behind its length. At an `Err` nothing is appended.
+#[tactic(auto, unfolding(crate::specs::Spelling::text_bytes))]
+pub fn write_text(text: &str, out: &mut Vec<u8>) -> Result<(), Memory>
+    ensures ok { OnOk result (out.new.items ≡ out.old.items ++ text_bytes text.now) }
+    ensures err { OnErr result (out.new.items ≡ out.old.items) }
+{
+    let start = out.len();
+    write_number(text.len() as u64, out)?;
+    match out.extend_from_slice(text.as_bytes()) {
+        Ok(()) => Ok(()),
+        Err(_) => {
+            out.truncate(start);
+            Err(Memory)
+        }
+    }
+}
+
+/// Appends a label whose length is in its range.
+#[tactic(auto, unfolding(crate::specs::Proper::is_label_text))]
+pub fn write_label(label: &Label, out: &mut Vec<u8>) -> Result<(), Memory>
+    requires { IsTrue (is_label label.now) }
+    ensures ok { OnOk result (out.new.items ≡ out.old.items ++ text_bytes label.now) }
+    ensures proper { OnOk result (IsTrue (is_label_text label.now)) }
+{
+    write_text(label.as_str(), out)
+}
+
+/// Appends the name of an endpoint.
+#[tactic(auto, unfolding(crate::specs::Proper::is_name_text))]
+pub fn write_name(name: &EndpointName, out: &mut Vec<u8>) -> Result<(), Memory>
+    ensures ok { OnOk result (out.new.items ≡ out.old.items ++ text_bytes name.now) }
+    ensures proper { OnOk result (IsTrue (is_name_text name.now)) }
+{
+    write_text(name.as_str(), out)
+}
+
+/// Appends the path of a file.
+#[tactic(auto, unfolding(crate::specs::Proper::is_path_text))]
+pub fn write_path(path: &PathKey, out: &mut Vec<u8>) -> Result<(), Memory>
+    ensures ok { OnOk result (out.new.items ≡ out.old.items ++ text_bytes path.now) }
+    ensures proper { OnOk result (IsTrue (is_path_text path.now)) }
+{
+    write_text(path.as_str(), out)
 }
