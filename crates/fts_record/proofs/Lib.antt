@@ -7,3 +7,4 @@ pub mod RuleLaws
 pub mod Bounds
 pub mod ListLoop
 pub mod NumberWriter
+pub mod Answered

@@ -1,8 +1,8 @@
 -- Settings and jobs keep the rules of their types exactly where their fields are in range and they keep the rules that join several fields.
-use Rattle.std.proofs.Common.{◌≡◌, ℕ, ◌≤◌, Bool, true, false, cond, leb, ◌&&◌, List, [], ◌∷◌, length, Option, Result, Ok, Err, refl, sym, ap, ◌∙◌, arith}
+use Rattle.std.proofs.Common.{◌≡◌, ℕ, ◌≤◌, Bool, true, false, cond, leb, ◌&&◌, List, [], ◌∷◌, length, Option, Result, Ok, Err, refl, sym, ap, ◌∙◌, arith, tests}
 use Rattle.std.specs.List.{list_all}
 use Rattle.std.proofs.lemmas.Bool.{and_parts, and_from, le-leb}
-use Rattle.fts_tables.specs.SettingsData.{SettingsData, is_within, is_label, is_active_limit, is_settings, IsSettings}
+use Rattle.fts_tables.specs.SettingsData.{SettingsData, is_within, is_label, is_active_limit, has_distinct_endpoints, has_distinct_links, has_known_links, has_distinct_activities, has_default_activity, is_settings, IsSettings}
 use Rattle.fts_tables.specs.JobData.{JobData, goes_elsewhere, has_shape, is_new_job, IsNewJob}
 use Rattle.fts_tables.specs.declared.settings.Endpoint.{Endpoint}
 use Rattle.fts_tables.specs.declared.settings.LinkRule.{LinkRule}
@@ -70,7 +70,7 @@ not_more high number passed = (and_parts (leb 0 number) (leb number high) passed
 
 -- settings with such fields that keep the joining rules keep the rules of their type
 pub settings_kept : (s : SettingsData) → has_proper_settings_fields s ≡ true → are_lawful s.endpoints s.links s.weights ≡ true → IsSettings s
-unfolding has_proper_settings_fields
+unfolding has_proper_settings_fields are_lawful
 settings_kept s fields lawful =
     let weights = and_parts _ _ fields in
     let links = and_parts _ _ weights.0 in
@@ -110,18 +110,14 @@ settings_pass s kept =
 
 -- settings that pass the one test keep the joining rules
 settings_lawful : (s : SettingsData) → is_settings s ≡ true → are_lawful s.endpoints s.links s.weights ≡ true
+unfolding are_lawful
 settings_lawful s passed =
-    let default = and_parts _ _ passed in
-    let ranges = and_parts _ _ default.0 in
-    let labels = and_parts _ _ ranges.0 in
-    let activities = and_parts _ _ labels.0 in
-    let link_labels = and_parts _ _ activities.0 in
-    let link_limits = and_parts _ _ link_labels.0 in
-    let ends = and_parts _ _ link_limits.0 in
-    let pairs = and_parts _ _ ends.0 in
-    let limits = and_parts _ _ pairs.0 in
-    let names = and_parts _ _ limits.0 in
-    and_from _ _ (and_from _ _ (and_from _ _ (and_from _ _ names.1 pairs.1) ends.1) activities.1) default.1
+    let names : has_distinct_endpoints s ≡ true = grind (arith, tests) in
+    let pairs : has_distinct_links s ≡ true = grind (arith, tests) in
+    let ends : has_known_links s ≡ true = grind (arith, tests) in
+    let activities : has_distinct_activities s ≡ true = grind (arith, tests) in
+    let default : has_default_activity s ≡ true = grind (arith, tests) in
+    and_from _ _ (and_from _ _ (and_from _ _ (and_from _ _ names pairs) ends) activities) default
 
 settings_ruled : (s : SettingsData) → has_proper_settings_fields s ≡ true → is_settings s ≡ are_lawful s.endpoints s.links s.weights
 settings_ruled s fields = same_test (is_settings s) (are_lawful s.endpoints s.links s.weights) (settings_lawful s) (λ lawful. settings_pass s (settings_kept s fields lawful))
@@ -180,7 +176,7 @@ file_activity file passed = label_of file.activity (and_parts _ _ passed).1
 
 -- so with a job
 pub job_kept : (j : JobData) → has_proper_job_fields j ≡ true → is_lawful j.kind j.files ≡ true → IsNewJob j
-unfolding has_proper_job_fields
+unfolding has_proper_job_fields is_lawful
 job_kept j fields lawful =
     let files = and_parts _ _ fields in
     let delay = and_parts _ _ files.0 in
@@ -203,6 +199,7 @@ pub job_pass : (j : JobData) → IsNewJob j → is_new_job j ≡ true
 job_pass j kept = and_from _ _ (and_from _ _ (and_from _ _ (and_from _ _ (and_from _ _ (and_from _ _ (and_from _ _ kept.priority kept.retry) kept.delay) kept.file_count) kept.apart) kept.sizes) kept.activities) kept.shape
 
 job_lawful : (j : JobData) → is_new_job j ≡ true → is_lawful j.kind j.files ≡ true
+unfolding is_lawful
 job_lawful j passed =
     let shape = and_parts _ _ passed in
     let activities = and_parts _ _ shape.0 in

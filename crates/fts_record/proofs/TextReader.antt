@@ -1,10 +1,13 @@
 -- What the readers of texts answer, step by step.
 use Rattle.std.proofs.Common.{◌≡◌, ℕ, Bool, true, false, cond, List, length, Option, Some, None, Result, Ok, Err, refl, sym, ap, ◌∙◌}
+use Rattle.std.specs.Prelude.{OnOk}
 use Rattle.std.specs.Str.{IsUtf8, is_utf8}
 use Rattle.std.proofs.lemmas.Str.{IsUtf8-from_is_utf8, is_utf8-from_IsUtf8}
-use Rattle.std.proofs.lemmas.Bool.{false_from_ne_true}
-use Rattle.fts_tables.specs.Names.{ReadsAs}
+use Rattle.std.proofs.lemmas.Bool.{false_from_ne_true, and_from}
+use Rattle.fts_tables.specs.Names.{ReadsAs, is_endpoint_name, is_path_key}
+use Rattle.fts_tables.specs.SettingsData.{is_label}
 use Rattle.fts_record.specs.Fields.{kept, number_of, bytes_of, text_behind, text_of}
+use Rattle.fts_record.specs.Proper.{is_label_text, is_name_text, is_path_text}
 use Rattle.fts_record.specs.Reading.{in_place, field}
 use Rattle.fts_record.proofs.NumberLaws.{kept_from}
 
@@ -39,3 +42,21 @@ rule_is_kept rule bytes text name behind found reads =
 pub rule_is_broken : (rule : List ℕ → Bool) (bytes text behind : List ℕ) → text_of bytes ≡ Some (text, behind) → ReadsAs (rule text) text None → field text_of rule bytes ≡ Err (length bytes)
 rule_is_broken rule bytes text behind found reads =
     ap (λ o. in_place (length bytes) (kept rule o)) found ∙ rw (reads_none (rule text) text reads) refl
+
+-- what holds in any case holds where a call succeeded
+pub on_ok : {T E P : Type 0} (r : Result T E) → P → OnOk r P
+on_ok (Ok value) holds = holds
+on_ok (Err fault) holds = tt
+
+-- texts that keep a rule
+pub label_text : (text : List ℕ) → IsUtf8 text → is_label text ≡ true → is_label_text text ≡ true
+unfolding is_label_text
+label_text text utf8 passed = and_from (is_utf8 text) (is_label text) (is_utf8-from_IsUtf8 text utf8) passed
+
+pub name_text : (text : List ℕ) → IsUtf8 text → is_endpoint_name text ≡ true → is_name_text text ≡ true
+unfolding is_name_text
+name_text text utf8 passed = and_from (is_utf8 text) (is_endpoint_name text) (is_utf8-from_IsUtf8 text utf8) passed
+
+pub path_text : (text : List ℕ) → IsUtf8 text → is_path_key text ≡ true → is_path_text text ≡ true
+unfolding is_path_text
+path_text text utf8 passed = and_from (is_utf8 text) (is_path_key text) (is_utf8-from_IsUtf8 text utf8) passed

@@ -48,8 +48,9 @@ fn whole_entry(alloc: Global, bytes: &[u8]) -> Result<Entry, ReadFault>
 /// The entry that the bytes spell, all of them.
 /// `BadEntry` comes exactly where they spell none, and `Memory` only for want of memory.
 pub fn read_entry(alloc: Global, bytes: &[u8]) -> Result<Entry, ReadFault>
-    // What is read is proper, and the bytes are its spelling.
+    // What is read is proper, and the bytes are its spelling; so it can be written again.
     ensures found { IfOk result (λ entry. IsProper entry × (bytes.now ≡ spelled entry)) }
+    ensures writable { IfOk result (λ entry. IsTrue (has_priority entry.command)) }
     // What is spelled is read, unless memory runs out.
     ensures only { (entry : Entry) → IsProper entry → bytes.now ≡ spelled entry → Tells result (Ok entry) }
     // Otherwise the place is that of the first field that is not spelled.

@@ -134,8 +134,7 @@ pub fn write_digest(digest: &[u8; 16], out: &mut Vec<u8>) -> Result<(), Memory>
     ensures ok { OnOk result (out.new.items ≡ out.old.items ++ digest_bytes digest.now) }
     ensures proper { OnOk result (IsTrue (is_digest digest.now)) }
 {
-    let bytes = *digest;
-    out.extend_from_slice(&bytes)?;
+    out.extend_from_slice(digest)?;
     Ok(())
 }
 

@@ -67,6 +67,7 @@ impl Item for NewFile {
 }
 
 /// The job at the front.
+#[tactic(auto, unfolding(crate::specs::Reading::job_at, crate::specs::Reading::job_fields_at))]
 pub fn job_at(alloc: Global, bytes: &[u8]) -> Result<(NewJob, &[u8]), Stop>
     ensures { Gives (λ x. (x.0, x.1.now)) result (job_read bytes.now) }
 {
@@ -95,6 +96,7 @@ pub fn job_at(alloc: Global, bytes: &[u8]) -> Result<(NewJob, &[u8]), Stop>
 }
 
 /// Appends a job.
+#[tactic(auto, unfolding(crate::specs::Spelling::job_bytes))]
 pub fn write_job(job: &NewJob, out: &mut Vec<u8>) -> Result<(), Memory>
     ensures ok { OnOk result (out.new.items ≡ out.old.items ++ job_bytes job.now) }
     ensures proper { OnOk result (IsTrue (is_proper_job job.now)) }

@@ -65,9 +65,9 @@ pub fn write_list<T: Item>(items: &Items<T>, out: &mut Vec<u8>) -> Result<(), Me
     ensures ok { OnOk result (out.new.items ≡ out.old.items ++ list_bytes T.spelling items.now) }
     ensures proper { OnOk result (IsTrue (list_all T.proper items.now)) }
 {
-    let items = items.as_slice();
-    write_number(items.len() as u64, out)?;
-    for item in items {
+    let list = items.as_slice();
+    write_number(list.len() as u64, out)?;
+    for item in list {
         item.write(out)?;
     }
     Ok(())

@@ -1,6 +1,6 @@
 //! The rules of settings and of jobs that join several fields, decided for values whose single fields are in their ranges.
 //! Each test answers its definition in `fts_tables`; a list is walked from its front, and no list here has more than 1,024 items.
-ghost use Rattle.std.specs.Prelude.{◌≡◌, ◌&&◌, Bool};
+ghost use Rattle.std.specs.Prelude.{◌≡◌, ◌&&◌, ◌==◌, Bool};
 ghost use Rattle.std.specs.List.{list_all, list_any};
 ghost use Rattle.std.specs.Prelude.{bytes_eq};
 ghost use Rattle.fts_tables.specs.Places.{is_same_place as same_place};
@@ -84,6 +84,7 @@ fn has_default(weights: &[Weight]) -> bool
 }
 
 /// Whether settings with these lists keep the rules that join several fields.
+#[tactic(auto, unfolding(crate::specs::Rules::are_lawful))]
 pub fn are_lawful_settings(
     endpoints: &[Endpoint],
     links: &[LinkRule],
@@ -160,15 +161,24 @@ fn is_replica_of(first: &NewFile, file: &NewFile) -> bool
         && first.activity.as_str() == file.activity.as_str()
 }
 
+fn all_are_first(files: &[NewFile]) -> bool
+    ensures { result ≡ list_all (λ file. file.index == 0) files.now }
+{
+    files.iter().all(|file| file.index == 0)
+}
+
+fn are_replicas_of(first: &NewFile, files: &[NewFile]) -> bool
+    ensures { result ≡ list_all (replica_of first.now) files.now }
+{
+    files.iter().all(|file| is_replica_of(first, file))
+}
+
 fn are_replicas(files: &[NewFile]) -> bool
     ensures { result ≡ replicas files.now }
 {
     match files.split_first() {
         None => true,
-        Some((first, rest)) => {
-            files.iter().all(|file| file.index == 0)
-                && rest.iter().all(|file| is_replica_of(first, file))
-        }
+        Some((first, rest)) => all_are_first(files) && are_replicas_of(first, rest),
     }
 }
 
@@ -185,6 +195,7 @@ fn has_shape(kind: JobKind, files: &[NewFile]) -> bool
 }
 
 /// Whether a job of this kind with these files keeps the rules that join several fields.
+#[tactic(auto, unfolding(crate::specs::Rules::is_lawful))]
 pub fn is_lawful_job(kind: JobKind, files: &[NewFile]) -> bool
     ensures { result ≡ is_lawful kind files.now }
 {

@@ -16,6 +16,7 @@ use fts_tables::{Memory, Settings};
 use std::alloc::Global;
 
 /// The settings at the front.
+#[tactic(auto, unfolding(crate::specs::Reading::settings_at, crate::specs::Reading::settings_fields_at))]
 pub fn settings_at(alloc: Global, bytes: &[u8]) -> Result<(Settings, &[u8]), Stop>
     ensures { Gives (λ x. (x.0, x.1.now)) result (settings_read bytes.now) }
 {
@@ -40,6 +41,7 @@ pub fn settings_at(alloc: Global, bytes: &[u8]) -> Result<(Settings, &[u8]), Sto
 }
 
 /// Appends settings.
+#[tactic(auto, unfolding(crate::specs::Spelling::settings_bytes))]
 pub fn write_settings(settings: &Settings, out: &mut Vec<u8>) -> Result<(), Memory>
     ensures ok { OnOk result (out.new.items ≡ out.old.items ++ settings_bytes settings.now) }
     ensures proper { OnOk result (IsTrue (is_proper_settings settings.now)) }
