@@ -13,9 +13,11 @@ within_parts low high number passed =
     let both = and_parts (leb low number) (leb number high) passed in
     (leb-true low number both.0, leb-true number high both.1)
 
+-- a number between the ends is in the range
 pub within_from : (low high number : ℕ) → low ≤ number → number ≤ high → is_within low high number ≡ true
 within_from low high number above below = and_from (leb low number) (leb number high) (le-leb low number above) (le-leb number high below)
 
+-- what is there, at a stated type
 abbrev there : {A : Type 0} → A → Option A
 there x = Some x
 
@@ -35,6 +37,7 @@ kept_some {A = A} test (Some found) x e =
     let both = passed_some (test found.0) found x e in
     (ap there both.1, subst (λ (y : A × List ℕ). test y.0 ≡ true) both.1 both.0)
 
+-- what passes the test is kept
 pub kept_from : {A : Type 0} (test : A → Bool) (x : A × List ℕ) → test x.0 ≡ true → kept test (Some x) ≡ Some x
 kept_from test x passed = rw passed refl
 
@@ -46,12 +49,15 @@ AreBytes-rest byte bytes are place = are (suc place)
 low_first_one : (more number : ℕ) → number < 128 → low_first (suc more) number ≡ number ∷ []
 low_first_one more number small = rw (lt-ltb number 128 small) refl
 
+-- the first byte of a larger number says that more follow
 low_first_more : (more number : ℕ) → 128 ≤ number → low_first (suc more) number ≡ (128 + number % 128) ∷ low_first more (number / 128)
 low_first_more more number large = rw (le-ltb number 128 large) refl
 
+-- a byte below 128 is a number
 one_byte : (more byte : ℕ) (bytes : List ℕ) → byte < 128 → number_within (suc more) (byte ∷ bytes) ≡ Some (byte, bytes)
 one_byte more byte bytes small = rw (lt-ltb byte 128 small) refl
 
+-- a larger byte has the lowest bits of one
 more_bytes : (more byte : ℕ) (bytes : List ℕ) → 128 ≤ byte → number_within (suc more) (byte ∷ bytes) ≡ behind byte (number_within more bytes)
 more_bytes more byte bytes large = rw (le-ltb byte 128 large) refl
 
@@ -59,10 +65,12 @@ more_bytes more byte bytes large = rw (le-ltb byte 128 large) refl
 behind_found : (byte high : ℕ) (rest : List ℕ) → (high ≡ 0 → ⊥) → behind byte (Some (high, rest)) ≡ Some (byte - 128 + 128 * high, rest)
 behind_found byte high rest some = rw (ne_eqb high 0 some) refl
 
+-- higher bits that were kept are not all zero
 zero_refused : {A : Type 0} (b : Bool) (x y : A) → cond b None (Some x) ≡ Some y → (b ≡ false) × (x ≡ y)
 zero_refused true x y e = absurd cc
 zero_refused false x y e = (refl, cc)
 
+-- a number with higher bits: these were found, and are not all zero
 behind_some : (byte : ℕ) (o : Option (ℕ × List ℕ)) (found : ℕ × List ℕ) → behind byte o ≡ Some found → (high : ℕ × List ℕ) × (o ≡ Some high) × (high.0 ≡ 0 → ⊥) × ((byte - 128 + 128 * high.0, high.1) ≡ found)
 behind_some byte None found e = absurd cc
 behind_some byte (Some high) found e =
@@ -76,8 +84,8 @@ low_first_again zero number rest fits =
     let small : number < 128 = omega (arith, fits) in
     ap (λ (l : List ℕ). number_within 1 (l ++ rest)) (low_first_one 0 number small) ∙ one_byte 0 number rest small
 low_first_again (suc more) number rest fits = elim (cases_lt number 128) [
-    | inl small ↦ ap (λ (l : List ℕ). number_within (suc (suc more)) (l ++ rest)) (low_first_one (suc more) number small) ∙ one_byte (suc more) number rest small
-    | inr large ↦
+  | inl small ↦ ap (λ (l : List ℕ). number_within (suc (suc more)) (l ++ rest)) (low_first_one (suc more) number small) ∙ one_byte (suc more) number rest small
+  | inr large ↦
       let power : 128 ^ suc (suc more) ≡ 128 ^ suc more * 128 = pow-suc 128 (suc more) in
       let higher : number / 128 < 128 ^ suc more = omega (arith, power, fits) in
       let again = low_first_again more (number / 128) rest higher in
@@ -89,17 +97,17 @@ low_first_again (suc more) number rest fits = elim (cases_lt number 128) [
       ∙ ap (behind (128 + number % 128)) again
       ∙ behind_found (128 + number % 128) (number / 128) rest some
       ∙ ap (λ (n : ℕ). there (n, rest)) sum
-    ]
+]
 
 -- what is read as a number are that number's bytes, and what follows
 low_first_takes : (more : ℕ) (input : List ℕ) (found : ℕ × List ℕ) → AreBytes input → number_within more input ≡ Some found → (input ≡ low_first more found.0 ++ found.1) × AreBytes found.1
 low_first_takes zero input found are e = absurd cc
 low_first_takes (suc more) [] found are e = absurd cc
 low_first_takes (suc more) (byte ∷ bytes) found are e = elim (cases_lt byte 128) [
-    | inl small ↦
+  | inl small ↦
       let same : (byte, bytes) ≡ found = some_is (byte, bytes) found (sym (one_byte more byte bytes small) ∙ e) in
       subst (λ (x : ℕ × List ℕ). (byte ∷ bytes ≡ low_first (suc more) x.0 ++ x.1) × AreBytes x.1) same (sym (ap (λ (l : List ℕ). l ++ bytes) (low_first_one more byte small)), AreBytes-rest byte bytes are)
-    | inr large ↦
+  | inr large ↦
       let parts = behind_some byte (number_within more bytes) found (sym (more_bytes more byte bytes large) ∙ e) in
       let high = parts.0 in
       let front = low_first_takes more bytes high (AreBytes-rest byte bytes are) parts.1 in
@@ -113,7 +121,7 @@ low_first_takes (suc more) (byte ∷ bytes) found are e = elim (cases_lt byte 12
       let spelled : low_first (suc more) (byte - 128 + 128 * high.0) ≡ byte ∷ low_first more high.0 = low_first_more more (byte - 128 + 128 * high.0) big ∙ rw (low, rest) refl in
       let whole : byte ∷ bytes ≡ low_first (suc more) (byte - 128 + 128 * high.0) ++ high.1 = ap (λ (l : List ℕ). byte ∷ l) front.0 ∙ sym (ap (λ (l : List ℕ). l ++ high.1) spelled) in
       subst (λ (x : ℕ × List ℕ). (byte ∷ bytes ≡ low_first (suc more) x.0 ++ x.1) × AreBytes x.1) parts.3 (whole, front.1)
-    ]
+]
 
 -- so with the numbers of 64 bits
 pub number_again : (number : ℕ) (rest : List ℕ) → is_u64 number ≡ true → number_of (number_bytes number ++ rest) ≡ Some (number, rest)
@@ -123,6 +131,7 @@ number_again number rest fits =
     let short : number < 128 ^ 10 = omega (arith, below.1) in
     rw (low_first_again 9 number rest short) (kept_from is_u64 (number, rest) fits)
 
+-- what is found as a number is spelled so
 pub number_takes : (input : List ℕ) (found : ℕ × List ℕ) → AreBytes input → number_of input ≡ Some found → (input ≡ number_bytes found.0 ++ found.1) × AreBytes found.1 × (is_u64 found.0 ≡ true)
 unfolding number_of number_bytes
 number_takes input found are e =

@@ -16,12 +16,11 @@ pub completes_all : (written : List ℕ) (number : ℕ) → number < 2 ^ 64 → 
 unfolding number_bytes
 completes_all written number fits = record { more = 9; fits = omega (arith, fits); bytes = refl }
 
+-- the bytes of a number that one byte doesn't hold
 low_first_more : (more number : ℕ) → 128 ≤ number → low_first (suc more) number ≡ (128 + number % 128) ∷ low_first more (number / 128)
 low_first_more more number large = rw (le-ltb number 128 large) refl
 
-low_first_one : (more number : ℕ) → number < 128 → low_first (suc more) number ≡ number ∷ []
-low_first_one more number small = rw (lt-ltb number 128 small) refl
-
+-- by cases on how many bytes may follow
 completes_more_of : (more : ℕ) (written whole : List ℕ) (number byte : ℕ) → 128 ≤ number → byte ≡ number % 128 + 128 → number < 128 ^ suc more → written ++ low_first (suc more) number ≡ whole → Completes (written ++ byte ∷ []) whole (number / 128)
 completes_more_of zero written whole number byte large same fits bytes = absurd (omega (arith, fits, large))
 completes_more_of (suc more) written whole number byte large same fits bytes =
@@ -36,7 +35,3 @@ completes_more_of (suc more) written whole number byte large same fits bytes =
 -- after a byte that says that more follow
 pub completes_more : (written whole : List ℕ) (number byte : ℕ) → 128 ≤ number → byte ≡ number % 128 + 128 → Completes written whole number → Completes (written ++ byte ∷ []) whole (number / 128)
 completes_more written whole number byte large same so_far = completes_more_of so_far.more written whole number byte large same so_far.fits so_far.bytes
-
--- after the last byte
-pub completes_last : (written whole : List ℕ) (number : ℕ) → number < 128 → Completes written whole number → written ++ number ∷ [] ≡ whole
-completes_last written whole number small so_far = ap (λ (l : List ℕ). written ++ l) (sym (low_first_one so_far.more number small)) ∙ so_far.bytes

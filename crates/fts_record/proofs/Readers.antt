@@ -12,6 +12,7 @@ use Rattle.fts_record.specs.Laws.{AreBytes}
 use Rattle.fts_record.proofs.NumberLaws.{some_is, kept_some, kept_from, within_parts, within_from}
 use Rattle.fts_record.proofs.Found.{Taken, Finds, number_found}
 
+-- what was read, at a stated type
 abbrev pub done : {A : Type 0} → A → Result A ℕ
 done x = Ok x
 
@@ -49,18 +50,21 @@ in_place_ok : {A : Type 0} (left : ℕ) (o : Option (A × List ℕ)) (found : A 
 in_place_ok left None found e = absurd cc
 in_place_ok left (Some was) found e = cc
 
+-- what a field reads is spelled so, and passes its test
 field_takes : {A : Type 0} {value_of : List ℕ → Option (A × List ℕ)} {spell : A → List ℕ} {fits : A → Bool} (test : A → Bool) → Finds value_of spell fits → (input : List ℕ) (found : A × List ℕ) → AreBytes input → field value_of test input ≡ Ok found → Taken input (spell found.0) found.1 (fits found.0 && test found.0)
 field_takes {value_of = value_of} {fits = fits} test finds input found are e =
     let both = kept_some test (value_of input) found (in_place_ok (length input) (kept test (value_of input)) found e) in
     let t = finds.takes input found are both.0 in
     record { parts = t.parts; bytes = t.bytes; fit = and_from (fits found.0) (test found.0) t.fit both.1 }
 
+-- what is spelled and passes the test is read
 field_again : {A : Type 0} {value_of : List ℕ → Option (A × List ℕ)} {spell : A → List ℕ} {fits : A → Bool} (test : A → Bool) → Finds value_of spell fits → (value : A) (rest : List ℕ) → (fits value && test value) ≡ true → field value_of test (spell value ++ rest) ≡ Ok (value, rest)
 field_again {spell = spell} {fits = fits} test finds value rest fit =
     let both = and_parts (fits value) (test value) fit in
     ap (λ o. in_place (length (spell value ++ rest)) (kept test o)) (finds.again value rest both.0)
     ∙ ap (in_place (length (spell value ++ rest))) (kept_from test (value, rest) both.1)
 
+-- a field reads what is found and passes its test
 pub field_reads : {A : Type 0} {value_of : List ℕ → Option (A × List ℕ)} {spell : A → List ℕ} {fits : A → Bool} (test : A → Bool) → Finds value_of spell fits → Reads (field value_of test) spell (λ value. fits value && test value)
 field_reads test finds = record { takes = field_takes test finds; again = field_again test finds }
 
@@ -91,6 +95,7 @@ items_take {A = A} {read = read} {spell = spell} {fits = fits} reads (suc more) 
     let all : List A × List ℕ = (a.0.0 ∷ b.0.0, b.0.1) in
     subst (λ (x : List A × List ℕ). Taken input (flat_map spell x.0) x.1 (list_all fits x.0) × (length x.0 ≡ suc more)) (ok_is all found b.2) (both, ap suc others.1)
 
+-- items that are spelled one after the other are read
 items_again : {A : Type 0} {read : List ℕ → Read A} {spell : A → List ℕ} {fits : A → Bool} → Reads read spell fits → (items : List A) (rest : List ℕ) → list_all fits items ≡ true → items_at read (length items) (flat_map spell items ++ rest) ≡ Ok (items, rest)
 unfolding items_at
 items_again reads [] rest fit = refl
@@ -101,6 +106,7 @@ items_again {A = A} {read = read} {spell = spell} {fits = fits} reads (item ∷ 
     ∙ ap (λ (r : Read A). r >>= λ first. items_at read (length items) first.1 >>= λ others. Ok (first.0 ∷ others.0, others.1)) (reads.again item (flat_map spell items ++ rest) both.0)
     ∙ ap (λ (r : Read (List A)). r >>= λ others. Ok (item ∷ others.0, others.1)) (items_again reads items rest both.1)
 
+-- what is read as a list is spelled so
 list_take : {A : Type 0} {read : List ℕ → Read A} {spell : A → List ℕ} {fits : A → Bool} (low high : ℕ) → high ≤ 18446744073709551615 → Reads read spell fits → (input : List ℕ) (found : List A × List ℕ) → AreBytes input → list_at low high read input ≡ Ok found → Taken input (list_bytes spell found.0) found.1 (is_list low high fits found.0)
 unfolding list_at
 list_take {A = A} {read = read} {spell = spell} {fits = fits} low high fit reads input found are e =
@@ -110,6 +116,7 @@ list_take {A = A} {read = read} {spell = spell} {fits = fits} low high fit reads
     let both = Taken-then input (number_bytes a.0.0) a.0.1 (flat_map spell found.0) found.1 (is_within low high a.0.0) (list_all fits found.0) count items.0 in
     subst (λ (k : ℕ). Taken input (number_bytes k ++ flat_map spell found.0) found.1 (is_within low high k && list_all fits found.0)) (sym items.1) both
 
+-- what is spelled as a list is read
 list_again : {A : Type 0} {read : List ℕ → Read A} {spell : A → List ℕ} {fits : A → Bool} (low high : ℕ) → high ≤ 18446744073709551615 → Reads read spell fits → (items : List A) (rest : List ℕ) → is_list low high fits items ≡ true → list_at low high read (list_bytes spell items ++ rest) ≡ Ok (items, rest)
 unfolding list_at
 list_again {A = A} {read = read} {spell = spell} {fits = fits} low high fit reads items rest passed =
@@ -119,6 +126,7 @@ list_again {A = A} {read = read} {spell = spell} {fits = fits} low high fit read
     ∙ ap (λ (r : Read ℕ). r >>= λ count. items_at read count.0 count.1) ((number_reads low high fit).again (length items) (flat_map spell items ++ rest) both.0)
     ∙ items_again reads items rest both.1
 
+-- lists
 pub list_reads : {A : Type 0} {read : List ℕ → Read A} {spell : A → List ℕ} {fits : A → Bool} (low high : ℕ) → high ≤ 18446744073709551615 → Reads read spell fits → Reads (list_at low high read) (list_bytes spell) (is_list low high fits)
 list_reads low high fit reads = record { takes = list_take low high fit reads; again = list_again low high fit reads }
 
@@ -127,6 +135,7 @@ kept_rules : {A : Type 0} (b : Bool) (left : ℕ) (x y : A) → cond b (done x) 
 kept_rules true left x y e = (refl, cc)
 kept_rules false left x y e = absurd cc
 
+-- what is read under rules keeps them
 ruled_takes : {A : Type 0} {read : List ℕ → Read A} {spell : A → List ℕ} {fits : A → Bool} (keeps : A → Bool) → Reads read spell fits → (input : List ℕ) (found : A × List ℕ) → AreBytes input → ruled keeps read input ≡ Ok found → Taken input (spell found.0) found.1 (fits found.0 && keeps found.0)
 ruled_takes {A = A} {read = read} {spell = spell} {fits = fits} keeps reads input found are e =
     let a = bind_ok (read input) (λ value. cond (keeps value.0) (Ok value) (Err (length input))) found e in
@@ -134,12 +143,14 @@ ruled_takes {A = A} {read = read} {spell = spell} {fits = fits} keeps reads inpu
     let t = reads.takes input a.0 are a.1 in
     subst (λ (x : A × List ℕ). Taken input (spell x.0) x.1 (fits x.0 && keeps x.0)) both.1 (record { parts = t.parts; bytes = t.bytes; fit = and_from (fits a.0.0) (keeps a.0.0) t.fit both.0 })
 
+-- what keeps the rules is read
 ruled_again : {A : Type 0} {read : List ℕ → Read A} {spell : A → List ℕ} {fits : A → Bool} (keeps : A → Bool) → Reads read spell fits → (value : A) (rest : List ℕ) → (fits value && keeps value) ≡ true → ruled keeps read (spell value ++ rest) ≡ Ok (value, rest)
 ruled_again {A = A} {spell = spell} {fits = fits} keeps reads value rest fit =
     let both = and_parts (fits value) (keeps value) fit in
     ap (λ (r : Read A). r >>= λ found. cond (keeps found.0) (Ok found) (Err (length (spell value ++ rest)))) (reads.again value rest both.0)
     ∙ ap (λ (b : Bool). cond b (done (value, rest)) (Err (length (spell value ++ rest)))) both.1
 
+-- values under rules
 pub ruled_reads : {A : Type 0} {read : List ℕ → Read A} {spell : A → List ℕ} {fits : A → Bool} (keeps : A → Bool) → Reads read spell fits → Reads (ruled keeps read) spell (λ value. fits value && keeps value)
 ruled_reads keeps reads = record { takes = ruled_takes keeps reads; again = ruled_again keeps reads }
 
@@ -152,12 +163,13 @@ pub record Makes {E G : Type 0} (read : List ℕ → Read G) (make : E → G) (s
 pub start : {G : Type 0} (maker : G) → Makes (made maker) (λ (fields : Unit {0}). maker) (λ fields. []) (λ fields. true)
 start {G = G} maker = record {
   takes = λ input found are e.
-    let now : G × List ℕ = (maker, input) in
-    let same = ok_is now found e in
-    (tt, ap (λ (x : G × List ℕ). x.0) same, record { parts = ap (λ (x : G × List ℕ). x.1) same; bytes = subst (λ (x : G × List ℕ). AreBytes x.1) same are; fit = refl });
+      let now : G × List ℕ = (maker, input) in
+      let same = ok_is now found e in
+      (tt, ap (λ (x : G × List ℕ). x.0) same, record { parts = ap (λ (x : G × List ℕ). x.1) same; bytes = subst (λ (x : G × List ℕ). AreBytes x.1) same are; fit = refl });
   again = λ fields rest fit. refl;
 }
 
+-- what is read with one field more is spelled so
 step_takes : {E B G : Type 0} {before : List ℕ → Read (B → G)} {make : E → B → G} {spell : E → List ℕ} {fits : E → Bool} {next : List ℕ → Read B} {bytes : B → List ℕ} {test : B → Bool} → Makes before make spell fits → Reads next bytes test → (input : List ℕ) (found : G × List ℕ) → AreBytes input → (before ⊛ next) input ≡ Ok found → (fields : E × B) × (make fields.0 fields.1 ≡ found.0) × Taken input (spell fields.0 ++ bytes fields.1) found.1 (fits fields.0 && test fields.1)
 step_takes {E = E} {B = B} {G = G} {before = before} {make = make} {spell = spell} {fits = fits} {next = next} {bytes = bytes} {test = test} makes reads input found are e =
     let a = bind_ok (before input) (λ maker. next maker.1 >>= λ value. Ok (maker.0 value.0, value.1)) found e in
@@ -166,11 +178,13 @@ step_takes {E = E} {B = B} {G = G} {before = before} {make = make} {spell = spel
     let second = reads.takes a.0.1 b.0 first.2.bytes b.1 in
     let all : G × List ℕ = (a.0.0 b.0.0, b.0.1) in
     let same = ok_is all found b.2 in
-    let both = Taken-then input (spell first.0) a.0.1 (bytes b.0.0) b.0.1 (fits first.0) (test b.0.0) first.2 second in
-    ( (first.0, b.0.0)
-    , ap (λ (g : B → G). g b.0.0) first.1 ∙ ap (λ (x : G × List ℕ). x.0) same
-    , subst (λ (l : List ℕ). Taken input (spell first.0 ++ bytes b.0.0) l (fits first.0 && test b.0.0)) (ap (λ (x : G × List ℕ). x.1) same) both )
+    let both = Taken-then input (spell first.0) a.0.1 (bytes b.0.0) b.0.1 (fits first.0) (test b.0.0) first.2 second in (
+      (first.0, b.0.0),
+      ap (λ (g : B → G). g b.0.0) first.1 ∙ ap (λ (x : G × List ℕ). x.0) same,
+      subst (λ (l : List ℕ). Taken input (spell first.0 ++ bytes b.0.0) l (fits first.0 && test b.0.0)) (ap (λ (x : G × List ℕ). x.1) same) both,
+    )
 
+-- what is spelled with one field more is read
 step_again : {E B G : Type 0} {before : List ℕ → Read (B → G)} {make : E → B → G} {spell : E → List ℕ} {fits : E → Bool} {next : List ℕ → Read B} {bytes : B → List ℕ} {test : B → Bool} → Makes before make spell fits → Reads next bytes test → (fields : E × B) (rest : List ℕ) → (fits fields.0 && test fields.1) ≡ true → (before ⊛ next) ((spell fields.0 ++ bytes fields.1) ++ rest) ≡ Ok (make fields.0 fields.1, rest)
 step_again {B = B} {G = G} {before = before} {make = make} {spell = spell} {fits = fits} {next = next} {bytes = bytes} {test = test} makes reads fields rest fit =
     let both = and_parts (fits fields.0) (test fields.1) fit in
@@ -197,9 +211,9 @@ step_any {E = E} {B = B} {fits = fits} makes reads = Makes-refit (λ (fields : E
 pub finish : {E G : Type 0} {read : List ℕ → Read G} {make : E → G} {spell : E → List ℕ} {fits : E → Bool} (parts : G → E) → ((fields : E) → parts (make fields) ≡ fields) → ((value : G) → make (parts value) ≡ value) → Makes read make spell fits → Reads read (λ value. spell (parts value)) (λ value. fits (parts value))
 finish {E = E} {G = G} {make = make} {spell = spell} {fits = fits} parts there back makes = record {
   takes = λ input found are e.
-    let t = makes.takes input found are e in
-    let same : parts found.0 ≡ t.0 = ap parts (sym t.1) ∙ there t.0 in
-    subst (λ (fields : E). Taken input (spell fields) found.1 (fits fields)) (sym same) t.2;
+      let t = makes.takes input found are e in
+      let same : parts found.0 ≡ t.0 = ap parts (sym t.1) ∙ there t.0 in
+      subst (λ (fields : E). Taken input (spell fields) found.1 (fits fields)) (sym same) t.2;
   again = λ value rest fit. makes.again (parts value) rest fit ∙ ap (λ (g : G). done (g, rest)) (back value);
 }
 

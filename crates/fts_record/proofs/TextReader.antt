@@ -24,10 +24,12 @@ text_is_none bytes rest text behind size length_found bytes_found other =
     let refused : is_utf8 text ≡ false = false_from_ne_true (is_utf8 text) (λ passed. other (IsUtf8-from_is_utf8 text passed)) in
     ap text_behind length_found ∙ ap (kept is_utf8) bytes_found ∙ rw refused refl
 
+-- a name that was read is the text, and the text passed
 reads_some : (b : Bool) (text name : List ℕ) → ReadsAs b text (Some name) → (b ≡ true) × (name ≡ text)
 reads_some true text name reads = (refl, reads)
 reads_some false text name reads = absurd reads
 
+-- where none was read the text did not pass
 reads_none : (b : Bool) (text : List ℕ) → ReadsAs b text None → b ≡ false
 reads_none true text reads = absurd reads
 reads_none false text reads = refl
@@ -53,10 +55,12 @@ pub label_text : (text : List ℕ) → IsUtf8 text → is_label text ≡ true �
 unfolding is_label_text
 label_text text utf8 passed = and_from (is_utf8 text) (is_label text) (is_utf8-from_IsUtf8 text utf8) passed
 
+-- a name
 pub name_text : (text : List ℕ) → IsUtf8 text → is_endpoint_name text ≡ true → is_name_text text ≡ true
 unfolding is_name_text
 name_text text utf8 passed = and_from (is_utf8 text) (is_endpoint_name text) (is_utf8-from_IsUtf8 text utf8) passed
 
+-- a path
 pub path_text : (text : List ℕ) → IsUtf8 text → is_path_key text ≡ true → is_path_text text ≡ true
 unfolding is_path_text
 path_text text utf8 passed = and_from (is_utf8 text) (is_path_key text) (is_utf8-from_IsUtf8 text utf8) passed

@@ -32,10 +32,11 @@ number_within zero bytes = None
 number_within (suc more) [] = None
 number_within (suc more) (byte ∷ bytes) = if nat_lt byte 128 then Some (byte, bytes) else behind byte (number_within more bytes)
 
--- a number of 32 bits, and one of 64
+-- a number of 32 bits
 abbrev pub is_u32 : ℕ → Bool
 is_u32 number = is_within 0 4294967295 number
 
+-- a number of 64 bits
 abbrev pub is_u64 : ℕ → Bool
 is_u64 number = is_within 0 18446744073709551615 number
 

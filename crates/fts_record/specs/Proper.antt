@@ -31,13 +31,15 @@ abbrev pub is_none_or : {A : Type 0} → (A → Bool) → Option A → Bool
 is_none_or test None = true
 is_none_or test (Some value) = test value
 
--- a text that is a label, a name of an endpoint, a path of a file on one
+-- a text that is a label
 unfoldable pub is_label_text : List ℕ → Bool
 is_label_text text = is_utf8 text && is_label text
 
+-- a text that names an endpoint
 unfoldable pub is_name_text : List ℕ → Bool
 is_name_text text = is_utf8 text && is_endpoint_name text
 
+-- a text that is the path of a file
 unfoldable pub is_path_text : List ℕ → Bool
 is_path_text text = is_utf8 text && is_path_key text
 

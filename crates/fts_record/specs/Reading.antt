@@ -20,6 +20,7 @@ use Rattle.fts_tables.specs.declared.commands.Entry.{Entry}
 use Rattle.fts_record.specs.Fields.{kept, number_of, text_of, flag_of, option_of, digest_of, id_of, word_of, kind_of, strategy_of}
 
 infixl 10 ◌>>=◌
+-- one step after another, as far as none stops
 abbrev pub ◌>>=◌ : {A B : Type 0} → Result A ℕ → (A → Result B ℕ) → Result B ℕ
 (Ok value) >>= next = next value
 (Err left) >>= next = Err left
@@ -32,8 +33,8 @@ Read A = Result (A × List ℕ) ℕ
 abbrev pub made : {A : Type 0} → A → List ℕ → Read A
 made maker bytes = Ok (maker, bytes)
 
--- one field more, for the maker of the whole value
 infixl 20 ◌⊛◌
+-- one field more, for the maker of the whole value
 abbrev pub ◌⊛◌ : {A B : Type 0} → (List ℕ → Read (A → B)) → (List ℕ → Read A) → List ℕ → Read B
 ◌⊛◌ before next bytes = do
   maker ← before bytes
@@ -57,45 +58,55 @@ is_any value = true
 unfoldable pub number_at : ℕ → ℕ → List ℕ → Read ℕ
 number_at low high bytes = field number_of (is_within low high) bytes
 
--- a label, a name of an endpoint, a path of a file on one
+-- a label
 unfoldable pub label_at : List ℕ → Read (List ℕ)
 label_at bytes = field text_of is_label bytes
 
+-- the name of an endpoint
 unfoldable pub name_at : List ℕ → Read (List ℕ)
 name_at bytes = field text_of is_endpoint_name bytes
 
+-- the path of a file
 unfoldable pub path_at : List ℕ → Read (List ℕ)
 path_at bytes = field text_of is_path_key bytes
 
--- a flag, an option of a digest and one of an id, a digest, a word, a job's kind and its strategy
+-- a flag
 unfoldable pub flag_at : List ℕ → Read Bool
 flag_at bytes = field flag_of is_any bytes
 
+-- a wanted digest, or none
 unfoldable pub wanted_at : List ℕ → Read (Option (List ℕ))
 wanted_at bytes = field (option_of digest_of) is_any bytes
 
+-- an id that was asked for, or none
 unfoldable pub asked_id_at : List ℕ → Read (Option ℕ)
 asked_id_at bytes = field (option_of id_of) is_any bytes
 
+-- a digest
 unfoldable pub digest_at : List ℕ → Read (List ℕ)
 digest_at bytes = field digest_of is_any bytes
 
+-- a word
 unfoldable pub word_at : List ℕ → Read ℕ
 word_at bytes = field word_of is_any bytes
 
+-- the kind of a job
 unfoldable pub kind_at : List ℕ → Read JobKind
 kind_at bytes = field kind_of is_any bytes
 
+-- the strategy of a job
 unfoldable pub strategy_at : List ℕ → Read Strategy
 strategy_at bytes = field strategy_of is_any bytes
 
--- numbers of 32 and of 64 bits, and a limit of a link or an endpoint
+-- a number of 32 bits
 abbrev pub u32_at : List ℕ → Read ℕ
 u32_at bytes = number_at 0 4294967295 bytes
 
+-- a number of 64 bits
 abbrev pub u64_at : List ℕ → Read ℕ
 u64_at bytes = number_at 0 18446744073709551615 bytes
 
+-- a limit of a link or an endpoint
 abbrev pub limit_at : List ℕ → Read ℕ
 limit_at bytes = number_at 1 MAX_ACTIVE bytes
 
@@ -119,62 +130,75 @@ ruled keeps value_at bytes = do
   value ← value_at bytes
   if keeps value.0 then Ok value else Err (length bytes)
 
--- an endpoint, a link, an activity
+-- an endpoint of its fields
 abbrev pub endpoint_of : List ℕ → ℕ → ℕ → Endpoint
 endpoint_of name inbound outbound = record { name = name; inbound = inbound; outbound = outbound }
 
+-- an endpoint
 unfoldable pub endpoint_at : List ℕ → Read Endpoint
 endpoint_at bytes = (made endpoint_of ⊛ name_at ⊛ limit_at ⊛ limit_at) bytes
 
+-- a link of its fields
 abbrev pub link_of : List ℕ → List ℕ → List ℕ → ℕ → LinkRule
 link_of symbolic source dest max_active = record { symbolic = symbolic; source = source; dest = dest; max_active = max_active }
 
+-- a link
 unfoldable pub link_at : List ℕ → Read LinkRule
 link_at bytes = (made link_of ⊛ label_at ⊛ name_at ⊛ name_at ⊛ limit_at) bytes
 
+-- an activity of its fields
 abbrev pub weight_of : List ℕ → ℕ → Weight
 weight_of name weight = record { name = name; weight = weight }
 
+-- an activity
 unfoldable pub weight_at : List ℕ → Read Weight
 weight_at bytes = (made weight_of ⊛ label_at ⊛ number_at 1 MAX_WEIGHT) bytes
 
--- the fields of settings, and settings
+-- settings of their fields
 abbrev pub settings_of : List ℕ → ℕ → ℕ → List Endpoint → List LinkRule → List Weight → SettingsData
 settings_of vo workers limit endpoints links weights = record { vo = vo; workers = workers; default_max_active = limit; endpoints = endpoints; links = links; weights = weights }
 
+-- the fields of settings, in order
 unfoldable pub settings_fields_at : List ℕ → Read SettingsData
 settings_fields_at bytes = (made settings_of ⊛ label_at ⊛ number_at 1 MAX_WORKERS ⊛ limit_at ⊛ list_at 1 MAX_ENDPOINTS endpoint_at ⊛ list_at 0 MAX_LINKS link_at ⊛ list_at 0 MAX_WEIGHTS weight_at) bytes
 
+-- settings: such fields that keep the rules of their type
 unfoldable pub settings_at : List ℕ → Read SettingsData
 settings_at bytes = ruled is_settings settings_fields_at bytes
 
--- a file
+-- a file of its fields
 abbrev pub file_of : ℕ → List ℕ → List ℕ → List ℕ → List ℕ → ℕ → Option (List ℕ) → List ℕ → NewFile
 file_of index source source_path dest dest_path size wanted activity = record { index = index; source = record { endpoint = source; path = source_path }; dest = record { endpoint = dest; path = dest_path }; size = size; wanted = wanted; activity = activity }
 
+-- a file
 unfoldable pub file_at : List ℕ → Read NewFile
 file_at bytes = (made file_of ⊛ u32_at ⊛ name_at ⊛ path_at ⊛ name_at ⊛ path_at ⊛ number_at 0 MAX_SIZE ⊛ wanted_at ⊛ label_at) bytes
 
--- the fields of a job, and a job
+-- a job of its fields
 abbrev pub job_of : JobKind → Strategy → Option ℕ → ℕ → ℕ → ℕ → Bool → List NewFile → JobData
 job_of kind strategy id priority retry delay overwrite files = record { id = id; kind = kind; strategy = strategy; priority = priority; retry = retry; delay = delay; overwrite = overwrite; files = files }
 
+-- the fields of a job, in order
 unfoldable pub job_fields_at : List ℕ → Read JobData
 job_fields_at bytes = (made job_of ⊛ kind_at ⊛ strategy_at ⊛ asked_id_at ⊛ number_at MIN_PRIORITY MAX_PRIORITY ⊛ number_at 0 MAX_RETRY ⊛ number_at 0 MAX_DELAY ⊛ flag_at ⊛ list_at 1 MAX_FILES file_at) bytes
 
+-- a job: such fields that keep the rules of its type
 unfoldable pub job_at : List ℕ → Read JobData
 job_at bytes = ruled is_new_job job_fields_at bytes
 
--- what stands behind the byte of each outcome that has fields
+-- behind the byte of an outcome: a verified file, its size and digest
 abbrev pub verified_at : List ℕ → Read Outcome
 verified_at bytes = (made Verified ⊛ u64_at ⊛ digest_at) bytes
 
+-- a source of another size: the size seen
 abbrev pub source_size_at : List ℕ → Read Outcome
 source_size_at bytes = (made SourceSize ⊛ u64_at) bytes
 
+-- a source with another digest: the digest seen
 abbrev pub source_digest_at : List ℕ → Read Outcome
 source_digest_at bytes = (made SourceDigest ⊛ digest_at) bytes
 
+-- a copy that reads back otherwise: where
 abbrev pub read_back_differs_at : List ℕ → Read Outcome
 read_back_differs_at bytes = (made ReadBackDiffers ⊛ u64_at) bytes
 
@@ -182,34 +206,40 @@ read_back_differs_at bytes = (made ReadBackDiffers ⊛ u64_at) bytes
 unfoldable pub outcome_at : List ℕ → Read Outcome
 outcome_at [] = Err 0
 outcome_at (byte ∷ bytes) =
-  if byte == 0 then verified_at bytes else (
-  if byte == 1 then Ok (SourceMissing, bytes) else (
-  if byte == 2 then Ok (DestinationExists, bytes) else (
-  if byte == 3 then source_size_at bytes else (
-  if byte == 4 then source_digest_at bytes else (
-  if byte == 5 then read_back_differs_at bytes else (
-  if byte == 6 then Ok (StoreFailed, bytes) else (
-  if byte == 7 then Ok (Stopped, bytes) else Err (suc (length bytes)))))))))
+    if byte == 0 then verified_at bytes else (
+    if byte == 1 then Ok (SourceMissing, bytes) else (
+    if byte == 2 then Ok (DestinationExists, bytes) else (
+    if byte == 3 then source_size_at bytes else (
+    if byte == 4 then source_digest_at bytes else (
+    if byte == 5 then read_back_differs_at bytes else (
+    if byte == 6 then Ok (StoreFailed, bytes) else (
+    if byte == 7 then Ok (Stopped, bytes) else Err (suc (length bytes)))))))))
 
--- what stands behind the byte of each command: its moment, and its fields
+-- behind the byte of a command, its moment, and here the settings
 abbrev pub restart_at : List ℕ → Read Command
 restart_at bytes = (made Restart ⊛ u64_at ⊛ settings_at) bytes
 
+-- a submission: the job
 abbrev pub submit_at : List ℕ → Read Command
 submit_at bytes = (made Submit ⊛ u64_at ⊛ job_at) bytes
 
+-- a cancellation: the job
 abbrev pub cancel_job_at : List ℕ → Read Command
 cancel_job_at bytes = (made CancelJob ⊛ u64_at ⊛ u32_at) bytes
 
+-- a cancellation: the job and its file
 abbrev pub cancel_file_at : List ℕ → Read Command
 cancel_file_at bytes = (made CancelFile ⊛ u64_at ⊛ u32_at ⊛ u32_at) bytes
 
+-- a new priority: the job, and the priority
 abbrev pub set_priority_at : List ℕ → Read Command
 set_priority_at bytes = (made SetPriority ⊛ u64_at ⊛ u32_at ⊛ number_at MIN_PRIORITY MAX_PRIORITY) bytes
 
+-- a claim: the word
 abbrev pub claim_at : List ℕ → Read Command
 claim_at bytes = (made Claim ⊛ u64_at ⊛ word_at) bytes
 
+-- a report: the file, its attempt, and how it ended
 abbrev pub report_at : List ℕ → Read Command
 report_at bytes = (made Report ⊛ u64_at ⊛ u32_at ⊛ u32_at ⊛ outcome_at) bytes
 
@@ -217,18 +247,19 @@ report_at bytes = (made Report ⊛ u64_at ⊛ u32_at ⊛ u32_at ⊛ outcome_at) 
 unfoldable pub command_at : List ℕ → Read Command
 command_at [] = Err 0
 command_at (byte ∷ bytes) =
-  if byte == 1 then restart_at bytes else (
-  if byte == 2 then submit_at bytes else (
-  if byte == 3 then cancel_job_at bytes else (
-  if byte == 4 then cancel_file_at bytes else (
-  if byte == 5 then set_priority_at bytes else (
-  if byte == 6 then claim_at bytes else (
-  if byte == 7 then report_at bytes else Err (suc (length bytes))))))))
+    if byte == 1 then restart_at bytes else (
+    if byte == 2 then submit_at bytes else (
+    if byte == 3 then cancel_job_at bytes else (
+    if byte == 4 then cancel_file_at bytes else (
+    if byte == 5 then set_priority_at bytes else (
+    if byte == 6 then claim_at bytes else (
+    if byte == 7 then report_at bytes else Err (suc (length bytes))))))))
 
--- an entry: the number of its writer, and its command
+-- an entry of its fields: the number of its writer, and the command
 abbrev pub entry_from : ℕ → Command → Entry
 entry_from writer command = record { writer = writer; command = command }
 
+-- an entry, with bytes behind it
 unfoldable pub entry_at : List ℕ → Read Entry
 entry_at bytes = (made entry_from ⊛ u32_at ⊛ command_at) bytes
 

@@ -20,11 +20,17 @@ use fts_tables::{Command, Memory, Outcome};
 use std::alloc::Global;
 
 const RESTART: u8 = 1;
+
 const SUBMIT: u8 = 2;
+
 const CANCEL_JOB: u8 = 3;
+
 const CANCEL_FILE: u8 = 4;
+
 const SET_PRIORITY: u8 = 5;
+
 const CLAIM: u8 = 6;
+
 const REPORT: u8 = 7;
 
 fn restart_at(alloc: Global, bytes: &[u8]) -> Result<(Command, &[u8]), Stop>
@@ -121,12 +127,7 @@ fn write_head(kind: u8, now: u64, out: &mut Vec<u8>) -> Result<(), Memory>
     write_number(now, out)
 }
 
-fn write_report(
-    file: u32,
-    attempt: u32,
-    outcome: &Outcome,
-    out: &mut Vec<u8>,
-) -> Result<(), Memory>
+fn write_report(file: u32, attempt: u32, outcome: &Outcome, out: &mut Vec<u8>) -> Result<(), Memory>
     ensures ok { OnOk result (out.new.items ≡ out.old.items ++ (number_bytes file ++ number_bytes attempt ++ outcome_bytes outcome.now)) }
     ensures file { IsTrue (is_u32 file) }
     ensures attempt { IsTrue (is_u32 attempt) }

@@ -23,7 +23,8 @@ fn id_of(bytes: &[u8]) -> Option<(u128, &[u8])>
 {
     let high = bytes.first_chunk::<8>()?;
     let low = bytes[8..].first_chunk::<8>()?;
-    let id = u128::from(u64::from_be_bytes(*high)) * (1 << 64) + u128::from(u64::from_be_bytes(*low));
+    let id = u128::from(u64::from_be_bytes(*high)) * (1 << 64)
+        + u128::from(u64::from_be_bytes(*low));
     Some((id, &bytes[16..]))
 }
 

@@ -24,8 +24,11 @@ use std::alloc::Global;
 #[tactic(auto, unfolding(crate::specs::Reading::file_at, crate::specs::Spelling::file_bytes, crate::specs::Proper::is_proper_file))]
 impl Item for NewFile {
     ghost spelling = { file_bytes };
+
     ghost reading = { file_at };
+
     ghost in_range = { λ f. is_within 0 MAX_SIZE f.size && is_label f.activity };
+
     ghost proper = { is_proper_file };
 
     fn read_at(alloc: Global, bytes: &[u8]) -> Result<(NewFile, &[u8]), Stop> {

@@ -14,8 +14,11 @@ use std::alloc::Global;
 /// What a list holds.
 pub trait Item: Sized + Drop {
     ghost spelling: { Self → List ℕ };
+
     ghost reading: { List ℕ → Read Self };
+
     ghost in_range: { Self → Bool };
+
     ghost proper: { Self → Bool };
 
     /// The item at the front.

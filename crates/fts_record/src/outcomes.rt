@@ -14,12 +14,19 @@ use crate::stops::Stop;
 use fts_tables::{Memory, Outcome};
 
 const VERIFIED: u8 = 0;
+
 const SOURCE_MISSING: u8 = 1;
+
 const DESTINATION_EXISTS: u8 = 2;
+
 const SOURCE_SIZE: u8 = 3;
+
 const SOURCE_DIGEST: u8 = 4;
+
 const READ_BACK_DIFFERS: u8 = 5;
+
 const STORE_FAILED: u8 = 6;
+
 const STOPPED: u8 = 7;
 
 fn verified_at(bytes: &[u8]) -> Result<(Outcome, &[u8]), Stop>

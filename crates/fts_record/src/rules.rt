@@ -80,16 +80,14 @@ fn are_known(endpoints: &[Endpoint], links: &[LinkRule]) -> bool
 fn has_default(weights: &[Weight]) -> bool
     ensures { result ≡ list_any (λ weight. bytes_eq weight.name default_activity) weights.now }
 {
-    weights.iter().any(|weight| weight.name.as_str() == "default")
+    weights
+        .iter()
+        .any(|weight| weight.name.as_str() == "default")
 }
 
 /// Whether settings with these lists keep the rules that join several fields.
 #[tactic(auto, unfolding(crate::specs::Rules::are_lawful))]
-pub fn are_lawful_settings(
-    endpoints: &[Endpoint],
-    links: &[LinkRule],
-    weights: &[Weight],
-) -> bool
+pub fn are_lawful_settings(endpoints: &[Endpoint], links: &[LinkRule], weights: &[Weight]) -> bool
     ensures { result ≡ are_lawful endpoints.now links.now weights.now }
 {
     are_apart(endpoints)

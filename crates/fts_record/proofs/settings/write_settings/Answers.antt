@@ -15,5 +15,5 @@ write_list-requires-3 c = weights_ready _ c.settings.invariant
 pub returns-clause-proper : goal.returns-clause-proper
 returns-clause-proper c =
     on_ok_weaker c.write_list-3.result
-      (λ weights. subst (λ (s : SettingsData). is_proper_settings s ≡ true) c.settings.view_is (settings_proper _ c.settings.invariant c.in_ok-write_label.ensures.proper c.in_ok-write_list.ensures.proper c.in_ok-write_list-2.ensures.proper weights))
-      c.write_list-3.ensures.proper
+    (λ weights. subst (λ (s : SettingsData). is_proper_settings s ≡ true) c.settings.view_is (settings_proper _ c.settings.invariant c.in_ok-write_label.ensures.proper c.in_ok-write_list.ensures.proper c.in_ok-write_list-2.ensures.proper weights))
+    c.write_list-3.ensures.proper
