@@ -1,0 +1,10 @@
+pub mod NumberLaws
+pub mod Found
+pub mod Readers
+pub mod EntryLaws
+pub mod TextReader
+pub mod RuleLaws
+pub mod Bounds
+pub mod ListLoop
+pub mod NumberWriter
+pub mod Answered

@@ -1,0 +1,18 @@
+-- The loop that reads a list: where an item is not read, after each item, and at the end.
+use Rattle.std.proofs.Common.{◌≡◌, ◌++◌, ◌∷◌, []}
+use Rattle.std.proofs.lemmas.Result.{err_from_is_err_and}
+use Rattle.fts_record.specs.Reading.{items_at}
+use Rattle.fts_record.proofs.ListLoop.{goes_on, stops, is_done}
+use Rattle.fts_record.proofs.lists.items_at.Goals as goal
+
+pub returns-in_err-item : goal.returns-in_err-item
+returns-in_err-item g c =
+    let p = err_from_is_err_and c.from_residual.result c.from_residual.ensures.1 in
+    rw (p.1, p.2) (stops g.T.Item.reading c.in_err-item.field-0.0 c.loop.items c.args.count c.loop.counter c.loop.rest.now (items_at g.T.Item.reading c.args.count c.args.bytes.now) c.loop-test.true c.in_err-item.ensures c.loop.invariant)
+
+pub loop-preserved : goal.loop-preserved
+loop-preserved g c =
+    rw c.in-Ok.ensures.ok (goes_on g.T.Item.reading c.loop.items c.args.count c.loop.counter c.loop.rest.now c.in_ok-item.item c.in_ok-item.after.now (items_at g.T.Item.reading c.args.count c.args.bytes.now) c.loop-test.true c.in_ok-item.ensures c.loop.invariant)
+
+pub returns : goal.returns
+returns g c = is_done g.T.Item.reading c.loop.items c.args.count c.loop.counter c.loop.rest.now (items_at g.T.Item.reading c.args.count c.args.bytes.now) c.loop-test.false c.loop.invariant
