@@ -35,8 +35,9 @@ over-entry given made n d place inside is = ap (λ o. made_over given o place) (
 -- an entry is inside the list
 pub entry_inside : (made : List Entry) (n : ℕ) (place : Place) → IsEntryOf made n place → n < length made
 entry_inside made n place is = elim made as (λ made. IsEntryOf made n place → n < length made) [
-    [] ↦ λ is. cc
-  | e ∷ es ↦ λ is. (position-Some (is_entry_at place) (e ∷ es) n e is).0 ] is
+  | [] ↦ λ is. cc
+  | e ∷ es ↦ λ is. (position-Some (is_entry_at place) (e ∷ es) n e is).0
+] is
 
 -- another entry for the same place in its stead changes the file there, and no other
 pub over-set : (given : Place → Option (List ℕ)) (made : List Entry) (n : ℕ) (d entry : Entry) (place : Place)
@@ -46,11 +47,14 @@ over-set given made n d entry place is same q = by_test (is_same_place q place) 
   where
     parts : (n < length made) × (is_entry_at place (get_or made n d) ≡ true) × ((k : ℕ) → k < n → is_entry_at place (get_or made k d) ≡ false)
     parts = position-Some (is_entry_at place) made n d is
+
     there : place ≡ entry_place (get_or made n d)
     there = (same_place-Decides place (entry_place (get_or made n d))).0 parts.1
+
     here : find (is_entry_at place) (set made n entry) ≡ Some entry
     here = find-position (is_entry_at place) (set made n entry) n (position-set (is_entry_at place) made n entry d (ap (is_same_place place) same) ∙ is)
         ∙ slice_get-get_or (set made n entry) n d (rw length-set parts.0) ∙ ap Some (get_or-set_same made n entry d parts.0)
+
     by_test : (b : Bool) → is_same_place q place ≡ b → made_over given (find (is_entry_at q) (set made n entry)) q ≡ cond b (kept_file entry.file) (made_over given (find (is_entry_at q) made) q)
     by_test true at = subst (λ r. made_over given (find (is_entry_at r) (set made n entry)) r ≡ kept_file entry.file) (sym ((same_place-Decides q place).0 at)) (ap (λ o. made_over given o place) here)
     by_test false at =
@@ -100,6 +104,7 @@ over-push given made entry none keeps q =
     nothing_else : (o : Option Entry) → option_or o None ≡ o
     nothing_else (Some e) = refl
     nothing_else None = refl
+
     by_test : (b : Bool) → is_same_place q (entry_place entry) ≡ b
         → made_over given (option_or (find (is_entry_at q) made) (cond (is_entry_at q entry) (Some entry) None)) q ≡ made_over given (find (is_entry_at q) made) q
     by_test false at = rw at (ap (λ o. made_over given o q) (nothing_else (find (is_entry_at q) made)))

@@ -4,7 +4,7 @@
 //! is too long and any other error of the system is a failed call, and counted.
 //! Order of a rename: the file's data synced, the file moved, its new folder synced, and once for a folder those above it.
 //! At most two files are open: one that is read and one that is written, which is read by the same handle. A look at a size lets both go.
-ghost use Rattle.std.specs.Prelude.{◌≡◌, ◌&&◌, ◌≤◌, ◌↔◌, length, IsErr, IfOk};
+ghost use Rattle.std.specs.Prelude.{◌≡◌, false, IsErr, IfOk};
 ghost use Rattle.std.specs.List.{list_all};
 ghost use Rattle.fts_tables.specs.Names.{segments};
 ghost use Rattle.fts_store.specs.Store.{CountsFaults, place_at};
@@ -66,7 +66,9 @@ fn failed<T>(kind: io::ErrorKind) -> io::Result<T>
 }
 
 // The path of a file, where it lies below the root.
-fn path_of(alloc: Global, root: &str, at: PlaceRef<'_>) -> io::Result<String> {
+fn path_of(alloc: Global, root: &str, at: PlaceRef<'_>) -> io::Result<String>
+    ensures { stays_inside (place_at at.entry) ≡ false → IsErr result }
+{
     if !stays_inside(at) {
         return failed(io::ErrorKind::InvalidInput);
     }
@@ -142,6 +144,7 @@ fn is_at(opened: &Option<Opened>, at: PlaceRef<'_>) -> bool {
 // Counts a failure.
 fn count<T: Drop>(faults: &mut u64, answer: io::Result<T>) -> Result<T, StoreFailed>
     ensures value { IfOk result (λ value. answer ≡ Ok value) }
+    ensures failed { IsErr answer → IsErr result }
     ensures cause { CountsFaults faults.old faults.new result }
 {
     match answer {
@@ -154,8 +157,9 @@ fn count<T: Drop>(faults: &mut u64, answer: io::Result<T>) -> Result<T, StoreFai
 }
 
 impl<R: Files<File = File>> FolderStore<R> {
-    ghost use Rattle.std.specs.Prelude.{◌≡◌, ◌≤◌, length, IfOk};
-    ghost use Rattle.fts_store.specs.Folder.{folder_faults};
+    ghost use Rattle.std.specs.Prelude.{◌≡◌, ◌⊎◌, ◌≤◌, false, length, IfOk, IsErr};
+    ghost use Rattle.fts_store.specs.Store.{place_at};
+    ghost use Rattle.fts_store.specs.Folder.{folder_faults, stays_inside};
 
     /// A store in a folder, which is made once a file is.
     pub fn new(rt: R, alloc: Global, root: String) -> FolderStore<R>
@@ -184,7 +188,8 @@ impl<R: Files<File = File>> FolderStore<R> {
     }
 
     fn look(&mut self, at: PlaceRef<'_>) -> io::Result<Option<u64>>
-        ensures { folder_faults self.new ≡ folder_faults self.old }
+        ensures faults { folder_faults self.new ≡ folder_faults self.old }
+        ensures outside { stays_inside (place_at at.entry) ≡ false → IsErr result }
     {
         self.reading = None;
         self.writing = None;
@@ -228,7 +233,8 @@ impl<R: Files<File = File>> FolderStore<R> {
     }
 
     fn make(&mut self, at: PlaceRef<'_>) -> io::Result<()>
-        ensures { folder_faults self.new ≡ folder_faults self.old }
+        ensures faults { folder_faults self.new ≡ folder_faults self.old }
+        ensures outside { stays_inside (place_at at.entry) ≡ false → IsErr result }
     {
         self.writing = None;
         self.let_go(at);
@@ -287,7 +293,8 @@ impl<R: Files<File = File>> FolderStore<R> {
     }
 
     fn shift(&mut self, from: PlaceRef<'_>, to: PlaceRef<'_>) -> io::Result<()>
-        ensures { folder_faults self.new ≡ folder_faults self.old }
+        ensures faults { folder_faults self.new ≡ folder_faults self.old }
+        ensures outside { (stays_inside (place_at from.entry) ≡ false) ⊎ (stays_inside (place_at to.entry) ≡ false) → IsErr result }
     {
         let old = path_of(self.alloc, self.root.as_str(), from)?;
         let new = path_of(self.alloc, self.root.as_str(), to)?;
@@ -300,7 +307,8 @@ impl<R: Files<File = File>> FolderStore<R> {
     }
 
     fn erase(&mut self, at: PlaceRef<'_>) -> io::Result<()>
-        ensures { folder_faults self.new ≡ folder_faults self.old }
+        ensures faults { folder_faults self.new ≡ folder_faults self.old }
+        ensures outside { stays_inside (place_at at.entry) ≡ false → IsErr result }
     {
         self.let_go(at);
         let path = path_of(self.alloc, self.root.as_str(), at)?;
@@ -312,14 +320,18 @@ impl<R: Files<File = File>> FolderStore<R> {
 }
 
 impl<R: Files<File = File>> Store for FolderStore<R> {
-    ghost use Rattle.fts_store.specs.Store.{untold};
-    ghost use Rattle.fts_store.specs.Folder.{folder_faults};
+    ghost use Rattle.std.specs.Prelude.{◌≡◌, ◌⊎◌, false, IsErr};
+    ghost use Rattle.fts_store.specs.Store.{untold, CountsFaults, place_at};
+    ghost use Rattle.fts_store.specs.Folder.{folder_faults, stays_inside};
 
     ghost state = { λ _. untold };
 
     ghost faults = { folder_faults };
 
-    fn size(&mut self, at: PlaceRef<'_>) -> Result<Option<u64>, StoreFailed> {
+    fn size(&mut self, at: PlaceRef<'_>) -> Result<Option<u64>, StoreFailed>
+        ensures cause { CountsFaults (folder_faults self.old) (folder_faults self.new) result }
+        ensures outside { stays_inside (place_at at.entry) ≡ false → IsErr result }
+    {
         let answer = self.look(at);
         count(&mut self.faults, answer)
     }
@@ -334,7 +346,10 @@ impl<R: Files<File = File>> Store for FolderStore<R> {
         count(&mut self.faults, answer)
     }
 
-    fn create(&mut self, at: PlaceRef<'_>) -> Result<(), StoreFailed> {
+    fn create(&mut self, at: PlaceRef<'_>) -> Result<(), StoreFailed>
+        ensures cause { CountsFaults (folder_faults self.old) (folder_faults self.new) result }
+        ensures outside { stays_inside (place_at at.entry) ≡ false → IsErr result }
+    {
         let answer = self.make(at);
         count(&mut self.faults, answer)
     }
@@ -344,12 +359,18 @@ impl<R: Files<File = File>> Store for FolderStore<R> {
         count(&mut self.faults, answer)
     }
 
-    fn rename(&mut self, from: PlaceRef<'_>, to: PlaceRef<'_>) -> Result<(), StoreFailed> {
+    fn rename(&mut self, from: PlaceRef<'_>, to: PlaceRef<'_>) -> Result<(), StoreFailed>
+        ensures cause { CountsFaults (folder_faults self.old) (folder_faults self.new) result }
+        ensures outside { (stays_inside (place_at from.entry) ≡ false) ⊎ (stays_inside (place_at to.entry) ≡ false) → IsErr result }
+    {
         let answer = self.shift(from, to);
         count(&mut self.faults, answer)
     }
 
-    fn remove(&mut self, at: PlaceRef<'_>) -> Result<(), StoreFailed> {
+    fn remove(&mut self, at: PlaceRef<'_>) -> Result<(), StoreFailed>
+        ensures cause { CountsFaults (folder_faults self.old) (folder_faults self.new) result }
+        ensures outside { stays_inside (place_at at.entry) ≡ false → IsErr result }
+    {
         let answer = self.erase(at);
         count(&mut self.faults, answer)
     }

@@ -147,7 +147,12 @@ impl Store for MemoryStore {
         Ok(self.held.file(at).map(|bytes| bytes.len() as u64))
     }
 
-    fn read_at(&mut self, at: PlaceRef<'_>, offset: u64, into: &mut [u8]) -> Result<usize, StoreFailed>
+    fn read_at(
+        &mut self,
+        at: PlaceRef<'_>,
+        offset: u64,
+        into: &mut [u8],
+    ) -> Result<usize, StoreFailed>
         ensures same { memory_state self.new ≡ memory_state self.old }
         ensures within { IfOk result (λ count. count ≤ length into.new) }
         ensures bytes { IfOk result (λ count. Reads (bytes_of ((memory_state self.old).files (place_at at.entry))) offset into.new count) }

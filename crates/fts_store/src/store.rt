@@ -34,7 +34,12 @@ pub trait Store {
 
     /// Reads bytes of a file from an offset on, as many as are there or fewer, but at least one of a buffer that isn't empty, unless the
     /// file ends there. Gives how many.
-    fn read_at(&mut self, at: PlaceRef<'_>, offset: u64, into: &mut [u8]) -> Result<usize, StoreFailed>
+    fn read_at(
+        &mut self,
+        at: PlaceRef<'_>,
+        offset: u64,
+        into: &mut [u8],
+    ) -> Result<usize, StoreFailed>
         ensures same { state self.new ≡ state self.old }
         ensures within { IfOk result (λ count. count ≤ length into.new) }
         ensures bytes { IsTold (state self.old) → IfOk result (λ count. Reads (bytes_of ((state self.old).files (place_at at.entry))) offset into.new count) }
