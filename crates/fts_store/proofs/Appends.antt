@@ -1,5 +1,5 @@
 -- What an append to a store in memory makes of its files.
-use Rattle.std.proofs.Common.{◌≡◌, ℕ, Bool, true, false, Option, Some, None, Result, Ok, Err, OnOk, OnErr, List, [], ◌∷◌, ◌++◌, refl, ◌∙◌, ap}
+use Rattle.std.proofs.Common.{◌≡◌, ℕ, true, Option, Some, Result, Ok, Err, OnOk, OnErr, List, [], ◌∷◌, ◌++◌, refl, ◌∙◌, ap}
 use Rattle.fts_tables.specs.declared.places.Place.{Place}
 use Rattle.fts_store.specs.Store.{Same, SameBut, with_file}
 use Rattle.fts_store.specs.Memory.{is_empty, kept_bytes}

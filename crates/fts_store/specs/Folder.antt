@@ -1,5 +1,5 @@
 -- What is known of a store in a folder: how often it failed, and which names stay inside the folder.
-use Rattle.std.specs.Prelude.{ℕ, ◌&&◌, ◌||◌, not, Bool, List, [], codes, bytes_eq}
+use Rattle.std.specs.Prelude.{ℕ, ◌&&◌, not, Bool, List, [], codes, bytes_eq}
 use Rattle.std.specs.List.{list_all}
 use Rattle.fts_tables.specs.declared.places.Place.{Place}
 use Rattle.fts_tables.specs.Names.{segments}

@@ -1,5 +1,5 @@
 -- What a map of files in memory holds: the files that it was given, and over them those that were made since.
-use Rattle.std.specs.Prelude.{◌≡◌, ℕ, Bool, Option, Some, None, option_map, List, Vec, if◌then◌else◌, string_bytes}
+use Rattle.std.specs.Prelude.{◌≡◌, ℕ, Bool, Option, Some, None, option_map, List, Vec, string_bytes}
 use Rattle.std.specs.List.{find, position}
 use Rattle.std.specs.declared.alloc.Global.{Global}
 use Rattle.fts_tables.specs.declared.places.Place.{Place}

@@ -1,7 +1,6 @@
 -- What is known of a store in memory.
-use Rattle.std.specs.Prelude.{◌≡◌, ℕ, ◌+◌, ◌-◌, ◌==◌, min, Bool, true, false, if◌then◌else◌, Option, List, [], ◌∷◌, length, take, Result, IsErr, Contains}
+use Rattle.std.specs.Prelude.{◌≡◌, ℕ, ◌+◌, ◌-◌, ◌==◌, min, Bool, true, false, if◌then◌else◌, List, [], ◌∷◌, length, take, Result, IsErr, Contains}
 use Rattle.std.specs.List.{list_any}
-use Rattle.fts_tables.specs.declared.places.Place.{Place}
 use Rattle.fts_store.specs.Store.{StoreState}
 use Rattle.fts_store.specs.Held.{held_files}
 use Rattle.fts_store.specs.declared.memory.MemoryStore.{MemoryStore}

@@ -1,5 +1,5 @@
 -- What is known of a store at a moment, and what its calls make of its files.
-use Rattle.std.specs.Prelude.{◌≡◌, ◌⊎◌, ℕ, ◌<◌, ◌≤◌, Bool, true, false, if◌then◌else◌, Option, Some, None, option_map, List, [], length, take, drop, Result, IsErr, IsTrue}
+use Rattle.std.specs.Prelude.{◌≡◌, ◌⊎◌, ℕ, ◌<◌, ◌≤◌, Bool, true, false, if◌then◌else◌, Option, Some, None, option_map, List, [], length, take, drop, Result, IsErr}
 use Rattle.fts_tables.specs.declared.places.Place.{Place}
 use Rattle.fts_tables.specs.declared.place_refs.PlaceRef.{PlaceRef}
 use Rattle.fts_tables.specs.Places.{is_same_place}

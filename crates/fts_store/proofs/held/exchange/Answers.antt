@@ -1,4 +1,4 @@
-use Rattle.std.proofs.Common.{◌≡◌, sym, ◌∙◌, ap}
+use Rattle.std.proofs.Common.{sym, ◌∙◌, ap}
 use Rattle.fts_store.specs.Held.{given_at, kept_file, entry_place}
 use Rattle.fts_store.specs.declared.held.Entry.{Entry}
 use Rattle.fts_store.proofs.Entries.{over-entry, over-set}

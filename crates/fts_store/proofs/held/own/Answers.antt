@@ -1,4 +1,4 @@
-use Rattle.std.proofs.Common.{◌≡◌, sym, ◌∙◌, Some, None, List, subst}
+use Rattle.std.proofs.Common.{◌≡◌, sym, ◌∙◌, None, List, subst}
 use Rattle.std.specs.List.{position}
 use Rattle.fts_store.specs.Store.{place_at}
 use Rattle.fts_store.specs.Held.{given_at, is_entry_at}

@@ -1,4 +1,4 @@
-use Rattle.std.proofs.Common.{◌≡◌, ◌++◌, Some, List, Option, Ok, Err, OnOk, OnErr, Result, None, ℕ, sym, ◌∙◌, ap, subst}
+use Rattle.std.proofs.Common.{◌≡◌, ◌++◌, Some, List, Option, Ok, Err, OnOk, OnErr, Result, None, ℕ, ◌∙◌, ap}
 use Rattle.fts_store.specs.Held.{files_over, kept_file, IsEntryOf}
 use Rattle.fts_store.specs.Store.{Same, place_at, bytes_of, with_file}
 use Rattle.fts_tables.specs.declared.places.Place.{Place}

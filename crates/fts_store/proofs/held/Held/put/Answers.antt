@@ -1,4 +1,3 @@
-use Rattle.std.proofs.Common.{◌≡◌}
 use Rattle.fts_store.specs.Held.{files_over, kept_file}
 use Rattle.fts_store.specs.Store.{place_at}
 use Rattle.fts_store.proofs.Places.{put_over}

@@ -1,4 +1,4 @@
-use Rattle.std.proofs.Common.{◌≡◌, ◌∙◌}
+use Rattle.std.proofs.Common.{◌∙◌}
 use Rattle.fts_store.specs.Held.{files_over, kept_file, IsEntryOf}
 use Rattle.fts_store.specs.Store.{place_at}
 use Rattle.fts_tables.specs.declared.places.Place.{Place}

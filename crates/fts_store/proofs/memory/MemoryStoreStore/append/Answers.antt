@@ -1,5 +1,5 @@
-use Rattle.std.proofs.Common.{◌≡◌, ◌++◌, Some, OnOk, OnErr}
-use Rattle.fts_store.specs.Store.{Same, place_at, bytes_of, with_file}
+use Rattle.std.proofs.Common.{◌++◌, Some}
+use Rattle.fts_store.specs.Store.{place_at, bytes_of}
 use Rattle.fts_store.specs.Held.{held_files}
 use Rattle.fts_store.specs.Memory.{kept_bytes, next_append}
 use Rattle.fts_store.proofs.Appends.{faithful_keeps, done_there, done_elsewhere}

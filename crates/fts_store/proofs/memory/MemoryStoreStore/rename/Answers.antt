@@ -1,4 +1,3 @@
-use Rattle.std.proofs.Common.{◌≡◌}
 use Rattle.fts_store.proofs.memory.MemoryStoreStore.rename.Goals as goal
 
 pub returns-clause-moved : goal.returns-clause-moved
