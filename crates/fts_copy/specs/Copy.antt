@@ -7,7 +7,7 @@ use Rattle.fts_tables.specs.declared.rows.FileRow.{FileRow}
 use Rattle.fts_tables.specs.declared.rows.Outcome.{Outcome}
 use Rattle.fts_tables.specs.declared.rows.Outcome.TheVariants.{Verified, SourceMissing, DestinationExists, SourceSize, SourceDigest, ReadBackDiffers, StoreFailed, Stopped}
 use Rattle.fts_tables.specs.Names.{is_segment, segments, IsPathKey}
-use Rattle.fts_tables.specs.Places.{part_path}
+use Rattle.fts_tables.specs.Places.{is_same_place, part_path}
 use Rattle.fts_store.specs.Store.{StoreState, IsFaithful, bytes_of, with_file, Same, SameBut, SameButTwo}
 use Rattle.fts_copy.specs.Differences.{first_difference}
 
@@ -51,6 +51,11 @@ pub record StaysInside (order : Order) : Type 0 where
 pub record IsOrder (order : Order) : Type 0 where
   pub source : IsPathKey order.source.path
   pub dest : IsPathKey order.dest.path
+
+-- the part is neither the source nor the destination
+pub record IsApart (order : Order) : Type 0 where
+  pub source : is_same_place order.source (part_of order) ≡ false
+  pub dest : is_same_place order.dest (part_of order) ≡ false
 
 -- another size is wanted
 abbrev pub is_other_size : ℕ → ℕ → Bool
@@ -119,6 +124,17 @@ CopyEnds order old new (ReadBackDiffers at) = (ReadBackDiffers at ≡ copied_of 
 CopyEnds order old new Stopped = SameBut (part_of order) old new
 -- only a rename that failed may have changed the destination, and it was owed
 CopyEnds order old new StoreFailed = SameBut (part_of order) old new ⊎ (IsVerified (faithful_of order old) × SameButTwo (part_of order) order.dest old new)
+
+-- the destination is as it was, but after a verified copy and a rename that failed
+abbrev pub KeepsDest : Order → (Place → Option (List ℕ)) → (Place → Option (List ℕ)) → Outcome → Type 0
+KeepsDest order old new (Verified size digest) = Unit {0}
+KeepsDest order old new SourceMissing = new order.dest ≡ old order.dest
+KeepsDest order old new DestinationExists = new order.dest ≡ old order.dest
+KeepsDest order old new (SourceSize seen) = new order.dest ≡ old order.dest
+KeepsDest order old new (SourceDigest seen) = new order.dest ≡ old order.dest
+KeepsDest order old new (ReadBackDiffers at) = new order.dest ≡ old order.dest
+KeepsDest order old new Stopped = new order.dest ≡ old order.dest
+KeepsDest order old new StoreFailed = (new order.dest ≡ old order.dest) ⊎ IsVerified (faithful_of order old)
 
 -- what a copy is over a store that tells its files
 pub record IsCopy (order : Order) (old new : StoreState) (outcome : Outcome) : Type 0 where

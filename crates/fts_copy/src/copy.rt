@@ -1,10 +1,9 @@
 //! The copy of one file, in this order: look at the source and the destination, write the part, read it back, put it in its place.
 //! Each step answers what the next one needs, or how the copy ends. What each end leaves is `IsCopy` of `specs/Copy.antt`.
 //! Called by fts_workers alone, outside every turn. It takes no memory.
-ghost use Rattle.std.specs.Prelude.{◌≡◌, ◌≤◌, if◌then◌else◌, Some, IsSome, IfSome, false, length, bytes_eq};
-ghost use Rattle.fts_tables.specs.Places.{is_same_place};
+ghost use Rattle.std.specs.Prelude.{◌≡◌, ◌≤◌, if◌then◌else◌, Some, IsSome, IfSome, length, bytes_eq};
 ghost use Rattle.fts_store.specs.Store.{IsTold, Rose, Stays};
-ghost use Rattle.fts_copy.specs.Copy.{IsCopy, ended, part_of};
+ghost use Rattle.fts_copy.specs.Copy.{IsApart, IsCopy, KeepsDest, ended};
 ghost use Rattle.fts_copy.specs.Steps.{IsLook, IsPutInPlace};
 ghost use Rattle.fts_copy.specs.Watch.{Counted, NoesBy, VerifiedAsks, Watched};
 
@@ -18,7 +17,7 @@ use fts_tables::Outcome;
 
 // Looks at the source and at the destination. Gives the source's size.
 fn look<E: Store>(store: &mut E, order: &Loaded) -> Result<u64, Outcome>
-    ensures apart { is_same_place order.now.source (part_of order.now) ≡ false }
+    ensures apart { IsApart order.now }
     ensures same { E.state store.new ≡ E.state store.old }
     ensures look { IsLook order.now (E.state store.old) result }
     ensures counted { Counted (E.faults store.old) (E.faults store.new) result }
@@ -84,6 +83,7 @@ fn attempt<E: Store, V: Watch>(
 ) -> Result<Outcome, Outcome>
     requires first { PIECE_BYTES ≤ length first.old }
     requires second { PIECE_BYTES ≤ length second.old }
+    ensures apart { IsApart order.now }
     ensures stays { Stays (E.state store.old) (E.state store.new) }
     ensures copy { IsTold (E.state store.old) → IsCopy order.now (E.state store.old) (E.state store.new) (ended result) }
     ensures no_fewer_faults { E.faults store.old ≤ E.faults store.new }
@@ -117,6 +117,7 @@ pub fn copy_verified<E: Store, V: Watch>(
     ensures room { room.new ≡ room.old }
     ensures stays { Stays (E.state store.old) (E.state store.new) }
     ensures copy { IsTold (E.state store.old) → IfSome room.old (λ order. IsCopy order (E.state store.old) (E.state store.new) result) }
+    ensures destination { IsTold (E.state store.old) → IfSome room.old (λ order. KeepsDest order (E.state store.old).files (E.state store.new).files result) }
     ensures no_fewer_faults { E.faults store.old ≤ E.faults store.new }
     ensures store_failed { result ≡ Outcome.StoreFailed → Rose (E.faults store.old) (E.faults store.new) }
     ensures noes { NoesBy result (V.noes watch.old) (V.noes watch.new) }

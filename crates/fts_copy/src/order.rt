@@ -61,10 +61,9 @@ fn text<const N: usize>(from: &str) -> ArrayString<N>
 }
 
 impl Loaded {
-    ghost use Rattle.std.specs.Prelude.{◌≡◌, false};
-    ghost use Rattle.fts_tables.specs.Places.{is_same_place};
+    ghost use Rattle.std.specs.Prelude.{◌≡◌};
     ghost use Rattle.fts_store.specs.Store.{place_at};
-    ghost use Rattle.fts_copy.specs.Copy.{order_of, part_of, is_other_size, is_other_digest, StaysInside};
+    ghost use Rattle.fts_copy.specs.Copy.{order_of, part_of, is_other_size, is_other_digest, IsApart, StaysInside};
 
     /// What a file's row asks for.
     pub fn of(row: &FileRow, overwrite: bool) -> Loaded
@@ -89,7 +88,7 @@ impl Loaded {
     /// Where the file is.
     pub fn source(&self) -> PlaceRef<'_>
         ensures place { place_at result ≡ self.now.source }
-        ensures apart { is_same_place self.now.source (part_of self.now) ≡ false }
+        ensures apart { IsApart self.now }
     {
         PlaceRef {
             endpoint: self.source_endpoint.as_str(),
@@ -99,8 +98,7 @@ impl Loaded {
 
     /// Where the file is to be.
     pub fn dest(&self) -> PlaceRef<'_>
-        ensures place { place_at result ≡ self.now.dest }
-        ensures apart { is_same_place self.now.dest (part_of self.now) ≡ false }
+        ensures { place_at result ≡ self.now.dest }
     {
         PlaceRef {
             endpoint: self.dest_endpoint.as_str(),

@@ -1,9 +1,8 @@
 //! Writes the part: made from nothing, then piece by piece from the source, each of which goes into the digest.
 //! The watch is asked before each piece. No other file changes.
-ghost use Rattle.std.specs.Prelude.{◌≡◌, ◌<◌, ◌≤◌, ◌+◌, false, length, IfOk};
-ghost use Rattle.fts_tables.specs.Places.{is_same_place};
+ghost use Rattle.std.specs.Prelude.{◌≡◌, ◌<◌, ◌≤◌, ◌+◌, length, IfOk};
 ghost use Rattle.fts_store.specs.Store.{IsTold, SameBut, Stays};
-ghost use Rattle.fts_copy.specs.Copy.{part_of};
+ghost use Rattle.fts_copy.specs.Copy.{part_of, IsApart};
 ghost use Rattle.fts_copy.specs.Steps.{IsBroken, IsWritten, PutsPiece, PutsPieces};
 ghost use Rattle.fts_copy.specs.Watch.{Counted, Watched, pieces};
 
@@ -56,7 +55,7 @@ fn put_pieces<E: Store, V: Watch>(
     size: u64,
 ) -> Result<[u8; 16], Outcome>
     requires fits { PIECE_BYTES ≤ length buffer.old }
-    requires apart { is_same_place order.now.source (part_of order.now) ≡ false }
+    requires apart { IsApart order.now }
     ensures stays { Stays (E.state store.old) (E.state store.new) }
     ensures others { IsTold (E.state store.old) → SameBut (part_of order.now) (E.state store.old).files (E.state store.new).files }
     ensures puts { PutsPieces order.now (E.state store.old) (E.state store.new) size result }
@@ -86,7 +85,7 @@ pub fn write_part<E: Store, V: Watch>(
     size: u64,
 ) -> Result<[u8; 16], Outcome>
     requires fits { PIECE_BYTES ≤ length buffer.old }
-    requires apart { is_same_place order.now.source (part_of order.now) ≡ false }
+    requires apart { IsApart order.now }
     ensures stays { Stays (E.state store.old) (E.state store.new) }
     ensures others { IsTold (E.state store.old) → SameBut (part_of order.now) (E.state store.old).files (E.state store.new).files }
     ensures written { IsWritten order.now (E.state store.old) (E.state store.new) size result }

@@ -23,7 +23,7 @@ loop-piece-preserved g c =
           let end = piece_end c.loop-piece.piece c.args.size c.piece_start-offset.result c.piece_len-wanted.result c.piece_start-offset.ensures.start c.piece_start-offset.ensures.inside c.piece_len-wanted.ensures in
           subst (PutSoFar c.args.order.now old new c.put_piece.new.hasher) (sym end)
           (more_put c.args.order.now old now new c.loop-piece.hasher c.put_piece.new.hasher c.piece_start-offset.result c.piece_len-wanted.result c.in_ok-count.count
-          c.requires.apart c.loop-piece.invariant.stays (c.loop-piece.invariant.others knows.told)
+          c.requires.apart.source c.loop-piece.invariant.stays (c.loop-piece.invariant.others knows.told)
           (subst (PutSoFar c.args.order.now old now c.loop-piece.hasher) start (c.loop-piece.invariant.puts knows)) (c.in_ok-count.ensures.puts told_now));
       no_fewer = omega (arith, c.put_piece.ensures.counted.no_fewer, c.loop-piece.invariant.no_fewer);
       watched = again_watched g.V.Watch.noes g.V.Watch.askings g.V.Watch.later (c.loop-piece.piece + 1) c.args.watch.now c.put_piece.new.watch c.in_ok-count.count (c.loop-piece.piece + 1)

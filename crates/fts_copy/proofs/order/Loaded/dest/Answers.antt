@@ -1,6 +1,0 @@
-use Rattle.std.proofs.Common.{◌≡◌}
-use Rattle.fts_copy.proofs.Parts.{dest_apart}
-use Rattle.fts_copy.proofs.order.Loaded.dest.Goals as goal
-
-pub returns-clause-apart : goal.returns-clause-apart
-returns-clause-apart c = rw (← c.self.view_is) (dest_apart _ c.self.invariant.0)
