@@ -1,0 +1,7 @@
+mod Parts
+mod Differing
+mod Filling
+mod Watching
+mod Putting
+mod Matching
+mod Ending

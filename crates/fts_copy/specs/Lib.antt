@@ -1,0 +1,5 @@
+pub mod Differences
+pub mod Copy
+pub mod Watch
+pub mod Counting
+pub mod Steps

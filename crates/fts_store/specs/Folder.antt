@@ -1,0 +1,18 @@
+-- What is known of a store in a folder: how often it failed, and which names stay inside the folder.
+use Rattle.std.specs.Prelude.{ℕ, ◌&&◌, not, Bool, List, [], codes, bytes_eq}
+use Rattle.std.specs.List.{list_all}
+use Rattle.fts_tables.specs.declared.places.Place.{Place}
+use Rattle.fts_tables.specs.Names.{segments}
+use Rattle.fts_store.specs.declared.folder.FolderStore.{FolderStore}
+
+-- how often it failed
+abbrev pub folder_faults : {R : Type 0} → FolderStore R → ℕ
+folder_faults store = store.faults
+
+-- a name of one thing in a folder: not empty, neither "." nor ".."
+abbrev pub is_name : List ℕ → Bool
+is_name text = not (bytes_eq text []) && not (bytes_eq text (codes ".")) && not (bytes_eq text (codes ".."))
+
+-- a place whose file lies below the store's folder: the endpoint is one name once each slash is a comma, and so is each segment of the path
+abbrev pub stays_inside : Place → Bool
+stays_inside place = is_name place.endpoint && list_all is_name (segments place.path)

@@ -1,0 +1,4 @@
+pub mod Store
+pub mod Held
+pub mod Memory
+pub mod Folder
