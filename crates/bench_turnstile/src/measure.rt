@@ -14,7 +14,7 @@ use std::time::{Clock, CpuClock, Duration};
 use std::{io, thread};
 
 /// Turns of all threads together in one measurement.
-const TURNS: u32 = 96_000;
+const TURNS: u32 = 1_200_000;
 
 /// How many seconds one thread holds its turn while all others wait.
 const HELD: u64 = 1;
