@@ -31,6 +31,7 @@ equal_contents (a ∷ ones) (b ∷ others) none = by_test (a == b) refl (equal_c
     cleared : (o : Option ℕ) → option_map suc o ≡ None → o ≡ None
     cleared None is = refl
     cleared (Some n) is = cc
+
     by_test : (t : Bool) → (a == b) ≡ t → (first_difference ones others ≡ None → ones ≡ others) → a ∷ ones ≡ b ∷ others
     by_test true is equal =
         let same : a ≡ b = grind (arith, tests, is) in
@@ -77,6 +78,7 @@ in_beginnings (suc n) (a ∷ ones) (b ∷ others) at is = by_test (a == b) refl 
     by_rest : (o p : Option ℕ) → ((k : ℕ) → o ≡ Some k → p ≡ Some k) → option_map suc o ≡ Some at → option_map suc p ≡ Some at
     by_rest None p goes is = cc
     by_rest (Some k) p goes is = ap (option_map suc) (goes k refl) ∙ is
+
     by_test : (t : Bool) → (a == b) ≡ t → ((k : ℕ) → first_difference (take n ones) (take n others) ≡ Some k → first_difference ones others ≡ Some k)
         → first_difference (a ∷ ones) (b ∷ others) ≡ Some at
     by_test true same goes =

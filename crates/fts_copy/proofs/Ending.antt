@@ -46,12 +46,20 @@ pub make_ready : (order : Order) (old looked now : StoreState) (size : ℕ) (dig
 make_ready order old looked now size digest same told look apart stays others written =
     let seen : (length (source_bytes order old) ≡ size) × IsSome (old.files order.source) × (is_in_the_way order old.files ≡ false) × (is_other_size order.size size ≡ false) = look told in
     let done : (digest ≡ md5 (source_bytes order old)) × (is_other_digest order.wanted digest ≡ false) × IsSome (now.files (part_of order)) × (IsFaithful old → part_bytes order now ≡ source_bytes order old) =
-        subst (λ (store : StoreState). IsWritten order store now size (Ok digest)) same written (record { told = told; whole = seen.0 }) in
+    subst (λ (store : StoreState). IsWritten order store now size (Ok digest)) same written (record { told = told; whole = seen.0 }) in
     record {
-      told = told; whole = seen.0; present = seen.1; free = seen.2; fits = seen.3; apart = apart;
+      told = told;
+      whole = seen.0;
+      present = seen.1;
+      free = seen.2;
+      fits = seen.3;
+      apart = apart;
       stays = subst (λ (store : StoreState). Stays store now) same stays;
       others = subst (λ (store : StoreState). IsTold store → SameBut (part_of order) store.files now.files) same others told;
-      summed = done.0; right = done.1; written = done.2; faithful = done.3;
+      summed = done.0;
+      right = done.1;
+      written = done.2;
+      faithful = done.3;
     }
 
 -- then the outcome is what reading back finds
@@ -83,14 +91,14 @@ pub read_ends : (order : Order) (old now new : StoreState) (size : ℕ) (digest 
 read_ends order old now new size digest (ReadBackDiffers at) ready same is =
     let source : source_bytes order now ≡ source_bytes order old = same_source order old now ready.apart ready.others in
     let differs : first_difference (source_bytes order old) (part_bytes order now) ≡ Some at =
-        subst (λ s. first_difference s (part_bytes order now) ≡ Some at) source (is (knows_now order old now size digest ready)) in
+    subst (λ s. first_difference s (part_bytes order now) ≡ Some at) source (is (knows_now order old now size digest ready)) in
     let outcome : ReadBackDiffers at ≡ copied_of order old.files (part_bytes order now) =
-        sym (copied_reads order old now size digest (part_bytes order now) ready ∙ ap (read_back_of (source_bytes order old)) differs) in
+    sym (copied_reads order old now size digest (part_bytes order now) ready ∙ ap (read_back_of (source_bytes order old)) differs) in
     subst (λ (store : StoreState). IsCopy order old store (ReadBackDiffers at)) (sym same) (record {
       ends = (outcome, ready.others);
       faithful = λ faithful n eq.
           let none : first_difference (source_bytes order old) (part_bytes order now) ≡ None =
-              subst (λ p. first_difference (source_bytes order old) p ≡ None) (sym (ready.faithful faithful)) (no_difference (source_bytes order old)) in
+          subst (λ p. first_difference (source_bytes order old) p ≡ None) (sym (ready.faithful faithful)) (no_difference (source_bytes order old)) in
           clash (first_difference (source_bytes order old) (part_bytes order now)) none differs;
     })
   where
@@ -135,7 +143,7 @@ verified_ends order old now read new size digest again ready same is put =
     let moved : Same new.files (with_move now.files (part_of order) order.dest) = subst (λ (store : StoreState). IsPutInPlace order store new (Ok tt)) same put told in
     let bytes : part_bytes order now ≡ source_bytes order old = (is (knows_now order old now size digest ready)).0 ∙ same_source order old now ready.apart ready.others in
     let file : now.files (part_of order) ≡ old.files order.source =
-        there (now.files (part_of order)) ready.written ∙ ap Some bytes ∙ sym (there (old.files order.source) ready.present) in
+    there (now.files (part_of order)) ready.written ∙ ap Some bytes ∙ sym (there (old.files order.source) ready.present) in
     record {
       ends = (sym (faithful_reads order old now size digest ready), λ place. moved place ∙ placed place file (is_same_place place (part_of order)) refl);
       faithful = λ faithful n eq. cc;

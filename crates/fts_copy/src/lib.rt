@@ -10,6 +10,8 @@ mod pieces;
 mod read_back;
 mod reading;
 mod room;
+#[cfg(test)]
+mod tests;
 mod watch;
 mod writing;
 

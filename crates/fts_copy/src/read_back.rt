@@ -70,7 +70,16 @@ fn match_pieces<E: Store, V: Watch>(
     for piece in 0..pieces(size) {
         let offset = piece_start(piece, size);
         let wanted = piece_len(offset, size);
-        match_piece(store, order, first, second, wanted, watch, &mut hasher, offset)?;
+        match_piece(
+            store,
+            order,
+            first,
+            second,
+            wanted,
+            watch,
+            &mut hasher,
+            offset,
+        )?;
     }
     Ok(hasher.finalize())
 }

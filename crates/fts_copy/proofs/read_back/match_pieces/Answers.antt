@@ -11,8 +11,8 @@ returns-in_err-match_piece-clause-matches g c =
     let is : c.from_residual.result ≡ Err c.in_err-match_piece.field-0.0 = search rules in
     let start = piece_at_start c.loop-piece.piece c.args.size c.piece_start-offset.result c.piece_start-offset.ensures.start c.piece_start-offset.ensures.inside in
     let here : MatchesPiece c.args.order.now (g.E.Store.state c.args.store.now) c.loop-piece.hasher c.match_piece.new.hasher c.piece_start-offset.result c.piece_len-wanted.result (Err c.in_err-match_piece.field-0.0) =
-        subst (λ (store : StoreState). MatchesPiece c.args.order.now store c.loop-piece.hasher c.match_piece.new.hasher c.piece_start-offset.result c.piece_len-wanted.result (Err c.in_err-match_piece.field-0.0))
-        c.loop-piece.invariant.same c.in_err-match_piece.ensures.matches in
+    subst (λ (store : StoreState). MatchesPiece c.args.order.now store c.loop-piece.hasher c.match_piece.new.hasher c.piece_start-offset.result c.piece_len-wanted.result (Err c.in_err-match_piece.field-0.0))
+    c.loop-piece.invariant.same c.in_err-match_piece.ensures.matches in
     rw is (matching_ends c.args.order.now (g.E.Store.state c.args.store.now) c.loop-piece.hasher c.match_piece.new.hasher c.piece_start-offset.result c.piece_len-wanted.result c.args.size
     c.in_err-match_piece.field-0.0 (omega (arith, c.piece_start-offset.ensures.inside))
     (λ knows. subst (MatchedSoFar c.args.order.now (g.E.Store.state c.args.store.now) c.loop-piece.hasher) start (c.loop-piece.invariant.matched knows)) here)
@@ -27,7 +27,7 @@ loop-piece-preserved g c =
           let start = piece_at_start c.loop-piece.piece c.args.size c.piece_start-offset.result c.piece_start-offset.ensures.start c.piece_start-offset.ensures.inside in
           let end = piece_end c.loop-piece.piece c.args.size c.piece_start-offset.result c.piece_len-wanted.result c.piece_start-offset.ensures.start c.piece_start-offset.ensures.inside c.piece_len-wanted.ensures in
           let here : MatchesPiece c.args.order.now (g.E.Store.state c.args.store.now) c.loop-piece.hasher c.match_piece.new.hasher c.piece_start-offset.result c.piece_len-wanted.result (Ok tt) =
-              rw same at c.in_ok-match_piece.ensures.matches in
+          rw same at c.in_ok-match_piece.ensures.matches in
           subst (MatchedSoFar c.args.order.now (g.E.Store.state c.args.store.now) c.match_piece.new.hasher) (sym end)
           (more_matched c.args.order.now (g.E.Store.state c.args.store.now) c.loop-piece.hasher c.match_piece.new.hasher c.piece_start-offset.result c.piece_len-wanted.result
           (subst (MatchedSoFar c.args.order.now (g.E.Store.state c.args.store.now) c.loop-piece.hasher) start (c.loop-piece.invariant.matched knows))

@@ -1,0 +1,344 @@
+//! What no clause says: copies with ample memory and digests that another program gave, failures and noes one by one, and real folders.
+use crate::{CopyRoom, CountingWatch, copy_verified};
+use fts_store::{FolderStore, MemoryStore, Store, StoredFile};
+use fts_tables::{
+    EndpointName, FileRow, FileState, Items, Label, Memory, Outcome, PathKey, Place, PlaceRef,
+    Reason,
+};
+use std::alloc::{AllocError, Global};
+use std::fs;
+use std::test::Fail;
+
+const EMPTY: [u8; 16] = *b"\xd4\x1d\x8c\xd9\x8f\x00\xb2\x04\xe9\x80\x09\x98\xec\xf8\x42\x7e";
+
+const ABC: [u8; 16] = *b"\x90\x01\x50\x98\x3c\xd2\x4f\xb0\xd6\x96\x3f\x7d\x28\xe1\x7f\x72";
+
+const OTHER: [u8; 16] = *b"\x90\x01\x50\x98\x3c\xd2\x4f\xb0\xd6\x96\x3f\x7d\x28\xe1\x7f\x73";
+
+fn place(alloc: Global, endpoint: &str, path: &str) -> Result<Place, Memory> {
+    let endpoint = EndpointName::read(alloc, endpoint)?;
+    let path = PathKey::read(alloc, path)?;
+    match (endpoint, path) {
+        (Some(endpoint), Some(path)) => Ok(Place { endpoint, path }),
+        _ => Err(Memory),
+    }
+}
+
+// A row of file 1, from `data/f1` on A to `store/f1` on B.
+fn row(alloc: Global, size: u64, wanted: Option<[u8; 16]>) -> Result<FileRow, Memory> {
+    Ok(FileRow {
+        id: 1,
+        job: 1,
+        index: 0,
+        source: place(alloc, "https://a.example", "data/f1")?,
+        dest: place(alloc, "https://b.example", "store/f1")?,
+        size,
+        wanted,
+        activity: Label::new(alloc, "default")?,
+        state: FileState::Active,
+        retries: 0,
+        attempt: 1,
+        not_before: 0,
+        cancel_asked: false,
+        reason: Reason::None,
+        digest: None,
+    })
+}
+
+fn dest() -> PlaceRef<'static> {
+    PlaceRef {
+        endpoint: "https://b.example",
+        path: "store/f1",
+    }
+}
+
+fn add(files: &mut Vec<StoredFile>, place: Place, bytes: Vec<u8>) -> Result<(), Memory> {
+    let file = StoredFile {
+        place,
+        bytes: Items::from_vec(bytes),
+    };
+    match files.push(file) {
+        Ok(()) => Ok(()),
+        Err(_) => Err(Memory),
+    }
+}
+
+// A store whose source holds these bytes.
+fn holding(
+    alloc: Global,
+    bytes: Vec<u8>,
+    fail: Vec<u32>,
+    drop: Vec<u32>,
+) -> Result<MemoryStore, Memory> {
+    let mut files = Vec::new(alloc);
+    add(
+        &mut files,
+        place(alloc, "https://a.example", "data/f1")?,
+        bytes,
+    )?;
+    Ok(MemoryStore::new(alloc, Items::from_vec(files), fail, drop))
+}
+
+// A copy that is called off after so many pieces, and how often its watch was asked.
+fn copied<E: Store>(
+    store: &mut E,
+    room: &mut CopyRoom,
+    row: &FileRow,
+    overwrite: bool,
+    yeses: u64,
+) -> (Outcome, u64) {
+    let mut watch = CountingWatch::new(yeses);
+    room.load(row, overwrite);
+    let outcome = copy_verified(store, room, &mut watch);
+    (outcome, watch.askings())
+}
+
+#[test]
+fn each_end_of_a_copy_of_three_bytes(rt: HostRuntime) -> Result<(), Fail> {
+    let alloc = rt.alloc();
+    let mut room = CopyRoom::new(alloc)?;
+    let verified = Outcome::Verified {
+        size: 3,
+        digest: ABC,
+    };
+    for (case, size, wanted, lost, want) in [
+        ("any size and digest", 0, None, 0, verified),
+        ("the size and the digest", 3, Some(ABC), 0, verified),
+        (
+            "another size",
+            4,
+            Some(OTHER),
+            0,
+            Outcome::SourceSize { seen: 3 },
+        ),
+        (
+            "another digest",
+            0,
+            Some(OTHER),
+            1,
+            Outcome::SourceDigest { seen: ABC },
+        ),
+        (
+            "a lost byte",
+            3,
+            Some(ABC),
+            1,
+            Outcome::ReadBackDiffers { at: 2 },
+        ),
+    ] {
+        let row = row(alloc, size, wanted)?;
+        let mut store = holding(
+            alloc,
+            b"abc".to_vec(alloc)?,
+            Vec::new(alloc),
+            [lost].to_vec(alloc)?,
+        )?;
+        let (outcome, _) = copied(&mut store, &mut room, &row, false, u64::MAX);
+        assert_eq!(rt; outcome, want, "{case}");
+        let there = if outcome == verified { Some(3) } else { None };
+        assert_eq!(rt; store.size(dest()), Ok(there), "{case}");
+    }
+    Ok(())
+}
+
+#[test]
+fn what_is_missing_or_there_ends_a_copy(rt: HostRuntime) -> Result<(), Fail> {
+    let alloc = rt.alloc();
+    let mut room = CopyRoom::new(alloc)?;
+    let row = row(alloc, 0, Some(EMPTY))?;
+    let mut store = holding(alloc, Vec::new(alloc), Vec::new(alloc), Vec::new(alloc))?;
+    let empty = Outcome::Verified {
+        size: 0,
+        digest: EMPTY,
+    };
+    assert_eq!(rt;
+        copied(&mut store, &mut room, &row, false, u64::MAX),
+        (empty, 1),
+        "an empty file"
+    );
+    assert_eq!(rt;
+        copied(&mut store, &mut room, &row, false, u64::MAX),
+        (Outcome::DestinationExists, 0)
+    );
+    assert_eq!(rt;
+        copied(&mut store, &mut room, &row, true, u64::MAX),
+        (empty, 1),
+        "it is replaced"
+    );
+    let none = Items::from_vec(Vec::new(alloc));
+    let mut store = MemoryStore::new(alloc, none, Vec::new(alloc), Vec::new(alloc));
+    assert_eq!(rt;
+        copied(&mut store, &mut room, &row, false, u64::MAX),
+        (Outcome::SourceMissing, 0)
+    );
+    Ok(())
+}
+
+#[test]
+fn each_call_that_fails_ends_a_copy(rt: HostRuntime) -> Result<(), Fail> {
+    let alloc = rt.alloc();
+    let mut room = CopyRoom::new(alloc)?;
+    let row = row(alloc, 3, Some(ABC))?;
+    // two looks, the part made, a read and an append, two reads, two at the ends, the rename
+    for call in 1..=11 {
+        let mut store = holding(
+            alloc,
+            b"abc".to_vec(alloc)?,
+            [call].to_vec(alloc)?,
+            Vec::new(alloc),
+        )?;
+        let (outcome, _) = copied(&mut store, &mut room, &row, false, u64::MAX);
+        let is_done = call == 11;
+        assert_eq!(rt; outcome == Outcome::StoreFailed, !is_done, "call {call}");
+        assert_eq!(rt; store.size(dest()).is_ok(), !is_done, "call {call}");
+    }
+    Ok(())
+}
+
+// Bytes of which no two neighbours are equal.
+fn pattern(alloc: Global, size: usize) -> Result<Vec<u8>, AllocError> {
+    let mut bytes = vec![in alloc; 0; size]?;
+    for (at, byte) in bytes.iter_mut().enumerate() {
+        *byte = (at % 251) as u8;
+    }
+    Ok(bytes)
+}
+
+#[test]
+fn sizes_around_a_piece(rt: HostRuntime) -> Result<(), Fail> {
+    let alloc = rt.alloc();
+    let mut room = CopyRoom::new(alloc)?;
+    let row = row(alloc, 0, None)?;
+    // the lost append is the one of this number, and 0 loses none
+    for (size, lost, digest, at, askings) in [
+        (0, 0, EMPTY, 0, 1),
+        (
+            1,
+            0,
+            *b"\x93\xb8\x85\xad\xfe\x0d\xa0\x89\xcd\xf6\x34\x90\x4f\xd5\x9f\x71",
+            0,
+            3,
+        ),
+        (1, 1, EMPTY, 0, 2),
+        (
+            65_535,
+            0,
+            *b"\x89\x37\x8b\xe9\x3d\x51\xbb\xd3\xa9\xaa\x65\xe9\x20\x10\x36\x92",
+            0,
+            3,
+        ),
+        (65_535, 1, EMPTY, 65_534, 2),
+        (
+            65_536,
+            0,
+            *b"\x9c\xc6\x07\x13\x92\x35\x28\xa1\xdd\x94\xe1\xc1\xab\x0e\xbc\x9e",
+            0,
+            3,
+        ),
+        (65_536, 1, EMPTY, 65_535, 2),
+        (
+            65_537,
+            0,
+            *b"\x4c\x26\x41\xc7\xfe\x5c\x93\xd3\xae\xd7\xc4\x06\x62\x9f\xf0\xab",
+            0,
+            5,
+        ),
+        (65_537, 1, EMPTY, 65_535, 3),
+        (65_537, 2, EMPTY, 65_536, 4),
+        (
+            131_072,
+            0,
+            *b"\xd0\x21\x99\xa1\x97\xfb\x4b\x17\x77\x52\x5f\xe3\x75\xf9\xf5\xf1",
+            0,
+            5,
+        ),
+        (131_072, 1, EMPTY, 65_535, 3),
+        (131_072, 2, EMPTY, 131_071, 4),
+    ] {
+        let mut store = holding(
+            alloc,
+            pattern(alloc, size)?,
+            Vec::new(alloc),
+            [lost].to_vec(alloc)?,
+        )?;
+        let want = if lost == 0 {
+            Outcome::Verified {
+                size: size as u64,
+                digest,
+            }
+        } else {
+            Outcome::ReadBackDiffers { at }
+        };
+        assert_eq!(rt;
+            copied(&mut store, &mut room, &row, false, u64::MAX),
+            (want, askings),
+            "{size} {lost}"
+        );
+    }
+    Ok(())
+}
+
+#[test]
+fn each_no_ends_a_copy(rt: HostRuntime) -> Result<(), Fail> {
+    let alloc = rt.alloc();
+    let mut room = CopyRoom::new(alloc)?;
+    let row = row(alloc, 0, None)?;
+    for yeses in 0..5 {
+        let mut store = holding(
+            alloc,
+            pattern(alloc, 65_537)?,
+            Vec::new(alloc),
+            Vec::new(alloc),
+        )?;
+        let ended = copied(&mut store, &mut room, &row, false, yeses);
+        assert_eq!(rt; ended, (Outcome::Stopped, yeses + 1));
+        assert_eq!(rt; store.size(dest()), Ok(None));
+    }
+    Ok(())
+}
+
+#[test]
+fn a_file_is_copied_between_real_folders(rt: HostRuntime) -> Result<(), Fail> {
+    let alloc = rt.alloc();
+    let root = "grid-of-a-copy";
+    let held = "grid-of-a-copy/https:,,b.example/store/f1";
+    let _old = fs::remove_dir_all(&rt, root);
+    let mut room = CopyRoom::new(alloc)?;
+    let row = row(alloc, 0, Some(ABC))?;
+    let mut store = FolderStore::new(rt, alloc, String::from_str(alloc, root)?);
+    let verified = Outcome::Verified {
+        size: 3,
+        digest: ABC,
+    };
+    assert_eq!(rt;
+        copied(&mut store, &mut room, &row, false, u64::MAX),
+        (Outcome::SourceMissing, 0)
+    );
+    fs::create_dir_all(&rt, "grid-of-a-copy/https:,,a.example/data")?;
+    fs::write(&rt, "grid-of-a-copy/https:,,a.example/data/f1", "abc")?;
+    assert_eq!(rt;
+        copied(&mut store, &mut room, &row, false, u64::MAX),
+        (verified, 3)
+    );
+    assert_eq!(rt;
+        copied(&mut store, &mut room, &row, false, u64::MAX),
+        (Outcome::DestinationExists, 0)
+    );
+    fs::write(&rt, held, "other")?;
+    assert_eq!(rt;
+        copied(&mut store, &mut room, &row, true, u64::MAX),
+        (verified, 3),
+        "it is replaced"
+    );
+    assert_eq!(rt; fs::read(&rt, held)?.as_slice(), b"abc".as_slice());
+    fs::remove_file(&rt, held)?;
+    fs::create_dir_all(&rt, held)?;
+    assert_eq!(rt;
+        copied(&mut store, &mut room, &row, true, u64::MAX),
+        (Outcome::StoreFailed, 3),
+        "a folder is there"
+    );
+    assert!(rt; fs::exists(&rt, held)?, "it is there still");
+    fs::remove_dir_all(&rt, root)?;
+    Ok(())
+}
