@@ -1,0 +1,91 @@
+//! Copies files as the service does, for `bench/copy.sh`.
+//! `bench_copy ROOT SET COUNT` copies `SET/f0` up to `SET/f(COUNT - 1)` of `https://a.example` below ROOT to `https://b.example`, each by way of its
+//! part, and prints how many were verified. Without arguments it does nothing.
+#![tactic(auto)]
+
+use fts_copy::{CopyRoom, CountingWatch, copy_verified};
+use fts_store::{FolderStore, Store};
+use fts_tables::{
+    EndpointName, FileRow, FileState, Label, Memory, Outcome, PathKey, Place, Reason,
+};
+use std::alloc::Global;
+use std::{env, io};
+
+fn no_memory(_: Memory) -> io::Error {
+    io::Error::from(io::ErrorKind::OutOfMemory)
+}
+
+fn place(alloc: Global, endpoint: &str, path: &str) -> Result<Option<Place>, Memory> {
+    let endpoint = EndpointName::read(alloc, endpoint)?;
+    let path = PathKey::read(alloc, path)?;
+    match (endpoint, path) {
+        (Some(endpoint), Some(path)) => Ok(Some(Place { endpoint, path })),
+        _ => Ok(None),
+    }
+}
+
+// A row of this file; none where the path is no path of a file.
+fn row(alloc: Global, id: u32, path: &str) -> Result<Option<FileRow>, Memory> {
+    let source = place(alloc, "https://a.example", path)?;
+    let dest = place(alloc, "https://b.example", path)?;
+    let activity = Label::new(alloc, "default")?;
+    match (source, dest) {
+        (Some(source), Some(dest)) => Ok(Some(FileRow {
+            id,
+            job: 1,
+            index: 0,
+            source,
+            dest,
+            size: 0,
+            wanted: None,
+            activity,
+            state: FileState::Active,
+            retries: 0,
+            attempt: 1,
+            not_before: 0,
+            cancel_asked: false,
+            reason: Reason::None,
+            digest: None,
+        })),
+        _ => Ok(None),
+    }
+}
+
+fn is_verified<E: Store>(store: &mut E, room: &mut CopyRoom, row: &FileRow) -> bool {
+    let mut watch = CountingWatch::new(u64::MAX);
+    room.load(row, true);
+    match copy_verified(store, room, &mut watch) {
+        Outcome::Verified { .. } => true,
+        _ => false,
+    }
+}
+
+fn copy_set<E: Store>(alloc: Global, store: &mut E, set: &str, count: u32) -> io::Result<u32> {
+    let mut room = CopyRoom::new(alloc).map_err(no_memory)?;
+    let mut verified: u32 = 0;
+    for file in 0..count {
+        let path = format!(in alloc; "{set}/f{file}")?;
+        if let Some(row) = row(alloc, file, path.as_str()).map_err(no_memory)? {
+            if is_verified(store, &mut room, &row) {
+                verified = verified.saturating_add(1);
+            }
+        }
+    }
+    Ok(verified)
+}
+
+fn main(rt: HostRuntime) -> io::Result<()> {
+    let alloc = rt.alloc();
+    let mut args = env::args(&rt)?;
+    let _program = args.next();
+    let (Some(root), Some(set), Some(count)) = (args.next(), args.next(), args.next()) else {
+        return Ok(());
+    };
+    let Ok(count) = count.parse::<u32>() else {
+        return Err(io::Error::from(io::ErrorKind::InvalidInput));
+    };
+    let mut store = FolderStore::new(rt, alloc, root);
+    let verified = copy_set(alloc, &mut store, set.as_str(), count)?;
+    println!(rt; "verified {verified}")?;
+    Ok(())
+}

@@ -1,0 +1,15 @@
+//! Measures how many entries of one file are written and read a second, and prints how many bytes such an entry takes.
+//! Without an argument it prints nothing and ends, so that it runs alike each time; with any argument it measures and prints.
+//! Command: `rt run -- measure` in this folder. Results with their machine and date: docs/BENCHMARKS.md.
+#![tactic(auto)]
+
+mod measure;
+
+use std::env;
+
+fn main(rt: HostRuntime) -> anyhow::Result<()> {
+    if env::args(&rt)?.len() > 1 {
+        measure::measure(&rt, rt.alloc())?;
+    }
+    Ok(())
+}
