@@ -1,4 +1,5 @@
 pub mod DeskData
 pub mod Kept
+pub mod Standing
 pub mod Desk
 pub mod Prepared

@@ -6,6 +6,7 @@
 
 mod desk;
 mod kept;
+mod lookups;
 mod restart;
 mod submit;
 
