@@ -1,3 +1,5 @@
 mod Numbered
+mod ChangedRows
+mod Found
 mod NewRows
 mod Released

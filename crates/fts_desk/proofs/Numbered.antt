@@ -52,6 +52,20 @@ module _ {Item : Type 0} (number_of : Item → ℕ) where
           let above = leb-true 1 number is in
           sym (find-at 1 items number (number - 1) numbered (omega (arith, above)) ∙ slice_get-beyond items (number - 1) (omega (arith, above, leb-false number (length items) past)))
 
+  -- a number that is found is one of those that the items have
+  pub within_found : (items : List Item) (number : ℕ) (found : Item) → AreNumberedFrom number_of 1 items → find (λ item. number_of item == number) items ≡ Some found → (1 ≤ number) × (number ≤ length items)
+  within_found items number found numbered is = by_test (nat_le 1 number) (nat_le number (length items)) refl refl
+    where
+      none : find (λ item. number_of item == number) items ≡ None → ⊥
+      none absent = cc
+
+      by_test : (low high : Bool) → nat_le 1 number ≡ low → nat_le number (length items) ≡ high → (1 ≤ number) × (number ≤ length items)
+      by_test false high low_is high_is = absurd (none (find-below 1 items number numbered (omega (arith, leb-false 1 number low_is))))
+      by_test true true low_is high_is = (leb-true 1 number low_is, leb-true number (length items) high_is)
+      by_test true false low_is high_is =
+          let above = leb-true 1 number low_is in
+          absurd (none (find-at 1 items number (number - 1) numbered (omega (arith, above)) ∙ slice_get-beyond items (number - 1) (omega (arith, above, leb-false number (length items) high_is))))
+
 -- the first items of equal lists are equal
 heads_alike : (one other : ℕ) (ones others : List ℕ) → ◌≡◌ {A = List ℕ} (one ∷ ones) (other ∷ others) → one ≡ other
 heads_alike one other ones others same = cc
@@ -101,7 +115,7 @@ none_owned start (job ∷ jobs) rows wanted numbered owned below =
     ∙ none_owned (suc start) jobs (drop job.count rows) wanted numbered.1 (front_is job.count job.number (owners jobs) rows owned).1 (omega arith)
 
 -- the job that is found by a number has it
-number_at : (jobs : List JobRow) (number : ℕ) (job : JobRow) → job_at jobs number ≡ Some job → job.number ≡ number
+pub number_at : (jobs : List JobRow) (number : ℕ) (job : JobRow) → job_at jobs number ≡ Some job → job.number ≡ number
 number_at [] number job is = cc
 number_at (head ∷ jobs) number job is = by_head (number_at jobs number job) (head.number == number) refl is
   where

@@ -1,5 +1,7 @@
+pub mod Cancels
 pub mod DeskData
 pub mod Kept
+pub mod Places
 pub mod Standing
 pub mod Desk
 pub mod Prepared

@@ -4,9 +4,11 @@
 //! Here are Restart, and the submission of a plain job without an id. Each command is a module of its own, with its room and its step.
 #![tactic(auto)]
 
+mod cancels;
 mod desk;
 mod kept;
 mod lookups;
+mod priority;
 mod restart;
 mod submit;
 
