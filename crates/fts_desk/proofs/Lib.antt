@@ -1,4 +1,5 @@
 mod Numbered
+mod Bounded
 mod ChangedRows
 mod Found
 mod NewRows

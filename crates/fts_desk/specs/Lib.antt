@@ -1,3 +1,4 @@
+pub mod Bounds
 pub mod Cancels
 pub mod DeskData
 pub mod Kept

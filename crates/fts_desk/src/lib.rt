@@ -4,6 +4,7 @@
 //! Here are Restart, and the submission of a plain job without an id. Each command is a module of its own, with its room and its step.
 #![tactic(auto)]
 
+mod bounds;
 mod cancels;
 mod desk;
 mod kept;
