@@ -1,2 +1,4 @@
 mod NewRows
 mod Released
+mod ChangedRows
+mod AddedRows

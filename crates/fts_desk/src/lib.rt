@@ -5,9 +5,12 @@
 #![tactic(auto)]
 
 mod desk;
+mod find;
 mod kept;
 mod restart;
+mod sources;
 mod submit;
+mod waking;
 
 pub use desk::{Desk, DeskFault, Plan};
 pub use submit::standard_id;
