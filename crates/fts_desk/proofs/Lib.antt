@@ -1,3 +1,4 @@
+mod Numbered
 mod NewRows
 mod Released
 mod ChangedRows

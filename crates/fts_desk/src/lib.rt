@@ -7,6 +7,7 @@
 mod desk;
 mod find;
 mod kept;
+mod lookups;
 mod restart;
 mod sources;
 mod submit;
