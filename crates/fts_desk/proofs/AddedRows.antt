@@ -1,7 +1,7 @@
 -- New rows behind those that were there, of which one begins to wait.
-use Rattle.std.proofs.Common.{◌≡◌, ℕ, ◌+◌, ◌-◌, ◌<◌, List, ◌++◌, length, take, drop, Option, ap, sym, ◌∙◌, arith}
-use Rattle.std.specs.Prelude.{slice_get}
-use Rattle.std.proofs.lemmas.List.{take_at, drop_at, take_rest}
+use Rattle.std.proofs.Common.{◌≡◌, ℕ, ◌+◌, ◌-◌, ◌<◌, List, ◌++◌, length, take, drop, Option, Some, None, refl, ap, sym, ◌∙◌, arith}
+use Rattle.std.specs.Prelude.{◌==◌, if◌then◌else◌, slice_get}
+use Rattle.std.proofs.lemmas.List.{take_at, drop_at, take_rest, length-map}
 use Rattle.fts_tables.specs.Tables.{AreNumberedFrom}
 use Rattle.fts_tables.specs.Moves.{submit_if_not_used, submit_chosen}
 use Rattle.fts_tables.specs.declared.rows.FileRow.{FileRow}
@@ -29,3 +29,12 @@ rows_before before added all first is at = ap (take first) is ∙ take_at before
 -- the new rows, out of all
 pub rows_behind : (before added all : List FileRow) (first : ℕ) → all ≡ before ++ added → first ≡ length before → take (length all - first) (drop first all) ≡ added
 rows_behind before added all first is at = take_rest all first ∙ ap (drop first) is ∙ drop_at before added first (sym at)
+
+-- a row that is woken is one row still
+pub length-submit_if_not_used : (id : ℕ) (rows : List FileRow) → length (submit_if_not_used id rows) ≡ length rows
+length-submit_if_not_used id rows = length-map rows (λ row. if row.id == id then woken row else row)
+
+-- whichever row was chosen, there are as many
+pub length-submit_chosen : (chosen : Option FileRow) (rows : List FileRow) → length (submit_chosen chosen rows) ≡ length rows
+length-submit_chosen None rows = refl
+length-submit_chosen (Some row) rows = length-submit_if_not_used row.id rows
