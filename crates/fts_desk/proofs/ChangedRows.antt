@@ -72,3 +72,10 @@ submit_chosen-place start rows place None numbered inside at = absurd (past (sli
         cc
     past (inr none) = omega (arith, none.0)
 submit_chosen-place start rows place (Some row) numbered inside at = change_row-place start rows place row.id woken numbered (id_at start rows place row numbered at)
+
+-- what was written at a place of a numbered list is a change of the row with the id behind it
+pub change_row-set : (rows : List FileRow) (place : ℕ) (change : FileRow → FileRow) (default changed : FileRow) → AreNumberedFrom (λ row. row.id) 1 rows → place < length rows
+    → changed ≡ change (get_or rows place default) → set rows place changed ≡ change_row (place + 1) change rows
+change_row-set rows place change default changed numbered inside is =
+    let next : place + 1 ≡ 1 + place = omega arith in
+    change_at-set rows place change default changed inside is ∙ sym (change_row-place 1 rows place (place + 1) change numbered next)

@@ -3,3 +3,6 @@ mod NewRows
 mod Released
 mod ChangedRows
 mod AddedRows
+mod KeptFiles
+mod Follows
+mod Reported

@@ -4,3 +4,4 @@ pub mod Standing
 pub mod Desk
 pub mod Prepared
 pub mod Places
+pub mod Reports

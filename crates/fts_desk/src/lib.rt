@@ -8,6 +8,7 @@ mod desk;
 mod find;
 mod kept;
 mod lookups;
+mod reports;
 mod restart;
 mod sources;
 mod submit;
