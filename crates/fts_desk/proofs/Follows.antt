@@ -1,11 +1,11 @@
 -- The row that follows a report, by its place.
-use Rattle.std.proofs.Common.{◌≡◌, ℕ, zero, suc, ◌+◌, ◌-◌, ◌<◌, ◌≤◌, cond, List, [], ◌∷◌, length, take, drop, Some, refl, ap, sym, ◌∙◌, arith}
-use Rattle.std.specs.Prelude.{nat_lt, slice_get}
+use Rattle.std.proofs.Common.{◌≡◌, ℕ, zero, suc, ◌+◌, ◌-◌, ◌<◌, cond, List, [], ◌∷◌, take, drop, refl, ap, sym, ◌∙◌, arith}
+use Rattle.std.specs.Prelude.{slice_get}
 use Rattle.std.proofs.Math.Seq.{drop-nil}
 use Rattle.std.proofs.lemmas.Bool.{lt-ltb}
 use Rattle.fts_tables.specs.Tables.{AreNumberedFrom, rows_of_job}
 use Rattle.fts_tables.specs.Choice.{next_alternative}
-use Rattle.fts_tables.specs.Moves.{change_row, submit_if_not_used, followed_finish, followed_failure}
+use Rattle.fts_tables.specs.Moves.{submit_if_not_used, followed_finish, followed_failure}
 use Rattle.fts_tables.specs.declared.rows.FileRow.{FileRow}
 use Rattle.fts_tables.specs.declared.rows.JobRow.{JobRow}
 use Rattle.fts_tables.specs.declared.rows.JobKind.TheVariants.{Multihop, Replica}

@@ -1,9 +1,9 @@
 -- A report leaves the row's file as it is, so numbers and the rows of each job stay where they are.
-use Rattle.std.proofs.Common.{◌≡◌, ℕ, suc, ◌+◌, ◌-◌, ◌≤◌, Bool, true, false, cond, List, [], ◌∷◌, length, map, take, drop, refl, ap, sym, ◌∙◌, arith, subst}
-use Rattle.std.specs.Prelude.{◌==◌, ◌&&◌, nat_lt, min, filter, if◌then◌else◌}
+use Rattle.std.proofs.Common.{◌≡◌, ℕ, suc, ◌+◌, ◌-◌, ◌≤◌, Bool, true, false, cond, List, [], ◌∷◌, map, take, drop, refl, ap, sym, ◌∙◌, subst}
+use Rattle.std.specs.Prelude.{◌==◌, ◌&&◌, nat_lt, min, if◌then◌else◌}
 use Rattle.std.proofs.lemmas.List.{length-map, take-map, drop-map}
 use Rattle.fts_tables.specs.Tables.{AreNumberedFrom, rows_of_job}
-use Rattle.fts_tables.specs.Moves.{change_row, canceled, is_retryable, reported, reported_failure, reported_without_cancel}
+use Rattle.fts_tables.specs.Moves.{canceled, is_retryable, reported, reported_failure, reported_without_cancel}
 use Rattle.fts_tables.specs.Laws.{FileOfRow, file_of}
 use Rattle.fts_tables.specs.declared.limits.TheConstants.{LAST_MOMENT}
 use Rattle.fts_tables.specs.declared.rows.FileRow.{FileRow}

@@ -1,5 +1,5 @@
 -- The row and its job are there, and what `report_at` leaves is the machine's step.
-use Rattle.std.proofs.Common.{◌≡◌, ◌<◌, List, length, Some, Ok, refl, ap, sym, ◌∙◌, subst, arith}
+use Rattle.std.proofs.Common.{◌≡◌, ◌<◌, List, length, Some, refl, ap, sym, ◌∙◌, subst, arith}
 use Rattle.std.specs.Prelude.{max, slice_get}
 use Rattle.std.specs.Vec.{with_items}
 use Rattle.std.proofs.lemmas.List.{with_items_is}
@@ -20,7 +20,7 @@ report_at-requires-clause-together c =
     let row = c.index.result.now in
     let job = c.index-in-Some-job_place.result.now in
     let of_job = found_there (λ (jobs : List JobRow). job_at jobs row.job) c.deref-in-Some.result.now c.args.kept.now.jobs.items c.in-Some-job_place.number job c.deref-in-Some.ensures.value
-        c.in-Some-job_place.ensures.job c.in-Some-job_place.ensures.inside.0 c.index-in-Some-job_place.ensures in
+    c.in-Some-job_place.ensures.job c.in-Some-job_place.ensures.inside.0 c.index-in-Some-job_place.ensures in
     subst (λ (rows : List FileRow). StandTogether rows job) (sym c.deref_mut.ensures.value)
     (c.rows_stand_together.ensures.together (tables_kept c.args.kept.now) row.job job c.requires.formed of_job)
 
@@ -28,7 +28,7 @@ pub unreachable-requires : goal.unreachable-requires
 unreachable-requires c =
     let row = c.index.result.now in
     let found = found_there (λ (rows : List FileRow). row_at rows c.args.file) c.deref.result.now c.args.kept.now.rows.items c.in-Some.place row c.deref.ensures.value c.in-Some.ensures.row
-        c.in-Some.ensures.inside.0 c.index.ensures in
+    c.in-Some.ensures.inside.0 c.index.ensures in
     reported_of_job (tables_kept c.args.kept.now) (max c.args.now c.args.kept.now.moment) c.args.file c.args.attempt c.args.outcome row found c.requires.accepted
     (ap (λ (jobs : List JobRow). job_at jobs row.job) (sym c.deref-in-Some.ensures.value) ∙ sym c.in-None-job_place.ensures.job)
 
@@ -41,9 +41,9 @@ returns c =
     let job = c.index-in-Some-job_place.result.now in
     let change = reported job now c.args.outcome in
     let found = found_there (λ (some : List FileRow). row_at some c.args.file) c.deref.result.now rows c.in-Some.place row c.deref.ensures.value c.in-Some.ensures.row
-        c.in-Some.ensures.inside.0 c.index.ensures in
+    c.in-Some.ensures.inside.0 c.index.ensures in
     let of_job = found_there (λ (jobs : List JobRow). job_at jobs row.job) c.deref-in-Some.result.now c.args.kept.now.jobs.items c.in-Some-job_place.number job c.deref-in-Some.ensures.value
-        c.in-Some-job_place.ensures.job c.in-Some-job_place.ensures.inside.0 c.index-in-Some-job_place.ensures in
+    c.in-Some-job_place.ensures.job c.in-Some-job_place.ensures.inside.0 c.index-in-Some-job_place.ensures in
     let lent : c.deref_mut.result.now ≡ rows = c.deref_mut.ensures.value in
     let within : c.in-Some.place < length rows = omega (arith, ap length c.deref.ensures.value, c.in-Some.ensures.inside.0) in
     let at : slice_get c.deref_mut.result.now c.in-Some.place ≡ Some row =

@@ -1,5 +1,5 @@
 -- Each kind of job adds as many rows as it has files.
-use Rattle.std.proofs.Common.{◌+◌, ◌++◌, length, ap, ◌∙◌, arith, length-append}
+use Rattle.std.proofs.Common.{◌+◌, length, ap, ◌∙◌, length-append}
 use Rattle.fts_tables.specs.Moves.{new_rows, submit_if_not_used, submit_chosen}
 use Rattle.fts_tables.specs.Choice.{next_alternative}
 use Rattle.fts_tables.specs.declared.rows.FileState.TheVariants.{Submitted, NotUsed}
