@@ -1,6 +1,10 @@
-mod Numbered
+mod AddedRows
 mod Bounded
 mod ChangedRows
+mod Follows
 mod Found
+mod KeptFiles
 mod NewRows
+mod Numbered
 mod Released
+mod Reported

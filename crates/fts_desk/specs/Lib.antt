@@ -1,8 +1,9 @@
 pub mod Bounds
 pub mod Cancels
+pub mod Desk
 pub mod DeskData
 pub mod Kept
 pub mod Places
-pub mod Standing
-pub mod Desk
 pub mod Prepared
+pub mod Reports
+pub mod Standing

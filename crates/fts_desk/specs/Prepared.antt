@@ -13,9 +13,9 @@ IsPrepared (Err refusal) (Err (Rule rule)) = rule ≡ refusal
 IsPrepared (Err refusal) (Ok made) = ⊥
 IsPrepared (Ok done) (Err (Rule rule)) = ⊥
 
--- accepted exactly where the machine accepts, and refused exactly where and as it refuses
-abbrev pub IsChecked : Outcomes → Result (Unit {0}) Refusal → Type 0
-IsChecked (Ok done) (Ok checked) = Unit {0}
+-- the same without want of memory: taken exactly where the machine accepts, its refusal exactly where it refuses
+abbrev pub IsChecked : {T : Type 0} → Outcomes → Result T Refusal → Type 0
+IsChecked (Ok done) (Ok made) = Unit {0}
 IsChecked (Err refusal) (Err rule) = rule ≡ refusal
-IsChecked (Err refusal) (Ok checked) = ⊥
+IsChecked (Err refusal) (Ok made) = ⊥
 IsChecked (Ok done) (Err rule) = ⊥

@@ -7,11 +7,15 @@
 mod bounds;
 mod cancels;
 mod desk;
+mod find;
 mod kept;
 mod lookups;
 mod priority;
+mod reports;
 mod restart;
+mod sources;
 mod submit;
+mod waking;
 
 pub use desk::{Desk, DeskFault, Plan};
 pub use submit::standard_id;
