@@ -1,13 +1,13 @@
 -- An accepted command keeps the bounds of the lists, with one command more.
-use Rattle.std.proofs.Common.{◌≡◌, ℕ, suc, ◌+◌, ◌<◌, ◌≤◌, Bool, true, false, cond, List, [], ◌∷◌, ◌++◌, length, map, Option, Some, None, Ok, Err, refl, ap, sym, ◌∙◌, arith, subst, length-append}
-use Rattle.std.specs.Prelude.{max, not, ◌&&◌, ◌||◌, ◌==◌, nat_lt, min, option_and_then, if◌then◌else◌, IsTrue}
-use Rattle.std.specs.List.{AllByRecursion, list_any}
+use Rattle.std.proofs.Common.{◌≡◌, ℕ, suc, ◌+◌, ◌<◌, ◌≤◌, Bool, true, false, cond, List, [], ◌∷◌, ◌++◌, length, map, Option, Some, None, Ok, Err, refl, ◌∙◌, arith, subst, length-append}
+use Rattle.std.specs.Prelude.{max, not, ◌&&◌, ◌||◌, ◌==◌, nat_lt, min, option_and_then, if◌then◌else◌}
+use Rattle.std.specs.List.{list_any}
 use Rattle.std.proofs.lemmas.Bool.{ltb-true, ltb-false}
 use Rattle.std.proofs.lemmas.List.{length-map}
 use Rattle.fts_tables.specs.JobData.{JobData}
 use Rattle.fts_tables.specs.Tables.{Tables, is_submitted, is_active, is_finished, is_failed, is_not_used, job_at, row_at, rows_of_job, number_of_id}
 use Rattle.fts_tables.specs.Choice.{pick, next_alternative}
-use Rattle.fts_tables.specs.Moves.{change_row, submitted, canceled, claimed, is_retryable, reported_failure, reported_without_cancel, reported, submit_if_not_used, followed_finish, submit_chosen, followed_failure, followed, cancelled, is_cancellable, is_settled_job, new_row, new_rows, rows_of_kind, job_of_new, rows_of_new}
+use Rattle.fts_tables.specs.Moves.{change_row, submitted, canceled, claimed, is_retryable, reported_failure, reported_without_cancel, reported, submit_if_not_used, followed_finish, submit_chosen, followed_failure, followed, cancelled, is_cancellable, is_settled_job, new_rows, rows_of_kind, job_of_new, rows_of_new}
 use Rattle.fts_tables.specs.Step.{Outcomes, step, released, submit_by, submit_within, add_job, with_rows, cancel_rows, cancel_row, cancel_one, cancel_file, with_priority, set_priority, claim, report_of, report}
 use Rattle.fts_tables.specs.History.{IsAccepted, tables_after}
 use Rattle.fts_tables.specs.declared.limits.TheConstants.{MAX_JOBS, MAX_ROWS, LAST_MOMENT}

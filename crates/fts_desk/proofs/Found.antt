@@ -1,11 +1,10 @@
 -- What a command makes of the job that it names, where that is found; and the answer of a cancellation that is accepted.
 use Rattle.std.proofs.Common.{◌≡◌, ℕ, zero, suc, ◌+◌, ◌-◌, ◌<◌, ◌≤◌, Bool, true, false, cond, List, [], ◌∷◌, length, get_or, set, map, arith, Option, Some, None, Ok, Err, refl, ap, sym, ◌∙◌}
-use Rattle.std.specs.Prelude.{max, not, ◌&&◌, ◌==◌, if◌then◌else◌, option_map}
+use Rattle.std.specs.Prelude.{◌==◌, option_map}
 use Rattle.std.proofs.lemmas.Bool.{eqb-true, eq-eqb, ne_eqb}
 use Rattle.std.proofs.lemmas.Option.{same_Some}
-use Rattle.std.specs.List.{list_any}
 use Rattle.fts_tables.specs.Tables.{Tables, job_at, row_at, rows_of_job, AreNumberedFrom}
-use Rattle.fts_tables.specs.Moves.{change_row, cancelled, is_cancellable, is_settled_job}
+use Rattle.fts_tables.specs.Moves.{change_row, cancelled, is_settled_job}
 use Rattle.fts_tables.specs.Step.{Outcomes, on_job, with_rows, cancel_rows, cancel_row, cancel_one, cancel_file, with_priority, set_priority}
 use Rattle.fts_tables.specs.History.{IsAccepted}
 use Rattle.fts_tables.specs.declared.rows.FileRow.{FileRow}
@@ -16,7 +15,7 @@ use Rattle.fts_tables.specs.declared.commands.Answer.{Answer}
 use Rattle.fts_tables.specs.declared.commands.Refusal.{Refusal}
 use Rattle.fts_tables.specs.declared.commands.Answer.TheVariants.{Cancelled, PrioritySet}
 use Rattle.fts_tables.specs.declared.commands.Refusal.TheVariants.{NoJob, NoFile, Unchanged}
-use Rattle.fts_desk.specs.Cancels.{cancelled_of, after_file, IsInside}
+use Rattle.fts_desk.specs.Cancels.{cancelled_of, after_file}
 use Rattle.fts_desk.specs.Standing.{prioritized}
 use Rattle.fts_desk.proofs.Numbered.{number_at, within_found}
 

@@ -1,10 +1,15 @@
 mod AddedRows
 mod Bounded
 mod ChangedRows
+mod Claiming
+mod FirstRows
 mod Follows
 mod Found
 mod KeptFiles
 mod NewRows
 mod Numbered
+mod Picks
 mod Released
 mod Reported
+mod RunningRows
+mod Sound

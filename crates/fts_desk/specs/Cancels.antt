@@ -1,5 +1,5 @@
 -- What a cancellation of a file leaves of the rows: in a plain job of its row alone, else of all rows of the job.
-use Rattle.std.specs.Prelude.{◌≡◌, ℕ, ◌==◌, ◌≤◌, if◌then◌else◌, List, map, length, Option, Some, None}
+use Rattle.std.specs.Prelude.{ℕ, ◌==◌, ◌≤◌, if◌then◌else◌, List, map, length, Option, Some, None}
 use Rattle.fts_tables.specs.Tables.{AreNumberedFrom}
 use Rattle.fts_tables.specs.Moves.{cancelled, change_row}
 use Rattle.fts_tables.specs.declared.rows.FileRow.{FileRow}

@@ -1,5 +1,6 @@
 pub mod Bounds
 pub mod Cancels
+pub mod Claims
 pub mod Desk
 pub mod DeskData
 pub mod Kept

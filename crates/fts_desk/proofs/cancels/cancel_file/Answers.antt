@@ -1,11 +1,9 @@
-use Rattle.std.proofs.Common.{◌≡◌, ◌-◌, List, Ok, ap, sym, ◌∙◌, arith, subst}
+use Rattle.std.proofs.Common.{◌-◌, ap, sym, ◌∙◌, arith, subst}
 use Rattle.std.specs.Prelude.{max, option_map}
 use Rattle.std.specs.Vec.{with_items}
 use Rattle.std.proofs.lemmas.List.{with_items_is}
 use Rattle.std.proofs.lemmas.Option.{slice_get_within}
 use Rattle.fts_tables.specs.Tables.{job_at, row_at}
-use Rattle.fts_tables.specs.Step.{with_rows}
-use Rattle.fts_tables.specs.declared.rows.FileRow.{FileRow}
 use Rattle.fts_tables.specs.declared.rows.JobRow.{JobRow}
 use Rattle.fts_tables.specs.declared.commands.Answer.TheVariants.{Cancelled}
 use Rattle.fts_desk.specs.Kept.{tables_kept}
@@ -29,8 +27,8 @@ returns c =
     let now = max c.args.now c.args.kept.now.moment in
     let kind = ap (λ jobs. option_map (λ (job : JobRow). job.kind) (job_at jobs c.args.job)) (sym c.deref.ensures.value) ∙ sym c.kind_of-kind.ensures.kind in
     let rows = ap (λ found. after_file found c.args.job c.args.file tables.rows) kind
-        ∙ (ap (after_file c.kind_of-kind.result c.args.job c.args.file) (sym c.deref_mut.ensures.value) ∙ (sym c.cancel_by_kind.ensures.rows
-        ∙ sym (with_items_is c.args.kept.now.rows c.cancel_by_kind.new.rows (c.cancel_by_kind.auto.rows ∙ c.deref_mut.ensures.len)))) in
+    ∙ (ap (after_file c.kind_of-kind.result c.args.job c.args.file) (sym c.deref_mut.ensures.value) ∙ (sym c.cancel_by_kind.ensures.rows
+    ∙ sym (with_items_is c.args.kept.now.rows c.cancel_by_kind.new.rows (c.cancel_by_kind.auto.rows ∙ c.deref_mut.ensures.len)))) in
     record {
       step = file_cancelled tables now c.args.job c.args.file c.requires.accepted
           ∙ rows_done tables (Cancelled c.args.job) (max c.args.now c.args.kept.now.moment) c.max-kept.result

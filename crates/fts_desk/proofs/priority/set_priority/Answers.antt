@@ -3,7 +3,6 @@ use Rattle.std.specs.Prelude.{max}
 use Rattle.std.specs.Vec.{with_items}
 use Rattle.std.proofs.lemmas.List.{with_items_is}
 use Rattle.fts_tables.specs.declared.commands.Answer.TheVariants.{PrioritySet}
-use Rattle.fts_tables.specs.Tables.{AreNumberedFrom}
 use Rattle.fts_tables.specs.declared.rows.JobRow.{JobRow}
 use Rattle.fts_desk.specs.Kept.{tables_kept}
 use Rattle.fts_desk.specs.Standing.{prioritized}
@@ -16,7 +15,7 @@ returns c =
     let now = max c.args.now c.args.kept.now.moment in
     let change = prioritized c.args.job c.args.priority in
     let jobs = ap (map change) (sym c.deref_mut.ensures.value) ∙ sym c.prioritize.ensures.jobs
-        ∙ sym (with_items_is c.args.kept.now.jobs c.prioritize.new.jobs (c.prioritize.auto.jobs ∙ c.deref_mut.ensures.len)) in
+    ∙ sym (with_items_is c.args.kept.now.jobs c.prioritize.new.jobs (c.prioritize.auto.jobs ∙ c.deref_mut.ensures.len)) in
     record {
       step = priority_set tables now c.args.job c.args.priority c.requires.accepted
           ∙ jobs_done tables (PrioritySet c.args.job) now c.max-kept.result (map change tables.jobs) (with_items c.args.kept.now.jobs c.prioritize.new.jobs).items (sym c.max-kept.ensures) jobs;
