@@ -1,2 +1,6 @@
+mod Claiming
+mod FirstRows
 mod NewRows
+mod Picks
 mod Released
+mod RunningRows

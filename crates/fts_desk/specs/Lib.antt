@@ -1,3 +1,4 @@
+pub mod Claims
 pub mod DeskData
 pub mod Kept
 pub mod Desk

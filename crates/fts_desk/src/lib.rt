@@ -4,9 +4,13 @@
 //! Here are Restart, and the submission of a plain job without an id. Each command is a module of its own, with its room and its step.
 #![tactic(auto)]
 
+mod claims;
 mod desk;
 mod kept;
+mod order;
 mod restart;
+mod search;
+mod slots_left;
 mod submit;
 
 pub use desk::{Desk, DeskFault, Plan};
