@@ -1,6 +1,8 @@
 mod Claiming
 mod FirstRows
+mod LinkNames
 mod NewRows
+mod Numbered
 mod Picks
 mod Released
 mod RunningRows

@@ -1,5 +1,6 @@
 pub mod Claims
 pub mod DeskData
 pub mod Kept
+pub mod Standing
 pub mod Desk
 pub mod Prepared

@@ -7,6 +7,7 @@
 mod claims;
 mod desk;
 mod kept;
+mod lookups;
 mod order;
 mod restart;
 mod search;
