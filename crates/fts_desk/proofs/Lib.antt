@@ -6,6 +6,7 @@ mod FirstRows
 mod Follows
 mod Found
 mod KeptFiles
+mod LinkNames
 mod NewRows
 mod Numbered
 mod Picks
