@@ -6,3 +6,4 @@ mod AddedRows
 mod KeptFiles
 mod Follows
 mod Reported
+mod Hops
