@@ -1,8 +1,16 @@
+mod AddedRows
+mod Bounded
+mod ChangedRows
 mod Claiming
 mod FirstRows
+mod Follows
+mod Found
+mod KeptFiles
 mod LinkNames
 mod NewRows
 mod Numbered
 mod Picks
 mod Released
+mod Reported
 mod RunningRows
+mod Sound

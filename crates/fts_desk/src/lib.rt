@@ -4,15 +4,24 @@
 //! Here are Restart, and the submission of a plain job without an id. Each command is a module of its own, with its room and its step.
 #![tactic(auto)]
 
+mod answers;
+mod bounds;
+mod cancels;
 mod claims;
+mod commands;
 mod desk;
+mod find;
 mod kept;
 mod lookups;
 mod order;
+mod priority;
+mod reports;
 mod restart;
 mod search;
 mod slots_left;
+mod sources;
 mod submit;
+mod waking;
 
 pub use desk::{Desk, DeskFault, Plan};
 pub use submit::standard_id;

@@ -1,17 +1,49 @@
-//! Submit: a plain job without an id gets the next number, its standard id, and a row for each of its files.
-//! `make_room` refuses what would pass the limits and takes all the memory that `submit` needs.
-ghost use Rattle.std.specs.Prelude.{◌≡◌, ◌+◌, ◌≤◌, ◌++◌, length, vec_capacity, None, Ok, OnOk};
-ghost use Rattle.fts_tables.specs.Moves.{new_row, new_rows, standard_id};
+//! Submit: a job of any kind gets the next number, its given id or the standard one, and a row for each of its files.
+//! All rows of a plain job wait, of a multihop job the first, of a replica job the one that is chosen by loads over the rows that were there before.
+//! `make_room` refuses an id that a job has and what would pass the limits, and takes all the memory that `submit` needs.
+ghost use Rattle.std.specs.Prelude.{
+  ◌≡◌,
+  ℕ,
+  ◌+◌,
+  ◌<◌,
+  ◌≤◌,
+  ◌++◌,
+  length,
+  vec_capacity,
+  option_and_then,
+  unwrap_or,
+  Some,
+  None,
+  Ok,
+  OnOk,
+};
+ghost use Rattle.fts_tables.specs.JobData.{JobData};
+ghost use Rattle.fts_tables.specs.Tables.{number_of_id as number_of_id_in};
+ghost use Rattle.fts_tables.specs.Moves.{
+  new_row,
+  new_rows,
+  standard_id,
+  rows_of_kind,
+  submit_if_not_used,
+  submit_chosen,
+};
+ghost use Rattle.fts_tables.specs.Choice.{next_alternative};
 ghost use Rattle.fts_tables.specs.Step.{step};
+ghost use Rattle.fts_tables.specs.History.{IsAccepted};
 ghost use Rattle.fts_tables.specs.declared.commands.Command.TheVariants.{Submit};
-ghost use Rattle.fts_tables.specs.declared.limits.TheConstants.{MAX_JOBS, MAX_ROWS};
-ghost use Rattle.fts_tables.specs.declared.rows.JobKind.TheVariants.{Plain};
+ghost use Rattle.fts_tables.specs.declared.limits.TheConstants.{MAX_FILES, MAX_JOBS, MAX_ROWS};
 ghost use Rattle.fts_desk.specs.Kept.{tables_kept, IsWithinLimits, HasRoomFor, IsRoomFor};
+ghost use Rattle.fts_desk.specs.Prepared.{IsPrepared};
 
 use crate::DeskFault;
+use crate::find::number_of_id;
 use crate::kept::Kept;
+use crate::sources::next_source;
+use crate::waking::wake_at;
 use fts_tables::limits::{MAX_JOBS, MAX_ROWS};
-use fts_tables::{Answer, FileRow, FileState, JobRow, NewFile, NewJob, Reason, Refusal};
+use fts_tables::{
+    Answer, FileRow, FileState, JobKind, JobRow, NewFile, NewJob, Reason, Refusal, Strategy,
+};
 
 /// The id 00000000-0000-4000-8000-000000000000, to which a job's number is added.
 const STANDARD_IDS: u128 = 0x4000_8000_0000_0000_0000;
@@ -23,14 +55,36 @@ pub fn standard_id(number: u32) -> u128
     STANDARD_IDS + number as u128
 }
 
-/// Makes room for a plain job without an id, or says that the machine refuses it.
+/// Makes room for a job, or says that the machine refuses it: for an id that a job has, then for the number of jobs, then for that of rows.
 pub fn make_room(kept: &mut Kept, job: &NewJob) -> Result<(), DeskFault>
-    requires { IsWithinLimits kept.old }
+    requires limits { IsWithinLimits kept.old }
     ensures tables { tables_kept kept.new ≡ tables_kept kept.old }
     ensures room { OnOk result (HasRoomFor kept.new (length job.now.files)) }
-    ensures answer { IsRoomFor (length kept.old.jobs.items) (length kept.old.rows.items) (length job.now.files) result }
+    ensures answer { (now : ℕ) → IsPrepared (step (tables_kept kept.old) (Submit now job.now)) result }
 {
-    let files = job.files.as_slice().len();
+    match number_of_given(&kept.jobs, job.id) {
+        Some(number) => Err(DeskFault::Rule(Refusal::Duplicate { job: number })),
+        None => make_room_for(kept, job.files.as_slice().len()),
+    }
+}
+
+/// The least number of a job with the id that a new job was given, where it was given one.
+fn number_of_given(jobs: &[JobRow], id: Option<u128>) -> Option<u32>
+    ensures number { result ≡ option_and_then (number_of_id_in jobs.now) id }
+{
+    match id {
+        Some(id) => number_of_id(jobs, id),
+        None => None,
+    }
+}
+
+/// Makes room for a job of so many files, or says that the limits refuse it.
+fn make_room_for(kept: &mut Kept, files: usize) -> Result<(), DeskFault>
+    requires { IsWithinLimits kept.old }
+    ensures tables { tables_kept kept.new ≡ tables_kept kept.old }
+    ensures room { OnOk result (HasRoomFor kept.new files) }
+    ensures answer { IsRoomFor (length kept.old.jobs.items) (length kept.old.rows.items) files result }
+{
     if kept.jobs.len() >= MAX_JOBS {
         return Err(DeskFault::Rule(Refusal::JobsFull {
             jobs: kept.jobs.len() as u32,
@@ -47,21 +101,19 @@ pub fn make_room(kept: &mut Kept, job: &NewJob) -> Result<(), DeskFault>
     Ok(())
 }
 
-/// Adds a plain job without an id, for which there is room.
+/// Adds a job of any kind, for which there is room.
 pub fn submit(kept: &mut Kept, now: u64, job: NewJob) -> Answer
-    requires kind { job.kind ≡ Plain }
-    requires id { job.id ≡ None }
     requires room { HasRoomFor kept.old (length job.files) }
+    requires accepted { IsAccepted (step (tables_kept kept.old) (Submit now job)) }
     ensures step { step (tables_kept kept.old) (Submit now job) ≡ Ok (tables_kept kept.new, result) }
     ensures jobs { length kept.new.jobs.items ≡ length kept.old.jobs.items + 1 }
     ensures rows { length kept.new.rows.items ≡ length kept.old.rows.items + length job.files }
 {
     kept.moment = kept.moment.max(now);
     let number = kept.jobs.len() as u32 + 1;
-    let id = standard_id(number);
     let first = kept.rows.len() as u32 + 1;
     let NewJob {
-        id: _,
+        id,
         kind,
         strategy,
         priority,
@@ -70,9 +122,10 @@ pub fn submit(kept: &mut Kept, now: u64, job: NewJob) -> Answer
         overwrite,
         files,
     } = job;
+    let id = id_of_new(id, number);
     let files = files.into_vec();
     let count = files.len() as u32;
-    add_rows(&mut kept.rows, number, files);
+    add_rows_of_kind(&mut kept.rows, number, kind, strategy, files);
     kept.jobs.push_reserved(JobRow {
         number,
         id,
@@ -89,21 +142,78 @@ pub fn submit(kept: &mut Kept, now: u64, job: NewJob) -> Answer
     Answer::Submitted { job: number, id }
 }
 
-/// Adds the rows of a plain job's files, for which there is room.
-fn add_rows(rows: &mut Vec<FileRow>, job: u32, files: Vec<NewFile>)
-    requires room { length rows.old.items + length files.items ≤ vec_capacity rows.old }
-    requires few { length rows.old.items + length files.items ≤ MAX_ROWS }
-    ensures { rows.new.items ≡ rows.old.items ++ new_rows job (length rows.old.items + 1) FileState.Submitted files.items }
+/// The id of a new job: the one that it was given, or the standard one.
+fn id_of_new(given: Option<u128>, number: u32) -> u128
+    ensures id { result ≡ unwrap_or given (standard_id number) }
 {
-    for file in files {
-        let id = rows.len() as u32 + 1;
-        rows.push_reserved(new_row(id, job, file));
+    match given {
+        Some(id) => id,
+        None => standard_id(number),
     }
 }
 
-/// The row of a file that waits from its submission on.
-fn new_row(id: u32, job: u32, file: NewFile) -> FileRow
-    ensures { result ≡ new_row job id FileState.Submitted file }
+/// Adds the rows of a job of a kind, for which there is room.
+fn add_rows_of_kind(
+    rows: &mut Vec<FileRow>,
+    job: u32,
+    kind: JobKind,
+    strategy: Strategy,
+    files: Vec<NewFile>,
+)
+    requires room { length rows.old.items + length files.items ≤ vec_capacity rows.old }
+    requires few { length rows.old.items + length files.items ≤ MAX_ROWS }
+    requires files { length files.items ≤ MAX_FILES }
+    ensures rows { (new : JobData) → new.files ≡ files.items → new.strategy ≡ strategy → rows.new.items ≡ rows.old.items ++ rows_of_kind kind rows.old.items job (length rows.old.items + 1) new }
+    ensures count { length rows.new.items ≡ length rows.old.items + length files.items }
+{
+    match kind {
+        JobKind::Plain => add_rows(rows, job, FileState::Submitted, files),
+        JobKind::Multihop => add_hops(rows, job, files),
+        JobKind::Replica => add_sources(rows, job, strategy, files),
+    }
+}
+
+/// Adds the rows of a multihop job, of which the first waits.
+fn add_hops(rows: &mut Vec<FileRow>, job: u32, files: Vec<NewFile>)
+    requires room { length rows.old.items + length files.items ≤ vec_capacity rows.old }
+    requires few { length rows.old.items + length files.items ≤ MAX_ROWS }
+    ensures rows { rows.new.items ≡ rows.old.items ++ submit_if_not_used (length rows.old.items + 1) (new_rows job (length rows.old.items + 1) FileState.NotUsed files.items) }
+{
+    let first = rows.len();
+    add_rows(rows, job, FileState::NotUsed, files);
+    wake_at(rows, first);
+}
+
+/// Adds the rows of a replica job, of which the chosen one waits.
+fn add_sources(rows: &mut Vec<FileRow>, job: u32, strategy: Strategy, files: Vec<NewFile>)
+    requires room { length rows.old.items + length files.items ≤ vec_capacity rows.old }
+    requires few { length rows.old.items + length files.items ≤ MAX_ROWS }
+    requires files { length files.items ≤ MAX_FILES }
+    ensures rows { let added = new_rows job (length rows.old.items + 1) FileState.NotUsed files.items in rows.new.items ≡ rows.old.items ++ submit_chosen (next_alternative strategy rows.old.items added) added }
+{
+    let first = rows.len();
+    add_rows(rows, job, FileState::NotUsed, files);
+    match next_source(&rows[..first], &rows[first..], strategy) {
+        Some(place) => wake_at(rows, first + place),
+        None => {}
+    }
+}
+
+/// Adds the rows of files, all in one state, for which there is room.
+fn add_rows(rows: &mut Vec<FileRow>, job: u32, state: FileState, files: Vec<NewFile>)
+    requires room { length rows.old.items + length files.items ≤ vec_capacity rows.old }
+    requires few { length rows.old.items + length files.items ≤ MAX_ROWS }
+    ensures { rows.new.items ≡ rows.old.items ++ new_rows job (length rows.old.items + 1) state files.items }
+{
+    for file in files {
+        let id = rows.len() as u32 + 1;
+        rows.push_reserved(new_row(id, job, state, file));
+    }
+}
+
+/// The row of a file that was submitted just now.
+fn new_row(id: u32, job: u32, state: FileState, file: NewFile) -> FileRow
+    ensures { result ≡ new_row job id state file }
 {
     let NewFile {
         index,
@@ -122,7 +232,7 @@ fn new_row(id: u32, job: u32, file: NewFile) -> FileRow
         size,
         wanted,
         activity,
-        state: FileState::Submitted,
+        state,
         retries: 0,
         attempt: 0,
         not_before: 0,

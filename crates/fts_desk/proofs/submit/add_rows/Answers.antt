@@ -4,7 +4,6 @@ use Rattle.std.proofs.lemmas.Iterator.Adapters.{YieldsList-from_vec}
 use Rattle.std.proofs.lemmas.Iterator.Consumers.{YieldsList-turn, YieldsList-end}
 use Rattle.fts_tables.specs.Moves.{new_rows}
 use Rattle.fts_tables.specs.declared.rows.FileRow.{FileRow}
-use Rattle.fts_tables.specs.declared.rows.FileState.TheVariants.{Submitted}
 use Rattle.fts_desk.proofs.NewRows.{add_step}
 use Rattle.fts_desk.proofs.submit.add_rows.Goals as goal
 
@@ -26,14 +25,14 @@ push_reserved-requires c =
 pub returns : goal.returns
 returns c =
     let t = YieldsList-end (YieldsList-from_vec c.args.files.items (search rules) (search rules)) c.loop-file.yielded _ c.loop-file.yielded_by _ c.next.new.self c.in-None.is c.next.ensures.steps in
-    c.loop-file.invariant.rows ∙ ap (λ fs. c.args.rows.now.items ++ new_rows c.args.job (length c.args.rows.now.items + 1) Submitted fs) (sym (map-id c.loop-file.yielded) ∙ t.0)
+    c.loop-file.invariant.rows ∙ ap (λ fs. c.args.rows.now.items ++ new_rows c.args.job (length c.args.rows.now.items + 1) c.args.state fs) (sym (map-id c.loop-file.yielded) ∙ t.0)
 
 pub loop-file-preserved : goal.loop-file-preserved
 loop-file-preserved c =
     let inv = c.loop-file.invariant in
     let n : c.len.result + 1 ≡ (length c.args.rows.now.items + 1) + length c.loop-file.yielded = omega (arith, inv.count, c.loop-file.rows.ok.0, c.len.ensures) in
     record {
-      rows = c.push_reserved.ensures.items ∙ ap (λ (row : FileRow). c.loop-file.rows.items ++ row ∷ []) c.new_row.ensures ∙ add_step c.args.rows.now.items c.loop-file.rows.items c.loop-file.yielded c.args.job (length c.args.rows.now.items + 1) (c.len.result + 1) c.in-Some.file inv.rows n;
+      rows = c.push_reserved.ensures.items ∙ ap (λ (row : FileRow). c.loop-file.rows.items ++ row ∷ []) c.new_row.ensures ∙ add_step c.args.rows.now.items c.loop-file.rows.items c.loop-file.yielded c.args.job (length c.args.rows.now.items + 1) (c.len.result + 1) c.args.state c.in-Some.file inv.rows n;
       count = omega (arith, ap length c.push_reserved.ensures.items, length-append c.loop-file.rows.items (c.new_row.result ∷ []), length-append c.loop-file.yielded (c.in-Some.file ∷ []), inv.count);
       capacity = c.push_reserved.ensures.capacity ∙ inv.capacity;
     }

@@ -1,0 +1,61 @@
+//! Which source of a replica job comes next.
+//! Its loads are counted over all rows, into an array on the stack: no job has more than `MAX_FILES` rows.
+ghost use Rattle.std.specs.Prelude.{◌≡◌, ◌≤◌, ◌<◌, ◌&&◌, length, map, take, slice_get, option_and_then, count_by, IfSome, ℕ, List};
+ghost use Rattle.fts_tables.specs.Tables.{is_live as is_live_state, is_same_link as has_same_link};
+ghost use Rattle.fts_tables.specs.Choice.{load as load_of, next_alternative as alternative_of};
+ghost use Rattle.fts_tables.specs.declared.limits.TheConstants.{MAX_FILES, MAX_ROWS};
+
+use fts_choice::next_alternative;
+use fts_tables::limits::MAX_FILES;
+use fts_tables::{FileRow, FileState, Strategy};
+
+/// Whether a row waits or runs.
+fn is_live(row: &FileRow) -> bool
+    ensures answer { result ≡ is_live_state row.now.state }
+{
+    match row.state {
+        FileState::Submitted | FileState::Active => true,
+        FileState::Finished | FileState::Failed | FileState::Canceled | FileState::NotUsed => false,
+    }
+}
+
+/// Whether two rows have one link.
+fn is_same_link(one: &FileRow, other: &FileRow) -> bool
+    ensures answer { result ≡ has_same_link one.now other.now }
+{
+    one.source.endpoint.as_str() == other.source.endpoint.as_str()
+        && one.dest.endpoint.as_str() == other.dest.endpoint.as_str()
+}
+
+/// How many rows wait or run on a row's link.
+fn load(rows: &[FileRow], row: &FileRow) -> u32
+    requires few { length rows.now ≤ MAX_ROWS }
+    ensures load { result ≡ load_of rows.now row.now }
+{
+    rows.iter()
+        .filter(|other| is_live(other) && is_same_link(row, other))
+        .count() as u32
+}
+
+/// Fills in the loads of a job's rows, each at its row's place.
+fn fill_loads(loads: &mut [u32; MAX_FILES], rows: &[FileRow], of_job: &[FileRow])
+    requires few { length rows.now ≤ MAX_ROWS }
+    requires room { length of_job.now ≤ MAX_FILES }
+    ensures loads { take (length of_job.now) loads.new ≡ map (load_of rows.now) of_job.now }
+{
+    for place in 0..of_job.len() {
+        loads[place] = load(rows, &of_job[place]);
+    }
+}
+
+/// The place of the row of a job that comes in next, with loads counted over these rows. None exactly where there is none.
+pub fn next_source(rows: &[FileRow], of_job: &[FileRow], strategy: Strategy) -> Option<usize>
+    requires few { length rows.now ≤ MAX_ROWS }
+    requires room { length of_job.now ≤ MAX_FILES }
+    ensures row { option_and_then (slice_get of_job.now) result ≡ alternative_of strategy rows.now of_job.now }
+    ensures inside { IfSome result (λ place. place < length of_job.now) }
+{
+    let mut loads = [0; MAX_FILES];
+    fill_loads(&mut loads, rows, of_job);
+    next_alternative(of_job, strategy, &loads[..of_job.len()])
+}

@@ -1,0 +1,29 @@
+//! Rows that begin to wait: the row at a place, where its turn hadn't come.
+//! Places count from 0, so the row at a place has the id behind it (`change_at-by_id`).
+ghost use Rattle.std.specs.Prelude.{◌≡◌};
+ghost use Rattle.fts_desk.specs.Places.{change_at, woken};
+
+use fts_tables::{FileRow, FileState};
+
+/// Lets a row wait from now on, where its turn hadn't come.
+fn wake(row: &mut FileRow)
+    ensures row { row.new ≡ woken row.old }
+{
+    match row.state {
+        FileState::NotUsed => row.state = FileState::Submitted,
+        FileState::Submitted
+        | FileState::Active
+        | FileState::Finished
+        | FileState::Failed
+        | FileState::Canceled => {}
+    }
+}
+
+/// Lets the row at a place wait from now on, where its turn hadn't come. At a place behind the last row it does nothing.
+pub fn wake_at(rows: &mut [FileRow], place: usize)
+    ensures rows { rows.new ≡ change_at place woken rows.old }
+{
+    if place < rows.len() {
+        wake(&mut rows[place]);
+    }
+}
