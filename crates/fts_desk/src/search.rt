@@ -36,10 +36,20 @@ ghost use Rattle.fts_desk.specs.Claims.{
 };
 
 use crate::order::{is_link_before, is_row_before, is_same_link};
-use crate::slots_left::{is_due, is_eligible, is_free};
+use crate::slots_left::{is_due, is_free};
 use fts_choice::draw;
 use fts_tables::limits::MAX_WEIGHTS;
 use fts_tables::{FileRow, JobRow, Settings, Weight};
+
+/// Whether a row's link goes before that of the best so far.
+fn is_better_link(running: &[&FileRow], best: Option<&FileRow>, row: &FileRow) -> bool
+    ensures answer { result ≡ is_better (link_before (map (λ row. row.now) running.now)) (option_map (λ best. best.now) best.entry) row.now }
+{
+    match best {
+        Some(best) => is_link_before(running, row, best),
+        None => true,
+    }
+}
 
 /// Whether a row may be claimed, and its link goes before that of the best so far.
 fn is_next_link(
@@ -51,12 +61,7 @@ fn is_next_link(
 ) -> bool
     ensures answer { result ≡ (may_claim (map (λ row. row.now) running.now) settings.now now row.now && is_better (link_before (map (λ row. row.now) running.now)) (option_map (λ best. best.now) best.entry) row.now) }
 {
-    if let Some(best) = best
-        && !is_link_before(running, row, best)
-    {
-        return false;
-    }
-    is_eligible(running, settings, now, row)
+    is_due(row, now) && is_better_link(running, best, row) && is_free(running, settings, row)
 }
 
 /// The first of the rows that may be claimed whose link goes before the others.
