@@ -1,13 +1,15 @@
 -- In a numbered list an item stands at the place before its number, and the rows of a job stand together.
-use Rattle.std.proofs.Common.{◌≡◌, ◌≢◌, ℕ, zero, suc, ◌+◌, ◌-◌, ◌<◌, ◌≤◌, Bool, true, false, cond, List, [], ◌∷◌, ◌++◌, length, map, take, drop, Some, None, Option, refl, ap, sym, ◌∙◌, arith, subst, append-nil, length-drop}
-use Rattle.std.specs.Prelude.{◌==◌, ◌&&◌, nat_le, filter, find, replicate, slice_get, option_and_then}
+use Rattle.std.proofs.Common.{◌≡◌, ◌≢◌, ℕ, zero, suc, ◌+◌, ◌-◌, ◌<◌, ◌≤◌, Bool, true, false, cond, List, [], ◌∷◌, ◌++◌, length, map, take, drop, Some, None, refl, ap, sym, ◌∙◌, arith, subst, append-nil, length-drop}
+use Rattle.std.specs.Prelude.{◌==◌, ◌&&◌, nat_le, find, replicate, slice_get, option_and_then}
 use Rattle.std.proofs.Math.Seq.{drop-nil}
-use Rattle.std.proofs.lemmas.Bool.{eqb-true, eqb-false, ne_eqb, leb-false, leb-true}
+use Rattle.std.proofs.lemmas.Bool.{eqb-true, eqb-false, ne_eqb, leb-false, leb-true, and_parts}
 use Rattle.std.proofs.lemmas.Option.{same_Some}
 use Rattle.fts_tables.specs.Tables.{Tables, AreNumberedFrom, AreFirstsFrom, AreWellFormed, owners, job_at, rows_of_job}
 use Rattle.fts_tables.specs.declared.rows.FileRow.{FileRow}
 use Rattle.fts_tables.specs.declared.rows.JobRow.{JobRow}
+use Rattle.fts_tables.specs.declared.limits.TheConstants.{MAX_FILES}
 use Rattle.fts_desk.specs.Standing.{place_in, StandTogether}
+use Rattle.fts_desk.specs.Bounds.{HaveFiles}
 
 module _ {Item : Type 0} (number_of : Item → ℕ) where
   -- a number below the first is found nowhere
@@ -51,6 +53,20 @@ module _ {Item : Type 0} (number_of : Item → ℕ) where
       by_test true false is past =
           let above = leb-true 1 number is in
           sym (find-at 1 items number (number - 1) numbered (omega (arith, above)) ∙ slice_get-beyond items (number - 1) (omega (arith, above, leb-false number (length items) past)))
+
+  -- a number that is found is one of those that the items have
+  pub within_found : (items : List Item) (number : ℕ) (found : Item) → AreNumberedFrom number_of 1 items → find (λ item. number_of item == number) items ≡ Some found → (1 ≤ number) × (number ≤ length items)
+  within_found items number found numbered is = by_test (nat_le 1 number) (nat_le number (length items)) refl refl
+    where
+      none : find (λ item. number_of item == number) items ≡ None → ⊥
+      none absent = cc
+
+      by_test : (low high : Bool) → nat_le 1 number ≡ low → nat_le number (length items) ≡ high → (1 ≤ number) × (number ≤ length items)
+      by_test false high low_is high_is = absurd (none (find-below 1 items number numbered (omega (arith, leb-false 1 number low_is))))
+      by_test true true low_is high_is = (leb-true 1 number low_is, leb-true number (length items) high_is)
+      by_test true false low_is high_is =
+          let above = leb-true 1 number low_is in
+          absurd (none (find-at 1 items number (number - 1) numbered (omega (arith, above)) ∙ slice_get-beyond items (number - 1) (omega (arith, above, leb-false number (length items) high_is))))
 
 -- the first items of equal lists are equal
 heads_alike : (one other : ℕ) (ones others : List ℕ) → ◌≡◌ {A = List ℕ} (one ∷ ones) (other ∷ others) → one ≡ other
@@ -101,7 +117,7 @@ none_owned start (job ∷ jobs) rows wanted numbered owned below =
     ∙ none_owned (suc start) jobs (drop job.count rows) wanted numbered.1 (front_is job.count job.number (owners jobs) rows owned).1 (omega arith)
 
 -- the job that is found by a number has it
-number_at : (jobs : List JobRow) (number : ℕ) (job : JobRow) → job_at jobs number ≡ Some job → job.number ≡ number
+pub number_at : (jobs : List JobRow) (number : ℕ) (job : JobRow) → job_at jobs number ≡ Some job → job.number ≡ number
 number_at [] number job is = cc
 number_at (head ∷ jobs) number job is = by_head (number_at jobs number job) (head.number == number) refl is
   where
@@ -168,3 +184,30 @@ pub stand_together : (tables : Tables) (number : ℕ) (job : JobRow) → AreWell
 stand_together tables number job formed is =
     let stand = stand_from 1 1 tables.jobs tables.rows number job formed.jobs formed.follow.firsts formed.follow.owners is in
     record { first = stand.first; inside = stand.inside; taken = stand.taken }
+
+-- where no job has a number, no row is of it
+none_from : (start next : ℕ) (jobs : List JobRow) (rows : List FileRow) (number : ℕ) → AreNumberedFrom (λ job. job.number) start jobs → map (λ row. row.job) rows ≡ owners jobs → job_at jobs number ≡ None
+    → rows_of_job rows number ≡ []
+none_from start next [] [] number numbered owned is = refl
+none_from start next [] (row ∷ rows) number numbered owned is = cc
+none_from start next (head ∷ jobs) rows number numbered owned is = by_head (none_from (suc start) (next + head.count) jobs (drop head.count rows) number numbered.1 (front_is head.count head.number (owners jobs) rows owned).1) (head.number == number) refl is
+  where
+    by_head : (job_at jobs number ≡ None → rows_of_job (drop head.count rows) number ≡ []) → (answer : Bool) → (head.number == number) ≡ answer → cond answer (Some head) (job_at jobs number) ≡ None → rows_of_job rows number ≡ []
+    by_head behind true same at = cc
+    by_head behind false other at = front_passed head.count head.number number (owners jobs) rows owned (eqb-false head.number number other) ∙ behind at
+
+-- in well-formed tables no row is of a job that isn't there
+pub none_of_job : (tables : Tables) (number : ℕ) → AreWellFormed tables → job_at tables.jobs number ≡ None → rows_of_job tables.rows number ≡ []
+none_of_job tables number formed is = none_from 1 1 tables.jobs tables.rows number formed.jobs formed.follow.owners is
+
+-- a job that is found has files
+pub files_at : (jobs : List JobRow) (number : ℕ) (job : JobRow) → HaveFiles jobs → job_at jobs number ≡ Some job → 1 ≤ job.count
+files_at [] number job files is = cc
+files_at (head ∷ jobs) number job files is = by_head (files_at jobs number job files.1) (head.number == number) is
+  where
+    first : 1 ≤ head.count
+    first = leb-true 1 head.count (and_parts (nat_le 1 head.count) (nat_le head.count MAX_FILES) files.0).0
+
+    by_head : (job_at jobs number ≡ Some job → 1 ≤ job.count) → (answer : Bool) → cond answer (Some head) (job_at jobs number) ≡ Some job → 1 ≤ job.count
+    by_head behind true at = subst (λ (found : JobRow). 1 ≤ found.count) (same_Some head job at) first
+    by_head behind false at = behind at

@@ -1,7 +1,10 @@
+pub mod Bounds
+pub mod Cancels
+pub mod Claims
+pub mod Desk
 pub mod DeskData
 pub mod Kept
-pub mod Standing
-pub mod Desk
-pub mod Prepared
 pub mod Places
+pub mod Prepared
 pub mod Reports
+pub mod Standing

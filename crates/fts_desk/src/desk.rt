@@ -1,18 +1,23 @@
 //! The desk: the machine's tables, the number of commands accepted so far, and the command that it has room for, or none.
-//! Keeps: lists within the limits, and for the command that was prepared all that committing it needs (`IsDesk`).
+//! Keeps: tables of the machine's form, with no limit passed and each list within its bounds, and for the command that was prepared
+//! all that committing it needs (`IsDesk`).
 //! Order: `prepare` refuses a command or makes room for it and keeps a copy; `commit` takes the copy and makes the machine's step.
 //! Called by the layer that keeps the journal, which writes the command between the two.
-ghost use Rattle.std.specs.Prelude.{◌≡◌, ◌+◌, ◌<◌, ◌≤◌, length, None, Some, IsSome, IfSome, OnOk, OnErr, Ok, option_map};
-ghost use Rattle.fts_tables.specs.Tables.{empty_tables};
+ghost use Rattle.std.specs.Prelude.{◌≡◌, ◌↔◌, ◌+◌, ◌<◌, ◌≤◌, [], length, None, Some, IsSome, IfSome, OnOk, OnErr, Ok, option_map};
+ghost use Rattle.fts_tables.specs.Tables.{empty_tables, number_of_id, rows_of_job as rows_of_number, job_at};
+ghost use Rattle.fts_tables.specs.Laws.{IsStanding};
 ghost use Rattle.fts_tables.specs.Step.{step};
 ghost use Rattle.fts_tables.specs.declared.limits.TheConstants.{MAX_JOBS, MAX_ROWS};
-ghost use Rattle.fts_desk.specs.DeskData.{IsBuilt};
-ghost use Rattle.fts_desk.specs.Kept.{tables_kept, IsWithinLimits, HasRoom};
+ghost use Rattle.fts_desk.specs.DeskData.{state_at, held_at};
 ghost use Rattle.fts_desk.specs.Prepared.{IsPrepared};
 
+use crate::answers::{held_on_link, rows_of_number, state_of};
+use crate::bounds::steps_keep_bounds;
+use crate::commands::{decide, make_step};
+use crate::find::number_of_id as find_number;
 use crate::kept::Kept;
-use crate::{restart, submit};
-use fts_tables::{Answer, Command, FileRow, JobRow, Memory, Refusal, Settings};
+use fts_tables::laws::steps_keep_standing;
+use fts_tables::{Answer, Command, FileRow, JobRow, JobState, LinkAt, Memory, Refusal, Settings};
 use std::alloc::Global;
 use std::marker::Model;
 
@@ -38,6 +43,7 @@ pub struct Desk {
     kept: Kept,
     commands: u32,
     planned: Option<Command>,
+    place: usize,
 }
 
 impl Model for Desk {
@@ -69,6 +75,7 @@ impl Desk {
             },
             commands: 0,
             planned: None,
+            place: 0,
         }
     }
 
@@ -76,7 +83,6 @@ impl Desk {
     /// The tables stay as they are, and after any `Err` there is room for no command. `commands` has to be below the greatest `u32`.
     pub fn prepare(&mut self, command: &Command) -> Result<Plan, DeskFault>
         requires few { self.old.commands < 4294967295 }
-        requires built { IsBuilt command.now }
         ensures answer { IsPrepared (step self.old.tables command.now) result }
         ensures tables { self.new.tables ≡ self.old.tables }
         ensures commands { self.new.commands ≡ self.old.commands }
@@ -84,12 +90,13 @@ impl Desk {
         ensures none { OnErr result (self.new.planned ≡ None) }
     {
         self.planned = None;
-        match make_room(&mut self.kept, command) {
-            Ok(()) => {}
+        let place = match decide(self.alloc, &mut self.kept, command) {
+            Ok(place) => place,
             Err(fault) => return Err(fault),
-        }
+        };
         match command.copy(self.alloc) {
             Ok(copy) => {
+                self.place = place;
                 self.planned = Some(copy);
                 Ok(Plan { mark: () })
             }
@@ -104,11 +111,13 @@ impl Desk {
         ensures commands { self.new.commands ≡ self.old.commands + 1 }
         ensures none { self.new.planned ≡ None }
     {
+        steps_keep_standing();
+        steps_keep_bounds();
         let Plan { mark: () } = plan;
         self.commands += 1;
         match self.planned.take() {
             None => unreachable!(),
-            Some(command) => make_step(&mut self.kept, command),
+            Some(command) => make_step(&mut self.kept, self.place, command),
         }
     }
 
@@ -135,48 +144,40 @@ impl Desk {
         self.kept.settings.as_ref()
     }
 
-    /// How many commands were accepted.
+    /// The least number of a job with this id. None exactly where no job has it.
+    pub fn find(&self, id: u128) -> Option<u32>
+        ensures { result ≡ number_of_id self.now.tables.jobs id }
+    {
+        find_number(&self.kept.jobs, id)
+    }
+
+    /// The rows of the job of a number, in order of id. There is none exactly where there is no such job.
+    pub fn job_rows(&self, job: u32) -> &[FileRow]
+        ensures rows { result.now ≡ rows_of_number self.now.tables.rows job }
+        ensures none { (result.now ≡ []) ↔ (job_at self.now.tables.jobs job ≡ None) }
+    {
+        rows_of_number(&self.kept, job)
+    }
+
+    /// The state of the job of a number, by its rows. None exactly where there is no such job.
+    pub fn state(&self, job: u32) -> Option<JobState>
+        ensures { result ≡ state_at self.now.tables job }
+    {
+        state_of(&self.kept, job)
+    }
+
+    /// How many ACTIVE files a link has, by the places of its ends in the settings, from 0. Where there are no such places it has none.
+    pub fn held(&self, link: LinkAt) -> u32
+        ensures { result ≡ held_at self.now.tables link }
+    {
+        held_on_link(&self.kept, link)
+    }
+
+    /// How many commands were accepted. The tables' form and limits hold whatever they were (`IsStanding`).
     pub fn commands(&self) -> u32
-        ensures { result ≡ self.now.commands }
+        ensures commands { result ≡ self.now.commands }
+        ensures standing { IsStanding self.now.tables }
     {
         self.commands
-    }
-}
-
-/// Makes room for a command, or says why the machine refuses it.
-fn make_room(kept: &mut Kept, command: &Command) -> Result<(), DeskFault>
-    requires limits { IsWithinLimits kept.old }
-    requires built { IsBuilt command.now }
-    ensures tables { tables_kept kept.new ≡ tables_kept kept.old }
-    ensures room { OnOk result (HasRoom kept.new command.now) }
-    ensures answer { IsPrepared (step (tables_kept kept.old) command.now) result }
-{
-    match command {
-        Command::Restart { .. } => Ok(()),
-        Command::Submit { job, .. } => submit::make_room(kept, job),
-        Command::CancelJob { .. }
-        | Command::CancelFile { .. }
-        | Command::SetPriority { .. }
-        | Command::Claim { .. }
-        | Command::Report { .. } => unreachable!(),
-    }
-}
-
-/// Makes the machine's step for a command that there is room for.
-fn make_step(kept: &mut Kept, command: Command) -> Answer
-    requires limits { IsWithinLimits kept.old }
-    requires built { IsBuilt command }
-    requires room { HasRoom kept.old command }
-    ensures step { step (tables_kept kept.old) command ≡ Ok (tables_kept kept.new, result) }
-    ensures limits { IsWithinLimits kept.new }
-{
-    match command {
-        Command::Restart { now, settings } => restart::restart(kept, now, settings),
-        Command::Submit { now, job } => submit::submit(kept, now, job),
-        Command::CancelJob { .. }
-        | Command::CancelFile { .. }
-        | Command::SetPriority { .. }
-        | Command::Claim { .. }
-        | Command::Report { .. } => unreachable!(),
     }
 }

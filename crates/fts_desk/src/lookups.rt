@@ -1,7 +1,7 @@
 //! Jobs and rows by their numbers, and the rows of a job. A number is a place plus 1, so a look-up is one index and no search.
 //! That each answer is the machine's own (`job_at`, `row_at`, `rows_of_job`) rests on the form of the tables (`AreWellFormed`).
 //! Called by the module of each command that names a job or a file.
-ghost use Rattle.std.specs.Prelude.{◌≡◌, ◌<◌, ◌+◌, ℕ, length, slice_get, Some, IfSome, option_and_then};
+ghost use Rattle.std.specs.Prelude.{◌≡◌, ◌<◌, ◌+◌, ℕ, length, slice_get, Some, IfSome, option_map, option_and_then};
 ghost use Rattle.fts_tables.specs.Tables.{Tables, AreNumberedFrom, AreWellFormed, job_at, row_at, rows_of_job as rows_of_number};
 ghost use Rattle.fts_tables.specs.declared.rows.JobRow.{JobRow as Job};
 ghost use Rattle.fts_desk.specs.Standing.{place_in, StandTogether};
@@ -36,6 +36,22 @@ pub fn row_place(rows: &[FileRow], id: u32) -> Option<usize>
     ensures inside { IfSome result (λ place. (place < length rows.now) × (place + 1 ≡ id)) }
 {
     place_of(id, rows.len())
+}
+
+/// The job of a number, where there is one.
+pub fn find_job(jobs: &[JobRow], number: u32) -> Option<&JobRow>
+    requires numbered { AreNumberedFrom (λ job. job.number) 1 jobs.now }
+    ensures job { option_map (λ job. job.now) result ≡ job_at jobs.now number }
+{
+    jobs.get(job_place(jobs, number)?)
+}
+
+/// The row of an id, where there is one.
+pub fn find_row(rows: &[FileRow], id: u32) -> Option<&FileRow>
+    requires numbered { AreNumberedFrom (λ row. row.id) 1 rows.now }
+    ensures row { option_map (λ row. row.now) result ≡ row_at rows.now id }
+{
+    rows.get(row_place(rows, id)?)
 }
 
 /// The rows of a job, in order of id.

@@ -4,7 +4,7 @@ use Rattle.fts_tables.specs.Step.{step}
 use Rattle.fts_tables.specs.declared.commands.Command.{Command}
 use Rattle.fts_desk.specs.Kept.{tables_kept}
 use Rattle.fts_desk.specs.Prepared.{IsPrepared}
-use Rattle.fts_desk.proofs.desk.make_room.Goals as goal
+use Rattle.fts_desk.proofs.commands.decide.Goals as goal
 
 pub returns-in-Submit-clause-answer : goal.returns-in-Submit-clause-answer
 returns-in-Submit-clause-answer c =

@@ -1,0 +1,101 @@
+-- What a claim makes of the row at a place that was picked is the machine's step; and without settings no row is picked.
+use Rattle.std.proofs.Common.{◌≡◌, ℕ, zero, suc, ◌+◌, ◌<◌, Bool, true, false, cond, List, [], ◌∷◌, length, get_or, set, Option, Some, None, Ok, Err, refl, ap, sym, ◌∙◌, arith, subst}
+use Rattle.std.specs.Prelude.{◌==◌, ◌&&◌, not, nat_le, slice_get, filter, option_and_then}
+use Rattle.std.proofs.lemmas.Bool.{ne_eqb, eq-eqb}
+use Rattle.std.proofs.lemmas.Option.{slice_get-get_or}
+use Rattle.fts_tables.specs.SettingsData.{SettingsData}
+use Rattle.fts_tables.specs.Tables.{Tables, AreNumberedFrom, is_submitted, is_same_link}
+use Rattle.fts_tables.specs.Limits.{has_slots, has_known_ends, is_dest_busy, is_eligible}
+use Rattle.fts_tables.specs.Choice.{least, is_link_before, pick_of_link, weights_of, pick}
+use Rattle.fts_tables.specs.Moves.{change_row, claimed}
+use Rattle.fts_tables.specs.Step.{claim, with_rows}
+use Rattle.fts_tables.specs.declared.rows.FileRow.{FileRow}
+use Rattle.fts_tables.specs.declared.rows.JobRow.{JobRow}
+use Rattle.fts_tables.specs.declared.commands.Answer.TheVariants.{Claimed}
+use Rattle.fts_tables.specs.declared.commands.Refusal.TheVariants.{Idle}
+use Rattle.fts_desk.specs.Claims.{tables_of_lists}
+use Rattle.fts_desk.specs.Prepared.{IsPrepared}
+use Rattle.fts_desk.specs.declared.desk.DeskFault.TheVariants.{Rule}
+
+-- the row at a place has the id behind it
+id_at : (first : ℕ) (rows : List FileRow) (place : ℕ) (other : FileRow) → AreNumberedFrom (λ row. row.id) first rows → place < length rows → (get_or rows place other).id ≡ first + place
+id_at first [] place other numbered inside = absurd (omega arith)
+id_at first (row ∷ rows) zero other numbered inside = numbered.0 ∙ omega arith
+id_at first (row ∷ rows) (suc place) other numbered inside = id_at (suc first) rows place other numbered.1 (omega arith) ∙ omega arith
+
+-- a row whose id is not there is not changed
+change_none : (first : ℕ) (rows : List FileRow) (id : ℕ) (change : FileRow → FileRow) → AreNumberedFrom (λ row. row.id) first rows → id < first → change_row id change rows ≡ rows
+change_none first [] id change numbered less = refl
+change_none first (row ∷ rows) id change numbered less =
+    let differs : (row.id == id) ≡ false = ne_eqb row.id id (λ same. omega (arith, numbered.0)) in
+    let below : id < suc first = omega arith in
+    ap (λ answer. cond answer (change row) row ∷ change_row id change rows) differs ∙ ap (λ others. row ∷ others) (change_none (suc first) rows id change numbered.1 below)
+
+-- changing the row of an id is changing the row at its place
+change_at : (first : ℕ) (rows : List FileRow) (place id : ℕ) (change : FileRow → FileRow) (other : FileRow) → AreNumberedFrom (λ row. row.id) first rows → place < length rows → id ≡ first + place
+    → change_row id change rows ≡ set rows place (change (get_or rows place other))
+change_at first [] place id change other numbered inside is = absurd (omega arith)
+change_at first (row ∷ rows) zero id change other numbered inside is =
+    let same : (row.id == id) ≡ true = eq-eqb row.id id (omega (arith, numbered.0)) in
+    ap (λ answer. cond answer (change row) row ∷ change_row id change rows) same ∙ ap (λ others. change row ∷ others) (change_none (suc first) rows id change numbered.1 (omega arith))
+change_at first (row ∷ rows) (suc place) id change other numbered inside is =
+    let differs : (row.id == id) ≡ false = ne_eqb row.id id (λ same. omega (arith, numbered.0)) in
+    let within : place < length rows = omega arith in
+    let next : id ≡ suc first + place = omega arith in
+    ap (λ answer. cond answer (change row) row ∷ change_row id change rows) differs ∙ ap (λ others. row ∷ others) (change_at (suc first) rows place id change other numbered.1 within next)
+
+-- the machine's claim of the row at a place that was picked
+pub claim_at : (tables : Tables) (now word place : ℕ) (row after other : FileRow) → AreNumberedFrom (λ row. row.id) 1 tables.rows → place < length tables.rows
+    → pick tables now word ≡ slice_get tables.rows place → row ≡ get_or tables.rows place other → after ≡ claimed row
+    → claim tables now (pick tables now word) ≡ Ok (with_rows tables now (set tables.rows place after), Claimed row.id (row.attempt + 1))
+claim_at tables now word place row after other numbered inside picked is done =
+    let there : slice_get tables.rows place ≡ Some row = slice_get-get_or tables.rows place other inside ∙ ap (λ found. Some found) (sym is) in
+    let id : row.id ≡ 1 + place = ap (λ (found : FileRow). found.id) is ∙ id_at 1 tables.rows place other numbered inside in
+    let left : change_row row.id claimed tables.rows ≡ set tables.rows place after =
+    change_at 1 tables.rows place row.id claimed other numbered inside id ∙ ap (set tables.rows place) (ap claimed (sym is) ∙ sym done) in
+    ap (claim tables now) (picked ∙ there) ∙ ap (λ (rows : List FileRow). Ok (with_rows tables now rows, Claimed row.id (row.attempt + 1))) left
+
+-- a test that no item passes keeps none
+filter_nothing : {Item : Type 0} (test : Item → Bool) → ((item : Item) → test item ≡ false) → (items : List Item) → filter test items ≡ []
+filter_nothing test none [] = refl
+filter_nothing test none (item ∷ items) = ap (λ answer. cond answer (item ∷ filter test items) (filter test items)) (none item) ∙ filter_nothing test none items
+
+-- a conjunction with a false part
+off : (before after : Bool) → (before && false && after) ≡ false
+off true after = refl
+off false after = refl
+
+-- without settings no row may be claimed
+never_eligible : (tables : Tables) (now : ℕ) → tables.settings ≡ None → (row : FileRow) → is_eligible tables now row ≡ false
+never_eligible tables now none row =
+    let before = is_submitted row.state && nat_le row.not_before now && has_slots tables row in
+    let after = not (is_dest_busy tables.rows row) in
+    ap (λ settings. before && has_known_ends settings row && after) none ∙ off before after
+
+-- so none is picked
+pub no_pick : (tables : Tables) (now word : ℕ) → tables.settings ≡ None → pick tables now word ≡ None
+no_pick tables now word none =
+    ap (λ rows. option_and_then (λ first. pick_of_link tables.jobs (weights_of tables.settings) (filter (is_same_link first) rows) word) (least (is_link_before tables.rows) rows))
+    (filter_nothing (is_eligible tables now) (never_eligible tables now none) tables.rows)
+
+-- where none is picked, the machine is idle
+pub idle_after : (tables : Tables) (now : ℕ) (picked : Option FileRow) → picked ≡ None → IsPrepared {T = ℕ} (claim tables now picked) (Err (Rule Idle))
+idle_after tables now picked none = subst (λ found. IsPrepared {T = ℕ} (claim tables now found) (Err (Rule Idle))) (sym none) refl
+
+-- what is picked depends on jobs, rows and settings alone
+pick_lists : (tables : Tables) (settings : SettingsData) (now word : ℕ) → tables.settings ≡ Some settings → pick tables now word ≡ pick (tables_of_lists tables.jobs tables.rows settings) now word
+pick_lists tables settings now word is = ap (λ settings. pick (record tables { settings = settings }) now word) is
+
+-- what was picked of lists that are the tables' is the machine's pick
+pub picked_of_lists : (tables : Tables) (jobs : List JobRow) (rows : List FileRow) (settings : SettingsData) (now moment word : ℕ) (found : Option FileRow)
+    → jobs ≡ tables.jobs → rows ≡ tables.rows → tables.settings ≡ Some settings → moment ≡ now → found ≡ pick (tables_of_lists jobs rows settings) moment word → pick tables now word ≡ found
+picked_of_lists tables jobs rows settings now moment word found same_jobs same_rows is same_moment picked =
+    pick_lists tables settings now word is
+    ∙ sym (picked
+    ∙ (ap (λ moment. pick (tables_of_lists jobs rows settings) moment word) same_moment
+    ∙ (ap (λ rows. pick (tables_of_lists jobs rows settings) now word) same_rows
+    ∙ ap (λ jobs. pick (tables_of_lists jobs tables.rows settings) now word) same_jobs)))
+
+-- the machine accepts the claim of a row that is picked
+pub accepted : (tables : Tables) (now word place : ℕ) (row : FileRow) → pick tables now word ≡ Some row → IsPrepared {T = ℕ} (claim tables now (pick tables now word)) (Ok place)
+accepted tables now word place row picked = subst (λ found. IsPrepared {T = ℕ} (claim tables now found) (Ok place)) (sym picked) tt

@@ -1,0 +1,201 @@
+//! Cancellations: of a job, and of one of its files. A file of a replica or multihop job is cancelled with the whole job.
+//! A row that waits becomes CANCELED; an ACTIVE one keeps its state, and so its slot, until its report. What changes no row is refused.
+//! Each check answers as the machine's step does, and each step after an accepted check is the machine's.
+ghost use Rattle.std.specs.Prelude.{◌≡◌, ℕ, ◌==◌, map, option_map, Ok, Err, if◌then◌else◌};
+ghost use Rattle.std.specs.List.{list_any};
+ghost use Rattle.fts_tables.specs.Tables.{Tables, AreNumberedFrom, AreWellFormed, job_at, is_live};
+ghost use Rattle.fts_tables.specs.Moves.{cancelled, is_cancellable as may_be_cancelled, is_settled_job as has_settled, change_row};
+ghost use Rattle.fts_tables.specs.Step.{step, cancel_rows, cancel_row as cancel_one_row, cancel_one};
+ghost use Rattle.fts_desk.specs.Cancels.{cancelled_of, after_file, IsInside};
+ghost use Rattle.fts_tables.specs.History.{IsAccepted};
+ghost use Rattle.fts_tables.specs.declared.commands.Command.TheVariants.{CancelJob, CancelFile};
+ghost use Rattle.fts_desk.specs.Kept.{tables_kept};
+ghost use Rattle.fts_desk.specs.Standing.{StandTogether};
+ghost use Rattle.fts_desk.specs.Prepared.{IsChecked};
+
+use crate::kept::Kept;
+use crate::lookups::{find_job, find_row, row_place, rows_of_job, rows_stand_together};
+use fts_states::{CancelStep, after_cancel};
+use fts_tables::laws::found_rows_stand;
+use fts_tables::{Answer, FileRow, FileState, JobKind, JobRow, Reason, Refusal};
+
+/// Whether a cancellation of a job is accepted, or why it is refused.
+pub fn check_job(kept: &Kept, job: u32) -> Result<(), Refusal>
+    requires formed { AreWellFormed (tables_kept kept.now) }
+    ensures answer { (now : ℕ) → IsChecked (step (tables_kept kept.now) (CancelJob now job)) result }
+{
+    rows_stand_together();
+    match find_job(&kept.jobs, job) {
+        None => Err(Refusal::NoJob),
+        Some(job) => check_rows(&kept.rows, job),
+    }
+}
+
+/// Whether a cancellation of a file of a job is accepted, or why it is refused.
+pub fn check_file(kept: &Kept, job: u32, file: u32) -> Result<(), Refusal>
+    requires formed { AreWellFormed (tables_kept kept.now) }
+    ensures answer { (now : ℕ) → IsChecked (step (tables_kept kept.now) (CancelFile now job file)) result }
+{
+    rows_stand_together();
+    match find_job(&kept.jobs, job) {
+        None => Err(Refusal::NoJob),
+        Some(job) => match find_row(&kept.rows, file) {
+            None => Err(Refusal::NoFile),
+            Some(row) => check_found(&kept.rows, job, row),
+        },
+    }
+}
+
+/// Whether a row that was named together with a job may be cancelled.
+fn check_found(rows: &[FileRow], job: &JobRow, row: &FileRow) -> Result<(), Refusal>
+    requires together { StandTogether rows.now job.now }
+    ensures answer { (tables : Tables) (now : ℕ) → tables.rows ≡ rows.now → IsChecked (if row.now.job == job.now.number then cancel_one tables now job.now row.now job.now.kind else Err Refusal.NoFile) result }
+{
+    if row.job != job.number {
+        return Err(Refusal::NoFile);
+    }
+    match job.kind {
+        JobKind::Plain => check_row(job, row),
+        JobKind::Replica | JobKind::Multihop => check_rows(rows, job),
+    }
+}
+
+/// Whether a row of a plain job may be cancelled.
+fn check_row(job: &JobRow, row: &FileRow) -> Result<(), Refusal>
+    ensures answer { (tables : Tables) (now : ℕ) → IsChecked (cancel_one_row tables now job.now row.now) result }
+{
+    if is_cancellable(row) {
+        Ok(())
+    } else {
+        Err(Refusal::Unchanged { job: job.number })
+    }
+}
+
+/// Whether the rows of a job may be cancelled.
+fn check_rows(rows: &[FileRow], job: &JobRow) -> Result<(), Refusal>
+    requires together { StandTogether rows.now job.now }
+    ensures answer { (tables : Tables) (now : ℕ) → tables.rows ≡ rows.now → IsChecked (cancel_rows tables now job.now) result }
+{
+    let of_job = rows_of_job(rows, job);
+    if !is_settled_job(of_job) && any_cancellable(of_job) {
+        Ok(())
+    } else {
+        Err(Refusal::Unchanged { job: job.number })
+    }
+}
+
+/// Whether a cancellation would change a row.
+fn is_cancellable(row: &FileRow) -> bool
+    ensures answer { result ≡ may_be_cancelled row.now }
+{
+    match after_cancel(row) {
+        CancelStep::Stays => false,
+        CancelStep::Canceled | CancelStep::Asked => true,
+    }
+}
+
+/// Whether a cancellation would change one of these rows.
+fn any_cancellable(rows: &[FileRow]) -> bool
+    ensures answer { result ≡ list_any may_be_cancelled rows.now }
+{
+    rows.iter().any(|row| is_cancellable(row))
+}
+
+/// Whether none of a job's rows waits or runs.
+pub fn is_settled_job(rows: &[FileRow]) -> bool
+    ensures answer { result ≡ has_settled rows.now }
+{
+    !any_live(rows)
+}
+
+/// Whether a row waits or runs.
+fn any_live(rows: &[FileRow]) -> bool
+    ensures answer { result ≡ list_any (λ row. is_live row.state) rows.now }
+{
+    rows.iter().any(|row| matches!(row.state, FileState::Submitted | FileState::Active))
+}
+
+/// Cancels a job.
+pub fn cancel_job(kept: &mut Kept, now: u64, job: u32) -> Answer
+    requires accepted { IsAccepted (step (tables_kept kept.old) (CancelJob now job)) }
+    ensures step { step (tables_kept kept.old) (CancelJob now job) ≡ Ok (tables_kept kept.new, result) }
+{
+    kept.moment = now.max(kept.moment);
+    cancel_all_of(&mut kept.rows, job);
+    Answer::Cancelled { job }
+}
+
+/// Cancels a file of a job, or the whole job by its kind.
+pub fn cancel_file(kept: &mut Kept, now: u64, job: u32, file: u32) -> Answer
+    requires formed { AreWellFormed (tables_kept kept.old) }
+    requires accepted { IsAccepted (step (tables_kept kept.old) (CancelFile now job file)) }
+    ensures step { step (tables_kept kept.old) (CancelFile now job file) ≡ Ok (tables_kept kept.new, result) }
+{
+    found_rows_stand();
+    kept.moment = now.max(kept.moment);
+    let kind = kind_of(&kept.jobs, job);
+    cancel_by_kind(&mut kept.rows, kind, job, file);
+    Answer::Cancelled { job }
+}
+
+/// The kind of the job of a number, where there is one.
+fn kind_of(jobs: &[JobRow], number: u32) -> Option<JobKind>
+    requires numbered { AreNumberedFrom (λ job. job.number) 1 jobs.now }
+    ensures kind { result ≡ option_map (λ job. job.kind) (job_at jobs.now number) }
+{
+    match find_job(jobs, number) {
+        Some(job) => Some(job.kind),
+        None => None,
+    }
+}
+
+/// Cancels a file's row, or all rows of its job, by the job's kind.
+fn cancel_by_kind(rows: &mut [FileRow], kind: Option<JobKind>, job: u32, file: u32)
+    requires inside { IsInside rows.old file }
+    ensures rows { rows.new ≡ after_file kind job file rows.old }
+{
+    match kind {
+        Some(JobKind::Plain) => cancel_at(rows, file),
+        Some(JobKind::Replica) | Some(JobKind::Multihop) | None => cancel_all_of(rows, job),
+    }
+}
+
+/// Cancels the row of an id.
+fn cancel_at(rows: &mut [FileRow], file: u32)
+    requires inside { IsInside rows.old file }
+    ensures rows { rows.new ≡ change_row file cancelled rows.old }
+{
+    cancel(&mut rows[file as usize - 1]);
+}
+
+/// Cancels each row of a job.
+fn cancel_all_of(rows: &mut [FileRow], job: u32)
+    ensures rows { rows.new ≡ map (cancelled_of job) rows.old }
+{
+    for row in rows.iter_mut() {
+        cancel_if_of(row, job);
+    }
+}
+
+/// Cancels a row where it is of a job.
+fn cancel_if_of(row: &mut FileRow, job: u32)
+    ensures row { row.new ≡ cancelled_of job row.old }
+{
+    if row.job == job {
+        cancel(row);
+    }
+}
+
+/// Cancels a row.
+fn cancel(row: &mut FileRow)
+    ensures row { row.new ≡ cancelled row.old }
+{
+    match after_cancel(row) {
+        CancelStep::Stays => {}
+        CancelStep::Canceled => {
+            row.state = FileState::Canceled;
+            row.reason = Reason::Cancelled;
+        }
+        CancelStep::Asked => row.cancel_asked = true,
+    }
+}

@@ -1,0 +1,53 @@
+//! Another priority for a job that isn't settled.
+ghost use Rattle.std.specs.Prelude.{◌≡◌, ℕ, ◌≤◌, length, map, Ok};
+ghost use Rattle.fts_tables.specs.Tables.{AreNumberedFrom, AreWellFormed};
+ghost use Rattle.fts_tables.specs.Step.{step};
+ghost use Rattle.fts_tables.specs.History.{IsAccepted};
+ghost use Rattle.fts_tables.specs.declared.commands.Command.TheVariants.{SetPriority};
+ghost use Rattle.fts_desk.specs.Kept.{tables_kept};
+ghost use Rattle.fts_desk.specs.Standing.{prioritized};
+ghost use Rattle.fts_desk.specs.Prepared.{IsChecked};
+
+use crate::cancels::is_settled_job;
+use crate::kept::Kept;
+use crate::lookups::{find_job, rows_of_job, rows_stand_together};
+use fts_tables::{Answer, JobRow, Refusal};
+
+/// Whether another priority of a job is accepted, or why it is refused.
+pub fn check_priority(kept: &Kept, job: u32) -> Result<(), Refusal>
+    requires formed { AreWellFormed (tables_kept kept.now) }
+    ensures answer { (now priority : ℕ) → IsChecked (step (tables_kept kept.now) (SetPriority now job priority)) result }
+{
+    rows_stand_together();
+    match find_job(&kept.jobs, job) {
+        None => Err(Refusal::NoJob),
+        Some(job) => {
+            if is_settled_job(rows_of_job(&kept.rows, job)) {
+                Err(Refusal::Unchanged { job: job.number })
+            } else {
+                Ok(())
+            }
+        }
+    }
+}
+
+/// Sets the priority of a job.
+pub fn set_priority(kept: &mut Kept, now: u64, job: u32, priority: u32) -> Answer
+    requires formed { AreWellFormed (tables_kept kept.old) }
+    requires accepted { IsAccepted (step (tables_kept kept.old) (SetPriority now job priority)) }
+    ensures step { step (tables_kept kept.old) (SetPriority now job priority) ≡ Ok (tables_kept kept.new, result) }
+{
+    kept.moment = now.max(kept.moment);
+    prioritize(&mut kept.jobs, job, priority);
+    Answer::PrioritySet { job }
+}
+
+/// Gives the job of a number a priority.
+fn prioritize(jobs: &mut [JobRow], number: u32, priority: u32)
+    requires numbered { AreNumberedFrom (λ job. job.number) 1 jobs.old }
+    requires first { 1 ≤ number }
+    requires last { number ≤ length jobs.old }
+    ensures jobs { jobs.new ≡ map (prioritized number priority) jobs.old }
+{
+    jobs[number as usize - 1].priority = priority;
+}
