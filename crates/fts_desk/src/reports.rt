@@ -1,6 +1,6 @@
 //! Report: the row of a copy that ended, and the row of its job that begins to wait behind it.
 //! What becomes of the row, and which kind of row follows, `after_report` says; behind a finished hop comes the row after it,
-//! after a failed replica the alternative that is chosen by loads over all rows, the reported one among them.
+//! after a failed replica the next alternative, with loads over all rows as the report leaves them.
 //! Order: the row is written first, then the one that follows is woken.
 ghost use Rattle.std.specs.Prelude.{
   ◌≡◌,
@@ -104,7 +104,8 @@ fn is_active(row: &FileRow) -> bool
     }
 }
 
-/// Does an accepted report: the row, and what follows it.
+/// Does an accepted report, at a moment in whole seconds, or at the last one where that is later: the row, and what follows it.
+/// It takes no memory and can't fail, and answers the file's new state.
 pub fn report(kept: &mut Kept, now: u64, file: u32, attempt: u32, outcome: Outcome) -> Answer
     requires formed { AreWellFormed (tables_kept kept.old) }
     requires counts { HaveFewFiles kept.old.jobs.items }

@@ -1,6 +1,6 @@
 //! Which source of a replica job comes next.
 //! Its loads are counted over all rows, into an array on the stack: no job has more than `MAX_FILES` rows.
-ghost use Rattle.std.specs.Prelude.{◌≡◌, ◌≤◌, ◌<◌, ◌&&◌, length, map, take, slice_get, option_and_then, count_by, IfSome, ℕ, List};
+ghost use Rattle.std.specs.Prelude.{◌≡◌, ◌≤◌, ◌<◌, length, map, take, slice_get, option_and_then, IfSome, List};
 ghost use Rattle.fts_tables.specs.Tables.{is_live as is_live_state, is_same_link as has_same_link};
 ghost use Rattle.fts_tables.specs.Choice.{load as load_of, next_alternative as alternative_of};
 ghost use Rattle.fts_tables.specs.declared.rows.FileRow.{FileRow as Row};
