@@ -1,4 +1,6 @@
 pub mod Keys
 pub mod Faults
+pub mod Document
 pub mod Tables
 pub mod Types
+pub mod Reading

@@ -3,8 +3,10 @@
 //! The code reads the document once, and each check answers its rule's definition. Knows nothing of jobs or of the journal.
 #![tactic(auto)]
 
+mod document;
 mod fault;
 mod keys;
+mod reading;
 mod tables;
 mod types;
 
