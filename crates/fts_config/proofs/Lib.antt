@@ -1,3 +1,5 @@
 pub mod Listed
-pub mod BadUrls
 pub mod DocumentIs
+pub mod BadUrls
+pub mod Drafts
+pub mod KeptRules

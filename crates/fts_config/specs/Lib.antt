@@ -4,3 +4,5 @@ pub mod Document
 pub mod Tables
 pub mod Types
 pub mod Reading
+pub mod Rules
+pub mod Settings
