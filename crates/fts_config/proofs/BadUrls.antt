@@ -6,11 +6,10 @@ use Rattle.toml.specs.Data.{Data}
 use Rattle.toml.specs.View.{view}
 use Rattle.toml.specs.declared.value.Value.{Value}
 use Rattle.fts_config.specs.Faults.{unless, Gives}
-use Rattle.fts_joburl.specs.Urls.{endpoint_of}
-use Rattle.fts_joburl.specs.declared.urls.UrlFault.{UrlFault}
+use Rattle.fts_joburl.specs.declared.fault.UrlFault.{UrlFault}
 use Rattle.fts_config.specs.declared.fault.SettingsFault.{SettingsFault}
 use Rattle.fts_config.specs.declared.fault.SettingsFault.TheVariants.{BadUrl}
-use Rattle.fts_config.specs.Reading.{bad_or, first_bad}
+use Rattle.fts_config.specs.Reading.{endpoint_by, bad_or, first_bad}
 
 good_first : (r : Result (List ℕ) UrlFault) (here all rest : Option SettingsFault) → bad_or r here ≡ None → (here ≡ None → all ≡ rest) → bad_or r all ≡ rest
 good_first (Ok name) here all rest good further = further good
@@ -23,12 +22,12 @@ bad_first (Err refused) here all fault bad further = bad
 -- behind good URLs the others decide
 pub first_bad-append_good : (urls more : List (List ℕ)) → first_bad urls ≡ None → first_bad (urls ++ more) ≡ first_bad more
 first_bad-append_good [] more good = refl
-first_bad-append_good (url ∷ urls) more good = good_first (endpoint_of url) (first_bad urls) (first_bad (urls ++ more)) (first_bad more) good (first_bad-append_good urls more)
+first_bad-append_good (url ∷ urls) more good = good_first (endpoint_by url) (first_bad urls) (first_bad (urls ++ more)) (first_bad more) good (first_bad-append_good urls more)
 
 -- before others a bad URL stays the first
 pub first_bad-append_bad : (urls more : List (List ℕ)) (fault : SettingsFault) → first_bad urls ≡ Some fault → first_bad (urls ++ more) ≡ Some fault
 first_bad-append_bad [] more fault bad = cc
-first_bad-append_bad (url ∷ urls) more fault bad = bad_first (endpoint_of url) (first_bad urls) (first_bad (urls ++ more)) fault bad (first_bad-append_bad urls more fault)
+first_bad-append_bad (url ∷ urls) more fault bad = bad_first (endpoint_by url) (first_bad urls) (first_bad (urls ++ more)) fault bad (first_bad-append_bad urls more fault)
 
 -- the entries that are left begin with this one
 rest_is : (entries : List Value) (i : ℕ) (entry : Value) → i < length entries → entry ≡ get_or entries i entry → drop i entries ≡ entry ∷ drop (i + 1) entries

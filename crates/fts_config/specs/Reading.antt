@@ -9,7 +9,7 @@ use Rattle.fts_tables.specs.declared.settings.Endpoint.{Endpoint}
 use Rattle.fts_tables.specs.declared.settings.LinkRule.{LinkRule}
 use Rattle.fts_tables.specs.declared.settings.Weight.{Weight}
 use Rattle.fts_joburl.specs.Urls.{endpoint_of}
-use Rattle.fts_joburl.specs.declared.urls.UrlFault.{UrlFault}
+use Rattle.fts_joburl.specs.declared.fault.UrlFault.{UrlFault}
 use Rattle.fts_config.specs.declared.keys.SettingKey.{SettingKey}
 use Rattle.fts_config.specs.declared.keys.SettingKey.TheVariants.{Vo, Workers, DefaultMaxActive, Storage, Url, Inbound, Outbound, Link, SymbolicName, LinkSource, LinkDestination, MaxActive, Activity, Name, Weight as WeightKey}
 use Rattle.fts_config.specs.declared.reading.TheConstants.{DEFAULT_WORKERS, DEFAULT_LINK_LIMIT, DEFAULT_ENDPOINT_LIMIT, DEFAULT_WEIGHT}
@@ -31,9 +31,13 @@ nearest (negsuc number) = 0
 abbrev pub number_or : ℕ → SettingKey → Data → ℕ
 number_or other key entry = option_map_or nearest (option_and_then as_integer (get (name_of key) entry)) other
 
--- the endpoint that a URL names, and no text where it names none
+-- the name of the endpoint that a URL's text names, or its fault
+unfoldable pub endpoint_by : List ℕ → Result (List ℕ) UrlFault
+endpoint_by url = endpoint_of url
+
+-- the name of the endpoint that a URL's text names, and no text where it names none
 abbrev pub named_by : List ℕ → List ℕ
-named_by url = result_unwrap_or (endpoint_of url) []
+named_by url = result_unwrap_or (endpoint_by url) []
 
 -- a storage
 abbrev pub endpoint_in : Data → Endpoint
@@ -95,7 +99,7 @@ bad_or (Err fault) rest = Some (BadUrl fault)
 -- the fault of the first of some URLs' texts that names no endpoint
 abbrev pub first_bad : List (List ℕ) → Option SettingsFault
 first_bad [] = None
-first_bad (url ∷ urls) = bad_or (endpoint_of url) (first_bad urls)
+first_bad (url ∷ urls) = bad_or (endpoint_by url) (first_bad urls)
 
 -- rule 4: the first URL that names no endpoint
 unfoldable pub bad_url : Data → Option SettingsFault

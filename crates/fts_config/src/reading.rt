@@ -74,6 +74,7 @@ pub fn read_label(alloc: Global, text: &str) -> Result<Label, SettingsFault>
     }
 }
 
+#[tactic(auto, unfolding(crate::specs::Reading::endpoint_by))]
 fn read_name(alloc: Global, url: &str) -> Result<EndpointName, SettingsFault>
     ensures { Gives result (unless (first_bad (url.now ∷ [])) (named_by url.now)) }
 {
