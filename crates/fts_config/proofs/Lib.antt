@@ -3,3 +3,5 @@ pub mod DocumentIs
 pub mod BadUrls
 pub mod Drafts
 pub mod KeptRules
+pub mod PairKeys
+pub mod KeyLoops

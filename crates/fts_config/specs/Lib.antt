@@ -4,5 +4,6 @@ pub mod Document
 pub mod Tables
 pub mod Types
 pub mod Reading
+pub mod Distinct
 pub mod Rules
 pub mod Settings

@@ -3,6 +3,7 @@
 //! The code reads the document once, and each check answers its rule's definition. Nothing here knows of jobs or of the journal.
 #![tactic(auto)]
 
+mod distinct;
 mod document;
 mod draft;
 mod fault;
