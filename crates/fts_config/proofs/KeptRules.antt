@@ -1,10 +1,10 @@
 -- Settings that break no rule of the text keep every rule of the type.
-use Rattle.std.proofs.Common.{◌≡◌, Bool, true, false, ◌&&◌, List, ◌∷◌, Option, Some, None, Result, Ok, refl}
+use Rattle.std.proofs.Common.{◌≡◌, Bool, true, false, ◌&&◌, List, ◌∷◌, Option, Some, None, Ok, refl, inl, inr}
 use Rattle.std.proofs.lemmas.Bool.{and_parts}
 use Rattle.fts_tables.specs.SettingsData.{SettingsData, IsSettings, has_vo_label, has_worker_range, has_default_limit, has_endpoint_range, has_link_range, has_weight_range, has_distinct_endpoints, has_endpoint_limits, has_distinct_links, has_known_links, has_link_limits, has_link_labels, has_distinct_activities, has_activity_labels, has_activity_weights, has_default_activity}
 use Rattle.fts_config.specs.declared.fault.SettingsFault.{SettingsFault}
 use Rattle.fts_config.specs.declared.fault.SettingsFault.TheVariants.{TwiceEndpoint, TwiceLink, UnknownEndpoint, LimitRange, WeightRange, NoDefaultWeight, WorkerRange, TooMany, BadLabel, TwiceWeight}
-use Rattle.fts_config.specs.Faults.{fault_unless, first_of, unless}
+use Rattle.fts_config.specs.Faults.{fault_unless, first_of, unless, Gives}
 use Rattle.fts_config.specs.Rules.{twice_endpoint, twice_link, unknown_endpoint, limit_range, weight_range, no_default_weight, worker_range, too_many, bad_label, twice_weight, faults_of}
 
 -- a list of rules of which none is broken
@@ -57,6 +57,7 @@ settings_kept s none =
     }
 
 -- a check that passes has found no fault
-pub none_broken : (rules : Option SettingsFault) → ◌≡◌ {A = Result (Unit {0}) SettingsFault} (Ok tt) (unless rules tt) → rules ≡ None
+pub none_broken : (found : Option SettingsFault) → Gives {A = Unit {0}} (Ok tt) (unless found tt) → found ≡ None
 none_broken None passed = refl
-none_broken (Some fault) passed = cc
+none_broken (Some fault) (inl passed) = cc
+none_broken (Some fault) (inr passed) = cc

@@ -5,3 +5,4 @@ pub mod Drafts
 pub mod KeptRules
 pub mod PairKeys
 pub mod KeyLoops
+pub mod Apart

@@ -4,7 +4,12 @@ use Rattle.std.specs.List.{list_all, list_any}
 use Rattle.std.specs.BTreeSet.{BTreeSet, contains_text}
 use Rattle.std.specs.declared.alloc.Global.{Global}
 use Rattle.fts_tables.specs.SettingsData.{are_apart}
+use Rattle.fts_tables.specs.declared.settings.Endpoint.{Endpoint}
 use Rattle.fts_tables.specs.declared.settings.LinkRule.{LinkRule}
+
+-- the name of a storage
+abbrev pub endpoint_key : Endpoint → List ℕ
+endpoint_key endpoint = endpoint.name
 
 -- the names of a link's ends, with a blank between them
 abbrev pub pair_key : LinkRule → List ℕ

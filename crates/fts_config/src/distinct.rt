@@ -3,7 +3,7 @@
 //! The set, where it is made, then says which names are listed (`HoldsKeys`). Called by `rules` for storages and links; of activities there are few.
 ghost use Rattle.std.specs.Prelude.{◌≡◌, ℕ, List, Bool, true, string_bytes, MatchResult};
 ghost use Rattle.fts_tables.specs.Names.{is_endpoint_name};
-ghost use Rattle.fts_config.specs.Distinct.{pair_key, HoldsKeys};
+ghost use Rattle.fts_config.specs.Distinct.{endpoint_key, pair_key, HoldsKeys};
 
 use crate::SettingsFault;
 use fts_tables::{Endpoint, LinkRule};
@@ -22,7 +22,7 @@ pub trait Keyed: Sized {
 }
 
 impl Keyed for Endpoint {
-    ghost key = { λ endpoint. endpoint.name };
+    ghost key = { endpoint_key };
 
     ghost proper = { λ _. true };
 

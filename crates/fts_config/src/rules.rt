@@ -1,83 +1,50 @@
 //! The rules of the values of a draft, each by one function, whose result is the rule's definition in `specs/Rules.antt`.
 //! `check_values` has them in the order in which they are answered; a draft that passes keeps the rules of `Settings`.
-ghost use Rattle.std.specs.Prelude.{◌≡◌, ◌&&◌, Bool, bytes_eq, None};
+ghost use Rattle.std.specs.Prelude.{◌≡◌, ◌⊎◌, ◌&&◌, None, Some, MatchResult, bytes_eq};
 ghost use Rattle.std.specs.List.{list_all, list_any};
-ghost use Rattle.fts_tables.specs.SettingsData.{is_active_limit as is_limit_of_links, is_label as is_label_text, is_within as within, are_apart as apart, is_same_endpoint, is_same_pair, is_same_activity, is_listed as listed, default_activity, has_known_links, has_default_activity, has_endpoint_limits, has_link_limits, has_activity_weights, has_link_labels, has_activity_labels};
-ghost use Rattle.fts_config.specs.Faults.{unless, first_of, fault_unless};
+ghost use Rattle.std.specs.BTreeSet.{contains_text};
+ghost use Rattle.fts_tables.specs.SettingsData.{is_active_limit as is_limit_of_links, is_label as is_label_text, is_within as within, are_apart as apart, is_same_activity, default_activity};
+ghost use Rattle.fts_config.specs.Distinct.{endpoint_key, HasKeys};
+ghost use Rattle.fts_config.specs.Faults.{unless, first_of, fault_unless, Gives};
 ghost use Rattle.fts_config.specs.Rules.{twice_endpoint, twice_link, unknown_endpoint, limit_range, weight_range, no_default_weight, worker_range, too_many, bad_label, twice_weight, faults_of};
 
 use crate::SettingsFault;
+use crate::distinct::distinct_keys;
 use crate::draft::Draft;
 use fts_tables::limits::{
     MAX_ACTIVE, MAX_ENDPOINTS, MAX_LABEL_BYTES, MAX_LINKS, MAX_WEIGHT, MAX_WEIGHTS, MAX_WORKERS,
 };
 use fts_tables::{Endpoint, Label, LinkRule, Settings, Weight};
+use std::alloc::Global;
+use std::collections::BTreeSet;
 
-/// What a list holds no two of that are the same.
-trait Distinct: Sized {
-    ghost same: { Self → Self → Bool };
-
-    fn is_same(&self, other: &Self) -> bool
-        ensures { result ≡ same self.now other.now };
-}
-
-impl Distinct for Endpoint {
-    ghost same = { is_same_endpoint };
-
-    fn is_same(&self, other: &Endpoint) -> bool {
-        self.name.as_str() == other.name.as_str()
-    }
-}
-
-impl Distinct for LinkRule {
-    ghost same = { is_same_pair };
-
-    fn is_same(&self, other: &LinkRule) -> bool {
-        self.source.as_str() == other.source.as_str() && self.dest.as_str() == other.dest.as_str()
-    }
-}
-
-impl Distinct for Weight {
-    ghost same = { is_same_activity };
-
-    fn is_same(&self, other: &Weight) -> bool {
-        self.name.as_str() == other.name.as_str()
-    }
-}
-
-fn is_among<T: Distinct>(item: &T, others: &[T]) -> bool
-    ensures { result ≡ list_any (T.same item.now) others.now }
+fn is_among(weight: &Weight, others: &[Weight]) -> bool
+    ensures { result ≡ list_any (is_same_activity weight.now) others.now }
 {
-    match others {
-        [] => false,
-        [first, rest @ ..] => item.is_same(first) || is_among(item, rest),
-    }
+    others
+        .iter()
+        .any(|other| weight.name.as_str() == other.name.as_str())
 }
 
-fn are_apart<T: Distinct>(items: &[T]) -> bool
-    ensures { result ≡ apart T.same items.now }
+fn are_apart(weights: &[Weight]) -> bool
+    ensures { result ≡ apart is_same_activity weights.now }
 {
-    match items {
+    match weights {
         [] => true,
         [first, rest @ ..] => !is_among(first, rest) && are_apart(rest),
     }
 }
 
-fn is_listed(endpoints: &[Endpoint], name: &str) -> bool
-    ensures { result ≡ listed endpoints.now name.now }
+fn is_known(names: &BTreeSet<String>, link: &LinkRule) -> bool
+    ensures { result ≡ (contains_text names.now link.now.source && contains_text names.now link.now.dest) }
 {
-    endpoints
-        .iter()
-        .any(|endpoint| endpoint.name.as_str() == name)
+    names.contains(link.source.as_str()) && names.contains(link.dest.as_str())
 }
 
-fn are_known(draft: &Draft) -> bool
-    ensures { result ≡ has_known_links draft.now }
+fn are_known(names: &BTreeSet<String>, links: &[LinkRule]) -> bool
+    ensures { result ≡ list_all (λ link. contains_text names.now link.source && contains_text names.now link.dest) links.now }
 {
-    let endpoints = draft.endpoints.as_slice();
-    draft.links.as_slice().iter().all(|link| {
-        is_listed(endpoints, link.source.as_str()) && is_listed(endpoints, link.dest.as_str())
-    })
+    links.iter().all(|link| is_known(names, link))
 }
 
 fn has_default(weights: &[Weight]) -> bool
@@ -141,28 +108,33 @@ fn verdict(kept: bool, fault: SettingsFault) -> Result<(), SettingsFault>
     if kept { Ok(()) } else { Err(fault) }
 }
 
-/// Rule 5.
+/// Rule 5, and the names of the storages where it is kept.
 #[tactic(auto, unfolding(crate::specs::Rules::twice_endpoint))]
-fn check_endpoints(draft: &Draft) -> Result<(), SettingsFault>
-    ensures { result ≡ unless (twice_endpoint draft.now) tt }
+fn check_endpoints(alloc: Global, draft: &Draft) -> Result<BTreeSet<String>, SettingsFault>
+    ensures { MatchResult result (λ names. (twice_endpoint draft.now ≡ None) × HasKeys endpoint_key draft.now.endpoints names) (λ fault. (fault ≡ SettingsFault.Memory) ⊎ (twice_endpoint draft.now ≡ Some fault)) }
 {
-    verdict(are_apart(draft.endpoints.as_slice()), SettingsFault::TwiceEndpoint)
+    match distinct_keys(alloc, draft.endpoints.as_slice())? {
+        Some(names) => Ok(names),
+        None => Err(SettingsFault::TwiceEndpoint),
+    }
 }
 
 /// Rule 6.
 #[tactic(auto, unfolding(crate::specs::Rules::twice_link))]
-fn check_links(draft: &Draft) -> Result<(), SettingsFault>
-    ensures { result ≡ unless (twice_link draft.now) tt }
+fn check_links(alloc: Global, draft: &Draft) -> Result<(), SettingsFault>
+    ensures { Gives result (unless (twice_link draft.now) tt) }
 {
-    verdict(are_apart(draft.links.as_slice()), SettingsFault::TwiceLink)
+    let keys = distinct_keys(alloc, draft.links.as_slice())?;
+    verdict(keys.is_some(), SettingsFault::TwiceLink)
 }
 
-/// Rule 7.
+/// Rule 7, by the names of the storages.
 #[tactic(auto, unfolding(crate::specs::Rules::unknown_endpoint))]
-fn check_ends(draft: &Draft) -> Result<(), SettingsFault>
+fn check_ends(names: &BTreeSet<String>, draft: &Draft) -> Result<(), SettingsFault>
+    requires { HasKeys endpoint_key draft.now.endpoints names.now }
     ensures { result ≡ unless (unknown_endpoint draft.now) tt }
 {
-    verdict(are_known(draft), SettingsFault::UnknownEndpoint)
+    verdict(are_known(names, draft.links.as_slice()), SettingsFault::UnknownEndpoint)
 }
 
 /// Rule 8.
@@ -233,12 +205,12 @@ fn check_activities(draft: &Draft) -> Result<(), SettingsFault>
 }
 
 #[tactic(auto, unfolding(crate::specs::Rules::faults_of))]
-fn check_values(draft: &Draft) -> Result<(), SettingsFault>
-    ensures { result ≡ unless (first_of (faults_of draft.now)) tt }
+fn check_values(alloc: Global, draft: &Draft) -> Result<(), SettingsFault>
+    ensures { Gives result (unless (first_of (faults_of draft.now)) tt) }
 {
-    check_endpoints(draft)?;
-    check_links(draft)?;
-    check_ends(draft)?;
+    let names = check_endpoints(alloc, draft)?;
+    check_links(alloc, draft)?;
+    check_ends(&names, draft)?;
     check_limits(draft)?;
     check_weights(draft)?;
     check_default(draft)?;
@@ -249,9 +221,9 @@ fn check_values(draft: &Draft) -> Result<(), SettingsFault>
 }
 
 /// The settings that a draft is, or the fault of the first rule that it breaks.
-pub fn settled(draft: Draft) -> Result<Settings, SettingsFault>
-    ensures { result ≡ unless (first_of (faults_of draft)) draft }
+pub fn settled(alloc: Global, draft: Draft) -> Result<Settings, SettingsFault>
+    ensures { Gives result (unless (first_of (faults_of draft)) draft) }
 {
-    check_values(&draft)?;
+    check_values(alloc, &draft)?;
     Ok(draft.into_settings())
 }

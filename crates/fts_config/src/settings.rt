@@ -27,5 +27,5 @@ pub fn read_settings(alloc: Global, text: &[u8]) -> Result<Settings, SettingsFau
     let document = read_document(alloc, text)?;
     check_types(&document)?;
     check_needed(&document)?;
-    settled(read_draft(alloc, &document)?)
+    settled(alloc, read_draft(alloc, &document)?)
 }
