@@ -8,7 +8,6 @@ use Rattle.toml.specs.declared.value.Value.{Value}
 use Rattle.fts_config.specs.Faults.{unless, Gives}
 use Rattle.fts_joburl.specs.declared.fault.UrlFault.{UrlFault}
 use Rattle.fts_config.specs.declared.fault.SettingsFault.{SettingsFault}
-use Rattle.fts_config.specs.declared.fault.SettingsFault.TheVariants.{BadUrl}
 use Rattle.fts_config.specs.Reading.{endpoint_by, bad_or, first_bad}
 
 good_first : (r : Result (List ℕ) UrlFault) (here all rest : Option SettingsFault) → bad_or r here ≡ None → (here ≡ None → all ≡ rest) → bad_or r all ≡ rest

@@ -1,5 +1,5 @@
 -- Which document a text is, by whether it is UTF-8 and what `toml` reads.
-use Rattle.std.proofs.Common.{◌≡◌, ℕ, Bool, true, false, List, Option, Some, None, refl, IsUtf8, inl, inr}
+use Rattle.std.proofs.Common.{◌≡◌, ℕ, List, Some, None, refl, IsUtf8, inl, inr}
 use Rattle.std.specs.Str.{is_utf8}
 use Rattle.std.proofs.lemmas.Bool.{cases_Bool}
 use Rattle.std.proofs.lemmas.Str.{IsUtf8-from_is_utf8, is_utf8-from_IsUtf8}

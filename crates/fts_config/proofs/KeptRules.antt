@@ -1,7 +1,7 @@
 -- Settings that break no rule of the text keep every rule of the type.
 use Rattle.std.proofs.Common.{◌≡◌, Bool, true, false, ◌&&◌, List, ◌∷◌, Option, Some, None, Ok, refl, inl, inr}
 use Rattle.std.proofs.lemmas.Bool.{and_parts}
-use Rattle.fts_tables.specs.SettingsData.{SettingsData, IsSettings, has_vo_label, has_worker_range, has_default_limit, has_endpoint_range, has_link_range, has_weight_range, has_distinct_endpoints, has_endpoint_limits, has_distinct_links, has_known_links, has_link_limits, has_link_labels, has_distinct_activities, has_activity_labels, has_activity_weights, has_default_activity}
+use Rattle.fts_tables.specs.SettingsData.{SettingsData, IsSettings, has_vo_label, has_default_limit, has_endpoint_range, has_link_range, has_weight_range, has_endpoint_limits, has_link_limits, has_link_labels, has_activity_labels}
 use Rattle.fts_config.specs.declared.fault.SettingsFault.{SettingsFault}
 use Rattle.fts_config.specs.declared.fault.SettingsFault.TheVariants.{TwiceEndpoint, TwiceLink, UnknownEndpoint, LimitRange, WeightRange, NoDefaultWeight, WorkerRange, TooMany, BadLabel, TwiceWeight}
 use Rattle.fts_config.specs.Faults.{fault_unless, first_of, unless, Gives}

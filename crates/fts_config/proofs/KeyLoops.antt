@@ -1,6 +1,5 @@
 -- One more item of a list whose keys go into a set: its key is new, or it is there already.
-use Rattle.std.proofs.Common.{◌≡◌, ◌<◌, ◌+◌, ℕ, Bool, true, false, not, ◌&&◌, ◌||◌, cond, List, [], ◌∷◌, ◌++◌, length, take, get_or, String, string_bytes, nat_cmp, refl, sym, ap, ◌∙◌, Global}
-use Rattle.std.proofs.lemmas.Bool.{and_from}
+use Rattle.std.proofs.Common.{◌≡◌, ◌<◌, ◌+◌, ℕ, Bool, true, false, not, ◌&&◌, ◌||◌, cond, List, [], ◌∷◌, ◌++◌, length, take, get_or, String, string_bytes, refl, sym, ap, ◌∙◌, Global}
 use Rattle.std.proofs.lemmas.List.{take_more}
 use Rattle.std.proofs.lemmas.List.Folds.{list_all-append, list_any-append}
 use Rattle.std.proofs.lemmas.Map.Text.{btree_set_updates_text}
@@ -9,7 +8,7 @@ use Rattle.std.specs.String.{string_cmp}
 use Rattle.std.specs.List.{list_all, list_any}
 use Rattle.std.specs.BTreeSet.{BTreeSet, contains, contains_text, Updates}
 use Rattle.fts_tables.specs.SettingsData.{are_apart}
-use Rattle.fts_config.specs.Distinct.{is_same_key, HasKeys, IsDistinct, IsTwice}
+use Rattle.fts_config.specs.Distinct.{is_same_key, IsDistinct, IsTwice}
 
 -- four tests, in two orders
 regrouped : (a b c d : Bool) → (not (a || (b || false)) && (c && not d)) ≡ ((not a && c) && not (b || d))
@@ -45,7 +44,6 @@ either false false = refl
 
 module _ {T : Type 0} (key : T → List ℕ) (proper : T → Bool) (items : List T) (i : ℕ) (item : T) (keys : BTreeSet (String Global)) (text : String Global)
     (inside : i < length items) (is : item ≡ get_or items i item) (so_far : IsDistinct key proper (take i items) keys) (copied : string_bytes text ≡ key item) (named : proper item ≡ true) where
-
   next : take (i + 1) items ≡ take i items ++ item ∷ []
   next = take_more items i item inside ∙ ap (λ (one : T). take i items ++ one ∷ []) (sym is)
 
@@ -72,6 +70,6 @@ module _ {T : Type 0} (key : T → List ℕ) (proper : T → Bool) (items : List
     all_proper = all_named;
     apart = apart_next ∙ sym told;
     holds = λ query. btree_set_updates_text (string_bytes text) keys new true updates query
-      ∙ either (bytes_eq (string_bytes text) query) (contains_text keys query)
-      ∙ rw (next, list_any-append, copied, so_far.holds query) refl;
+        ∙ either (bytes_eq (string_bytes text) query) (contains_text keys query)
+        ∙ rw (next, list_any-append, copied, so_far.holds query) refl;
   }

@@ -1,5 +1,5 @@
 -- Lists of a document as the code has them, and as the definitions have them.
-use Rattle.std.proofs.Common.{◌≡◌, ℕ, ◌==◌, true, List, [], ◌∷◌, map, length, Option, Some, refl, ap, ◌∙◌}
+use Rattle.std.proofs.Common.{◌≡◌, ℕ, ◌==◌, true, List, [], ◌∷◌, map, length, Some, refl, ap}
 use Rattle.std.specs.List.{list_all}
 use Rattle.std.proofs.Math.ListN.{length-map}
 use Rattle.toml.specs.Data.{Data, get, as_array}

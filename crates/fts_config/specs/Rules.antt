@@ -34,7 +34,7 @@ no_default_weight settings = fault_unless (has_default_activity settings) NoDefa
 unfoldable pub worker_range : SettingsData → Option SettingsFault
 worker_range settings = fault_unless (has_worker_range settings) WorkerRange
 
--- rule 12: there are not too many storages, links or activities
+-- rule 12: there are not too many storages, links or activities (that there is a storage at all is rule 3)
 unfoldable pub too_many : SettingsData → Option SettingsFault
 too_many settings = fault_unless (has_endpoint_range settings && has_link_range settings && has_weight_range settings) TooMany
 

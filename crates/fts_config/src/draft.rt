@@ -80,11 +80,7 @@ pub fn read_draft(alloc: Global, document: &Value) -> Result<Draft, SettingsFaul
     Ok(Draft {
         vo,
         workers: number_or(document, SettingKey::Workers, DEFAULT_WORKERS),
-        default_max_active: number_or(
-            document,
-            SettingKey::DefaultMaxActive,
-            DEFAULT_LINK_LIMIT,
-        ),
+        default_max_active: number_or(document, SettingKey::DefaultMaxActive, DEFAULT_LINK_LIMIT),
         endpoints,
         links,
         weights,

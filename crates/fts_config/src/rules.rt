@@ -64,9 +64,7 @@ fn is_limit(limit: u32) -> bool
 fn have_limits(endpoints: &[Endpoint]) -> bool
     ensures { result ≡ list_all (λ endpoint. is_limit_of_links endpoint.inbound && is_limit_of_links endpoint.outbound) endpoints.now }
 {
-    endpoints
-        .iter()
-        .all(|endpoint| is_limit(endpoint.inbound) && is_limit(endpoint.outbound))
+    endpoints.iter().all(|endpoint| is_limit(endpoint.inbound) && is_limit(endpoint.outbound))
 }
 
 fn have_link_limits(links: &[LinkRule]) -> bool
@@ -134,7 +132,10 @@ fn check_ends(names: &BTreeSet<String>, draft: &Draft) -> Result<(), SettingsFau
     requires { HasKeys endpoint_key draft.now.endpoints names.now }
     ensures { result ≡ unless (unknown_endpoint draft.now) tt }
 {
-    verdict(are_known(names, draft.links.as_slice()), SettingsFault::UnknownEndpoint)
+    verdict(
+        are_known(names, draft.links.as_slice()),
+        SettingsFault::UnknownEndpoint,
+    )
 }
 
 /// Rule 8.
@@ -153,7 +154,10 @@ fn check_limits(draft: &Draft) -> Result<(), SettingsFault>
 fn check_weights(draft: &Draft) -> Result<(), SettingsFault>
     ensures { result ≡ unless (weight_range draft.now) tt }
 {
-    verdict(have_weights(draft.weights.as_slice()), SettingsFault::WeightRange)
+    verdict(
+        have_weights(draft.weights.as_slice()),
+        SettingsFault::WeightRange,
+    )
 }
 
 /// Rule 10.
@@ -161,7 +165,10 @@ fn check_weights(draft: &Draft) -> Result<(), SettingsFault>
 fn check_default(draft: &Draft) -> Result<(), SettingsFault>
     ensures { result ≡ unless (no_default_weight draft.now) tt }
 {
-    verdict(has_default(draft.weights.as_slice()), SettingsFault::NoDefaultWeight)
+    verdict(
+        has_default(draft.weights.as_slice()),
+        SettingsFault::NoDefaultWeight,
+    )
 }
 
 /// Rule 11.
@@ -169,7 +176,10 @@ fn check_default(draft: &Draft) -> Result<(), SettingsFault>
 fn check_workers(draft: &Draft) -> Result<(), SettingsFault>
     ensures { result ≡ unless (worker_range draft.now) tt }
 {
-    verdict(1 <= draft.workers && draft.workers <= MAX_WORKERS, SettingsFault::WorkerRange)
+    verdict(
+        1 <= draft.workers && draft.workers <= MAX_WORKERS,
+        SettingsFault::WorkerRange,
+    )
 }
 
 /// Rule 12.
@@ -201,7 +211,10 @@ fn check_labels(draft: &Draft) -> Result<(), SettingsFault>
 fn check_activities(draft: &Draft) -> Result<(), SettingsFault>
     ensures { result ≡ unless (twice_weight draft.now) tt }
 {
-    verdict(are_apart(draft.weights.as_slice()), SettingsFault::TwiceWeight)
+    verdict(
+        are_apart(draft.weights.as_slice()),
+        SettingsFault::TwiceWeight,
+    )
 }
 
 #[tactic(auto, unfolding(crate::specs::Rules::faults_of))]

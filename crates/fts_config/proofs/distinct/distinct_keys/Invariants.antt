@@ -1,8 +1,6 @@
 -- The loop that puts keys into the set.
-use Rattle.std.proofs.Common.{◌≡◌, true, take}
-use Rattle.std.specs.List.{list_all}
-use Rattle.fts_tables.specs.SettingsData.{are_apart}
-use Rattle.fts_config.specs.Distinct.{is_same_key, IsDistinct}
+use Rattle.std.proofs.Common.{take}
+use Rattle.fts_config.specs.Distinct.{IsDistinct}
 use Rattle.fts_config.proofs.distinct.distinct_keys.Given as goal
 
 -- the items so far are distinct, and the set has their keys

@@ -1,5 +1,5 @@
 -- Two storages of one name.
-use Rattle.std.proofs.Common.{◌∙◌, ap, sym, inr, is_some}
+use Rattle.std.proofs.Common.{◌∙◌, ap, inr, is_some}
 use Rattle.fts_tables.specs.SettingsData.{SettingsData}
 use Rattle.fts_config.specs.declared.fault.SettingsFault.TheVariants.{TwiceEndpoint}
 use Rattle.fts_config.specs.Faults.{fault_unless}
