@@ -1,0 +1,11 @@
+//! Job documents: a request's body, read as a new job or refused by the least broken of 24 rules.
+#![tactic(auto)]
+
+mod checksum;
+mod fault;
+mod ids;
+mod json;
+mod params;
+
+pub use fault::{DocFault, Unoffered};
+pub use ids::sid_id;
