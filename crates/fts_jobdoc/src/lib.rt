@@ -3,6 +3,7 @@
 
 mod checksum;
 mod fault;
+mod files;
 mod ids;
 mod json;
 mod params;
