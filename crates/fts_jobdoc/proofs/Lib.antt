@@ -1,2 +1,4 @@
 pub mod JsonLemmas
 pub mod ChecksumLemmas
+pub mod EndsLemmas
+pub mod Left

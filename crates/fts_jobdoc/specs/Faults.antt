@@ -1,7 +1,7 @@
 -- The table of a document's faults: the number of each rule, and its message.
 use Rattle.std.specs.Prelude.{ℕ, List, codes}
-use Rattle.fts_joburl.specs.declared.UrlFault.{UrlFault}
-use Rattle.fts_joburl.specs.declared.UrlFault.TheVariants.{NotUrl, NoHost, HasQuery, HasFragment, HasUser, HasEscape, NoPath, TooLong, Reserved, HasPath, Memory as UrlMemory}
+use Rattle.fts_joburl.specs.declared.fault.UrlFault.{UrlFault}
+use Rattle.fts_joburl.specs.declared.fault.UrlFault.TheVariants.{NotUrl, NoHost, HasQuery, HasFragment, HasUser, HasEscape, NoPath, TooLong, Reserved, HasPath, Memory as UrlMemory}
 use Rattle.fts_jobdoc.specs.declared.fault.DocFault.{DocFault}
 use Rattle.fts_jobdoc.specs.declared.fault.DocFault.TheVariants.{NotJson, NotObject, NoFiles, TooManyFiles, FileNotObject, SourcesWrong, DestinationsWrong, BadUrl, UnknownEndpoint, SameUrl, BadFilesize, BadChecksum, OtherAlgorithm, BadStrategy, BadActivity, ParamsNotObject, BadRetry, BadDelay, BadPriority, BadVerify, NotOffered, ReplicaManyFiles, MultihopShape, BadSid, Memory}
 use Rattle.fts_jobdoc.specs.declared.fault.Unoffered.{Unoffered}

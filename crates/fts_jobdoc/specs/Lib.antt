@@ -4,3 +4,5 @@ pub mod Ids
 pub mod Checksums
 pub mod Fields
 pub mod Checks
+pub mod Ends
+pub mod Documents

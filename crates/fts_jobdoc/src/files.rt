@@ -116,7 +116,7 @@ pub fn size_of(file: &Value) -> u64
 }
 
 /// Each file's checksum is one.
-pub fn check_checksums(files: &[Value]) -> Result<(), DocFault>
+fn check_checksums(files: &[Value]) -> Result<(), DocFault>
     ensures { result ≡ refuse_if (list_any has_checksum_wrong (map view files.now)) DocFault.BadChecksum }
 {
     for file in files {
@@ -138,7 +138,7 @@ fn has_bad_checksum(file: &Value) -> bool
 }
 
 /// Each file's checksum is of MD5.
-pub fn check_algorithms(files: &[Value]) -> Result<(), DocFault>
+fn check_algorithms(files: &[Value]) -> Result<(), DocFault>
     ensures { result ≡ refuse_if (list_any has_algorithm_wrong (map view files.now)) DocFault.OtherAlgorithm }
 {
     for file in files {
@@ -156,6 +156,28 @@ fn has_other_algorithm(file: &Value) -> bool
     match read_checksum(file) {
         Checksum::Other => true,
         Checksum::NotGiven | Checksum::Malformed | Checksum::Md5(_) => false,
+    }
+}
+
+/// Where verification is asked for, each file's checksum is one.
+pub fn check_wanted_checksums(verified: bool, files: &[Value]) -> Result<(), DocFault>
+    ensures { result ≡ refuse_if (verified && list_any has_checksum_wrong (map view files.now)) DocFault.BadChecksum }
+{
+    if verified {
+        check_checksums(files)
+    } else {
+        Ok(())
+    }
+}
+
+/// Where verification is asked for, each file's checksum is of MD5.
+pub fn check_wanted_algorithms(verified: bool, files: &[Value]) -> Result<(), DocFault>
+    ensures { result ≡ refuse_if (verified && list_any has_algorithm_wrong (map view files.now)) DocFault.OtherAlgorithm }
+{
+    if verified {
+        check_algorithms(files)
+    } else {
+        Ok(())
     }
 }
 
@@ -272,7 +294,7 @@ pub fn activity_of(file: &Value) -> &str
 
 /// Whether a file has two sources or more.
 #[tactic(auto, unfolding(crate::specs::Fields::has_replicas))]
-pub fn has_replicas(file: &Value) -> bool
+fn has_replicas(file: &Value) -> bool
     ensures { result ≡ has_two_sources (view file.now) }
 {
     list_under(file, "sources").len() > 1

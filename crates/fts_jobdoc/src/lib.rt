@@ -2,11 +2,13 @@
 #![tactic(auto)]
 
 mod checksum;
+mod ends;
 mod fault;
 mod files;
 mod ids;
 mod json;
 mod params;
+mod rules;
 
 pub use fault::{DocFault, Unoffered};
 pub use ids::sid_id;
