@@ -77,7 +77,7 @@ unfolding first_url_fault places_of
 places_read-end places whole left = ap Ok (sym (append-nil places)) ∙ left
 
 -- the first fault of two lists is that of the first, or else that of the second
-first_url_fault-append : (xs ys : List (List ℕ)) → first_url_fault (xs ++ ys) ≡ option_or (first_url_fault xs) (first_url_fault ys)
+pub first_url_fault-append : (xs ys : List (List ℕ)) → first_url_fault (xs ++ ys) ≡ option_or (first_url_fault xs) (first_url_fault ys)
 unfolding first_url_fault
 first_url_fault-append [] ys = refl
 first_url_fault-append (x ∷ xs) ys =

@@ -21,69 +21,96 @@ use Rattle.fts_jobdoc.specs.declared.fault.DocFault.TheVariants.{NotJson, NotObj
 -- ---- the rules, in the order of the table; rule 1 is that the body is JSON
 
 -- the document's shape: an object with 1 to so many files, each an object with its sources and its destination
-unfoldable pub shape_rule : Data → List Data → Result ⊤ DocFault
-shape_rule document files = first_refusal (
+abbrev pub shape_rules : Data → List Data → List (Result ⊤ DocFault)
+shape_rules document files =
     refuse_if (is_no_object document) NotObject
     ∷ refuse_if (length files == 0) NoFiles
     ∷ refuse_if (nat_lt MAX_FILES (length files)) TooManyFiles
     ∷ refuse_if (list_any is_no_object files) FileNotObject
     ∷ refuse_if (list_any has_wrong_sources files) SourcesWrong
     ∷ refuse_if (list_any has_wrong_destinations files) DestinationsWrong
-    ∷ [])
+    ∷ []
+
+-- the first of them that is broken; then comes the rule on URLs, number 8
+unfoldable pub shape_rule : Data → List Data → Result ⊤ DocFault
+shape_rule document files = first_refusal (shape_rules document files)
 
 -- where the files come from and go to, once their URLs were read
-unfoldable pub ends_rule : SettingsData → List FileEnds → Result ⊤ DocFault
-ends_rule settings ends = first_refusal (
+abbrev pub ends_rules : SettingsData → List FileEnds → List (Result ⊤ DocFault)
+ends_rules settings ends =
     refuse_if (list_any (has_unknown_endpoint settings) ends) UnknownEndpoint
     ∷ refuse_if (list_any has_same_url ends) SameUrl
-    ∷ [])
+    ∷ []
+
+-- the first of them that is broken
+unfoldable pub ends_rule : SettingsData → List FileEnds → Result ⊤ DocFault
+ends_rule settings ends = first_refusal (ends_rules settings ends)
 
 -- the other fields of the files; their checksums only where verification is asked for
-unfoldable pub files_rule : Bool → List Data → Result ⊤ DocFault
-files_rule verified files = first_refusal (
+abbrev pub files_rules : Bool → List Data → List (Result ⊤ DocFault)
+files_rules verified files =
     refuse_if (list_any has_bad_filesize files) BadFilesize
     ∷ refuse_if (verified && list_any has_bad_checksum files) BadChecksum
     ∷ refuse_if (verified && list_any has_other_algorithm files) OtherAlgorithm
     ∷ refuse_if (list_any has_bad_strategy files) BadStrategy
     ∷ refuse_if (list_any has_bad_activity files) BadActivity
-    ∷ [])
+    ∷ []
+
+-- the first of them that is broken
+unfoldable pub files_rule : Bool → List Data → Result ⊤ DocFault
+files_rule verified files = first_refusal (files_rules verified files)
 
 -- the job's parameters
-unfoldable pub params_rule : Data → Result ⊤ DocFault
-params_rule document = first_refusal (
+abbrev pub params_rules : Data → List (Result ⊤ DocFault)
+params_rules document =
     refuse_if (has_wrong_params document) ParamsNotObject
     ∷ refuse_if (has_bad_retry document) BadRetry
     ∷ refuse_if (has_bad_delay document) BadDelay
     ∷ refuse_if (has_bad_priority document) BadPriority
     ∷ refuse_if (has_bad_verify document) BadVerify
     ∷ refuse_unoffered (unoffered_in document)
-    ∷ [])
+    ∷ []
+
+-- the first of them that is broken
+unfoldable pub params_rule : Data → Result ⊤ DocFault
+params_rule document = first_refusal (params_rules document)
 
 -- a multihop job whose files are no chain: one has replicas, or one doesn't go to where the next comes from
 abbrev pub has_wrong_hops : Data → List Data → List FileEnds → Bool
 has_wrong_hops document files ends = is_set (codes "multihop") document && (list_any has_replicas files || breaks_chain ends)
 
 -- the job's kind, and its id
-unfoldable pub kind_rule : Data → List Data → List FileEnds → Result ⊤ DocFault
-kind_rule document files ends = first_refusal (
+abbrev pub kind_rules : Data → List Data → List FileEnds → List (Result ⊤ DocFault)
+kind_rules document files ends =
     refuse_if (list_any has_replicas files && nat_lt 1 (length files)) ReplicaManyFiles
     ∷ refuse_if (has_wrong_hops document files ends) MultihopShape
     ∷ refuse_if (has_bad_sid document) BadSid
-    ∷ [])
+    ∷ []
+
+-- the first of them that is broken
+unfoldable pub kind_rule : Data → List Data → List FileEnds → Result ⊤ DocFault
+kind_rule document files ends = first_refusal (kind_rules document files ends)
+
+-- the rules behind the one on URLs
+abbrev pub later_rules : Data → SettingsData → List Data → List FileEnds → List (Result ⊤ DocFault)
+later_rules document settings files ends =
+    ends_rule settings ends
+    ∷ files_rule (is_verified document) files
+    ∷ params_rule document
+    ∷ kind_rule document files ends
+    ∷ []
+
+-- the first of them that is broken
+unfoldable pub later_rule : Data → SettingsData → List Data → List FileEnds → Result ⊤ DocFault
+later_rule document settings files ends = first_refusal (later_rules document settings files ends)
+
+-- all rules from rule 2 on
+abbrev pub all_rules : Data → SettingsData → List Data → List (Result ⊤ DocFault)
+all_rules document settings files = shape_rule document files ∷ url_rule files ∷ later_rule document settings files (map ends_of files) ∷ []
 
 -- the least rule that a document breaks, from rule 2 on
 unfoldable pub rules_of : Data → SettingsData → Result ⊤ DocFault
-rules_of document settings =
-    let files = files_of document in
-    let ends = map ends_of files in
-    first_refusal (
-      shape_rule document files
-      ∷ url_rule files
-      ∷ ends_rule settings ends
-      ∷ files_rule (is_verified document) files
-      ∷ params_rule document
-      ∷ kind_rule document files ends
-      ∷ [])
+rules_of document settings = first_refusal (all_rules document settings (files_of document))
 
 -- ---- the job
 
@@ -140,12 +167,16 @@ job_of body settings = of_value (λ document. job_in document settings) (value_o
 -- ---- a document that asks for another priority
 
 -- the rules of such a document
-unfoldable pub priority_rule : Data → Result ⊤ DocFault
-priority_rule document = first_refusal (
+abbrev pub priority_rules : Data → List (Result ⊤ DocFault)
+priority_rules document =
     refuse_if (is_no_object document) NotObject
     ∷ refuse_if (has_wrong_params document) ParamsNotObject
     ∷ refuse_if (lacks_priority document) BadPriority
-    ∷ [])
+    ∷ []
+
+-- the first of them that is broken
+unfoldable pub priority_rule : Data → Result ⊤ DocFault
+priority_rule document = first_refusal (priority_rules document)
 
 -- the priority that a body asks for, or the least rule that it breaks
 unfoldable pub priority_of : List ℕ → Result ℕ DocFault

@@ -1,7 +1,7 @@
 //! Looking into the JSON value of a document (RFC 8259, as `serde_json` reads it): a small function for each question.
 //! Each answers a word of `specs/Json.antt`. Null counts as absent; of a key that is given twice the last value stays.
 //! A whole number is a JSON number that the value gives as a `u64` or an `i64`: `3.0`, `1e3` and `-0` are none.
-ghost use Rattle.std.specs.Prelude.{◌≡◌, Some, None, IfOk, IfErr, not, map, List, option_map, option_and_then, is_some};
+ghost use Rattle.std.specs.Prelude.{◌≡◌, ◌⊎◌, Some, None, IfOk, IfErr, not, map, List, option_map, option_and_then, is_some};
 ghost use Rattle.std.specs.List.{list_all};
 ghost use Rattle.std.specs.Option.{option_map_or};
 ghost use Rattle.serde_json.specs.Find.{as_str};
@@ -15,7 +15,7 @@ use std::alloc::Global;
 /// The JSON value of a body.
 pub fn read_value(alloc: Global, body: &[u8]) -> Result<Value, DocFault>
     ensures value { IfOk result (λ value. value_of body.now ≡ Some (view value)) }
-    ensures refused { IfErr result (λ fault. ¬ (fault ≡ DocFault.Memory) → (fault ≡ DocFault.NotJson) × (value_of body.now ≡ None)) }
+    ensures refused { IfErr result (λ fault. (fault ≡ DocFault.Memory) ⊎ ((fault ≡ DocFault.NotJson) × (value_of body.now ≡ None))) }
 {
     match Value::from_slice(alloc, body) {
         Ok(value) => Ok(value),

@@ -2,7 +2,7 @@
 //! A group of rules is one function, whose result is its definition in `specs/Documents.antt`. URLs are read in between, as rule 8.
 ghost use Rattle.std.specs.Prelude.{◌≡◌, map};
 ghost use Rattle.serde_json.specs.View.{view};
-ghost use Rattle.fts_jobdoc.specs.Documents.{shape_rule, ends_rule, files_rule, params_rule, kind_rule, priority_rule, has_wrong_hops};
+ghost use Rattle.fts_jobdoc.specs.Documents.{shape_rule, ends_rule, files_rule, params_rule, kind_rule, later_rule, priority_rule, has_wrong_hops};
 ghost use Rattle.fts_jobdoc.specs.Checks.{refuse_if};
 ghost use Rattle.fts_jobdoc.specs.Fields.{is_no_object};
 
@@ -16,7 +16,7 @@ use crate::files::{
 use crate::json::is_object;
 use crate::params::{
     check_delay, check_offered, check_params, check_priority, check_priority_given, check_retry,
-    check_sid, check_verify, is_set,
+    check_sid, check_verify, is_set, is_verified,
 };
 use fts_tables::Settings;
 use serde_json::Value;
@@ -47,7 +47,7 @@ fn check_object(document: &Value) -> Result<(), DocFault>
 
 /// Where the files come from and go to, rules 9 and 10.
 #[tactic(auto, unfolding(crate::specs::Documents::ends_rule))]
-pub fn check_ends(settings: &Settings, ends: &[FileEnds]) -> Result<(), DocFault>
+fn check_ends(settings: &Settings, ends: &[FileEnds]) -> Result<(), DocFault>
     ensures { result ≡ ends_rule settings.now ends.now }
 {
     check_endpoints(settings, ends)?;
@@ -56,7 +56,7 @@ pub fn check_ends(settings: &Settings, ends: &[FileEnds]) -> Result<(), DocFault
 
 /// The other fields of the files, rules 11 to 15.
 #[tactic(auto, unfolding(crate::specs::Documents::files_rule))]
-pub fn check_files(verified: bool, files: &[Value]) -> Result<(), DocFault>
+fn check_files(verified: bool, files: &[Value]) -> Result<(), DocFault>
     ensures { result ≡ files_rule verified (map view files.now) }
 {
     check_filesizes(files)?;
@@ -68,7 +68,7 @@ pub fn check_files(verified: bool, files: &[Value]) -> Result<(), DocFault>
 
 /// The job's parameters, rules 16 to 21.
 #[tactic(auto, unfolding(crate::specs::Documents::params_rule))]
-pub fn check_parameters(document: &Value) -> Result<(), DocFault>
+fn check_parameters(document: &Value) -> Result<(), DocFault>
     ensures { result ≡ params_rule (view document.now) }
 {
     check_params(document)?;
@@ -79,9 +79,25 @@ pub fn check_parameters(document: &Value) -> Result<(), DocFault>
     check_offered(document)
 }
 
+/// The rules behind the one on URLs, 9 to 24.
+#[tactic(auto, unfolding(crate::specs::Documents::later_rule))]
+pub fn check_later(
+    document: &Value,
+    settings: &Settings,
+    files: &[Value],
+    ends: &[FileEnds],
+) -> Result<(), DocFault>
+    ensures { result ≡ later_rule (view document.now) settings.now (map view files.now) ends.now }
+{
+    check_ends(settings, ends)?;
+    check_files(is_verified(document), files)?;
+    check_parameters(document)?;
+    check_kind(document, files, ends)
+}
+
 /// The job's kind and its id, rules 22 to 24.
 #[tactic(auto, unfolding(crate::specs::Documents::kind_rule))]
-pub fn check_kind(document: &Value, files: &[Value], ends: &[FileEnds]) -> Result<(), DocFault>
+fn check_kind(document: &Value, files: &[Value], ends: &[FileEnds]) -> Result<(), DocFault>
     ensures { result ≡ kind_rule (view document.now) (map view files.now) ends.now }
 {
     check_replicas(files)?;
