@@ -43,8 +43,8 @@ pub exit_urls : (document : Data) (settings : SettingsData) (files : List Data) 
     → Ok tt ≡ shape_rule document files → Gives (Err fault) (all_ends_read files) → Gives (Err fault) (unless_refused (rules_of document settings) ends)
 exit_urls document settings files ends fault e shape urls =
     elim (refused_by (url_rule files) (map ends_of files) fault urls) [
-      inl refused ↦ inl (rw (rules_are document settings files e, ← shape, refused) refl)
-    | inr memory ↦ inr (ap Err memory)
+      | inl refused ↦ inl (rw (rules_are document settings files e, ← shape, refused) refl)
+      | inr memory ↦ inr (ap Err memory)
     ]
 
 -- what was read of URLs that weren't refused
@@ -75,8 +75,8 @@ exit_passed document settings files read lent e shape urls is later =
 pub refused_either : {A B : Type 0} (rule : Result ⊤ DocFault) (a : A) (b : B) (fault : DocFault) → Gives (Err fault) (unless_refused rule a) → Gives (Err fault) (unless_refused rule b)
 refused_either rule a b fault refused =
     elim (refused_by rule a fault refused) [
-      inl by_rule ↦ inl (rw by_rule refl)
-    | inr memory ↦ inr (ap Err memory)
+      | inl by_rule ↦ inl (rw by_rule refl)
+      | inr memory ↦ inr (ap Err memory)
     ]
 
 -- a body that couldn't be read

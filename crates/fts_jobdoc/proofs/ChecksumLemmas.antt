@@ -11,8 +11,8 @@ pub list_any-found : {X : Type 0} (test : X → Bool) (xs : List X) → position
 list_any-found test [] found = absurd (omega arith)
 list_any-found test (x ∷ xs) found =
     elim (test x) as (λ b. cond (not b) (1 + position_or_len test xs) 0 < suc (length xs) → (b || list_any test xs) ≡ true) [
-      true ↦ λ _. refl
-    | false ↦ λ later. list_any-found test xs (omega arith)
+      | true ↦ λ _. refl
+      | false ↦ λ later. list_any-found test xs (omega arith)
     ] found
 
 -- where none passes, it is the length
@@ -20,8 +20,8 @@ pub list_any-missing : {X : Type 0} (test : X → Bool) (xs : List X) → positi
 list_any-missing test [] missing = refl
 list_any-missing test (x ∷ xs) missing =
     elim (test x) as (λ b. cond (not b) (1 + position_or_len test xs) 0 ≡ suc (length xs) → (b || list_any test xs) ≡ false) [
-      true ↦ λ early. absurd (omega arith)
-    | false ↦ λ later. list_any-missing test xs (omega arith)
+      | true ↦ λ early. absurd (omega arith)
+      | false ↦ λ later. list_any-missing test xs (omega arith)
     ] missing
 
 -- a text that was cut at its first colon

@@ -82,8 +82,8 @@ unfolding first_url_fault
 first_url_fault-append [] ys = refl
 first_url_fault-append (x ∷ xs) ys =
     elim (place_read x) as (λ r. fault_or r (first_url_fault (xs ++ ys)) ≡ option_or (fault_or r (first_url_fault xs)) (first_url_fault ys)) [
-      Ok place ↦ first_url_fault-append xs ys
-    | Err fault ↦ refl
+      | Ok place ↦ first_url_fault-append xs ys
+      | Err fault ↦ refl
     ]
 
 -- two values of which none is refused

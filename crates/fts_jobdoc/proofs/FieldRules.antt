@@ -19,8 +19,8 @@ pub within_or : (low high default : ℕ) (found : Option Data) → fails (is_nat
 within_or low high default None kept fits = fits
 within_or low high default (Some value) kept fits =
     elim (natural_of value) as (λ n. not (option_map_or (is_within low high) n false) ≡ false → is_within low high (unwrap_or n default) ≡ true) [
-      Some n ↦ λ inside. is_true (is_within low high n) inside
-    | None ↦ λ outside. absurd (cc)
+      | Some n ↦ λ inside. is_true (is_within low high n) inside
+      | None ↦ λ outside. absurd (cc)
     ] kept
 
 -- a number from 0 on isn't -1

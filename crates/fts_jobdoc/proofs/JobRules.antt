@@ -30,8 +30,8 @@ texts_all : (values : List Data) → list_all is_text values ≡ true → length
 texts_all [] all = refl
 texts_all (value ∷ values) all =
     elim (as_str value) as (λ text. (is_some text && list_all is_text values) ≡ true → length (cons_option text (filter_map as_str values)) ≡ suc (length values)) [
-      Some text ↦ λ others. ap suc (texts_all values others)
-    | None ↦ λ none. absurd (cc)
+      | Some text ↦ λ others. ap suc (texts_all values others)
+      | None ↦ λ none. absurd (cc)
     ] all
 
 -- every text is the URL of a place
@@ -40,8 +40,8 @@ unfolding first_url_fault places_of
 places_all [] all = refl
 places_all (text ∷ texts) all =
     elim (place_read text) as (λ read. fault_or read (first_url_fault texts) ≡ None → length (cons_option (place_kept read) (places_of texts)) ≡ suc (length texts)) [
-      Ok place ↦ λ others. ap suc (places_all texts others)
-    | Err fault ↦ λ some. absurd (cc)
+      | Ok place ↦ λ others. ap suc (places_all texts others)
+      | Err fault ↦ λ some. absurd (cc)
     ] all
 
 -- neither of two faults
@@ -82,7 +82,7 @@ file_fits file sources dests urls distinct size activity =
     let from = is_true (has_texts 1 16 (codes "sources") file) sources in
     let into = is_true (has_texts 1 1 (codes "destinations") file) dests in
     let read = no_fault (first_url_fault (texts_under (codes "sources") file)) (first_url_fault (texts_under (codes "destinations") file))
-      (sym (first_url_fault-append (texts_under (codes "sources") file) (texts_under (codes "destinations") file)) ∙ urls) in
+    (sym (first_url_fault-append (texts_under (codes "sources") file) (texts_under (codes "destinations") file)) ∙ urls) in
     record {
       sources = places_under (codes "sources") 1 16 file from read.0;
       few = values_under (codes "sources") 1 16 file from;

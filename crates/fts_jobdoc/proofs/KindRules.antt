@@ -88,7 +88,7 @@ met : (ends next : FileEnds) (one : Single ends) (other : Single next) → meets
 unfolding meets
 met ends next one other meeting =
     let places : meets (ends_made (one.source ∷ []) (one.dest ∷ [])) (ends_made (other.source ∷ []) (other.dest ∷ [])) ≡ true =
-      sym (ap (λ e. meets e (ends_made (other.source ∷ []) (other.dest ∷ []))) one.is) ∙ sym (ap (meets ends) other.is) ∙ meeting in
+    sym (ap (λ e. meets e (ends_made (other.source ∷ []) (other.dest ∷ []))) one.is) ∙ sym (ap (meets ends) other.is) ∙ meeting in
     (and_parts (is_same_place one.dest other.source) true (and_parts (is_same_place one.dest other.source && true) true places).0).0
 
 -- so the files behind one are a chain from its destination
@@ -100,7 +100,7 @@ chained_from verified before one (file ∷ files) index single whole =
     let w = or_parts (not (meets (ends_of before) (ends_of file))) (breaks_from (ends_of file) (map ends_of files)) whole in
     ap (λ (made : List NewFile). is_chain_from one.dest (made ++ files_from verified (suc index) files)) (single_file verified index file single.0)
     ∙ and_from (is_same_place one.dest single.0.source) _ (met (ends_of before) (ends_of file) one single.0 (is_true (meets (ends_of before) (ends_of file)) w.0))
-      (chained_from verified file single.0 files (suc index) single.1 w.1)
+    (chained_from verified file single.0 files (suc index) single.1 w.1)
 
 -- and all of them are a chain
 chained : (verified : Bool) (files : List Data) → AllSingle files → breaks_chain (map ends_of files) ≡ false → is_chain (files_from verified 0 files) ≡ true
@@ -126,12 +126,12 @@ replica : (verified : Bool) (file : Data) (dest source other : Place) → is_rep
 unfolding new_file
 replica verified file dest source other =
     and_from _ (bytes_eq (activity_of file) (activity_of file))
-      (and_from _ (is_same_digest (wanted_of verified file) (wanted_of verified file))
-        (and_from (is_same_place dest dest) (size_of file == size_of file)
-          (and_from (bytes_eq dest.endpoint dest.endpoint) (bytes_eq dest.path dest.path) (same_text dest.endpoint) (same_text dest.path))
-          (same_number (size_of file)))
-        (same_digest (wanted_of verified file)))
-      (same_text (activity_of file))
+    (and_from _ (is_same_digest (wanted_of verified file) (wanted_of verified file))
+    (and_from (is_same_place dest dest) (size_of file == size_of file)
+    (and_from (bytes_eq dest.endpoint dest.endpoint) (bytes_eq dest.path dest.path) (same_text dest.endpoint) (same_text dest.path))
+    (same_number (size_of file)))
+    (same_digest (wanted_of verified file)))
+    (same_text (activity_of file))
 
 -- so are they all
 replicas : (verified : Bool) (file : Data) (dest : Place) (sources : List Place) → are_replicas (map (new_file verified 0 file dest) sources) ≡ true
@@ -139,8 +139,8 @@ unfolding new_file
 replicas verified file dest [] = refl
 replicas verified file dest (source ∷ sources) =
     and_from (list_all (λ made. made.index == 0) (map (new_file verified 0 file dest) sources)) (list_all (is_replica_of (new_file verified 0 file dest source)) (map (new_file verified 0 file dest) sources))
-      (all_map (λ made. made.index == 0) (new_file verified 0 file dest) (λ place. refl) sources)
-      (all_map (is_replica_of (new_file verified 0 file dest source)) (new_file verified 0 file dest) (replica verified file dest source) sources)
+    (all_map (λ made. made.index == 0) (new_file verified 0 file dest) (λ place. refl) sources)
+    (all_map (is_replica_of (new_file verified 0 file dest source)) (new_file verified 0 file dest) (replica verified file dest source) sources)
 
 -- one file of two sources or more
 more_values : (n : ℕ) → is_within 1 16 n ≡ true → nat_lt 1 n ≡ true → (is_within 2 16 n ≡ true) × (is_within 1 200 n ≡ true)
@@ -158,7 +158,7 @@ replicas_shaped verified file dest fit more one =
     let sources = (ends_of file).sources in
     let made = map (new_file verified 0 file dest) sources in
     let are : files_from verified 0 (file ∷ []) ≡ made =
-      ap (λ dests. flat_map (λ place. map (new_file verified 0 file place) sources) dests ++ []) one ∙ append-nil (made ++ []) ∙ append-nil made in
+    ap (λ dests. flat_map (λ place. map (new_file verified 0 file place) sources) dests ++ []) one ∙ append-nil (made ++ []) ∙ append-nil made in
     let number : length made ≡ length (list_under (codes "sources") file) = length-map sources (new_file verified 0 file dest) ∙ fit.sources in
     let counts = more_values (length (list_under (codes "sources") file)) fit.few more in
     record {

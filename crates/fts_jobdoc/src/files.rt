@@ -11,7 +11,9 @@ ghost use Rattle.fts_jobdoc.specs.Checks.{refuse_if};
 
 use crate::DocFault;
 use crate::checksum::{Checksum, read_checksum};
-use crate::json::{field, has_texts, is_object, is_outside, is_this_text, list_under, natural_or, text_of};
+use crate::json::{
+    field, has_texts, is_object, is_outside, is_this_text, list_under, natural_or, text_of,
+};
 use fts_tables::Strategy;
 use fts_tables::limits::{MAX_FILES, MAX_LABEL_BYTES, MAX_SIZE, MAX_SOURCES};
 use serde_json::Value;

@@ -149,7 +149,14 @@ fn make_files(
 {
     let mut made = Items::new(alloc);
     for index in 0..files.len() {
-        add_files(alloc, verified, index as u32, &files[index], &ends[index], &mut made)?;
+        add_files(
+            alloc,
+            verified,
+            index as u32,
+            &files[index],
+            &ends[index],
+            &mut made,
+        )?;
     }
     Ok(made)
 }
@@ -166,7 +173,15 @@ fn add_files(
     ensures { OnOk result (made.new ≡ made.old ++ new_files verified index (view file.now) ends.now) }
 {
     for dest in ends.dests.as_slice() {
-        add_sources(alloc, verified, index, file, dest, ends.sources.as_slice(), made)?;
+        add_sources(
+            alloc,
+            verified,
+            index,
+            file,
+            dest,
+            ends.sources.as_slice(),
+            made,
+        )?;
     }
     Ok(())
 }

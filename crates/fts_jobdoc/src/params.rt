@@ -7,7 +7,10 @@ ghost use Rattle.fts_jobdoc.specs.Json.{param as param_of, is_this_text as is_th
 ghost use Rattle.fts_jobdoc.specs.Fields.{has_wrong_params, has_bad_retry, retry_of, has_bad_delay, delay_of, has_bad_priority, lacks_priority, priority_in, asks_for_verification, is_verify, has_bad_verify, is_verified as is_verified_in, asks_for as asks_for_in, is_set as is_set_in, unoffered_in, is_generator, is_deterministic as is_deterministic_in, is_sid, has_bad_sid, sid_in};
 ghost use Rattle.fts_jobdoc.specs.Checks.{refuse_if, refuse_unoffered};
 
-use crate::json::{field, is_minus_one, is_object, is_on, is_outside, is_this_text, is_within, natural_or, param, text_of};
+use crate::json::{
+    field, is_minus_one, is_object, is_on, is_outside, is_this_text, is_within, natural_or, param,
+    text_of,
+};
 use crate::{DocFault, Unoffered};
 use fts_tables::limits::{MAX_DELAY, MAX_LABEL_BYTES, MAX_PRIORITY, MAX_RETRY, MIN_PRIORITY};
 use serde_json::Value;

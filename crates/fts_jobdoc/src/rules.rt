@@ -106,11 +106,7 @@ fn check_kind(document: &Value, files: &[Value], ends: &[FileEnds]) -> Result<()
 }
 
 /// The files of a multihop job are a chain.
-fn check_multihop(
-    document: &Value,
-    files: &[Value],
-    ends: &[FileEnds],
-) -> Result<(), DocFault>
+fn check_multihop(document: &Value, files: &[Value], ends: &[FileEnds]) -> Result<(), DocFault>
     ensures { result ≡ refuse_if (has_wrong_hops (view document.now) (map view files.now) ends.now) DocFault.MultihopShape }
 {
     if is_set(document, "multihop") && (some_has_replicas(files) || breaks_chain(ends)) {

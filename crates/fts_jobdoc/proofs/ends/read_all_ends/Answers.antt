@@ -13,13 +13,13 @@ returns-in_err-ends c =
     let is : c.from_residual.result ≡ Err c.in_err-ends.field-0.0 = search rules in
     let left = data_left c.args.files.now c.loop-file.file-index c.file-item.result c.loop-file-test.true c.file-item.is in
     rw is (all_ends_read-refused c.loop-file.all (view c.file-item.result) _ c.in_err-ends.field-0.0 _ c.in_err-ends.ensures
-      (sym (ap (λ values. extend c.loop-file.all (all_ends_read values)) left) ∙ c.loop-file.invariant))
+    (sym (ap (λ values. extend c.loop-file.all (all_ends_read values)) left) ∙ c.loop-file.invariant))
 
 pub loop-file-preserved : goal.loop-file-preserved
 loop-file-preserved c =
     let left = data_left c.args.files.now c.loop-file.file-index c.file-item.result c.loop-file-test.true c.file-item.is in
     rw c.in_ok-add.ensures.ok (all_ends_read-step c.loop-file.all (view c.file-item.result) _ c.in_ok-ends.ends _ c.in_ok-ends.ensures
-      (sym (ap (λ values. extend c.loop-file.all (all_ends_read values)) left) ∙ c.loop-file.invariant))
+    (sym (ap (λ values. extend c.loop-file.all (all_ends_read values)) left) ∙ c.loop-file.invariant))
 
 pub returns : goal.returns
 returns c =

@@ -18,7 +18,7 @@ returns-in_err-dests c =
     let file = view c.args.file.now in
     let sources = texts_under (codes "sources") file in
     rw is (ends_read-dest sources (texts_under (codes "destinations") file) c.in_ok-sources.sources _ c.in_err-dests.field-0.0
-      (gives-Ok (places_read sources) c.in_ok-sources.sources c.in_ok-sources.ensures) c.in_err-dests.ensures)
+    (gives-Ok (places_read sources) c.in_ok-sources.sources c.in_ok-sources.ensures) c.in_err-dests.ensures)
 
 pub returns : goal.returns
 unfolding ends_of
@@ -27,4 +27,4 @@ returns c =
     let sources = texts_under (codes "sources") file in
     let dests = texts_under (codes "destinations") file in
     inl (sym (ends_read-both sources dests c.in_ok-sources.sources c.in_ok-dests.dests
-      (gives-Ok (places_read sources) c.in_ok-sources.sources c.in_ok-sources.ensures) (gives-Ok (places_read dests) c.in_ok-dests.dests c.in_ok-dests.ensures)))
+    (gives-Ok (places_read sources) c.in_ok-sources.sources c.in_ok-sources.ensures) (gives-Ok (places_read dests) c.in_ok-dests.dests c.in_ok-dests.ensures)))

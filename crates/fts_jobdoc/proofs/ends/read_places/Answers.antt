@@ -15,13 +15,13 @@ returns-in_err-place c =
     let is : c.from_residual.result ≡ Err c.in_err-place.field-0.0 = search rules in
     let left = texts_left c.args.list.now c.loop-item.item-index c.item-item.result c.in-Some.text.now c.loop-item-test.true c.item-item.is c.in-Some.ensures in
     rw is (places_read-refused c.loop-item.places c.in-Some.text.now _ c.in_err-place.field-0.0 _ c.in_err-place.ensures
-      (sym (ap (λ texts. extend c.loop-item.places (places_read texts)) left) ∙ c.loop-item.invariant))
+    (sym (ap (λ texts. extend c.loop-item.places (places_read texts)) left) ∙ c.loop-item.invariant))
 
 pub loop-item-preserved : goal.loop-item-preserved
 loop-item-preserved c =
     let left = texts_left c.args.list.now c.loop-item.item-index c.item-item.result c.in-Some.text.now c.loop-item-test.true c.item-item.is c.in-Some.ensures in
     rw c.in_ok-add.ensures.ok (places_read-step c.loop-item.places c.in-Some.text.now _ c.in_ok-place.place _ c.in_ok-place.ensures
-      (sym (ap (λ texts. extend c.loop-item.places (places_read texts)) left) ∙ c.loop-item.invariant))
+    (sym (ap (λ texts. extend c.loop-item.places (places_read texts)) left) ∙ c.loop-item.invariant))
 
 pub returns : goal.returns
 returns c =

@@ -18,9 +18,9 @@ pub returns-in_err-check_later : goal.returns-in_err-check_later
 returns-in_err-check_later c =
     let is : c.from_residual-in_err-check_later.result ≡ Err c.in_err-check_later.field-0.0 = search rules in
     rw is (exit_later (view c.args.document.now) c.args.settings.now (map view c.args.files.now) _ c.in_ok-ends.ends c.as_slice.result.now c.in_err-check_later.field-0.0 c.requires
-      c.in_ok-check_shape.ensures c.in_ok-ends.ensures c.as_slice.ensures c.in_err-check_later.ensures)
+    c.in_ok-check_shape.ensures c.in_ok-ends.ensures c.as_slice.ensures c.in_err-check_later.ensures)
 
 pub returns : goal.returns
 returns c =
     exit_passed (view c.args.document.now) c.args.settings.now (map view c.args.files.now) c.in_ok-ends.ends c.as_slice.result.now c.requires
-      c.in_ok-check_shape.ensures c.in_ok-ends.ensures c.as_slice.ensures c.in_ok-check_later.ensures
+    c.in_ok-check_shape.ensures c.in_ok-ends.ensures c.as_slice.ensures c.in_ok-check_later.ensures
