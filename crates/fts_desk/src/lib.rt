@@ -21,6 +21,8 @@ mod search;
 mod slots_left;
 mod sources;
 mod submit;
+#[cfg(test)]
+mod tests;
 mod waking;
 
 pub use desk::{Desk, DeskFault, Plan};
