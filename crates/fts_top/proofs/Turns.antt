@@ -16,8 +16,8 @@ use Rattle.fts_wire.specs.declared.outside.SinkFailed.{SinkFailed}
 use Rattle.fts_wire.specs.declared.response.Reply.{Reply}
 use Rattle.fts_top.specs.Replies.{not_built, IsOrNoMemory, Answers}
 use Rattle.fts_top.specs.Session.{IfTold, AreWritten, AreCutShort, IsRefusal, IsReadCut, end_by, IsRefused, Ends, SessionFrom}
-use Rattle.fts_top.specs.declared.session.SessionEnd.{SessionEnd}
-use Rattle.fts_top.specs.declared.session.SessionEnd.TheVariants.{Closed as EndClosed, EndsInside as EndEndsInside, Refused as EndRefused, Many as EndMany, SourceFailed as EndSourceFailed, SinkFailed as EndSinkFailed}
+use Rattle.fts_top.specs.declared.ends.SessionEnd.{SessionEnd}
+use Rattle.fts_top.specs.declared.ends.SessionEnd.TheVariants.{Closed as EndClosed, EndsInside as EndEndsInside, Refused as EndRefused, Many as EndMany, SourceFailed as EndSourceFailed, SinkFailed as EndSinkFailed}
 use Rattle.fts_top.proofs.Growth.{Grown, progress_of, count_of_responses, pushed, concat-push}
 
 -- a session in progress: its requests, their responses written, and the moments to come

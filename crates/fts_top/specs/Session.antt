@@ -12,8 +12,8 @@ use Rattle.fts_wire.specs.Response.{response_of, IsCut, Sends}
 use Rattle.fts_wire.specs.declared.outside.SinkFailed.{SinkFailed}
 use Rattle.fts_wire.specs.declared.response.Reply.{Reply}
 use Rattle.fts_top.specs.Replies.{reply_to, entries_of, no_memory, not_built}
-use Rattle.fts_top.specs.declared.session.SessionEnd.{SessionEnd}
-use Rattle.fts_top.specs.declared.session.SessionEnd.TheVariants.{Closed as EndClosed, EndsInside as EndEndsInside, Refused as EndRefused, Many as EndMany, SourceFailed as EndSourceFailed, SinkFailed as EndSinkFailed}
+use Rattle.fts_top.specs.declared.ends.SessionEnd.{SessionEnd}
+use Rattle.fts_top.specs.declared.ends.SessionEnd.TheVariants.{Closed as EndClosed, EndsInside as EndEndsInside, Refused as EndRefused, Many as EndMany, SourceFailed as EndSourceFailed, SinkFailed as EndSinkFailed}
 
 -- a request that was answered, and whether there was no memory to do it
 pub record Exchange : Type 0 where

@@ -1,7 +1,8 @@
 //! The settings of a run: their text, read whole, and then by their rules.
-ghost use Rattle.std.specs.Prelude.{◌≡◌, ◌≤◌, IfOk, IfErr, OnErr};
+ghost use Rattle.std.specs.Prelude.{◌≡◌, ◌≢◌, IfOk, IfErr};
 ghost use Rattle.fts_wire.specs.Outside.{Rose};
-ghost use Rattle.fts_top.specs.Run.{AreRead, IsStop};
+ghost use Rattle.fts_config.specs.Faults.{rule_of};
+ghost use Rattle.fts_top.specs.Run.{status_of, AreRead, IsStop};
 
 use crate::ends::RunEnd;
 use fts_config::{SettingsFault, read_settings};
@@ -14,8 +15,8 @@ use std::alloc::Global;
 pub fn load_settings<F: Source>(alloc: Global, source: &mut F) -> Result<Settings, RunEnd>
     ensures read { IfOk result (AreRead (F.left source.old)) }
     ensures stopped { IfErr result (IsStop (F.left source.old)) }
-    ensures unread { result ≡ Err RunEnd.SettingsUnread → Rose (F.faults source.old) (F.faults source.new) }
-    ensures words { result ≡ Err RunEnd.NoCommand → ⊥ }
+    ensures unread { IfErr result (λ end. status_of end ≡ 8 → Rose (F.faults source.old) (F.faults source.new)) }
+    ensures words { IfErr result (λ end. status_of end ≢ 2) }
 {
     let text = match read_all(alloc, source, MAX_SETTINGS_BYTES) {
         Ok(text) => text,

@@ -47,6 +47,7 @@ pub struct Ending {
 }
 
 /// How a command ended, and its tally.
+#[derive(Clone, Copy)]
 struct Done {
     end: RunEnd,
     tally: Tally,
