@@ -4,3 +4,4 @@ pub mod Phrases
 mod Growth
 pub mod Turns
 mod Started
+mod Settled

@@ -1,7 +1,7 @@
 -- A session that began behind a Restart is a run, and what the ends of settings are not.
 use Rattle.std.proofs.Common.{◌≡◌, inl, inr, ℕ, List, [], ◌∷◌, ◌++◌, Option, Some, None, refl, ap, subst}
 use Rattle.fts_tables.specs.Coming.{Coming, Gives, later}
-use Rattle.fts_tables.specs.SettingsData.{SettingsData}
+use Rattle.fts_tables.specs.SettingsData.{SettingsData, IsSettings}
 use Rattle.fts_tables.specs.Tables.{Tables}
 use Rattle.fts_wire.specs.Taken.{pending}
 use Rattle.fts_top.specs.Session.{IfTold, SessionFrom}
@@ -22,17 +22,18 @@ by_told : (settings : SettingsData) (tally : Tally) (bytes held : Option (List �
 by_told settings tally (Some b) (Some h) (Some m) moments2 now end tables left after tick s counted =
     let s1 = subst (λ (x : Option Coming). SessionFrom (restart_at now settings ∷ []) (Some b) (Some h) x end tables left after) tick.1 s in
     let s2 = subst (λ (x : ℕ). SessionFrom (restart_at x settings ∷ []) (Some b) (Some h) (Some (later m)) end tables left after) tick.0 s1 in
-    record { tables = tables; session = s2; tally = counted }
+    record { tables = tables; session = s2; counted = counted }
 by_told settings tally (Some b) (Some h) None moments2 now end tables left after tick s counted = tt
 by_told settings tally (Some b) None moments moments2 now end tables left after tick s counted = tt
 by_told settings tally None held moments moments2 now end tables left after tick s counted = tt
 
 -- the session from Restart on, over a room that has kept nothing
 pub ran : (settings : SettingsData) (text : Option (List ℕ)) (tally : Tally) (kept : List ℕ) (bytes held : Option (List ℕ)) (moments moments2 : Option Coming) (now : ℕ) (end : SessionEnd) (tables : Tables) (left after : Option (List ℕ))
-    → AreRead text settings → kept ≡ [] → Gives moments moments2 now → SessionFrom (restart_at now settings ∷ []) (pending kept bytes) held moments2 end tables left after
+    → IsSettings settings → AreRead text settings → kept ≡ [] → Gives moments moments2 now → SessionFrom (restart_at now settings ∷ []) (pending kept bytes) held moments2 end tables left after
     → tally ≡ tally_of tables → RanOver (SessionRan end) tally text bytes left held after moments
-ran settings text tally kept bytes held moments moments2 now end tables left after read k tick s counted = inr (record {
+ran settings text tally kept bytes held moments moments2 now end tables left after valid read k tick s counted = inr (record {
   settings = settings;
+  kept = valid;
   read = read;
   session_end = end;
   ended = refl;

@@ -13,6 +13,8 @@ use Rattle.fts_tables.specs.declared.commands.Answer.{Answer}
 use Rattle.fts_tables.specs.declared.commands.Answer.TheVariants.{Submitted}
 use Rattle.fts_tables.specs.declared.commands.Refusal.{Refusal}
 use Rattle.fts_tables.specs.declared.commands.Refusal.TheVariants.{Duplicate, JobsFull, RowsFull}
+use Rattle.fts_desk.specs.Prepared.{IsPrepared}
+use Rattle.fts_desk.specs.declared.desk.DeskFault.TheVariants.{Rule}
 use Rattle.fts_wire.specs.declared.response.Allow.TheVariants.{None as NoAllow}
 use Rattle.fts_jobdoc.specs.declared.fault.DocFault.{DocFault}
 use Rattle.fts_top.specs.Replies.{accepted_body, reply_by, reply_to_refusal, entries_by, id_of_new, no_memory, IsOrNoMemory, RefusesSubmission, AnswersDocument}
@@ -59,6 +61,11 @@ by_number None tables now job = within_limits (nat_lt (length tables.jobs) MAX_J
 -- the outcome of a submission
 of_submission : (tables : Tables) (now : ℕ) (job : JobData) → OfSubmission tables (max now tables.moment) job (step tables (Submit now job))
 of_submission tables now job = by_number (option_and_then (number_of_id tables.jobs) job.id) tables (max now tables.moment) job
+
+-- what the desk refused, the machine refuses
+pub refused_as : (T : Type 0) (outcome : Outcomes) (refusal : Refusal) → IsPrepared {T = T} outcome (Err (Rule refusal)) → outcome ≡ Err refusal
+refused_as T (Ok done) refusal h = absurd h
+refused_as T (Err other) refusal h = ap (λ r. Err r) (sym h)
 
 -- a submission is refused for these causes alone
 pub refuses_submission : (tables : Tables) (now : ℕ) (job : JobData) (refusal : Refusal) → step tables (Submit now job) ≡ Err refusal → RefusesSubmission refusal

@@ -1,14 +1,15 @@
 -- What a run of the program is: which words it accepts, with which status it ends, and what it did.
-use Rattle.std.specs.Prelude.{◌≡◌, ◌⊎◌, ℕ, Bool, false, List, [], ◌∷◌, count_by, codes, bytes_eq, string_bytes, String, Option, IfSome, Ok, Err}
+use Rattle.std.specs.Prelude.{◌≡◌, ◌≢◌, ◌⊎◌, ℕ, Bool, false, List, [], ◌∷◌, count_by, codes, bytes_eq, string_bytes, String, Option, IfSome, Ok, Err}
 use Rattle.std.specs.declared.alloc.Global.{Global}
 use Rattle.fts_tables.specs.Coming.{Coming, later}
-use Rattle.fts_tables.specs.SettingsData.{SettingsData}
+use Rattle.fts_tables.specs.SettingsData.{SettingsData, IsSettings}
 use Rattle.fts_tables.specs.Tables.{Tables, is_submitted, is_finished, is_failed, is_canceled}
 use Rattle.fts_tables.specs.declared.commands.Entry.{Entry}
 use Rattle.fts_tables.specs.declared.commands.Command.TheVariants.{Restart}
 use Rattle.fts_config.specs.Faults.{rule_of}
 use Rattle.fts_config.specs.Settings.{settings_of}
 use Rattle.fts_config.specs.declared.fault.SettingsFault.{SettingsFault}
+use Rattle.fts_config.specs.declared.fault.SettingsFault.TheVariants.{Memory}
 use Rattle.fts_top.specs.Session.{IfTold, Session, begun_with}
 use Rattle.fts_top.specs.declared.ends.RunEnd.{RunEnd}
 use Rattle.fts_top.specs.declared.ends.RunEnd.TheVariants.{NoMemory, NoCommand, SettingsUnread, SettingsRule, Session as SessionRan}
@@ -67,6 +68,10 @@ pub record IsBroken (text : Option (List ℕ)) (rule : ℕ) : Type 0 where
   pub number : rule ≡ rule_of fault
   pub told : IfSome text (λ bytes. settings_of bytes ≡ Err fault)
 
+-- a run ends so by a fault of its settings: want of memory, or else a rule, by its number
+abbrev pub EndsBy : SettingsFault → RunEnd → Type 0
+EndsBy fault end = ((fault ≡ Memory) × (end ≡ NoMemory)) ⊎ ((fault ≢ Memory) × (end ≡ SettingsRule (rule_of fault)))
+
 -- a run over a settings' text may end so before its first request
 abbrev pub IsStop : Option (List ℕ) → RunEnd → Type 0
 IsStop text NoMemory = Unit {0}
@@ -78,7 +83,7 @@ IsStop text (SessionRan end) = ⊥
 -- a run stopped before its first request: it took no byte of the input and wrote no response
 pub record HasNotBegun (end : RunEnd) (tally : Tally) (text bytes left held after : Option (List ℕ)) : Type 0 where
   pub stop : IsStop text end
-  pub tally : tally ≡ no_tally
+  pub counted : tally ≡ no_tally
   pub untaken : left ≡ bytes
   pub unwritten : after ≡ held
 
@@ -86,11 +91,12 @@ pub record HasNotBegun (end : RunEnd) (tally : Tally) (text bytes left held afte
 pub record Ran (settings : SettingsData) (end : SessionEnd) (tally : Tally) (bytes held : List ℕ) (moments : Coming) (left after : Option (List ℕ)) : Type 0 where
   pub tables : Tables
   pub session : Session (begun_with (restart_at moments.0 settings ∷ []) (later moments)) bytes held end tables left after
-  pub tally : tally ≡ tally_of tables
+  pub counted : tally ≡ tally_of tables
 
 -- a run came to its session: under the settings of the text and, where input, output and moments are told, as the session says
 pub record HasBegun (end : RunEnd) (tally : Tally) (text bytes left held after : Option (List ℕ)) (moments : Option Coming) : Type 0 where
   pub settings : SettingsData
+  pub kept : IsSettings settings
   pub read : AreRead text settings
   pub session_end : SessionEnd
   pub ended : end ≡ SessionRan session_end

@@ -1,8 +1,8 @@
-//! The settings of a run: their text, read whole, and then by their rules.
-ghost use Rattle.std.specs.Prelude.{◌≡◌, ◌≢◌, IfOk, IfErr};
+//! The settings of a run: their text, read whole, and then by its rules.
+//! A text that is too long breaks a rule as any other; only a failed read leaves the settings unread.
+ghost use Rattle.std.specs.Prelude.{◌≡◌, ◌≢◌, Some, IfOk, IfErr};
 ghost use Rattle.fts_wire.specs.Outside.{Rose};
-ghost use Rattle.fts_config.specs.Faults.{rule_of};
-ghost use Rattle.fts_top.specs.Run.{status_of, AreRead, IsStop};
+ghost use Rattle.fts_top.specs.Run.{status_of, AreRead, IsStop, EndsBy};
 
 use crate::ends::RunEnd;
 use fts_config::{SettingsFault, read_settings};
@@ -11,29 +11,41 @@ use fts_tables::limits::MAX_SETTINGS_BYTES;
 use fts_wire::{ReadAllFault, Source, read_all};
 use std::alloc::Global;
 
-/// The settings of a text, or how the run ends: a read failed, the text breaks a rule, or there is no memory.
+/// The settings that a source's text gives, or how the run ends: a read failed, the text breaks a rule, or there is no memory.
 pub fn load_settings<F: Source>(alloc: Global, source: &mut F) -> Result<Settings, RunEnd>
     ensures read { IfOk result (AreRead (F.left source.old)) }
     ensures stopped { IfErr result (IsStop (F.left source.old)) }
-    ensures unread { IfErr result (λ end. status_of end ≡ 8 → Rose (F.faults source.old) (F.faults source.new)) }
     ensures words { IfErr result (λ end. status_of end ≢ 2) }
+    ensures unread { IfErr result (λ end. status_of end ≡ 8 → Rose (F.faults source.old) (F.faults source.new)) }
 {
-    let text = match read_all(alloc, source, MAX_SETTINGS_BYTES) {
-        Ok(text) => text,
-        Err(ReadAllFault::TooLong) => return Err(rule_end(SettingsFault::TooLong)),
-        Err(ReadAllFault::SourceFailed) => return Err(RunEnd::SettingsUnread),
-        Err(ReadAllFault::Memory) => return Err(RunEnd::NoMemory),
-    };
-    match read_settings(alloc, text.as_slice()) {
-        Ok(settings) => Ok(settings),
-        Err(SettingsFault::Memory) => Err(RunEnd::NoMemory),
-        Err(fault) => Err(rule_end(fault)),
+    match read_all(alloc, source, MAX_SETTINGS_BYTES) {
+        Ok(text) => settings_in(alloc, text.as_slice()),
+        Err(ReadAllFault::TooLong) => Err(end_by(SettingsFault::TooLong)),
+        Err(ReadAllFault::SourceFailed) => Err(RunEnd::SettingsUnread),
+        Err(ReadAllFault::Memory) => Err(RunEnd::NoMemory),
     }
 }
 
-/// The end by a broken rule.
-fn rule_end(fault: SettingsFault) -> RunEnd
-    ensures { result ≡ RunEnd.SettingsRule (rule_of fault) }
+/// The settings that a text gives, or how the run ends.
+fn settings_in(alloc: Global, text: &[u8]) -> Result<Settings, RunEnd>
+    ensures read { IfOk result (AreRead (Some text.now)) }
+    ensures stopped { IfErr result (IsStop (Some text.now)) }
+    ensures words { IfErr result (λ end. status_of end ≢ 2) }
+    ensures unread { IfErr result (λ end. status_of end ≢ 8) }
 {
-    RunEnd::SettingsRule { rule: fault.rule() }
+    match read_settings(alloc, text) {
+        Ok(settings) => Ok(settings),
+        Err(fault) => Err(end_by(fault)),
+    }
+}
+
+/// How a run ends by a fault of its settings.
+fn end_by(fault: SettingsFault) -> RunEnd
+    ensures { EndsBy fault result }
+{
+    if fault == SettingsFault::Memory {
+        RunEnd::NoMemory
+    } else {
+        RunEnd::SettingsRule { rule: fault.rule() }
+    }
 }

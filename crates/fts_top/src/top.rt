@@ -1,7 +1,7 @@
 //! The top call: what the program does, over the outside that it is handed.
 //! Order: the words are looked at, the settings are read whole and then by their rules, memory is taken, a Restart with them is accepted,
 //! requests are answered, and the end is noted.
-ghost use Rattle.std.specs.Prelude.{◌≡◌, ◌≢◌, ◌↔◌, ◌≤◌, ◌∷◌, [], ℕ, false, length, count_by, IfOk, IsSome};
+ghost use Rattle.std.specs.Prelude.{◌≡◌, ◌≢◌, ◌↔◌, ◌≤◌, ◌∷◌, [], ℕ, false, List, length, count_by, Option, IfOk, IsSome};
 ghost use Rattle.fts_tables.specs.History.{tables_of};
 ghost use Rattle.fts_tables.specs.Coming.{Gives};
 ghost use Rattle.fts_tables.specs.Tables.{is_submitted, is_finished, is_failed, is_canceled};

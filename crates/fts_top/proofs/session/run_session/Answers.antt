@@ -1,5 +1,7 @@
 -- One turn of a session's loop, and its ends.
-use Rattle.std.proofs.Common.{ℕ, List, subst, ap, arith}
+use Rattle.std.proofs.Common.{ℕ, List, Option, refl, subst, sym, ◌∙◌, ap, arith}
+use Rattle.std.specs.Prelude.{IsSome}
+use Rattle.fts_tables.specs.SettingsData.{SettingsData}
 use Rattle.fts_wire.specs.RequestData.{RequestData}
 use Rattle.fts_wire.specs.Taken.{pending}
 use Rattle.fts_top.specs.Replies.{Answers}
@@ -10,10 +12,14 @@ use Rattle.fts_top.proofs.session.run_session.Goals as goal
 pub loop-done-init : goal.loop-done-init
 loop-done-init g c = record {
   progress = λ entries e. begun entries (pending c.args.room.now.kept (g.S.Source.left c.args.input.now)) (g.K.Sink.held c.args.output.now) (g.C.Clock.moments c.args.clock.now) c.args.desk.now.tables e;
-  commands = omega (arith, c.requires);
+  settings = refl;
+  commands = omega (arith, c.requires.few);
   input = omega arith;
   output = omega arith;
 }
+
+pub answer-reply-requires-clause-settings : goal.answer-reply-requires-clause-settings
+answer-reply-requires-clause-settings g c = subst (λ (settings : Option SettingsData). IsSome settings) (sym c.loop-done.invariant.settings) c.requires.settings
 
 pub returns-in-Ok-false-clause-session : goal.returns-in-Ok-false-clause-session
 returns-in-Ok-false-clause-session g c =
@@ -118,6 +124,7 @@ loop-done-preserved g c =
     record {
       progress = λ entries e. turn entries bytes held moments n tables coming after next (c.loop-done.invariant.progress entries e) coming2 (g.K.Sink.held c.write_response.new.sink) (g.C.Clock.moments c.now-now.new.self) c.load.new.self c.now-now.result c.answer-reply.result c.answer-reply.new.desk.tables
           loaded.next c.now-now.ensures answered c.in-Ok.ensures.sent;
+      settings = c.answer-reply.ensures.settings ∙ c.loop-done.invariant.settings;
       commands = omega (arith, c.loop-done.invariant.commands, c.answer-reply.ensures.commands);
       input = omega (arith, c.loop-done.invariant.input, c.load.ensures.faults);
       output = omega (arith, c.loop-done.invariant.output, c.write_response.ensures.cause.keeps);
