@@ -1,0 +1,34 @@
+-- Bodies and JSON values against what `serde_json` says of them.
+use Rattle.std.proofs.Common.{◌≡◌, ◌||◌, Bool, true, false, cond, ℕ, List, [], ◌∷◌, map, Option, Some, None, refl, ap, sym, ◌∙◌}
+use Rattle.std.specs.Prelude.{IsUtf8}
+use Rattle.std.specs.List.{list_any}
+use Rattle.std.specs.Str.{is_utf8}
+use Rattle.std.proofs.lemmas.Str.{IsUtf8-from_is_utf8, is_utf8-from_IsUtf8}
+use Rattle.serde_json.specs.Data.{Data}
+use Rattle.serde_json.specs.Read.{read}
+use Rattle.serde_json.specs.View.{view, items_of, items_view}
+use Rattle.serde_json.specs.declared.value.Value.{Value}
+use Rattle.fts_jobdoc.specs.Json.{value_of, list_of}
+
+-- what was read of a body
+pub value_of-read : (body : List ℕ) (value : Data) → IsUtf8 body → read body ≡ Some value → value_of body ≡ Some value
+value_of-read body value utf8 e = rw (is_utf8-from_IsUtf8 body utf8) e
+
+-- a body is no JSON if it is no UTF-8, or if nothing is read of it
+by_utf8 : (utf8 : Bool) (value : Option Data) → (utf8 ≡ true → value ≡ None) → cond utf8 value None ≡ None
+by_utf8 true value none = none refl
+by_utf8 false value none = refl
+
+-- a body that can't be read
+pub value_of-refused : (body : List ℕ) → (IsUtf8 body → read body ≡ None) → value_of body ≡ None
+value_of-refused body refused = by_utf8 (is_utf8 body) (read body) (λ e. refused (IsUtf8-from_is_utf8 body e))
+
+-- the items of a list are those that it was made of
+pub list_of-items_of : (values : List Data) → list_of (items_of values) ≡ values
+list_of-items_of [] = refl
+list_of-items_of (value ∷ values) = ap (λ rest. value ∷ rest) (list_of-items_of values)
+
+-- a test of what is made of each item is a test of each item
+pub list_any-map : {X Y : Type 0} (test : X → Bool) (h : Y → X) (ys : List Y) → list_any test (map h ys) ≡ list_any (λ y. test (h y)) ys
+list_any-map test h [] = refl
+list_any-map test h (y ∷ ys) = ap (λ b. test (h y) || b) (list_any-map test h ys)

@@ -1,0 +1,10 @@
+pub mod JsonLemmas
+pub mod ChecksumLemmas
+pub mod EndsLemmas
+pub mod Left
+pub mod Ruled
+pub mod FieldRules
+pub mod JobRules
+pub mod KindRules
+pub mod Chain
+pub mod MadeFiles

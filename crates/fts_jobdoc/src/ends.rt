@@ -1,0 +1,213 @@
+//! The URLs of a document's files: each is read once, and is then a place on an endpoint.
+//! `read_all_ends` refuses the first broken one, in order of files, a file's sources before its destination. Then come the rules on places:
+//! known endpoints, no file onto itself, and the chain of a multihop job, whose places are compared as places and not as texts.
+ghost use Rattle.std.specs.Prelude.{◌≡◌, ◌⊎◌, ◌&&◌, ◌||◌, ◌++◌, ◌∷◌, [], not, map, OnOk, OnErr, IfErr, codes};
+ghost use Rattle.std.specs.List.{list_any, list_all, filter_map};
+ghost use Rattle.serde_json.specs.Find.{as_str};
+ghost use Rattle.serde_json.specs.View.{view};
+ghost use Rattle.fts_tables.specs.SettingsData.{is_listed as is_listed_in};
+ghost use Rattle.fts_tables.specs.Places.{is_same_place as is_one_place};
+ghost use Rattle.fts_jobdoc.specs.Json.{texts_under};
+ghost use Rattle.fts_jobdoc.specs.Checks.{Gives, refuse_if};
+ghost use Rattle.fts_jobdoc.specs.Ends.{place_read, bad_url, places_read, ends_read, all_ends_read, is_elsewhere, has_unknown_endpoint as goes_beyond, has_same_url as goes_nowhere, meets as meets_next, breaks_from as breaks_behind, breaks_chain as breaks};
+
+use crate::DocFault;
+use crate::json::list_under;
+use fts_joburl::{UrlFault, read_surl};
+use fts_tables::{Endpoint, Items, Memory, Place, Settings};
+use serde_json::Value;
+use std::alloc::Global;
+
+/// Where a file comes from, and where it goes to. The document has a list of destinations, in which rule 7 wants one.
+#[derive(Drop)]
+pub struct FileEnds {
+    pub sources: Items<Place>,
+    pub dests: Items<Place>,
+}
+
+/// Reads the URLs of all files.
+pub fn read_all_ends(alloc: Global, files: &[Value]) -> Result<Items<FileEnds>, DocFault>
+    ensures { Gives result (all_ends_read (map view files.now)) }
+{
+    let mut all = Items::new(alloc);
+    for file in files {
+        let ends = read_ends(alloc, file)?;
+        add(&mut all, ends)?;
+    }
+    Ok(all)
+}
+
+/// Reads the URLs of a file.
+fn read_ends(alloc: Global, file: &Value) -> Result<FileEnds, DocFault>
+    ensures { Gives result (ends_read (view file.now)) }
+{
+    let sources = read_under(alloc, file, "sources")?;
+    let dests = read_under(alloc, file, "destinations")?;
+    Ok(FileEnds { sources, dests })
+}
+
+/// Reads the URLs of the list under a key.
+#[tactic(auto, unfolding(crate::specs::Json::texts_under))]
+fn read_under(alloc: Global, file: &Value, key: &str) -> Result<Items<Place>, DocFault>
+    ensures { Gives result (places_read (texts_under key.now (view file.now))) }
+{
+    read_places(alloc, list_under(file, key))
+}
+
+/// Reads the URLs of a list, of which every text is one.
+fn read_places(alloc: Global, list: &[Value]) -> Result<Items<Place>, DocFault>
+    ensures { Gives result (places_read (filter_map as_str (map view list.now))) }
+{
+    let mut places = Items::new(alloc);
+    for item in list {
+        let Some(text) = item.as_str() else {
+            continue;
+        };
+        let place = read_place(alloc, text)?;
+        add(&mut places, place)?;
+    }
+    Ok(places)
+}
+
+/// Reads a URL.
+#[tactic(auto, unfolding(crate::specs::Ends::place_read))]
+fn read_place(alloc: Global, text: &str) -> Result<Place, DocFault>
+    ensures { Gives result (bad_url (place_read text.now)) }
+{
+    match read_surl(alloc, text) {
+        Ok(surl) => Ok(Place {
+            endpoint: surl.endpoint,
+            path: surl.path,
+        }),
+        Err(fault) => {
+            if fault == UrlFault::Memory {
+                Err(DocFault::Memory)
+            } else {
+                Err(DocFault::BadUrl { fault })
+            }
+        }
+    }
+}
+
+/// Appends an item. At an `Err` the list is as before.
+fn add<T: Drop>(items: &mut Items<T>, item: T) -> Result<(), DocFault>
+    ensures ok { OnOk result (items.new ≡ items.old ++ item ∷ []) }
+    ensures err { IfErr result (λ fault. fault ≡ DocFault.Memory) }
+{
+    match items.push(item) {
+        Ok(()) => Ok(()),
+        Err(_) => Err(DocFault::Memory),
+    }
+}
+
+/// Every endpoint is in the settings.
+pub fn check_endpoints(settings: &Settings, all: &[FileEnds]) -> Result<(), DocFault>
+    ensures { result ≡ refuse_if (list_any (goes_beyond settings.now) all.now) DocFault.UnknownEndpoint }
+{
+    for ends in all {
+        if has_unknown_endpoint(settings, ends) {
+            return Err(DocFault::UnknownEndpoint);
+        }
+    }
+    Ok(())
+}
+
+#[tactic(auto, unfolding(crate::specs::Ends::has_unknown_endpoint))]
+fn has_unknown_endpoint(settings: &Settings, ends: &FileEnds) -> bool
+    ensures { result ≡ goes_beyond settings.now ends.now }
+{
+    is_some_elsewhere(settings, ends.sources.as_slice())
+        || is_some_elsewhere(settings, ends.dests.as_slice())
+}
+
+fn is_some_elsewhere(settings: &Settings, places: &[Place]) -> bool
+    ensures { result ≡ list_any (is_elsewhere settings.now) places.now }
+{
+    let endpoints = settings.endpoints.as_slice();
+    places
+        .iter()
+        .any(|place| !is_listed(endpoints, place.endpoint.as_str()))
+}
+
+fn is_listed(endpoints: &[Endpoint], name: &str) -> bool
+    ensures { result ≡ is_listed_in endpoints.now name.now }
+{
+    endpoints
+        .iter()
+        .any(|endpoint| endpoint.name.as_str() == name)
+}
+
+/// No file is copied onto itself.
+pub fn check_distinct(all: &[FileEnds]) -> Result<(), DocFault>
+    ensures { result ≡ refuse_if (list_any goes_nowhere all.now) DocFault.SameUrl }
+{
+    for ends in all {
+        if has_same_url(ends) {
+            return Err(DocFault::SameUrl);
+        }
+    }
+    Ok(())
+}
+
+#[tactic(auto, unfolding(crate::specs::Ends::has_same_url))]
+fn has_same_url(ends: &FileEnds) -> bool
+    ensures { result ≡ goes_nowhere ends.now }
+{
+    let sources = ends.sources.as_slice();
+    ends.dests
+        .as_slice()
+        .iter()
+        .any(|dest| is_among(dest, sources))
+}
+
+fn is_among(place: &Place, sources: &[Place]) -> bool
+    ensures { result ≡ list_any (λ source. is_one_place source place.now) sources.now }
+{
+    sources.iter().any(|source| is_same_place(source, place))
+}
+
+fn is_same_place(one: &Place, other: &Place) -> bool
+    ensures { result ≡ is_one_place one.now other.now }
+{
+    one.endpoint.as_str() == other.endpoint.as_str() && one.path.as_str() == other.path.as_str()
+}
+
+/// Whether a file's destination isn't the next file's source.
+pub fn breaks_chain(all: &[FileEnds]) -> bool
+    ensures { result ≡ breaks all.now }
+{
+    match all {
+        [] => false,
+        [first, later @ ..] => breaks_from(first, later),
+    }
+}
+
+fn breaks_from(first: &FileEnds, later: &[FileEnds]) -> bool
+    ensures { result ≡ breaks_behind first.now later.now }
+{
+    let mut ends = first;
+    for next in later {
+        if !meets(ends, next) {
+            return true;
+        }
+        ends = next;
+    }
+    false
+}
+
+#[tactic(auto, unfolding(crate::specs::Ends::meets))]
+fn meets(ends: &FileEnds, next: &FileEnds) -> bool
+    ensures { result ≡ meets_next ends.now next.now }
+{
+    let sources = next.sources.as_slice();
+    ends.dests
+        .as_slice()
+        .iter()
+        .all(|dest| is_each(dest, sources))
+}
+
+fn is_each(place: &Place, sources: &[Place]) -> bool
+    ensures { result ≡ list_all (λ source. is_one_place place.now source) sources.now }
+{
+    sources.iter().all(|source| is_same_place(place, source))
+}

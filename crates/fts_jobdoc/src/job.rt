@@ -1,0 +1,229 @@
+//! A body as a new job, or the least rule that it breaks; and the priority that another body asks for.
+//! Rules first, job after: JSON, shape, URLs, places, files, parameters, kind; then the job is built, field by field, from what the rules keep.
+//! So each rule of a `NewJob` follows from rules that were asked (`proofs/JobRules.antt`). `specs/Documents.antt` is the whole definition.
+//! Called by the routes. It takes no more time than the document is long, but for a comparison of each place with each endpoint.
+ghost use Rattle.std.specs.Prelude.{◌≡◌, ◌⊎◌, ◌≤◌, ◌++◌, length, map, option_map, false, Ok, OnOk, IfOk};
+ghost use Rattle.std.specs.List.{list_any};
+ghost use Rattle.serde_json.specs.View.{view};
+ghost use Rattle.fts_tables.specs.declared.limits.TheConstants.{MAX_FILES};
+ghost use Rattle.fts_jobdoc.specs.Json.{files_of};
+ghost use Rattle.fts_jobdoc.specs.Fields.{has_replicas, has_bad_retry, retry_of, has_bad_priority, priority_in, sid_in};
+ghost use Rattle.fts_jobdoc.specs.Checks.{Gives, unless_refused};
+ghost use Rattle.fts_jobdoc.specs.Ends.{ends_of};
+ghost use Rattle.fts_jobdoc.specs.Ids.{sid_id as id_of};
+ghost use Rattle.fts_jobdoc.specs.Documents.{job_of, job_in as job_of_document, priority_of, rules_of, new_job, new_file, new_files, files_from, kind_of as kind_in};
+
+use crate::ends::{FileEnds, read_all_ends};
+use crate::files::{activity_of, size_of, some_has_replicas, strategy_of, wanted_digest};
+use crate::json::{list_under, natural_or, param, read_value};
+use crate::params::{is_set, is_verified, read_delay, sid_of};
+use crate::rules::{check_later, check_priority_document, check_shape};
+use crate::{DocFault, sid_id};
+use fts_tables::{Items, JobKind, Label, Memory, NewFile, NewJob, Place, Settings};
+use serde_json::Value;
+use std::alloc::Global;
+
+/// Reads the body of a submission, as `serde_json` reads JSON (RFC 8259), under the settings in force.
+/// The error is the least rule that is broken, from 1 to 24, or `Memory` where there was none to tell.
+pub fn read_job(alloc: Global, body: &[u8], settings: &Settings) -> Result<NewJob, DocFault>
+    ensures { (result ≡ job_of body.now settings.now) ⊎ (result ≡ Err DocFault.Memory) }
+{
+    let document = read_value(alloc, body)?;
+    job_in(alloc, &document, settings)
+}
+
+/// Reads the body of a change of priority: from `MIN_PRIORITY` to `MAX_PRIORITY`.
+/// The error is the least of the rules 1, 2, 16 and 19 that is broken, where rule 19 also wants the priority to be there, or `Memory`.
+pub fn read_priority(alloc: Global, body: &[u8]) -> Result<u32, DocFault>
+    ensures { (result ≡ priority_of body.now) ⊎ (result ≡ Err DocFault.Memory) }
+{
+    let document = read_value(alloc, body)?;
+    check_priority_document(&document)?;
+    Ok(priority_value(&document))
+}
+
+/// The job of a document, or the least rule that it breaks.
+fn job_in(alloc: Global, document: &Value, settings: &Settings) -> Result<NewJob, DocFault>
+    ensures { Gives result (job_of_document (view document.now) settings.now) }
+{
+    let files = list_under(document, "files");
+    let ends = check_all(alloc, document, files, settings)?;
+    let job = make_job(alloc, document, settings, files, ends.as_slice())?;
+    Ok(job)
+}
+
+/// Where the files of a document that breaks no rule come from and go to.
+fn check_all(
+    alloc: Global,
+    document: &Value,
+    files: &[Value],
+    settings: &Settings,
+) -> Result<Items<FileEnds>, DocFault>
+    requires { map view files.now ≡ files_of (view document.now) }
+    ensures { Gives result (unless_refused (rules_of (view document.now) settings.now) (map ends_of (map view files.now))) }
+{
+    check_shape(document, files)?;
+    let ends = read_all_ends(alloc, files)?;
+    check_later(document, settings, files, ends.as_slice())?;
+    Ok(ends)
+}
+
+/// The job of a document that breaks no rule.
+fn make_job(
+    alloc: Global,
+    document: &Value,
+    settings: &Settings,
+    files: &[Value],
+    ends: &[FileEnds],
+) -> Result<NewJob, Memory>
+    requires kept { rules_of (view document.now) settings.now ≡ Ok tt }
+    requires files { map view files.now ≡ files_of (view document.now) }
+    requires ends { ends.now ≡ map ends_of (map view files.now) }
+    ensures { IfOk result (λ job. job ≡ new_job (view document.now) settings.now) }
+{
+    let made = make_files(alloc, is_verified(document), files, ends)?;
+    Ok(NewJob {
+        id: job_id(document, settings),
+        kind: kind_of(document, files),
+        strategy: strategy_of(files),
+        priority: priority_value(document),
+        retry: retry_value(document),
+        delay: read_delay(document),
+        overwrite: is_set(document, "overwrite"),
+        files: made,
+    })
+}
+
+/// The id that the document asks for.
+fn job_id(document: &Value, settings: &Settings) -> Option<u128>
+    ensures { result ≡ option_map (id_of settings.now.vo) (sid_in (view document.now)) }
+{
+    match sid_of(document) {
+        Some(sid) => Some(sid_id(settings.vo.as_str(), sid)),
+        None => None,
+    }
+}
+
+#[tactic(auto, unfolding(crate::specs::Documents::kind_of))]
+fn kind_of(document: &Value, files: &[Value]) -> JobKind
+    requires { map view files.now ≡ files_of (view document.now) }
+    ensures { result ≡ kind_in (view document.now) }
+{
+    if is_set(document, "multihop") {
+        JobKind::Multihop
+    } else if some_has_replicas(files) {
+        JobKind::Replica
+    } else {
+        JobKind::Plain
+    }
+}
+
+/// The priority, from `MIN_PRIORITY` to `MAX_PRIORITY`.
+#[tactic(auto, unfolding(crate::specs::Fields::priority_in))]
+fn priority_value(document: &Value) -> u32
+    requires { has_bad_priority (view document.now) ≡ false }
+    ensures { result ≡ priority_in (view document.now) }
+{
+    natural_or(param(document, "priority"), 3) as u32
+}
+
+/// The retries, at most `MAX_RETRY`; -1 means none.
+#[tactic(auto, unfolding(crate::specs::Fields::retry_of))]
+fn retry_value(document: &Value) -> u32
+    requires { has_bad_retry (view document.now) ≡ false }
+    ensures { result ≡ retry_of (view document.now) }
+{
+    natural_or(param(document, "retry"), 0) as u32
+}
+
+/// The files of the job: file `k` of the document has index `k`, and there is one for each of its sources.
+fn make_files(
+    alloc: Global,
+    verified: bool,
+    files: &[Value],
+    ends: &[FileEnds],
+) -> Result<Items<NewFile>, Memory>
+    requires ends { ends.now ≡ map ends_of (map view files.now) }
+    requires count { length files.now ≤ MAX_FILES }
+    ensures { IfOk result (λ made. made ≡ files_from verified 0 (map view files.now)) }
+{
+    let mut made = Items::new(alloc);
+    for index in 0..files.len() {
+        add_files(
+            alloc,
+            verified,
+            index as u32,
+            &files[index],
+            &ends[index],
+            &mut made,
+        )?;
+    }
+    Ok(made)
+}
+
+/// Appends a file for each source of one.
+fn add_files(
+    alloc: Global,
+    verified: bool,
+    index: u32,
+    file: &Value,
+    ends: &FileEnds,
+    made: &mut Items<NewFile>,
+) -> Result<(), Memory>
+    ensures { OnOk result (made.new ≡ made.old ++ new_files verified index (view file.now) ends.now) }
+{
+    for dest in ends.dests.as_slice() {
+        add_sources(
+            alloc,
+            verified,
+            index,
+            file,
+            dest,
+            ends.sources.as_slice(),
+            made,
+        )?;
+    }
+    Ok(())
+}
+
+fn add_sources(
+    alloc: Global,
+    verified: bool,
+    index: u32,
+    file: &Value,
+    dest: &Place,
+    sources: &[Place],
+    made: &mut Items<NewFile>,
+) -> Result<(), Memory>
+    ensures { OnOk result (made.new ≡ made.old ++ map (new_file verified index (view file.now) dest.now) sources.now) }
+{
+    for source in sources {
+        let file = make_file(alloc, verified, index, file, dest, source)?;
+        match made.push(file) {
+            Ok(()) => {}
+            Err(_) => return Err(Memory),
+        }
+    }
+    Ok(())
+}
+
+#[tactic(auto, unfolding(crate::specs::Documents::new_file))]
+fn make_file(
+    alloc: Global,
+    verified: bool,
+    index: u32,
+    file: &Value,
+    dest: &Place,
+    source: &Place,
+) -> Result<NewFile, Memory>
+    ensures { IfOk result (λ made. made ≡ new_file verified index (view file.now) dest.now source.now) }
+{
+    Ok(NewFile {
+        index,
+        source: source.copy(alloc)?,
+        dest: dest.copy(alloc)?,
+        size: size_of(file),
+        wanted: wanted_digest(verified, file),
+        activity: Label::new(alloc, activity_of(file))?,
+    })
+}

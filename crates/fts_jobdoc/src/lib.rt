@@ -1,0 +1,21 @@
+//! Job documents: a request's body, read as a new job or refused by the least broken of 24 rules; the priority that another body asks
+//! for; and the id that a client's own id stands for. JSON (RFC 8259) is what `serde_json` reads, a URL what `fts_joburl` reads.
+//! Each answer is one function of the body and the settings: `job_of`, `priority_of`, `sid_id` (`specs/Documents.antt`, `specs/Ids.antt`).
+//! Called by the routes. Nothing here knows of HTTP, or of the rows that a job becomes.
+#![tactic(auto)]
+
+mod checksum;
+mod ends;
+mod fault;
+mod files;
+mod ids;
+mod job;
+mod json;
+mod params;
+mod rules;
+#[cfg(test)]
+mod tests;
+
+pub use fault::{DocFault, Unoffered};
+pub use ids::sid_id;
+pub use job::{read_job, read_priority};
