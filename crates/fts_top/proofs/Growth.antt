@@ -15,7 +15,6 @@ use Rattle.fts_wire.specs.RoomData.{RoomData}
 use Rattle.fts_wire.specs.Taken.{IsNext}
 use Rattle.fts_wire.specs.Response.{response_of}
 use Rattle.fts_wire.specs.declared.response.Reply.{Reply}
-use Rattle.fts_top.specs.Documents.{document_of}
 use Rattle.fts_top.specs.Replies.{reply_to, entries_of, Answers}
 use Rattle.fts_top.specs.Session.{Exchange, Progress, reply_over, entries_over, response_after, with_exchange, with_exchanges, requests_of, begun_with}
 
@@ -58,7 +57,7 @@ record Answered (so_far : Progress) (body : List ℕ) (reply : Reply) (tables : 
 
 -- an answer is such a doing
 answered : (so_far : Progress) (body : List ℕ) (reply : Reply) (tables after : Tables) (now : ℕ) → tables ≡ tables_of so_far.entries → now ≡ so_far.moments.0
-    → Answers tables now (document_of body) reply after → Answered so_far body reply after
+    → Answers tables now body reply after → Answered so_far body reply after
 answered so_far body reply tables after now e m (inl h) = record {
   lacks = true;
   replied = h.0;
@@ -66,9 +65,9 @@ answered so_far body reply tables after now e m (inl h) = record {
 }
 answered so_far body reply tables after now e m (inr h) = record {
   lacks = false;
-  replied = h.0 ∙ ap (λ x. reply_to x now (document_of body)) e ∙ ap (λ n. reply_to (tables_of so_far.entries) n (document_of body)) m;
-  folded = h.1 ∙ ap (λ x. tables_from x (entries_of x now (document_of body))) e
-      ∙ ap (λ n. tables_from (tables_of so_far.entries) (entries_of (tables_of so_far.entries) n (document_of body))) m
+  replied = h.0 ∙ ap (λ x. reply_to x now body) e ∙ ap (λ n. reply_to (tables_of so_far.entries) n body) m;
+  folded = h.1 ∙ ap (λ x. tables_from x (entries_of x now body)) e
+      ∙ ap (λ n. tables_from (tables_of so_far.entries) (entries_of (tables_of so_far.entries) n body)) m
       ∙ sym (tables_from-append empty_tables so_far.entries _);
 }
 
@@ -105,7 +104,7 @@ count_of_responses entries moments bytes n tables coming g = omega (arith, lengt
 -- a request that was found and answered is one more
 pub pushed : (entries : List Entry) (moments : Coming) (bytes : List ℕ) (n : ℕ) (tables : Tables) (coming : Option (List ℕ))
     → (g : Grown entries moments bytes n tables coming) (coming2 : Option (List ℕ)) (room : RoomData) (now : ℕ) (reply : Reply) (tables2 : Tables)
-    → IsNext coming coming2 room (Ok true) → now ≡ (progress_of entries moments g.exchanges).moments.0 → Answers tables now (document_of room.request.body) reply tables2
+    → IsNext coming coming2 room (Ok true) → now ≡ (progress_of entries moments g.exchanges).moments.0 → Answers tables now room.request.body reply tables2
     → Pushed entries moments bytes n (progress_of entries moments g.exchanges) tables2 coming2 reply
 pushed entries moments bytes n tables coming g coming2 room now reply tables2 asks tick answers =
     let so_far = progress_of entries moments g.exchanges in

@@ -1,9 +1,7 @@
-mod Json
-mod Texts
 mod Submits
 mod Sent
 pub mod Phrases
 mod Growth
 pub mod Turns
 mod Started
-pub mod StandKept
+mod Settled

@@ -1,6 +1,5 @@
--- A text that is written by one write after another.
-use Rattle.std.proofs.Common.{ℕ, List, [], ◌++◌, ◌<◌, length, take, Option, Some, None, Result, Ok, Err, refl, ap, sym, ◌∙◌, subst, append_assoc, append-nil}
-use Rattle.fts_wire.specs.Outside.{Writes}
+-- Texts that are sent one after another.
+use Rattle.std.proofs.Common.{ℕ, List, ◌++◌, ◌<◌, length, Option, Some, None, Result, Ok, Err, ap, sym, ◌∙◌, subst, append_assoc, length-append, arith}
 use Rattle.fts_wire.specs.Response.{Sends}
 
 -- the first was sent whole, and then the second as far as may be
@@ -18,16 +17,15 @@ sends_then (Some h) (Some m) (Some n) first second (Err e) a b = record {
   some = b.some;
 }
 
--- a write that took n bytes sent them
-pub sends_from_write : (E : Type 0) (old new : Option (List ℕ)) (piece : List ℕ) (n : ℕ)
-    → Writes {E = E} old new piece (Ok n) → Sends {E = E} old new (take n piece) (Ok tt)
-sends_from_write E None new piece n a = a
-sends_from_write E (Some h) None piece n a = a
-sends_from_write E (Some h) (Some m) piece n a = a
-
--- a write that failed sent none of some bytes
-pub sends_nothing : {E : Type 0} (old new : Option (List ℕ)) (piece bytes : List ℕ) (e : E) → 0 < length bytes
-    → Writes {E = E} old new piece (Err e) → Sends old new bytes (Err e)
-sends_nothing None new piece bytes e some a = a
-sends_nothing (Some h) None piece bytes e some a = a
-sends_nothing (Some h) (Some m) piece bytes e some a = record { sent = []; rest = bytes; parts = refl; written = a ∙ sym (append-nil h); some = some }
+-- where the first was cut short, both were
+pub sends_no_more : {E : Type 0} (old new : Option (List ℕ)) (first second : List ℕ) (e : E)
+    → Sends old new first (Err e) → Sends old new (first ++ second) (Err e)
+sends_no_more None new first second e a = a
+sends_no_more (Some h) None first second e a = absurd a
+sends_no_more (Some h) (Some n) first second e a = record {
+  sent = a.sent;
+  rest = a.rest ++ second;
+  parts = ap (λ xs. xs ++ second) a.parts ∙ append_assoc a.sent a.rest second;
+  written = a.written;
+  some = omega (arith, a.some, length-append a.rest second);
+}

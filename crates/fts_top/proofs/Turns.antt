@@ -14,11 +14,10 @@ use Rattle.fts_wire.specs.Response.{response_of, Sends, IsCut}
 use Rattle.fts_wire.specs.declared.request.WireFault.TheVariants.{NotBuilt as NotBuiltFault, EndsInside as EndsInsideFault, SourceFailed}
 use Rattle.fts_wire.specs.declared.outside.SinkFailed.{SinkFailed}
 use Rattle.fts_wire.specs.declared.response.Reply.{Reply}
-use Rattle.fts_top.specs.Documents.{document_of}
 use Rattle.fts_top.specs.Replies.{not_built, IsOrNoMemory, Answers}
 use Rattle.fts_top.specs.Session.{IfTold, AreWritten, AreCutShort, IsRefusal, IsReadCut, end_by, IsRefused, Ends, SessionFrom}
-use Rattle.fts_top.specs.declared.session.SessionEnd.{SessionEnd}
-use Rattle.fts_top.specs.declared.session.SessionEnd.TheVariants.{Closed as EndClosed, EndsInside as EndEndsInside, Refused as EndRefused, Many as EndMany, SourceFailed as EndSourceFailed, SinkFailed as EndSinkFailed}
+use Rattle.fts_top.specs.declared.ends.SessionEnd.{SessionEnd}
+use Rattle.fts_top.specs.declared.ends.SessionEnd.TheVariants.{Closed as EndClosed, EndsInside as EndEndsInside, Refused as EndRefused, Many as EndMany, SourceFailed as EndSourceFailed, SinkFailed as EndSinkFailed}
 use Rattle.fts_top.proofs.Growth.{Grown, progress_of, count_of_responses, pushed, concat-push}
 
 -- a session in progress: its requests, their responses written, and the moments to come
@@ -125,7 +124,7 @@ module _ (entries : List Entry) (bytes held : Option (List ℕ)) (moments : Opti
     (so_far : InProgressFrom entries bytes held moments n tables coming after moments2) where
   -- a request more, that was answered and whose response was written
   pub turn : (coming2 after2 : Option (List ℕ)) (moments3 : Option Coming) (room : RoomData) (now : ℕ) (reply : Reply) (tables2 : Tables)
-      → IsNext coming coming2 room (Ok true) → Gives moments2 moments3 now → Answers tables now (document_of room.request.body) reply tables2
+      → IsNext coming coming2 room (Ok true) → Gives moments2 moments3 now → Answers tables now room.request.body reply tables2
       → Sends {E = SinkFailed} after after2 (response_of reply false (n + 1 == MAX_REQUESTS)) (Ok tt)
       → InProgressFrom entries bytes held moments (n + 1) tables2 coming2 after2 moments3
   turn coming2 after2 moments3 room now reply tables2 asks tick answers sent =
@@ -141,7 +140,7 @@ module _ (entries : List Entry) (bytes held : Option (List ℕ)) (moments : Opti
 
   -- a request more, whose response was cut short
   pub cut : (left coming2 after2 : Option (List ℕ)) (moments3 : Option Coming) (room : RoomData) (now : ℕ) (reply : Reply) (tables2 : Tables) (e : SinkFailed) → n < MAX_REQUESTS
-      → IsNext coming coming2 room (Ok true) → Gives moments2 moments3 now → Answers tables now (document_of room.request.body) reply tables2
+      → IsNext coming coming2 room (Ok true) → Gives moments2 moments3 now → Answers tables now room.request.body reply tables2
       → Sends after after2 (response_of reply false (n + 1 == MAX_REQUESTS)) (Err e)
       → SessionFrom entries bytes held moments EndSinkFailed tables2 left after2
   cut left coming2 after2 moments3 room now reply tables2 e few asks tick answers sent =

@@ -1,19 +1,33 @@
--- The line that a run writes to its notes, by its exit status.
-use Rattle.std.specs.Prelude.{ℕ, ◌==◌, if◌then◌else◌, List, [], codes, Option, Result}
+-- The line that a run writes to its notes, by how it ended.
+use Rattle.std.specs.Prelude.{ℕ, List, [], ◌++◌, codes, decimal, Option, Result}
 use Rattle.fts_wire.specs.Outside.{CountsFaults}
 use Rattle.fts_wire.specs.Response.{Sends}
 use Rattle.fts_wire.specs.declared.outside.SinkFailed.{SinkFailed}
+use Rattle.fts_top.specs.declared.ends.RunEnd.{RunEnd}
+use Rattle.fts_top.specs.declared.ends.RunEnd.TheVariants.{NoMemory, NoCommand, SettingsUnread, SettingsRule, Session}
+use Rattle.fts_top.specs.declared.ends.SessionEnd.{SessionEnd}
+use Rattle.fts_top.specs.declared.ends.SessionEnd.TheVariants.{Closed, EndsInside, Refused, Many, SourceFailed, SinkFailed as WriteFailed}
 
--- the line of a status; a run that ends well, with status 0, writes none
-abbrev pub note_of : ℕ → List ℕ
-note_of status =
-    if status == 1 then codes "fts: no memory\n" else
-    if status == 2 then codes "fts: not a command\n" else
-    if status == 5 then codes "fts: input failed\n" else
-    if status == 6 then codes "fts: output failed\n" else
-    if status == 10 then codes "fts: input ended inside a request\n" else
-    if status == 12 then codes "fts: request refused with 501\n" else
-    if status == 14 then codes "fts: too many requests\n" else []
+-- the line of a session's end; a session that ends well writes none
+abbrev pub session_note_of : SessionEnd → List ℕ
+session_note_of Closed = []
+session_note_of SourceFailed = codes "fts: input failed\n"
+session_note_of WriteFailed = codes "fts: output failed\n"
+session_note_of EndsInside = codes "fts: input ended inside a request\n"
+session_note_of Refused = codes "fts: request refused with 501\n"
+session_note_of Many = codes "fts: too many requests\n"
+
+-- the line of a broken rule of the settings, with the rule's number
+abbrev pub rule_note_of : ℕ → List ℕ
+rule_note_of rule = codes "fts: settings rule " ++ (decimal rule ++ codes "\n")
+
+-- the line of a run's end
+abbrev pub note_of : RunEnd → List ℕ
+note_of NoMemory = codes "fts: no memory\n"
+note_of NoCommand = codes "fts: not a command\n"
+note_of SettingsUnread = codes "fts: settings could not be read\n"
+note_of (SettingsRule rule) = rule_note_of rule
+note_of (Session end) = session_note_of end
 
 -- a text was written to a sink: all of it or, where its count of faults rose, a part
 pub record IsNoted (before after : Option (List ℕ)) (old new : ℕ) (text : List ℕ) : Type 0 where

@@ -11,10 +11,9 @@ use Rattle.fts_wire.specs.Requests.{Next, next_of, IsShort, AreRequests, Closed,
 use Rattle.fts_wire.specs.Response.{response_of, IsCut, Sends}
 use Rattle.fts_wire.specs.declared.outside.SinkFailed.{SinkFailed}
 use Rattle.fts_wire.specs.declared.response.Reply.{Reply}
-use Rattle.fts_top.specs.Documents.{document_of}
 use Rattle.fts_top.specs.Replies.{reply_to, entries_of, no_memory, not_built}
-use Rattle.fts_top.specs.declared.session.SessionEnd.{SessionEnd}
-use Rattle.fts_top.specs.declared.session.SessionEnd.TheVariants.{Closed as EndClosed, EndsInside as EndEndsInside, Refused as EndRefused, Many as EndMany, SourceFailed as EndSourceFailed, SinkFailed as EndSinkFailed}
+use Rattle.fts_top.specs.declared.ends.SessionEnd.{SessionEnd}
+use Rattle.fts_top.specs.declared.ends.SessionEnd.TheVariants.{Closed as EndClosed, EndsInside as EndEndsInside, Refused as EndRefused, Many as EndMany, SourceFailed as EndSourceFailed, SinkFailed as EndSinkFailed}
 
 -- a request that was answered, and whether there was no memory to do it
 pub record Exchange : Type 0 where
@@ -30,12 +29,12 @@ pub record Progress : Type 0 where
 -- the reply to a request over a list, at a moment: by the tables of that list, or want of memory
 abbrev pub reply_over : List Entry → ℕ → List ℕ → Bool → Reply
 reply_over entries now body true = no_memory
-reply_over entries now body false = reply_to (tables_of entries) now (document_of body)
+reply_over entries now body false = reply_to (tables_of entries) now body
 
 -- what the request adds to the list: its submission where that is accepted
 abbrev pub entries_over : List Entry → ℕ → List ℕ → Bool → List Entry
 entries_over entries now body true = []
-entries_over entries now body false = entries_of (tables_of entries) now (document_of body)
+entries_over entries now body false = entries_of (tables_of entries) now body
 
 -- the response to a request that has so many before it: that to the last one that a connection may have says close
 abbrev pub response_after : ℕ → Reply → List ℕ

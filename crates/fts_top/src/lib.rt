@@ -1,15 +1,15 @@
 //! The program's commands, over an outside that it is handed: `run` with the one command `session`, which answers submissions.
 //! Keeps: the list is Restart and the accepted submissions in the order of their requests, and what is written are the responses to them,
 //! each over the list so far (`run`, clause `run`; `specs/Session.antt`, `Run.antt`). It is generic: which outside is real, the program decides.
-//! Order of a run: words, memory, Restart, requests, note. JSON and the one route are private here.
+//! Order of a run: words, settings, memory, Restart, requests, note. The one route is private here.
 #![tactic(auto)]
 
 mod answer;
-mod document;
+mod ends;
 mod notes;
 mod reply;
 mod session;
-mod stand;
+mod reading;
 #[cfg(test)]
 mod tests;
 mod top;

@@ -1,45 +1,69 @@
 //! The line that a run writes to its notes where it does not end with status 0 (`specs/Notes.antt`). It takes no memory, and a failed write changes nothing.
-ghost use Rattle.std.specs.Prelude.{◌≡◌};
+ghost use Rattle.std.specs.Prelude.{◌≡◌, ◌++◌, codes};
 ghost use Rattle.fts_wire.specs.Outside.{CountsFaults};
 ghost use Rattle.fts_wire.specs.Response.{Sends};
-ghost use Rattle.fts_top.specs.Notes.{note_of, IsNoted};
+ghost use Rattle.fts_top.specs.Notes.{session_note_of, rule_note_of, note_of, IsNoted};
 
-use fts_wire::{Sink, SinkFailed};
+use crate::ends::{RunEnd, SessionEnd};
+use fts_wire::{Sink, SinkFailed, send_all};
+use itoa::Buffer;
 
-/// Writes the line of a status, as far as the notes take it.
-pub fn write_note<N: Sink>(notes: &mut N, status: u8)
-    ensures { IsNoted (N.held notes.old) (N.held notes.new) (N.faults notes.old) (N.faults notes.new) (note_of status) }
+/// Writes the line of a run's end, as far as the notes take it.
+pub fn write_note<N: Sink>(notes: &mut N, end: RunEnd)
+    ensures { IsNoted (N.held notes.old) (N.held notes.new) (N.faults notes.old) (N.faults notes.new) (note_of end) }
 {
-    let _written = write_text(notes, note(status).as_bytes());
+    let _written = send_note(notes, end);
 }
 
-/// The line of a status.
-fn note(status: u8) -> &'static str
-    ensures { result.now ≡ note_of status }
+/// Sends the line of a run's end.
+fn send_note<N: Sink>(notes: &mut N, end: RunEnd) -> Result<(), SinkFailed>
+    ensures sent { Sends (N.held notes.old) (N.held notes.new) (note_of end) result }
+    ensures cause { CountsFaults (N.faults notes.old) (N.faults notes.new) result }
 {
-    match status {
-        1 => "fts: no memory\n",
-        2 => "fts: not a command\n",
-        5 => "fts: input failed\n",
-        6 => "fts: output failed\n",
-        10 => "fts: input ended inside a request\n",
-        12 => "fts: request refused with 501\n",
-        14 => "fts: too many requests\n",
-        _ => "",
+    match end {
+        RunEnd::NoMemory => send_all(notes, "fts: no memory\n".as_bytes()),
+        RunEnd::NoCommand => send_all(notes, "fts: not a command\n".as_bytes()),
+        RunEnd::SettingsUnread => send_all(notes, "fts: settings could not be read\n".as_bytes()),
+        RunEnd::SettingsRule { rule } => send_rule(notes, rule),
+        RunEnd::Session { end } => send_all(notes, session_note(end).as_bytes()),
     }
 }
 
-/// Writes all of a text, each time what the sink has not taken yet.
-fn write_text<K: Sink>(sink: &mut K, text: &[u8]) -> Result<(), SinkFailed>
-    ensures sent { Sends (K.held sink.old) (K.held sink.new) text.now result }
-    ensures cause { CountsFaults (K.faults sink.old) (K.faults sink.new) result }
+/// The line of a session's end.
+fn session_note(end: SessionEnd) -> &'static str
+    ensures { result.now ≡ session_note_of end }
 {
-    let mut at = 0;
-    'writing: while at < text.len() {
-        match sink.write(&text[at..]) {
-            Ok(n) => at += n,
-            Err(SinkFailed) => return Err(SinkFailed),
-        }
+    match end {
+        SessionEnd::Closed => "",
+        SessionEnd::SourceFailed => "fts: input failed\n",
+        SessionEnd::SinkFailed => "fts: output failed\n",
+        SessionEnd::EndsInside => "fts: input ended inside a request\n",
+        SessionEnd::Refused => "fts: request refused with 501\n",
+        SessionEnd::Many => "fts: too many requests\n",
     }
-    Ok(())
+}
+
+/// Sends the line of a broken rule of the settings.
+fn send_rule<N: Sink>(notes: &mut N, rule: u32) -> Result<(), SinkFailed>
+    ensures sent { Sends (N.held notes.old) (N.held notes.new) (rule_note_of rule) result }
+    ensures cause { CountsFaults (N.faults notes.old) (N.faults notes.new) result }
+{
+    match send_all(notes, "fts: settings rule ".as_bytes()) {
+        Ok(()) => {}
+        Err(fault) => return Err(fault),
+    }
+    let mut digits = Buffer::new();
+    send_line(notes, digits.format(rule).as_bytes())
+}
+
+/// Sends these bytes and a line feed.
+fn send_line<N: Sink>(notes: &mut N, bytes: &[u8]) -> Result<(), SinkFailed>
+    ensures sent { Sends (N.held notes.old) (N.held notes.new) (bytes.now ++ codes "\n") result }
+    ensures cause { CountsFaults (N.faults notes.old) (N.faults notes.new) result }
+{
+    match send_all(notes, bytes) {
+        Ok(()) => {}
+        Err(fault) => return Err(fault),
+    }
+    send_all(notes, "\n".as_bytes())
 }

@@ -1,7 +1,7 @@
 //! Replies with their bodies, which are spelled exactly (JSON, RFC 8259). Where there is no memory for a body, the reply is 500 without one.
 //! `specs/Replies.antt` has each reply.
 ghost use Rattle.std.specs.Prelude.{◌≡◌, IfOk};
-ghost use Rattle.fts_top.specs.Replies.{accepted_body, refusal_body, refusal_of, no_memory, IsOrNoMemory};
+ghost use Rattle.fts_top.specs.Replies.{accepted_body, duplicate_body, refusal_body, refusal_of, duplicate, no_memory, IsOrNoMemory};
 
 use fts_tables::{Items, Memory};
 use fts_wire::{Allow, Reply};
@@ -55,5 +55,31 @@ pub fn make_accepted_body(alloc: Global, id: u128) -> Result<Items<u8>, Memory>
     let id = Uuid::from_u128(id).hyphenated();
     let id = id.encode_lower(&mut buffer);
     let text = format!(in alloc; "{{\"job_id\":\"{id}\"}}")?;
+    Ok(Items::from_vec(text.into_bytes()))
+}
+
+/// The refusal of an id that a job has already, with that id.
+pub fn duplicate_reply(alloc: Global, id: u128) -> Reply
+    ensures { IsOrNoMemory result (duplicate id) }
+{
+    match make_duplicate_body(alloc, id) {
+        Ok(body) => Reply {
+            status: 409,
+            allow: Allow::None,
+            body,
+        },
+        Err(Memory) => no_memory_reply(alloc),
+    }
+}
+
+fn make_duplicate_body(alloc: Global, id: u128) -> Result<Items<u8>, Memory>
+    ensures { IfOk result (λ body. body ≡ duplicate_body id) }
+{
+    let mut buffer = Uuid::encode_buffer();
+    let id = Uuid::from_u128(id).hyphenated();
+    let id = id.encode_lower(&mut buffer);
+    let text = format!(in alloc;
+        "{{\"job_id\":\"{id}\",\"message\":\"duplicate\",\"rule\":34,\"status\":409}}"
+    )?;
     Ok(Items::from_vec(text.into_bytes()))
 }

@@ -1,7 +1,7 @@
 //! A session: the requests of one connection, answered one after another over one desk.
 //! Keeps, from request to request: the tables are those of the list so far, and what was written are its responses (`SessionFrom`).
 //! Order of a request: it is read, the clock is asked, it is answered, its response is written. The millionth response says close.
-ghost use Rattle.std.specs.Prelude.{◌≡◌, ◌≤◌, List};
+ghost use Rattle.std.specs.Prelude.{◌≡◌, ◌≤◌, List, IsSome};
 ghost use Rattle.fts_tables.specs.History.{tables_of};
 ghost use Rattle.fts_tables.specs.declared.commands.Entry.{Entry};
 ghost use Rattle.fts_wire.specs.Outside.{Rose};
@@ -9,6 +9,7 @@ ghost use Rattle.fts_wire.specs.Taken.{pending};
 ghost use Rattle.fts_top.specs.Session.{SessionFrom, IsRefused};
 
 use crate::answer::answer;
+use crate::ends::SessionEnd;
 use crate::reply::refusal_reply;
 use fts_desk::Desk;
 use fts_tables::Clock;
@@ -16,24 +17,7 @@ use fts_tables::limits::MAX_REQUESTS;
 use fts_wire::{Room, Sink, SinkFailed, Source, WireFault, write_response};
 use std::alloc::Global;
 
-/// How a session ended.
-#[derive(Clone, Copy, Debug, PartialEq, Eq)]
-pub enum SessionEnd {
-    /// The input ended between requests.
-    Closed,
-    /// The input ended inside a request.
-    EndsInside,
-    /// What came is no request that can be answered. It was refused.
-    Refused,
-    /// As many requests were answered as a connection may have.
-    Many,
-    /// A read failed.
-    SourceFailed,
-    /// A write failed.
-    SinkFailed,
-}
-
-/// Answers the requests of a connection. The room has kept nothing that a request of another connection left.
+/// Answers the requests of a connection under the settings in force. The room has kept nothing that a request of another connection left.
 pub fn run_session<S: Source, K: Sink, C: Clock>(
     alloc: Global,
     desk: &mut Desk,
@@ -42,7 +26,8 @@ pub fn run_session<S: Source, K: Sink, C: Clock>(
     output: &mut K,
     clock: &mut C,
 ) -> SessionEnd
-    requires { desk.old.commands ≤ 1 }
+    requires few { desk.old.commands ≤ 1 }
+    requires settings { IsSome desk.old.tables.settings }
     // Whatever list the tables are of, the session goes on from it.
     ensures session { (entries : List Entry) → desk.old.tables ≡ tables_of entries
         → SessionFrom entries (pending room.old.kept (S.left input.old)) (K.held output.old) (C.moments clock.old)

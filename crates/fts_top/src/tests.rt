@@ -1,12 +1,16 @@
 //! What no clause says: that runs succeed with ample memory, that the definitions mean what a client sends and reads, and what is seen where a
-//! read, a write or a note fails. Requests and responses are written out.
+//! read, a write or a note fails. Requests and responses are written out. The id of the client's own id is Python's, by `uuid.uuid5` twice.
 ghost use Rattle.std.specs.Prelude.{◌≡◌, ◌≤◌, ◌≢◌, [], length, IfOk};
 
 use crate::{Ending, Outside, run};
 use fts_tables::ListClock;
-use fts_wire::{MemorySink, Source, SourceFailed};
+use fts_wire::{MemorySink, MemorySource, Source, SourceFailed};
 use std::alloc::Global;
 use std::test::Fail;
+
+/// The settings of a stand with two storages.
+const STAND: &str =
+    "vo = \"demo\"\nworkers = 2\n[[storage]]\nurl = \"https://a.example\"\n[[storage]]\nurl = \"https://b.example\"\n";
 
 /// What is sent, and what is seen of it.
 struct Row {
@@ -18,7 +22,7 @@ struct Row {
     waiting: u32,
 }
 
-const ROWS: [Row; 12] = [
+const ROWS: [Row; 17] = [
     Row {
         case: "two submissions",
         input: "POST /jobs HTTP/1.1\r\nContent-Length: 93\r\n\r\n{\"files\":[{\"sources\":[\"https://a.example/data/f1\"],\"destinations\":[\"https://b.example/f1\"]}]}POST /jobs HTTP/1.1\r\nContent-Length: 93\r\n\r\n{\"files\":[{\"sources\":[\"https://a.example/data/f1\"],\"destinations\":[\"https://b.example/f1\"]}]}",
@@ -60,25 +64,33 @@ const ROWS: [Row; 12] = [
         waiting: 1,
     },
     Row {
-        case: "a second key",
-        input: "POST /jobs HTTP/1.1\r\nContent-Length: 98\r\n\r\n{\"files\":[{\"sources\":[\"https://a.example/f\"],\"destinations\":[\"https://b.example/f\"]}],\"params\":{}}POST /jobs HTTP/1.1\r\nContent-Length: 93\r\n\r\n{\"files\":[{\"sources\":[\"https://a.example/data/f1\"],\"destinations\":[\"https://b.example/f1\"]}]}",
-        output: "HTTP/1.1 501 Not Implemented\r\nContent-Type: application/json\r\nContent-Length: 46\r\n\r\n{\"message\":\"not built\",\"rule\":40,\"status\":501}HTTP/1.1 200 OK\r\nContent-Type: application/json\r\nContent-Length: 49\r\n\r\n{\"job_id\":\"00000000-0000-4000-8000-000000000001\"}",
-        status: 0,
-        note: "",
-        waiting: 1,
-    },
-    Row {
-        case: "a path with two dots",
-        input: "POST /jobs HTTP/1.1\r\nContent-Length: 91\r\n\r\n{\"files\":[{\"sources\":[\"https://a.example/x/../f\"],\"destinations\":[\"https://b.example/f\"]}]}",
-        output: "HTTP/1.1 501 Not Implemented\r\nContent-Type: application/json\r\nContent-Length: 46\r\n\r\n{\"message\":\"not built\",\"rule\":40,\"status\":501}",
+        case: "no files",
+        input: "POST /jobs HTTP/1.1\r\nContent-Length: 12\r\n\r\n{\"files\":[]}",
+        output: "HTTP/1.1 400 Bad Request\r\nContent-Type: application/json\r\nContent-Length: 44\r\n\r\n{\"message\":\"no files\",\"rule\":3,\"status\":400}",
         status: 0,
         note: "",
         waiting: 0,
     },
     Row {
+        case: "a checksum that is no MD5, verified",
+        input: "POST /jobs HTTP/1.1\r\nContent-Length: 157\r\n\r\n{\"files\":[{\"sources\":[\"https://a.example/data/f1\"],\"destinations\":[\"https://b.example/f1\"],\"checksum\":\"ADLER32:0d5e1a2b\"}],\"params\":{\"verify_checksum\":true}}",
+        output: "HTTP/1.1 400 Bad Request\r\nContent-Type: application/json\r\nContent-Length: 52\r\n\r\n{\"message\":\"other algorithm\",\"rule\":13,\"status\":400}",
+        status: 0,
+        note: "",
+        waiting: 0,
+    },
+    Row {
+        case: "a URL with a query, and a path with two dots",
+        input: "POST /jobs HTTP/1.1\r\nContent-Length: 91\r\n\r\n{\"files\":[{\"sources\":[\"https://a.example/b?x=1\"],\"destinations\":[\"https://b.example/f1\"]}]}POST /jobs HTTP/1.1\r\nContent-Length: 92\r\n\r\n{\"files\":[{\"sources\":[\"https://a.example/a/../b\"],\"destinations\":[\"https://b.example/f1\"]}]}",
+        output: "HTTP/1.1 400 Bad Request\r\nContent-Type: application/json\r\nContent-Length: 45\r\n\r\n{\"message\":\"bad URL 3\",\"rule\":8,\"status\":400}HTTP/1.1 200 OK\r\nContent-Type: application/json\r\nContent-Length: 49\r\n\r\n{\"job_id\":\"00000000-0000-4000-8000-000000000001\"}",
+        status: 0,
+        note: "",
+        waiting: 1,
+    },
+    Row {
         case: "an endpoint that is not there",
         input: "POST /jobs HTTP/1.1\r\nContent-Length: 86\r\n\r\n{\"files\":[{\"sources\":[\"https://a.example/f\"],\"destinations\":[\"https://c.example/f\"]}]}",
-        output: "HTTP/1.1 501 Not Implemented\r\nContent-Type: application/json\r\nContent-Length: 46\r\n\r\n{\"message\":\"not built\",\"rule\":40,\"status\":501}",
+        output: "HTTP/1.1 400 Bad Request\r\nContent-Type: application/json\r\nContent-Length: 52\r\n\r\n{\"message\":\"unknown endpoint\",\"rule\":9,\"status\":400}",
         status: 0,
         note: "",
         waiting: 0,
@@ -86,15 +98,46 @@ const ROWS: [Row; 12] = [
     Row {
         case: "a source that is its destination",
         input: "POST /jobs HTTP/1.1\r\nContent-Length: 86\r\n\r\n{\"files\":[{\"sources\":[\"https://a.example/f\"],\"destinations\":[\"https://a.example/f\"]}]}",
-        output: "HTTP/1.1 501 Not Implemented\r\nContent-Type: application/json\r\nContent-Length: 46\r\n\r\n{\"message\":\"not built\",\"rule\":40,\"status\":501}",
+        output: "HTTP/1.1 400 Bad Request\r\nContent-Type: application/json\r\nContent-Length: 45\r\n\r\n{\"message\":\"same URL\",\"rule\":10,\"status\":400}",
         status: 0,
         note: "",
         waiting: 0,
     },
     Row {
+        case: "one client's id twice, and a job without one",
+        input: "POST /jobs HTTP/1.1\r\nContent-Length: 154\r\n\r\n{\"files\":[{\"sources\":[\"https://a.example/data/f1\"],\"destinations\":[\"https://b.example/f1\"]}],\"params\":{\"id_generator\":\"deterministic\",\"sid\":\"nightly-17\"}}POST /jobs HTTP/1.1\r\nContent-Length: 154\r\n\r\n{\"files\":[{\"sources\":[\"https://a.example/data/f1\"],\"destinations\":[\"https://b.example/f1\"]}],\"params\":{\"id_generator\":\"deterministic\",\"sid\":\"nightly-17\"}}POST /jobs HTTP/1.1\r\nContent-Length: 93\r\n\r\n{\"files\":[{\"sources\":[\"https://a.example/data/f1\"],\"destinations\":[\"https://b.example/f1\"]}]}",
+        output: "HTTP/1.1 200 OK\r\nContent-Type: application/json\r\nContent-Length: 49\r\n\r\n{\"job_id\":\"b949c361-d467-5052-9cfa-7e89a8319c00\"}HTTP/1.1 409 Conflict\r\nContent-Type: application/json\r\nContent-Length: 94\r\n\r\n{\"job_id\":\"b949c361-d467-5052-9cfa-7e89a8319c00\",\"message\":\"duplicate\",\"rule\":34,\"status\":409}HTTP/1.1 200 OK\r\nContent-Type: application/json\r\nContent-Length: 49\r\n\r\n{\"job_id\":\"00000000-0000-4000-8000-000000000002\"}",
+        status: 0,
+        note: "",
+        waiting: 2,
+    },
+    Row {
+        case: "three files",
+        input: "POST /jobs HTTP/1.1\r\nContent-Length: 257\r\n\r\n{\"files\":[{\"sources\":[\"https://a.example/data/f1\"],\"destinations\":[\"https://b.example/f1\"]},{\"sources\":[\"https://a.example/data/f2\"],\"destinations\":[\"https://b.example/f2\"]},{\"sources\":[\"https://a.example/data/f3\"],\"destinations\":[\"https://b.example/f3\"]}]}",
+        output: "HTTP/1.1 200 OK\r\nContent-Type: application/json\r\nContent-Length: 49\r\n\r\n{\"job_id\":\"00000000-0000-4000-8000-000000000001\"}",
+        status: 0,
+        note: "",
+        waiting: 3,
+    },
+    Row {
+        case: "three replicas of one file, in order",
+        input: "POST /jobs HTTP/1.1\r\nContent-Length: 162\r\n\r\n{\"files\":[{\"sources\":[\"https://a.example/1\",\"https://a.example/2\",\"https://b.example/3\"],\"destinations\":[\"https://b.example/f1\"],\"selection_strategy\":\"orderly\"}]}",
+        output: "HTTP/1.1 200 OK\r\nContent-Type: application/json\r\nContent-Length: 49\r\n\r\n{\"job_id\":\"00000000-0000-4000-8000-000000000001\"}",
+        status: 0,
+        note: "",
+        waiting: 1,
+    },
+    Row {
+        case: "two hops",
+        input: "POST /jobs HTTP/1.1\r\nContent-Length: 188\r\n\r\n{\"files\":[{\"sources\":[\"https://a.example/f\"],\"destinations\":[\"https://b.example/f\"]},{\"sources\":[\"https://b.example/f\"],\"destinations\":[\"https://a.example/g\"]}],\"params\":{\"multihop\":true}}",
+        output: "HTTP/1.1 200 OK\r\nContent-Type: application/json\r\nContent-Length: 49\r\n\r\n{\"job_id\":\"00000000-0000-4000-8000-000000000001\"}",
+        status: 0,
+        note: "",
+        waiting: 1,
+    },
+    Row {
         case: "keys in another order, and blanks",
-        input: "POST /jobs HTTP/1.1\r\nContent-Length: 109\r\n\r\n{ \"files\" : [ { \"destinations\" : [ \"https://a.example/f_2\" ] , \"sources\" : [ \"https://b.example/f-1\" ] } ] }
-",
+        input: "POST /jobs HTTP/1.1\r\nContent-Length: 109\r\n\r\n{ \"files\" : [ { \"destinations\" : [ \"https://a.example/f_2\" ] , \"sources\" : [ \"https://b.example/f-1\" ] } ] }\n",
         output: "HTTP/1.1 200 OK\r\nContent-Type: application/json\r\nContent-Length: 49\r\n\r\n{\"job_id\":\"00000000-0000-4000-8000-000000000001\"}",
         status: 0,
         note: "",
@@ -171,29 +214,37 @@ fn source_of(
     })
 }
 
-/// An outside with this input, in which a write and a note with these numbers fail.
-fn outside_with(
+/// What a run over memory meets.
+type Meets = Outside<MemorySource, Pieces, MemorySink, MemorySink, ListClock>;
+
+/// An outside with these settings and this input, in which a read of the settings, a write and a note with these numbers fail.
+fn outside_under(
     alloc: Global,
+    settings: (&str, u32),
     input: Pieces,
     write: u32,
     note: u32,
-) -> Result<Outside<Pieces, MemorySink, MemorySink, ListClock>, Fail> {
-    let output = MemorySink::new(alloc, vec![in alloc; write; 1]?);
-    let notes = MemorySink::new(alloc, vec![in alloc; note; 1]?);
-    let clock = ListClock::new(vec![in alloc; 1_700_000_000; 1]?);
+) -> Result<Meets, Fail> {
+    let text = Vec::from_slice(alloc, settings.0.as_bytes())?;
     Ok(Outside {
+        settings: MemorySource::new(text, vec![in alloc; settings.1; 1]?),
         input,
-        output,
-        notes,
-        clock,
+        output: MemorySink::new(alloc, vec![in alloc; write; 1]?),
+        notes: MemorySink::new(alloc, vec![in alloc; note; 1]?),
+        clock: ListClock::new(vec![in alloc; 1_700_000_000; 1]?),
     })
+}
+
+/// An outside under the stand's settings.
+fn outside_with(alloc: Global, input: Pieces, write: u32, note: u32) -> Result<Meets, Fail> {
+    outside_under(alloc, (STAND, 0), input, write, note)
 }
 
 /// A run of these words.
 fn run_words(
     alloc: Global,
     words: &[&str],
-    outside: &mut Outside<Pieces, MemorySink, MemorySink, ListClock>,
+    outside: &mut Meets,
 ) -> Result<Ending, Fail> {
     let mut owned = Vec::new(alloc);
     for word in words {
@@ -282,6 +333,27 @@ fn a_request_whose_response_could_not_be_written_is_the_last_one(
 }
 
 #[test]
+fn settings_that_cannot_be_had_stop_the_run(rt: HostRuntime) -> Result<(), Fail> {
+    let no_workers = "vo = \"demo\"\nworkers = 0\n[[storage]]\nurl = \"https://a.example\"\n";
+    for (case, text, read, note, status, noted) in [
+        ("no workers", no_workers, 0, 0, 3, "fts: settings rule 11\n"),
+        ("no TOML", "[", 0, 0, 3, "fts: settings rule 1\n"),
+        ("a first read that fails", STAND, 1, 0, 8, "fts: settings could not be read\n"),
+        ("a later read that fails", STAND, 2, 0, 8, "fts: settings could not be read\n"),
+        ("a note that fails", no_workers, 0, 1, 3, ""),
+        ("a note that fails later", no_workers, 0, 2, 3, "fts: settings rule "),
+    ] {
+        let input = source_of(rt.alloc(), ROWS[0].input.as_bytes(), 1, 1, false)?;
+        let mut outside = outside_under(rt.alloc(), (text, read), input, 0, note)?;
+        let ending = run_words(rt.alloc(), &["session"], &mut outside)?;
+        assert_eq!(rt; ending.status, status, "{case}");
+        assert_eq!(rt; outside.output.bytes(), b"".as_slice(), "{case}");
+        assert_eq!(rt; outside.notes.bytes(), noted.as_bytes(), "{case}");
+    }
+    Ok(())
+}
+
+#[test]
 fn other_words_are_no_command(rt: HostRuntime) -> Result<(), Fail> {
     let lists: [&[&str]; 5] = [
         &[],
@@ -293,7 +365,7 @@ fn other_words_are_no_command(rt: HostRuntime) -> Result<(), Fail> {
     for words in lists {
         for (note, noted) in [(0, "fts: not a command\n"), (1, "")] {
             let input = source_of(rt.alloc(), ROWS[0].input.as_bytes(), 1, 1, false)?;
-            let mut outside = outside_with(rt.alloc(), input, 0, note)?;
+            let mut outside = outside_under(rt.alloc(), ("[", 1), input, 0, note)?;
             let ending = run_words(rt.alloc(), words, &mut outside)?;
             assert_eq!(rt; ending.status, 2, "{words:?}");
             assert_eq!(rt; outside.output.bytes(), b"".as_slice(), "{words:?}");

@@ -1,24 +1,28 @@
 //! The top call: what the program does, over the outside that it is handed.
-//! Order: the words are looked at, memory is taken, a Restart is accepted, requests are answered, and the end is noted.
-ghost use Rattle.std.specs.Prelude.{◌≡◌, ◌≢◌, ◌↔◌, ◌∷◌, [], ℕ, false, IfOk};
+//! Order: the words are looked at, the settings are read whole and then by their rules, memory is taken, a Restart with them is accepted,
+//! requests are answered, and the end is noted.
+ghost use Rattle.std.specs.Prelude.{◌≡◌, ◌≢◌, ◌↔◌, ◌≤◌, ◌∷◌, [], ℕ, false, List, length, count_by, Option, IfOk, IsSome};
 ghost use Rattle.fts_tables.specs.History.{tables_of};
 ghost use Rattle.fts_tables.specs.Coming.{Gives};
+ghost use Rattle.fts_tables.specs.Tables.{is_submitted, is_finished, is_failed, is_canceled};
 ghost use Rattle.fts_wire.specs.Outside.{Rose};
 ghost use Rattle.fts_top.specs.Notes.{note_of, IsNoted};
-ghost use Rattle.fts_top.specs.Run.{is_session, status_of, tally_of, no_tally, restart_at, RanOver};
+ghost use Rattle.fts_top.specs.Run.{is_session, status_of, tally_of, no_tally, restart_at, AreRead, RanOver};
 
+use crate::ends::RunEnd;
 use crate::notes::write_note;
-use crate::session::{SessionEnd, run_session};
-use crate::stand::stand_settings;
+use crate::session::run_session;
+use crate::reading::load_settings;
 use crate::words::is_session_command;
 use fts_desk::Desk;
-use fts_tables::{Clock, Command, Memory};
+use fts_tables::{Clock, Command, FileRow, FileState, Memory, Settings};
 use fts_wire::{Room, Sink, Source};
 use std::alloc::Global;
 
-/// What a run meets: its input, its output, where it notes how it ended, and the clock.
+/// What a run meets: the text of its settings, its input, its output, where it notes how it ended, and the clock.
 #[derive(Drop)]
-pub struct Outside<S, K, N, C> {
+pub struct Outside<F, S, K, N, C> {
+    pub settings: F,
     pub input: S,
     pub output: K,
     pub notes: N,
@@ -42,84 +46,128 @@ pub struct Ending {
     pub tally: Tally,
 }
 
+/// How a command ended, and its tally.
+#[derive(Clone, Copy)]
+struct Done {
+    end: RunEnd,
+    tally: Tally,
+}
+
 /// Does all that the program does for these words, and gives its exit status:
-/// 0 at the input's end between requests, 1 for want of memory, 2 for words that are no command, 5 and 6 where a read or a write failed,
-/// 10 where the input ended inside a request, 12 where what came was refused, 14 after as many requests as a connection may have.
-pub fn run<S: Source, K: Sink, N: Sink, C: Clock>(
+/// 0 at the input's end between requests, 1 for want of memory, 2 for words that are no command, 3 where the settings break a rule,
+/// 5 and 6 where a read or a write failed, 8 where the settings could not be read, 10 where the input ended inside a request,
+/// 12 where what came was refused, 14 after as many requests as a connection may have.
+pub fn run<F: Source, S: Source, K: Sink, N: Sink, C: Clock>(
     alloc: Global,
     words: &[String],
-    outside: &mut Outside<S, K, N, C>,
+    outside: &mut Outside<F, S, K, N, C>,
 ) -> Ending
     ensures words { (result.status ≡ 2) ↔ (is_session words.now ≡ false) }
-    ensures run { RanOver result (S.left outside.old.input) (S.left outside.new.input)
-        (K.held outside.old.output) (K.held outside.new.output) (C.moments outside.old.clock) }
+    // Its end decides the status and the note, and is the end of what it did.
+    ensures run { (end : RunEnd) × ((result.status ≡ status_of end) × (RanOver end result.tally (F.left outside.old.settings)
+        (S.left outside.old.input) (S.left outside.new.input) (K.held outside.old.output) (K.held outside.new.output) (C.moments outside.old.clock)
+        × IsNoted (N.held outside.old.notes) (N.held outside.new.notes) (N.faults outside.old.notes) (N.faults outside.new.notes) (note_of end))) }
+    ensures settings { result.status ≡ 8 → Rose (F.faults outside.old.settings) (F.faults outside.new.settings) }
     ensures input { result.status ≡ 5 → Rose (S.faults outside.old.input) (S.faults outside.new.input) }
     ensures output { result.status ≡ 6 → Rose (K.faults outside.old.output) (K.faults outside.new.output) }
-    ensures notes { IsNoted (N.held outside.old.notes) (N.held outside.new.notes)
-        (N.faults outside.old.notes) (N.faults outside.new.notes) (note_of result.status) }
 {
-    let ending = do_command(
+    let done = do_command(
         alloc,
         words,
+        &mut outside.settings,
         &mut outside.input,
         &mut outside.output,
         &mut outside.clock,
     );
-    write_note(&mut outside.notes, ending.status);
-    ending
-}
-
-/// Does the command that the words are, where they are one.
-fn do_command<S: Source, K: Sink, C: Clock>(
-    alloc: Global,
-    words: &[String],
-    input: &mut S,
-    output: &mut K,
-    clock: &mut C,
-) -> Ending
-    ensures words { (result.status ≡ 2) ↔ (is_session words.now ≡ false) }
-    ensures run { RanOver result (S.left input.old) (S.left input.new) (K.held output.old) (K.held output.new) (C.moments clock.old) }
-    ensures input { result.status ≡ 5 → Rose (S.faults input.old) (S.faults input.new) }
-    ensures output { result.status ≡ 6 → Rose (K.faults output.old) (K.faults output.new) }
-{
-    if is_session_command(words) {
-        begin_session(alloc, input, output, clock)
-    } else {
-        stop(2)
+    write_note(&mut outside.notes, done.end);
+    Ending {
+        status: done.end.status(),
+        tally: done.tally,
     }
 }
 
-/// Takes the memory of a connection, accepts a Restart, and answers requests.
-fn begin_session<S: Source, K: Sink, C: Clock>(
+/// Does the command that the words are, where they are one.
+fn do_command<F: Source, S: Source, K: Sink, C: Clock>(
     alloc: Global,
+    words: &[String],
+    settings: &mut F,
     input: &mut S,
     output: &mut K,
     clock: &mut C,
-) -> Ending
-    ensures status { result.status ≢ 2 }
-    ensures run { RanOver result (S.left input.old) (S.left input.new) (K.held output.old) (K.held output.new) (C.moments clock.old) }
-    ensures input { result.status ≡ 5 → Rose (S.faults input.old) (S.faults input.new) }
-    ensures output { result.status ≡ 6 → Rose (K.faults output.old) (K.faults output.new) }
+) -> Done
+    ensures words { (status_of result.end ≡ 2) ↔ (is_session words.now ≡ false) }
+    ensures run { RanOver result.end result.tally (F.left settings.old)
+        (S.left input.old) (S.left input.new) (K.held output.old) (K.held output.new) (C.moments clock.old) }
+    ensures settings { status_of result.end ≡ 8 → Rose (F.faults settings.old) (F.faults settings.new) }
+    ensures input { status_of result.end ≡ 5 → Rose (S.faults input.old) (S.faults input.new) }
+    ensures output { status_of result.end ≡ 6 → Rose (K.faults output.old) (K.faults output.new) }
+{
+    if is_session_command(words) {
+        begin_session(alloc, settings, input, output, clock)
+    } else {
+        stop(RunEnd::NoCommand)
+    }
+}
+
+/// Reads the settings, and runs a session under them.
+fn begin_session<F: Source, S: Source, K: Sink, C: Clock>(
+    alloc: Global,
+    settings: &mut F,
+    input: &mut S,
+    output: &mut K,
+    clock: &mut C,
+) -> Done
+    ensures words { status_of result.end ≢ 2 }
+    ensures run { RanOver result.end result.tally (F.left settings.old)
+        (S.left input.old) (S.left input.new) (K.held output.old) (K.held output.new) (C.moments clock.old) }
+    ensures settings { status_of result.end ≡ 8 → Rose (F.faults settings.old) (F.faults settings.new) }
+    ensures input { status_of result.end ≡ 5 → Rose (S.faults input.old) (S.faults input.new) }
+    ensures output { status_of result.end ≡ 6 → Rose (K.faults output.old) (K.faults output.new) }
+{
+    match load_settings(alloc, settings) {
+        Ok(settings) => serve_under(alloc, settings, input, output, clock),
+        Err(end) => stop(end),
+    }
+}
+
+/// Takes the memory of a connection, accepts a Restart with these settings, and answers requests.
+fn serve_under<S: Source, K: Sink, C: Clock>(
+    alloc: Global,
+    settings: Settings,
+    input: &mut S,
+    output: &mut K,
+    clock: &mut C,
+) -> Done
+    ensures words { status_of result.end ≢ 2 }
+    ensures run { (text : Option (List ℕ)) → AreRead text settings → RanOver result.end result.tally text
+        (S.left input.old) (S.left input.new) (K.held output.old) (K.held output.new) (C.moments clock.old) }
+    ensures settings { status_of result.end ≢ 8 }
+    ensures input { status_of result.end ≡ 5 → Rose (S.faults input.old) (S.faults input.new) }
+    ensures output { status_of result.end ≡ 6 → Rose (K.faults output.old) (K.faults output.new) }
 {
     let Ok(mut room) = Room::new(alloc) else {
-        return stop(1);
+        return stop(RunEnd::NoMemory);
     };
-    let Ok(mut desk) = restarted_desk(alloc, clock) else {
-        return stop(1);
+    let Ok(mut desk) = restarted_desk(alloc, settings, clock) else {
+        return stop(RunEnd::NoMemory);
     };
     let end = run_session(alloc, &mut desk, &mut room, input, output, clock);
-    Ending {
-        status: exit_status(end),
+    Done {
+        end: RunEnd::Session { end },
         tally: make_tally(&desk),
     }
 }
 
-/// A desk that has accepted a Restart at the next moment.
-fn restarted_desk<C: Clock>(alloc: Global, clock: &mut C) -> Result<Desk, Memory>
-    ensures desk { IfOk result (λ desk. (now : ℕ) × (Gives (C.moments clock.old) (C.moments clock.new) now × (desk.tables ≡ tables_of (restart_at now ∷ [])))) }
+/// A desk that has accepted a Restart with these settings at the next moment.
+fn restarted_desk<C: Clock>(
+    alloc: Global,
+    settings: Settings,
+    clock: &mut C,
+) -> Result<Desk, Memory>
+    ensures desk { IfOk result (λ desk. (now : ℕ) × (Gives (C.moments clock.old) (C.moments clock.new) now × (desk.tables ≡ tables_of (restart_at now settings ∷ [])))) }
+    ensures settings { IfOk result (λ desk. IsSome desk.tables.settings) }
     ensures commands { IfOk result (λ desk. desk.commands ≡ 1) }
 {
-    let settings = stand_settings(alloc)?;
     let mut desk = Desk::empty(alloc);
     let now = clock.now();
     let command = Command::Restart { now, settings };
@@ -133,12 +181,12 @@ fn restarted_desk<C: Clock>(alloc: Global, clock: &mut C) -> Result<Desk, Memory
 }
 
 /// The end of a run that stopped before its first request.
-fn stop(status: u8) -> Ending
-    ensures status { result.status ≡ status }
+fn stop(end: RunEnd) -> Done
+    ensures end { result.end ≡ end }
     ensures tally { result.tally ≡ no_tally }
 {
-    Ending {
-        status,
+    Done {
+        end,
         tally: Tally {
             claims: 0,
             finished: 0,
@@ -149,29 +197,52 @@ fn stop(status: u8) -> Ending
     }
 }
 
-/// The exit status of a session's end.
-fn exit_status(end: SessionEnd) -> u8
-    ensures { result ≡ status_of end }
-{
-    match end {
-        SessionEnd::Closed => 0,
-        SessionEnd::SourceFailed => 5,
-        SessionEnd::SinkFailed => 6,
-        SessionEnd::EndsInside => 10,
-        SessionEnd::Refused => 12,
-        SessionEnd::Many => 14,
-    }
-}
-
-/// The tally of a desk whose rows all wait.
+/// The tally of a desk from whose rows none was claimed.
 fn make_tally(desk: &Desk) -> Tally
     ensures { result ≡ tally_of desk.now.tables }
 {
+    let rows = desk.rows();
     Tally {
         claims: 0,
-        finished: 0,
-        failed: 0,
-        cancelled: 0,
-        waiting: desk.rows().len() as u32,
+        finished: count_finished(rows) as u32,
+        failed: count_failed(rows) as u32,
+        cancelled: count_canceled(rows) as u32,
+        waiting: count_submitted(rows) as u32,
     }
+}
+
+fn count_finished(rows: &[FileRow]) -> usize
+    ensures count { result ≡ count_by (λ row. is_finished row.state) rows.now }
+    ensures few { result ≤ length rows.now }
+{
+    rows.iter()
+        .filter(|row| matches!(row.state, FileState::Finished))
+        .count()
+}
+
+fn count_failed(rows: &[FileRow]) -> usize
+    ensures count { result ≡ count_by (λ row. is_failed row.state) rows.now }
+    ensures few { result ≤ length rows.now }
+{
+    rows.iter()
+        .filter(|row| matches!(row.state, FileState::Failed))
+        .count()
+}
+
+fn count_canceled(rows: &[FileRow]) -> usize
+    ensures count { result ≡ count_by (λ row. is_canceled row.state) rows.now }
+    ensures few { result ≤ length rows.now }
+{
+    rows.iter()
+        .filter(|row| matches!(row.state, FileState::Canceled))
+        .count()
+}
+
+fn count_submitted(rows: &[FileRow]) -> usize
+    ensures count { result ≡ count_by (λ row. is_submitted row.state) rows.now }
+    ensures few { result ≤ length rows.now }
+{
+    rows.iter()
+        .filter(|row| matches!(row.state, FileState::Submitted))
+        .count()
 }

@@ -6,12 +6,13 @@ use Rattle.fts_wire.specs.Taken.{pending}
 use Rattle.fts_top.proofs.Turns.{InProgressFrom}
 use Rattle.fts_top.proofs.session.run_session.Given as goal
 
--- so many requests were answered, and no count of faults fell
+-- so many requests were answered, the settings stayed, and no count of faults fell
 abbrev pub invariant-loop-done : goal.invariant-loop-done
 invariant-loop-done g l = record {
   progress : (entries : List Entry) → l.fn.desk.tables ≡ tables_of entries
       → InProgressFrom entries (pending l.fn.room.kept (g.S.Source.left l.fn.input)) (g.K.Sink.held l.fn.output) (g.C.Clock.moments l.fn.clock)
       l.done l.desk.tables (pending l.room.kept (g.S.Source.left l.input)) (g.K.Sink.held l.output) (g.C.Clock.moments l.clock);
+  settings : l.desk.tables.settings ≡ l.fn.desk.tables.settings;
   commands : l.desk.commands ≤ 1 + l.done;
   input : g.S.Source.faults l.fn.input ≤ g.S.Source.faults l.input;
   output : g.K.Sink.faults l.fn.output ≤ g.K.Sink.faults l.output;
