@@ -1,4 +1,4 @@
-//! Measures how the time to read a job document and a settings text grows with their size, and prints the ratio of doubled inputs.
+//! Measures how the time to read a job document grows with its files, and prints the ratio of doubled inputs.
 //! Without an argument it prints nothing and ends, so that it runs alike each time; with any argument it measures and prints.
 //! Command: `rt run -- measure` in this folder. Results with their machine and date: docs/BENCHMARKS.md.
 #![tactic(auto)]
