@@ -5,6 +5,7 @@ mod Claiming
 mod FirstRows
 mod Follows
 mod Found
+mod Hops
 mod KeptFiles
 mod LinkNames
 mod NewRows

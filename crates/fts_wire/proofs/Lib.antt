@@ -6,3 +6,4 @@ pub mod Pieces
 pub mod Next
 pub mod Sent
 pub mod Worked
+pub mod WholeInput

@@ -8,3 +8,4 @@ pub mod Room
 pub mod Taken
 pub mod Answered
 pub mod Response
+pub mod ReadAll

@@ -2,7 +2,7 @@
 //! Contracts see them as a list. They begin at `start`, and move to the front only where there is no room for a piece more,
 //! so a request costs its own bytes, however many are kept behind it.
 //! Called by `request` alone.
-ghost use Rattle.std.specs.Prelude.{◌≡◌, ◌+◌, ◌≤◌, [], length, drop, vec_capacity, IfOk, OnErr};
+ghost use Rattle.std.specs.Prelude.{◌≡◌, ◌+◌, ◌≤◌, [], length, take, drop, vec_capacity, IfOk, OnErr};
 ghost use Rattle.fts_wire.specs.Outside.{CountsFaults};
 ghost use Rattle.fts_wire.specs.Piece.{AddsPiece};
 
@@ -64,6 +64,14 @@ impl Buffer {
         ensures { self.new ≡ drop n self.old }
     {
         self.start += n;
+    }
+
+    /// Takes all bytes away but this many at the front.
+    pub fn keep(&mut self, n: usize)
+        requires { n ≤ length self.old }
+        ensures { self.new ≡ take n self.old }
+    {
+        self.bytes.truncate(self.start + n);
     }
 
     /// Reads a piece behind the bytes, and gives its length. 0 is the end of the input.

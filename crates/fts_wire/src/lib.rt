@@ -13,9 +13,11 @@ mod response;
 mod standard;
 #[cfg(test)]
 mod tests;
+mod whole_input;
 
 pub use memory::{MemoryLine, MemorySink, MemorySource};
 pub use outside::{Sink, SinkFailed, Source, SourceFailed};
 pub use request::{Request, Room, WireFault, next_request};
-pub use response::{Allow, Reply, write_response};
+pub use response::{Allow, Reply, send_all, write_response};
 pub use standard::{StdSink, StdSource};
+pub use whole_input::{ReadAllFault, read_all};

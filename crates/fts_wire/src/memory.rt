@@ -120,6 +120,8 @@ impl MemoryLine {
     pub fn new(source: MemorySource, sink: MemorySink) -> MemoryLine
         ensures left { ⟦<MemoryLine as Source>⟧.left result ≡ ⟦<MemorySource as Source>⟧.left source }
         ensures held { ⟦<MemoryLine as Sink>⟧.held result ≡ ⟦<MemorySink as Sink>⟧.held sink }
+        ensures source_faults { ⟦<MemoryLine as Source>⟧.faults result ≡ ⟦<MemorySource as Source>⟧.faults source }
+        ensures sink_faults { ⟦<MemoryLine as Sink>⟧.faults result ≡ ⟦<MemorySink as Sink>⟧.faults sink }
         ensures line { IsLine
             (record { bytes = ⟦<MemoryLine as Source>⟧.left; faults = ⟦<MemoryLine as Source>⟧.faults; beside = ⟦<MemoryLine as Source>⟧.beside })
             (record { bytes = ⟦<MemoryLine as Sink>⟧.held; faults = ⟦<MemoryLine as Sink>⟧.faults; beside = ⟦<MemoryLine as Sink>⟧.beside }) }

@@ -74,6 +74,13 @@ impl Room {
         })
     }
 
+    /// Drops the bytes that were read past the request that was loaded last.
+    pub fn clear(&mut self)
+        ensures { self.new ≡ record self.old { kept = [] } }
+    {
+        self.buffer.keep(self.head + self.body);
+    }
+
     /// The request that was loaded last.
     pub fn request(&self) -> Request<'_>
         ensures { request_data result ≡ self.now.request }

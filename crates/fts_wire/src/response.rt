@@ -164,8 +164,8 @@ fn send_both<K: Sink>(sink: &mut K, first: &[u8], second: &[u8]) -> Result<(), S
     send_all(sink, second)
 }
 
-/// Sends all of the bytes, each time what the sink has not taken yet.
-fn send_all<K: Sink>(sink: &mut K, bytes: &[u8]) -> Result<(), SinkFailed>
+/// Sends all of the bytes, each time what the sink has not taken yet. Where a write fails, a part of them was sent.
+pub fn send_all<K: Sink>(sink: &mut K, bytes: &[u8]) -> Result<(), SinkFailed>
     ensures sent { Sends (K.held sink.old) (K.held sink.new) bytes.now result }
     ensures cause { CountsFaults (K.faults sink.old) (K.faults sink.new) result }
     ensures beside { K.beside sink.new ≡ K.beside sink.old }

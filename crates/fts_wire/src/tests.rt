@@ -4,8 +4,8 @@ ghost use Rattle.std.specs.Prelude.{◌≡◌, IfOk, IsTrue};
 ghost use Rattle.fts_wire.specs.Response.{has_phrase, has_methods};
 
 use crate::{
-    Allow, MemoryLine, MemorySink, MemorySource, Reply, Room, Sink, SinkFailed, Source, StdSink,
-    StdSource, WireFault, next_request, write_response,
+    Allow, MemoryLine, MemorySink, MemorySource, ReadAllFault, Reply, Room, Sink, SinkFailed,
+    Source, StdSink, StdSource, WireFault, next_request, read_all, write_response,
 };
 use fts_tables::Items;
 use std::collections::VecDeque;
@@ -292,5 +292,56 @@ fn a_reader_and_a_writer_are_a_source_and_a_sink(rt: HostRuntime) -> Result<(), 
     assert_eq!(rt; source.read(&mut into), Ok(0));
     let mut sink = StdSink::new(VecDeque::new(rt.alloc()));
     assert_eq!(rt; sink.write(&[1, 2, 3]), Ok(3));
+    Ok(())
+}
+
+#[test]
+fn a_source_is_read_to_its_end(rt: HostRuntime) -> Result<(), Fail> {
+    for (case, count, limit, fail, want) in [
+        ("none", 0, 0, 9, Ok(0)),
+        ("fewer than the limit", 3, 4, 9, Ok(3)),
+        ("as many as the limit", 3, 3, 9, Ok(3)),
+        ("one more", 3, 2, 9, Err(ReadAllFault::TooLong)),
+        ("more than a piece", 70_000, 70_000, 9, Ok(70_000)),
+        (
+            "one more than a piece",
+            65_537,
+            65_536,
+            9,
+            Err(ReadAllFault::TooLong),
+        ),
+        (
+            "the first read fails",
+            3,
+            3,
+            1,
+            Err(ReadAllFault::SourceFailed),
+        ),
+        (
+            "the read of the end fails",
+            3,
+            3,
+            2,
+            Err(ReadAllFault::SourceFailed),
+        ),
+    ] {
+        let bytes = vec![in rt.alloc(); b'a'; count]?;
+        let mut source = MemorySource::new(bytes, vec![in rt.alloc(); fail; 1]?);
+        let got = read_all(rt.alloc(), &mut source, limit).map(|bytes| bytes.len());
+        assert_eq!(rt; got, want, "{case}");
+    }
+    Ok(())
+}
+
+#[test]
+fn a_room_is_cleared(rt: HostRuntime) -> Result<(), Fail> {
+    let text = b"POST /jobs HTTP/1.1\r\nContent-Length: 1\r\n\r\nxPOST";
+    let bytes = Vec::from_slice(rt.alloc(), text)?;
+    let mut source = MemorySource::new(bytes, Vec::new(rt.alloc()));
+    let mut room = Room::new(rt.alloc())?;
+    assert_eq!(rt; room.load(&mut source), Ok(true));
+    room.clear();
+    assert_eq!(rt; room.request().body, b"x".as_slice());
+    assert_eq!(rt; room.load(&mut source), Ok(false));
     Ok(())
 }

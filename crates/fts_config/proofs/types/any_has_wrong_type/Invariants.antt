@@ -1,0 +1,10 @@
+-- The loop over the tables in which a key stands.
+use Rattle.std.proofs.Common.{◌≡◌, map, drop}
+use Rattle.std.specs.List.{list_any}
+use Rattle.toml.specs.View.{view}
+use Rattle.fts_config.specs.Types.{has_wrong_type}
+use Rattle.fts_config.proofs.types.any_has_wrong_type.Given as goal
+
+-- the tables that are left decide
+abbrev pub invariant-loop-table : goal.invariant-loop-table
+invariant-loop-table l = list_any (has_wrong_type l.key) (map view (drop l.table-index l.tables)) ≡ list_any (has_wrong_type l.key) (map view l.tables)

@@ -1,0 +1,12 @@
+-- The loop over the keys.
+use Rattle.std.proofs.Common.{◌≡◌, drop, find}
+use Rattle.std.specs.List.{list_any}
+use Rattle.toml.specs.View.{view}
+use Rattle.fts_config.specs.Keys.{all_keys}
+use Rattle.fts_config.specs.Tables.{tables_with}
+use Rattle.fts_config.specs.Types.{has_wrong_type}
+use Rattle.fts_config.proofs.types.check_types.Given as goal
+
+-- the keys that are left decide
+abbrev pub invariant-loop-key : goal.invariant-loop-key
+invariant-loop-key l = find (λ key. list_any (has_wrong_type key) (tables_with key (view l.document))) (drop l.key-index l.key-items) ≡ find (λ key. list_any (has_wrong_type key) (tables_with key (view l.document))) all_keys

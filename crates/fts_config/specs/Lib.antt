@@ -1,0 +1,9 @@
+pub mod Keys
+pub mod Faults
+pub mod Document
+pub mod Tables
+pub mod Types
+pub mod Reading
+pub mod Distinct
+pub mod Rules
+pub mod Settings

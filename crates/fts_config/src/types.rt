@@ -1,0 +1,107 @@
+//! The rules of types and of absence, for every key in its order.
+ghost use Rattle.std.specs.Prelude.{◌≡◌, map};
+ghost use Rattle.std.specs.List.{list_all, list_any};
+ghost use Rattle.toml.specs.View.{view};
+ghost use Rattle.fts_config.specs.Faults.{unless};
+ghost use Rattle.fts_config.specs.Types.{is_table, fits as fitting, has_wrong_type as wrong_in, lacks as lacking, wrong_type, missing};
+
+use crate::keys::Kind;
+use crate::tables::tables_with;
+use crate::{SettingKey, SettingsFault};
+use toml::Value;
+
+fn are_tables(values: &[Value]) -> bool
+    ensures { result ≡ list_all is_table (map view values.now) }
+{
+    for value in values {
+        if !value.is_table() {
+            return false;
+        }
+    }
+    true
+}
+
+fn fits(kind: Kind, value: &Value) -> bool
+    ensures { result ≡ fitting kind (view value.now) }
+{
+    match kind {
+        Kind::Text => value.is_str(),
+        Kind::Number => value.is_integer(),
+        Kind::Tables => match value.as_array() {
+            Some(items) => are_tables(items.as_slice()),
+            None => false,
+        },
+    }
+}
+
+fn has_wrong_type(key: SettingKey, table: &Value) -> bool
+    ensures { result ≡ wrong_in key (view table.now) }
+{
+    match table.get(key.name()) {
+        Some(value) => !fits(key.kind(), value),
+        None => false,
+    }
+}
+
+fn lacks(key: SettingKey, table: &Value) -> bool
+    ensures { result ≡ lacking key (view table.now) }
+{
+    if !key.is_needed() {
+        return false;
+    }
+    match table.get(key.name()) {
+        Some(value) => match value.as_array() {
+            Some(items) => items.as_slice().is_empty(),
+            None => false,
+        },
+        None => true,
+    }
+}
+
+fn any_has_wrong_type(key: SettingKey, tables: &[Value]) -> bool
+    ensures { result ≡ list_any (wrong_in key) (map view tables.now) }
+{
+    for table in tables {
+        if has_wrong_type(key, table) {
+            return true;
+        }
+    }
+    false
+}
+
+fn any_lacks(key: SettingKey, tables: &[Value]) -> bool
+    ensures { result ≡ list_any (lacking key) (map view tables.now) }
+{
+    for table in tables {
+        if lacks(key, table) {
+            return true;
+        }
+    }
+    false
+}
+
+/// Rule 2: no key has a value of another type.
+#[tactic(auto, unfolding(crate::specs::Types::wrong_type))]
+pub fn check_types(document: &Value) -> Result<(), SettingsFault>
+    ensures { result ≡ unless (wrong_type (view document.now)) tt }
+{
+    for key in SettingKey::all().iter() {
+        if any_has_wrong_type(*key, tables_with(document, *key)) {
+            return Err(SettingsFault::WrongType { key: *key });
+        }
+    }
+    Ok(())
+}
+
+/// Rule 3: each key that must be there is.
+#[tactic(auto, unfolding(crate::specs::Types::missing))]
+pub fn check_needed(document: &Value) -> Result<(), SettingsFault>
+    ensures { result ≡ unless (missing (view document.now)) tt }
+{
+    for key in SettingKey::all().iter() {
+        if any_lacks(*key, tables_with(document, *key)) {
+            return Err(SettingsFault::Missing { key: *key });
+        }
+    }
+    Ok(())
+}

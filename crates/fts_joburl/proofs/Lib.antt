@@ -1,0 +1,5 @@
+pub mod Joins
+pub mod SchemeNames
+pub mod EndpointNames
+pub mod FilePaths
+pub mod Reading
