@@ -20,8 +20,38 @@ const VERIFIED: Outcome = Outcome::Verified {
     digest: [7; 16],
 };
 
+/// A command of numbers alone.
+#[derive(Clone, Copy)]
+enum Say {
+    Claim {
+        now: u64,
+        word: u64,
+    },
+    Report {
+        now: u64,
+        file: u32,
+        attempt: u32,
+        outcome: Outcome,
+    },
+    CancelJob {
+        job: u32,
+    },
+    CancelFile {
+        job: u32,
+        file: u32,
+    },
+    SetPriority {
+        job: u32,
+        priority: u32,
+    },
+}
+
 /// A command, and what it is to be answered.
-type Row = (Command, Result<Answer, Refusal>);
+#[derive(Clone, Copy)]
+struct Row {
+    say: Say,
+    want: Result<Answer, Refusal>,
+}
 
 fn add<T: Drop>(items: &mut Items<T>, item: T) -> Result<(), Memory>
     ensures { OnOk result (items.new ≡ items.old ++ item ∷ []) }
@@ -265,35 +295,67 @@ fn three_hops(alloc: Global) -> Result<NewJob, Memory> {
     Ok(job(JobKind::Multihop, Strategy::Auto, files))
 }
 
-fn submit(job: NewJob) -> Command {
-    Command::Submit { now: 0, job }
-}
-
-fn claim(now: u64, word: u64) -> Command {
-    Command::Claim { now, word }
-}
-
-fn report(now: u64, file: u32, outcome: Outcome) -> Command {
-    Command::Report {
-        now,
-        file,
-        attempt: 1,
-        outcome,
+/// The command that is said.
+fn command_of(say: Say) -> Command {
+    match say {
+        Say::Claim { now, word } => Command::Claim { now, word },
+        Say::Report {
+            now,
+            file,
+            attempt,
+            outcome,
+        } => Command::Report {
+            now,
+            file,
+            attempt,
+            outcome,
+        },
+        Say::CancelJob { job } => Command::CancelJob { now: 0, job },
+        Say::CancelFile { job, file } => Command::CancelFile { now: 0, job, file },
+        Say::SetPriority { job, priority } => Command::SetPriority {
+            now: 0,
+            job,
+            priority,
+        },
     }
 }
 
-fn claimed(file: u32, attempt: u32) -> Result<Answer, Refusal> {
-    Ok(Answer::Claimed { file, attempt })
+/// A claim at a moment that takes a file, at its first attempt or a later one.
+fn claim(now: u64, file: u32, attempt: u32) -> Row {
+    Row {
+        say: Say::Claim { now, word: 0 },
+        want: Ok(Answer::Claimed { file, attempt }),
+    }
 }
 
-fn reported(file: u32, state: FileState) -> Result<Answer, Refusal> {
-    Ok(Answer::Reported { file, state })
+/// A claim at a moment that takes nothing.
+fn idle(now: u64) -> Row {
+    Row {
+        say: Say::Claim { now, word: 0 },
+        want: Err(Refusal::Idle),
+    }
 }
 
-const SUBMITTED: Result<Answer, Refusal> = Ok(Answer::Submitted {
-    job: 1,
-    id: FIRST_ID,
-});
+/// A report of a file's first attempt, and the state that it leaves.
+fn report(file: u32, outcome: Outcome, state: FileState) -> Row {
+    Row {
+        say: Say::Report {
+            now: 1000,
+            file,
+            attempt: 1,
+            outcome,
+        },
+        want: Ok(Answer::Reported { file, state }),
+    }
+}
+
+/// A cancellation of the first job.
+fn cancel(want: Result<Answer, Refusal>) -> Row {
+    Row {
+        say: Say::CancelJob { job: 1 },
+        want,
+    }
+}
 
 /// What a desk answers a command.
 fn answer_of(desk: &mut Desk, command: &Command) -> Result<Result<Answer, Refusal>, Memory> {
@@ -307,24 +369,57 @@ fn answer_of(desk: &mut Desk, command: &Command) -> Result<Result<Answer, Refusa
     }
 }
 
+/// Gives a desk a command, and compares its answer.
+fn give(
+    rt: &impl Abort,
+    desk: &mut Desk,
+    command: Command,
+    want: Result<Answer, Refusal>,
+) -> Result<(), Memory> {
+    let answer = answer_of(desk, &command)?;
+    assert!(rt; answer == want, "{answer:?} and not {want:?}");
+    Ok(())
+}
+
 /// Gives a desk commands in order, each with the answer that is wanted.
 fn drive(rt: &impl Abort, desk: &mut Desk, rows: &[Row]) -> Result<(), Memory> {
-    for (number, (command, want)) in rows.iter().enumerate() {
-        assert_eq!(rt; answer_of(desk, command)?, *want, "command {number}");
+    for row in rows {
+        give(rt, desk, command_of(row.say), row.want)?;
     }
     Ok(())
 }
 
-/// A desk that was started with links of this limit.
-fn started(rt: &impl Abort, alloc: Global, max_active: u32) -> Result<Desk, Memory>
+/// Starts a desk again, with links of this limit.
+fn restart(
+    rt: &impl Abort,
+    alloc: Global,
+    desk: &mut Desk,
+    max_active: u32,
+    released: u32,
+) -> Result<(), Memory>
+    requires some { 1 ≤ max_active }
+    requires few { max_active ≤ 1000 }
+{
+    let settings = settings(alloc, max_active)?;
+    let restart = Command::Restart { now: 0, settings };
+    give(rt, desk, restart, Ok(Answer::Restarted { released }))
+}
+
+/// Submits a job without an id, which is the desk's job of this number.
+fn submit(rt: &impl Abort, desk: &mut Desk, job: NewJob, number: u32) -> Result<(), Memory> {
+    let id = FIRST_ID - 1 + u128::from(number);
+    let submit = Command::Submit { now: 0, job };
+    give(rt, desk, submit, Ok(Answer::Submitted { job: number, id }))
+}
+
+/// A desk that was started with links of this limit, and has a job.
+fn desk_of(rt: &impl Abort, alloc: Global, max_active: u32, job: NewJob) -> Result<Desk, Memory>
     requires some { 1 ≤ max_active }
     requires few { max_active ≤ 1000 }
 {
     let mut desk = Desk::empty(alloc);
-    let settings = settings(alloc, max_active)?;
-    let restart = Command::Restart { now: 0, settings };
-    let want = Ok(Answer::Restarted { released: 0 });
-    drive(rt, &mut desk, &[(restart, want)])?;
+    restart(rt, alloc, &mut desk, max_active, 0)?;
+    submit(rt, &mut desk, job, 1)?;
     Ok(desk)
 }
 
@@ -339,13 +434,8 @@ fn states_are(rt: &impl Abort, desk: &Desk, states: &[FileState]) {
 #[test]
 fn a_link_carries_as_many_files_as_its_limit(rt: HostRuntime) -> Result<(), Fail> {
     use FileState::{Active, Finished, Submitted};
-    let mut desk = started(&rt, rt.alloc(), 2)?;
-    let first = [
-        (submit(five_files(rt.alloc())?), SUBMITTED),
-        (claim(0, 0), claimed(1, 1)),
-        (claim(0, 0), claimed(2, 1)),
-        (claim(0, 0), Err(Refusal::Idle)),
-    ];
+    let mut desk = desk_of(&rt, rt.alloc(), 2, five_files(rt.alloc())?)?;
+    let first = [claim(0, 1, 1), claim(0, 2, 1), idle(0)];
     drive(&rt, &mut desk, &first)?;
     states_are(
         &rt,
@@ -354,10 +444,10 @@ fn a_link_carries_as_many_files_as_its_limit(rt: HostRuntime) -> Result<(), Fail
     );
     assert_eq!(rt; desk.held(LinkAt { source: 0, dest: 1 }), 2);
     let second = [
-        (report(0, 1, VERIFIED), reported(1, Finished)),
-        (report(0, 2, VERIFIED), reported(2, Finished)),
-        (claim(0, 0), claimed(3, 1)),
-        (claim(0, 0), claimed(4, 1)),
+        report(1, VERIFIED, Finished),
+        report(2, VERIFIED, Finished),
+        claim(0, 3, 1),
+        claim(0, 4, 1),
     ];
     drive(&rt, &mut desk, &second)?;
     states_are(&rt, &desk, &[Finished, Finished, Active, Active, Submitted]);
@@ -367,15 +457,9 @@ fn a_link_carries_as_many_files_as_its_limit(rt: HostRuntime) -> Result<(), Fail
 
 #[test]
 fn an_endpoint_takes_as_many_files_as_its_limit(rt: HostRuntime) -> Result<(), Fail> {
-    use FileState::{Active, Submitted};
-    let mut desk = started(&rt, rt.alloc(), 2)?;
-    let rows = [
-        (submit(two_to_one_endpoint(rt.alloc())?), SUBMITTED),
-        (claim(0, 0), claimed(2, 1)),
-        (claim(0, 0), Err(Refusal::Idle)),
-    ];
-    drive(&rt, &mut desk, &rows)?;
-    states_are(&rt, &desk, &[Submitted, Active]);
+    let mut desk = desk_of(&rt, rt.alloc(), 2, two_to_one_endpoint(rt.alloc())?)?;
+    drive(&rt, &mut desk, &[claim(0, 2, 1), idle(0)])?;
+    states_are(&rt, &desk, &[FileState::Submitted, FileState::Active]);
     assert_eq!(rt; desk.held(LinkAt { source: 1, dest: 2 }), 0);
     Ok(())
 }
@@ -383,12 +467,9 @@ fn an_endpoint_takes_as_many_files_as_its_limit(rt: HostRuntime) -> Result<(), F
 #[test]
 fn a_word_draws_the_activity(rt: HostRuntime) -> Result<(), Fail> {
     for (word, file) in [(69, 1), (70, 2), (90, 3)] {
-        let mut desk = started(&rt, rt.alloc(), 2)?;
-        let rows = [
-            (submit(three_files(rt.alloc())?), SUBMITTED),
-            (claim(0, word), claimed(file, 1)),
-        ];
-        drive(&rt, &mut desk, &rows)?;
+        let mut desk = desk_of(&rt, rt.alloc(), 2, three_files(rt.alloc())?)?;
+        let want = Ok(Answer::Claimed { file, attempt: 1 });
+        give(&rt, &mut desk, Command::Claim { now: 0, word }, want)?;
     }
     Ok(())
 }
@@ -396,15 +477,14 @@ fn a_word_draws_the_activity(rt: HostRuntime) -> Result<(), Fail> {
 #[test]
 fn a_missing_source_is_followed_by_the_next(rt: HostRuntime) -> Result<(), Fail> {
     use FileState::{Failed, Finished, NotUsed};
-    let mut desk = started(&rt, rt.alloc(), 2)?;
     let job = three_sources(rt.alloc(), Strategy::Orderly)?;
+    let mut desk = desk_of(&rt, rt.alloc(), 2, job)?;
     let rows = [
-        (submit(job), SUBMITTED),
-        (claim(0, 0), claimed(1, 1)),
-        (report(0, 1, Outcome::SourceMissing), reported(1, Failed)),
-        (claim(0, 0), claimed(2, 1)),
-        (report(0, 2, VERIFIED), reported(2, Finished)),
-        (claim(0, 0), Err(Refusal::Idle)),
+        claim(0, 1, 1),
+        report(1, Outcome::SourceMissing, Failed),
+        claim(0, 2, 1),
+        report(2, VERIFIED, Finished),
+        idle(0),
     ];
     drive(&rt, &mut desk, &rows)?;
     states_are(&rt, &desk, &[Failed, Finished, NotUsed]);
@@ -416,15 +496,13 @@ fn a_missing_source_is_followed_by_the_next(rt: HostRuntime) -> Result<(), Fail>
 #[test]
 fn a_failed_hop_is_the_last(rt: HostRuntime) -> Result<(), Fail> {
     use FileState::{Failed, Finished, NotUsed};
-    let mut desk = started(&rt, rt.alloc(), 2)?;
-    let exists = Outcome::DestinationExists;
+    let mut desk = desk_of(&rt, rt.alloc(), 2, three_hops(rt.alloc())?)?;
     let rows = [
-        (submit(three_hops(rt.alloc())?), SUBMITTED),
-        (claim(0, 0), claimed(1, 1)),
-        (report(0, 1, VERIFIED), reported(1, Finished)),
-        (claim(0, 0), claimed(2, 1)),
-        (report(0, 2, exists), reported(2, Failed)),
-        (claim(0, 0), Err(Refusal::Idle)),
+        claim(0, 1, 1),
+        report(1, VERIFIED, Finished),
+        claim(0, 2, 1),
+        report(2, Outcome::DestinationExists, Failed),
+        idle(0),
     ];
     drive(&rt, &mut desk, &rows)?;
     states_are(&rt, &desk, &[Finished, Failed, NotUsed]);
@@ -435,27 +513,18 @@ fn a_failed_hop_is_the_last(rt: HostRuntime) -> Result<(), Fail> {
 #[test]
 fn a_cancelled_copy_ends_by_its_report(rt: HostRuntime) -> Result<(), Fail> {
     use FileState::{Active, Canceled};
-    let mut desk = started(&rt, rt.alloc(), 1)?;
-    let cancelled = Ok(Answer::Cancelled { job: 1 });
-    let first = [
-        (submit(three_files(rt.alloc())?), SUBMITTED),
-        (claim(0, 0), claimed(1, 1)),
-        (Command::CancelJob { now: 0, job: 1 }, cancelled),
-    ];
+    let mut desk = desk_of(&rt, rt.alloc(), 1, three_files(rt.alloc())?)?;
+    let unchanged = cancel(Err(Refusal::Unchanged { job: 1 }));
+    let first = [claim(0, 1, 1), cancel(Ok(Answer::Cancelled { job: 1 }))];
     drive(&rt, &mut desk, &first)?;
     states_are(&rt, &desk, &[Active, Canceled, Canceled]);
-    assert!(rt;
-        desk.rows()
-            .iter()
-            .any(|row| row.id == 1 && row.cancel_asked)
-    );
+    let asked = desk
+        .rows()
+        .iter()
+        .any(|row| row.id == 1 && row.cancel_asked);
+    assert!(rt; asked, "the first is asked to end");
     assert_eq!(rt; desk.state(1), Some(JobState::Active));
-    let unchanged = Err(Refusal::Unchanged { job: 1 });
-    let second = [
-        (Command::CancelJob { now: 0, job: 1 }, unchanged),
-        (report(0, 1, VERIFIED), reported(1, Canceled)),
-        (Command::CancelJob { now: 0, job: 1 }, unchanged),
-    ];
+    let second = [unchanged, report(1, VERIFIED, Canceled), unchanged];
     drive(&rt, &mut desk, &second)?;
     states_are(&rt, &desk, &[Canceled, Canceled, Canceled]);
     assert_eq!(rt; desk.state(1), Some(JobState::Canceled));
@@ -464,88 +533,62 @@ fn a_cancelled_copy_ends_by_its_report(rt: HostRuntime) -> Result<(), Fail> {
 
 #[test]
 fn a_failed_copy_waits_for_its_delay(rt: HostRuntime) -> Result<(), Fail> {
-    use FileState::{Finished, Submitted};
-    let mut desk = started(&rt, rt.alloc(), 2)?;
-    let job = one_file(rt.alloc(), None, "f1")?;
-    let again = Command::Report {
-        now: 1060,
-        file: 1,
-        attempt: 2,
-        outcome: VERIFIED,
-    };
+    let mut desk = desk_of(&rt, rt.alloc(), 2, one_file(rt.alloc(), None, "f1")?)?;
     let rows = [
-        (submit(job), SUBMITTED),
-        (claim(1000, 0), claimed(1, 1)),
-        (
-            report(1000, 1, Outcome::StoreFailed),
-            reported(1, Submitted),
-        ),
-        (claim(1059, 0), Err(Refusal::Idle)),
-        (claim(1060, 0), claimed(1, 2)),
-        (again, reported(1, Finished)),
+        claim(1000, 1, 1),
+        report(1, Outcome::StoreFailed, FileState::Submitted),
+        idle(1059),
+        claim(1060, 1, 2),
     ];
     drive(&rt, &mut desk, &rows)?;
-    assert!(rt;
-        desk.rows()
-            .iter()
-            .any(|row| row.not_before == 1060 && row.retries == 1)
-    );
+    let waited = desk.rows().iter().any(|row| row.not_before == 1060
+        && row.retries == 1
+        && row.attempt == 2);
+    assert!(rt; waited, "a minute behind the failure");
     Ok(())
 }
 
 #[test]
 fn an_id_has_one_job(rt: HostRuntime) -> Result<(), Fail> {
-    let mut desk = started(&rt, rt.alloc(), 2)?;
-    let submitted = Ok(Answer::Submitted { job: 1, id: 7 });
-    let rows = [
-        (submit(one_file(rt.alloc(), Some(7), "f1")?), submitted),
-        (
-            submit(one_file(rt.alloc(), Some(7), "f2")?),
-            Err(Refusal::Duplicate { job: 1 }),
-        ),
-    ];
-    drive(&rt, &mut desk, &rows)?;
+    let mut desk = Desk::empty(rt.alloc());
+    for (path, want) in [
+        ("f1", Ok(Answer::Submitted { job: 1, id: 7 })),
+        ("f2", Err(Refusal::Duplicate { job: 1 })),
+    ] {
+        let job = one_file(rt.alloc(), Some(7), path)?;
+        give(&rt, &mut desk, Command::Submit { now: 0, job }, want)?;
+    }
     assert_eq!(rt; desk.find(7), Some(1));
     assert_eq!(rt; desk.jobs().len(), 1);
-    let job = Command::SetPriority {
-        now: 0,
+    Ok(())
+}
+
+#[test]
+fn a_job_has_another_priority_until_it_is_settled(rt: HostRuntime) -> Result<(), Fail> {
+    let mut desk = desk_of(&rt, rt.alloc(), 2, one_file(rt.alloc(), None, "f1")?)?;
+    let priority = Say::SetPriority {
         job: 1,
         priority: 5,
     };
-    let file = Command::CancelFile {
-        now: 0,
-        job: 1,
-        file: 1,
-    };
-    let changes = [
-        (job, Ok(Answer::PrioritySet { job: 1 })),
+    let file = Say::CancelFile { job: 1, file: 1 };
+    for (say, want) in [
+        (priority, Ok(Answer::PrioritySet { job: 1 })),
         (file, Ok(Answer::Cancelled { job: 1 })),
-    ];
-    drive(&rt, &mut desk, &changes)?;
-    states_are(&rt, &desk, &[FileState::Canceled]);
+        (priority, Err(Refusal::Unchanged { job: 1 })),
+    ] {
+        give(&rt, &mut desk, command_of(say), want)?;
+    }
     Ok(())
 }
 
 #[test]
 fn a_restart_releases_what_was_copied(rt: HostRuntime) -> Result<(), Fail> {
-    let mut desk = started(&rt, rt.alloc(), 4)?;
-    let settings = settings(rt.alloc(), 1)?;
-    let rows = [
-        (submit(five_files(rt.alloc())?), SUBMITTED),
-        (claim(0, 0), claimed(1, 1)),
-        (
-            Command::Restart { now: 0, settings },
-            Ok(Answer::Restarted { released: 1 }),
-        ),
-    ];
-    drive(&rt, &mut desk, &rows)?;
+    let mut desk = desk_of(&rt, rt.alloc(), 4, five_files(rt.alloc())?)?;
+    drive(&rt, &mut desk, &[claim(0, 1, 1)])?;
+    restart(&rt, rt.alloc(), &mut desk, 1, 1)?;
     states_are(&rt, &desk, &[FileState::Submitted; 5]);
-    assert_eq!(rt; desk.settings().is_some(), true);
-    let claims = [
-        (claim(0, 0), claimed(1, 2)),
-        (claim(0, 0), Err(Refusal::Idle)),
-    ];
-    drive(&rt, &mut desk, &claims)?;
+    assert!(rt; desk.settings().is_some(), "there are settings in force");
+    drive(&rt, &mut desk, &[claim(0, 1, 2), idle(0)])?;
     Ok(())
 }
 
@@ -556,25 +599,9 @@ fn the_source_with_the_least_to_do_comes_first(rt: HostRuntime) -> Result<(), Fa
         (Strategy::Auto, NotUsed, Submitted),
         (Strategy::Orderly, Submitted, NotUsed),
     ] {
-        let mut desk = started(&rt, rt.alloc(), 2)?;
-        let rows = [
-            (
-                submit(one_file(rt.alloc(), Some(7), "f1")?),
-                Ok(Answer::Submitted { job: 1, id: 7 }),
-            ),
-            (
-                submit(one_file(rt.alloc(), Some(8), "f2")?),
-                Ok(Answer::Submitted { job: 2, id: 8 }),
-            ),
-            (
-                submit(three_sources(rt.alloc(), strategy)?),
-                Ok(Answer::Submitted {
-                    job: 3,
-                    id: FIRST_ID + 2,
-                }),
-            ),
-        ];
-        drive(&rt, &mut desk, &rows)?;
+        let mut desk = desk_of(&rt, rt.alloc(), 2, one_file(rt.alloc(), None, "f1")?)?;
+        submit(&rt, &mut desk, one_file(rt.alloc(), None, "f2")?, 2)?;
+        submit(&rt, &mut desk, three_sources(rt.alloc(), strategy)?, 3)?;
         states_are(&rt, &desk, &[Submitted, Submitted, first, second, NotUsed]);
     }
     Ok(())
