@@ -51,15 +51,18 @@ change_at-behind [] after place number change is =
 change_at-behind (row ∷ before) after place zero change is = absurd (omega arith)
 change_at-behind (row ∷ before) after place (suc number) change is = ap (λ rows. row ∷ rows) (change_at-behind before after place number change (omega arith))
 
--- in a numbered list the row at a place has the id that lies as far above the first
-pub id_at : (start : ℕ) (rows : List FileRow) (place : ℕ) (row : FileRow) → AreNumberedFrom (λ other. other.id) start rows → slice_get rows place ≡ Some row → row.id ≡ start + place
-id_at start [] place row numbered at = cc
-id_at start (first ∷ rows) zero row numbered at =
-    let same : first ≡ row = same_Some first row at in
-    ap (λ (other : FileRow). other.id) (sym same) ∙ numbered.0 ∙ sym (add-zero start)
-id_at start (first ∷ rows) (suc place) row numbered at =
+-- in a numbered list the item at a place has the number that lies as far above the first
+pub number_at_place : {Item : Type 0} (number_of : Item → ℕ) (start : ℕ) (items : List Item) (place : ℕ) (item : Item) → AreNumberedFrom number_of start items → slice_get items place ≡ Some item
+    → number_of item ≡ start + place
+number_at_place number_of start [] place item numbered at = cc
+number_at_place number_of start (first ∷ items) zero item numbered at = ap number_of (sym (same_Some first item at)) ∙ numbered.0 ∙ sym (add-zero start)
+number_at_place number_of start (first ∷ items) (suc place) item numbered at =
     let next : suc start + place ≡ start + suc place = omega arith in
-    id_at (suc start) rows place row numbered.1 at ∙ next
+    number_at_place number_of (suc start) items place item numbered.1 at ∙ next
+
+-- and so has a row its id
+pub id_at : (start : ℕ) (rows : List FileRow) (place : ℕ) (row : FileRow) → AreNumberedFrom (λ other. other.id) start rows → slice_get rows place ≡ Some row → row.id ≡ start + place
+id_at start rows place row numbered at = number_at_place (λ (other : FileRow). other.id) start rows place row numbered at
 
 -- the row that was chosen at a place is woken there
 pub submit_chosen-place : (start : ℕ) (rows : List FileRow) (place : ℕ) (chosen : Option FileRow) → AreNumberedFrom (λ row. row.id) start rows → place < length rows → slice_get rows place ≡ chosen

@@ -5,7 +5,9 @@ mod Claiming
 mod FirstRows
 mod Follows
 mod Found
+mod Hops
 mod KeptFiles
+mod LinkNames
 mod NewRows
 mod Numbered
 mod Picks

@@ -1,7 +1,7 @@
 //! The transfer machine's tables, as a running service keeps them.
 //! A command is applied in two steps: `Desk::prepare` refuses it or makes room for it, and `Desk::commit` does it, takes no memory and can't fail.
 //! What is done lies between them: the caller writes the command to its journal once it is prepared, and commits it once it is written.
-//! Here are Restart, and the submission of a plain job without an id. Each command is a module of its own, with its room and its step.
+//! Each command is a module of its own: a check that answers as the machine's step would, and the step. `commands.rt` brings them together.
 #![tactic(auto)]
 
 mod answers;
@@ -21,6 +21,8 @@ mod search;
 mod slots_left;
 mod sources;
 mod submit;
+#[cfg(test)]
+mod tests;
 mod waking;
 
 pub use desk::{Desk, DeskFault, Plan};

@@ -4,7 +4,7 @@
 ghost use Rattle.std.specs.Prelude.{◌≡◌, map, option_map};
 ghost use Rattle.std.specs.Ordering.{nat_cmp, ordering_then};
 ghost use Rattle.std.specs.Cmp.Lexicographic.{slice_cmp};
-ghost use Rattle.fts_tables.specs.Tables.{job_at};
+ghost use Rattle.fts_tables.specs.Tables.{AreNumberedFrom, job_at, is_same_link as same_link};
 ghost use Rattle.fts_tables.specs.Limits.{held};
 ghost use Rattle.fts_tables.specs.Choice.{
   is_link_before as link_before,
@@ -12,6 +12,7 @@ ghost use Rattle.fts_tables.specs.Choice.{
   priority_of as priority,
 };
 
+use crate::lookups::job_place;
 use crate::slots_left::held_on;
 use fts_tables::{FileRow, JobRow};
 use std::cmp::Ordering;
@@ -47,10 +48,21 @@ fn compare_names(one: &FileRow, other: &FileRow) -> Ordering
     by_source.then(by_dest)
 }
 
-/// Whether a row's link goes before another's: it holds less, or as much and its names come first.
+/// Whether two rows have one link.
+pub fn is_same_link(one: &FileRow, other: &FileRow) -> bool
+    ensures answer { result ≡ same_link one.now other.now }
+{
+    one.source.endpoint.as_str() == other.source.endpoint.as_str()
+        && one.dest.endpoint.as_str() == other.dest.endpoint.as_str()
+}
+
+/// Whether a row's link goes before another's: it holds less, or as much and its names come first. On one link nothing is counted.
 pub fn is_link_before(running: &[&FileRow], one: &FileRow, other: &FileRow) -> bool
     ensures answer { result ≡ link_before (map (λ row. row.now) running.now) one.now other.now }
 {
+    if is_same_link(one, other) {
+        return false;
+    }
     compare_held(running, one, other)
         .then(compare_names(one, other))
         .is_lt()
@@ -58,13 +70,18 @@ pub fn is_link_before(running: &[&FileRow], one: &FileRow, other: &FileRow) -> b
 
 /// The job of a number.
 fn job_of<'a>(jobs: &'a [JobRow], number: u32) -> Option<&'a JobRow>
+    requires numbered { AreNumberedFrom (λ job. job.number) 1 jobs.now }
     ensures job { option_map (λ job. job.now) result ≡ job_at jobs.now number }
 {
-    jobs.iter().find(|job| job.number == number)
+    match job_place(jobs, number) {
+        Some(place) => jobs.get(place),
+        None => None,
+    }
 }
 
 /// The priority of a row's job, and 0 where there is none.
 fn priority_of(jobs: &[JobRow], row: &FileRow) -> u32
+    requires numbered { AreNumberedFrom (λ job. job.number) 1 jobs.now }
     ensures priority { result ≡ priority jobs.now row.now }
 {
     match job_of(jobs, row.job) {
@@ -75,6 +92,7 @@ fn priority_of(jobs: &[JobRow], row: &FileRow) -> u32
 
 /// Whether a row goes before another of its link and activity: its job's priority is greater, or the same and its id less.
 pub fn is_row_before(jobs: &[JobRow], one: &FileRow, other: &FileRow) -> bool
+    requires numbered { AreNumberedFrom (λ job. job.number) 1 jobs.now }
     ensures answer { result ≡ row_before jobs.now one.now other.now }
 {
     priority_of(jobs, other)

@@ -1,11 +1,12 @@
 //! Report: the row of a copy that ended, and the row of its job that begins to wait behind it.
 //! What becomes of the row, and which kind of row follows, `after_report` says; behind a finished hop comes the row after it,
-//! after a failed replica the alternative that is chosen by loads over all rows, the reported one among them.
+//! after a failed replica the next alternative, with loads over all rows as the report leaves them.
 //! Order: the row is written first, then the one that follows is woken.
 ghost use Rattle.std.specs.Prelude.{
   ◌≡◌,
   ℕ,
   ◌+◌,
+  ◌-◌,
   ◌<◌,
   ◌≤◌,
   List,
@@ -48,6 +49,7 @@ use crate::kept::Kept;
 use crate::lookups::{job_place, row_place, rows_of_job, rows_stand_together};
 use crate::sources::next_source;
 use crate::waking::wake_at;
+use fts_choice::next_hop;
 use fts_states::{After, Follow, after_report};
 use fts_tables::{Answer, FileRow, FileState, JobRow, Outcome, Refusal};
 
@@ -102,13 +104,16 @@ fn is_active(row: &FileRow) -> bool
     }
 }
 
-/// Does an accepted report: the row, and what follows it.
+/// Does an accepted report, at a moment in whole seconds, or at the last one where that is later: the row, and what follows it.
+/// It takes no memory and can't fail, and answers the file's new state.
 pub fn report(kept: &mut Kept, now: u64, file: u32, attempt: u32, outcome: Outcome) -> Answer
     requires formed { AreWellFormed (tables_kept kept.old) }
     requires counts { HaveFewFiles kept.old.jobs.items }
     requires limits { IsWithinLimits kept.old }
     requires accepted { IsAccepted (step (tables_kept kept.old) (Report now file attempt outcome)) }
     ensures step { step (tables_kept kept.old) (Report now file attempt outcome) ≡ Ok (tables_kept kept.new, result) }
+    ensures jobs { kept.new.jobs.items ≡ kept.old.jobs.items }
+    ensures rows { length kept.new.rows.items ≡ length kept.old.rows.items }
 {
     rows_stand_together();
     kept.moment = now.max(kept.moment);
@@ -136,6 +141,7 @@ fn report_at(
     requires together { StandTogether rows.old job.now }
     requires limits { (length rows.old ≤ MAX_ROWS) × (job.now.count ≤ MAX_FILES) }
     requires inside { place < length rows.old }
+    requires owned { (job.now.first - 1 ≤ place) × (place < job.now.first - 1 + job.now.count) }
     requires active { (row : Row) → slice_get rows.old place ≡ Some row → IsTrue (is_active_state row.state) }
     ensures rows { (row : Row) → slice_get rows.old place ≡ Some row → rows.new ≡ followed job.now (reported job.now now outcome.now row) (change_row row.id (reported job.now now outcome.now) rows.old) }
     ensures answer { (row : Row) → slice_get rows.old place ≡ Some row → result ≡ Reported row.id (reported job.now now outcome.now row).state }
@@ -171,7 +177,7 @@ fn follow(rows: &mut [FileRow], place: usize, job: &JobRow, follow: Follow)
     requires numbered { AreNumberedFrom (λ row. row.id) 1 rows.old }
     requires together { StandTogether rows.old job.now }
     requires limits { (length rows.old ≤ MAX_ROWS) × (job.now.count ≤ MAX_FILES) }
-    requires inside { place < length rows.old }
+    requires owned { (job.now.first - 1 ≤ place) × (place < job.now.first - 1 + job.now.count) }
     ensures rows { (row : Row) → row.id ≡ place + 1 → rows.new ≡ with_follow follow job.now row rows.old }
 {
     match follow {
@@ -184,12 +190,14 @@ fn follow(rows: &mut [FileRow], place: usize, job: &JobRow, follow: Follow)
 /// Wakes the hop behind that at a place, where there is one.
 fn wake_hop(rows: &mut [FileRow], place: usize, job: &JobRow)
     requires numbered { AreNumberedFrom (λ row. row.id) 1 rows.old }
-    requires limits { length rows.old ≤ MAX_ROWS }
-    requires inside { place < length rows.old }
+    requires together { StandTogether rows.old job.now }
+    requires owned { (job.now.first - 1 ≤ place) × (place < job.now.first - 1 + job.now.count) }
     ensures rows { (row : Row) → row.id ≡ place + 1 → rows.new ≡ followed_finish Multihop job.now row rows.old }
 {
-    if place + 2 < job.first as usize + job.count as usize {
-        wake_at(rows, place + 1);
+    let first = job.first as usize - 1;
+    match next_hop(rows_of_job(rows, job), place - first) {
+        Some(next) => wake_at(rows, first + next),
+        None => {}
     }
 }
 

@@ -7,6 +7,7 @@ ghost use Rattle.fts_tables.specs.declared.limits.TheConstants.{MAX_ROWS};
 ghost use Rattle.fts_desk.specs.Kept.{tables_kept};
 
 use crate::kept::Kept;
+use fts_states::after_restart;
 use fts_tables::{Answer, FileRow, FileState, Reason, Settings};
 
 /// Begins a run with these settings.
@@ -42,14 +43,13 @@ fn release_one(row: &mut FileRow) -> bool
     ensures row { row.new ≡ released row.old }
     ensures was { result ≡ is_active row.old.state }
 {
+    let state = after_restart(row);
     match row.state {
         FileState::Active => {
-            if row.cancel_asked {
-                row.state = FileState::Canceled;
+            if matches!(state, FileState::Canceled) {
                 row.reason = Reason::Cancelled;
-            } else {
-                row.state = FileState::Submitted;
             }
+            row.state = state;
             true
         }
         FileState::Submitted

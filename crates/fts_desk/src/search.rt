@@ -6,7 +6,6 @@ ghost use Rattle.std.specs.Prelude.{
   ◌≡◌,
   ◌≤◌,
   ◌&&◌,
-  [],
   All,
   IsTrue,
   length,
@@ -17,8 +16,7 @@ ghost use Rattle.std.specs.Prelude.{
 };
 ghost use Rattle.std.specs.List.{list_any};
 ghost use Rattle.fts_tables.specs.SettingsData.{is_within};
-ghost use Rattle.fts_tables.specs.Tables.{is_same_link as same_link};
-ghost use Rattle.fts_tables.specs.Limits.{is_eligible as may_be_claimed, eligible_rows};
+ghost use Rattle.fts_tables.specs.Tables.{AreNumberedFrom};
 ghost use Rattle.fts_tables.specs.Choice.{
   least,
   is_link_before as link_before,
@@ -30,7 +28,6 @@ ghost use Rattle.fts_tables.specs.Choice.{
 ghost use Rattle.fts_tables.specs.declared.limits.TheConstants.{MAX_WEIGHT, MAX_WEIGHTS};
 ghost use Rattle.fts_desk.specs.Claims.{
   active_rows,
-  tables_with,
   is_better,
   may_claim,
   is_candidate as candidate,
@@ -38,11 +35,21 @@ ghost use Rattle.fts_desk.specs.Claims.{
   tables_of_lists,
 };
 
-use crate::order::{is_link_before, is_row_before};
-use crate::slots_left::{is_due, is_eligible, is_free};
+use crate::order::{is_link_before, is_row_before, is_same_link};
+use crate::slots_left::{is_due, is_free};
 use fts_choice::draw;
 use fts_tables::limits::MAX_WEIGHTS;
 use fts_tables::{FileRow, JobRow, Settings, Weight};
+
+/// Whether a row's link goes before that of the best so far.
+fn is_better_link(running: &[&FileRow], best: Option<&FileRow>, row: &FileRow) -> bool
+    ensures answer { result ≡ is_better (link_before (map (λ row. row.now) running.now)) (option_map (λ best. best.now) best.entry) row.now }
+{
+    match best {
+        Some(best) => is_link_before(running, row, best),
+        None => true,
+    }
+}
 
 /// Whether a row may be claimed, and its link goes before that of the best so far.
 fn is_next_link(
@@ -54,13 +61,7 @@ fn is_next_link(
 ) -> bool
     ensures answer { result ≡ (may_claim (map (λ row. row.now) running.now) settings.now now row.now && is_better (link_before (map (λ row. row.now) running.now)) (option_map (λ best. best.now) best.entry) row.now) }
 {
-    if !is_eligible(running, settings, now, row) {
-        return false;
-    }
-    match best {
-        None => true,
-        Some(best) => is_link_before(running, row, best),
-    }
+    is_due(row, now) && is_better_link(running, best, row) && is_free(running, settings, row)
 }
 
 /// The first of the rows that may be claimed whose link goes before the others.
@@ -79,14 +80,6 @@ fn first_link<'a>(
         }
     }
     best
-}
-
-/// Whether two rows have one link.
-fn is_same_link(one: &FileRow, other: &FileRow) -> bool
-    ensures answer { result ≡ same_link one.now other.now }
-{
-    one.source.endpoint.as_str() == other.source.endpoint.as_str()
-        && one.dest.endpoint.as_str() == other.dest.endpoint.as_str()
 }
 
 /// Whether an activity is listed.
@@ -154,15 +147,15 @@ fn is_next_row(
     best: Option<&FileRow>,
     row: &FileRow,
 ) -> bool
+    requires numbered { AreNumberedFrom (λ job. job.number) 1 jobs.now }
     ensures answer { result ≡ (candidate (map (λ row. row.now) running.now) settings.now now link.now weight.now row.now && is_better (row_before jobs.now) (option_map (λ best. best.now) best.entry) row.now) }
 {
-    if !is_candidate(running, settings, now, link, weight, row) {
+    if let Some(best) = best
+        && !is_row_before(jobs, row, best)
+    {
         return false;
     }
-    match best {
-        None => true,
-        Some(best) => is_row_before(jobs, row, best),
-    }
+    is_candidate(running, settings, now, link, weight, row)
 }
 
 /// The first of a link's rows under an activity.
@@ -175,6 +168,7 @@ fn first_row<'a>(
     link: &FileRow,
     weight: &Weight,
 ) -> Option<&'a FileRow>
+    requires numbered { AreNumberedFrom (λ job. job.number) 1 jobs.now }
     ensures first { option_map (λ row. row.now) result ≡ least (row_before jobs.now) (filter (candidate (map (λ row. row.now) running.now) settings.now now link.now weight.now) rows.now) }
 {
     let mut best: Option<&FileRow> = None;
@@ -252,6 +246,7 @@ fn row_of_link<'a>(
     link: &FileRow,
     word: u64,
 ) -> Option<&'a FileRow>
+    requires numbered { AreNumberedFrom (λ job. job.number) 1 jobs.now }
     ensures row { option_map (λ row. row.now) result ≡ pick_on_link (map (λ row. row.now) running.now) settings.now jobs.now rows.now now link.now word }
 {
     match draw_place(running, rows, settings, now, link, word) {
@@ -272,6 +267,7 @@ pub fn pick_row<'a>(
     now: u64,
     word: u64,
 ) -> Option<&'a FileRow>
+    requires numbered { AreNumberedFrom (λ job. job.number) 1 jobs.now }
     requires running { map (λ row. row.now) running.now ≡ active_rows rows.now }
     ensures row { option_map (λ row. row.now) result ≡ pick (tables_of_lists jobs.now rows.now settings.now) now word }
 {

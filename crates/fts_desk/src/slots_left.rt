@@ -31,7 +31,6 @@ ghost use Rattle.fts_tables.specs.Limits.{
   has_slots as has_slots_left,
   has_known_ends as are_ends_known,
   is_dest_busy as is_busy,
-  is_eligible as may_be_claimed,
 };
 ghost use Rattle.fts_tables.specs.Tables.{is_submitted, is_active};
 ghost use Rattle.fts_desk.specs.Claims.{active_rows, tables_with, is_free as is_free_row};
@@ -209,11 +208,4 @@ pub fn is_free(running: &[&FileRow], settings: &Settings, row: &FileRow) -> bool
     has_slots(running, settings, row)
         && has_known_ends(settings, row)
         && !is_dest_busy(running, row)
-}
-
-/// Whether a row may be claimed at a moment.
-pub fn is_eligible(running: &[&FileRow], settings: &Settings, now: u64, row: &FileRow) -> bool
-    ensures answer { result ≡ may_be_claimed (tables_with (map (λ row. row.now) running.now) settings.now) now row.now }
-{
-    is_due(row, now) && is_free(running, settings, row)
 }

@@ -1,8 +1,10 @@
 //! Which source of a replica job comes next.
 //! Its loads are counted over all rows, into an array on the stack: no job has more than `MAX_FILES` rows.
-ghost use Rattle.std.specs.Prelude.{◌≡◌, ◌≤◌, ◌<◌, ◌&&◌, length, map, take, slice_get, option_and_then, count_by, IfSome, ℕ, List};
+ghost use Rattle.std.specs.Prelude.{◌≡◌, ◌≤◌, ◌<◌, length, map, take, slice_get, option_and_then, IfSome, List};
 ghost use Rattle.fts_tables.specs.Tables.{is_live as is_live_state, is_same_link as has_same_link};
 ghost use Rattle.fts_tables.specs.Choice.{load as load_of, next_alternative as alternative_of};
+ghost use Rattle.fts_tables.specs.declared.rows.FileRow.{FileRow as Row};
+ghost use Rattle.fts_tables.specs.declared.rows.Strategy.TheVariants.{Auto, Orderly};
 ghost use Rattle.fts_tables.specs.declared.limits.TheConstants.{MAX_FILES, MAX_ROWS};
 
 use fts_choice::next_alternative;
@@ -55,7 +57,31 @@ pub fn next_source(rows: &[FileRow], of_job: &[FileRow], strategy: Strategy) -> 
     ensures row { option_and_then (slice_get of_job.now) result ≡ alternative_of strategy rows.now of_job.now }
     ensures inside { IfSome result (λ place. place < length of_job.now) }
 {
+    match strategy {
+        Strategy::Auto => lightest_source(rows, of_job),
+        Strategy::Orderly => first_source(of_job),
+    }
+}
+
+/// The place of the row of the least load.
+fn lightest_source(rows: &[FileRow], of_job: &[FileRow]) -> Option<usize>
+    requires few { length rows.now ≤ MAX_ROWS }
+    requires room { length of_job.now ≤ MAX_FILES }
+    ensures row { option_and_then (slice_get of_job.now) result ≡ alternative_of Auto rows.now of_job.now }
+    ensures inside { IfSome result (λ place. place < length of_job.now) }
+{
     let mut loads = [0; MAX_FILES];
     fill_loads(&mut loads, rows, of_job);
-    next_alternative(of_job, strategy, &loads[..of_job.len()])
+    next_alternative(of_job, Strategy::Auto, &loads[..of_job.len()])
+}
+
+/// The place of the first row whose turn hasn't come. No load is counted for it: those handed on are of no rows at all.
+fn first_source(of_job: &[FileRow]) -> Option<usize>
+    requires room { length of_job.now ≤ MAX_FILES }
+    ensures row { (rows : List Row) → option_and_then (slice_get of_job.now) result ≡ alternative_of Orderly rows of_job.now }
+    ensures inside { IfSome result (λ place. place < length of_job.now) }
+{
+    let mut loads = [0; MAX_FILES];
+    fill_loads(&mut loads, &[], of_job);
+    next_alternative(of_job, Strategy::Orderly, &loads[..of_job.len()])
 }

@@ -1,19 +1,17 @@
 //! Submit: a job of any kind gets the next number, its given id or the standard one, and a row for each of its files.
-//! All rows of a plain job wait, of a multihop job the first, of a replica job the one that is chosen by loads over the rows that were there before.
+//! All rows of a plain job wait, of a multihop job the first, of a replica job the first in order or the one of the least load.
+//! Loads count the rows that were there before the submission.
 //! `make_room` refuses an id that a job has and what would pass the limits, and takes all the memory that `submit` needs.
 ghost use Rattle.std.specs.Prelude.{
   ◌≡◌,
   ℕ,
   ◌+◌,
-  ◌<◌,
   ◌≤◌,
   ◌++◌,
   length,
   vec_capacity,
   option_and_then,
   unwrap_or,
-  Some,
-  None,
   Ok,
   OnOk,
 };
@@ -31,7 +29,7 @@ ghost use Rattle.fts_tables.specs.Choice.{next_alternative};
 ghost use Rattle.fts_tables.specs.Step.{step};
 ghost use Rattle.fts_tables.specs.History.{IsAccepted};
 ghost use Rattle.fts_tables.specs.declared.commands.Command.TheVariants.{Submit};
-ghost use Rattle.fts_tables.specs.declared.limits.TheConstants.{MAX_FILES, MAX_JOBS, MAX_ROWS};
+ghost use Rattle.fts_tables.specs.declared.limits.TheConstants.{MAX_FILES, MAX_ROWS};
 ghost use Rattle.fts_desk.specs.Kept.{tables_kept, IsWithinLimits, HasRoomFor, IsRoomFor};
 ghost use Rattle.fts_desk.specs.Prepared.{IsPrepared};
 
@@ -55,7 +53,8 @@ pub fn standard_id(number: u32) -> u128
     STANDARD_IDS + number as u128
 }
 
-/// Makes room for a job, or says that the machine refuses it: for an id that a job has, then for the number of jobs, then for that of rows.
+/// Makes room for a job, or says that the machine refuses it: `Duplicate` for an id that a job has, then `JobsFull`, then `RowsFull`.
+/// The tables stay as they are, also after want of memory.
 pub fn make_room(kept: &mut Kept, job: &NewJob) -> Result<(), DeskFault>
     requires limits { IsWithinLimits kept.old }
     ensures tables { tables_kept kept.new ≡ tables_kept kept.old }
@@ -101,7 +100,8 @@ fn make_room_for(kept: &mut Kept, files: usize) -> Result<(), DeskFault>
     Ok(())
 }
 
-/// Adds a job of any kind, for which there is room.
+/// Adds a job of any kind, for which there is room, at a moment in whole seconds, or at the last one where that is later.
+/// It takes no memory and can't fail, and answers the job's number and id.
 pub fn submit(kept: &mut Kept, now: u64, job: NewJob) -> Answer
     requires room { HasRoomFor kept.old (length job.files) }
     requires accepted { IsAccepted (step (tables_kept kept.old) (Submit now job)) }

@@ -1,22 +1,21 @@
 -- The order of the rules: what each end of the chain of checks answers, and what a document that passes it keeps.
-use Rattle.std.proofs.Common.{◌≡◌, ◌⊎◌, ◌&&◌, ◌||◌, ◌==◌, inl, inr, not, ℕ, Bool, true, false, List, [], ◌∷◌, length, map, codes, Option, Some, None, Result, Ok, Err, refl, ap, sym, ◌∙◌}
+use Rattle.std.proofs.Common.{◌≡◌, ◌⊎◌, ◌&&◌, ◌||◌, ◌==◌, inl, inr, false, List, length, map, codes, Option, Some, None, Result, Ok, Err, refl, ap, sym, ◌∙◌}
 use Rattle.std.specs.Prelude.{⊤, nat_lt, nat_le}
 use Rattle.std.specs.List.{list_any, flat_map}
 use Rattle.serde_json.specs.Data.{Data}
 use Rattle.fts_tables.specs.SettingsData.{SettingsData, is_label}
 use Rattle.fts_tables.specs.JobData.{IsNewJob, goes_elsewhere}
-use Rattle.fts_tables.specs.declared.rows.NewFile.{NewFile}
 use Rattle.fts_joburl.specs.declared.fault.UrlFault.{UrlFault}
 use Rattle.fts_jobdoc.specs.Json.{files_of, param}
 use Rattle.fts_jobdoc.specs.Fields.{has_wrong_sources, has_wrong_destinations, has_bad_filesize, has_bad_activity, has_replicas, has_bad_retry, retry_of, has_bad_delay, delay_of, has_bad_priority, lacks_priority, priority_in, is_verified, is_set}
 use Rattle.fts_jobdoc.specs.Checks.{first_refusal, unless_refused, Gives}
 use Rattle.fts_jobdoc.specs.Ends.{ends_of, urls_of, first_url_fault, refuse_url, url_rule, has_same_url, breaks_chain, all_ends_read}
-use Rattle.fts_jobdoc.specs.Documents.{shape_rules, shape_rule, ends_rules, ends_rule, files_rules, files_rule, params_rules, params_rule, kind_rules, kind_rule, later_rules, later_rule, all_rules, rules_of, priority_rules, priority_rule, files_from, kind_of, new_job, of_value}
+use Rattle.fts_jobdoc.specs.Documents.{shape_rules, shape_rule, ends_rules, ends_rule, files_rules, files_rule, params_rules, params_rule, kind_rules, kind_rule, later_rules, later_rule, all_rules, rules_of, priority_rules, priority_rule, kind_of, new_job, of_value}
 use Rattle.fts_jobdoc.specs.declared.ends.FileEnds.{FileEnds}
 use Rattle.fts_jobdoc.specs.declared.fault.DocFault.{DocFault}
 use Rattle.fts_jobdoc.specs.declared.fault.DocFault.TheVariants.{NotJson, Memory}
 use Rattle.fts_jobdoc.proofs.FieldRules.{within_or, retry_or, priority_given}
-use Rattle.fts_jobdoc.proofs.Ruled.{AllKept, all_kept, unbroken, and_parts}
+use Rattle.fts_jobdoc.proofs.Ruled.{all_kept, unbroken, and_parts}
 use Rattle.fts_jobdoc.proofs.JobRules.{all_fit, all_from, sizes_fit, activities_fit, files_apart}
 use Rattle.fts_jobdoc.proofs.KindRules.{few_files, files_shaped}
 

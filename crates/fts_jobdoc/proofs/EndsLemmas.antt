@@ -1,15 +1,15 @@
 -- Reading URLs one after the other: what was read, put before what is read of the rest.
-use Rattle.std.proofs.Common.{◌≡◌, ◌⊎◌, inl, inr, ℕ, List, [], ◌∷◌, ◌++◌, map, Option, Some, None, Result, Ok, Err, refl, ap, sym, ◌∙◌, subst, append_assoc, append-nil}
-use Rattle.std.specs.List.{filter_map, flat_map}
+use Rattle.std.proofs.Common.{◌≡◌, inl, inr, ℕ, List, [], ◌∷◌, ◌++◌, map, Option, Some, None, Result, Ok, Err, refl, ap, sym, ◌∙◌, append_assoc, append-nil}
+use Rattle.std.specs.List.{flat_map}
 use Rattle.std.specs.Option.{option_or}
 use Rattle.serde_json.specs.Data.{Data}
 use Rattle.fts_tables.specs.declared.places.Place.{Place}
 use Rattle.fts_joburl.specs.declared.fault.UrlFault.{UrlFault}
 use Rattle.fts_jobdoc.specs.Checks.{unless_refused, Gives}
-use Rattle.fts_jobdoc.specs.Ends.{bad_url, place_read, place_kept, places_of, fault_or, first_url_fault, urls_of, ends_of, refuse_url, url_rule, places_read, ends_read, all_ends_read}
+use Rattle.fts_jobdoc.specs.Ends.{bad_url, place_read, places_of, fault_or, first_url_fault, urls_of, ends_of, refuse_url, url_rule, places_read, ends_read, all_ends_read}
 use Rattle.fts_jobdoc.specs.declared.ends.FileEnds.{FileEnds}
 use Rattle.fts_jobdoc.specs.declared.fault.DocFault.{DocFault}
-use Rattle.fts_jobdoc.specs.declared.fault.DocFault.TheVariants.{BadUrl, Memory}
+use Rattle.fts_jobdoc.specs.declared.fault.DocFault.TheVariants.{BadUrl}
 
 -- some items before those of a result
 abbrev pub extend : {T : Type 0} → List T → Result (List T) DocFault → Result (List T) DocFault

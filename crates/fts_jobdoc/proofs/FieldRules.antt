@@ -1,10 +1,9 @@
 -- What the rules on numbers say of the numbers that are read.
-use Rattle.std.proofs.Common.{◌≡◌, ◌||◌, ◌&&◌, ◌<◌, ◌≤◌, ℕ, Bool, true, false, cond, Option, Some, None, refl, ap, sym, ◌∙◌, arith, tests}
-use Rattle.std.specs.Prelude.{not, nat_le, nat_lt, ◌^◌, unwrap_or, pos, negsuc, option_and_then}
+use Rattle.std.proofs.Common.{◌≡◌, ◌||◌, ◌≤◌, ℕ, Bool, true, false, cond, Option, Some, None, refl, arith, tests}
+use Rattle.std.specs.Prelude.{not, nat_le, nat_lt, ◌^◌, unwrap_or, pos, negsuc}
 use Rattle.std.specs.Option.{option_map_or}
 use Rattle.std.specs.Ordering.{int_eq}
 use Rattle.serde_json.specs.Data.{Data, null, boolean, number, string, array, object, unsigned, negative, float}
-use Rattle.serde_json.specs.Find.{as_number, as_u64}
 use Rattle.fts_tables.specs.SettingsData.{is_within}
 use Rattle.fts_jobdoc.specs.Json.{natural_of, is_natural_within, is_minus_one, fails, natural_or}
 

@@ -1,6 +1,6 @@
 -- A job that is made of a document that breaks no rule keeps the rules of its type: each follows from rules of the document.
-use Rattle.std.proofs.Common.{◌≡◌, ◌+◌, ◌<◌, ◌≤◌, ◌&&◌, ◌||◌, ◌==◌, not, ℕ, suc, Bool, true, false, cond, List, [], ◌∷◌, ◌++◌, length, map, codes, Option, Some, None, Result, Ok, Err, refl, ap, sym, ◌∙◌, arith, tests, length-append, append-nil}
-use Rattle.std.specs.Prelude.{nat_le, nat_lt, bytes_eq, is_some, option_and_then}
+use Rattle.std.proofs.Common.{◌≡◌, ◌&&◌, ◌==◌, not, ℕ, suc, Bool, true, false, cond, List, [], ◌∷◌, length, map, codes, Option, Some, None, Ok, Err, refl, ap, sym, ◌∙◌, arith, tests}
+use Rattle.std.specs.Prelude.{nat_le, is_some, option_and_then}
 use Rattle.std.specs.List.{list_any, list_all, filter_map, flat_map, cons_option}
 use Rattle.std.specs.Option.{option_map_or, option_or}
 use Rattle.std.proofs.lemmas.List.Folds.{list_all-append}
@@ -8,18 +8,16 @@ use Rattle.serde_json.specs.Data.{Data}
 use Rattle.serde_json.specs.Find.{as_str}
 use Rattle.fts_tables.specs.Places.{is_same_place}
 use Rattle.fts_tables.specs.SettingsData.{is_within, is_label, default_activity}
-use Rattle.fts_tables.specs.JobData.{goes_elsewhere, are_indexed_from, is_chain_from, is_chain, is_same_digest, is_replica_of, are_replicas, has_shape}
+use Rattle.fts_tables.specs.JobData.{goes_elsewhere}
 use Rattle.fts_tables.specs.declared.places.Place.{Place}
 use Rattle.fts_tables.specs.declared.rows.NewFile.{NewFile}
-use Rattle.fts_tables.specs.declared.rows.JobKind.{JobKind}
-use Rattle.fts_tables.specs.declared.rows.JobKind.TheVariants.{Plain, Replica, Multihop}
 use Rattle.fts_joburl.specs.declared.fault.UrlFault.{UrlFault}
 use Rattle.fts_jobdoc.specs.Json.{field, list_under, texts_under, has_texts, is_text}
-use Rattle.fts_jobdoc.specs.Fields.{has_wrong_sources, has_wrong_destinations, has_bad_filesize, size_of, is_activity, has_bad_activity, activity_named, activity_of, has_replicas}
-use Rattle.fts_jobdoc.specs.Ends.{place_read, place_kept, places_of, fault_or, first_url_fault, urls_of, ends_of, has_same_url, meets, breaks_from, breaks_chain}
+use Rattle.fts_jobdoc.specs.Fields.{has_wrong_sources, has_wrong_destinations, has_bad_filesize, size_of, is_activity, has_bad_activity, activity_named, activity_of}
+use Rattle.fts_jobdoc.specs.Ends.{place_read, place_kept, places_of, fault_or, first_url_fault, urls_of, ends_of, has_same_url}
 use Rattle.fts_jobdoc.specs.Documents.{new_file, new_files, files_from}
 use Rattle.fts_jobdoc.specs.declared.ends.FileEnds.{FileEnds}
-use Rattle.fts_jobdoc.proofs.EndsLemmas.{ends_made, first_url_fault-append}
+use Rattle.fts_jobdoc.proofs.EndsLemmas.{first_url_fault-append}
 use Rattle.fts_jobdoc.proofs.FieldRules.{is_true, within_or}
 use Rattle.fts_jobdoc.proofs.Ruled.{and_parts, or_parts, and_from}
 

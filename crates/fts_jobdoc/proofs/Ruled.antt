@@ -1,5 +1,5 @@
 -- What rules that were kept say, each alone.
-use Rattle.std.proofs.Common.{◌≡◌, ◌||◌, ◌&&◌, ℕ, Bool, true, false, cond, List, [], ◌∷◌, Option, Some, None, Result, Ok, Err, refl, ap, sym, ◌∙◌, length}
+use Rattle.std.proofs.Common.{◌≡◌, ◌||◌, ◌&&◌, Bool, true, false, List, [], ◌∷◌, Result, Ok, Err, refl}
 use Rattle.std.specs.Prelude.{⊤}
 use Rattle.fts_jobdoc.specs.Checks.{refuse_if, first_refusal}
 use Rattle.fts_jobdoc.specs.declared.fault.DocFault.{DocFault}

@@ -1,5 +1,5 @@
 -- Which new job a document is, or the least rule that it breaks; and which priority another document asks for.
-use Rattle.std.specs.Prelude.{ℕ, suc, Bool, not, ◌==◌, ◌&&◌, ◌||◌, ⊤, nat_lt, if◌then◌else◌, List, [], ◌∷◌, ◌++◌, length, map, Option, Some, None, option_map, Result, Ok, Err, codes}
+use Rattle.std.specs.Prelude.{ℕ, suc, Bool, ◌==◌, ◌&&◌, ◌||◌, ⊤, nat_lt, if◌then◌else◌, List, [], ◌∷◌, ◌++◌, length, map, Option, Some, None, option_map, Result, Err, codes}
 use Rattle.std.specs.List.{list_any, flat_map}
 use Rattle.serde_json.specs.Data.{Data}
 use Rattle.fts_tables.specs.JobData.{JobData}

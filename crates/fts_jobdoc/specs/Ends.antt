@@ -1,5 +1,5 @@
 -- Where the files of a document come from and go to: the places that their URLs name, and the rules on them.
-use Rattle.std.specs.Prelude.{ℕ, Bool, true, false, not, ◌&&◌, ◌||◌, ⊤, List, [], ◌∷◌, ◌++◌, map, Option, Some, None, Result, Ok, Err, codes}
+use Rattle.std.specs.Prelude.{ℕ, Bool, false, not, ◌||◌, ⊤, List, [], ◌∷◌, ◌++◌, map, Option, Some, None, Result, Ok, Err, codes}
 use Rattle.std.specs.List.{list_any, list_all, filter_map, flat_map}
 use Rattle.serde_json.specs.Data.{Data}
 use Rattle.fts_tables.specs.SettingsData.{SettingsData, is_listed}

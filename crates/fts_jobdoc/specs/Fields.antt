@@ -3,7 +3,7 @@ use Rattle.std.specs.Prelude.{ℕ, Bool, true, false, not, ◌==◌, ◌&&◌, �
 use Rattle.std.specs.Option.{option_map_or}
 use Rattle.serde_json.specs.Data.{Data}
 use Rattle.serde_json.specs.Find.{as_str, as_bool}
-use Rattle.fts_tables.specs.SettingsData.{is_within, is_label, default_activity}
+use Rattle.fts_tables.specs.SettingsData.{is_label, default_activity}
 use Rattle.fts_tables.specs.declared.limits.TheConstants.{MIN_PRIORITY, MAX_PRIORITY, MAX_RETRY, MAX_DELAY, MAX_SOURCES, MAX_SIZE, MAX_LABEL_BYTES}
 use Rattle.fts_tables.specs.declared.rows.Strategy.{Strategy}
 use Rattle.fts_tables.specs.declared.rows.Strategy.TheVariants.{Auto, Orderly}

@@ -1,7 +1,7 @@
 //! The URLs of a document's files: each is read once, and is then a place on an endpoint.
 //! `read_all_ends` refuses the first broken one, in order of files, a file's sources before its destination. Then come the rules on places:
 //! known endpoints, no file onto itself, and the chain of a multihop job, whose places are compared as places and not as texts.
-ghost use Rattle.std.specs.Prelude.{◌≡◌, ◌⊎◌, ◌&&◌, ◌||◌, ◌++◌, ◌∷◌, [], not, map, OnOk, OnErr, IfErr, codes};
+ghost use Rattle.std.specs.Prelude.{◌≡◌, ◌&&◌, ◌||◌, ◌++◌, ◌∷◌, [], map, OnOk, IfErr};
 ghost use Rattle.std.specs.List.{list_any, list_all, filter_map};
 ghost use Rattle.serde_json.specs.Find.{as_str};
 ghost use Rattle.serde_json.specs.View.{view};

@@ -1,12 +1,9 @@
 //! The rules on each file of a document, in the order of the table, and what each of a file's fields stands for where the rules hold.
 //! A rule is a function `check_..` over all files, whose result is its definition in `specs/Fields.antt`; it takes the files once.
-ghost use Rattle.std.specs.Prelude.{◌≡◌, ◌==◌, ◌&&◌, false, length, map, nat_lt, option_map, codes};
+ghost use Rattle.std.specs.Prelude.{◌≡◌, ◌==◌, ◌&&◌, false, length, map, nat_lt};
 ghost use Rattle.std.specs.List.{list_any};
-ghost use Rattle.std.specs.Option.{option_map_or};
 ghost use Rattle.serde_json.specs.View.{view};
-ghost use Rattle.fts_jobdoc.specs.Json.{field as field_of};
-ghost use Rattle.fts_jobdoc.specs.Checksums.{checksum_of};
-ghost use Rattle.fts_jobdoc.specs.Fields.{is_no_object, has_wrong_sources as has_sources_wrong, has_wrong_destinations as has_destinations_wrong, has_bad_filesize as has_filesize_wrong, size_of as size_in, is_malformed, is_other, digest_in, has_bad_checksum as has_checksum_wrong, has_other_algorithm as has_algorithm_wrong, wanted_of, has_bad_strategy as has_strategy_wrong, file_strategy as strategy_of_file, strategy_of as strategy_of_job, is_activity, has_bad_activity as has_activity_wrong, activity_named, activity_of as activity_in, has_replicas as has_two_sources};
+ghost use Rattle.fts_jobdoc.specs.Fields.{is_no_object, has_wrong_sources as has_sources_wrong, has_wrong_destinations as has_destinations_wrong, has_bad_filesize as has_filesize_wrong, size_of as size_in, has_bad_checksum as has_checksum_wrong, has_other_algorithm as has_algorithm_wrong, wanted_of, has_bad_strategy as has_strategy_wrong, file_strategy as strategy_of_file, strategy_of as strategy_of_job, is_activity, has_bad_activity as has_activity_wrong, activity_of as activity_in, has_replicas as has_two_sources};
 ghost use Rattle.fts_jobdoc.specs.Checks.{refuse_if};
 
 use crate::DocFault;

@@ -3,11 +3,10 @@
 //! So each rule of a `NewJob` follows from rules that were asked (`proofs/JobRules.antt`). `specs/Documents.antt` is the whole definition.
 //! Called by the routes. It takes no more time than the document is long, but for a comparison of each place with each endpoint.
 ghost use Rattle.std.specs.Prelude.{◌≡◌, ◌⊎◌, ◌≤◌, ◌++◌, length, map, option_map, false, Ok, OnOk, IfOk};
-ghost use Rattle.std.specs.List.{list_any};
 ghost use Rattle.serde_json.specs.View.{view};
 ghost use Rattle.fts_tables.specs.declared.limits.TheConstants.{MAX_FILES};
 ghost use Rattle.fts_jobdoc.specs.Json.{files_of};
-ghost use Rattle.fts_jobdoc.specs.Fields.{has_replicas, has_bad_retry, retry_of, has_bad_priority, priority_in, sid_in};
+ghost use Rattle.fts_jobdoc.specs.Fields.{has_bad_retry, retry_of, has_bad_priority, priority_in, sid_in};
 ghost use Rattle.fts_jobdoc.specs.Checks.{Gives, unless_refused};
 ghost use Rattle.fts_jobdoc.specs.Ends.{ends_of};
 ghost use Rattle.fts_jobdoc.specs.Ids.{sid_id as id_of};

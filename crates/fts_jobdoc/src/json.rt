@@ -1,12 +1,11 @@
 //! Looking into the JSON value of a document (RFC 8259, as `serde_json` reads it): a small function for each question.
 //! Each answers a word of `specs/Json.antt`. Null counts as absent; of a key that is given twice the last value stays.
 //! A whole number is a JSON number that the value gives as a `u64` or an `i64`: `3.0`, `1e3` and `-0` are none.
-ghost use Rattle.std.specs.Prelude.{◌≡◌, ◌⊎◌, Some, None, IfOk, IfErr, not, map, List, option_map, option_and_then, is_some};
+ghost use Rattle.std.specs.Prelude.{◌≡◌, ◌⊎◌, Some, None, IfOk, IfErr, map, option_map, option_and_then};
 ghost use Rattle.std.specs.List.{list_all};
-ghost use Rattle.std.specs.Option.{option_map_or};
 ghost use Rattle.serde_json.specs.Find.{as_str};
 ghost use Rattle.serde_json.specs.View.{view};
-ghost use Rattle.fts_jobdoc.specs.Json.{value_of, field as field_of, param as param_of, list_under as list_of_key, has_texts as has_texts_under, is_this_text as is_the_text, is_on as is_true, natural_of, is_natural_within, is_minus_one as is_below_zero_by_one, fails, natural_or as natural_or_default, is_object as is_an_object, is_text as is_a_text};
+ghost use Rattle.fts_jobdoc.specs.Json.{value_of, field as field_of, param as param_of, list_under as list_of_key, has_texts as has_texts_under, is_this_text as is_the_text, is_on as is_true, is_natural_within, is_minus_one as is_below_zero_by_one, fails, natural_or as natural_or_default, is_object as is_an_object, is_text as is_a_text};
 
 use crate::DocFault;
 use serde_json::Value;

@@ -4,6 +4,8 @@
 //! Called by the routes. Nothing here knows of HTTP, or of the rows that a job becomes.
 #![tactic(auto)]
 
+#[cfg(test)]
+mod cases;
 mod checksum;
 mod ends;
 mod fault;

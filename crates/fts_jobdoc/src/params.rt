@@ -3,8 +3,8 @@
 ghost use Rattle.std.specs.Prelude.{◌≡◌, ◌||◌, false, option_map, codes};
 ghost use Rattle.std.specs.Option.{option_map_or};
 ghost use Rattle.serde_json.specs.View.{view};
-ghost use Rattle.fts_jobdoc.specs.Json.{param as param_of, is_this_text as is_the_text, is_on as is_true, fails, is_natural_within, is_minus_one as is_below_zero_by_one};
-ghost use Rattle.fts_jobdoc.specs.Fields.{has_wrong_params, has_bad_retry, retry_of, has_bad_delay, delay_of, has_bad_priority, lacks_priority, priority_in, asks_for_verification, is_verify, has_bad_verify, is_verified as is_verified_in, asks_for as asks_for_in, is_set as is_set_in, unoffered_in, is_generator, is_deterministic as is_deterministic_in, is_sid, has_bad_sid, sid_in};
+ghost use Rattle.fts_jobdoc.specs.Json.{param as param_of, fails, is_natural_within, is_minus_one as is_below_zero_by_one};
+ghost use Rattle.fts_jobdoc.specs.Fields.{has_wrong_params, has_bad_retry, has_bad_delay, delay_of, has_bad_priority, lacks_priority, asks_for_verification, is_verify, has_bad_verify, is_verified as is_verified_in, asks_for as asks_for_in, is_set as is_set_in, unoffered_in, is_generator, is_deterministic as is_deterministic_in, is_sid, has_bad_sid, sid_in};
 ghost use Rattle.fts_jobdoc.specs.Checks.{refuse_if, refuse_unoffered};
 
 use crate::json::{

@@ -1,34 +1,16 @@
-//! Documents and their answers, each table row a sentence. Settings have three endpoints: `https://a.example`, `https://b.example` and
-//! `root://a.example:1094`. Texts and numbers are those of the rules' table; ids are those of another program.
+//! Documents and their answers. A row is a sentence, what is given, and the rule and message of the refusal, or 0 and no text.
+//! Settings have three endpoints: `https://a.example`, `https://b.example` and `root://a.example:1094`. Rules and texts are those of the
+//! table; ids are those of another program.
 ghost use Rattle.std.specs.Prelude.{◌≡◌, ◌∷◌, [], ◌++◌, IfOk, OnOk};
 
-use crate::{read_job, read_priority, sid_id};
-use fts_tables::{
-    Endpoint, EndpointName, Items, JobKind, Label, Memory, NewFile, NewJob, Settings, Strategy,
-    Weight,
+use crate::cases::{
+    ABC, BODIES, BodyCase, EXAMPLES, FIELDS, KINDS, MULTIHOP, PARAMETERS, PRIORITIES, PairCase,
+    URLS, WITH_CHECKSUM,
 };
+use crate::{DocFault, read_job, read_priority, sid_id};
+use fts_tables::{Endpoint, EndpointName, Items, Label, Memory, NewFile, Settings, Weight};
 use std::alloc::{AllocError, Global};
 use std::test::Fail;
-
-/// The digest of `abc` (RFC 1321, A.5).
-const ABC: [u8; 16] = [
-    0x90, 0x01, 0x50, 0x98, 0x3c, 0xd2, 0x4f, 0xb0, 0xd6, 0x96, 0x3f, 0x7d, 0x28, 0xe1, 0x7f, 0x72,
-];
-
-const ONE_FILE: &str =
-    "{\"files\":[{\"sources\":[\"https://a.example/data/f1\"],\"destinations\":[\"https://b.example/f1\"]}]}";
-
-const SEVERAL_FILES: &str =
-    "{\"files\":[{\"sources\":[\"https://a.example/data/f1\"],\"destinations\":[\"https://b.example/f1\"],\"filesize\":3},{\"sources\":[\"https://a.example/data/f2\"],\"destinations\":[\"https://b.example/f2\"],\"activity\":\"production\"}],\"params\":{\"retry\":3,\"retry_delay\":60,\"priority\":5,\"overwrite\":true}}";
-
-const WITH_CHECKSUM: &str =
-    "{\"files\":[{\"sources\":[\"https://a.example/data/f1\"],\"destinations\":[\"https://b.example/f1\"],\"checksum\":\"MD5:900150983cd24fb0d6963f7d28e17f72\",\"filesize\":3}],\"params\":{\"verify_checksum\":\"both\"}}";
-
-const REPLICAS: &str =
-    "{\"files\":[{\"sources\":[\"https://a.example/data/f1\",\"https://a.example/copies/f1\"],\"destinations\":[\"https://b.example/f1\"],\"selection_strategy\":\"orderly\"}]}";
-
-const MULTIHOP: &str =
-    "{\"files\":[{\"sources\":[\"https://a.example/data/f1\"],\"destinations\":[\"https://b.example/f1\"]},{\"sources\":[\"https://b.example/f1\"],\"destinations\":[\"https://a.example/back/f1\"]}],\"params\":{\"multihop\":true,\"id_generator\":\"deterministic\",\"sid\":\"f1 there and back\"}}";
 
 fn add<T: Drop>(items: &mut Items<T>, item: T) -> Result<(), Memory>
     ensures { OnOk result (items.new ≡ items.old ++ item ∷ []) }
@@ -74,11 +56,31 @@ fn settings(alloc: Global) -> Result<Settings, Memory> {
 }
 
 /// The rule that a body breaks, and its message; 0 and the empty text where it breaks none.
-fn refusal(alloc: Global, body: &[u8], settings: &Settings) -> (u32, &'static str) {
-    match read_job(alloc, body, settings) {
+fn refusal(alloc: Global, body: &str, settings: &Settings) -> (u32, &'static str) {
+    match read_job(alloc, body.as_bytes(), settings) {
         Ok(_) => (0, ""),
         Err(fault) => (fault.rule(), fault.message()),
     }
+}
+
+/// Whether a body is answered so.
+fn is_answered(alloc: Global, body: &str, rule: u32, message: &str, settings: &Settings) -> bool {
+    let found = refusal(alloc, body, settings);
+    found.0 == rule && found.1 == message
+}
+
+/// The first body that is answered otherwise.
+fn first_wrong_body(
+    alloc: Global,
+    cases: &[BodyCase],
+    settings: &Settings,
+) -> Option<&'static str> {
+    for (case, body, rule, message) in cases {
+        if !is_answered(alloc, body, *rule, message, settings) {
+            return Some(*case);
+        }
+    }
+    None
 }
 
 /// A document of one file with these further fields, and these further keys.
@@ -86,6 +88,42 @@ fn document(alloc: Global, fields: &str, keys: &str) -> Result<String, AllocErro
     format!(in alloc;
         "{{\"files\":[{{\"sources\":[\"https://a.example/f\"],\"destinations\":[\"https://b.example/f\"]{fields}}}]{keys}}}"
     )
+}
+
+/// The first document that is answered otherwise.
+fn first_wrong_field(
+    alloc: Global,
+    cases: &[PairCase],
+    settings: &Settings,
+) -> Result<Option<&'static str>, AllocError> {
+    for (case, fields, keys, rule, message) in cases {
+        let body = document(alloc, fields, keys)?;
+        if !is_answered(alloc, body.as_str(), *rule, message, settings) {
+            return Ok(Some(*case));
+        }
+    }
+    Ok(None)
+}
+
+fn between(alloc: Global, source: &str, dest: &str) -> Result<String, AllocError> {
+    format!(in alloc;
+        "{{\"files\":[{{\"sources\":[\"{source}\"],\"destinations\":[\"{dest}\"]}}]}}"
+    )
+}
+
+/// The first pair of URLs that is answered otherwise.
+fn first_wrong_url(
+    alloc: Global,
+    cases: &[PairCase],
+    settings: &Settings,
+) -> Result<Option<&'static str>, AllocError> {
+    for (case, source, dest, rule, message) in cases {
+        let body = between(alloc, source, dest)?;
+        if !is_answered(alloc, body.as_str(), *rule, message, settings) {
+            return Ok(Some(*case));
+        }
+    }
+    Ok(None)
 }
 
 /// A document of so many equal files.
@@ -123,8 +161,13 @@ fn line(alloc: Global, file: &NewFile) -> Result<String, AllocError> {
     )
 }
 
-fn lines(alloc: Global, job: &NewJob) -> Result<String, AllocError> {
-    let mut text = String::new(alloc);
+/// What a document's job is, in some lines.
+fn summary(alloc: Global, body: &str, settings: &Settings) -> Result<String, Fail> {
+    let job = read_job(alloc, body.as_bytes(), settings)?;
+    let mut text = format!(in alloc;
+        "{:?} {:?} {} {} {}\n",
+        job.kind, job.strategy, job.priority, job.retry, job.delay
+    )?;
     for file in job.files.as_slice() {
         text.push_str(line(alloc, file)?.as_str())?;
         text.push_str("\n")?;
@@ -132,540 +175,134 @@ fn lines(alloc: Global, job: &NewJob) -> Result<String, AllocError> {
     Ok(text)
 }
 
+/// The digest that a document's first file wants.
+fn wanted(alloc: Global, body: &str, settings: &Settings) -> Result<Option<[u8; 16]>, DocFault> {
+    let job = read_job(alloc, body.as_bytes(), settings)?;
+    match job.files.as_slice() {
+        [] => Ok(None),
+        [file, ..] => Ok(file.wanted),
+    }
+}
+
 #[test]
 fn a_body_that_is_no_document_breaks_the_least_rule(rt: HostRuntime) -> Result<(), Fail> {
     let settings = settings(rt.alloc())?;
-    for (case, body, want) in [
-        ("a list that doesn't end", "[1", (1, "not JSON")),
-        (
-            "a byte order mark",
-            "\u{feff}{\"files\":[]}",
-            (1, "not JSON"),
-        ),
-        (
-            "a lone surrogate",
-            "{\"files\":[\"\\ud800\"]}",
-            (1, "not JSON"),
-        ),
-        ("a list", "[]", (2, "not an object")),
-        ("an empty list of files", "{\"files\":[]}", (3, "no files")),
-        (
-            "null for the files",
-            "{\"files\":null,\"params\":3}",
-            (3, "no files"),
-        ),
-        ("an object for the files", "{\"files\":{}}", (3, "no files")),
-        (
-            "a number for a file",
-            "{\"files\":[3]}",
-            (5, "file is not an object"),
-        ),
-        (
-            "no sources",
-            "{\"files\":[{\"sources\":[],\"destinations\":[\"https://b.example/f\"]}]}",
-            (6, "bad sources"),
-        ),
-        (
-            "neither sources nor destinations",
-            "{\"files\":[{}]}",
-            (6, "bad sources"),
-        ),
-        (
-            "null among the sources",
-            "{\"files\":[{\"sources\":[null],\"destinations\":[]}]}",
-            (6, "bad sources"),
-        ),
-        (
-            "two destinations",
-            "{\"files\":[{\"sources\":[\"https://a.example/f\"],\"destinations\":[\"https://b.example/f\",\"https://b.example/g\"]}]}",
-            (7, "bad destinations"),
-        ),
-        (
-            "a broken source and no destination",
-            "{\"files\":[{\"sources\":[\"f\"],\"destinations\":[]}]}",
-            (7, "bad destinations"),
-        ),
-        (
-            "files given twice, of which the last count",
-            "{\"files\":3,\"files\":[]}",
-            (3, "no files"),
-        ),
-    ] {
-        assert_eq!(rt;
-            refusal(rt.alloc(), body.as_bytes(), &settings),
-            want,
-            "{case}"
-        );
-    }
+    assert_eq!(rt; first_wrong_body(rt.alloc(), &BODIES, &settings), None);
     Ok(())
 }
 
 #[test]
 fn a_broken_url_has_its_number(rt: HostRuntime) -> Result<(), Fail> {
     let settings = settings(rt.alloc())?;
-    for (case, source, dest, want) in [
-        (
-            "no host",
-            "file:///etc/passwd",
-            "https://b.example/f",
-            (8, "bad URL 2"),
-        ),
-        (
-            "a query",
-            "https://a.example/b?x=1",
-            "https://b.example/f",
-            (8, "bad URL 3"),
-        ),
-        (
-            "an escape, and a query behind it",
-            "https://a.example/x/%2e%2e/b",
-            "https://b.example/b?x=1",
-            (8, "bad URL 6"),
-        ),
-        (
-            "a user at the destination",
-            "https://a.example/f",
-            "https://u@b.example/b",
-            (8, "bad URL 5"),
-        ),
-        (
-            "a query, and an unknown endpoint",
-            "https://c.example/f",
-            "https://b.example/f?",
-            (8, "bad URL 3"),
-        ),
-        (
-            "an unknown source",
-            "https://c.example/f",
-            "https://b.example/f",
-            (9, "unknown endpoint"),
-        ),
-        (
-            "an unknown destination, from itself",
-            "https://c.example/f",
-            "https://c.example/f",
-            (9, "unknown endpoint"),
-        ),
-        (
-            "one place by two URLs",
-            "https://a.example/a/../b",
-            "https://a.example:443//b",
-            (10, "same URL"),
-        ),
-        (
-            "two places",
-            "https://a.example/a/../b",
-            "https://b.example:443//b",
-            (0, ""),
-        ),
-    ] {
-        let body = format!(in rt.alloc();
-            "{{\"files\":[{{\"sources\":[\"{source}\"],\"destinations\":[\"{dest}\"]}}]}}"
-        )?;
-        assert_eq!(rt;
-            refusal(rt.alloc(), body.as_bytes(), &settings),
-            want,
-            "{case}"
-        );
-    }
+    assert_eq!(rt; first_wrong_url(rt.alloc(), &URLS, &settings)?, None);
     Ok(())
 }
 
 #[test]
 fn a_broken_field_breaks_its_rule(rt: HostRuntime) -> Result<(), Fail> {
     let settings = settings(rt.alloc())?;
-    for (case, fields, keys, want) in [
-        (
-            "a file onto itself, and no size",
-            ",\"destinations\":[\"https://a.example/f\"],\"filesize\":-1",
-            "",
-            (10, "same URL"),
-        ),
-        (
-            "a size below 0",
-            ",\"filesize\":-1",
-            "",
-            (11, "bad filesize"),
-        ),
-        (
-            "a size of 2^63",
-            ",\"filesize\":9223372036854775808",
-            "",
-            (11, "bad filesize"),
-        ),
-        (
-            "the greatest size",
-            ",\"filesize\":9223372036854775807",
-            "",
-            (0, ""),
-        ),
-        (
-            "a size of 3.0, and a broken checksum",
-            ",\"filesize\":3.0,\"checksum\":5",
-            ",\"params\":{\"verify_checksum\":true}",
-            (11, "bad filesize"),
-        ),
-        (
-            "a size of 1e3",
-            ",\"filesize\":1e3",
-            "",
-            (11, "bad filesize"),
-        ),
-        ("a size of -0", ",\"filesize\":-0", "", (11, "bad filesize")),
-        (
-            "31 digits",
-            ",\"checksum\":\"MD5:0123456789abcdef0123456789abcde\"",
-            ",\"params\":{\"verify_checksum\":true}",
-            (12, "bad checksum"),
-        ),
-        (
-            "31 digits that nobody looks at",
-            ",\"checksum\":\"MD5:0123456789abcdef0123456789abcde\"",
-            ",\"params\":{\"verify_checksum\":\"none\"}",
-            (0, ""),
-        ),
-        (
-            "no algorithm",
-            ",\"checksum\":\":0123456789abcdef0123456789abcdef\"",
-            ",\"params\":{\"verify_checksum\":\"source\"}",
-            (12, "bad checksum"),
-        ),
-        (
-            "no colon, and no strategy",
-            ",\"checksum\":\"0123456789abcdef\",\"selection_strategy\":\"best\"",
-            ",\"params\":{\"verify_checksum\":\"target\"}",
-            (12, "bad checksum"),
-        ),
-        (
-            "an empty checksum",
-            ",\"checksum\":\"\"",
-            ",\"params\":{\"verify_checksum\":true}",
-            (0, ""),
-        ),
-        (
-            "another algorithm",
-            ",\"checksum\":\"ADLER32:0d5e1a2b\"",
-            ",\"params\":{\"verify_checksum\":true}",
-            (13, "other algorithm"),
-        ),
-        (
-            "another algorithm, and no strategy",
-            ",\"checksum\":\"ADLER32:0d5e1a2b\",\"selection_strategy\":\"best\"",
-            ",\"params\":{\"verify_checksum\":true}",
-            (13, "other algorithm"),
-        ),
-        (
-            "no strategy",
-            ",\"selection_strategy\":\"best\"",
-            "",
-            (14, "bad strategy"),
-        ),
-        (
-            "no strategy, and no activity",
-            ",\"selection_strategy\":\"best\",\"activity\":5",
-            "",
-            (14, "bad strategy"),
-        ),
-        (
-            "a number for the activity",
-            ",\"activity\":5",
-            "",
-            (15, "bad activity"),
-        ),
-        (
-            "a number for the activity and for the parameters",
-            ",\"activity\":5",
-            ",\"params\":5",
-            (15, "bad activity"),
-        ),
-        ("an empty activity", ",\"activity\":\"\"", "", (0, "")),
-    ] {
-        let body = document(rt.alloc(), fields, keys)?;
-        assert_eq!(rt;
-            refusal(rt.alloc(), body.as_bytes(), &settings),
-            want,
-            "{case}"
-        );
-    }
+    assert_eq!(rt; first_wrong_field(rt.alloc(), &FIELDS, &settings)?, None);
     Ok(())
 }
 
 #[test]
 fn a_broken_parameter_breaks_its_rule(rt: HostRuntime) -> Result<(), Fail> {
     let settings = settings(rt.alloc())?;
-    for (case, params, want) in [
-        ("no object", "[]", (16, "params is not an object")),
-        ("null", "null", (0, "")),
-        ("11 retries", "{\"retry\":11}", (17, "bad retry")),
-        (
-            "-2 retries, and no delay",
-            "{\"retry\":-2,\"retry_delay\":-1}",
-            (17, "bad retry"),
-        ),
-        ("-1 retries", "{\"retry\":-1}", (0, "")),
-        (
-            "a delay of more than a day",
-            "{\"retry_delay\":86401}",
-            (18, "bad retry_delay"),
-        ),
-        (
-            "no delay, and priority 0",
-            "{\"retry_delay\":\"1\",\"priority\":0}",
-            (18, "bad retry_delay"),
-        ),
-        ("priority 6", "{\"priority\":6}", (19, "bad priority")),
-        (
-            "priority 0, and a verification",
-            "{\"priority\":0,\"verify_checksum\":\"yes\"}",
-            (19, "bad priority"),
-        ),
-        (
-            "a priority given twice, of which the last counts",
-            "{\"priority\":6,\"priority\":5}",
-            (0, ""),
-        ),
-        (
-            "a verification",
-            "{\"verify_checksum\":\"yes\"}",
-            (20, "bad verify_checksum"),
-        ),
-        (
-            "a verification, and reuse",
-            "{\"verify_checksum\":1,\"reuse\":true}",
-            (20, "bad verify_checksum"),
-        ),
-        (
-            "reuse",
-            "{\"reuse\":true,\"bring_online\":1}",
-            (21, "not offered: reuse"),
-        ),
-        ("reuse by another word", "{\"reuse\":\"Y\"}", (0, "")),
-        (
-            "bring_online",
-            "{\"copy_pin_lifetime\":1,\"bring_online\":1}",
-            (21, "not offered: bring_online"),
-        ),
-        (
-            "copy_pin_lifetime",
-            "{\"copy_pin_lifetime\":1}",
-            (21, "not offered: copy_pin_lifetime"),
-        ),
-        (
-            "archive_timeout",
-            "{\"archive_timeout\":1}",
-            (21, "not offered: archive_timeout"),
-        ),
-        (
-            "max_time_in_queue",
-            "{\"max_time_in_queue\":1}",
-            (21, "not offered: max_time_in_queue"),
-        ),
-        (
-            "none of them",
-            "{\"reuse\":false,\"bring_online\":0,\"copy_pin_lifetime\":-1,\"archive_timeout\":null,\"max_time_in_queue\":\"1\"}",
-            (0, ""),
-        ),
-        (
-            "another generator",
-            "{\"id_generator\":\"random\"}",
-            (24, "bad sid"),
-        ),
-        (
-            "no sid",
-            "{\"id_generator\":\"deterministic\",\"sid\":\"\"}",
-            (24, "bad sid"),
-        ),
-        (
-            "a sid that nobody looks at",
-            "{\"id_generator\":\"standard\",\"sid\":3}",
-            (0, ""),
-        ),
-    ] {
-        let keys = format!(in rt.alloc(); ",\"params\":{params}")?;
-        let body = document(rt.alloc(), "", keys.as_str())?;
-        assert_eq!(rt;
-            refusal(rt.alloc(), body.as_bytes(), &settings),
-            want,
-            "{case}"
-        );
-    }
+    assert_eq!(rt;
+        first_wrong_field(rt.alloc(), &PARAMETERS, &settings)?,
+        None
+    );
     Ok(())
 }
 
 #[test]
 fn several_files_break_the_rules_on_kinds(rt: HostRuntime) -> Result<(), Fail> {
     let settings = settings(rt.alloc())?;
-    let single =
-        "{\"sources\":[\"https://a.example/f\"],\"destinations\":[\"https://b.example/f\"]}";
-    let double =
-        "{\"sources\":[\"https://a.example/f\",\"https://a.example/g\"],\"destinations\":[\"https://b.example/f\"]}";
-    let back =
-        "{\"sources\":[\"https://b.example:443//f\"],\"destinations\":[\"https://a.example/g\"]}";
-    let broken = "{\"sources\":[\"f\"],\"destinations\":[\"https://b.example/f\"]}";
-    for (case, first, second, params, want) in [
-        (
-            "two files, of which the second has a broken URL and the first no size",
-            "{\"sources\":[\"https://a.example/f\"],\"destinations\":[\"https://b.example/f\"],\"filesize\":-1}",
-            broken,
-            "{}",
-            (8, "bad URL 1"),
-        ),
-        (
-            "replicas of one of two files",
-            single,
-            double,
-            "{}",
-            (22, "replicas need one file"),
-        ),
-        (
-            "replicas of one of two hops",
-            single,
-            double,
-            "{\"multihop\":true}",
-            (22, "replicas need one file"),
-        ),
-        (
-            "replicas of one of two files, and reuse",
-            single,
-            double,
-            "{\"reuse\":true}",
-            (21, "not offered: reuse"),
-        ),
-        (
-            "a chain by two URLs",
-            single,
-            back,
-            "{\"multihop\":true}",
-            (0, ""),
-        ),
-        (
-            "no chain",
-            back,
-            back,
-            "{\"multihop\":true}",
-            (23, "bad multihop"),
-        ),
-        (
-            "no chain, and no sid",
-            back,
-            back,
-            "{\"multihop\":true,\"id_generator\":3}",
-            (23, "bad multihop"),
-        ),
-        (
-            "no chain where none is wanted",
-            back,
-            back,
-            "{\"multihop\":\"true\"}",
-            (0, ""),
-        ),
-    ] {
-        let body = format!(in rt.alloc(); "{{\"files\":[{first},{second}],\"params\":{params}}}")?;
-        assert_eq!(rt;
-            refusal(rt.alloc(), body.as_bytes(), &settings),
-            want,
-            "{case}"
-        );
-    }
-    let hop = format!(in rt.alloc(); "{{\"files\":[{double}],\"params\":{{\"multihop\":true}}}}")?;
-    assert_eq!(rt;
-        refusal(rt.alloc(), hop.as_bytes(), &settings),
-        (23, "bad multihop")
-    );
+    assert_eq!(rt; first_wrong_body(rt.alloc(), &KINDS, &settings), None);
     Ok(())
 }
 
 #[test]
-fn limits_are_themselves_allowed(rt: HostRuntime) -> Result<(), Fail> {
+fn so_many_files_are_allowed(rt: HostRuntime) -> Result<(), Fail> {
     let settings = settings(rt.alloc())?;
     let file = "{\"sources\":[\"https://a.example/f\"],\"destinations\":[\"https://b.example/f\"]}";
-    for (count, want) in [(200, 0), (201, 4)] {
-        let body = many(rt.alloc(), file, count)?;
-        assert_eq!(rt;
-            refusal(rt.alloc(), body.as_bytes(), &settings).0,
-            want,
-            "{count} files"
-        );
-    }
-    let none = many(rt.alloc(), "3", 201)?;
     assert_eq!(rt;
-        refusal(rt.alloc(), none.as_bytes(), &settings),
-        (4, "too many files")
+        refusal(rt.alloc(), many(rt.alloc(), file, 200)?.as_str(), &settings).0,
+        0
     );
-    for (length, want) in [(255, 0), (256, 15)] {
-        let fields = format!(in rt.alloc(); ",\"activity\":\"{}\"", letters(rt.alloc(), length)?)?;
-        let body = document(rt.alloc(), fields.as_str(), "")?;
-        assert_eq!(rt;
-            refusal(rt.alloc(), body.as_bytes(), &settings).0,
-            want,
-            "an activity of {length} bytes"
-        );
-    }
-    for (length, want) in [(255, 0), (256, 24)] {
-        let keys = format!(in rt.alloc();
-            ",\"params\":{{\"id_generator\":\"deterministic\",\"sid\":\"{}\"}}",
-            letters(rt.alloc(), length)?
-        )?;
-        let body = document(rt.alloc(), "", keys.as_str())?;
-        assert_eq!(rt;
-            refusal(rt.alloc(), body.as_bytes(), &settings).0,
-            want,
-            "a sid of {length} bytes"
-        );
-    }
+    assert_eq!(rt;
+        refusal(rt.alloc(), many(rt.alloc(), file, 201)?.as_str(), &settings).0,
+        4
+    );
+    assert_eq!(rt;
+        refusal(rt.alloc(), many(rt.alloc(), "3", 201)?.as_str(), &settings).0,
+        4
+    );
+    Ok(())
+}
+
+fn of_activity(alloc: Global, length: usize) -> Result<String, AllocError> {
+    let name = letters(alloc, length)?;
+    let fields = format!(in alloc; ",\"activity\":\"{}\"", name.as_str())?;
+    document(alloc, fields.as_str(), "")
+}
+
+fn of_sid(alloc: Global, length: usize) -> Result<String, AllocError> {
+    let sid = letters(alloc, length)?;
+    let keys = format!(in alloc;
+        ",\"params\":{{\"id_generator\":\"deterministic\",\"sid\":\"{}\"}}",
+        sid.as_str()
+    )?;
+    document(alloc, "", keys.as_str())
+}
+
+#[test]
+fn so_many_bytes_are_allowed(rt: HostRuntime) -> Result<(), Fail> {
+    let settings = settings(rt.alloc())?;
+    assert_eq!(rt;
+        refusal(
+            rt.alloc(),
+            of_activity(rt.alloc(), 255)?.as_str(),
+            &settings
+        )
+        .0,
+        0
+    );
+    assert_eq!(rt;
+        refusal(
+            rt.alloc(),
+            of_activity(rt.alloc(), 256)?.as_str(),
+            &settings
+        )
+        .0,
+        15
+    );
+    assert_eq!(rt;
+        refusal(rt.alloc(), of_sid(rt.alloc(), 255)?.as_str(), &settings).0,
+        0
+    );
+    assert_eq!(rt;
+        refusal(rt.alloc(), of_sid(rt.alloc(), 256)?.as_str(), &settings).0,
+        24
+    );
     Ok(())
 }
 
 #[test]
 fn deep_lists_are_no_json(rt: HostRuntime) -> Result<(), Fail> {
     let settings = settings(rt.alloc())?;
-    let deep = [b'['; 200];
-    assert_eq!(rt; refusal(rt.alloc(), &deep, &settings), (1, "not JSON"));
+    match read_job(rt.alloc(), &[b'['; 200], &settings) {
+        Ok(_) => assert!(rt; false, "no JSON"),
+        Err(fault) => assert_eq!(rt; fault.rule(), 1),
+    }
     Ok(())
 }
 
 #[test]
 fn the_examples_are_the_jobs_that_they_say(rt: HostRuntime) -> Result<(), Fail> {
     let settings = settings(rt.alloc())?;
-    for (case, body, kind, strategy, numbers, want) in [
-        (
-            "one file",
-            ONE_FILE,
-            JobKind::Plain,
-            Strategy::Auto,
-            (3, 0, 0),
-            "0 https://a.example/data/f1 https://b.example/f1 0 default\n",
-        ),
-        (
-            "several files",
-            SEVERAL_FILES,
-            JobKind::Plain,
-            Strategy::Auto,
-            (5, 3, 60),
-            "0 https://a.example/data/f1 https://b.example/f1 3 default\n1 https://a.example/data/f2 https://b.example/f2 0 production\n",
-        ),
-        (
-            "replicas",
-            REPLICAS,
-            JobKind::Replica,
-            Strategy::Orderly,
-            (3, 0, 0),
-            "0 https://a.example/data/f1 https://b.example/f1 0 default\n0 https://a.example/copies/f1 https://b.example/f1 0 default\n",
-        ),
-        (
-            "multihop",
-            MULTIHOP,
-            JobKind::Multihop,
-            Strategy::Auto,
-            (3, 0, 0),
-            "0 https://a.example/data/f1 https://b.example/f1 0 default\n1 https://b.example/f1 https://a.example/back/f1 0 default\n",
-        ),
-    ] {
-        let job = read_job(rt.alloc(), body.as_bytes(), &settings)?;
-        assert_eq!(rt; job.kind, kind, "{case}");
-        assert_eq!(rt; job.strategy, strategy, "{case}");
-        assert_eq!(rt; (job.priority, job.retry, job.delay), numbers, "{case}");
-        assert_eq!(rt; lines(rt.alloc(), &job)?.as_str(), want, "{case}");
+    for (body, want) in EXAMPLES {
+        assert_eq!(rt; summary(rt.alloc(), body, &settings)?.as_str(), want);
     }
     Ok(())
 }
@@ -673,35 +310,13 @@ fn the_examples_are_the_jobs_that_they_say(rt: HostRuntime) -> Result<(), Fail> 
 #[test]
 fn a_digest_is_wanted_only_where_verification_is_asked_for(rt: HostRuntime) -> Result<(), Fail> {
     let settings = settings(rt.alloc())?;
-    let job = read_job(rt.alloc(), WITH_CHECKSUM.as_bytes(), &settings)?;
-    for file in job.files.as_slice() {
-        assert_eq!(rt; file.wanted, Some(ABC));
-    }
+    assert_eq!(rt; wanted(rt.alloc(), WITH_CHECKSUM, &settings)?, Some(ABC));
     let body = document(
         rt.alloc(),
         ",\"checksum\":\"MD5:900150983cd24fb0d6963f7d28e17f72\"",
         "",
     )?;
-    let job = read_job(rt.alloc(), body.as_bytes(), &settings)?;
-    for file in job.files.as_slice() {
-        assert_eq!(rt; file.wanted, None);
-    }
-    Ok(())
-}
-
-#[test]
-fn an_ordinary_job_is_read(rt: HostRuntime) -> Result<(), Fail> {
-    let settings = settings(rt.alloc())?;
-    let body =
-        "{\"files\":[{\"sources\":[\"root://a.example:1094//data//f1\"],\"destinations\":[\"https://b.example:443/store/f1\"],\"checksum\":\"ADLER32:0d5e1a2b\",\"filesize\":3,\"metadata\":null,\"activity\":null,\"selection_strategy\":null},{\"sources\":[\"root://a.example:1094//data//f2\"],\"destinations\":[\"https://b.example:443/store/f2\"],\"checksum\":\"ADLER32:0d5e1a2b\",\"filesize\":3,\"metadata\":null,\"activity\":null,\"selection_strategy\":null}],\"params\":{\"verify_checksum\":false,\"reuse\":false,\"spacetoken\":null,\"bring_online\":null,\"copy_pin_lifetime\":-1,\"job_metadata\":null,\"overwrite\":false,\"multihop\":false,\"retry\":-1,\"retry_delay\":0,\"priority\":3,\"max_time_in_queue\":null,\"timeout\":null,\"id_generator\":\"standard\",\"sid\":null}}";
-    let job = read_job(rt.alloc(), body.as_bytes(), &settings)?;
-    assert_eq!(rt; job.id, None);
-    assert_eq!(rt; job.overwrite, false);
-    assert_eq!(rt; (job.priority, job.retry, job.delay), (3, 0, 0));
-    assert_eq!(rt;
-        lines(rt.alloc(), &job)?.as_str(),
-        "0 root://a.example:1094/data/f1 https://b.example/store/f1 3 default\n1 root://a.example:1094/data/f2 https://b.example/store/f2 3 default\n"
-    );
+    assert_eq!(rt; wanted(rt.alloc(), body.as_str(), &settings)?, None);
     Ok(())
 }
 
@@ -712,45 +327,26 @@ fn a_sid_makes_the_id_that_another_program_makes(rt: HostRuntime) -> Result<(), 
         sid_id("atlas", "dataset-2026-11-27"),
         0xb25e_2ead_09fa_59c0_b703_38ca_9d40_b86c
     );
-    assert_eq!(rt;
-        sid_id("vo", "x"),
-        0x97db_e724_3c2d_5524_8569_77ce_b903_6468
-    );
     let settings = settings(rt.alloc())?;
     let job = read_job(rt.alloc(), MULTIHOP.as_bytes(), &settings)?;
     assert_eq!(rt; job.id, Some(0x8b35_c5cc_fec2_5479_8778_9cbe_6f13_7978));
     Ok(())
 }
 
-#[test]
-fn a_priority_is_read(rt: HostRuntime) -> Result<(), Fail> {
-    for (case, body, want) in [
-        ("priority 5", "{\"params\":{\"priority\":5}}", (5, 0, "")),
-        (
-            "priority 6",
-            "{\"params\":{\"priority\":6}}",
-            (0, 19, "bad priority"),
-        ),
-        ("no priority", "{\"params\":{}}", (0, 19, "bad priority")),
-        ("no parameters", "{}", (0, 19, "bad priority")),
-        (
-            "null for the priority",
-            "{\"params\":{\"priority\":null}}",
-            (0, 19, "bad priority"),
-        ),
-        (
-            "a list for the parameters",
-            "{\"params\":[]}",
-            (0, 16, "params is not an object"),
-        ),
-        ("a number", "5", (0, 2, "not an object")),
-        ("nothing", "", (0, 1, "not JSON")),
-    ] {
-        let answer = match read_priority(rt.alloc(), body.as_bytes()) {
-            Ok(priority) => (priority, 0, ""),
-            Err(fault) => (0, fault.rule(), fault.message()),
-        };
-        assert_eq!(rt; answer, want, "{case}");
+/// What a body asks for, and the rule and message of its refusal.
+fn priority(alloc: Global, body: &str) -> (u32, u32, &'static str) {
+    match read_priority(alloc, body.as_bytes()) {
+        Ok(priority) => (priority, 0, ""),
+        Err(fault) => (0, fault.rule(), fault.message()),
     }
-    Ok(())
+}
+
+#[test]
+fn a_priority_is_read(rt: HostRuntime) {
+    for (case, body, want, rule, message) in PRIORITIES {
+        let found = priority(rt.alloc(), body);
+        assert_eq!(rt; found.0, want, "{case}");
+        assert_eq!(rt; found.1, rule, "{case}");
+        assert_eq!(rt; found.2, message, "{case}");
+    }
 }

@@ -12,6 +12,8 @@ use Rattle.fts_tables.specs.declared.rows.FileRow.{FileRow}
 use Rattle.fts_tables.specs.declared.rows.JobRow.{JobRow}
 use Rattle.fts_desk.specs.Kept.{tables_kept}
 use Rattle.fts_desk.specs.Standing.{StandTogether}
+use Rattle.fts_desk.proofs.ChangedRows.{number_at_place}
+use Rattle.fts_desk.proofs.Hops.{stands_inside}
 use Rattle.fts_desk.proofs.Reported.{found_there, reported_of_job, report_is}
 use Rattle.fts_desk.proofs.reports.report.Goals as goal
 
@@ -24,6 +26,24 @@ report_at-requires-clause-together c =
     subst (λ (rows : List FileRow). StandTogether rows job) (sym c.deref_mut.ensures.value)
     (c.rows_stand_together.ensures.together (tables_kept c.args.kept.now) row.job job c.requires.formed of_job)
 
+pub report_at-requires-clause-owned : goal.report_at-requires-clause-owned
+report_at-requires-clause-owned c =
+    let rows = c.args.kept.now.rows.items in
+    let jobs = c.args.kept.now.jobs.items in
+    let place = c.in-Some.place in
+    let number = c.in-Some-job_place.number in
+    let row = c.index.result.now in
+    let job = c.index-in-Some-job_place.result.now in
+    let of_job = found_there (λ (jobs : List JobRow). job_at jobs row.job) c.deref-in-Some.result.now jobs number job c.deref-in-Some.ensures.value
+    c.in-Some-job_place.ensures.job c.in-Some-job_place.ensures.inside.0 c.index-in-Some-job_place.ensures in
+    let stand = c.rows_stand_together.ensures.together (tables_kept c.args.kept.now) row.job job c.requires.formed of_job in
+    let within : place < length rows = omega (arith, ap length c.deref.ensures.value, c.in-Some.ensures.inside.0) in
+    let among : number < length jobs = omega (arith, ap length c.deref-in-Some.ensures.value, c.in-Some-job_place.ensures.inside.0) in
+    let at = slice_get_read rows (length rows) place row refl within c.index.ensures in
+    let numbered = number_at_place (λ (other : JobRow). other.number) 1 jobs number job c.requires.formed.jobs (slice_get_read jobs (length jobs) number job refl among c.index-in-Some-job_place.ensures) in
+    let owner : row.job ≡ job.number = omega (arith, numbered, c.in-Some-job_place.ensures.inside.1) in
+    stands_inside rows job place row c.requires.formed.rows stand at owner
+
 pub unreachable-requires : goal.unreachable-requires
 unreachable-requires c =
     let row = c.index.result.now in
@@ -32,8 +52,8 @@ unreachable-requires c =
     reported_of_job (tables_kept c.args.kept.now) (max c.args.now c.args.kept.now.moment) c.args.file c.args.attempt c.args.outcome row found c.requires.accepted
     (ap (λ (jobs : List JobRow). job_at jobs row.job) (sym c.deref-in-Some.ensures.value) ∙ sym c.in-None-job_place.ensures.job)
 
-pub returns : goal.returns
-returns c =
+pub returns-clause-step : goal.returns-clause-step
+returns-clause-step c =
     let tables = tables_kept c.args.kept.now in
     let rows = c.args.kept.now.rows.items in
     let now = c.max-kept.result in
@@ -54,7 +74,5 @@ returns c =
     ∙ c.report_at.ensures.rows row at ∙ ap (λ (some : List FileRow). followed job (change row) (change_row row.id change some)) lent in
     let told : IsAccepted (report tables now (row_at rows c.args.file) c.args.attempt c.args.outcome) =
     subst (λ moment. IsAccepted (report tables moment (row_at rows c.args.file) c.args.attempt c.args.outcome)) (sym c.max-kept.ensures) c.requires.accepted in
-    record {
-      step = ap (λ moment. report tables moment (row_at rows c.args.file) c.args.attempt c.args.outcome) (sym c.max-kept.ensures)
-          ∙ report_is tables now c.args.file c.args.attempt c.args.outcome row found told job after c.report_at.result of_job left (c.report_at.ensures.answer row at);
-    }
+    ap (λ moment. report tables moment (row_at rows c.args.file) c.args.attempt c.args.outcome) (sym c.max-kept.ensures)
+    ∙ report_is tables now c.args.file c.args.attempt c.args.outcome row found told job after c.report_at.result of_job left (c.report_at.ensures.answer row at)

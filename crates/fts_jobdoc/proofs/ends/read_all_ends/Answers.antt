@@ -1,5 +1,5 @@
 -- What was read, put before what is read of the rest.
-use Rattle.std.proofs.Common.{◌≡◌, Ok, Err, ap, sym, ◌∙◌, inl, rules, drop, map, List}
+use Rattle.std.proofs.Common.{◌≡◌, Err, ap, sym, ◌∙◌, inl, rules, map, List}
 use Rattle.std.proofs.lemmas.List.{drop_all}
 use Rattle.serde_json.specs.View.{view}
 use Rattle.serde_json.specs.declared.value.Value.{Value}

@@ -1,5 +1,5 @@
 -- A file of which both lists were read, and one of which a URL was refused.
-use Rattle.std.proofs.Common.{◌≡◌, Err, sym, ◌∙◌, inl, rules, codes}
+use Rattle.std.proofs.Common.{◌≡◌, Err, sym, inl, rules, codes}
 use Rattle.serde_json.specs.View.{view}
 use Rattle.fts_jobdoc.specs.Json.{texts_under}
 use Rattle.fts_jobdoc.specs.Ends.{ends_of, places_read}

@@ -1,10 +1,9 @@
 -- What was read, put before what is read of the rest.
-use Rattle.std.proofs.Common.{◌≡◌, Ok, Err, ap, sym, ◌∙◌, inl, rules, drop, map, List}
+use Rattle.std.proofs.Common.{◌≡◌, Err, ap, sym, ◌∙◌, inl, rules, map}
 use Rattle.std.proofs.lemmas.List.{drop_all}
 use Rattle.std.specs.List.{filter_map}
 use Rattle.serde_json.specs.Find.{as_str}
 use Rattle.serde_json.specs.View.{view}
-use Rattle.fts_tables.specs.declared.places.Place.{Place}
 use Rattle.fts_jobdoc.specs.Ends.{places_read}
 use Rattle.fts_jobdoc.proofs.EndsLemmas.{extend, places_read-step, places_read-refused, places_read-end}
 use Rattle.fts_jobdoc.proofs.Left.{texts_left}

@@ -1,5 +1,5 @@
 -- The job of a document that passed, and a refusal.
-use Rattle.std.proofs.Common.{◌≡◌, Err, Ok, ap, inl, refl, rules, map}
+use Rattle.std.proofs.Common.{◌≡◌, Err, Ok, ap, inl, rules}
 use Rattle.serde_json.specs.View.{view}
 use Rattle.fts_jobdoc.specs.Documents.{rules_of, job_in}
 use Rattle.fts_jobdoc.proofs.Chain.{refused_either, passed_by}

@@ -1,9 +1,7 @@
 -- The job is the one of the document, whose rules keep those of its type.
-use Rattle.std.proofs.Common.{◌≡◌, ◌≤◌, length, map, refl, ap, sym, ◌∙◌, arith}
-use Rattle.std.specs.Prelude.{nat_le}
+use Rattle.std.proofs.Common.{◌≡◌, ◌≤◌, length, refl, ap, sym, ◌∙◌, arith}
 use Rattle.std.proofs.lemmas.List.{length-map}
 use Rattle.serde_json.specs.View.{view}
-use Rattle.fts_tables.specs.SettingsData.{is_within}
 use Rattle.fts_jobdoc.specs.Json.{files_of}
 use Rattle.fts_jobdoc.specs.Documents.{new_job}
 use Rattle.fts_jobdoc.proofs.Chain.{all_keep, lawful}

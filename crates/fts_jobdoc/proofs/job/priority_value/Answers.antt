@@ -1,5 +1,5 @@
 -- A priority that isn't bad is a small number.
-use Rattle.std.proofs.Common.{◌≡◌, ◌≤◌, false, refl, ap, ◌∙◌, codes, arith}
+use Rattle.std.proofs.Common.{◌≡◌, ◌≤◌, refl, ap, ◌∙◌, codes, arith}
 use Rattle.serde_json.specs.View.{view}
 use Rattle.fts_tables.specs.SettingsData.{is_within}
 use Rattle.fts_jobdoc.specs.Json.{param, natural_or}

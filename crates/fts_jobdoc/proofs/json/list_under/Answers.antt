@@ -1,10 +1,8 @@
 -- The list that was found.
-use Rattle.std.proofs.Common.{◌≡◌, List, [], Some, ap, sym, ◌∙◌, map, option_and_then}
-use Rattle.std.specs.Option.{option_map_or}
-use Rattle.serde_json.specs.Data.{Data}
+use Rattle.std.proofs.Common.{◌≡◌, Some, sym, map}
 use Rattle.serde_json.specs.Find.{as_array}
 use Rattle.serde_json.specs.View.{view, items_view}
-use Rattle.fts_jobdoc.specs.Json.{field, list_of, list_under}
+use Rattle.fts_jobdoc.specs.Json.{field, list_under}
 use Rattle.fts_jobdoc.proofs.JsonLemmas.{list_of-items_of}
 use Rattle.fts_jobdoc.proofs.json.list_under.Goals as goal
 

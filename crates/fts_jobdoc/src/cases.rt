@@ -1,0 +1,536 @@
+//! The tables of the tests: documents, and how each is answered. Rules and texts are those of the rules' table.
+//! A row is a sentence, what is given, and the rule and message of the refusal, or 0 and no text. The examples are those of `examples/`.
+/// A sentence, a body, and the rule and message.
+pub type BodyCase = (&'static str, &'static str, u32, &'static str);
+
+/// A sentence, two texts, and the rule and message.
+pub type PairCase = (&'static str, &'static str, &'static str, u32, &'static str);
+
+/// The digest of `abc` (RFC 1321, A.5).
+pub const ABC: [u8; 16] = [
+    0x90, 0x01, 0x50, 0x98, 0x3c, 0xd2, 0x4f, 0xb0, 0xd6, 0x96, 0x3f, 0x7d, 0x28, 0xe1, 0x7f, 0x72,
+];
+
+pub const ONE_FILE: &str =
+    "{\"files\":[{\"sources\":[\"https://a.example/data/f1\"],\"destinations\":[\"https://b.example/f1\"]}]}";
+
+pub const SEVERAL_FILES: &str =
+    "{\"files\":[{\"sources\":[\"https://a.example/data/f1\"],\"destinations\":[\"https://b.example/f1\"],\"filesize\":3},{\"sources\":[\"https://a.example/data/f2\"],\"destinations\":[\"https://b.example/f2\"],\"activity\":\"production\"}],\"params\":{\"retry\":3,\"retry_delay\":60,\"priority\":5,\"overwrite\":true}}";
+
+pub const WITH_CHECKSUM: &str =
+    "{\"files\":[{\"sources\":[\"https://a.example/data/f1\"],\"destinations\":[\"https://b.example/f1\"],\"checksum\":\"MD5:900150983cd24fb0d6963f7d28e17f72\",\"filesize\":3}],\"params\":{\"verify_checksum\":\"both\"}}";
+
+pub const REPLICAS: &str =
+    "{\"files\":[{\"sources\":[\"https://a.example/data/f1\",\"https://a.example/copies/f1\"],\"destinations\":[\"https://b.example/f1\"],\"selection_strategy\":\"orderly\"}]}";
+
+pub const MULTIHOP: &str =
+    "{\"files\":[{\"sources\":[\"https://a.example/data/f1\"],\"destinations\":[\"https://b.example/f1\"]},{\"sources\":[\"https://b.example/f1\"],\"destinations\":[\"https://a.example/back/f1\"]}],\"params\":{\"multihop\":true,\"id_generator\":\"deterministic\",\"sid\":\"f1 there and back\"}}";
+
+/// As clients of the field send it, with every field that they have.
+pub const ORDINARY: &str =
+    "{\"files\":[{\"sources\":[\"root://a.example:1094//data//f1\"],\"destinations\":[\"https://b.example:443/store/f1\"],\"checksum\":\"ADLER32:0d5e1a2b\",\"filesize\":3,\"metadata\":null,\"activity\":null,\"selection_strategy\":null},{\"sources\":[\"root://a.example:1094//data//f2\"],\"destinations\":[\"https://b.example:443/store/f2\"],\"checksum\":\"ADLER32:0d5e1a2b\",\"filesize\":3,\"metadata\":null,\"activity\":null,\"selection_strategy\":null}],\"params\":{\"verify_checksum\":false,\"reuse\":false,\"spacetoken\":null,\"bring_online\":null,\"copy_pin_lifetime\":-1,\"job_metadata\":null,\"overwrite\":false,\"multihop\":false,\"retry\":-1,\"retry_delay\":0,\"priority\":3,\"max_time_in_queue\":null,\"timeout\":null,\"id_generator\":\"standard\",\"sid\":null}}";
+
+/// Bodies that have not the shape of a document.
+pub const BODIES: [BodyCase; 14] = [
+    ("a list that doesn't end", "[1", 1, "not JSON"),
+    ("a byte order mark", "\u{feff}{\"files\":[]}", 1, "not JSON"),
+    (
+        "a lone surrogate",
+        "{\"files\":[\"\\ud800\"]}",
+        1,
+        "not JSON",
+    ),
+    ("a list", "[]", 2, "not an object"),
+    ("an empty list of files", "{\"files\":[]}", 3, "no files"),
+    (
+        "null for the files",
+        "{\"files\":null,\"params\":3}",
+        3,
+        "no files",
+    ),
+    ("an object for the files", "{\"files\":{}}", 3, "no files"),
+    (
+        "a number for a file",
+        "{\"files\":[3]}",
+        5,
+        "file is not an object",
+    ),
+    (
+        "no sources",
+        "{\"files\":[{\"sources\":[],\"destinations\":[\"https://b.example/f\"]}]}",
+        6,
+        "bad sources",
+    ),
+    (
+        "neither sources nor destinations",
+        "{\"files\":[{}]}",
+        6,
+        "bad sources",
+    ),
+    (
+        "null among the sources",
+        "{\"files\":[{\"sources\":[null],\"destinations\":[]}]}",
+        6,
+        "bad sources",
+    ),
+    (
+        "two destinations",
+        "{\"files\":[{\"sources\":[\"https://a.example/f\"],\"destinations\":[\"https://b.example/f\",\"https://b.example/g\"]}]}",
+        7,
+        "bad destinations",
+    ),
+    (
+        "a broken source and no destination",
+        "{\"files\":[{\"sources\":[\"f\"],\"destinations\":[]}]}",
+        7,
+        "bad destinations",
+    ),
+    (
+        "files given twice, of which the last count",
+        "{\"files\":3,\"files\":[]}",
+        3,
+        "no files",
+    ),
+];
+
+/// A source and a destination.
+pub const URLS: [PairCase; 9] = [
+    (
+        "no host",
+        "file:///etc/passwd",
+        "https://b.example/f",
+        8,
+        "bad URL 2",
+    ),
+    (
+        "a query",
+        "https://a.example/b?x=1",
+        "https://b.example/f",
+        8,
+        "bad URL 3",
+    ),
+    (
+        "an escape, and a query behind it",
+        "https://a.example/x/%2e%2e/b",
+        "https://b.example/b?x=1",
+        8,
+        "bad URL 6",
+    ),
+    (
+        "a user at the destination",
+        "https://a.example/f",
+        "https://u@b.example/b",
+        8,
+        "bad URL 5",
+    ),
+    (
+        "a query, and an unknown endpoint",
+        "https://c.example/f",
+        "https://b.example/f?",
+        8,
+        "bad URL 3",
+    ),
+    (
+        "an unknown source",
+        "https://c.example/f",
+        "https://b.example/f",
+        9,
+        "unknown endpoint",
+    ),
+    (
+        "an unknown destination, from itself",
+        "https://c.example/f",
+        "https://c.example/f",
+        9,
+        "unknown endpoint",
+    ),
+    (
+        "one place by two URLs",
+        "https://a.example/a/../b",
+        "https://a.example:443//b",
+        10,
+        "same URL",
+    ),
+    (
+        "two places",
+        "https://a.example/a/../b",
+        "https://b.example:443//b",
+        0,
+        "",
+    ),
+];
+
+/// Further fields of one file, and further keys of the document.
+pub const FIELDS: [PairCase; 19] = [
+    (
+        "a file onto itself, and no size",
+        ",\"destinations\":[\"https://a.example/f\"],\"filesize\":-1",
+        "",
+        10,
+        "same URL",
+    ),
+    ("a size below 0", ",\"filesize\":-1", "", 11, "bad filesize"),
+    (
+        "a size of 2^63",
+        ",\"filesize\":9223372036854775808",
+        "",
+        11,
+        "bad filesize",
+    ),
+    (
+        "the greatest size",
+        ",\"filesize\":9223372036854775807",
+        "",
+        0,
+        "",
+    ),
+    (
+        "a size of 3.0, and a broken checksum",
+        ",\"filesize\":3.0,\"checksum\":5",
+        ",\"params\":{\"verify_checksum\":true}",
+        11,
+        "bad filesize",
+    ),
+    ("a size of 1e3", ",\"filesize\":1e3", "", 11, "bad filesize"),
+    ("a size of -0", ",\"filesize\":-0", "", 11, "bad filesize"),
+    (
+        "31 digits",
+        ",\"checksum\":\"MD5:0123456789abcdef0123456789abcde\"",
+        ",\"params\":{\"verify_checksum\":true}",
+        12,
+        "bad checksum",
+    ),
+    (
+        "31 digits that nobody looks at",
+        ",\"checksum\":\"MD5:0123456789abcdef0123456789abcde\"",
+        ",\"params\":{\"verify_checksum\":\"none\"}",
+        0,
+        "",
+    ),
+    (
+        "no algorithm",
+        ",\"checksum\":\":0123456789abcdef0123456789abcdef\"",
+        ",\"params\":{\"verify_checksum\":\"source\"}",
+        12,
+        "bad checksum",
+    ),
+    (
+        "no colon, and no strategy",
+        ",\"checksum\":\"0123456789abcdef\",\"selection_strategy\":\"best\"",
+        ",\"params\":{\"verify_checksum\":\"target\"}",
+        12,
+        "bad checksum",
+    ),
+    (
+        "an empty checksum",
+        ",\"checksum\":\"\"",
+        ",\"params\":{\"verify_checksum\":true}",
+        0,
+        "",
+    ),
+    (
+        "another algorithm",
+        ",\"checksum\":\"ADLER32:0d5e1a2b\"",
+        ",\"params\":{\"verify_checksum\":true}",
+        13,
+        "other algorithm",
+    ),
+    (
+        "another algorithm, and no strategy",
+        ",\"checksum\":\"ADLER32:0d5e1a2b\",\"selection_strategy\":\"best\"",
+        ",\"params\":{\"verify_checksum\":true}",
+        13,
+        "other algorithm",
+    ),
+    (
+        "no strategy",
+        ",\"selection_strategy\":\"best\"",
+        "",
+        14,
+        "bad strategy",
+    ),
+    (
+        "no strategy, and no activity",
+        ",\"selection_strategy\":\"best\",\"activity\":5",
+        "",
+        14,
+        "bad strategy",
+    ),
+    (
+        "a number for the activity",
+        ",\"activity\":5",
+        "",
+        15,
+        "bad activity",
+    ),
+    (
+        "a number for the activity and for the parameters",
+        ",\"activity\":5",
+        ",\"params\":5",
+        15,
+        "bad activity",
+    ),
+    ("an empty activity", ",\"activity\":\"\"", "", 0, ""),
+];
+
+/// The same, for parameters.
+pub const PARAMETERS: [PairCase; 22] = [
+    (
+        "no object",
+        "",
+        ",\"params\":[]",
+        16,
+        "params is not an object",
+    ),
+    ("null", "", ",\"params\":null", 0, ""),
+    (
+        "11 retries",
+        "",
+        ",\"params\":{\"retry\":11}",
+        17,
+        "bad retry",
+    ),
+    (
+        "-2 retries, and no delay",
+        "",
+        ",\"params\":{\"retry\":-2,\"retry_delay\":-1}",
+        17,
+        "bad retry",
+    ),
+    ("-1 retries", "", ",\"params\":{\"retry\":-1}", 0, ""),
+    (
+        "a delay of more than a day",
+        "",
+        ",\"params\":{\"retry_delay\":86401}",
+        18,
+        "bad retry_delay",
+    ),
+    (
+        "no delay, and priority 0",
+        "",
+        ",\"params\":{\"retry_delay\":\"1\",\"priority\":0}",
+        18,
+        "bad retry_delay",
+    ),
+    (
+        "priority 6",
+        "",
+        ",\"params\":{\"priority\":6}",
+        19,
+        "bad priority",
+    ),
+    (
+        "priority 0, and a verification",
+        "",
+        ",\"params\":{\"priority\":0,\"verify_checksum\":\"yes\"}",
+        19,
+        "bad priority",
+    ),
+    (
+        "a priority given twice, of which the last counts",
+        "",
+        ",\"params\":{\"priority\":6,\"priority\":5}",
+        0,
+        "",
+    ),
+    (
+        "a verification",
+        "",
+        ",\"params\":{\"verify_checksum\":\"yes\"}",
+        20,
+        "bad verify_checksum",
+    ),
+    (
+        "a verification, and reuse",
+        "",
+        ",\"params\":{\"verify_checksum\":1,\"reuse\":true}",
+        20,
+        "bad verify_checksum",
+    ),
+    (
+        "reuse",
+        "",
+        ",\"params\":{\"reuse\":true,\"bring_online\":1}",
+        21,
+        "not offered: reuse",
+    ),
+    (
+        "reuse by another word",
+        "",
+        ",\"params\":{\"reuse\":\"Y\"}",
+        0,
+        "",
+    ),
+    (
+        "bring_online",
+        "",
+        ",\"params\":{\"copy_pin_lifetime\":1,\"bring_online\":1}",
+        21,
+        "not offered: bring_online",
+    ),
+    (
+        "copy_pin_lifetime",
+        "",
+        ",\"params\":{\"copy_pin_lifetime\":1}",
+        21,
+        "not offered: copy_pin_lifetime",
+    ),
+    (
+        "archive_timeout",
+        "",
+        ",\"params\":{\"archive_timeout\":1}",
+        21,
+        "not offered: archive_timeout",
+    ),
+    (
+        "max_time_in_queue",
+        "",
+        ",\"params\":{\"max_time_in_queue\":1}",
+        21,
+        "not offered: max_time_in_queue",
+    ),
+    (
+        "none of them",
+        "",
+        ",\"params\":{\"reuse\":false,\"bring_online\":0,\"copy_pin_lifetime\":-1,\"archive_timeout\":null,\"max_time_in_queue\":\"1\"}",
+        0,
+        "",
+    ),
+    (
+        "another generator",
+        "",
+        ",\"params\":{\"id_generator\":\"random\"}",
+        24,
+        "bad sid",
+    ),
+    (
+        "no sid",
+        "",
+        ",\"params\":{\"id_generator\":\"deterministic\",\"sid\":\"\"}",
+        24,
+        "bad sid",
+    ),
+    (
+        "a sid that nobody looks at",
+        "",
+        ",\"params\":{\"id_generator\":\"standard\",\"sid\":3}",
+        0,
+        "",
+    ),
+];
+
+/// Bodies of several files.
+pub const KINDS: [BodyCase; 9] = [
+    (
+        "a broken URL of the second file, and no size of the first",
+        "{\"files\":[{\"sources\":[\"https://a.example/f\"],\"destinations\":[\"https://b.example/f\"],\"filesize\":-1},{\"sources\":[\"f\"],\"destinations\":[\"https://b.example/f\"]}],\"params\":{}}",
+        8,
+        "bad URL 1",
+    ),
+    (
+        "replicas of one of two files",
+        "{\"files\":[{\"sources\":[\"https://a.example/f\"],\"destinations\":[\"https://b.example/f\"]},{\"sources\":[\"https://a.example/f\",\"https://a.example/g\"],\"destinations\":[\"https://b.example/f\"]}],\"params\":{}}",
+        22,
+        "replicas need one file",
+    ),
+    (
+        "replicas of one of two hops",
+        "{\"files\":[{\"sources\":[\"https://a.example/f\"],\"destinations\":[\"https://b.example/f\"]},{\"sources\":[\"https://a.example/f\",\"https://a.example/g\"],\"destinations\":[\"https://b.example/f\"]}],\"params\":{\"multihop\":true}}",
+        22,
+        "replicas need one file",
+    ),
+    (
+        "replicas of one of two files, and reuse",
+        "{\"files\":[{\"sources\":[\"https://a.example/f\"],\"destinations\":[\"https://b.example/f\"]},{\"sources\":[\"https://a.example/f\",\"https://a.example/g\"],\"destinations\":[\"https://b.example/f\"]}],\"params\":{\"reuse\":true}}",
+        21,
+        "not offered: reuse",
+    ),
+    (
+        "replicas of a hop",
+        "{\"files\":[{\"sources\":[\"https://a.example/f\",\"https://a.example/g\"],\"destinations\":[\"https://b.example/f\"]}],\"params\":{\"multihop\":true}}",
+        23,
+        "bad multihop",
+    ),
+    (
+        "a chain by two URLs",
+        "{\"files\":[{\"sources\":[\"https://a.example/f\"],\"destinations\":[\"https://b.example/f\"]},{\"sources\":[\"https://b.example:443//f\"],\"destinations\":[\"https://a.example/g\"]}],\"params\":{\"multihop\":true}}",
+        0,
+        "",
+    ),
+    (
+        "no chain",
+        "{\"files\":[{\"sources\":[\"https://b.example:443//f\"],\"destinations\":[\"https://a.example/g\"]},{\"sources\":[\"https://b.example:443//f\"],\"destinations\":[\"https://a.example/g\"]}],\"params\":{\"multihop\":true}}",
+        23,
+        "bad multihop",
+    ),
+    (
+        "no chain, and no sid",
+        "{\"files\":[{\"sources\":[\"https://b.example:443//f\"],\"destinations\":[\"https://a.example/g\"]},{\"sources\":[\"https://b.example:443//f\"],\"destinations\":[\"https://a.example/g\"]}],\"params\":{\"multihop\":true,\"id_generator\":3}}",
+        23,
+        "bad multihop",
+    ),
+    (
+        "no chain where none is wanted",
+        "{\"files\":[{\"sources\":[\"https://b.example:443//f\"],\"destinations\":[\"https://a.example/g\"]},{\"sources\":[\"https://b.example:443//f\"],\"destinations\":[\"https://a.example/g\"]}],\"params\":{\"multihop\":\"true\"}}",
+        0,
+        "",
+    ),
+];
+
+/// Each example, and its kind, strategy, priority, retries and delay, and then its files.
+pub const EXAMPLES: [(&str, &str); 6] = [
+    (
+        ONE_FILE,
+        "Plain Auto 3 0 0\n0 https://a.example/data/f1 https://b.example/f1 0 default\n",
+    ),
+    (
+        SEVERAL_FILES,
+        "Plain Auto 5 3 60\n0 https://a.example/data/f1 https://b.example/f1 3 default\n1 https://a.example/data/f2 https://b.example/f2 0 production\n",
+    ),
+    (
+        WITH_CHECKSUM,
+        "Plain Auto 3 0 0\n0 https://a.example/data/f1 https://b.example/f1 3 default\n",
+    ),
+    (
+        REPLICAS,
+        "Replica Orderly 3 0 0\n0 https://a.example/data/f1 https://b.example/f1 0 default\n0 https://a.example/copies/f1 https://b.example/f1 0 default\n",
+    ),
+    (
+        MULTIHOP,
+        "Multihop Auto 3 0 0\n0 https://a.example/data/f1 https://b.example/f1 0 default\n1 https://b.example/f1 https://a.example/back/f1 0 default\n",
+    ),
+    (
+        ORDINARY,
+        "Plain Auto 3 0 0\n0 root://a.example:1094/data/f1 https://b.example/store/f1 3 default\n1 root://a.example:1094/data/f2 https://b.example/store/f2 3 default\n",
+    ),
+];
+
+/// A sentence, a body, the priority, and the rule and message.
+pub const PRIORITIES: [(&str, &str, u32, u32, &str); 8] = [
+    ("priority 5", "{\"params\":{\"priority\":5}}", 5, 0, ""),
+    (
+        "priority 6",
+        "{\"params\":{\"priority\":6}}",
+        0,
+        19,
+        "bad priority",
+    ),
+    ("no priority", "{\"params\":{}}", 0, 19, "bad priority"),
+    ("no parameters", "{}", 0, 19, "bad priority"),
+    (
+        "null for the priority",
+        "{\"params\":{\"priority\":null}}",
+        0,
+        19,
+        "bad priority",
+    ),
+    (
+        "a list for the parameters",
+        "{\"params\":[]}",
+        0,
+        16,
+        "params is not an object",
+    ),
+    ("a number", "5", 0, 2, "not an object"),
+    ("nothing", "", 0, 1, "not JSON"),
+];
