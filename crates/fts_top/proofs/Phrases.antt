@@ -5,28 +5,17 @@ use Rattle.fts_tables.specs.JobData.{JobData}
 use Rattle.fts_tables.specs.Tables.{Tables}
 use Rattle.fts_tables.specs.Step.{Outcomes, step}
 use Rattle.fts_tables.specs.declared.commands.Command.TheVariants.{Submit}
-use Rattle.fts_tables.specs.declared.commands.Answer.{Answer}
-use Rattle.fts_tables.specs.declared.commands.Answer.TheVariants.{Restarted, Submitted, Cancelled, PrioritySet, Claimed, Reported}
 use Rattle.fts_tables.specs.declared.commands.Refusal.{Refusal}
 use Rattle.fts_tables.specs.declared.commands.Refusal.TheVariants.{NoJob, NoFile, Duplicate, JobsFull, RowsFull, Idle, Stale, Unchanged}
 use Rattle.fts_wire.specs.Response.{has_phrase, has_methods}
 use Rattle.fts_wire.specs.declared.response.Reply.{Reply}
 use Rattle.fts_jobdoc.specs.declared.fault.DocFault.{DocFault}
-use Rattle.fts_top.specs.Replies.{reply_to_answer, reply_to_refusal, reply_by, id_of_new, reply_to_document, document_of, no_memory, not_built, IsOrNoMemory, Answers}
+use Rattle.fts_top.specs.Replies.{reply_to_refusal, reply_by, id_of_new, reply_to_document, document_of, no_memory, not_built, IsOrNoMemory, Answers}
 
 -- a response can be written of a reply
 pub record CanBeSent (reply : Reply) : Type 0 where
   pub phrase : IsTrue (has_phrase reply.status)
   pub methods : IsTrue (has_methods reply.status reply.allow)
-
--- of the reply to an answer of the machine
-sent_answer : (answer : Answer) → CanBeSent (reply_to_answer answer)
-sent_answer (Restarted n) = record { phrase = refl; methods = refl }
-sent_answer (Submitted job id) = record { phrase = refl; methods = refl }
-sent_answer (Cancelled n) = record { phrase = refl; methods = refl }
-sent_answer (PrioritySet n) = record { phrase = refl; methods = refl }
-sent_answer (Claimed n m) = record { phrase = refl; methods = refl }
-sent_answer (Reported n s) = record { phrase = refl; methods = refl }
 
 -- of the reply to a refusal of the machine
 sent_refusal : (id : ℕ) (refusal : Refusal) → CanBeSent (reply_to_refusal id refusal)
@@ -41,7 +30,7 @@ sent_refusal id (Unchanged n) = record { phrase = refl; methods = refl }
 
 -- of the reply to what comes of a submission
 sent_by : (id : ℕ) (outcome : Outcomes) → CanBeSent (reply_by id outcome)
-sent_by id (Ok done) = sent_answer done.1
+sent_by id (Ok done) = record { phrase = refl; methods = refl }
 sent_by id (Err refusal) = sent_refusal id refusal
 
 -- of the reply to a document

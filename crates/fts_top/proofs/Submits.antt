@@ -10,20 +10,14 @@ use Rattle.fts_tables.specs.History.{tables_after, tables_from}
 use Rattle.fts_tables.specs.declared.limits.TheConstants.{MAX_JOBS, MAX_ROWS}
 use Rattle.fts_tables.specs.declared.commands.Command.TheVariants.{Submit}
 use Rattle.fts_tables.specs.declared.commands.Answer.{Answer}
-use Rattle.fts_tables.specs.declared.commands.Answer.TheVariants.{Submitted}
 use Rattle.fts_tables.specs.declared.commands.Refusal.{Refusal}
 use Rattle.fts_tables.specs.declared.commands.Refusal.TheVariants.{Duplicate, JobsFull, RowsFull}
 use Rattle.fts_desk.specs.Prepared.{IsPrepared}
 use Rattle.fts_desk.specs.declared.desk.DeskFault.TheVariants.{Rule}
 use Rattle.fts_wire.specs.declared.response.Allow.TheVariants.{None as NoAllow}
 use Rattle.fts_jobdoc.specs.declared.fault.DocFault.{DocFault}
-use Rattle.fts_top.specs.Replies.{accepted_body, reply_by, reply_to_refusal, entries_by, id_of_new, no_memory, IsOrNoMemory, RefusesSubmission, AnswersDocument}
+use Rattle.fts_top.specs.Replies.{accepted_body, reply_by, reply_to_refusal, entries_by, id_of_new, IsOrNoMemory, RefusesSubmission, AnswersDocument}
 use Rattle.fts_wire.specs.declared.response.Reply.{Reply}
-
--- the answer of an outcome, or a given one where it is a refusal
-answer_or : Outcomes → Answer → Answer
-answer_or (Ok done) answer = done.1
-answer_or (Err refusal) answer = answer
 
 -- the settings of an outcome's tables, or given ones where it is a refusal
 settings_or : Outcomes → Option SettingsData → Option SettingsData
@@ -77,22 +71,13 @@ pub settings_stay : (tables : Tables) (now : ℕ) (job : JobData) (after : Table
 unfolding settings_or
 settings_stay tables now job after answer e = sym (ap (λ o. settings_or o tables.settings) ((of_submission tables now job).accepts (after, answer) e))
 
--- it is answered with the next number and its id
-submitted_answer : (tables : Tables) (now : ℕ) (job : JobData) (after : Tables) (answer : Answer) → step tables (Submit now job) ≡ Ok (after, answer)
-    → answer ≡ Submitted (length tables.jobs + 1) (id_of_new tables job)
-unfolding answer_or
-submitted_answer tables now job after answer e = sym (ap (λ o. answer_or o answer) ((of_submission tables now job).accepts (after, answer) e))
-
 -- a submission that was accepted is answered with its id, and its entry makes the new tables
 pub accepted_answers : (tables : Tables) (now : ℕ) (job : JobData) (after : Tables) (answer : Answer) (body : List ℕ)
     → step tables (Submit now job) ≡ Ok (after, answer) → body ≡ accepted_body (id_of_new tables job)
     → AnswersDocument tables now (Ok job) (record { status = 200; allow = NoAllow; body = body }) after
 accepted_answers tables now job after answer body e b =
-    let same = submitted_answer tables now job after answer e in
-    let id = id_of_new tables job in
     inr (
-      ap (λ (xs : List ℕ). record { status = 200; allow = NoAllow; body = xs }) b
-          ∙ sym (ap (λ o. reply_by id o) e ∙ ap (λ x. reply_by id (Ok (after, x))) same),
+      ap (λ (xs : List ℕ). record { status = 200; allow = NoAllow; body = xs }) b ∙ sym (ap (λ o. reply_by (id_of_new tables job) o) e),
       sym (ap (λ o. tables_from tables (entries_by o (Submit now job))) e ∙ ap (λ o. tables_after tables o) e),
     )
 

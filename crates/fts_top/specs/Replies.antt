@@ -1,18 +1,16 @@
 -- What a request is answered over tables, and the entry that it adds to their list. Bodies are JSON, compact, with keys in byte order.
-use Rattle.std.specs.Prelude.{◌≡◌, ◌⊎◌, ℕ, ◌+◌, List, [], ◌∷◌, ◌++◌, length, codes, decimal, unwrap_or, Result, Ok, Err}
+use Rattle.std.specs.Prelude.{◌≡◌, ◌⊎◌, ℕ, List, [], ◌∷◌, ◌++◌, codes, decimal, unwrap_or, Result, Ok, Err}
 use Rattle.std.specs.Int.{to_be_bytes, w128}
 use Rattle.uuid.specs.Text.{hyphenated_text, lower}
 use Rattle.fts_tables.specs.SettingsData.{SettingsData}
 use Rattle.fts_tables.specs.JobData.{JobData}
 use Rattle.fts_tables.specs.Tables.{Tables}
-use Rattle.fts_tables.specs.Moves.{standard_id}
+use Rattle.fts_tables.specs.Moves.{job_of_new}
 use Rattle.fts_tables.specs.Step.{Outcomes, step}
 use Rattle.fts_tables.specs.History.{tables_from}
 use Rattle.fts_tables.specs.declared.commands.Entry.{Entry}
 use Rattle.fts_tables.specs.declared.commands.Command.{Command}
 use Rattle.fts_tables.specs.declared.commands.Command.TheVariants.{Submit}
-use Rattle.fts_tables.specs.declared.commands.Answer.{Answer}
-use Rattle.fts_tables.specs.declared.commands.Answer.TheVariants.{Restarted, Submitted, Cancelled, PrioritySet, Claimed, Reported}
 use Rattle.fts_tables.specs.declared.commands.Refusal.{Refusal}
 use Rattle.fts_tables.specs.declared.commands.Refusal.TheVariants.{NoJob, NoFile, Duplicate, JobsFull, RowsFull, Idle, Stale, Unchanged}
 use Rattle.fts_wire.specs.declared.response.Allow.TheVariants.{None as NoAllow}
@@ -70,16 +68,7 @@ rows_full = refusal_of (codes "rows full") 36 507
 abbrev pub no_memory : Reply
 no_memory = record { status = 500; allow = NoAllow; body = [] }
 
--- the reply to what the machine answers to a submission; it answers nothing else to one
-abbrev pub reply_to_answer : Answer → Reply
-reply_to_answer (Submitted job id) = accepted id
-reply_to_answer (Restarted rows) = not_built
-reply_to_answer (Cancelled job) = not_built
-reply_to_answer (PrioritySet job) = not_built
-reply_to_answer (Claimed file attempt) = not_built
-reply_to_answer (Reported file state) = not_built
-
--- the reply to a refused submission that asked for an id; the machine refuses one for these three causes alone
+-- the reply to a refused submission for a job of this id; the machine refuses one for these three causes alone
 abbrev pub reply_to_refusal : ℕ → Refusal → Reply
 reply_to_refusal id (Duplicate job) = duplicate id
 reply_to_refusal id (JobsFull jobs) = jobs_full
@@ -101,14 +90,14 @@ RefusesSubmission Idle = ⊥
 RefusesSubmission (Stale state attempt) = ⊥
 RefusesSubmission (Unchanged job) = ⊥
 
--- the reply to what comes of a submission that asked for an id
+-- the reply to what comes of a submission for a job of this id
 abbrev pub reply_by : ℕ → Outcomes → Reply
-reply_by id (Ok done) = reply_to_answer done.1
+reply_by id (Ok done) = accepted id
 reply_by id (Err refusal) = reply_to_refusal id refusal
 
--- the id that a new job has or would have: the given one, or the standard one of the next number
+-- the id that the machine gives a new job: the one that it asks for, or the standard one of the next number
 abbrev pub id_of_new : Tables → JobData → ℕ
-id_of_new tables job = unwrap_or job.id (standard_id (length tables.jobs + 1))
+id_of_new tables job = (job_of_new tables tables.moment job).id
 
 -- the entry of a command, where the machine accepts it
 abbrev pub entries_by : Outcomes → Command → List Entry

@@ -1,7 +1,7 @@
 //! The answer to one request: its reply, and what it adds to the tables.
 //! Order: the body is read under the settings in force, the desk makes room or refuses, the reply's body is made, and only then the submission
 //! is committed. So no reply of 500 follows an accepted submission (`Answers`).
-ghost use Rattle.std.specs.Prelude.{◌≡◌, ◌⊎◌, ◌+◌, ◌<◌, ◌≤◌, IsSome};
+ghost use Rattle.std.specs.Prelude.{◌≡◌, ◌≢◌, ◌⊎◌, ◌+◌, ◌<◌, ◌≤◌, IsSome};
 ghost use Rattle.fts_top.specs.Replies.{Answers, AnswersDocument, IsOrNoMemory, RefusesSubmission, document_of, id_of_new, reply_to_refusal};
 
 use crate::reply::{duplicate_reply, make_accepted_body, no_memory_reply, refusal_reply};
@@ -11,13 +11,14 @@ use fts_tables::{Command, Memory, NewJob, Refusal};
 use fts_wire::{Allow, Reply};
 use std::alloc::Global;
 
-/// Answers a request with this body at a moment. There are settings in force, and they stay.
+/// Answers a request with this body at a moment. There are settings in force, and they stay. Whatever a document asks for is built.
 pub fn answer(alloc: Global, desk: &mut Desk, body: &[u8], now: u64) -> Reply
     requires few { desk.old.commands < 4294967295 }
     requires settings { IsSome desk.old.tables.settings }
     ensures answers { Answers desk.old.tables now body.now result desk.new.tables }
     ensures settings { desk.new.tables.settings ≡ desk.old.tables.settings }
     ensures commands { desk.new.commands ≤ desk.old.commands + 1 }
+    ensures built { result.status ≢ 501 }
 {
     match read_document(alloc, desk, body) {
         Ok(job) => submit(alloc, desk, now, job),

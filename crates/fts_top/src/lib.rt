@@ -7,9 +7,9 @@
 mod answer;
 mod ends;
 mod notes;
+mod reading;
 mod reply;
 mod session;
-mod reading;
 #[cfg(test)]
 mod tests;
 mod top;

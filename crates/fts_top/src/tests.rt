@@ -8,6 +8,9 @@ use fts_wire::{MemorySink, MemorySource, Source, SourceFailed};
 use std::alloc::Global;
 use std::test::Fail;
 
+/// Where inputs are cut in two, and 0 for a byte at a time: within and at the end of each line of a head of 43 bytes and of a body of 93.
+const CUTS: [usize; 12] = [0, 1, 19, 20, 21, 40, 41, 42, 43, 90, 135, 136];
+
 /// The settings of a stand with two storages.
 const STAND: &str =
     "vo = \"demo\"\nworkers = 2\n[[storage]]\nurl = \"https://a.example\"\n[[storage]]\nurl = \"https://b.example\"\n";
@@ -241,11 +244,7 @@ fn outside_with(alloc: Global, input: Pieces, write: u32, note: u32) -> Result<M
 }
 
 /// A run of these words.
-fn run_words(
-    alloc: Global,
-    words: &[&str],
-    outside: &mut Meets,
-) -> Result<Ending, Fail> {
+fn run_words(alloc: Global, words: &[&str], outside: &mut Meets) -> Result<Ending, Fail> {
     let mut owned = Vec::new(alloc);
     for word in words {
         owned.push(String::from_str(alloc, word)?)?;
@@ -257,7 +256,7 @@ fn run_words(
 fn requests_are_answered_byte_for_byte_however_they_are_cut(rt: HostRuntime) -> Result<(), Fail> {
     for row in &ROWS {
         let bytes = row.input.as_bytes();
-        for cut in 0..bytes.len() + 1 {
+        for cut in CUTS {
             let case = row.case;
             let piece = if cut == 0 { 1 } else { bytes.len() };
             let input = source_of(rt.alloc(), bytes, cut.max(1), piece, false)?;
@@ -332,23 +331,80 @@ fn a_request_whose_response_could_not_be_written_is_the_last_one(
     Ok(())
 }
 
+/// Settings that stop a run, the numbers of the read of them and of the note that fail, and what is seen.
+struct Stop {
+    case: &'static str,
+    text: &'static str,
+    read: u32,
+    note: u32,
+    status: u8,
+    noted: &'static str,
+}
+
+const NO_WORKERS: &str = "vo = \"demo\"\nworkers = 0\n[[storage]]\nurl = \"https://a.example\"\n";
+
+const STOPS: [Stop; 6] = [
+    Stop {
+        case: "no workers",
+        text: NO_WORKERS,
+        read: 0,
+        note: 0,
+        status: 3,
+        noted: "fts: settings rule 11\n",
+    },
+    Stop {
+        case: "no TOML",
+        text: "[",
+        read: 0,
+        note: 0,
+        status: 3,
+        noted: "fts: settings rule 1\n",
+    },
+    Stop {
+        case: "a first read that fails",
+        text: STAND,
+        read: 1,
+        note: 0,
+        status: 8,
+        noted: "fts: settings could not be read\n",
+    },
+    Stop {
+        case: "a later read that fails",
+        text: STAND,
+        read: 2,
+        note: 0,
+        status: 8,
+        noted: "fts: settings could not be read\n",
+    },
+    Stop {
+        case: "a note that fails",
+        text: NO_WORKERS,
+        read: 0,
+        note: 1,
+        status: 3,
+        noted: "",
+    },
+    Stop {
+        case: "a note that fails later",
+        text: NO_WORKERS,
+        read: 0,
+        note: 2,
+        status: 3,
+        noted: "fts: settings rule ",
+    },
+];
+
 #[test]
 fn settings_that_cannot_be_had_stop_the_run(rt: HostRuntime) -> Result<(), Fail> {
-    let no_workers = "vo = \"demo\"\nworkers = 0\n[[storage]]\nurl = \"https://a.example\"\n";
-    for (case, text, read, note, status, noted) in [
-        ("no workers", no_workers, 0, 0, 3, "fts: settings rule 11\n"),
-        ("no TOML", "[", 0, 0, 3, "fts: settings rule 1\n"),
-        ("a first read that fails", STAND, 1, 0, 8, "fts: settings could not be read\n"),
-        ("a later read that fails", STAND, 2, 0, 8, "fts: settings could not be read\n"),
-        ("a note that fails", no_workers, 0, 1, 3, ""),
-        ("a note that fails later", no_workers, 0, 2, 3, "fts: settings rule "),
-    ] {
+    for stop in &STOPS {
+        let case = stop.case;
         let input = source_of(rt.alloc(), ROWS[0].input.as_bytes(), 1, 1, false)?;
-        let mut outside = outside_under(rt.alloc(), (text, read), input, 0, note)?;
+        let settings = (stop.text, stop.read);
+        let mut outside = outside_under(rt.alloc(), settings, input, 0, stop.note)?;
         let ending = run_words(rt.alloc(), &["session"], &mut outside)?;
-        assert_eq!(rt; ending.status, status, "{case}");
+        assert_eq!(rt; ending.status, stop.status, "{case}");
         assert_eq!(rt; outside.output.bytes(), b"".as_slice(), "{case}");
-        assert_eq!(rt; outside.notes.bytes(), noted.as_bytes(), "{case}");
+        assert_eq!(rt; outside.notes.bytes(), stop.noted.as_bytes(), "{case}");
     }
     Ok(())
 }

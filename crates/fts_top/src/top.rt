@@ -11,8 +11,8 @@ ghost use Rattle.fts_top.specs.Run.{is_session, status_of, tally_of, no_tally, r
 
 use crate::ends::RunEnd;
 use crate::notes::write_note;
-use crate::session::run_session;
 use crate::reading::load_settings;
+use crate::session::run_session;
 use crate::words::is_session_command;
 use fts_desk::Desk;
 use fts_tables::{Clock, Command, FileRow, FileState, Memory, Settings};
