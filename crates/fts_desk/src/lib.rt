@@ -21,8 +21,6 @@ mod search;
 mod slots_left;
 mod sources;
 mod submit;
-#[cfg(test)]
-mod tests;
 mod waking;
 
 pub use desk::{Desk, DeskFault, Plan};

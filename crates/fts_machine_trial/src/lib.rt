@@ -25,6 +25,8 @@ mod restarts;
 mod submissions;
 #[cfg(test)]
 mod tests;
+#[cfg(test)]
+mod worked;
 
 pub use machine::PlainMachine;
 pub use plain::{

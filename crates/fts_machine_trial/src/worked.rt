@@ -3,7 +3,7 @@
 ghost use Rattle.std.specs.Prelude.{◌≡◌, ◌≤◌, ◌∷◌, [], ◌++◌, false, None, IfOk, OnOk, codes};
 ghost use Rattle.fts_tables.specs.JobData.{IsNewJob};
 
-use crate::{Desk, DeskFault};
+use fts_desk::{Desk, DeskFault};
 use fts_tables::{
     Answer, Command, Endpoint, EndpointName, FileState, Items, JobKind, JobState, Label, LinkAt,
     Memory, NewFile, NewJob, Outcome, PathKey, Place, Refusal, Settings, Strategy, Weight,
