@@ -1,5 +1,5 @@
 //! What no clause says: that commands are done with ample memory, and that the machine does what operators expect, by rows written by hand.
-//! Each test is a list of commands with the answers that are wanted, and the states that are left.
+//! Each test takes a desk with one job through a list of steps, each with the answer that is wanted, and compares the states that are left.
 ghost use Rattle.std.specs.Prelude.{◌≡◌, ◌≤◌, ◌∷◌, [], ◌++◌, false, None, IfOk, OnOk, codes};
 ghost use Rattle.fts_tables.specs.JobData.{IsNewJob};
 
@@ -20,37 +20,45 @@ const VERIFIED: Outcome = Outcome::Verified {
     digest: [7; 16],
 };
 
-/// A command of numbers alone.
+/// A job to begin with.
 #[derive(Clone, Copy)]
-enum Say {
-    Claim {
-        now: u64,
-        word: u64,
-    },
-    Report {
-        now: u64,
-        file: u32,
-        attempt: u32,
-        outcome: Outcome,
-    },
-    CancelJob {
-        job: u32,
-    },
-    CancelFile {
-        job: u32,
-        file: u32,
-    },
-    SetPriority {
-        job: u32,
-        priority: u32,
-    },
+enum Kind {
+    OneFile,
+    ThreeFiles,
+    FiveFiles,
+    TwoToOneEndpoint,
+    ThreeHops,
+    ThreeSources(Strategy),
 }
 
-/// A command, and what it is to be answered.
+/// A command, with the answer that is wanted.
 #[derive(Clone, Copy)]
-struct Row {
-    say: Say,
-    want: Result<Answer, Refusal>,
+enum Step {
+    Claims {
+        now: u64,
+        word: u64,
+        file: u32,
+        attempt: u32,
+    },
+    FindsNone {
+        now: u64,
+    },
+    Reports {
+        file: u32,
+        outcome: Outcome,
+        state: FileState,
+    },
+    Cancels,
+    CancelsNothing,
+    CancelsFile {
+        file: u32,
+    },
+    Changes {
+        priority: u32,
+    },
+    ChangesNothing {
+        priority: u32,
+    },
 }
 
 fn add<T: Drop>(items: &mut Items<T>, item: T) -> Result<(), Memory>
@@ -295,65 +303,52 @@ fn three_hops(alloc: Global) -> Result<NewJob, Memory> {
     Ok(job(JobKind::Multihop, Strategy::Auto, files))
 }
 
-/// The command that is said.
-fn command_of(say: Say) -> Command {
-    match say {
-        Say::Claim { now, word } => Command::Claim { now, word },
-        Say::Report {
-            now,
-            file,
-            attempt,
-            outcome,
-        } => Command::Report {
-            now,
-            file,
-            attempt,
-            outcome,
-        },
-        Say::CancelJob { job } => Command::CancelJob { now: 0, job },
-        Say::CancelFile { job, file } => Command::CancelFile { now: 0, job, file },
-        Say::SetPriority { job, priority } => Command::SetPriority {
-            now: 0,
-            job,
-            priority,
-        },
+/// The job of a kind.
+fn job_of(alloc: Global, kind: Kind) -> Result<NewJob, Memory> {
+    match kind {
+        Kind::OneFile => one_file(alloc, None, "f9"),
+        Kind::ThreeFiles => three_files(alloc),
+        Kind::FiveFiles => five_files(alloc),
+        Kind::TwoToOneEndpoint => two_to_one_endpoint(alloc),
+        Kind::ThreeHops => three_hops(alloc),
+        Kind::ThreeSources(strategy) => three_sources(alloc, strategy),
     }
 }
 
-/// A claim at a moment that takes a file, at its first attempt or a later one.
-fn claim(now: u64, file: u32, attempt: u32) -> Row {
-    Row {
-        say: Say::Claim { now, word: 0 },
-        want: Ok(Answer::Claimed { file, attempt }),
-    }
-}
-
-/// A claim at a moment that takes nothing.
-fn idle(now: u64) -> Row {
-    Row {
-        say: Say::Claim { now, word: 0 },
-        want: Err(Refusal::Idle),
-    }
-}
-
-/// A report of a file's first attempt, and the state that it leaves.
-fn report(file: u32, outcome: Outcome, state: FileState) -> Row {
-    Row {
-        say: Say::Report {
+/// The command of a step, for the first job. A report is of the first attempt, at moment 1000.
+fn command_of(step: Step) -> Command {
+    match step {
+        Step::Claims { now, word, .. } => Command::Claim { now, word },
+        Step::FindsNone { now } => Command::Claim { now, word: 0 },
+        Step::Reports { file, outcome, .. } => Command::Report {
             now: 1000,
             file,
             attempt: 1,
             outcome,
         },
-        want: Ok(Answer::Reported { file, state }),
+        Step::Cancels | Step::CancelsNothing => Command::CancelJob { now: 0, job: 1 },
+        Step::CancelsFile { file } => Command::CancelFile {
+            now: 0,
+            job: 1,
+            file,
+        },
+        Step::Changes { priority } | Step::ChangesNothing { priority } => Command::SetPriority {
+            now: 0,
+            job: 1,
+            priority,
+        },
     }
 }
 
-/// A cancellation of the first job.
-fn cancel(want: Result<Answer, Refusal>) -> Row {
-    Row {
-        say: Say::CancelJob { job: 1 },
-        want,
+/// The answer that is wanted of a step.
+fn answer_wanted(step: Step) -> Result<Answer, Refusal> {
+    match step {
+        Step::Claims { file, attempt, .. } => Ok(Answer::Claimed { file, attempt }),
+        Step::FindsNone { .. } => Err(Refusal::Idle),
+        Step::Reports { file, state, .. } => Ok(Answer::Reported { file, state }),
+        Step::Cancels | Step::CancelsFile { .. } => Ok(Answer::Cancelled { job: 1 }),
+        Step::Changes { .. } => Ok(Answer::PrioritySet { job: 1 }),
+        Step::CancelsNothing | Step::ChangesNothing { .. } => Err(Refusal::Unchanged { job: 1 }),
     }
 }
 
@@ -381,12 +376,29 @@ fn give(
     Ok(())
 }
 
-/// Gives a desk commands in order, each with the answer that is wanted.
-fn drive(rt: &impl Abort, desk: &mut Desk, rows: &[Row]) -> Result<(), Memory> {
-    for row in rows {
-        give(rt, desk, command_of(row.say), row.want)?;
+/// Takes a desk through steps in order, and compares the states that they leave of the first job's rows and of itself.
+fn drive(
+    rt: &impl Abort,
+    desk: &mut Desk,
+    steps: &[Step],
+    states: &[FileState],
+    state: JobState,
+) -> Result<(), Memory> {
+    for step in steps {
+        give(rt, desk, command_of(*step), answer_wanted(*step))?;
     }
+    states_are(rt, desk, 1, states);
+    assert_eq!(rt; desk.state(1), Some(state));
     Ok(())
+}
+
+/// Compares the states of a job's rows.
+fn states_are(rt: &impl Abort, desk: &Desk, job: u32, states: &[FileState]) {
+    let rows = desk.job_rows(job);
+    for (row, want) in rows.iter().zip(states) {
+        assert_eq!(rt; row.state, *want, "file {}", row.id);
+    }
+    assert_eq!(rt; rows.len(), states.len());
 }
 
 /// Starts a desk again, with links of this limit.
@@ -406,70 +418,116 @@ fn restart(
 }
 
 /// Submits a job without an id, which is the desk's job of this number.
-fn submit(rt: &impl Abort, desk: &mut Desk, job: NewJob, number: u32) -> Result<(), Memory> {
+fn submit(
+    rt: &impl Abort,
+    alloc: Global,
+    desk: &mut Desk,
+    kind: Kind,
+    number: u32,
+) -> Result<(), Memory> {
+    let job = job_of(alloc, kind)?;
     let id = FIRST_ID - 1 + u128::from(number);
     let submit = Command::Submit { now: 0, job };
     give(rt, desk, submit, Ok(Answer::Submitted { job: number, id }))
 }
 
 /// A desk that was started with links of this limit, and has a job.
-fn desk_of(rt: &impl Abort, alloc: Global, max_active: u32, job: NewJob) -> Result<Desk, Memory>
+fn desk_of(rt: &impl Abort, alloc: Global, max_active: u32, kind: Kind) -> Result<Desk, Memory>
     requires some { 1 ≤ max_active }
     requires few { max_active ≤ 1000 }
 {
     let mut desk = Desk::empty(alloc);
     restart(rt, alloc, &mut desk, max_active, 0)?;
-    submit(rt, &mut desk, job, 1)?;
+    submit(rt, alloc, &mut desk, kind, 1)?;
     Ok(desk)
-}
-
-/// Compares the states of a desk's rows.
-fn states_are(rt: &impl Abort, desk: &Desk, states: &[FileState]) {
-    for (row, want) in desk.rows().iter().zip(states) {
-        assert_eq!(rt; row.state, *want, "file {}", row.id);
-    }
-    assert_eq!(rt; desk.rows().len(), states.len());
 }
 
 #[test]
 fn a_link_carries_as_many_files_as_its_limit(rt: HostRuntime) -> Result<(), Fail> {
     use FileState::{Active, Finished, Submitted};
-    let mut desk = desk_of(&rt, rt.alloc(), 2, five_files(rt.alloc())?)?;
-    let first = [claim(0, 1, 1), claim(0, 2, 1), idle(0)];
-    drive(&rt, &mut desk, &first)?;
-    states_are(
-        &rt,
-        &desk,
-        &[Active, Active, Submitted, Submitted, Submitted],
-    );
+    let mut desk = desk_of(&rt, rt.alloc(), 2, Kind::FiveFiles)?;
+    let first = [
+        Step::Claims {
+            now: 0,
+            word: 0,
+            file: 1,
+            attempt: 1,
+        },
+        Step::Claims {
+            now: 0,
+            word: 0,
+            file: 2,
+            attempt: 1,
+        },
+        Step::FindsNone { now: 0 },
+    ];
+    let states = [Active, Active, Submitted, Submitted, Submitted];
+    drive(&rt, &mut desk, &first, &states, JobState::Active)?;
     assert_eq!(rt; desk.held(LinkAt { source: 0, dest: 1 }), 2);
     let second = [
-        report(1, VERIFIED, Finished),
-        report(2, VERIFIED, Finished),
-        claim(0, 3, 1),
-        claim(0, 4, 1),
+        Step::Reports {
+            file: 1,
+            outcome: VERIFIED,
+            state: Finished,
+        },
+        Step::Reports {
+            file: 2,
+            outcome: VERIFIED,
+            state: Finished,
+        },
+        Step::Claims {
+            now: 0,
+            word: 0,
+            file: 3,
+            attempt: 1,
+        },
+        Step::Claims {
+            now: 0,
+            word: 0,
+            file: 4,
+            attempt: 1,
+        },
     ];
-    drive(&rt, &mut desk, &second)?;
-    states_are(&rt, &desk, &[Finished, Finished, Active, Active, Submitted]);
+    let states = [Finished, Finished, Active, Active, Submitted];
+    drive(&rt, &mut desk, &second, &states, JobState::Active)?;
     assert_eq!(rt; desk.commands(), 8);
     Ok(())
 }
 
 #[test]
 fn an_endpoint_takes_as_many_files_as_its_limit(rt: HostRuntime) -> Result<(), Fail> {
-    let mut desk = desk_of(&rt, rt.alloc(), 2, two_to_one_endpoint(rt.alloc())?)?;
-    drive(&rt, &mut desk, &[claim(0, 2, 1), idle(0)])?;
-    states_are(&rt, &desk, &[FileState::Submitted, FileState::Active]);
+    let mut desk = desk_of(&rt, rt.alloc(), 2, Kind::TwoToOneEndpoint)?;
+    let steps = [
+        Step::Claims {
+            now: 0,
+            word: 0,
+            file: 2,
+            attempt: 1,
+        },
+        Step::FindsNone { now: 0 },
+    ];
+    let states = [FileState::Submitted, FileState::Active];
+    drive(&rt, &mut desk, &steps, &states, JobState::Active)?;
     assert_eq!(rt; desk.held(LinkAt { source: 1, dest: 2 }), 0);
     Ok(())
 }
 
 #[test]
 fn a_word_draws_the_activity(rt: HostRuntime) -> Result<(), Fail> {
-    for (word, file) in [(69, 1), (70, 2), (90, 3)] {
-        let mut desk = desk_of(&rt, rt.alloc(), 2, three_files(rt.alloc())?)?;
-        let want = Ok(Answer::Claimed { file, attempt: 1 });
-        give(&rt, &mut desk, Command::Claim { now: 0, word }, want)?;
+    use FileState::{Active, Submitted};
+    for (word, file, states) in [
+        (69, 1, [Active, Submitted, Submitted]),
+        (70, 2, [Submitted, Active, Submitted]),
+        (90, 3, [Submitted, Submitted, Active]),
+    ] {
+        let mut desk = desk_of(&rt, rt.alloc(), 2, Kind::ThreeFiles)?;
+        let steps = [Step::Claims {
+            now: 0,
+            word,
+            file,
+            attempt: 1,
+        }];
+        drive(&rt, &mut desk, &steps, &states, JobState::Active)?;
     }
     Ok(())
 }
@@ -477,73 +535,134 @@ fn a_word_draws_the_activity(rt: HostRuntime) -> Result<(), Fail> {
 #[test]
 fn a_missing_source_is_followed_by_the_next(rt: HostRuntime) -> Result<(), Fail> {
     use FileState::{Failed, Finished, NotUsed};
-    let job = three_sources(rt.alloc(), Strategy::Orderly)?;
-    let mut desk = desk_of(&rt, rt.alloc(), 2, job)?;
-    let rows = [
-        claim(0, 1, 1),
-        report(1, Outcome::SourceMissing, Failed),
-        claim(0, 2, 1),
-        report(2, VERIFIED, Finished),
-        idle(0),
+    let kind = Kind::ThreeSources(Strategy::Orderly);
+    let mut desk = desk_of(&rt, rt.alloc(), 2, kind)?;
+    let steps = [
+        Step::Claims {
+            now: 0,
+            word: 0,
+            file: 1,
+            attempt: 1,
+        },
+        Step::Reports {
+            file: 1,
+            outcome: Outcome::SourceMissing,
+            state: Failed,
+        },
+        Step::Claims {
+            now: 0,
+            word: 0,
+            file: 2,
+            attempt: 1,
+        },
+        Step::Reports {
+            file: 2,
+            outcome: VERIFIED,
+            state: Finished,
+        },
+        Step::FindsNone { now: 0 },
     ];
-    drive(&rt, &mut desk, &rows)?;
-    states_are(&rt, &desk, &[Failed, Finished, NotUsed]);
-    assert_eq!(rt; desk.state(1), Some(JobState::Finished));
-    assert_eq!(rt; desk.job_rows(1).len(), 3);
+    let states = [Failed, Finished, NotUsed];
+    drive(&rt, &mut desk, &steps, &states, JobState::Finished)?;
     Ok(())
 }
 
 #[test]
 fn a_failed_hop_is_the_last(rt: HostRuntime) -> Result<(), Fail> {
     use FileState::{Failed, Finished, NotUsed};
-    let mut desk = desk_of(&rt, rt.alloc(), 2, three_hops(rt.alloc())?)?;
-    let rows = [
-        claim(0, 1, 1),
-        report(1, VERIFIED, Finished),
-        claim(0, 2, 1),
-        report(2, Outcome::DestinationExists, Failed),
-        idle(0),
+    let mut desk = desk_of(&rt, rt.alloc(), 2, Kind::ThreeHops)?;
+    let steps = [
+        Step::Claims {
+            now: 0,
+            word: 0,
+            file: 1,
+            attempt: 1,
+        },
+        Step::Reports {
+            file: 1,
+            outcome: VERIFIED,
+            state: Finished,
+        },
+        Step::Claims {
+            now: 0,
+            word: 0,
+            file: 2,
+            attempt: 1,
+        },
+        Step::Reports {
+            file: 2,
+            outcome: Outcome::DestinationExists,
+            state: Failed,
+        },
+        Step::FindsNone { now: 0 },
     ];
-    drive(&rt, &mut desk, &rows)?;
-    states_are(&rt, &desk, &[Finished, Failed, NotUsed]);
-    assert_eq!(rt; desk.state(1), Some(JobState::Failed));
+    let states = [Finished, Failed, NotUsed];
+    drive(&rt, &mut desk, &steps, &states, JobState::Failed)?;
     Ok(())
 }
 
 #[test]
 fn a_cancelled_copy_ends_by_its_report(rt: HostRuntime) -> Result<(), Fail> {
     use FileState::{Active, Canceled};
-    let mut desk = desk_of(&rt, rt.alloc(), 1, three_files(rt.alloc())?)?;
-    let unchanged = cancel(Err(Refusal::Unchanged { job: 1 }));
-    let first = [claim(0, 1, 1), cancel(Ok(Answer::Cancelled { job: 1 }))];
-    drive(&rt, &mut desk, &first)?;
-    states_are(&rt, &desk, &[Active, Canceled, Canceled]);
+    let mut desk = desk_of(&rt, rt.alloc(), 1, Kind::ThreeFiles)?;
+    let first = [
+        Step::Claims {
+            now: 0,
+            word: 0,
+            file: 1,
+            attempt: 1,
+        },
+        Step::Cancels,
+    ];
+    let states = [Active, Canceled, Canceled];
+    drive(&rt, &mut desk, &first, &states, JobState::Active)?;
     let asked = desk
         .rows()
         .iter()
         .any(|row| row.id == 1 && row.cancel_asked);
-    assert!(rt; asked, "the first is asked to end");
-    assert_eq!(rt; desk.state(1), Some(JobState::Active));
-    let second = [unchanged, report(1, VERIFIED, Canceled), unchanged];
-    drive(&rt, &mut desk, &second)?;
-    states_are(&rt, &desk, &[Canceled, Canceled, Canceled]);
-    assert_eq!(rt; desk.state(1), Some(JobState::Canceled));
+    assert!(rt; asked, "the copy is asked to end");
+    let second = [
+        Step::CancelsNothing,
+        Step::Reports {
+            file: 1,
+            outcome: VERIFIED,
+            state: Canceled,
+        },
+        Step::CancelsNothing,
+    ];
+    drive(&rt, &mut desk, &second, &[Canceled; 3], JobState::Canceled)?;
     Ok(())
 }
 
 #[test]
 fn a_failed_copy_waits_for_its_delay(rt: HostRuntime) -> Result<(), Fail> {
-    let mut desk = desk_of(&rt, rt.alloc(), 2, one_file(rt.alloc(), None, "f1")?)?;
-    let rows = [
-        claim(1000, 1, 1),
-        report(1, Outcome::StoreFailed, FileState::Submitted),
-        idle(1059),
-        claim(1060, 1, 2),
+    use FileState::{Active, Submitted};
+    let mut desk = desk_of(&rt, rt.alloc(), 2, Kind::OneFile)?;
+    let steps = [
+        Step::Claims {
+            now: 1000,
+            word: 0,
+            file: 1,
+            attempt: 1,
+        },
+        Step::Reports {
+            file: 1,
+            outcome: Outcome::StoreFailed,
+            state: Submitted,
+        },
+        Step::FindsNone { now: 1059 },
+        Step::Claims {
+            now: 1060,
+            word: 0,
+            file: 1,
+            attempt: 2,
+        },
     ];
-    drive(&rt, &mut desk, &rows)?;
-    let waited = desk.rows().iter().any(|row| row.not_before == 1060
-        && row.retries == 1
-        && row.attempt == 2);
+    drive(&rt, &mut desk, &steps, &[Active], JobState::Active)?;
+    let waited = desk
+        .rows()
+        .iter()
+        .any(|row| row.not_before == 1060 && row.retries == 1);
     assert!(rt; waited, "a minute behind the failure");
     Ok(())
 }
@@ -564,45 +683,57 @@ fn an_id_has_one_job(rt: HostRuntime) -> Result<(), Fail> {
 }
 
 #[test]
-fn a_job_has_another_priority_until_it_is_settled(rt: HostRuntime) -> Result<(), Fail> {
-    let mut desk = desk_of(&rt, rt.alloc(), 2, one_file(rt.alloc(), None, "f1")?)?;
-    let priority = Say::SetPriority {
-        job: 1,
-        priority: 5,
-    };
-    let file = Say::CancelFile { job: 1, file: 1 };
-    for (say, want) in [
-        (priority, Ok(Answer::PrioritySet { job: 1 })),
-        (file, Ok(Answer::Cancelled { job: 1 })),
-        (priority, Err(Refusal::Unchanged { job: 1 })),
-    ] {
-        give(&rt, &mut desk, command_of(say), want)?;
-    }
+fn a_settled_job_is_not_changed(rt: HostRuntime) -> Result<(), Fail> {
+    let mut desk = desk_of(&rt, rt.alloc(), 2, Kind::OneFile)?;
+    let steps = [
+        Step::Changes { priority: 5 },
+        Step::CancelsFile { file: 1 },
+        Step::ChangesNothing { priority: 4 },
+    ];
+    let states = [FileState::Canceled];
+    drive(&rt, &mut desk, &steps, &states, JobState::Canceled)?;
     Ok(())
 }
 
 #[test]
 fn a_restart_releases_what_was_copied(rt: HostRuntime) -> Result<(), Fail> {
-    let mut desk = desk_of(&rt, rt.alloc(), 4, five_files(rt.alloc())?)?;
-    drive(&rt, &mut desk, &[claim(0, 1, 1)])?;
+    use FileState::{Active, Submitted};
+    let mut desk = desk_of(&rt, rt.alloc(), 4, Kind::FiveFiles)?;
+    let states = [Active, Submitted, Submitted, Submitted, Submitted];
+    let first = [Step::Claims {
+        now: 0,
+        word: 0,
+        file: 1,
+        attempt: 1,
+    }];
+    drive(&rt, &mut desk, &first, &states, JobState::Active)?;
     restart(&rt, rt.alloc(), &mut desk, 1, 1)?;
-    states_are(&rt, &desk, &[FileState::Submitted; 5]);
-    assert!(rt; desk.settings().is_some(), "there are settings in force");
-    drive(&rt, &mut desk, &[claim(0, 1, 2), idle(0)])?;
+    assert!(rt; desk.settings().is_some(), "settings are in force");
+    drive(&rt, &mut desk, &[], &[Submitted; 5], JobState::Submitted)?;
+    let second = [
+        Step::Claims {
+            now: 0,
+            word: 0,
+            file: 1,
+            attempt: 2,
+        },
+        Step::FindsNone { now: 0 },
+    ];
+    drive(&rt, &mut desk, &second, &states, JobState::Active)?;
     Ok(())
 }
 
 #[test]
 fn the_source_with_the_least_to_do_comes_first(rt: HostRuntime) -> Result<(), Fail> {
     use FileState::{NotUsed, Submitted};
-    for (strategy, first, second) in [
-        (Strategy::Auto, NotUsed, Submitted),
-        (Strategy::Orderly, Submitted, NotUsed),
+    for (strategy, states) in [
+        (Strategy::Auto, [NotUsed, Submitted, NotUsed]),
+        (Strategy::Orderly, [Submitted, NotUsed, NotUsed]),
     ] {
-        let mut desk = desk_of(&rt, rt.alloc(), 2, one_file(rt.alloc(), None, "f1")?)?;
-        submit(&rt, &mut desk, one_file(rt.alloc(), None, "f2")?, 2)?;
-        submit(&rt, &mut desk, three_sources(rt.alloc(), strategy)?, 3)?;
-        states_are(&rt, &desk, &[Submitted, Submitted, first, second, NotUsed]);
+        let mut desk = desk_of(&rt, rt.alloc(), 2, Kind::OneFile)?;
+        submit(&rt, rt.alloc(), &mut desk, Kind::OneFile, 2)?;
+        submit(&rt, rt.alloc(), &mut desk, Kind::ThreeSources(strategy), 3)?;
+        states_are(&rt, &desk, 3, &states);
     }
     Ok(())
 }
