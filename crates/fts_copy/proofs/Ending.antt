@@ -1,12 +1,12 @@
 -- How a copy ends once its part is written.
-use Rattle.std.proofs.Common.{◌≡◌, ℕ, Bool, true, false, Option, Some, None, IsSome, Result, Ok, Err, List, length, refl, sym, ◌∙◌, ap, subst, cond, inl, inr}
-use Rattle.std.specs.Prelude.{◌⊎◌, if◌then◌else◌}
+use Rattle.std.proofs.Common.{◌≡◌, ℕ, Bool, true, false, Option, Some, None, IsSome, Ok, Err, List, length, refl, sym, ◌∙◌, ap, subst, inl, inr}
+use Rattle.std.specs.Prelude.{if◌then◌else◌}
 use Rattle.md5.specs.Md5.{md5}
 use Rattle.fts_tables.specs.declared.places.Place.{Place}
 use Rattle.fts_tables.specs.declared.rows.Outcome.{Outcome}
 use Rattle.fts_tables.specs.declared.rows.Outcome.TheVariants.{Verified, SourceMissing, DestinationExists, SourceSize, SourceDigest, ReadBackDiffers, StoreFailed, Stopped}
 use Rattle.fts_tables.specs.Places.{is_same_place}
-use Rattle.fts_store.specs.Store.{StoreState, IsTold, IsFaithful, Stays, Same, SameBut, SameButTwo, bytes_of, with_file, with_move}
+use Rattle.fts_store.specs.Store.{StoreState, IsTold, IsFaithful, Stays, Same, SameBut, SameButTwo, bytes_of, with_move}
 use Rattle.fts_copy.specs.Differences.{first_difference}
 use Rattle.fts_copy.specs.Copy.{Order, part_of, is_in_the_way, is_other_size, is_other_digest, read_back_of, copied_from, copied_of, faithful_of, verified_files, IsVerified, IsCopy}
 use Rattle.fts_copy.specs.Steps.{source_bytes, part_bytes, KnowsSource, IsLook, IsWritten, IsReadBack, IsPutInPlace}

@@ -1,5 +1,5 @@
 -- The part is compared with the source by pieces.
-use Rattle.std.proofs.Common.{◌≡◌, ℕ, ◌+◌, ◌<◌, ◌≤◌, Bool, true, false, Some, Result, Ok, Err, List, [], ◌++◌, length, take, drop, refl, sym, ◌∙◌, ap, subst, arith, tests}
+use Rattle.std.proofs.Common.{◌≡◌, ℕ, ◌+◌, ◌<◌, ◌≤◌, Bool, true, Some, Err, List, ◌++◌, length, take, sym, ◌∙◌, ap, subst, arith, tests}
 use Rattle.std.specs.Prelude.{min, nat_lt}
 use Rattle.std.proofs.Math.Seq.{take-add}
 use Rattle.std.proofs.lemmas.List.{length-take}
@@ -7,7 +7,7 @@ use Rattle.md5.specs.Md5.{Holds}
 use Rattle.md5.specs.declared.Md5.{Md5}
 use Rattle.fts_tables.specs.declared.rows.Outcome.{Outcome}
 use Rattle.fts_tables.specs.declared.rows.Outcome.TheVariants.{Verified, SourceMissing, DestinationExists, SourceSize, SourceDigest, ReadBackDiffers, StoreFailed, Stopped}
-use Rattle.fts_store.specs.Store.{StoreState, IsTold}
+use Rattle.fts_store.specs.Store.{StoreState}
 use Rattle.fts_copy.specs.Copy.{Order}
 use Rattle.fts_copy.specs.Differences.{first_difference}
 use Rattle.fts_copy.specs.Steps.{source_bytes, part_bytes, piece_at, KnowsSource, MatchesPiece, MatchesPieces, MatchedSoFar}

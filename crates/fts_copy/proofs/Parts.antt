@@ -1,10 +1,9 @@
 -- The path of a part is short, has good segments, and is no path of a file.
-use Rattle.std.proofs.Common.{◌≡◌, ℕ, ◌+◌, ◌<◌, ◌≤◌, ◌^◌, Bool, true, false, List, length, refl, sym, ◌∙◌, ap, subst, arith, rules}
-use Rattle.std.specs.Prelude.{◌&&◌, ◌||◌, not, bytes_eq, codes, decimal, nat_le, nat_eq, IsTrue}
-use Rattle.std.specs.List.{list_all, starts_with}
+use Rattle.std.proofs.Common.{◌≡◌, ℕ, ◌<◌, ◌≤◌, Bool, true, false, List, length, refl, subst, arith, rules}
+use Rattle.std.specs.Prelude.{◌&&◌, not, bytes_eq, decimal, nat_le, IsTrue}
+use Rattle.std.specs.List.{list_all}
 use Rattle.std.proofs.lemmas.Fmt.{length-decimal-le}
 use Rattle.std.proofs.lemmas.Slice.Eq.{bytes_eq-Decides}
-use Rattle.fts_tables.specs.declared.places.Place.{Place}
 use Rattle.fts_tables.specs.Names.{is_path_key, is_reserved, is_segment, segments, IsPathKey}
 use Rattle.fts_tables.specs.Places.{is_same_place, part_path}
 use Rattle.fts_copy.specs.Copy.{Order, IsOrder, HasSegments, part_of}

@@ -1,16 +1,15 @@
 -- The part grows by pieces of the source.
-use Rattle.std.proofs.Common.{◌≡◌, ℕ, ◌+◌, ◌-◌, ◌*◌, ◌<◌, ◌≤◌, false, Option, Some, None, IsSome, Result, Ok, Err, List, [], ◌++◌, length, take, drop, refl, sym, ◌∙◌, ap, subst, append_assoc, arith}
+use Rattle.std.proofs.Common.{◌≡◌, ℕ, ◌+◌, ◌-◌, ◌*◌, ◌<◌, ◌≤◌, false, Option, IsSome, Ok, List, [], ◌++◌, length, take, drop, sym, ◌∙◌, ap, subst, append_assoc, arith}
 use Rattle.std.specs.Prelude.{min}
 use Rattle.std.proofs.Math.Seq.{take-add}
 use Rattle.std.proofs.lemmas.List.{take_all, length-take, length-drop, append-nil}
 use Rattle.md5.specs.Md5.{md5, Holds}
 use Rattle.md5.specs.declared.Md5.{Md5}
 use Rattle.fts_tables.specs.declared.places.Place.{Place}
-use Rattle.fts_tables.specs.declared.rows.Outcome.{Outcome}
 use Rattle.fts_tables.specs.Places.{is_same_place}
-use Rattle.fts_store.specs.Store.{StoreState, IsTold, IsFaithful, Stays, SameBut, bytes_of}
+use Rattle.fts_store.specs.Store.{StoreState, IsFaithful, Stays, SameBut, bytes_of}
 use Rattle.fts_copy.specs.Copy.{Order, part_of}
-use Rattle.fts_copy.specs.Steps.{source_bytes, part_bytes, piece_at, KnowsSource, PutsPiece, PutSoFar, PutsPieces}
+use Rattle.fts_copy.specs.Steps.{source_bytes, part_bytes, piece_at, KnowsSource, PutsPiece, PutSoFar}
 
 -- no file but one changed, in two steps
 pub but_more : (at : Place) (one two three : Place → Option (List ℕ)) → SameBut at one two → SameBut at two three → SameBut at one three

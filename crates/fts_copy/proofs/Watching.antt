@@ -1,10 +1,8 @@
 -- What becomes of a watch and of a count over steps that follow each other.
-use Rattle.std.proofs.Common.{◌≡◌, ℕ, ◌+◌, ◌≤◌, Result, Ok, Err, OnOk, refl, sym, ◌∙◌, ap, subst, inl, inr, arith}
-use Rattle.std.specs.Prelude.{◌⊎◌, ◌<◌, min}
+use Rattle.std.proofs.Common.{◌≡◌, ℕ, ◌+◌, ◌≤◌, Result, Ok, Err, OnOk, refl, ◌∙◌, subst, inl, inr, arith}
 use Rattle.fts_tables.specs.declared.rows.Outcome.{Outcome}
-use Rattle.fts_tables.specs.declared.rows.Outcome.TheVariants.{Verified, SourceMissing, DestinationExists, SourceSize, SourceDigest, ReadBackDiffers, StoreFailed, Stopped}
 use Rattle.fts_store.specs.Store.{Rose, Stays}
-use Rattle.fts_copy.specs.Watch.{Counted, IsAsked, NoesAfter, NoesBy, Watched}
+use Rattle.fts_copy.specs.Watch.{IsAsked, NoesAfter, Watched}
 
 -- askings add up
 more_asked : {T : Type 0} (result : Result T Outcome) (one two a b c : ℕ) → IsAsked one a b → OnOk result (IsAsked two b c) → OnOk result (IsAsked (one + two) a c)

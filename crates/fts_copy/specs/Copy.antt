@@ -1,5 +1,5 @@
 -- What a copy of a file is: its outcome, and what each outcome leaves of the files. The digest is MD5 (RFC 1321).
-use Rattle.std.specs.Prelude.{◌≡◌, ◌⊎◌, ℕ, ◌==◌, ◌&&◌, not, Bool, true, false, if◌then◌else◌, Option, Some, None, is_some, Result, Ok, Err, List, length, bytes_eq, IsTrue}
+use Rattle.std.specs.Prelude.{◌≡◌, ◌⊎◌, ℕ, ◌==◌, ◌&&◌, not, Bool, false, if◌then◌else◌, Option, Some, None, is_some, Result, Ok, Err, List, length, bytes_eq, IsTrue}
 use Rattle.std.specs.List.{list_all}
 use Rattle.md5.specs.Md5.{md5}
 use Rattle.fts_tables.specs.declared.places.Place.{Place}

@@ -1,5 +1,5 @@
 -- What each step of a copy finds and does.
-use Rattle.std.specs.Prelude.{◌≡◌, ℕ, ◌+◌, ◌≤◌, Bool, true, false, Option, Some, None, IsSome, Result, Ok, Err, OnOk, IfOk, List, [], ◌++◌, length, take, drop}
+use Rattle.std.specs.Prelude.{◌≡◌, ℕ, ◌+◌, ◌≤◌, true, false, Some, None, IsSome, Result, Ok, Err, OnOk, IfOk, List, [], ◌++◌, length, take, drop}
 use Rattle.md5.specs.Md5.{md5, Holds}
 use Rattle.md5.specs.declared.Md5.{Md5}
 use Rattle.fts_tables.specs.declared.rows.Outcome.{Outcome}

@@ -1,6 +1,6 @@
 //! An order that was loaded: what is to be copied, with its names in room of their own.
 //! Contracts see it as `Order`. Keeps: both paths are those of files (`IsOrder`), so neither is the part's, and the part's is the file's own.
-ghost use Rattle.std.specs.Prelude.{◌≡◌, ◌≤◌, length, string_bytes};
+ghost use Rattle.std.specs.Prelude.{◌≡◌, ◌≤◌, length};
 
 use arrayvec::ArrayString;
 use fts_tables::limits::MAX_NAME_BYTES;

@@ -1,6 +1,6 @@
 //! Reads a piece of a file whole: a store may give fewer bytes at a time than were asked for.
 //! Keeps: the bytes at the front of the buffer are those of the file, and the store is as before.
-ghost use Rattle.std.specs.Prelude.{◌≡◌, ◌<◌, ◌≤◌, ◌+◌, nat_lt, length, take, drop, IfOk};
+ghost use Rattle.std.specs.Prelude.{◌≡◌, ◌<◌, ◌≤◌, ◌+◌, nat_lt, length, take, IfOk};
 ghost use Rattle.fts_store.specs.Store.{CountsFaults, IsTold, bytes_of, place_at};
 ghost use Rattle.fts_copy.specs.Steps.{ReadsMore, piece_at};
 

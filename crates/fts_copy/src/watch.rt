@@ -2,7 +2,7 @@
 //! nobody calls off.
 //! A watch counts its askings and its noes. What else is known of it later is its own relation (`later`), which holds from a watch to itself
 //! and passes on, so a copy can promise it of any watch.
-ghost use Rattle.std.specs.Prelude.{◌≡◌, ◌≤◌, ◌+◌, min, ℕ, false, IsTrue};
+ghost use Rattle.std.specs.Prelude.{◌≡◌, ◌≤◌, ℕ, false, IsTrue};
 ghost use Rattle.fts_store.specs.Store.{Rose};
 ghost use Rattle.fts_copy.specs.Watch.{asked_once};
 

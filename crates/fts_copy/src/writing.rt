@@ -1,6 +1,6 @@
 //! Writes the part: made from nothing, then piece by piece from the source, each of which goes into the digest.
 //! The watch is asked before each piece. No other file changes.
-ghost use Rattle.std.specs.Prelude.{◌≡◌, ◌<◌, ◌≤◌, ◌+◌, length, IfOk};
+ghost use Rattle.std.specs.Prelude.{◌<◌, ◌≤◌, ◌+◌, length, IfOk};
 ghost use Rattle.fts_store.specs.Store.{IsTold, SameBut, Stays};
 ghost use Rattle.fts_copy.specs.Copy.{part_of, IsApart};
 ghost use Rattle.fts_copy.specs.Steps.{IsBroken, IsWritten, PutsPiece, PutsPieces};

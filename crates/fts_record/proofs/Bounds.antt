@@ -1,5 +1,5 @@
 -- How many bytes a proper entry's spelling has at most: ten for each number, and so many for each text and list as their limits allow.
-use Rattle.std.proofs.Common.{◌≡◌, ℕ, zero, suc, ◌+◌, ◌*◌, ◌/◌, ◌%◌, ◌<◌, ◌≤◌, Bool, true, false, cond, ltb, leb, eqb, ◌&&◌, List, [], ◌∷◌, ◌++◌, length, Option, Some, None, refl, sym, ap, ◌∙◌, arith}
+use Rattle.std.proofs.Common.{◌≡◌, ℕ, zero, suc, ◌+◌, ◌*◌, ◌/◌, ◌%◌, ◌≤◌, Bool, true, false, ltb, eqb, List, [], ◌∷◌, ◌++◌, length, Option, Some, None, arith}
 use Rattle.std.specs.List.{flat_map, list_all}
 use Rattle.std.proofs.lemmas.Bool.{and_parts, cond_both, eqb-true}
 use Rattle.std.proofs.lemmas.List.{length-append}
@@ -19,7 +19,7 @@ use Rattle.fts_tables.specs.declared.rows.Outcome.TheVariants.{Verified, SourceM
 use Rattle.fts_tables.specs.declared.commands.Command.{Command}
 use Rattle.fts_tables.specs.declared.commands.Command.TheVariants.{Restart, Submit, CancelJob, CancelFile, SetPriority, Claim, Report}
 use Rattle.fts_tables.specs.declared.commands.Entry.{Entry}
-use Rattle.fts_record.specs.Spelling.{low_first, number_bytes, text_bytes, flag_bytes, option_bytes, digest_bytes, id_bytes, word_bytes, kind_bytes, strategy_bytes, list_bytes, endpoint_bytes, link_bytes, weight_bytes, settings_bytes, file_bytes, job_bytes, outcome_bytes, command_bytes, spelled}
+use Rattle.fts_record.specs.Spelling.{low_first, number_bytes, text_bytes, flag_bytes, option_bytes, digest_bytes, id_bytes, kind_bytes, strategy_bytes, list_bytes, endpoint_bytes, link_bytes, weight_bytes, settings_bytes, file_bytes, job_bytes, outcome_bytes, command_bytes, spelled}
 use Rattle.fts_record.specs.Proper.{is_digest, is_none_or, is_label_text, is_name_text, is_path_text, is_list, is_proper_endpoint, is_proper_link, is_proper_weight, has_proper_settings_fields, is_proper_settings, is_proper_file, has_proper_job_fields, is_proper_job, is_proper_outcome, is_proper_command, is_proper, IsProper}
 use Rattle.fts_record.proofs.NumberLaws.{within_parts}
 use Rattle.fts_record.proofs.EntryLaws.{label_short, name_short, path_short}

@@ -1,28 +1,24 @@
 -- Each reader reads what is spelled, and nothing else: texts, then endpoints, links, activities and files, settings and jobs, outcomes, commands, entries.
-use Rattle.std.proofs.Common.{◌≡◌, ℕ, zero, suc, ◌+◌, ◌-◌, ◌≤◌, Bool, true, false, cond, leb, eqb, ◌&&◌, List, [], ◌∷◌, ◌++◌, length, Option, Some, None, Result, Ok, Err, refl, sym, ap, subst, ◌∙◌, arith, inl, inr}
+use Rattle.std.proofs.Common.{◌≡◌, ℕ, ◌+◌, ◌-◌, ◌≤◌, Bool, true, leb, ◌&&◌, List, [], ◌∷◌, ◌++◌, length, Some, Result, Ok, Err, refl, sym, ap, ◌∙◌, arith, inl, inr}
 use Rattle.std.specs.Str.{is_utf8}
 use Rattle.std.proofs.lemmas.Bool.{and_parts, and_from, leb-true}
 use Rattle.std.proofs.lemmas.List.{append-nil}
 use Rattle.fts_tables.specs.Names.{is_endpoint_name, is_path_key}
-use Rattle.fts_tables.specs.SettingsData.{SettingsData, is_within, is_label, is_settings}
-use Rattle.fts_tables.specs.JobData.{JobData, is_new_job}
-use Rattle.fts_tables.specs.declared.settings.Endpoint.{Endpoint}
-use Rattle.fts_tables.specs.declared.settings.LinkRule.{LinkRule}
-use Rattle.fts_tables.specs.declared.settings.Weight.{Weight}
-use Rattle.fts_tables.specs.declared.rows.NewFile.{NewFile}
+use Rattle.fts_tables.specs.SettingsData.{is_within, is_label, is_settings}
+use Rattle.fts_tables.specs.JobData.{is_new_job}
 use Rattle.fts_tables.specs.declared.rows.Outcome.{Outcome}
 use Rattle.fts_tables.specs.declared.rows.Outcome.TheVariants.{Verified, SourceMissing, DestinationExists, SourceSize, SourceDigest, ReadBackDiffers, StoreFailed, Stopped}
 use Rattle.fts_tables.specs.declared.commands.Command.{Command}
 use Rattle.fts_tables.specs.declared.commands.Command.TheVariants.{Restart, Submit, CancelJob, CancelFile, SetPriority, Claim, Report}
 use Rattle.fts_tables.specs.declared.commands.Entry.{Entry}
-use Rattle.fts_record.specs.Spelling.{number_bytes, text_bytes, flag_bytes, option_bytes, digest_bytes, id_bytes, word_bytes, kind_bytes, strategy_bytes, list_bytes, endpoint_bytes, link_bytes, weight_bytes, settings_bytes, file_bytes, job_bytes, outcome_bytes, command_bytes, spelled}
-use Rattle.fts_record.specs.Fields.{is_u32, is_u64, text_of, flag_of, option_of, digest_of, id_of, word_of, kind_of, strategy_of}
-use Rattle.fts_record.specs.Proper.{is_u128, is_digest, is_none_or, is_label_text, is_name_text, is_path_text, is_list, is_proper_endpoint, is_proper_link, is_proper_weight, has_proper_settings_fields, is_proper_settings, is_proper_file, has_proper_job_fields, is_proper_job, is_proper_outcome, is_proper_command, is_proper, IsProper}
-use Rattle.fts_record.specs.Reading.{◌>>=◌, Read, made, ◌⊛◌, field, is_any, number_at, label_at, name_at, path_at, flag_at, wanted_at, asked_id_at, digest_at, word_at, kind_at, strategy_at, u32_at, u64_at, limit_at, list_at, ruled, endpoint_of, endpoint_at, link_of, link_at, weight_of, weight_at, settings_of, settings_fields_at, settings_at, file_of, file_at, job_of, job_fields_at, job_at, outcome_at, command_at, entry_from, entry_at, whole, entry_in, ok_of, read_of}
+use Rattle.fts_record.specs.Spelling.{number_bytes, text_bytes, flag_bytes, option_bytes, digest_bytes, id_bytes, word_bytes, kind_bytes, strategy_bytes, endpoint_bytes, link_bytes, weight_bytes, settings_bytes, file_bytes, job_bytes, outcome_bytes, command_bytes, spelled}
+use Rattle.fts_record.specs.Fields.{is_u32, is_u64, text_of}
+use Rattle.fts_record.specs.Proper.{is_u128, is_digest, is_none_or, is_label_text, is_name_text, is_path_text, is_proper_endpoint, is_proper_link, is_proper_weight, has_proper_settings_fields, is_proper_settings, is_proper_file, has_proper_job_fields, is_proper_job, is_proper_outcome, is_proper_command, is_proper, IsProper}
+use Rattle.fts_record.specs.Reading.{Read, field, is_any, label_at, name_at, path_at, flag_at, wanted_at, asked_id_at, digest_at, word_at, kind_at, strategy_at, u32_at, u64_at, limit_at, endpoint_of, endpoint_at, link_of, link_at, weight_of, weight_at, settings_of, settings_fields_at, settings_at, file_of, file_at, job_of, job_fields_at, job_at, outcome_at, command_at, entry_from, entry_at, whole, entry_in, ok_of, read_of}
 use Rattle.fts_record.specs.Laws.{AreBytes}
 use Rattle.fts_record.proofs.NumberLaws.{AreBytes-rest, within_parts, within_from}
-use Rattle.fts_record.proofs.Found.{Taken, Finds, chosen, is_text, text_found, flag_found, option_found, digest_found, id_found, word_found, kind_found, strategy_found}
-use Rattle.fts_record.proofs.Readers.{Reads, Reads-refit, field_reads, any_reads, number_reads, list_reads, ruled_reads, Makes, start, step, step_any, finish, behind_byte, done, ok_is, bind_ok}
+use Rattle.fts_record.proofs.Found.{Taken, chosen, is_text, text_found, flag_found, option_found, digest_found, id_found, word_found, kind_found, strategy_found}
+use Rattle.fts_record.proofs.Readers.{Reads, Reads-refit, field_reads, any_reads, number_reads, list_reads, ruled_reads, start, step, step_any, finish, behind_byte, ok_is}
 
 -- a text whose rule keeps it short is one
 text_reads : (rule : List ℕ → Bool) → ((text : List ℕ) → rule text ≡ true → length text ≤ 18446744073709551615) → Reads (field text_of rule) text_bytes (λ text. is_utf8 text && rule text)

@@ -1,5 +1,5 @@
 -- Reading items one after the other, as a loop does: what was read before, in front of what is still read, is the whole.
-use Rattle.std.proofs.Common.{◌≡◌, ℕ, suc, ◌-◌, ◌+◌, ◌≤◌, ◌<◌, List, [], ◌∷◌, ◌++◌, Result, Ok, Err, refl, sym, ap, ◌∙◌, append_assoc, arith}
+use Rattle.std.proofs.Common.{◌≡◌, ℕ, suc, ◌-◌, ◌+◌, ◌≤◌, ◌<◌, List, [], ◌∷◌, ◌++◌, Ok, Err, refl, sym, ap, ◌∙◌, append_assoc, arith}
 use Rattle.std.proofs.lemmas.List.{append-nil}
 use Rattle.fts_record.specs.declared.stops.Stop.{Stop}
 use Rattle.fts_record.specs.declared.stops.Stop.TheVariants.{OutOfMemory, Unspelled}

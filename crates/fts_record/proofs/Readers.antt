@@ -1,15 +1,14 @@
 -- Values of several fields: a reader that reads each proper value as it is spelled, and nothing else, is put together from those of its fields.
-use Rattle.std.proofs.Common.{◌≡◌, ℕ, zero, suc, ◌+◌, ◌≤◌, Bool, true, false, cond, leb, eqb, ◌&&◌, List, [], ◌∷◌, ◌++◌, length, Option, Some, None, Result, Ok, Err, refl, sym, ap, subst, ◌∙◌, append_assoc, arith, inl, inr}
+use Rattle.std.proofs.Common.{◌≡◌, ℕ, zero, suc, ◌+◌, ◌≤◌, Bool, true, false, cond, ◌&&◌, List, [], ◌∷◌, ◌++◌, length, Option, Some, None, Result, Ok, Err, refl, sym, ap, subst, ◌∙◌, append_assoc, arith}
 use Rattle.std.specs.List.{flat_map, list_all}
 use Rattle.std.proofs.lemmas.Bool.{and_parts, and_from}
-use Rattle.std.proofs.lemmas.List.Concat.{flat_map-cons}
 use Rattle.fts_tables.specs.SettingsData.{is_within}
 use Rattle.fts_record.specs.Spelling.{number_bytes, list_bytes}
-use Rattle.fts_record.specs.Fields.{kept, is_u64, number_of}
+use Rattle.fts_record.specs.Fields.{kept, is_u64}
 use Rattle.fts_record.specs.Proper.{is_list}
 use Rattle.fts_record.specs.Reading.{◌>>=◌, Read, made, ◌⊛◌, in_place, field, is_any, number_at, items_at, list_at, ruled}
 use Rattle.fts_record.specs.Laws.{AreBytes}
-use Rattle.fts_record.proofs.NumberLaws.{some_is, kept_some, kept_from, within_parts, within_from}
+use Rattle.fts_record.proofs.NumberLaws.{kept_some, kept_from, within_parts, within_from}
 use Rattle.fts_record.proofs.Found.{Taken, Finds, number_found}
 
 -- what was read, at a stated type

@@ -1,5 +1,5 @@
 -- Settings and jobs keep the rules of their types exactly where their fields are in range and they keep the rules that join several fields.
-use Rattle.std.proofs.Common.{◌≡◌, ℕ, ◌≤◌, Bool, true, false, cond, leb, ◌&&◌, List, [], ◌∷◌, length, Option, Result, Ok, Err, refl, sym, ap, ◌∙◌, arith, tests}
+use Rattle.std.proofs.Common.{◌≡◌, ℕ, Bool, true, false, cond, leb, ◌&&◌, List, [], ◌∷◌, length, Option, Ok, Err, refl, sym, ap, ◌∙◌, arith, tests}
 use Rattle.std.specs.List.{list_all}
 use Rattle.std.proofs.lemmas.Bool.{and_parts, and_from, le-leb}
 use Rattle.fts_tables.specs.SettingsData.{SettingsData, is_within, is_label, is_active_limit, has_distinct_endpoints, has_distinct_links, has_known_links, has_distinct_activities, has_default_activity, is_settings, IsSettings}
@@ -10,11 +10,11 @@ use Rattle.fts_tables.specs.declared.settings.Weight.{Weight}
 use Rattle.fts_tables.specs.declared.rows.NewFile.{NewFile}
 use Rattle.fts_tables.specs.declared.rows.JobKind.{JobKind}
 use Rattle.fts_tables.specs.declared.rows.Strategy.{Strategy}
-use Rattle.fts_record.specs.Proper.{is_u128, is_digest, is_none_or, is_label_text, is_proper_endpoint, is_proper_link, is_proper_weight, has_proper_settings_fields, is_proper_settings, is_proper_file, has_proper_job_fields, is_proper_job}
-use Rattle.fts_record.specs.Reading.{◌>>=◌, number_at, label_at, limit_at, list_at, ruled, endpoint_at, link_at, weight_at, settings_of, settings_fields_at, settings_at, kind_at, strategy_at, asked_id_at, flag_at, file_at, job_of, job_fields_at, job_at}
+use Rattle.fts_record.specs.Proper.{is_u128, is_none_or, is_label_text, is_proper_endpoint, is_proper_link, is_proper_weight, has_proper_settings_fields, is_proper_settings, is_proper_file, has_proper_job_fields, is_proper_job}
+use Rattle.fts_record.specs.Reading.{◌>>=◌, number_at, label_at, list_at, endpoint_at, link_at, weight_at, settings_of, settings_fields_at, settings_at, kind_at, strategy_at, asked_id_at, flag_at, file_at, job_of, job_fields_at, job_at}
 use Rattle.fts_record.specs.Rules.{are_lawful, is_lawful}
 use Rattle.fts_record.specs.Laws.{AreBytes}
-use Rattle.fts_record.proofs.Readers.{Reads, done}
+use Rattle.fts_record.proofs.Readers.{done}
 use Rattle.fts_record.proofs.EntryLaws.{settings_fields_reads, job_fields_reads}
 
 -- two tests that pass together are one

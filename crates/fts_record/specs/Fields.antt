@@ -1,6 +1,6 @@
 -- What stands at the front of bytes, for each kind of field: the value and the bytes behind it, or none.
 -- Numbers are read from their first byte on, whatever wrote them: a byte below 128 is the last, and no number ends in a zero that it could do without.
-use Rattle.std.specs.Prelude.{ℕ, zero, suc, ◌+◌, ◌*◌, ◌-◌, ◌^◌, Bool, true, false, ◌&&◌, nat_lt, nat_le, ◌==◌, if◌then◌else◌, List, [], ◌∷◌, length, take, drop, Option, Some, None}
+use Rattle.std.specs.Prelude.{ℕ, zero, suc, ◌+◌, ◌*◌, ◌-◌, ◌^◌, Bool, true, false, nat_lt, nat_le, ◌==◌, if◌then◌else◌, List, [], ◌∷◌, length, take, drop, Option, Some, None}
 use Rattle.std.specs.Int.{w64, from_be_bytes, from_le_bytes}
 use Rattle.std.specs.Str.{is_utf8}
 use Rattle.fts_tables.specs.SettingsData.{is_within}

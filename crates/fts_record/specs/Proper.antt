@@ -1,5 +1,5 @@
 -- Which entries are proper: each field is in its type and range, and settings and jobs keep the rules of their types. Each is a test that computes.
-use Rattle.std.specs.Prelude.{ℕ, ◌^◌, Bool, true, ◌&&◌, nat_lt, nat_eq, nat_le, ◌==◌, List, length, Option, Some, None, IsTrue}
+use Rattle.std.specs.Prelude.{ℕ, ◌^◌, Bool, true, ◌&&◌, nat_lt, ◌==◌, List, length, Option, Some, None, IsTrue}
 use Rattle.std.specs.List.{list_all}
 use Rattle.std.specs.Str.{is_utf8}
 use Rattle.fts_tables.specs.Names.{is_endpoint_name, is_path_key}

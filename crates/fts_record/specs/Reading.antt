@@ -1,11 +1,10 @@
 -- Reading from left to right: the value at the front and the bytes behind it, or how many bytes are left from the first field that is not spelled.
 -- A field that has the form but not the range counts as not spelled. Settings and a job whose fields are spelled, and that break a rule of their type, are not spelled from their first byte.
-use Rattle.std.specs.Prelude.{◌≡◌, ℕ, zero, suc, ◌+◌, ◌-◌, Bool, true, nat_le, ◌==◌, if◌then◌else◌, List, [], ◌∷◌, length, Option, Some, None, Result, Ok, Err, option_map}
+use Rattle.std.specs.Prelude.{ℕ, zero, suc, ◌-◌, Bool, true, ◌==◌, if◌then◌else◌, List, [], ◌∷◌, length, Option, Some, None, Result, Ok, Err}
 use Rattle.fts_tables.specs.Names.{is_endpoint_name, is_path_key}
 use Rattle.fts_tables.specs.SettingsData.{SettingsData, is_within, is_label, is_settings}
 use Rattle.fts_tables.specs.JobData.{JobData, is_new_job}
 use Rattle.fts_tables.specs.declared.limits.TheConstants.{MAX_WORKERS, MAX_ACTIVE, MAX_WEIGHT, MIN_PRIORITY, MAX_PRIORITY, MAX_RETRY, MAX_DELAY, MAX_SIZE, MAX_ENDPOINTS, MAX_LINKS, MAX_WEIGHTS, MAX_FILES}
-use Rattle.fts_tables.specs.declared.places.Place.{Place}
 use Rattle.fts_tables.specs.declared.settings.Endpoint.{Endpoint}
 use Rattle.fts_tables.specs.declared.settings.LinkRule.{LinkRule}
 use Rattle.fts_tables.specs.declared.settings.Weight.{Weight}

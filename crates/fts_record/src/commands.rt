@@ -1,7 +1,6 @@
 //! Commands: one byte for the kind, the moment, and the fields. Each reader of a kind goes on behind its byte.
 //! The bytes of the kinds stand in `specs/Spelling.antt` and have names here.
 ghost use Rattle.std.specs.Prelude.{◌≡◌, ◌++◌, ◌∷◌, OnOk, IsTrue};
-ghost use Rattle.fts_tables.specs.JobData.{is_priority};
 ghost use Rattle.fts_record.specs.Spelling.{number_bytes, outcome_bytes, command_bytes};
 ghost use Rattle.fts_record.specs.Fields.{is_u32, is_u64};
 ghost use Rattle.fts_record.specs.Proper.{is_proper_outcome, is_proper_command, has_priority};

@@ -1,6 +1,6 @@
 //! Lists: the number of their items, which is a field of its own and in a range, and then the items.
 //! One trait and one loop each way serve endpoints, links, activities and files. An item says by ghost members how it is spelled and read.
-ghost use Rattle.std.specs.Prelude.{◌≡◌, ◌++◌, ℕ, Bool, List, length, OnOk, IsTrue};
+ghost use Rattle.std.specs.Prelude.{◌≡◌, ◌++◌, ℕ, Bool, List, OnOk, IsTrue};
 ghost use Rattle.std.specs.List.{list_all};
 ghost use Rattle.fts_record.specs.Spelling.{list_bytes};
 ghost use Rattle.fts_record.specs.Reading.{Read, items_at as items_read, list_at as list_read};

@@ -1,7 +1,7 @@
 //! Numbers: unsigned LEB128 (DWARF 5, section 7.6) in the shortest form, seven bits a byte and the lowest first.
 //! No number ends in a zero byte that it could do without, and none passes 64 bits: what reads is one spelling, `number_bytes`.
 //! `number_of` and `write_number` know no range; `number_at` and `small_at` read a field that has one.
-ghost use Rattle.std.specs.Prelude.{◌≡◌, ◌<◌, ◌≤◌, ◌^◌, ◌++◌, ℕ, length, option_map, IfOk, OnOk, OnErr, IsTrue, take};
+ghost use Rattle.std.specs.Prelude.{◌≡◌, ◌<◌, ◌≤◌, ◌++◌, length, option_map, IfOk, OnOk, OnErr, IsTrue, take};
 ghost use Rattle.fts_record.specs.Spelling.{number_bytes};
 ghost use Rattle.fts_record.specs.Fields.{kept, is_u32, is_u64, number_within, number_of as number_found};
 ghost use Rattle.fts_record.specs.Reading.{number_at as number_read};

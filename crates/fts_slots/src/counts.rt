@@ -1,5 +1,5 @@
 //! Counts of a list of links, by walking it.
-ghost use Rattle.std.specs.Prelude.{◌≡◌, ◌≤◌, length, position as position_by};
+ghost use Rattle.std.specs.Prelude.{◌≡◌, position as position_by};
 ghost use Rattle.fts_slots.specs.SlotsData.{held_of, outbound_of, inbound_of, is_same_link as is_same};
 
 use fts_tables::LinkAt;

@@ -1,23 +1,6 @@
 //! The list of links held, with the limits that it keeps.
 //! Each count walks the list. `take` writes into room that `new` made: as many links as the outbound limits add up to, which no list within the limits passes.
-ghost use Rattle.std.specs.Prelude.{
-  ◌≡◌,
-  ◌≤◌,
-  ◌<◌,
-  ◌+◌,
-  ◌↔◌,
-  [],
-  ◌∷◌,
-  ◌++◌,
-  Bool,
-  length,
-  count_by,
-  if◌then◌else◌,
-  IsTrue,
-  IsFalse,
-  IfOk,
-  None,
-};
+ghost use Rattle.std.specs.Prelude.{◌≡◌, ◌<◌, ◌+◌, ◌↔◌, [], ◌∷◌, ◌++◌, Bool, length, count_by, if◌then◌else◌, IsTrue, IsFalse, IfOk, None};
 ghost use Rattle.fts_tables.specs.SettingsData.{is_listed};
 ghost use Rattle.fts_tables.specs.declared.settings.LinkAt.{LinkAt as Link};
 ghost use Rattle.fts_slots.specs.SlotsData.{

@@ -1,6 +1,5 @@
 //! Each call with ample memory, on settings of one endpoint written by hand.
 ghost use Rattle.std.specs.Prelude.{◌≡◌, ◌∷◌, [], ◌++◌, codes, IfOk, OnOk};
-ghost use Rattle.fts_tables.specs.SettingsData.{default_activity};
 
 use crate::Slots;
 use fts_tables::{Endpoint, EndpointName, Items, Label, LinkAt, Memory, Settings, Weight};

@@ -1,6 +1,5 @@
-use Rattle.std.proofs.Common.{◌≡◌, Ok, Err, ap, sym, subst, rules}
+use Rattle.std.proofs.Common.{◌≡◌, Err, ap, sym, subst, rules}
 use Rattle.fts_tables.specs.declared.rows.Outcome.{Outcome}
-use Rattle.fts_store.specs.Store.{IsTold}
 use Rattle.fts_copy.specs.Copy.{IsCopy, ended}
 use Rattle.fts_copy.proofs.Ending.{Ready, make_ready, read_ends, put_ends, verified_ends}
 use Rattle.fts_copy.proofs.copy.attempt.Goals as goal

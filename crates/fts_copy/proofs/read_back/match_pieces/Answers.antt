@@ -1,6 +1,6 @@
 use Rattle.std.proofs.Common.{◌≡◌, ◌∙◌, ◌+◌, Ok, Err, sym, subst, arith, rules}
 use Rattle.fts_store.specs.Store.{StoreState, IsTold}
-use Rattle.fts_copy.specs.Steps.{MatchedSoFar, MatchesPiece, KnowsSource}
+use Rattle.fts_copy.specs.Steps.{MatchedSoFar, MatchesPiece}
 use Rattle.fts_copy.proofs.Putting.{piece_end, piece_at_start}
 use Rattle.fts_copy.proofs.Matching.{more_matched, matching_ends}
 use Rattle.fts_copy.proofs.Watching.{then_watched, again_watched}

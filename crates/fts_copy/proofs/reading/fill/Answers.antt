@@ -1,4 +1,4 @@
-use Rattle.std.proofs.Common.{◌≡◌, ◌∙◌, ◌+◌, arith}
+use Rattle.std.proofs.Common.{◌≡◌, ◌∙◌, arith}
 use Rattle.fts_store.specs.Store.{IsTold, bytes_of, place_at}
 use Rattle.fts_copy.proofs.Filling.{more_filled}
 use Rattle.fts_copy.proofs.reading.fill.Goals as goal

@@ -1,4 +1,4 @@
-use Rattle.std.proofs.Common.{◌≡◌, ◌≤◌, ◌-◌, length}
+use Rattle.std.proofs.Common.{◌≡◌, ◌≤◌, ◌-◌}
 use Rattle.fts_store.specs.Store.{IsTold, bytes_of, place_at}
 use Rattle.fts_copy.specs.Steps.{IsFilled}
 use Rattle.fts_copy.proofs.reading.fill.Given as goal

@@ -1,4 +1,4 @@
-use Rattle.std.proofs.Common.{◌≡◌, arith}
+use Rattle.std.proofs.Common.{arith}
 use Rattle.fts_store.specs.Store.{bytes_of, place_at}
 use Rattle.fts_copy.proofs.Filling.{longer_by}
 use Rattle.fts_copy.proofs.reading.is_longer.Goals as goal

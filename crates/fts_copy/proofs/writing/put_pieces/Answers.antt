@@ -1,4 +1,4 @@
-use Rattle.std.proofs.Common.{◌≡◌, ◌∙◌, ◌+◌, Ok, sym, subst, arith}
+use Rattle.std.proofs.Common.{◌∙◌, ◌+◌, Ok, sym, subst, arith}
 use Rattle.fts_store.specs.Store.{IsTold}
 use Rattle.fts_copy.specs.Copy.{part_of}
 use Rattle.fts_copy.specs.Steps.{PutSoFar, PutsPiece}

@@ -1,5 +1,5 @@
 -- Where a job that was read field by field keeps the joining rules, and where it breaks one.
-use Rattle.std.proofs.Common.{◌≡◌, true, false, List, ℕ, arith}
+use Rattle.std.proofs.Common.{◌≡◌, true, false, arith}
 use Rattle.fts_record.specs.Rules.{is_lawful}
 use Rattle.fts_record.specs.Laws.{AreBytes}
 use Rattle.fts_record.proofs.RuleLaws.{job_fields_are, job_fields_fit, job_kept, job_is_read, job_is_refused}

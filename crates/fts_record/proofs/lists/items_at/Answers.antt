@@ -1,5 +1,4 @@
 -- The loop that reads a list: where an item is not read, after each item, and at the end.
-use Rattle.std.proofs.Common.{◌≡◌, ◌++◌, ◌∷◌, []}
 use Rattle.std.proofs.lemmas.Result.{err_from_is_err_and}
 use Rattle.fts_record.specs.Reading.{items_at}
 use Rattle.fts_record.proofs.ListLoop.{goes_on, stops, is_done}

@@ -1,7 +1,5 @@
 -- Where settings that were read field by field keep the joining rules, and where they break one.
-use Rattle.std.proofs.Common.{◌≡◌, true, false, List, ℕ, arith}
-use Rattle.fts_tables.specs.SettingsData.{SettingsData}
-use Rattle.fts_record.specs.Reading.{settings_of, settings_fields_at}
+use Rattle.std.proofs.Common.{◌≡◌, true, false, arith}
 use Rattle.fts_record.specs.Rules.{are_lawful}
 use Rattle.fts_record.specs.Laws.{AreBytes}
 use Rattle.fts_record.proofs.RuleLaws.{settings_fields_are, settings_fields_fit, settings_kept, settings_are_read, settings_are_refused}

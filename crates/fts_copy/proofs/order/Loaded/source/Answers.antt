@@ -1,4 +1,3 @@
-use Rattle.std.proofs.Common.{◌≡◌}
 use Rattle.fts_copy.proofs.Parts.{source_apart, dest_apart}
 use Rattle.fts_copy.proofs.order.Loaded.source.Goals as goal
 
