@@ -36,7 +36,11 @@ pub fn measure<R: Clock + Print>(rt: &R, alloc: Global) -> Result<()> {
     let mut before = seconds_of(rt, alloc, 25)?;
     for files in [50, 100, 200] {
         let seconds = seconds_of(rt, alloc, files)?;
-        println!(rt; "{files} files: {:.2} ms, {:.2} times as long as half of them", seconds * 1000.0 / TURNS as f64, seconds / before)?;
+        println!(rt;
+            "{files} files: {:.2} ms, {:.2} times as long as half of them",
+            seconds * 1000.0 / TURNS as f64,
+            seconds / before
+        )?;
         before = seconds;
     }
     Ok(())

@@ -16,7 +16,9 @@ pub fn document(alloc: Global, files: u32) -> Result<String, AllocError> {
         if file > 0 {
             text.push_str(",")?;
         }
-        let entry = format!(in alloc; "{{\"sources\":[\"https://a.example/{file:06}/{filling}\"],\"destinations\":[\"https://b.example/{file:06}/{filling}\"]}}")?;
+        let entry = format!(in alloc;
+            "{{\"sources\":[\"https://a.example/{file:06}/{filling}\"],\"destinations\":[\"https://b.example/{file:06}/{filling}\"]}}"
+        )?;
         text.push_str(entry.as_str())?;
     }
     text.push_str("]}")?;
