@@ -113,7 +113,7 @@ settled_moved : (before after : FileRow) → IsMoved before after → IsTrue (is
 settled_moved before after moves settled = subst (λ (row : FileRow). is_settled row.state ≡ true) (sym (moves.settled settled)) settled
 
 -- a row that moved, and is woken in the same step, has moved
-moved_and_woken : (before after : FileRow) (is_chosen : Bool) (state : FileState) → after.state ≡ state → IsMoved before after
+pub moved_and_woken : (before after : FileRow) (is_chosen : Bool) (state : FileState) → after.state ≡ state → IsMoved before after
     → IsMoved before (if is_chosen then (if is_not_used state then submitted after else after) else after)
 moved_and_woken before after false state is moves = moves
 moved_and_woken before after true Submitted is moves = moves
