@@ -22,7 +22,7 @@ use Rattle.fts_tables.specs.declared.commands.Entry.{Entry}
 use Rattle.fts_tables.proofs.RowsBy.{found_before, found_next}
 use Rattle.fts_tables.proofs.StepRows.{AreAdded, IsStepBy, step_by, jobs_same}
 use Rattle.fts_tables.proofs.TracedRows.{IsUnfinished, IsTraced, traced_ties, traced_ids}
-use Rattle.fts_tables.proofs.NewRows.{found_fresh}
+use Rattle.fts_tables.proofs.NewRows.{found_made}
 use Rattle.fts_tables.proofs.StandingTables.{step_stands}
 
 -- an accepted step traces each row
@@ -45,17 +45,8 @@ origin_of tables command after id row by found =
         from_job : AreAdded tables command by.added → IsNewRow tables command row
         from_job (inl empty) = let clash : None ≡ Some row = sym (ap (λ rows. row_at rows id) empty) ∙ at in cc
         from_job (inr (now, job, told, is)) =
-            let fresh = found_fresh tables job id row (subst (λ rows. row_at rows id ≡ Some row) is at) in
-            record {
-              moment = now;
-              job = job;
-              submitted = told;
-              owner = fresh.owner;
-              state = fresh.state;
-              attempt = fresh.attempt;
-              retries = fresh.retries;
-              unasked = fresh.unasked;
-            }
+            let new = found_made tables job id row (subst (λ rows. row_at rows id ≡ Some row) is at) in
+            record { moment = now; job = job; submitted = told; file = new.file; place = new.place; made = new.made }
 
 -- a row that comes in with an accepted step
 pub step_begins : (tables : Tables) (command : Command) (id : ℕ) (row : FileRow) → IsStanding tables → IsAccepted (step tables command)
@@ -90,7 +81,7 @@ step_finishes tables command id row stands accepted found finished =
     by_origin : Origin tables command id row → IsFinishedAfter tables.rows command id row
     by_origin (inl (before, at, tied)) = by_trace before at tied.traced
     by_origin (inr (none, new)) =
-        let clash : true ≡ false = sym finished ∙ (ap is_finished new.state ∙ first_unfinished new.job.kind tables new.job row.id) in
+        let clash : true ≡ false = sym finished ∙ (ap (λ (other : FileRow). is_finished other.state) new.made ∙ first_unfinished new.job.kind tables new.job row.id) in
         cc
 
 -- an accepted step keeps the jobs

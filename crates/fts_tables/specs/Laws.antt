@@ -1,15 +1,16 @@
 -- The words of the laws: what holds of the tables, and of the files that are out, after every legal list of entries.
-use Rattle.std.specs.Prelude.{◌≡◌, ◌⊎◌, ℕ, ◌+◌, ◌≤◌, ◌==◌, Bool, false, ◌&&◌, if◌then◌else◌, List, [], ◌∷◌, ◌++◌, length, count_by, Option, Some, IsTrue}
+use Rattle.std.specs.Prelude.{◌≡◌, ◌⊎◌, ℕ, ◌+◌, ◌-◌, ◌≤◌, ◌==◌, Bool, false, ◌&&◌, if◌then◌else◌, List, [], ◌∷◌, ◌++◌, length, slice_get, count_by, Option, Some, IsTrue}
 use Rattle.std.specs.Option.{option_map_or}
 use Rattle.fts_tables.specs.JobData.{JobData}
 use Rattle.fts_tables.specs.Places.{is_same_place}
 use Rattle.fts_tables.specs.Tables.{Tables, AreWellFormed, is_active, is_settled, is_finished, MayBecome, job_at, row_at}
 use Rattle.fts_tables.specs.Limits.{held, out_of, into, link_limit, outbound_limit, inbound_limit}
 use Rattle.fts_tables.specs.Choice.{next_alternative}
-use Rattle.fts_tables.specs.Moves.{new_rows}
+use Rattle.fts_tables.specs.Moves.{new_row, new_rows}
 use Rattle.fts_tables.specs.Step.{with_priority, step}
 use Rattle.fts_tables.specs.History.{tables_of, IsAccepted}
 use Rattle.fts_tables.specs.declared.places.Place.{Place}
+use Rattle.fts_tables.specs.declared.rows.NewFile.{NewFile}
 use Rattle.fts_tables.specs.declared.rows.FileRow.{FileRow}
 use Rattle.fts_tables.specs.declared.rows.JobRow.{JobRow}
 use Rattle.fts_tables.specs.declared.rows.JobKind.{JobKind}
@@ -156,13 +157,11 @@ first_state Plain tables job id = Submitted
 first_state Multihop tables job id = waits_if (id == first_of_new tables)
 first_state Replica tables job id = waits_if (option_map_or (λ chosen. id == chosen.id) (chosen_of_new tables job) false)
 
--- a row came in with the job of a command: in the state that the job's kind gives it, never tried, and with no cancellation asked
+-- a row came in with the job of a command, of the file that stands at its place there: never tried, with no cancellation asked, in the state that the job's kind gives it
 pub record IsNewRow (tables : Tables) (command : Command) (row : FileRow) : Type 0 where
   pub moment : ℕ
   pub job : JobData
   pub submitted : command ≡ Submit moment job
-  pub owner : row.job ≡ length tables.jobs + 1
-  pub state : row.state ≡ first_state job.kind tables job row.id
-  pub attempt : row.attempt ≡ 0
-  pub retries : row.retries ≡ 0
-  pub unasked : row.cancel_asked ≡ false
+  pub file : NewFile
+  pub place : slice_get job.files (row.id - first_of_new tables) ≡ Some file
+  pub made : row ≡ new_row (length tables.jobs + 1) row.id (first_state job.kind tables job row.id) file
