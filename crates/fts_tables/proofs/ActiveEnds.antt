@@ -1,10 +1,10 @@
 -- What the limits say of each ACTIVE row; and that a claim takes a row that is not ACTIVE, and so not out.
-use Rattle.std.proofs.Common.{◌≡◌, ℕ, ◌+◌, ◌≤◌, Bool, true, false, cond, List, [], ◌∷◌, Option, Some, None, is_some, refl, ap, sym, ◌∙◌, arith, subst}
+use Rattle.std.proofs.Common.{◌≡◌, ℕ, ◌≤◌, Bool, true, false, cond, List, [], ◌∷◌, Option, Some, None, is_some, refl, ap, sym, ◌∙◌, arith, subst}
 use Rattle.std.specs.Prelude.{max, ◌&&◌, ◌==◌, bytes_eq, count_by, IsTrue}
 use Rattle.std.specs.Option.{option_map_or}
 use Rattle.std.proofs.lemmas.Bool.{and_from, eq-eqb}
 use Rattle.fts_tables.specs.Tables.{Tables, AreNumberedFrom, is_active, is_submitted, row_at}
-use Rattle.fts_tables.specs.Limits.{out_of, into, endpoint_at, outbound_limit, inbound_limit, has_known_ends}
+use Rattle.fts_tables.specs.Limits.{endpoint_at, has_known_ends}
 use Rattle.fts_tables.specs.Choice.{pick}
 use Rattle.fts_tables.specs.Step.{claim, step}
 use Rattle.fts_tables.specs.History.{claimed_file}
@@ -13,7 +13,7 @@ use Rattle.fts_tables.specs.declared.settings.Endpoint.{Endpoint}
 use Rattle.fts_tables.specs.declared.rows.FileRow.{FileRow}
 use Rattle.fts_tables.specs.declared.commands.Command.TheVariants.{Claim}
 use Rattle.fts_tables.proofs.Counts.{count_by-cons, count_by-same, only_numbered}
-use Rattle.fts_tables.proofs.PickedRows.{IsPicked, pick_is_picked}
+use Rattle.fts_tables.proofs.PickedRows.{pick_is_picked}
 use Rattle.fts_tables.proofs.KeptLaws.{Keeps}
 use Rattle.fts_tables.proofs.MovedRows.{Submitted-from_test}
 

@@ -1,5 +1,5 @@
 -- What any relation that each command's change of a row keeps says of all rows after an accepted step; and that jobs stay.
-use Rattle.std.proofs.Common.{◌≡◌, ℕ, suc, ◌+◌, Bool, true, false, cond, List, [], ◌∷◌, ◌++◌, length, map, Option, Some, None, Ok, Err, refl, ap, sym, ◌∙◌, subst, append-nil, inl, inr}
+use Rattle.std.proofs.Common.{◌≡◌, ℕ, ◌+◌, Bool, true, false, cond, List, [], ◌∷◌, ◌++◌, length, map, Option, Some, None, Err, refl, ap, sym, ◌∙◌, subst, append-nil, inl, inr}
 use Rattle.std.specs.Prelude.{◌⊎◌, max, not, ◌&&◌, ◌==◌, nat_lt, option_and_then, if◌then◌else◌}
 use Rattle.std.specs.List.{list_any}
 use Rattle.std.proofs.lemmas.Bool.{and_parts, eqb-true}

@@ -1,12 +1,12 @@
 -- Where FINISHED rows, jobs and new rows come from, and what copies are asked for: after a step of tables that stand, and after lists.
-use Rattle.std.proofs.Common.{◌≡◌, ℕ, zero, suc, Bool, true, false, cond, List, [], ◌∷◌, ◌++◌, length, replicate, map, Option, Some, None, refl, ap, sym, ◌∙◌, subst, inl, inr}
+use Rattle.std.proofs.Common.{◌≡◌, ℕ, zero, suc, Bool, true, false, cond, List, [], ◌∷◌, replicate, map, Option, Some, None, refl, ap, sym, ◌∙◌, subst, inl, inr}
 use Rattle.std.specs.Prelude.{◌⊎◌, ◌||◌, ◌==◌, IsTrue}
 use Rattle.std.specs.List.{list_any}
 use Rattle.std.specs.Option.{option_map_or}
-use Rattle.std.proofs.lemmas.Bool.{eqb-true, eq-eqb}
+use Rattle.std.proofs.lemmas.Bool.{eq-eqb}
 use Rattle.std.proofs.lemmas.Option.{same_Some}
 use Rattle.std.proofs.lemmas.List.Folds.{list_any-append}
-use Rattle.fts_tables.specs.Tables.{Tables, empty_tables, AreWellFormed, owners, is_finished, is_settled, job_at, row_at}
+use Rattle.fts_tables.specs.Tables.{Tables, AreWellFormed, owners, is_finished, is_settled, job_at, row_at}
 use Rattle.fts_tables.specs.Step.{with_priority, step}
 use Rattle.fts_tables.specs.History.{IsAccepted, tables_after, tables_from, IsLegalFrom}
 use Rattle.fts_tables.specs.JobData.{JobData}

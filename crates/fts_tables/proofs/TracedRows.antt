@@ -1,10 +1,9 @@
 -- How each command changes a row, as the laws of FINISHED rows and of what copies are asked for have to know it.
-use Rattle.std.proofs.Common.{◌≡◌, ℕ, ◌+◌, Bool, true, false, Some, refl, ap, sym, ◌∙◌, subst, inl, inr}
+use Rattle.std.proofs.Common.{◌≡◌, ℕ, ◌+◌, Bool, true, false, refl, ap, sym, ◌∙◌, inl, inr}
 use Rattle.std.specs.Prelude.{◌⊎◌, min, ◌||◌, ◌&&◌, ◌==◌, nat_lt, if◌then◌else◌}
-use Rattle.fts_tables.specs.Tables.{is_submitted, is_active, is_not_used, is_finished, is_settled}
-use Rattle.fts_tables.specs.Moves.{submitted, canceled, claimed, cancelled, is_retryable, reported, reported_failure, reported_without_cancel}
-use Rattle.fts_tables.specs.Step.{released}
-use Rattle.fts_tables.specs.Laws.{FileOfRow, file_of, IsMoved, IsFinishedBy}
+use Rattle.fts_tables.specs.Tables.{is_submitted, is_active, is_not_used, is_finished}
+use Rattle.fts_tables.specs.Moves.{submitted, canceled, claimed, is_retryable, reported_failure, reported_without_cancel}
+use Rattle.fts_tables.specs.Laws.{FileOfRow, IsMoved, IsFinishedBy}
 use Rattle.fts_tables.specs.declared.limits.TheConstants.{LAST_MOMENT}
 use Rattle.fts_tables.specs.declared.rows.FileRow.{FileRow}
 use Rattle.fts_tables.specs.declared.rows.JobRow.{JobRow}
@@ -15,7 +14,7 @@ use Rattle.fts_tables.specs.declared.rows.Outcome.TheVariants.{Verified, SourceM
 use Rattle.fts_tables.specs.declared.rows.Reason.TheVariants.{Ended}
 use Rattle.fts_tables.specs.declared.commands.Command.{Command}
 use Rattle.fts_tables.specs.declared.commands.Command.TheVariants.{Report}
-use Rattle.fts_tables.proofs.MovedRows.{woken, stays, cancel_moves, release_moves, claim_moves, moved_and_woken, Active-from_test}
+use Rattle.fts_tables.proofs.MovedRows.{stays, cancel_moves, release_moves, claim_moves, moved_and_woken, Active-from_test}
 use Rattle.fts_tables.proofs.ActiveRows.{report_ends}
 use Rattle.fts_tables.proofs.StepRows.{AreTies}
 

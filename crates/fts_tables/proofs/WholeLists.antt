@@ -1,5 +1,5 @@
 -- Lists in two parts; and the laws of a step, for the last entry of a list and for whole lists.
-use Rattle.std.proofs.Common.{◌≡◌, ℕ, false, List, [], ◌∷◌, ◌++◌, Some, None, refl, ap, sym, ◌∙◌, subst, inl, inr}
+use Rattle.std.proofs.Common.{◌≡◌, ℕ, false, List, [], ◌∷◌, ◌++◌, Some, None, refl, ap, sym, subst, inl, inr}
 use Rattle.std.specs.Prelude.{◌⊎◌, IsTrue}
 use Rattle.fts_tables.specs.Tables.{Tables, empty_tables, is_active, is_finished, row_at}
 use Rattle.fts_tables.specs.Step.{step}
