@@ -18,11 +18,13 @@ use Rattle.fts_tables.proofs.KeptLaws.{Keeps}
 use Rattle.fts_tables.proofs.MovedRows.{Submitted-from_test}
 
 -- a row that is found and passes a test is counted
-found_counts : (test : FileRow → Bool) (rows : List FileRow) (id : ℕ) (found : FileRow) → row_at rows id ≡ Some found → test found ≡ true → 1 ≤ count_by test rows
+found_counts : (test : FileRow → Bool) (rows : List FileRow) (id : ℕ) (found : FileRow) → row_at rows id ≡ Some found → test found ≡ true
+    → 1 ≤ count_by test rows
 found_counts test [] id found at passes = cc
 found_counts test (row ∷ rows) id found at passes = by_head (λ behind. found_counts test rows id found behind passes) (row.id == id) at
   where
-    by_head : (row_at rows id ≡ Some found → 1 ≤ count_by test rows) → (answer : Bool) → cond answer (Some row) (row_at rows id) ≡ Some found → 1 ≤ count_by test (row ∷ rows)
+    by_head : (row_at rows id ≡ Some found → 1 ≤ count_by test rows) → (answer : Bool) → cond answer (Some row) (row_at rows id) ≡ Some found
+        → 1 ≤ count_by test (row ∷ rows)
     by_head behind true at_head =
         let here : found ≡ row = cc in
         let one : ◌≡◌ {A = ℕ} (cond (test row) 1 0) 1 = ap (λ answer. cond answer 1 0) (ap test (sym here) ∙ passes) in
@@ -40,7 +42,8 @@ limited_is_listed limit_of None some = absurd (omega (arith, some))
 limited_is_listed limit_of (Some endpoint) some = refl
 
 -- the endpoints of an ACTIVE row are listed
-pub active_known : (tables : Tables) → AreWithinLimits tables → (id : ℕ) (row : FileRow) → row_at tables.rows id ≡ Some row → IsTrue (is_active row.state) → IsTrue (has_known_ends tables.settings row)
+pub active_known : (tables : Tables) → AreWithinLimits tables → (id : ℕ) (row : FileRow) → row_at tables.rows id ≡ Some row → IsTrue (is_active row.state)
+    → IsTrue (has_known_ends tables.settings row)
 active_known tables limits id row found active =
     let out = found_counts (λ other. is_active other.state && bytes_eq other.source.endpoint row.source.endpoint) tables.rows id row found
     (and_from (is_active row.state) (bytes_eq row.source.endpoint row.source.endpoint) active (bytes_eq-itself row.source.endpoint)) in
@@ -60,10 +63,12 @@ pub record IsTaken (tables : Tables) (file : ℕ) : Type 0 where
   pub waits : is_submitted row.state ≡ true
 
 -- a claim takes a row that waits
-pub claim_takes : (tables : Tables) (now word file : ℕ) → AreNumberedFrom (λ row. row.id) 1 tables.rows → claimed_file (step tables (Claim now word)) ≡ Some file → IsTaken tables file
+pub claim_takes : (tables : Tables) (now word file : ℕ) → AreNumberedFrom (λ row. row.id) 1 tables.rows
+    → claimed_file (step tables (Claim now word)) ≡ Some file → IsTaken tables file
 claim_takes tables now word file numbered is = by_pick (pick tables (max now tables.moment) word) refl is
   where
-    by_pick : (picked : Option FileRow) → pick tables (max now tables.moment) word ≡ picked → claimed_file (claim tables (max now tables.moment) picked) ≡ Some file → IsTaken tables file
+    by_pick : (picked : Option FileRow) → pick tables (max now tables.moment) word ≡ picked
+        → claimed_file (claim tables (max now tables.moment) picked) ≡ Some file → IsTaken tables file
     by_pick None is_none claims = cc
     by_pick (Some row) is_row claims =
         let picked = pick_is_picked tables (max now tables.moment) word row numbered is_row in
@@ -78,7 +83,8 @@ and_turned false true = refl
 and_turned false false = refl
 
 -- a file that is claimed was not out
-pub claim_was_in : (tables : Tables) (files : List ℕ) (now word file : ℕ) → Keeps tables files → claimed_file (step tables (Claim now word)) ≡ Some file → count_by (λ other. other == file) files ≡ 0
+pub claim_was_in : (tables : Tables) (files : List ℕ) (now word file : ℕ) → Keeps tables files → claimed_file (step tables (Claim now word)) ≡ Some file
+    → count_by (λ other. other == file) files ≡ 0
 claim_was_in tables files now word file keeps is =
     let taken = claim_takes tables now word file keeps.formed.rows is in
     let off : is_active taken.row.state ≡ false = ap is_active (Submitted-from_test taken.row.state taken.waits) in

@@ -71,7 +71,8 @@ held_same rows after source dest same = same.counts (on source dest)
 
 -- limits stay where no count of the ACTIVE rows is greater
 pub limits_stay : (tables : Tables) (now : ℕ) (jobs : List JobRow) (rows : List FileRow) → AreWithinLimits tables
-    → ((test : ℕ → Place → Place → Bool) → count_by (acts test) rows ≤ count_by (acts test) tables.rows) → AreWithinLimits (record tables { moment = now; jobs = jobs; rows = rows })
+    → ((test : ℕ → Place → Place → Bool) → count_by (acts test) rows ≤ count_by (acts test) tables.rows)
+    → AreWithinLimits (record tables { moment = now; jobs = jobs; rows = rows })
 limits_stay tables now jobs rows limits less = record {
   links = λ source dest. at_most (less (on source dest)) (limits.links source dest);
   outbound = λ name. at_most (less (from_end name)) (limits.outbound name);
@@ -97,7 +98,8 @@ pub same_jobs : (jobs : List JobRow) → SameJobs jobs jobs
 same_jobs jobs = record { numbered = λ holds. holds; firsts = λ holds. holds; owners = refl }
 
 -- rows that moved one by one keep the form
-pub formed_after : (tables : Tables) (now : ℕ) (jobs : List JobRow) (rows : List FileRow) → AreWellFormed tables → Rowwise tables.rows rows → SameJobs tables.jobs jobs
+pub formed_after : (tables : Tables) (now : ℕ) (jobs : List JobRow) (rows : List FileRow) → AreWellFormed tables → Rowwise tables.rows rows
+    → SameJobs tables.jobs jobs
     → AreWellFormed (changed tables now jobs rows)
 formed_after tables now jobs rows formed moves same = record {
   jobs = same.numbered formed.jobs;
@@ -153,7 +155,8 @@ module _ (tables : Tables) (files : List ℕ) (now : ℕ) (row : FileRow) (keeps
       ∙ (ap (λ answer. cond (answer && test row.id row.source row.dest) 1 0 + others test) not_active ∙ omega arith)
 
   -- after it the row counts once where it passes the test
-  after_claim : (test : ℕ → Place → Place → Bool) → count_by (acts test) claimed_rows ≡ cond (test row.id row.source row.dest) 1 0 + count_by (acts test) tables.rows
+  after_claim : (test : ℕ → Place → Place → Bool) → count_by (acts test) claimed_rows
+      ≡ cond (test row.id row.source row.dest) 1 0 + count_by (acts test) tables.rows
   after_claim test = count_by-changed (λ other. other.id == row.id) claimed row tables.rows claim_only (acts test)
       ∙ ap (λ count. cond (test row.id row.source row.dest) 1 0 + count) (sym (before_claim test))
 
@@ -169,24 +172,29 @@ module _ (tables : Tables) (files : List ℕ) (now : ℕ) (row : FileRow) (keeps
       let last = count_by-cons test row.id [] in
       let kept = count_by-filter test (λ file. not (file == row.id)) files in
       let out = keeps.out (λ file. not (file == row.id) && test file) in
-      let swapped = count_by-same (λ other. is_active other.state && (not (other.id == row.id) && test other.id)) (λ other. not (other.id == row.id) && (is_active other.state && test other.id))
+      let swapped = count_by-same (λ other. is_active other.state && (not (other.id == row.id) && test other.id))
+      (λ other. not (other.id == row.id) && (is_active other.state && test other.id))
       (λ other. and_swap (is_active other.state) (not (other.id == row.id)) (test other.id)) tables.rows in
       omega (arith, joined, last, kept, out, swapped, after_claim (λ id from to. test id), before_claim (λ id from to. test id))
 
   -- a link of which one more is held stays within its limit
   claim_links : (source dest : List ℕ) → held claimed_rows source dest ≤ link_limit tables.settings source dest
-  claim_links source dest = within (on source dest row.id row.source row.dest) (held tables.rows source dest) (held claimed_rows source dest) (link_limit tables.settings source dest)
+  claim_links source dest =
+      within (on source dest row.id row.source row.dest) (held tables.rows source dest) (held claimed_rows source dest)
+      (link_limit tables.settings source dest)
       (after_claim (on source dest))
       (keeps.limits.links source dest)
       (λ is.
       let both = and_parts (bytes_eq row.source.endpoint source) (bytes_eq row.dest.endpoint dest) is in
       subst (λ name. held tables.rows source name < link_limit tables.settings source name) (bytes_eq-same row.dest.endpoint dest both.1)
-      (subst (λ name. held tables.rows name row.dest.endpoint < link_limit tables.settings name row.dest.endpoint) (bytes_eq-same row.source.endpoint source both.0) picked.link))
+      (subst (λ name. held tables.rows name row.dest.endpoint < link_limit tables.settings name row.dest.endpoint)
+      (bytes_eq-same row.source.endpoint source both.0) picked.link))
 
   -- after a claim all holds
   pub claim_keeps : Keeps (with_rows tables now claimed_rows) (without row.id files ++ row.id ∷ [])
   claim_keeps = record {
-    formed = formed_after tables now tables.jobs claimed_rows keeps.formed (moved_one 1 tables.rows row.id claimed row keeps.formed.rows picked.found (claim_moves row picked.waits)) (same_jobs tables.jobs);
+    formed = formed_after tables now tables.jobs claimed_rows keeps.formed
+        (moved_one 1 tables.rows row.id claimed row keeps.formed.rows picked.found (claim_moves row picked.waits)) (same_jobs tables.jobs);
     out = claim_out;
     limits = record {
       links = claim_links;
@@ -206,9 +214,11 @@ module _ (tables : Tables) (files : List ℕ) (now : ℕ) (row : FileRow) (keeps
       free count none = omega arith
 
   -- one more was claimed, and one more is held
-  claim_accounts : (source dest : List ℕ) → one_on_link source dest tables (Some row.id) + held tables.rows source dest ≡ held claimed_rows source dest + (0 + 0)
+  claim_accounts : (source dest : List ℕ) → one_on_link source dest tables (Some row.id) + held tables.rows source dest
+      ≡ held claimed_rows source dest + (0 + 0)
   claim_accounts source dest =
-      let here : is_file_on_link source dest tables row.id ≡ is_on_link source dest row = ap (λ found. option_map_or (is_on_link source dest) found false) picked.found in
+      let here : is_file_on_link source dest tables row.id ≡ is_on_link source dest row =
+      ap (λ found. option_map_or (is_on_link source dest) found false) picked.found in
       let one : one_on_link source dest tables (Some row.id) ≡ cond (is_on_link source dest row) 1 0 = ap (λ answer. cond answer 1 0) here in
       let after : held claimed_rows source dest ≡ cond (is_on_link source dest row) 1 0 + held tables.rows source dest = after_claim (on source dest) in
       omega (arith, one, after)
@@ -226,7 +236,8 @@ pub row_at-id : (rows : List FileRow) (id : ℕ) (found : FileRow) → row_at ro
 row_at-id [] id found is = cc
 row_at-id (row ∷ rows) id found is = by_head (λ behind. row_at-id rows id found behind) (row.id == id) refl is
   where
-    by_head : (row_at rows id ≡ Some found → found.id ≡ id) → (answer : Bool) → (row.id == id) ≡ answer → cond answer (Some row) (row_at rows id) ≡ Some found → found.id ≡ id
+    by_head : (row_at rows id ≡ Some found → found.id ≡ id) → (answer : Bool) → (row.id == id) ≡ answer
+        → cond answer (Some row) (row_at rows id) ≡ Some found → found.id ≡ id
     by_head behind true same is =
         let here : row ≡ found = cc in
         ap (λ (other : FileRow). other.id) (sym here) ∙ eqb-true row.id id same
@@ -259,7 +270,8 @@ module _ (tables : Tables) (files : List ℕ) (now : ℕ) (row : FileRow) (chang
   report_out test =
       let kept = count_by-filter test (λ file. not (file == row.id)) files in
       let out = keeps.out (λ file. not (file == row.id) && test file) in
-      let swapped = count_by-same (λ other. is_active other.state && (not (other.id == row.id) && test other.id)) (λ other. not (other.id == row.id) && (is_active other.state && test other.id))
+      let swapped = count_by-same (λ other. is_active other.state && (not (other.id == row.id) && test other.id))
+      (λ other. not (other.id == row.id) && (is_active other.state && test other.id))
       (λ other. and_swap (is_active other.state) (not (other.id == row.id)) (test other.id)) tables.rows in
       kept ∙ out ∙ (swapped ∙ sym (after_report (λ id from to. test id)))
 
@@ -290,11 +302,13 @@ module _ (tables : Tables) (files : List ℕ) (now : ℕ) (settings : SettingsDa
   pub restart_keeps : Keeps (tables_after tables (restart tables now settings)) []
   restart_keeps = record {
     formed =
-        let formed = formed_after tables now tables.jobs (map released tables.rows) keeps.formed (moved_by released release_moves tables.rows) (same_jobs tables.jobs) in
+        let formed = formed_after tables now tables.jobs (map released tables.rows) keeps.formed (moved_by released release_moves tables.rows)
+        (same_jobs tables.jobs) in
         record { jobs = formed.jobs; rows = formed.rows; follow = formed.follow };
     out = λ test. sym (none_active (λ id from to. test id) tables.rows);
     limits = record {
-      links = λ source dest. none_at_most (held (map released tables.rows) source dest) (link_limit (Some settings) source dest) (none_active (on source dest) tables.rows);
+      links = λ source dest. none_at_most (held (map released tables.rows) source dest) (link_limit (Some settings) source dest)
+          (none_active (on source dest) tables.rows);
       outbound = λ name. none_at_most (out_of (map released tables.rows) name) (outbound_limit (Some settings) name) (none_active (from_end name) tables.rows);
       inbound = λ name. none_at_most (into (map released tables.rows) name) (inbound_limit (Some settings) name) (none_active (to_end name) tables.rows);
       dests = λ dest. none_at_most (copies_onto (map released tables.rows) dest) 1 (none_active (to_place dest) tables.rows);
@@ -306,11 +320,14 @@ module _ (tables : Tables) (files : List ℕ) (now : ℕ) (settings : SettingsDa
   released_held source dest =
       keeps.out (is_file_on_link source dest tables)
       ∙ count_each_same (λ row. is_active row.state && is_file_on_link source dest tables row.id) (acts (on source dest)) tables.rows
-      (each_weaker (λ row. row_at tables.rows row.id ≡ Some row) (λ row. (is_active row.state && is_file_on_link source dest tables row.id) ≡ acts (on source dest) row)
-      (λ row found. ap (λ at. is_active row.state && option_map_or (is_on_link source dest) at false) found) tables.rows (each_found 1 tables.rows keeps.formed.rows))
+      (each_weaker (λ row. row_at tables.rows row.id ≡ Some row)
+      (λ row. (is_active row.state && is_file_on_link source dest tables row.id) ≡ acts (on source dest) row)
+      (λ row found. ap (λ at. is_active row.state && option_map_or (is_on_link source dest) at false) found) tables.rows
+      (each_found 1 tables.rows keeps.formed.rows))
 
   -- all that was held is released
-  restart_accounts : (source dest : List ℕ) → 0 + held tables.rows source dest ≡ held (map released tables.rows) source dest + (0 + count_by (is_file_on_link source dest tables) files)
+  restart_accounts : (source dest : List ℕ) → 0 + held tables.rows source dest
+      ≡ held (map released tables.rows) source dest + (0 + count_by (is_file_on_link source dest tables) files)
   restart_accounts source dest =
       let none : held (map released tables.rows) source dest ≡ 0 = none_active (on source dest) tables.rows in
       omega (arith, none, released_held source dest)
@@ -332,10 +349,12 @@ numbered_append number start next (item ∷ items) more is left right =
     (left.0, numbered_append number (suc start) next items more behind left.1 right)
 
 -- one job more, whose first row comes behind those of the others
-firsts_push : (next : ℕ) (jobs : List JobRow) (new : JobRow) → new.first ≡ next + length (owners jobs) → AreFirstsFrom next jobs → AreFirstsFrom next (jobs ++ new ∷ [])
+firsts_push : (next : ℕ) (jobs : List JobRow) (new : JobRow) → new.first ≡ next + length (owners jobs) → AreFirstsFrom next jobs
+    → AreFirstsFrom next (jobs ++ new ∷ [])
 firsts_push next [] new is firsts = (is ∙ omega arith, tt)
 firsts_push next (job ∷ jobs) new is firsts =
-    let whole : length (replicate job.count job.number ++ owners jobs) ≡ job.count + length (owners jobs) = length-append (replicate job.count job.number) (owners jobs)
+    let whole : length (replicate job.count job.number ++ owners jobs) ≡ job.count + length (owners jobs) =
+    length-append (replicate job.count job.number) (owners jobs)
     ∙ ap (λ count. count + length (owners jobs)) (length-replicate job.count job.number) in
     let behind : new.first ≡ (next + job.count) + length (owners jobs) = omega (arith, whole, is) in
     (firsts.0, firsts_push (next + job.count) jobs new behind firsts.1)

@@ -22,7 +22,8 @@ pub stays : (row : FileRow) → IsMoved row row
 stays row = record { file = refl; state = inl refl; settled = λ settled. refl }
 
 -- a row of a state that isn't settled owes nothing to the rule of settled ones
-pub unsettled : (before after : FileRow) (state : FileState) → before.state ≡ state → is_settled state ≡ false → IsTrue (is_settled before.state) → after ≡ before
+pub unsettled : (before after : FileRow) (state : FileState) → before.state ≡ state → is_settled state ≡ false → IsTrue (is_settled before.state)
+    → after ≡ before
 unsettled before after state from is_open settled =
     let clash : true ≡ false = sym settled ∙ (ap is_settled from ∙ is_open) in
     cc
@@ -59,11 +60,13 @@ rows_moved (row ∷ rows) [] moves = absurd moves
 rows_moved (row ∷ rows) (moved ∷ after) moves = (moves.0, rows_moved rows after moves.1)
 
 -- ids stay
-pub ids_stay : (start : ℕ) (rows after : List FileRow) → Rowwise rows after → AreNumberedFrom (λ row. row.id) start rows → AreNumberedFrom (λ row. row.id) start after
+pub ids_stay : (start : ℕ) (rows after : List FileRow) → Rowwise rows after → AreNumberedFrom (λ row. row.id) start rows
+    → AreNumberedFrom (λ row. row.id) start after
 ids_stay start [] [] moves numbered = tt
 ids_stay start [] (moved ∷ after) moves numbered = absurd moves
 ids_stay start (row ∷ rows) [] moves numbered = absurd moves
-ids_stay start (row ∷ rows) (moved ∷ after) moves numbered = (ap (λ (file : FileOfRow). file.id) moves.0.file ∙ numbered.0, ids_stay (suc start) rows after moves.1 numbered.1)
+ids_stay start (row ∷ rows) (moved ∷ after) moves numbered =
+    (ap (λ (file : FileOfRow). file.id) moves.0.file ∙ numbered.0, ids_stay (suc start) rows after moves.1 numbered.1)
 
 -- the rows' jobs stay
 pub jobs_stay : (rows after : List FileRow) → Rowwise rows after → map (λ row. row.job) after ≡ map (λ row. row.job) rows
@@ -71,28 +74,37 @@ jobs_stay [] [] moves = refl
 jobs_stay [] (moved ∷ after) moves = absurd moves
 jobs_stay (row ∷ rows) [] moves = absurd moves
 jobs_stay (row ∷ rows) (moved ∷ after) moves =
-    ap (λ number. number ∷ map (λ row. row.job) after) (ap (λ (file : FileOfRow). file.job) moves.0.file) ∙ ap (λ numbers. row.job ∷ numbers) (jobs_stay rows after moves.1)
+    ap (λ number. number ∷ map (λ row. row.job) after) (ap (λ (file : FileOfRow). file.job) moves.0.file)
+    ∙ ap (λ numbers. row.job ∷ numbers) (jobs_stay rows after moves.1)
 
 -- where no row has the id, none is changed
-pub change_none : (start : ℕ) (rows : List FileRow) (id : ℕ) (change : FileRow → FileRow) → AreNumberedFrom (λ row. row.id) start rows → id < start → change_row id change rows ≡ rows
+pub change_none : (start : ℕ) (rows : List FileRow) (id : ℕ) (change : FileRow → FileRow) → AreNumberedFrom (λ row. row.id) start rows → id < start
+    → change_row id change rows ≡ rows
 change_none start [] id change numbered lt = refl
 change_none start (row ∷ rows) id change numbered lt =
     let no : (row.id == id) ≡ false = ne_eqb row.id id (λ is. omega (arith, numbered.0)) in
     let below : id < suc start = omega arith in
-    ap (λ answer. cond answer (change row) row ∷ change_row id change rows) no ∙ ap (λ after. row ∷ after) (change_none (suc start) rows id change numbered.1 below)
+    ap (λ answer. cond answer (change row) row ∷ change_row id change rows) no
+    ∙ ap (λ after. row ∷ after) (change_none (suc start) rows id change numbered.1 below)
 
 -- the row with an id moves, and no other
-pub moved_one : (start : ℕ) (rows : List FileRow) (id : ℕ) (change : FileRow → FileRow) (found : FileRow) → AreNumberedFrom (λ row. row.id) start rows → row_at rows id ≡ Some found
+pub moved_one : (start : ℕ) (rows : List FileRow) (id : ℕ) (change : FileRow → FileRow) (found : FileRow) → AreNumberedFrom (λ row. row.id) start rows
+    → row_at rows id ≡ Some found
     → IsMoved found (change found) → Rowwise rows (change_row id change rows)
 moved_one start [] id change found numbered at moves = tt
-moved_one start (row ∷ rows) id change found numbered at moves = by_head (λ at_behind. moved_one (suc start) rows id change found numbered.1 at_behind moves) (row.id == id) refl at
+moved_one start (row ∷ rows) id change found numbered at moves =
+    by_head (λ at_behind. moved_one (suc start) rows id change found numbered.1 at_behind moves) (row.id == id) refl at
   where
-    by_head : (row_at rows id ≡ Some found → Rowwise rows (change_row id change rows)) → (answer : Bool) → (row.id == id) ≡ answer → cond answer (Some row) (row_at rows id) ≡ Some found
+    by_head : (row_at rows id ≡ Some found → Rowwise rows (change_row id change rows)) → (answer : Bool) → (row.id == id) ≡ answer
+        → cond answer (Some row) (row_at rows id) ≡ Some found
         → Rowwise (row ∷ rows) (cond answer (change row) row ∷ change_row id change rows)
     by_head behind true is at_head =
         let below : id < suc start = omega (arith, numbered.0, eqb-true row.id id is) in
-        let same : found ≡ row = cc in
-        (subst (λ other. IsMoved other (change other)) same moves, subst (λ after. Rowwise rows after) (sym (change_none (suc start) rows id change numbered.1 below)) (all_stay rows))
+        let same : found ≡ row = cc in (
+          subst (λ other. IsMoved other (change other)) same moves,
+          subst (λ after. Rowwise rows after)
+              (sym (change_none (suc start) rows id change numbered.1 below)) (all_stay rows),
+        )
     by_head behind false is at_behind = (stays row, behind at_behind)
 
 -- a row that waits for its turn in a job may have it
@@ -154,7 +166,8 @@ pub cancel_moves : (row : FileRow) → IsMoved row (cancelled row)
 cancel_moves row = cancelled_moves row row.state refl
 
 -- a row after a restart, by its state
-released_moves : (row : FileRow) (state : FileState) (asked : Bool) → row.state ≡ state → IsMoved row (if is_active state then (if asked then canceled row else submitted row) else row)
+released_moves : (row : FileRow) (state : FileState) (asked : Bool) → row.state ≡ state
+    → IsMoved row (if is_active state then (if asked then canceled row else submitted row) else row)
 released_moves row Active true is = moves_to row (canceled row) Active Canceled is refl refl refl refl
 released_moves row Active false is = moves_to row (submitted row) Active Submitted is refl refl refl refl
 released_moves row Submitted asked is = stays row

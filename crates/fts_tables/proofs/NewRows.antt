@@ -29,7 +29,8 @@ pub record IsMade (job first : ℕ) (files : List NewFile) (begins : FileState) 
   pub made : row ≡ new_row job row.id begins file
 
 -- a row of one of these files is one of them and another in front
-made_behind : (job id : ℕ) (state : FileState) (first : NewFile) (files : List NewFile) (row : FileRow) → IsMade job (suc id) files state row → IsMade job id (first ∷ files) state row
+made_behind : (job id : ℕ) (state : FileState) (first : NewFile) (files : List NewFile) (row : FileRow) → IsMade job (suc id) files state row
+    → IsMade job id (first ∷ files) state row
 made_behind job id state first files row made = record {
   above = omega (arith, made.above);
   file = made.file;
@@ -45,7 +46,8 @@ new_made : (job id : ℕ) (state : FileState) (files : List NewFile) → AllByRe
 new_made job id state [] = tt
 new_made job id state (file ∷ files) = (
   record { above = omega arith; file = file; place = ap (λ place. slice_get (file ∷ files) place) none; made = refl },
-  each_weaker (IsMade job (suc id) files state) (IsMade job id (file ∷ files) state) (made_behind job id state file files) (new_rows job (suc id) state files) (new_made job (suc id) state files),
+  each_weaker (IsMade job (suc id) files state) (IsMade job id (file ∷ files) state) (made_behind job id state file files)
+      (new_rows job (suc id) state files) (new_made job (suc id) state files),
 )
   where
     none : id - id ≡ 0
@@ -71,7 +73,8 @@ each_woken : (job first : ℕ) (files : List NewFile) (id : ℕ) (rows : List Fi
     → AllByRecursion (λ row. IsMade job first files (waits_if (row.id == id)) row) (map (woken id) rows)
 each_woken job first files id [] all = tt
 each_woken job first files id (row ∷ rows) all = (
-  subst (λ number. IsMade job first files (waits_if (number == id)) (woken id row)) (sym (woken_id id row)) (made_if job first files row (row.id == id) row.state refl all.0),
+  subst (λ number. IsMade job first files (waits_if (number == id)) (woken id row)) (sym (woken_id id row))
+      (made_if job first files row (row.id == id) row.state refl all.0),
   each_woken job first files id rows all.1,
 )
 
@@ -87,12 +90,15 @@ kind_made : (kind : JobKind) (tables : Tables) (job : JobData)
     (rows_of_kind kind tables.rows (length tables.jobs + 1) (first_of_new tables) job)
 kind_made Plain tables job = new_made (length tables.jobs + 1) (first_of_new tables) Submitted job.files
 kind_made Multihop tables job =
-    each_woken (length tables.jobs + 1) (first_of_new tables) job.files (first_of_new tables) _ (new_made (length tables.jobs + 1) (first_of_new tables) NotUsed job.files)
+    each_woken (length tables.jobs + 1) (first_of_new tables) job.files (first_of_new tables) _
+    (new_made (length tables.jobs + 1) (first_of_new tables) NotUsed job.files)
 kind_made Replica tables job =
-    chosen_made (length tables.jobs + 1) (first_of_new tables) job.files (chosen_of_new tables job) _ (new_made (length tables.jobs + 1) (first_of_new tables) NotUsed job.files)
+    chosen_made (length tables.jobs + 1) (first_of_new tables) job.files (chosen_of_new tables job) _
+    (new_made (length tables.jobs + 1) (first_of_new tables) NotUsed job.files)
 
 -- what holds of each row holds of one that is found
-found_holds : (Holds : FileRow → Type 0) (rows : List FileRow) (id : ℕ) (found : FileRow) → AllByRecursion Holds rows → row_at rows id ≡ Some found → Holds found
+found_holds : (Holds : FileRow → Type 0) (rows : List FileRow) (id : ℕ) (found : FileRow) → AllByRecursion Holds rows → row_at rows id ≡ Some found
+    → Holds found
 found_holds Holds [] id found all at = cc
 found_holds Holds (row ∷ rows) id found all at = by_head (λ behind. found_holds Holds rows id found all.1 behind) (row.id == id) at
   where
@@ -101,17 +107,20 @@ found_holds Holds (row ∷ rows) id found all at = by_head (λ behind. found_hol
     by_head behind false at_behind = behind at_behind
 
 -- a new row that is found is made of its file
-pub found_made : (tables : Tables) (job : JobData) (id : ℕ) (row : FileRow) → row_at (rows_of_kind job.kind tables.rows (length tables.jobs + 1) (first_of_new tables) job) id ≡ Some row
+pub found_made : (tables : Tables) (job : JobData) (id : ℕ) (row : FileRow)
+    → row_at (rows_of_kind job.kind tables.rows (length tables.jobs + 1) (first_of_new tables) job) id ≡ Some row
     → IsMade (length tables.jobs + 1) (first_of_new tables) job.files (first_state job.kind tables job row.id) row
 found_made tables job id row at =
-    found_holds (λ row. IsMade (length tables.jobs + 1) (first_of_new tables) job.files (first_state job.kind tables job row.id) row) _ id row (kind_made job.kind tables job) at
+    found_holds (λ row. IsMade (length tables.jobs + 1) (first_of_new tables) job.files (first_state job.kind tables job row.id) row) _ id row
+    (kind_made job.kind tables job) at
 
 -- one of the rows that stand there for their ids, and aren't used
 abbrev IsUnusedAmong : List FileRow → FileRow → Type 0
 IsUnusedAmong rows row = (row_at rows row.id ≡ Some row) × (row.state ≡ NotUsed)
 
 -- where none of some rows is used, the next alternative among them is one of them
-next_is_unused : (strategy : Strategy) (rows of_job : List FileRow) (number first : ℕ) (file : NewFile) (files : List NewFile) → of_job ≡ new_rows number first NotUsed (file ∷ files)
+next_is_unused : (strategy : Strategy) (rows of_job : List FileRow) (number first : ℕ) (file : NewFile) (files : List NewFile)
+    → of_job ≡ new_rows number first NotUsed (file ∷ files)
     → AllByRecursion (IsUnusedAmong of_job) (new_rows number first NotUsed (file ∷ files))
     → (chosen : FileRow) × (next_alternative strategy rows (new_rows number first NotUsed (file ∷ files)) ≡ Some chosen) × IsUnusedAmong of_job chosen
 next_is_unused Orderly rows of_job number first file files is all = (new_row number first NotUsed file, refl, all.0)
@@ -123,16 +132,19 @@ next_is_unused Auto rows of_job number first file files is all =
     (_, refl, each_least (IsUnusedAmong of_job) is_less alternatives _ each refl)
 
 -- where one of some rows is woken that aren't used, it alone waits
-one_waits : (start : ℕ) (rows : List FileRow) (chosen : FileRow) → AreNumberedFrom (λ row. row.id) start rows → AllByRecursion (λ row. row.state ≡ NotUsed) rows → IsUnusedAmong rows chosen
+one_waits : (start : ℕ) (rows : List FileRow) (chosen : FileRow) → AreNumberedFrom (λ row. row.id) start rows
+    → AllByRecursion (λ row. row.state ≡ NotUsed) rows → IsUnusedAmong rows chosen
     → count_by (λ row. is_submitted row.state) (submit_if_not_used chosen.id rows) ≡ 1
 one_waits start rows chosen numbered all is =
     let change : FileRow → FileRow = λ row. if is_not_used row.state then submitted row else row in
     let waits : is_submitted (change chosen).state ≡ true = ap (λ state. is_submitted (if is_not_used state then submitted chosen else chosen).state) is.1 in
     let others : count_by (λ (row : FileRow). not (row.id == chosen.id) && is_submitted row.state) rows ≡ 0
     = count_each_same (λ (row : FileRow). not (row.id == chosen.id) && is_submitted row.state) (λ (row : FileRow). false) rows
-    (each_weaker (λ row. row.state ≡ NotUsed) (λ row. (not (row.id == chosen.id) && is_submitted row.state) ≡ false) (λ row unused. ap (λ state. not (row.id == chosen.id) && is_submitted state) unused ∙ and_false (not (row.id == chosen.id))) rows all)
+    (each_weaker (λ row. row.state ≡ NotUsed) (λ row. (not (row.id == chosen.id) && is_submitted row.state) ≡ false)
+    (λ row unused. ap (λ state. not (row.id == chosen.id) && is_submitted state) unused ∙ and_false (not (row.id == chosen.id))) rows all)
     ∙ count_by-none (λ (row : FileRow). false) (λ row. refl) rows in
-    count_by-changed (λ (row : FileRow). row.id == chosen.id) change chosen rows (only_numbered (λ (row : FileRow). row.id) start rows numbered chosen.id chosen is.0) (λ (row : FileRow). is_submitted row.state)
+    count_by-changed (λ (row : FileRow). row.id == chosen.id) change chosen rows
+    (only_numbered (λ (row : FileRow). row.id) start rows numbered chosen.id chosen is.0) (λ (row : FileRow). is_submitted row.state)
     ∙ (ap (λ answer. cond answer 1 0 + count_by (λ (row : FileRow). not (row.id == chosen.id) && is_submitted row.state) rows) waits ∙ omega (arith, others))
   where
     and_false : (answer : Bool) → (answer && false) ≡ false
@@ -140,7 +152,8 @@ one_waits start rows chosen numbered all is =
     and_false false = refl
 
 -- what is found and isn't used, item by item
-each_unused : (rows items : List FileRow) → AllByRecursion (λ row. row_at rows row.id ≡ Some row) items → AllByRecursion (λ row. row.state ≡ NotUsed) items → AllByRecursion (IsUnusedAmong rows) items
+each_unused : (rows items : List FileRow) → AllByRecursion (λ row. row_at rows row.id ≡ Some row) items → AllByRecursion (λ row. row.state ≡ NotUsed) items
+    → AllByRecursion (IsUnusedAmong rows) items
 each_unused rows [] found unused = tt
 each_unused rows (row ∷ items) found unused = ((found.0, unused.0), each_unused rows items found.1 unused.1)
 
@@ -156,17 +169,21 @@ module _ (number first : ℕ) (files : List NewFile) where
 
   -- none is used
   none_used : AllByRecursion (λ row. row.state ≡ NotUsed) unused_rows
-  none_used = each_weaker (IsMade number first files NotUsed) (λ row. row.state ≡ NotUsed) (λ row made. ap (λ (other : FileRow). other.state) made.made) unused_rows (new_made number first NotUsed files)
+  none_used =
+      each_weaker (IsMade number first files NotUsed) (λ row. row.state ≡ NotUsed) (λ row made. ap (λ (other : FileRow). other.state) made.made) unused_rows
+      (new_made number first NotUsed files)
 
   -- where one is chosen, one waits
   one_of_them_waits : (next : Option FileRow) → (chosen : FileRow) × (next ≡ Some chosen) × IsUnusedAmong unused_rows chosen
       → count_by (λ row. is_submitted row.state) (submit_chosen next unused_rows) ≡ 1
   one_of_them_waits next (chosen, is, among) =
-      ap (λ other. count_by (λ (row : FileRow). is_submitted row.state) (submit_chosen other unused_rows)) is ∙ one_waits first unused_rows chosen unused_numbered none_used among
+      ap (λ other. count_by (λ (row : FileRow). is_submitted row.state) (submit_chosen other unused_rows)) is
+      ∙ one_waits first unused_rows chosen unused_numbered none_used among
 
 -- a replica job begins with one file that waits
 pub replica_begins_with_one : (strategy : Strategy) (rows : List FileRow) (number first : ℕ) (files : List NewFile) → 1 ≤ length files
-    → count_by (λ row. is_submitted row.state) (submit_chosen (next_alternative strategy rows (new_rows number first NotUsed files)) (new_rows number first NotUsed files)) ≡ 1
+    → count_by (λ row. is_submitted row.state) (submit_chosen (next_alternative strategy rows (new_rows number first NotUsed files))
+    (new_rows number first NotUsed files)) ≡ 1
 replica_begins_with_one strategy rows number first [] some = absurd (omega (arith, some))
 replica_begins_with_one strategy rows number first (file ∷ files) some =
     let new = new_rows number first NotUsed (file ∷ files) in

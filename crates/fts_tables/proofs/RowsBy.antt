@@ -63,9 +63,12 @@ module _ (Tied : FileRow → FileRow → Type 0) where
         same_test : (next.id == id) ≡ (before.id == id)
         same_test = ap (λ number. number == id) (ids before next tied.0)
 
-        by_head : (row_at (after ++ more) id ≡ Some row → ((found : FileRow) × (row_at rows id ≡ Some found) × Tied found row) ⊎ ((row_at rows id ≡ None) × (row_at more id ≡ Some row)))
-            → (answer : Bool) → (next.id == id) ≡ answer → (first : Bool) → (before.id == id) ≡ first → cond answer (Some next) (row_at (after ++ more) id) ≡ Some row
-            → ((found : FileRow) × (cond first (Some before) (row_at rows id) ≡ Some found) × Tied found row) ⊎ ((cond first (Some before) (row_at rows id) ≡ None) × (row_at more id ≡ Some row))
+        by_head : (row_at (after ++ more) id ≡ Some row → ((found : FileRow) × (row_at rows id ≡ Some found) × Tied found row)
+            ⊎ ((row_at rows id ≡ None) × (row_at more id ≡ Some row)))
+            → (answer : Bool) → (next.id == id) ≡ answer → (first : Bool) → (before.id == id) ≡ first
+            → cond answer (Some next) (row_at (after ++ more) id) ≡ Some row
+            → ((found : FileRow) × (cond first (Some before) (row_at rows id) ≡ Some found) × Tied found row)
+            ⊎ ((cond first (Some before) (row_at rows id) ≡ None) × (row_at more id ≡ Some row))
         by_head behind true is true was at_head =
             let here : next ≡ row = cc in
             inl (before, refl, subst (λ other. Tied before other) here tied.0)
@@ -84,8 +87,10 @@ module _ (Tied : FileRow → FileRow → Type 0) where
         next_test : (answer : Bool) → (first.id == id) ≡ answer → (next.id == id) ≡ answer
         next_test answer is = ap (λ number. number == id) (ids first next tied.0) ∙ is
 
-        by_head : (row_at rows id ≡ Some before → (row : FileRow) × (row_at (after ++ more) id ≡ Some row) × Tied before row) → (answer : Bool) → (first.id == id) ≡ answer
-            → cond answer (Some first) (row_at rows id) ≡ Some before → (row : FileRow) × (cond (next.id == id) (Some next) (row_at (after ++ more) id) ≡ Some row) × Tied before row
+        by_head : (row_at rows id ≡ Some before → (row : FileRow) × (row_at (after ++ more) id ≡ Some row) × Tied before row) → (answer : Bool)
+            → (first.id == id) ≡ answer
+            → cond answer (Some first) (row_at rows id) ≡ Some before
+            → (row : FileRow) × (cond (next.id == id) (Some next) (row_at (after ++ more) id) ≡ Some row) × Tied before row
         by_head behind true is at_head =
             let here : first ≡ before = cc in (
               next,

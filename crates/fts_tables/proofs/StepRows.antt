@@ -31,7 +31,8 @@ pub record AreTies (command : Command) (Tied : FileRow → FileRow → Type 0) :
   pub cancels : (row : FileRow) → Tied row (cancelled row)
   pub releases : (row : FileRow) → Tied row (released row)
   pub claims : (row : FileRow) → is_submitted row.state ≡ true → Tied row (claimed row)
-  pub reports : (now moment : ℕ) (outcome : Outcome) (job : JobRow) (row : FileRow) → command ≡ Report now row.id row.attempt outcome → is_active row.state ≡ true → Tied row (reported job moment outcome row)
+  pub reports : (now moment : ℕ) (outcome : Outcome) (job : JobRow) (row : FileRow) → command ≡ Report now row.id row.attempt outcome
+      → is_active row.state ≡ true → Tied row (reported job moment outcome row)
   pub wakes : (id : ℕ) (before row : FileRow) → Tied before row → Tied before (woken id row)
 
 -- no rows, or those of a new job
@@ -64,11 +65,13 @@ kept_at_priority priority job true = refl
 kept_at_priority priority job false = refl
 
 -- some job with another priority
-jobs_at_priority : (priority number : ℕ) (jobs : List JobRow) → JobsStay jobs (map (λ job. if job.number == number then with_priority priority job else job) jobs)
+jobs_at_priority : (priority number : ℕ) (jobs : List JobRow)
+    → JobsStay jobs (map (λ job. if job.number == number then with_priority priority job else job) jobs)
 jobs_at_priority priority number [] = tt
 jobs_at_priority priority number (job ∷ jobs) = (kept_at_priority priority job (job.number == number), jobs_at_priority priority number jobs)
 
-module _ (Tied : FileRow → FileRow → Type 0) (tables : Tables) (command : Command) (ties : AreTies command Tied) (numbered : AreNumberedFrom (λ row. row.id) 1 tables.rows) where
+module _ (Tied : FileRow → FileRow → Type 0) (tables : Tables) (command : Command) (ties : AreTies command Tied)
+    (numbered : AreNumberedFrom (λ row. row.id) 1 tables.rows) where
   -- where a step is accepted, it is by the relation
   abbrev By : Outcomes → Type 0
   By outcome = IsAccepted outcome → IsStepBy Tied tables command (tables_after tables outcome)
@@ -93,10 +96,12 @@ module _ (Tied : FileRow → FileRow → Type 0) (tables : Tables) (command : Co
   tied_if row changed false tied = ties.same row
 
   -- some rows cancelled
-  by_cancel : (now : ℕ) (test : FileRow → Bool) → IsStepBy Tied tables command (with_rows tables now (map (λ row. if test row then cancelled row else row) tables.rows))
+  by_cancel : (now : ℕ) (test : FileRow → Bool) → IsStepBy Tied tables command
+      (with_rows tables now (map (λ row. if test row then cancelled row else row) tables.rows))
   by_cancel now test =
       let change : FileRow → FileRow = λ row. if test row then cancelled row else row in
-      by_rows (with_rows tables now (map change tables.rows)) (map_by Tied change (λ row. tied_if row (cancelled row) (test row) (ties.cancels row)) tables.rows) (jobs_same tables.jobs)
+      by_rows (with_rows tables now (map change tables.rows))
+      (map_by Tied change (λ row. tied_if row (cancelled row) (test row) (ties.cancels row)) tables.rows) (jobs_same tables.jobs)
 
   -- a submission within the limits or not
   by_submit_within : (now moment : ℕ) (new : JobData) → command ≡ Submit moment new → By (submit_within tables now new)
@@ -136,7 +141,8 @@ module _ (Tied : FileRow → FileRow → Type 0) (tables : Tables) (command : Co
   -- a cancellation of a file that may be missing
   by_cancel_file : (now : ℕ) (job : JobRow) (found : Option FileRow) → By (cancel_file tables now job found)
   by_cancel_file now job None accepted = absurd accepted
-  by_cancel_file now job (Some row) accepted = by_if (row.job == job.number) _ _ (λ is. by_cancel_one now job row job.kind) (λ is accepted. absurd accepted) accepted
+  by_cancel_file now job (Some row) accepted =
+      by_if (row.job == job.number) _ _ (λ is. by_cancel_one now job row job.kind) (λ is accepted. absurd accepted) accepted
 
   -- another priority
   by_priority : (now priority : ℕ) (job : JobRow) → By (set_priority tables now job priority)
@@ -149,21 +155,27 @@ module _ (Tied : FileRow → FileRow → Type 0) (tables : Tables) (command : Co
   by_claim now word None is accepted = absurd accepted
   by_claim now word (Some row) is accepted =
       let picked = pick_is_picked tables now word row numbered is in
-      by_rows (with_rows tables now (change_row row.id claimed tables.rows)) (one_by Tied ties.same 1 tables.rows row.id claimed row numbered picked.found (ties.claims row picked.waits)) (jobs_same tables.jobs)
+      by_rows (with_rows tables now (change_row row.id claimed tables.rows))
+      (one_by Tied ties.same 1 tables.rows row.id claimed row numbered picked.found (ties.claims row picked.waits)) (jobs_same tables.jobs)
 
   -- a report of an ACTIVE row
-  by_reported : (now moment : ℕ) (outcome : Outcome) (row : FileRow) (job : JobRow) → command ≡ Report now row.id row.attempt outcome → row_at tables.rows row.id ≡ Some row → is_active row.state ≡ true
-      → IsStepBy Tied tables command (with_rows tables moment (followed job (reported job moment outcome row) (change_row row.id (reported job moment outcome) tables.rows)))
+  by_reported : (now moment : ℕ) (outcome : Outcome) (row : FileRow) (job : JobRow) → command ≡ Report now row.id row.attempt outcome
+      → row_at tables.rows row.id ≡ Some row → is_active row.state ≡ true
+      → IsStepBy Tied tables command (with_rows tables moment (followed job (reported job moment outcome row)
+      (change_row row.id (reported job moment outcome) tables.rows)))
   by_reported now moment outcome row job told found active =
       let after = reported job moment outcome row in
       let changed_rows = change_row row.id (reported job moment outcome) tables.rows in
-      let one = one_by Tied ties.same 1 tables.rows row.id (reported job moment outcome) row numbered found (ties.reports now moment outcome job row told active) in
+      let one = one_by Tied ties.same 1 tables.rows row.id (reported job moment outcome) row numbered found
+      (ties.reports now moment outcome job row told active) in
       by_rows (with_rows tables moment (followed job after changed_rows))
-      (follow_wakes (λ rows. RowsBy Tied tables.rows rows) (λ id rows tied. map_after Tied (woken id) (λ before row. ties.wakes id before row) tables.rows rows tied) job after changed_rows one)
+      (follow_wakes (λ rows. RowsBy Tied tables.rows rows) (λ id rows tied. map_after Tied (woken id) (λ before row. ties.wakes id before row) tables.rows
+      rows tied) job after changed_rows one)
       (jobs_same tables.jobs)
 
   -- a report of a row whose job may be missing
-  by_report_of : (now moment file attempt : ℕ) (outcome : Outcome) (row : FileRow) (job : Option JobRow) → command ≡ Report now file attempt outcome → row_at tables.rows file ≡ Some row
+  by_report_of : (now moment file attempt : ℕ) (outcome : Outcome) (row : FileRow) (job : Option JobRow) → command ≡ Report now file attempt outcome
+      → row_at tables.rows file ≡ Some row
       → By (report_of tables moment row attempt outcome job)
   by_report_of now moment file attempt outcome row None told found accepted = absurd accepted
   by_report_of now moment file attempt outcome row (Some job) told found accepted = by_if (is_active row.state && (row.attempt == attempt)) _ _
@@ -177,24 +189,31 @@ module _ (Tied : FileRow → FileRow → Type 0) (tables : Tables) (command : Co
       (λ is accepted. absurd accepted) accepted
 
   -- a report of a row that may be missing
-  by_report : (now moment file attempt : ℕ) (outcome : Outcome) (row : Option FileRow) → command ≡ Report now file attempt outcome → row_at tables.rows file ≡ row
+  by_report : (now moment file attempt : ℕ) (outcome : Outcome) (row : Option FileRow) → command ≡ Report now file attempt outcome
+      → row_at tables.rows file ≡ row
       → By (report tables moment row attempt outcome)
   by_report now moment file attempt outcome None told is accepted = absurd accepted
-  by_report now moment file attempt outcome (Some row) told is accepted = by_report_of now moment file attempt outcome row (job_at tables.jobs row.job) told is accepted
+  by_report now moment file attempt outcome (Some row) told is accepted =
+      by_report_of now moment file attempt outcome row (job_at tables.jobs row.job) told is accepted
 
   -- every command
   by_command : (told : Command) → command ≡ told → By (step tables told)
   by_command (Restart now settings) told accepted = by_rows _ (map_by Tied released ties.releases tables.rows) (jobs_same tables.jobs)
   by_command (Submit now new) told accepted = by_submit (option_and_then (number_of_id tables.jobs) new.id) (max now tables.moment) now new told accepted
-  by_command (CancelJob now job) told accepted = by_job (job_at tables.jobs job) (cancel_rows tables (max now tables.moment)) (by_cancel_job (max now tables.moment)) accepted
-  by_command (CancelFile now job file) told accepted = by_job (job_at tables.jobs job) (λ found. cancel_file tables (max now tables.moment) found (row_at tables.rows file))
+  by_command (CancelJob now job) told accepted =
+      by_job (job_at tables.jobs job) (cancel_rows tables (max now tables.moment)) (by_cancel_job (max now tables.moment)) accepted
+  by_command (CancelFile now job file) told accepted =
+      by_job (job_at tables.jobs job) (λ found. cancel_file tables (max now tables.moment) found (row_at tables.rows file))
       (λ found. by_cancel_file (max now tables.moment) found (row_at tables.rows file)) accepted
-  by_command (SetPriority now job priority) told accepted = by_job (job_at tables.jobs job) (λ found. set_priority tables (max now tables.moment) found priority)
+  by_command (SetPriority now job priority) told accepted =
+      by_job (job_at tables.jobs job) (λ found. set_priority tables (max now tables.moment) found priority)
       (λ found. by_priority (max now tables.moment) priority found) accepted
   by_command (Claim now word) told accepted = by_claim (max now tables.moment) word (pick tables (max now tables.moment) word) refl accepted
-  by_command (Report now file attempt outcome) told accepted = by_report now (max now tables.moment) file attempt outcome (row_at tables.rows file) told refl accepted
+  by_command (Report now file attempt outcome) told accepted =
+      by_report now (max now tables.moment) file attempt outcome (row_at tables.rows file) told refl accepted
 
 -- an accepted step is by the relation
-pub step_by : (Tied : FileRow → FileRow → Type 0) (tables : Tables) (command : Command) → AreTies command Tied → AreNumberedFrom (λ row. row.id) 1 tables.rows → IsAccepted (step tables command)
+pub step_by : (Tied : FileRow → FileRow → Type 0) (tables : Tables) (command : Command) → AreTies command Tied
+    → AreNumberedFrom (λ row. row.id) 1 tables.rows → IsAccepted (step tables command)
     → IsStepBy Tied tables command (tables_after tables (step tables command))
 step_by Tied tables command ties numbered accepted = by_command Tied tables command ties numbered command refl accepted

@@ -26,19 +26,25 @@ use Rattle.fts_tables.proofs.NewRows.{found_made}
 use Rattle.fts_tables.proofs.StandingTables.{step_stands}
 
 -- an accepted step traces each row
-traced : (tables : Tables) (command : Command) → IsStanding tables → IsAccepted (step tables command) → IsStepBy (IsTraced command) tables command (tables_after tables (step tables command))
+traced : (tables : Tables) (command : Command) → IsStanding tables → IsAccepted (step tables command)
+    → IsStepBy (IsTraced command) tables command (tables_after tables (step tables command))
 traced tables command stands accepted = step_by (IsTraced command) tables command (traced_ties command) stands.formed.rows accepted
 
 -- where a row that is found after a step comes from: the row before it, or the job that came in
 abbrev Origin : Tables → Command → ℕ → FileRow → Type 0
-Origin tables command id row = ((before : FileRow) × (row_at tables.rows id ≡ Some before) × IsTraced command before row) ⊎ ((row_at tables.rows id ≡ None) × IsNewRow tables command row)
+Origin tables command id row =
+    ((before : FileRow) × (row_at tables.rows id ≡ Some before) × IsTraced command before row)
+    ⊎ ((row_at tables.rows id ≡ None) × IsNewRow tables command row)
 
 -- each row has its origin
-origin_of : (tables : Tables) (command : Command) (after : Tables) (id : ℕ) (row : FileRow) → IsStepBy (IsTraced command) tables command after → row_at after.rows id ≡ Some row → Origin tables command id row
+origin_of : (tables : Tables) (command : Command) (after : Tables) (id : ℕ) (row : FileRow) → IsStepBy (IsTraced command) tables command after
+    → row_at after.rows id ≡ Some row → Origin tables command id row
 origin_of tables command after id row by found =
-    by_place (found_before (IsTraced command) (traced_ids command) tables.rows by.moved by.added id row by.tied (subst (λ rows. row_at rows id ≡ Some row) by.rows found))
+    by_place (found_before (IsTraced command) (traced_ids command) tables.rows by.moved by.added id row by.tied
+    (subst (λ rows. row_at rows id ≡ Some row) by.rows found))
   where
-    by_place : ((before : FileRow) × (row_at tables.rows id ≡ Some before) × IsTraced command before row) ⊎ ((row_at tables.rows id ≡ None) × (row_at by.added id ≡ Some row)) → Origin tables command id row
+    by_place : ((before : FileRow) × (row_at tables.rows id ≡ Some before) × IsTraced command before row)
+        ⊎ ((row_at tables.rows id ≡ None) × (row_at by.added id ≡ Some row)) → Origin tables command id row
     by_place (inl there) = inl there
     by_place (inr (none, at)) = inr (none, from_job by.new)
       where
@@ -51,7 +57,8 @@ origin_of tables command after id row by found =
 -- a row that comes in with an accepted step
 pub step_begins : (tables : Tables) (command : Command) (id : ℕ) (row : FileRow) → IsStanding tables → IsAccepted (step tables command)
     → row_at tables.rows id ≡ None → row_at (tables_after tables (step tables command)).rows id ≡ Some row → IsNewRow tables command row
-step_begins tables command id row stands accepted none found = by_origin (origin_of tables command (tables_after tables (step tables command)) id row (traced tables command stands accepted) found)
+step_begins tables command id row stands accepted none found =
+    by_origin (origin_of tables command (tables_after tables (step tables command)) id row (traced tables command stands accepted) found)
   where
     by_origin : Origin tables command id row → IsNewRow tables command row
     by_origin (inl (before, at, tied)) = let clash : None ≡ Some before = sym none ∙ at in cc
@@ -74,18 +81,21 @@ pub step_finishes : (tables : Tables) (command : Command) (id : ℕ) (row : File
 step_finishes tables command id row stands accepted found finished =
     by_origin (origin_of tables command (tables_after tables (step tables command)) id row (traced tables command stands accepted) found)
   where
-    by_trace : (before : FileRow) → row_at tables.rows id ≡ Some before → IsUnfinished before row ⊎ IsFinishedBy command before row → IsFinishedAfter tables.rows command id row
+    by_trace : (before : FileRow) → row_at tables.rows id ≡ Some before → IsUnfinished before row ⊎ IsFinishedBy command before row
+        → IsFinishedAfter tables.rows command id row
     by_trace before at (inl kept) = inl (at ∙ ap (λ other. Some other) (sym (kept.finished finished)))
     by_trace before at (inr done) = inr (before, at, done)
 
     by_origin : Origin tables command id row → IsFinishedAfter tables.rows command id row
     by_origin (inl (before, at, tied)) = by_trace before at tied.traced
     by_origin (inr (none, new)) =
-        let clash : true ≡ false = sym finished ∙ (ap (λ (other : FileRow). is_finished other.state) new.made ∙ first_unfinished new.job.kind tables new.job row.id) in
+        let clash : true ≡ false = sym finished ∙ (ap (λ (other : FileRow). is_finished other.state) new.made
+        ∙ first_unfinished new.job.kind tables new.job row.id) in
         cc
 
 -- an accepted step keeps the jobs
-pub step_keeps_jobs : (tables : Tables) (command : Command) → IsStanding tables → IsAccepted (step tables command) → JobsStay tables.jobs (tables_after tables (step tables command)).jobs
+pub step_keeps_jobs : (tables : Tables) (command : Command) → IsStanding tables → IsAccepted (step tables command)
+    → JobsStay tables.jobs (tables_after tables (step tables command)).jobs
 step_keeps_jobs tables command stands accepted = (traced tables command stands accepted).jobs
 
 -- what a copy is asked for stays until the row is FINISHED
@@ -135,7 +145,12 @@ list_alike : (more : List Entry) (tables : Tables) (id : ℕ) (row kept : FileRo
     → row_at tables.rows id ≡ Some row → row_at (tables_from tables more).rows id ≡ Some kept → IsAskedAlike row kept
 list_alike [] tables id row kept stands legal found after =
     let same : kept ≡ row = same_Some kept row (sym after ∙ found) in
-    record { file = ap file_of same; size = λ unlike. ap (λ (other : FileRow). other.size) same; unfinished = λ unlike. sym (ap (λ (other : FileRow). is_finished other.state) same) ∙ unlike }
+    record {
+      file = ap file_of same;
+      size = λ unlike. ap (λ (other : FileRow). other.size) same;
+      unfinished = λ unlike.
+          sym (ap (λ (other : FileRow). is_finished other.state) same) ∙ unlike;
+    }
 list_alike (entry ∷ more) tables id row kept stands legal found after =
     let by = traced tables entry.command stands legal.0 in
     let next = found_next (IsTraced entry.command) (traced_ids entry.command) tables.rows by.moved by.added id row by.tied found in
@@ -148,17 +163,20 @@ jobs_twice : (first second third : List JobRow) → JobsStay first second → Jo
 jobs_twice [] second third one other = tt
 jobs_twice (job ∷ first) [] third one other = absurd one
 jobs_twice (job ∷ first) (next ∷ second) [] one other = absurd other
-jobs_twice (job ∷ first) (next ∷ second) (last ∷ third) one other = (other.0 ∙ ap (with_priority last.priority) one.0, jobs_twice first second third one.1 other.1)
+jobs_twice (job ∷ first) (next ∷ second) (last ∷ third) one other =
+    (other.0 ∙ ap (with_priority last.priority) one.0, jobs_twice first second third one.1 other.1)
 
 -- jobs stay over a legal list
 pub list_keeps_jobs : (more : List Entry) (tables : Tables) → IsStanding tables → IsLegalFrom tables more → JobsStay tables.jobs (tables_from tables more).jobs
 list_keeps_jobs [] tables stands legal = jobs_same tables.jobs
-list_keeps_jobs (entry ∷ more) tables stands legal = jobs_twice tables.jobs (tables_after tables (step tables entry.command)).jobs (tables_from tables (entry ∷ more)).jobs
+list_keeps_jobs (entry ∷ more) tables stands legal =
+    jobs_twice tables.jobs (tables_after tables (step tables entry.command)).jobs (tables_from tables (entry ∷ more)).jobs
     (step_keeps_jobs tables entry.command stands legal.0)
     (list_keeps_jobs more (tables_after tables (step tables entry.command)) (step_stands tables entry.command stands legal.0) legal.1)
 
 -- a job that is found is found as it was, but for its priority
-pub job_stays : (jobs after : List JobRow) (number : ℕ) (job : JobRow) → JobsStay jobs after → job_at jobs number ≡ Some job → (kept : JobRow) × (job_at after number ≡ Some kept) × IsKeptJob job kept
+pub job_stays : (jobs after : List JobRow) (number : ℕ) (job : JobRow) → JobsStay jobs after → job_at jobs number ≡ Some job
+    → (kept : JobRow) × (job_at after number ≡ Some kept) × IsKeptJob job kept
 job_stays [] after number job stay at = cc
 job_stays (first ∷ jobs) [] number job stay at = absurd stay
 job_stays (first ∷ jobs) (next ∷ after) number job stay at = by_head (λ behind. job_stays jobs after number job stay.1 behind) (first.number == number) refl at
@@ -166,8 +184,10 @@ job_stays (first ∷ jobs) (next ∷ after) number job stay at = by_head (λ beh
     next_test : (answer : Bool) → (first.number == number) ≡ answer → (next.number == number) ≡ answer
     next_test answer is = ap (λ (other : JobRow). other.number == number) stay.0 ∙ is
 
-    by_head : (job_at jobs number ≡ Some job → (kept : JobRow) × (job_at after number ≡ Some kept) × IsKeptJob job kept) → (answer : Bool) → (first.number == number) ≡ answer
-        → cond answer (Some first) (job_at jobs number) ≡ Some job → (kept : JobRow) × (cond (next.number == number) (Some next) (job_at after number) ≡ Some kept) × IsKeptJob job kept
+    by_head : (job_at jobs number ≡ Some job → (kept : JobRow) × (job_at after number ≡ Some kept) × IsKeptJob job kept) → (answer : Bool)
+        → (first.number == number) ≡ answer
+        → cond answer (Some first) (job_at jobs number) ≡ Some job
+        → (kept : JobRow) × (cond (next.number == number) (Some next) (job_at after number) ≡ Some kept) × IsKeptJob job kept
     by_head behind true is at_head =
         let here : first ≡ job = cc in
         (next, ap (λ answer. cond answer (Some next) (job_at after number)) (next_test true is), subst (λ other. IsKeptJob other next) here stay.0)
@@ -191,20 +211,25 @@ owner_is_there [] number any = cc
 owner_is_there (job ∷ jobs) number any = by_head (λ any_behind. owner_is_there jobs number any_behind) (job.number == number) refl
   where
     behind : (job.number == number) ≡ false → list_any (λ item. item == number) (owners jobs) ≡ true
-    behind other = by_first (list_any (λ item. item == number) (replicate job.count job.number)) refl (sym (list_any-append (λ item. item == number) (replicate job.count job.number) (owners jobs)) ∙ any)
+    behind other =
+        by_first (list_any (λ item. item == number) (replicate job.count job.number)) refl
+        (sym (list_any-append (λ item. item == number) (replicate job.count job.number) (owners jobs)) ∙ any)
       where
-        by_first : (first : Bool) → list_any (λ item. item == number) (replicate job.count job.number) ≡ first → (first || list_any (λ item. item == number) (owners jobs)) ≡ true
+        by_first : (first : Bool) → list_any (λ item. item == number) (replicate job.count job.number) ≡ first
+            → (first || list_any (λ item. item == number) (owners jobs)) ≡ true
             → list_any (λ item. item == number) (owners jobs) ≡ true
         by_first true is either = let clash : true ≡ false = sym (among_copies job.number number job.count is) ∙ other in cc
         by_first false is either = either
 
-    by_head : (list_any (λ item. item == number) (owners jobs) ≡ true → (found : JobRow) × (job_at jobs number ≡ Some found)) → (answer : Bool) → (job.number == number) ≡ answer
+    by_head : (list_any (λ item. item == number) (owners jobs) ≡ true → (found : JobRow) × (job_at jobs number ≡ Some found)) → (answer : Bool)
+        → (job.number == number) ≡ answer
         → (found : JobRow) × (cond answer (Some job) (job_at jobs number) ≡ Some found)
     by_head there true is = (job, refl)
     by_head there false is = there (behind is)
 
 -- a row that is found is among the rows
-row_is_among : (rows : List FileRow) (id : ℕ) (row : FileRow) → row_at rows id ≡ Some row → list_any (λ item. item == row.job) (map (λ (other : FileRow). other.job) rows) ≡ true
+row_is_among : (rows : List FileRow) (id : ℕ) (row : FileRow) → row_at rows id ≡ Some row
+    → list_any (λ item. item == row.job) (map (λ (other : FileRow). other.job) rows) ≡ true
 row_is_among [] id row at = cc
 row_is_among (first ∷ rows) id row at = by_head (λ behind. row_is_among rows id row behind) (first.id == id) at
   where
@@ -212,17 +237,21 @@ row_is_among (first ∷ rows) id row at = by_head (λ behind. row_is_among rows 
     or_right true = refl
     or_right false = refl
 
-    by_head : (row_at rows id ≡ Some row → list_any (λ item. item == row.job) (map (λ (other : FileRow). other.job) rows) ≡ true) → (answer : Bool) → cond answer (Some first) (row_at rows id) ≡ Some row
+    by_head : (row_at rows id ≡ Some row → list_any (λ item. item == row.job) (map (λ (other : FileRow). other.job) rows) ≡ true) → (answer : Bool)
+        → cond answer (Some first) (row_at rows id) ≡ Some row
         → ((first.job == row.job) || list_any (λ item. item == row.job) (map (λ (other : FileRow). other.job) rows)) ≡ true
     by_head behind true at_head =
         let here : first ≡ row = cc in
-        ap (λ answer. answer || list_any (λ item. item == row.job) (map (λ (other : FileRow). other.job) rows)) (eq-eqb first.job row.job (ap (λ (other : FileRow). other.job) here))
+        ap (λ answer. answer || list_any (λ item. item == row.job) (map (λ (other : FileRow). other.job) rows))
+        (eq-eqb first.job row.job (ap (λ (other : FileRow). other.job) here))
     by_head behind false at_behind = ap (λ answer. (first.job == row.job) || answer) (behind at_behind) ∙ or_right (first.job == row.job)
 
 -- the job of each row is there
-job_of_row : (tables : Tables) (id : ℕ) (row : FileRow) → AreWellFormed tables → row_at tables.rows id ≡ Some row → (job : JobRow) × (job_at tables.jobs row.job ≡ Some job)
+job_of_row : (tables : Tables) (id : ℕ) (row : FileRow) → AreWellFormed tables → row_at tables.rows id ≡ Some row
+    → (job : JobRow) × (job_at tables.jobs row.job ≡ Some job)
 job_of_row tables id row formed found =
-    owner_is_there tables.jobs row.job (sym (ap (λ numbers. list_any (λ item. item == row.job) numbers) formed.follow.owners) ∙ row_is_among tables.rows id row found)
+    owner_is_there tables.jobs row.job (sym (ap (λ numbers. list_any (λ item. item == row.job) numbers) formed.follow.owners)
+    ∙ row_is_among tables.rows id row found)
 
 -- what a copy is asked for, part by part
 abbrev order_by : FileOfRow → ℕ → Bool → CopyOrder
@@ -234,16 +263,19 @@ overwrite_of jobs number = option_map_or (λ (job : JobRow). job.overwrite) (job
 
 -- what the copy of a row is asked for stays over a legal list, until the row is FINISHED
 pub list_keeps_orders : (more : List Entry) (tables : Tables) (id : ℕ) (row kept : FileRow) → IsStanding tables → IsLegalFrom tables more
-    → row_at tables.rows id ≡ Some row → row_at (tables_from tables more).rows id ≡ Some kept → is_finished kept.state ≡ false → IsOrderKept tables (tables_from tables more) row kept
+    → row_at tables.rows id ≡ Some row → row_at (tables_from tables more).rows id ≡ Some kept → is_finished kept.state ≡ false
+    → IsOrderKept tables (tables_from tables more) row kept
 list_keeps_orders more tables id row kept stands legal found after unlike =
     let alike = list_alike more tables id row kept stands legal found after in
     let job = job_of_row tables id row stands.formed found in
     let same_job = job_stays tables.jobs (tables_from tables more).jobs row.job job.0 (list_keeps_jobs more tables stands legal) job.1 in
     let overwrite : overwrite_of (tables_from tables more).jobs row.job ≡ overwrite_of tables.jobs row.job
     = ap (λ (there : Option JobRow). option_map_or (λ (other : JobRow). other.overwrite) there false) same_job.1
-    ∙ (ap (λ (other : JobRow). other.overwrite) same_job.2 ∙ sym (ap (λ (there : Option JobRow). option_map_or (λ (other : JobRow). other.overwrite) there false) job.1)) in
+    ∙ (ap (λ (other : JobRow). other.overwrite) same_job.2
+    ∙ sym (ap (λ (there : Option JobRow). option_map_or (λ (other : JobRow). other.overwrite) there false) job.1)) in
     record {
       unfinished = alike.unfinished unlike;
       order = ap (λ (file : FileOfRow). order_by file kept.size (overwrite_of (tables_from tables more).jobs file.job)) alike.file
-          ∙ (ap (λ size. order_by (file_of row) size (overwrite_of (tables_from tables more).jobs row.job)) (alike.size unlike) ∙ ap (λ answer. order_by (file_of row) row.size answer) overwrite);
+          ∙ (ap (λ size. order_by (file_of row) size (overwrite_of (tables_from tables more).jobs row.job)) (alike.size unlike)
+          ∙ ap (λ answer. order_by (file_of row) row.size answer) overwrite);
     }

@@ -50,7 +50,8 @@ cancelled_unfinished row Failed is = unfinished_same row
 cancelled_unfinished row Canceled is = unfinished_same row
 
 -- a row after a restart, by its state
-released_unfinished : (row : FileRow) (state : FileState) (asked : Bool) → IsUnfinished row (if is_active state then (if asked then canceled row else submitted row) else row)
+released_unfinished : (row : FileRow) (state : FileState) (asked : Bool)
+    → IsUnfinished row (if is_active state then (if asked then canceled row else submitted row) else row)
 released_unfinished row Active true = unfinished_at row (canceled row) Canceled refl refl refl
 released_unfinished row Active false = unfinished_at row (submitted row) Submitted refl refl refl
 released_unfinished row Submitted asked = unfinished_same row
@@ -61,13 +62,16 @@ released_unfinished row NotUsed asked = unfinished_same row
 
 -- a failure that may be tried again, or not
 tried_unfinished : (row : FileRow) (again : Bool) (retries moment : ℕ) (outcome : Outcome)
-    → IsUnfinished row (if again then record row { state = Submitted; retries = retries; not_before = moment; reason = Ended outcome } else record row { state = Failed; reason = Ended outcome })
+    → IsUnfinished row (if again then record row { state = Submitted; retries = retries; not_before = moment; reason = Ended outcome } else record row
+    { state = Failed; reason = Ended outcome })
 tried_unfinished row true retries moment outcome = unfinished_at row _ Submitted refl refl refl
 tried_unfinished row false retries moment outcome = unfinished_at row _ Failed refl refl refl
 
 -- a row that is woken, by its state
-woken_traced : (command : Command) (before row : FileRow) (is_chosen : Bool) (state : FileState) → row.state ≡ state → IsUnfinished before row ⊎ IsFinishedBy command before row
-    → (let next : FileRow = if is_chosen then (if is_not_used state then submitted row else row) else row in IsUnfinished before next ⊎ IsFinishedBy command before next)
+woken_traced : (command : Command) (before row : FileRow) (is_chosen : Bool) (state : FileState) → row.state ≡ state
+    → IsUnfinished before row ⊎ IsFinishedBy command before row
+    → (let next : FileRow = if is_chosen then (if is_not_used state then submitted row else row) else row in IsUnfinished before next
+    ⊎ IsFinishedBy command before next)
 woken_traced command before row false state is traced = traced
 woken_traced command before row true Submitted is traced = traced
 woken_traced command before row true Active is traced = traced
@@ -82,8 +86,10 @@ woken_traced command before row true NotUsed is (inr done) =
 -- a report of an ACTIVE row of that attempt
 module _ (command : Command) (now moment : ℕ) (job : JobRow) (row : FileRow) (active : is_active row.state ≡ true) where
   -- a failure finishes nothing
-  failure_traced : (outcome : Outcome) → IsUnfinished row (reported_failure job moment outcome row) ⊎ IsFinishedBy command row (reported_failure job moment outcome row)
-  failure_traced outcome = inl (tried_unfinished row (is_retryable outcome && nat_lt row.retries job.retry) (row.retries + 1) (min (moment + job.delay) LAST_MOMENT) outcome)
+  failure_traced : (outcome : Outcome) → IsUnfinished row (reported_failure job moment outcome row)
+      ⊎ IsFinishedBy command row (reported_failure job moment outcome row)
+  failure_traced outcome =
+      inl (tried_unfinished row (is_retryable outcome && nat_lt row.retries job.retry) (row.retries + 1) (min (moment + job.delay) LAST_MOMENT) outcome)
 
   -- each outcome, where no cancellation was asked
   outcome_traced : (outcome : Outcome) → command ≡ Report now row.id row.attempt outcome → row.cancel_asked ≡ false
@@ -107,7 +113,8 @@ module _ (command : Command) (now moment : ℕ) (job : JobRow) (row : FileRow) (
 
   -- each outcome, where one was asked or not
   asked_traced : (outcome : Outcome) → command ≡ Report now row.id row.attempt outcome → (asked : Bool) → row.cancel_asked ≡ asked
-      → (let next : FileRow = if asked then canceled row else reported_without_cancel job moment outcome row in IsUnfinished row next ⊎ IsFinishedBy command row next)
+      → (let next : FileRow = if asked then canceled row else reported_without_cancel job moment outcome row in IsUnfinished row next
+      ⊎ IsFinishedBy command row next)
   asked_traced outcome told true is = inl (unfinished_at row (canceled row) Canceled refl refl refl)
   asked_traced outcome told false is = outcome_traced outcome told is
 

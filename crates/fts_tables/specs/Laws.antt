@@ -157,7 +157,8 @@ first_state Plain tables job id = Submitted
 first_state Multihop tables job id = waits_if (id == first_of_new tables)
 first_state Replica tables job id = waits_if (option_map_or (λ chosen. id == chosen.id) (chosen_of_new tables job) false)
 
--- a row came in with the job of a command, of the file that stands at its place there: never tried, with no cancellation asked, in the state that the job's kind gives it
+-- a row came in with the job of a command, of the file that stands at its place there: never tried, with no cancellation asked,
+-- in the state that the job's kind gives it
 pub record IsNewRow (tables : Tables) (command : Command) (row : FileRow) : Type 0 where
   pub moment : ℕ
   pub job : JobData
