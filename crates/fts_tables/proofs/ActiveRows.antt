@@ -8,17 +8,8 @@ use Rattle.fts_tables.specs.Step.{released}
 use Rattle.fts_tables.specs.JobData.{JobData}
 use Rattle.fts_tables.specs.declared.limits.TheConstants.{LAST_MOMENT}
 use Rattle.fts_tables.specs.Laws.{FileOfRow, file_of, IsMoved}
-use Rattle.fts_tables.specs.declared.places.Place.{Place}
-use Rattle.fts_tables.specs.declared.rows.NewFile.{NewFile}
-use Rattle.fts_tables.specs.declared.rows.FileRow.{FileRow}
-use Rattle.fts_tables.specs.declared.rows.JobRow.{JobRow}
-use Rattle.fts_tables.specs.declared.rows.JobKind.{JobKind}
-use Rattle.fts_tables.specs.declared.rows.JobKind.TheVariants.{Plain, Replica, Multihop}
-use Rattle.fts_tables.specs.declared.rows.Outcome.{Outcome}
-use Rattle.fts_tables.specs.declared.rows.Outcome.TheVariants.{Verified, SourceMissing, DestinationExists, SourceSize, SourceDigest, ReadBackDiffers, StoreFailed, Stopped}
+use Rattle.fts_tables.proofs.Declared.{Place, NewFile, FileRow, JobRow, FileState, Submitted, Active, Finished, Failed, Canceled, NotUsed, JobKind, Plain, Replica, Multihop, Outcome, Verified, SourceMissing, DestinationExists, SourceSize, SourceDigest, ReadBackDiffers, StoreFailed, Stopped}
 use Rattle.fts_tables.specs.declared.rows.Reason.TheVariants.{Ended}
-use Rattle.fts_tables.specs.declared.rows.FileState.{FileState}
-use Rattle.fts_tables.specs.declared.rows.FileState.TheVariants.{Submitted, Active, Finished, Failed, Canceled, NotUsed}
 use Rattle.fts_tables.proofs.Counts.{count_by-cons, count_by-map, count_by-same, count_by-none}
 use Rattle.fts_tables.proofs.MovedRows.{all_stay, woken, moves_to, wake_moves, ids_stay, jobs_stay}
 

@@ -13,11 +13,7 @@ use Rattle.fts_tables.specs.Moves.{change_row, claimed, rows_of_new, job_of_new}
 use Rattle.fts_tables.specs.Step.{Outcomes, with_rows, released, restart, add_job}
 use Rattle.fts_tables.specs.History.{tables_after, without, out_step, is_file_on_link, one_on_link, claimed_file, reported_file, released_files}
 use Rattle.fts_tables.specs.Laws.{RowsMoved, copies_onto, AreWithinLimits}
-use Rattle.fts_tables.specs.declared.places.Place.{Place}
-use Rattle.fts_tables.specs.declared.rows.FileRow.{FileRow}
-use Rattle.fts_tables.specs.declared.rows.JobRow.{JobRow}
-use Rattle.fts_tables.specs.declared.rows.FileState.{FileState}
-use Rattle.fts_tables.specs.declared.rows.FileState.TheVariants.{Submitted, Active, Finished, Failed, Canceled, NotUsed}
+use Rattle.fts_tables.proofs.Declared.{Place, FileRow, JobRow, FileState, Submitted, Active, Finished, Failed, Canceled, NotUsed}
 use Rattle.fts_tables.specs.declared.commands.Answer.TheVariants.{Claimed}
 use Rattle.fts_tables.proofs.Counts.{count_by-cons, count_by-append, count_by-same, count_by-filter, count_by-changed, count_by-before, IsOnly, only_numbered}
 use Rattle.fts_tables.proofs.MovedRows.{Rowwise, all_stay, moved_by, moved_and_added, rows_moved, ids_stay, jobs_stay, moved_one, release_moves, claim_moves}

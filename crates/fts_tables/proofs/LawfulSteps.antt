@@ -11,13 +11,7 @@ use Rattle.fts_tables.specs.Moves.{change_row, cancelled, is_cancellable, is_set
 use Rattle.fts_tables.specs.Step.{Outcomes, with_rows, submit_within, submit_by, cancel_rows, cancel_row, cancel_one, cancel_file, with_priority, set_priority, claim, report_of, report, step}
 use Rattle.fts_tables.specs.History.{IsAccepted}
 use Rattle.fts_tables.specs.declared.limits.TheConstants.{MAX_JOBS, MAX_ROWS}
-use Rattle.fts_tables.specs.declared.rows.FileRow.{FileRow}
-use Rattle.fts_tables.specs.declared.rows.JobRow.{JobRow}
-use Rattle.fts_tables.specs.declared.rows.JobKind.{JobKind}
-use Rattle.fts_tables.specs.declared.rows.JobKind.TheVariants.{Plain, Replica, Multihop}
-use Rattle.fts_tables.specs.declared.rows.Outcome.{Outcome}
-use Rattle.fts_tables.specs.declared.commands.Command.{Command}
-use Rattle.fts_tables.specs.declared.commands.Command.TheVariants.{Restart, Submit, CancelJob, CancelFile, SetPriority, Claim, Report}
+use Rattle.fts_tables.proofs.Declared.{FileRow, JobRow, JobKind, Plain, Replica, Multihop, Outcome, Command, Restart, Submit, CancelJob, CancelFile, SetPriority, Claim, Report}
 use Rattle.fts_tables.specs.declared.commands.Refusal.TheVariants.{NoJob}
 use Rattle.fts_tables.specs.declared.commands.Answer.TheVariants.{Cancelled, Reported}
 use Rattle.fts_tables.proofs.MovedRows.{Rowwise, all_stay, moved_by, rows_moved, moved_one, moved_if, wake_moves, cancel_moves, Active-from_test}

@@ -6,9 +6,7 @@ use Rattle.fts_tables.specs.Tables.{AreNumberedFrom, MayBecome, is_active, is_su
 use Rattle.fts_tables.specs.Moves.{change_row, submitted, canceled, claimed, cancelled, submit_if_not_used}
 use Rattle.fts_tables.specs.Step.{released}
 use Rattle.fts_tables.specs.Laws.{FileOfRow, file_of, IsMoved, RowsMoved}
-use Rattle.fts_tables.specs.declared.rows.FileRow.{FileRow}
-use Rattle.fts_tables.specs.declared.rows.FileState.{FileState}
-use Rattle.fts_tables.specs.declared.rows.FileState.TheVariants.{Submitted, Active, Finished, Failed, Canceled, NotUsed}
+use Rattle.fts_tables.proofs.Declared.{FileRow, FileState, Submitted, Active, Finished, Failed, Canceled, NotUsed}
 
 -- each row moved, and they are as many
 abbrev pub Rowwise : List FileRow → List FileRow → Type 0

@@ -11,13 +11,7 @@ use Rattle.fts_tables.specs.Step.{Outcomes, with_rows, released, submit_within, 
 use Rattle.fts_tables.specs.History.{IsAccepted, tables_after}
 use Rattle.fts_tables.specs.Laws.{IsKeptJob, JobsStay}
 use Rattle.fts_tables.specs.declared.limits.TheConstants.{MAX_JOBS, MAX_ROWS}
-use Rattle.fts_tables.specs.declared.rows.FileRow.{FileRow}
-use Rattle.fts_tables.specs.declared.rows.JobRow.{JobRow}
-use Rattle.fts_tables.specs.declared.rows.JobKind.{JobKind}
-use Rattle.fts_tables.specs.declared.rows.JobKind.TheVariants.{Plain, Replica, Multihop}
-use Rattle.fts_tables.specs.declared.rows.Outcome.{Outcome}
-use Rattle.fts_tables.specs.declared.commands.Command.{Command}
-use Rattle.fts_tables.specs.declared.commands.Command.TheVariants.{Restart, Submit, CancelJob, CancelFile, SetPriority, Claim, Report}
+use Rattle.fts_tables.proofs.Declared.{FileRow, JobRow, JobKind, Plain, Replica, Multihop, Outcome, Command, Restart, Submit, CancelJob, CancelFile, SetPriority, Claim, Report}
 use Rattle.fts_tables.specs.declared.commands.Refusal.TheVariants.{NoJob}
 use Rattle.fts_tables.proofs.MovedRows.{woken}
 use Rattle.fts_tables.proofs.ActiveRows.{follow_wakes}

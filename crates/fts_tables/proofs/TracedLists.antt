@@ -11,14 +11,7 @@ use Rattle.fts_tables.specs.Step.{with_priority, step}
 use Rattle.fts_tables.specs.History.{IsAccepted, tables_after, tables_from, IsLegalFrom}
 use Rattle.fts_tables.specs.JobData.{JobData}
 use Rattle.fts_tables.specs.Laws.{FileOfRow, file_of, IsStanding, IsFinishedBy, IsFinishedAfter, CopyOrder, IsOrderKept, IsKeptJob, JobsStay, IsNewRow, first_of_new, chosen_of_new, waits_if, first_state}
-use Rattle.fts_tables.specs.declared.rows.FileRow.{FileRow}
-use Rattle.fts_tables.specs.declared.rows.JobRow.{JobRow}
-use Rattle.fts_tables.specs.declared.rows.FileState.{FileState}
-use Rattle.fts_tables.specs.declared.rows.FileState.TheVariants.{Submitted, Active, Finished, Failed, Canceled, NotUsed}
-use Rattle.fts_tables.specs.declared.rows.JobKind.{JobKind}
-use Rattle.fts_tables.specs.declared.rows.JobKind.TheVariants.{Plain, Replica, Multihop}
-use Rattle.fts_tables.specs.declared.commands.Command.{Command}
-use Rattle.fts_tables.specs.declared.commands.Entry.{Entry}
+use Rattle.fts_tables.proofs.Declared.{FileRow, JobRow, FileState, Submitted, Active, Finished, Failed, Canceled, NotUsed, JobKind, Plain, Replica, Multihop, Command, Entry}
 use Rattle.fts_tables.proofs.RowsBy.{found_before, found_next}
 use Rattle.fts_tables.proofs.StepRows.{AreAdded, IsStepBy, step_by, jobs_same}
 use Rattle.fts_tables.proofs.TracedRows.{IsUnfinished, IsTraced, traced_ties, traced_ids}

@@ -5,15 +5,8 @@ use Rattle.fts_tables.specs.Tables.{is_submitted, is_active, is_not_used, is_fin
 use Rattle.fts_tables.specs.Moves.{submitted, canceled, claimed, is_retryable, reported_failure, reported_without_cancel}
 use Rattle.fts_tables.specs.Laws.{FileOfRow, IsMoved, IsFinishedBy}
 use Rattle.fts_tables.specs.declared.limits.TheConstants.{LAST_MOMENT}
-use Rattle.fts_tables.specs.declared.rows.FileRow.{FileRow}
-use Rattle.fts_tables.specs.declared.rows.JobRow.{JobRow}
-use Rattle.fts_tables.specs.declared.rows.FileState.{FileState}
-use Rattle.fts_tables.specs.declared.rows.FileState.TheVariants.{Submitted, Active, Finished, Failed, Canceled, NotUsed}
-use Rattle.fts_tables.specs.declared.rows.Outcome.{Outcome}
-use Rattle.fts_tables.specs.declared.rows.Outcome.TheVariants.{Verified, SourceMissing, DestinationExists, SourceSize, SourceDigest, ReadBackDiffers, StoreFailed, Stopped}
+use Rattle.fts_tables.proofs.Declared.{FileRow, JobRow, FileState, Submitted, Active, Finished, Failed, Canceled, NotUsed, Outcome, Verified, SourceMissing, DestinationExists, SourceSize, SourceDigest, ReadBackDiffers, StoreFailed, Stopped, Command, Report}
 use Rattle.fts_tables.specs.declared.rows.Reason.TheVariants.{Ended}
-use Rattle.fts_tables.specs.declared.commands.Command.{Command}
-use Rattle.fts_tables.specs.declared.commands.Command.TheVariants.{Report}
 use Rattle.fts_tables.proofs.MovedRows.{stays, cancel_moves, release_moves, claim_moves, moved_and_woken, Active-from_test}
 use Rattle.fts_tables.proofs.ActiveRows.{report_ends}
 use Rattle.fts_tables.proofs.StepRows.{AreTies}
