@@ -10,11 +10,13 @@ use Rattle.fts_tables.specs.Choice.{pick}
 use Rattle.fts_tables.specs.Moves.{change_row, cancelled, is_cancellable, is_settled_job, reported, followed}
 use Rattle.fts_tables.specs.Step.{Outcomes, with_rows, submit_within, submit_by, cancel_rows, cancel_row, cancel_one, cancel_file, with_priority, set_priority, claim, report_of, report, step}
 use Rattle.fts_tables.specs.History.{IsAccepted}
+use Rattle.fts_tables.specs.Laws.{IsMoved}
 use Rattle.fts_tables.specs.declared.limits.TheConstants.{MAX_JOBS, MAX_ROWS}
 use Rattle.fts_tables.proofs.Declared.{FileRow, JobRow, JobKind, Plain, Replica, Multihop, Outcome, Command, Restart, Submit, CancelJob, CancelFile, SetPriority, Claim, Report}
 use Rattle.fts_tables.specs.declared.commands.Refusal.TheVariants.{NoJob}
 use Rattle.fts_tables.specs.declared.commands.Answer.TheVariants.{Cancelled, Reported}
-use Rattle.fts_tables.proofs.MovedRows.{Rowwise, all_stay, moved_by, rows_moved, moved_one, moved_if, wake_moves, cancel_moves, Active-from_test}
+use Rattle.fts_tables.proofs.RowsBy.{map_by, one_by}
+use Rattle.fts_tables.proofs.MovedRows.{Rowwise, stays, all_stay, rows_moved, moved_if, wake_moves, cancel_moves, Active-from_test}
 use Rattle.fts_tables.proofs.ActiveRows.{SameActive, same_active, quiet_map, wake_quiet, cancel_quiet, quiet_if, report_ends, follow_wakes}
 use Rattle.fts_tables.proofs.PickedRows.{pick_is_picked}
 use Rattle.fts_tables.proofs.KeptLaws.{Keeps, IsKept, SameJobs, same_jobs, quiet_keeps, nothing_more, held_same, claim_kept, report_keeps, report_accounts, restart_kept, add_kept, row_at-id}
@@ -44,7 +46,7 @@ module _ (tables : Tables) (files : List ℕ) (now : ℕ) (keeps : Keeps tables 
 
   -- each row moves
   cancel_moved : Rowwise tables.rows (map some_cancelled tables.rows)
-  cancel_moved = moved_by some_cancelled (λ row. moved_if (test row) row (cancelled row) (cancel_moves row)) tables.rows
+  cancel_moved = map_by IsMoved some_cancelled (λ row. moved_if (test row) row (cancelled row) (cancel_moves row)) tables.rows
 
   -- the ACTIVE rows stay
   cancel_same : SameActive tables.rows (map some_cancelled tables.rows)
@@ -164,7 +166,7 @@ module _ (tables : Tables) (files : List ℕ) (now file attempt : ℕ) (outcome 
   reported_kept row job found active =
       let here : row_at tables.rows row.id ≡ Some row = subst (λ id. row_at tables.rows id ≡ Some row) (sym (row_at-id tables.rows file row found)) found in
       let ends = report_ends job now outcome row (Active-from_test row.state active) in
-      let one = moved_one 1 tables.rows row.id (reported job now outcome) row keeps.formed.rows here ends.moved in
+      let one = one_by IsMoved stays 1 tables.rows row.id (reported job now outcome) row keeps.formed.rows here ends.moved in
       let after = reported job now outcome row in
       let changed_rows = change_row row.id (reported job now outcome) tables.rows in
       let moved = follow_wakes (λ rows. Rowwise tables.rows rows) (λ id rows moves. wake_moves id tables.rows rows moves) job after changed_rows one in

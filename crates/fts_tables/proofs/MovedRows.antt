@@ -1,19 +1,16 @@
 -- How the rows of a step move, and what that leaves as it was.
-use Rattle.std.proofs.Common.{◌≡◌, ℕ, suc, ◌<◌, Bool, true, false, cond, List, [], ◌∷◌, ◌++◌, map, Some, refl, ap, sym, ◌∙◌, arith, subst, inl, inr}
+use Rattle.std.proofs.Common.{◌≡◌, ℕ, suc, Bool, true, false, List, [], ◌∷◌, ◌++◌, map, refl, ap, sym, ◌∙◌, subst, inl, inr}
 use Rattle.std.specs.Prelude.{◌||◌, ◌==◌, if◌then◌else◌, IsTrue}
-use Rattle.std.proofs.lemmas.Bool.{eqb-true, ne_eqb}
-use Rattle.fts_tables.specs.Tables.{AreNumberedFrom, MayBecome, is_active, is_submitted, is_not_used, is_settled, row_at}
-use Rattle.fts_tables.specs.Moves.{change_row, submitted, canceled, claimed, cancelled, submit_if_not_used}
+use Rattle.fts_tables.specs.Tables.{AreNumberedFrom, MayBecome, is_active, is_submitted, is_not_used, is_settled}
+use Rattle.fts_tables.specs.Moves.{submitted, canceled, claimed, cancelled, submit_if_not_used}
 use Rattle.fts_tables.specs.Step.{released}
 use Rattle.fts_tables.specs.Laws.{FileOfRow, file_of, IsMoved, RowsMoved}
+use Rattle.fts_tables.proofs.RowsBy.{RowsBy, same_by, map_after}
 use Rattle.fts_tables.proofs.Declared.{FileRow, FileState, Submitted, Active, Finished, Failed, Canceled, NotUsed}
 
 -- each row moved, and they are as many
 abbrev pub Rowwise : List FileRow → List FileRow → Type 0
-Rowwise [] [] = Unit {0}
-Rowwise [] (moved ∷ after) = ⊥
-Rowwise (row ∷ rows) [] = ⊥
-Rowwise (row ∷ rows) (moved ∷ after) = IsMoved row moved × Rowwise rows after
+Rowwise rows after = RowsBy IsMoved rows after
 
 -- a row that is as it was
 pub stays : (row : FileRow) → IsMoved row row
@@ -37,13 +34,7 @@ moves_to before after state next from file to may is_open = record {
 
 -- rows that are as they were
 pub all_stay : (rows : List FileRow) → Rowwise rows rows
-all_stay [] = tt
-all_stay (row ∷ rows) = (stays row, all_stay rows)
-
--- a change of every row, each by a move
-pub moved_by : (change : FileRow → FileRow) → ((row : FileRow) → IsMoved row (change row)) → (rows : List FileRow) → Rowwise rows (map change rows)
-moved_by change moves [] = tt
-moved_by change moves (row ∷ rows) = (moves row, moved_by change moves rows)
+all_stay rows = same_by IsMoved stays rows
 
 -- rows that moved, and others behind them
 pub moved_and_added : (rows after more : List FileRow) → Rowwise rows after → RowsMoved rows (after ++ more)
@@ -74,36 +65,6 @@ jobs_stay (row ∷ rows) [] moves = absurd moves
 jobs_stay (row ∷ rows) (moved ∷ after) moves =
     ap (λ number. number ∷ map (λ row. row.job) after) (ap (λ (file : FileOfRow). file.job) moves.0.file)
     ∙ ap (λ numbers. row.job ∷ numbers) (jobs_stay rows after moves.1)
-
--- where no row has the id, none is changed
-pub change_none : (start : ℕ) (rows : List FileRow) (id : ℕ) (change : FileRow → FileRow) → AreNumberedFrom (λ row. row.id) start rows → id < start
-    → change_row id change rows ≡ rows
-change_none start [] id change numbered lt = refl
-change_none start (row ∷ rows) id change numbered lt =
-    let no : (row.id == id) ≡ false = ne_eqb row.id id (λ is. omega (arith, numbered.0)) in
-    let below : id < suc start = omega arith in
-    ap (λ answer. cond answer (change row) row ∷ change_row id change rows) no
-    ∙ ap (λ after. row ∷ after) (change_none (suc start) rows id change numbered.1 below)
-
--- the row with an id moves, and no other
-pub moved_one : (start : ℕ) (rows : List FileRow) (id : ℕ) (change : FileRow → FileRow) (found : FileRow) → AreNumberedFrom (λ row. row.id) start rows
-    → row_at rows id ≡ Some found
-    → IsMoved found (change found) → Rowwise rows (change_row id change rows)
-moved_one start [] id change found numbered at moves = tt
-moved_one start (row ∷ rows) id change found numbered at moves =
-    by_head (λ at_behind. moved_one (suc start) rows id change found numbered.1 at_behind moves) (row.id == id) refl at
-  where
-    by_head : (row_at rows id ≡ Some found → Rowwise rows (change_row id change rows)) → (answer : Bool) → (row.id == id) ≡ answer
-        → cond answer (Some row) (row_at rows id) ≡ Some found
-        → Rowwise (row ∷ rows) (cond answer (change row) row ∷ change_row id change rows)
-    by_head behind true is at_head =
-        let below : id < suc start = omega (arith, numbered.0, eqb-true row.id id is) in
-        let same : found ≡ row = cc in (
-          subst (λ other. IsMoved other (change other)) same moves,
-          subst (λ after. Rowwise rows after)
-              (sym (change_none (suc start) rows id change numbered.1 below)) (all_stay rows),
-        )
-    by_head behind false is at_behind = (stays row, behind at_behind)
 
 -- a row that waits for its turn in a job may have it
 abbrev pub woken : ℕ → FileRow → FileRow
@@ -144,10 +105,7 @@ moved_and_woken before after true NotUsed is moves = record {
 
 -- a step that also wakes a row
 pub wake_moves : (id : ℕ) (rows after : List FileRow) → Rowwise rows after → Rowwise rows (submit_if_not_used id after)
-wake_moves id [] [] moves = tt
-wake_moves id [] (moved ∷ after) moves = absurd moves
-wake_moves id (row ∷ rows) [] moves = absurd moves
-wake_moves id (row ∷ rows) (moved ∷ after) moves = (moved_and_woken row moved (moved.id == id) moved.state refl moves.0, wake_moves id rows after moves.1)
+wake_moves id rows after moves = map_after IsMoved (woken id) (λ before row. moved_and_woken before row (row.id == id) row.state refl) rows after moves
 
 -- a cancelled row, by its state
 cancelled_moves : (row : FileRow) (state : FileState) → row.state ≡ state
