@@ -45,7 +45,7 @@ origin_of tables command after id row by found =
         from_job (inl empty) = let clash : None ≡ Some row = sym (ap (λ rows. row_at rows id) empty) ∙ at in cc
         from_job (inr (now, job, told, is)) =
             let new = found_made tables job id row (subst (λ rows. row_at rows id ≡ Some row) is at) in
-            record { moment = now; job = job; submitted = told; file = new.file; place = new.place; made = new.made }
+            record { moment = now; job = job; submitted = told; above = new.above; file = new.file; place = new.place; made = new.made }
 
 -- a row that comes in with an accepted step
 pub step_begins : (tables : Tables) (command : Command) (id : ℕ) (row : FileRow) → IsStanding tables → IsAccepted (step tables command)

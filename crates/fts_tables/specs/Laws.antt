@@ -81,7 +81,7 @@ pub record IsStanding (tables : Tables) : Type 0 where
   pub formed : AreWellFormed tables
   pub limits : AreWithinLimits tables
 
--- a row was finished by a command: it was ACTIVE with no cancellation asked, the command reports its attempt as verified, and all that changed is said there
+-- a row was finished by a command: it was ACTIVE with no cancellation asked, the command reports its attempt as verified, and `finished` is all that changed
 pub record IsFinishedBy (command : Command) (before row : FileRow) : Type 0 where
   pub moment : ℕ
   pub size : ℕ
@@ -163,6 +163,7 @@ pub record IsNewRow (tables : Tables) (command : Command) (row : FileRow) : Type
   pub moment : ℕ
   pub job : JobData
   pub submitted : command ≡ Submit moment job
+  pub above : first_of_new tables ≤ row.id
   pub file : NewFile
   pub place : slice_get job.files (row.id - first_of_new tables) ≡ Some file
   pub made : row ≡ new_row (length tables.jobs + 1) row.id (first_state job.kind tables job row.id) file
