@@ -1,7 +1,7 @@
 //! The laws of the machine: what holds after every legal list of entries, for whoever keeps the tables by such a list.
 //! Each law is a function without parameters that does nothing: its clause speaks of every list. A crate above cites a law by calling it.
 //! Their words stand in `specs/Laws.antt`. First what holds after a list, then what one step keeps, for a type that keeps it (`IsStanding`).
-//! From `rows_finish_by_reports` on a law says both: `lists` over legal lists, `steps` or `standing` for such a type.
+//! From `rows_finish_by_reports` on a law has a clause for each where there is one: `lists` over legal lists, `steps` or `standing` for such a type.
 //! Limits: a restart releases every ACTIVE row before its settings come into force, and a claim picks only below the limits.
 //! So no limit is ever passed, lower ones after a restart among them.
 ghost use Rattle.std.specs.Prelude.{◌≡◌, ℕ, ◌+◌, ◌-◌, ◌≤◌, ◌==◌, false, Some, None, length, slice_get, List, [], ◌∷◌, ◌++◌, IsTrue, count_by};
