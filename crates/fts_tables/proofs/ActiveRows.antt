@@ -8,17 +8,8 @@ use Rattle.fts_tables.specs.Step.{released}
 use Rattle.fts_tables.specs.JobData.{JobData}
 use Rattle.fts_tables.specs.declared.limits.TheConstants.{LAST_MOMENT}
 use Rattle.fts_tables.specs.Laws.{FileOfRow, file_of, IsMoved}
-use Rattle.fts_tables.specs.declared.places.Place.{Place}
-use Rattle.fts_tables.specs.declared.rows.NewFile.{NewFile}
-use Rattle.fts_tables.specs.declared.rows.FileRow.{FileRow}
-use Rattle.fts_tables.specs.declared.rows.JobRow.{JobRow}
-use Rattle.fts_tables.specs.declared.rows.JobKind.{JobKind}
-use Rattle.fts_tables.specs.declared.rows.JobKind.TheVariants.{Plain, Replica, Multihop}
-use Rattle.fts_tables.specs.declared.rows.Outcome.{Outcome}
-use Rattle.fts_tables.specs.declared.rows.Outcome.TheVariants.{Verified, SourceMissing, DestinationExists, SourceSize, SourceDigest, ReadBackDiffers, StoreFailed, Stopped}
+use Rattle.fts_tables.proofs.Declared.{Place, NewFile, FileRow, JobRow, FileState, Submitted, Active, Finished, Failed, Canceled, NotUsed, JobKind, Plain, Replica, Multihop, Outcome, Verified, SourceMissing, DestinationExists, SourceSize, SourceDigest, ReadBackDiffers, StoreFailed, Stopped}
 use Rattle.fts_tables.specs.declared.rows.Reason.TheVariants.{Ended}
-use Rattle.fts_tables.specs.declared.rows.FileState.{FileState}
-use Rattle.fts_tables.specs.declared.rows.FileState.TheVariants.{Submitted, Active, Finished, Failed, Canceled, NotUsed}
 use Rattle.fts_tables.proofs.Counts.{count_by-cons, count_by-map, count_by-same, count_by-none}
 use Rattle.fts_tables.proofs.MovedRows.{all_stay, woken, moves_to, wake_moves, ids_stay, jobs_stay}
 
@@ -41,14 +32,22 @@ pub record IsQuiet (before after : FileRow) : Type 0 where
 
 -- a quiet row is counted as it was
 acts-quiet : (test : ℕ → Place → Place → Bool) (before after : FileRow) → IsQuiet before after → acts test after ≡ acts test before
-acts-quiet test before after quiet = ap (λ (file : FileOfRow). is_active after.state && test file.id file.source file.dest) quiet.file ∙ ap (λ answer. answer && test before.id before.source before.dest) quiet.active
+acts-quiet test before after quiet =
+    ap (λ (file : FileOfRow). is_active after.state && test file.id file.source file.dest) quiet.file
+    ∙ ap (λ answer. answer && test before.id before.source before.dest) quiet.active
 
 -- a quiet change of every row
-pub quiet_map : (change : FileRow → FileRow) → ((row : FileRow) → IsQuiet row (change row)) → (rows after : List FileRow) → SameActive rows after → SameActive rows (map change after)
-quiet_map change quiet rows after same = record { counts = λ test. count_by-map (acts test) change after ∙ (count_by-same (λ row. acts test (change row)) (acts test) (λ row. acts-quiet test row (change row) (quiet row)) after ∙ same.counts test) }
+pub quiet_map : (change : FileRow → FileRow) → ((row : FileRow) → IsQuiet row (change row)) → (rows after : List FileRow) → SameActive rows after
+    → SameActive rows (map change after)
+quiet_map change quiet rows after same =
+    record {
+      counts = λ test. count_by-map (acts test) change after
+          ∙ (count_by-same (λ row. acts test (change row)) (acts test) (λ row. acts-quiet test row (change row) (quiet row)) after ∙ same.counts test);
+    }
 
 -- waking a row is quiet, by its state
-woken_quiet : (row : FileRow) (is_chosen : Bool) (state : FileState) → row.state ≡ state → IsQuiet row (if is_chosen then (if is_not_used state then submitted row else row) else row)
+woken_quiet : (row : FileRow) (is_chosen : Bool) (state : FileState) → row.state ≡ state
+    → IsQuiet row (if is_chosen then (if is_not_used state then submitted row else row) else row)
 woken_quiet row false state is = record { file = refl; active = refl }
 woken_quiet row true NotUsed is = record { file = refl; active = ap is_active (sym is) }
 woken_quiet row true Submitted is = record { file = refl; active = refl }
@@ -81,7 +80,8 @@ quiet_if true row other quiet = quiet
 quiet_if false row other quiet = record { file = refl; active = refl }
 
 -- a row after a restart is not ACTIVE, by its state
-released_off : (row : FileRow) (state : FileState) (asked : Bool) → row.state ≡ state → is_active (if is_active state then (if asked then canceled row else submitted row) else row).state ≡ false
+released_off : (row : FileRow) (state : FileState) (asked : Bool) → row.state ≡ state
+    → is_active (if is_active state then (if asked then canceled row else submitted row) else row).state ≡ false
 released_off row Active true is = refl
 released_off row Active false is = refl
 released_off row Submitted asked is = ap is_active is
@@ -93,7 +93,8 @@ released_off row NotUsed asked is = ap is_active is
 -- after a restart no row is ACTIVE
 pub none_active : (test : ℕ → Place → Place → Bool) (rows : List FileRow) → count_by (acts test) (map released rows) ≡ 0
 none_active test rows = count_by-map (acts test) released rows
-    ∙ count_by-none (λ row. acts test (released row)) (λ row. ap (λ answer. answer && test (released row).id (released row).source (released row).dest) (released_off row row.state row.cancel_asked refl)) rows
+    ∙ count_by-none (λ row. acts test (released row)) (λ row. ap (λ answer. answer && test (released row).id (released row).source (released row).dest)
+    (released_off row row.state row.cancel_asked refl)) rows
 
 -- after a restart no row is ACTIVE, whatever its id and places
 pub none_active_at_all : (rows : List FileRow) → count_by (λ row. is_active row.state) (map released rows) ≡ 0
@@ -106,7 +107,8 @@ pub record IsEnded (before after : FileRow) : Type 0 where
   pub off : is_active after.state ≡ false
 
 -- an ACTIVE row that ends in a state which is allowed next
-ended_as : (row after : FileRow) (next : FileState) → row.state ≡ Active → file_of after ≡ file_of row → after.state ≡ next → MayBecome Active next → is_active next ≡ false → IsEnded row after
+ended_as : (row after : FileRow) (next : FileState) → row.state ≡ Active → file_of after ≡ file_of row → after.state ≡ next → MayBecome Active next
+    → is_active next ≡ false → IsEnded row after
 ended_as row after next is file to may off = record {
   moved = moves_to row after Active next is file to may refl;
   off = ap is_active to ∙ off;
@@ -114,13 +116,15 @@ ended_as row after next is file to may off = record {
 
 -- a failure that may be tried again, or not
 tried : (row : FileRow) (again : Bool) (retries moment : ℕ) (outcome : Outcome) → row.state ≡ Active
-    → IsEnded row (if again then record row { state = Submitted; retries = retries; not_before = moment; reason = Ended outcome } else record row { state = Failed; reason = Ended outcome })
+    → IsEnded row (if again then record row { state = Submitted; retries = retries; not_before = moment; reason = Ended outcome } else record row
+    { state = Failed; reason = Ended outcome })
 tried row true retries moment outcome is = ended_as row _ Submitted is refl refl refl refl
 tried row false retries moment outcome is = ended_as row _ Failed is refl refl refl refl
 
 -- a failure ends a row
 failure_ends : (job : JobRow) (now : ℕ) (outcome : Outcome) (row : FileRow) → row.state ≡ Active → IsEnded row (reported_failure job now outcome row)
-failure_ends job now outcome row is = tried row (is_retryable outcome && nat_lt row.retries job.retry) (row.retries + 1) (min (now + job.delay) LAST_MOMENT) outcome is
+failure_ends job now outcome row is =
+    tried row (is_retryable outcome && nat_lt row.retries job.retry) (row.retries + 1) (min (now + job.delay) LAST_MOMENT) outcome is
 
 -- each outcome ends a row of which no cancellation was asked
 reported_ends : (job : JobRow) (now : ℕ) (outcome : Outcome) (row : FileRow) → row.state ≡ Active → IsEnded row (reported_without_cancel job now outcome row)
@@ -155,7 +159,8 @@ module _ (Kept : List FileRow → Type 0) (wakes : (id : ℕ) (rows : List FileR
   finish_wakes Plain job row rows kept = kept
   finish_wakes Replica job row rows kept = kept
   finish_wakes Multihop job row rows kept =
-      elim (nat_lt (row.id + 1) (job.first + job.count)) as (λ answer. Kept (cond answer (submit_if_not_used (row.id + 1) rows) rows)) [ true ↦ wakes (row.id + 1) rows kept | false ↦ kept ]
+      elim (nat_lt (row.id + 1) (job.first + job.count)) as (λ answer. Kept (cond answer (submit_if_not_used (row.id + 1) rows) rows))
+      [ true ↦ wakes (row.id + 1) rows kept | false ↦ kept ]
 
   -- after a failure
   failure_wakes : (kind : JobKind) (job : JobRow) (rows : List FileRow) → Kept rows → Kept (followed_failure kind job rows)
@@ -191,14 +196,17 @@ new_owned job id state [] = refl
 new_owned job id state (file ∷ files) = ap (λ numbers. job ∷ numbers) (new_owned job (suc id) state files)
 
 -- new rows are not ACTIVE
-new_idle : (job id : ℕ) (state : FileState) (files : List NewFile) → is_active state ≡ false → (test : ℕ → Place → Place → Bool) → count_by (acts test) (new_rows job id state files) ≡ 0
+new_idle : (job id : ℕ) (state : FileState) (files : List NewFile) → is_active state ≡ false → (test : ℕ → Place → Place → Bool)
+    → count_by (acts test) (new_rows job id state files) ≡ 0
 new_idle job id state [] off test = refl
 new_idle job id state (file ∷ files) off test = count_by-cons (acts test) (new_row job id state file) (new_rows job (suc id) state files)
-    ∙ (ap (λ answer. cond (answer && test id file.source file.dest) 1 0 + count_by (acts test) (new_rows job (suc id) state files)) off ∙ omega (arith, new_idle job (suc id) state files off test))
+    ∙ (ap (λ answer. cond (answer && test id file.source file.dest) 1 0 + count_by (acts test) (new_rows job (suc id) state files)) off
+    ∙ omega (arith, new_idle job (suc id) state files off test))
 
 -- the rows of files in a state that is not ACTIVE
 pub new_are_new : (job id : ℕ) (state : FileState) (files : List NewFile) → is_active state ≡ false → AreNew job id (length files) (new_rows job id state files)
-new_are_new job id state files off = record { numbered = new_numbered job id state files; owned = new_owned job id state files; idle = new_idle job id state files off }
+new_are_new job id state files off =
+    record { numbered = new_numbered job id state files; owned = new_owned job id state files; idle = new_idle job id state files off }
 
 -- a new row may be woken
 new_woken : (job id count woken_id : ℕ) (rows : List FileRow) → AreNew job id count rows → AreNew job id count (submit_if_not_used woken_id rows)
@@ -211,9 +219,12 @@ new_woken job id count woken_id rows new =
     }
 
 -- the rows of a new job of any kind
-pub kind_new : (kind : JobKind) (rows : List FileRow) (number id : ℕ) (new : JobData) → AreNew number id (length new.files) (rows_of_kind kind rows number id new)
+pub kind_new : (kind : JobKind) (rows : List FileRow) (number id : ℕ) (new : JobData)
+    → AreNew number id (length new.files) (rows_of_kind kind rows number id new)
 kind_new Plain rows number id new = new_are_new number id Submitted new.files refl
-kind_new Multihop rows number id new = new_woken number id (length new.files) id (new_rows number id NotUsed new.files) (new_are_new number id NotUsed new.files refl)
+kind_new Multihop rows number id new =
+    new_woken number id (length new.files) id (new_rows number id NotUsed new.files) (new_are_new number id NotUsed new.files refl)
 kind_new Replica rows number id new =
     chosen_wakes (λ rows. AreNew number id (length new.files) rows) (λ woken_id rows are_new. new_woken number id (length new.files) woken_id rows are_new)
-    (next_alternative new.strategy rows (new_rows number id NotUsed new.files)) (new_rows number id NotUsed new.files) (new_are_new number id NotUsed new.files refl)
+    (next_alternative new.strategy rows (new_rows number id NotUsed new.files)) (new_rows number id NotUsed new.files)
+    (new_are_new number id NotUsed new.files refl)

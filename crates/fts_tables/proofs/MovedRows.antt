@@ -1,28 +1,24 @@
 -- How the rows of a step move, and what that leaves as it was.
-use Rattle.std.proofs.Common.{◌≡◌, ℕ, suc, ◌<◌, Bool, true, false, cond, List, [], ◌∷◌, ◌++◌, map, Some, refl, ap, sym, ◌∙◌, arith, subst, inl, inr}
+use Rattle.std.proofs.Common.{◌≡◌, ℕ, suc, Bool, true, false, List, [], ◌∷◌, ◌++◌, map, refl, ap, sym, ◌∙◌, subst, inl, inr}
 use Rattle.std.specs.Prelude.{◌||◌, ◌==◌, if◌then◌else◌, IsTrue}
-use Rattle.std.proofs.lemmas.Bool.{eqb-true, ne_eqb}
-use Rattle.fts_tables.specs.Tables.{AreNumberedFrom, MayBecome, is_active, is_submitted, is_not_used, is_settled, row_at}
-use Rattle.fts_tables.specs.Moves.{change_row, submitted, canceled, claimed, cancelled, submit_if_not_used}
+use Rattle.fts_tables.specs.Tables.{AreNumberedFrom, MayBecome, is_active, is_submitted, is_not_used, is_settled}
+use Rattle.fts_tables.specs.Moves.{submitted, canceled, claimed, cancelled, submit_if_not_used}
 use Rattle.fts_tables.specs.Step.{released}
 use Rattle.fts_tables.specs.Laws.{FileOfRow, file_of, IsMoved, RowsMoved}
-use Rattle.fts_tables.specs.declared.rows.FileRow.{FileRow}
-use Rattle.fts_tables.specs.declared.rows.FileState.{FileState}
-use Rattle.fts_tables.specs.declared.rows.FileState.TheVariants.{Submitted, Active, Finished, Failed, Canceled, NotUsed}
+use Rattle.fts_tables.proofs.RowsBy.{RowsBy, same_by, map_after}
+use Rattle.fts_tables.proofs.Declared.{FileRow, FileState, Submitted, Active, Finished, Failed, Canceled, NotUsed}
 
 -- each row moved, and they are as many
 abbrev pub Rowwise : List FileRow → List FileRow → Type 0
-Rowwise [] [] = Unit {0}
-Rowwise [] (moved ∷ after) = ⊥
-Rowwise (row ∷ rows) [] = ⊥
-Rowwise (row ∷ rows) (moved ∷ after) = IsMoved row moved × Rowwise rows after
+Rowwise rows after = RowsBy IsMoved rows after
 
 -- a row that is as it was
 pub stays : (row : FileRow) → IsMoved row row
 stays row = record { file = refl; state = inl refl; settled = λ settled. refl }
 
 -- a row of a state that isn't settled owes nothing to the rule of settled ones
-pub unsettled : (before after : FileRow) (state : FileState) → before.state ≡ state → is_settled state ≡ false → IsTrue (is_settled before.state) → after ≡ before
+pub unsettled : (before after : FileRow) (state : FileState) → before.state ≡ state → is_settled state ≡ false → IsTrue (is_settled before.state)
+    → after ≡ before
 unsettled before after state from is_open settled =
     let clash : true ≡ false = sym settled ∙ (ap is_settled from ∙ is_open) in
     cc
@@ -38,13 +34,7 @@ moves_to before after state next from file to may is_open = record {
 
 -- rows that are as they were
 pub all_stay : (rows : List FileRow) → Rowwise rows rows
-all_stay [] = tt
-all_stay (row ∷ rows) = (stays row, all_stay rows)
-
--- a change of every row, each by a move
-pub moved_by : (change : FileRow → FileRow) → ((row : FileRow) → IsMoved row (change row)) → (rows : List FileRow) → Rowwise rows (map change rows)
-moved_by change moves [] = tt
-moved_by change moves (row ∷ rows) = (moves row, moved_by change moves rows)
+all_stay rows = same_by IsMoved stays rows
 
 -- rows that moved, and others behind them
 pub moved_and_added : (rows after more : List FileRow) → Rowwise rows after → RowsMoved rows (after ++ more)
@@ -59,11 +49,13 @@ rows_moved (row ∷ rows) [] moves = absurd moves
 rows_moved (row ∷ rows) (moved ∷ after) moves = (moves.0, rows_moved rows after moves.1)
 
 -- ids stay
-pub ids_stay : (start : ℕ) (rows after : List FileRow) → Rowwise rows after → AreNumberedFrom (λ row. row.id) start rows → AreNumberedFrom (λ row. row.id) start after
+pub ids_stay : (start : ℕ) (rows after : List FileRow) → Rowwise rows after → AreNumberedFrom (λ row. row.id) start rows
+    → AreNumberedFrom (λ row. row.id) start after
 ids_stay start [] [] moves numbered = tt
 ids_stay start [] (moved ∷ after) moves numbered = absurd moves
 ids_stay start (row ∷ rows) [] moves numbered = absurd moves
-ids_stay start (row ∷ rows) (moved ∷ after) moves numbered = (ap (λ (file : FileOfRow). file.id) moves.0.file ∙ numbered.0, ids_stay (suc start) rows after moves.1 numbered.1)
+ids_stay start (row ∷ rows) (moved ∷ after) moves numbered =
+    (ap (λ (file : FileOfRow). file.id) moves.0.file ∙ numbered.0, ids_stay (suc start) rows after moves.1 numbered.1)
 
 -- the rows' jobs stay
 pub jobs_stay : (rows after : List FileRow) → Rowwise rows after → map (λ row. row.job) after ≡ map (λ row. row.job) rows
@@ -71,29 +63,8 @@ jobs_stay [] [] moves = refl
 jobs_stay [] (moved ∷ after) moves = absurd moves
 jobs_stay (row ∷ rows) [] moves = absurd moves
 jobs_stay (row ∷ rows) (moved ∷ after) moves =
-    ap (λ number. number ∷ map (λ row. row.job) after) (ap (λ (file : FileOfRow). file.job) moves.0.file) ∙ ap (λ numbers. row.job ∷ numbers) (jobs_stay rows after moves.1)
-
--- where no row has the id, none is changed
-pub change_none : (start : ℕ) (rows : List FileRow) (id : ℕ) (change : FileRow → FileRow) → AreNumberedFrom (λ row. row.id) start rows → id < start → change_row id change rows ≡ rows
-change_none start [] id change numbered lt = refl
-change_none start (row ∷ rows) id change numbered lt =
-    let no : (row.id == id) ≡ false = ne_eqb row.id id (λ is. omega (arith, numbered.0)) in
-    let below : id < suc start = omega arith in
-    ap (λ answer. cond answer (change row) row ∷ change_row id change rows) no ∙ ap (λ after. row ∷ after) (change_none (suc start) rows id change numbered.1 below)
-
--- the row with an id moves, and no other
-pub moved_one : (start : ℕ) (rows : List FileRow) (id : ℕ) (change : FileRow → FileRow) (found : FileRow) → AreNumberedFrom (λ row. row.id) start rows → row_at rows id ≡ Some found
-    → IsMoved found (change found) → Rowwise rows (change_row id change rows)
-moved_one start [] id change found numbered at moves = tt
-moved_one start (row ∷ rows) id change found numbered at moves = by_head (λ at_behind. moved_one (suc start) rows id change found numbered.1 at_behind moves) (row.id == id) refl at
-  where
-    by_head : (row_at rows id ≡ Some found → Rowwise rows (change_row id change rows)) → (answer : Bool) → (row.id == id) ≡ answer → cond answer (Some row) (row_at rows id) ≡ Some found
-        → Rowwise (row ∷ rows) (cond answer (change row) row ∷ change_row id change rows)
-    by_head behind true is at_head =
-        let below : id < suc start = omega (arith, numbered.0, eqb-true row.id id is) in
-        let same : found ≡ row = cc in
-        (subst (λ other. IsMoved other (change other)) same moves, subst (λ after. Rowwise rows after) (sym (change_none (suc start) rows id change numbered.1 below)) (all_stay rows))
-    by_head behind false is at_behind = (stays row, behind at_behind)
+    ap (λ number. number ∷ map (λ row. row.job) after) (ap (λ (file : FileOfRow). file.job) moves.0.file)
+    ∙ ap (λ numbers. row.job ∷ numbers) (jobs_stay rows after moves.1)
 
 -- a row that waits for its turn in a job may have it
 abbrev pub woken : ℕ → FileRow → FileRow
@@ -113,7 +84,7 @@ settled_moved : (before after : FileRow) → IsMoved before after → IsTrue (is
 settled_moved before after moves settled = subst (λ (row : FileRow). is_settled row.state ≡ true) (sym (moves.settled settled)) settled
 
 -- a row that moved, and is woken in the same step, has moved
-moved_and_woken : (before after : FileRow) (is_chosen : Bool) (state : FileState) → after.state ≡ state → IsMoved before after
+pub moved_and_woken : (before after : FileRow) (is_chosen : Bool) (state : FileState) → after.state ≡ state → IsMoved before after
     → IsMoved before (if is_chosen then (if is_not_used state then submitted after else after) else after)
 moved_and_woken before after false state is moves = moves
 moved_and_woken before after true Submitted is moves = moves
@@ -134,10 +105,7 @@ moved_and_woken before after true NotUsed is moves = record {
 
 -- a step that also wakes a row
 pub wake_moves : (id : ℕ) (rows after : List FileRow) → Rowwise rows after → Rowwise rows (submit_if_not_used id after)
-wake_moves id [] [] moves = tt
-wake_moves id [] (moved ∷ after) moves = absurd moves
-wake_moves id (row ∷ rows) [] moves = absurd moves
-wake_moves id (row ∷ rows) (moved ∷ after) moves = (moved_and_woken row moved (moved.id == id) moved.state refl moves.0, wake_moves id rows after moves.1)
+wake_moves id rows after moves = map_after IsMoved (woken id) (λ before row. moved_and_woken before row (row.id == id) row.state refl) rows after moves
 
 -- a cancelled row, by its state
 cancelled_moves : (row : FileRow) (state : FileState) → row.state ≡ state
@@ -154,7 +122,8 @@ pub cancel_moves : (row : FileRow) → IsMoved row (cancelled row)
 cancel_moves row = cancelled_moves row row.state refl
 
 -- a row after a restart, by its state
-released_moves : (row : FileRow) (state : FileState) (asked : Bool) → row.state ≡ state → IsMoved row (if is_active state then (if asked then canceled row else submitted row) else row)
+released_moves : (row : FileRow) (state : FileState) (asked : Bool) → row.state ≡ state
+    → IsMoved row (if is_active state then (if asked then canceled row else submitted row) else row)
 released_moves row Active true is = moves_to row (canceled row) Active Canceled is refl refl refl refl
 released_moves row Active false is = moves_to row (submitted row) Active Submitted is refl refl refl refl
 released_moves row Submitted asked is = stays row
