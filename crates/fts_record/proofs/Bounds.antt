@@ -29,7 +29,8 @@ low_first_short : (more number : ℕ) → length (low_first more number) ≤ mor
 low_first_short zero number = omega arith
 low_first_short (suc more) number =
     let behind = low_first_short more (number / 128) in
-    cond_both (ltb number 128) (number ∷ []) ((128 + number % 128) ∷ low_first more (number / 128)) (λ (l : List ℕ). length l ≤ suc more) (λ small. omega arith) (λ large. omega (arith, behind))
+    cond_both (ltb number 128) (number ∷ []) ((128 + number % 128) ∷ low_first more (number / 128)) (λ (l : List ℕ). length l ≤ suc more)
+    (λ small. omega arith) (λ large. omega (arith, behind))
 
 -- ten bytes hold a number
 number_short : (number : ℕ) → length (number_bytes number) ≤ 10
@@ -57,7 +58,8 @@ unfolding is_path_text
 path_bytes_short text passed = omega (arith, text_short text, path_short text (and_parts _ (is_path_key text) passed).1)
 
 -- items of at most so many bytes
-items_short : {A : Type 0} (spell : A → List ℕ) (test : A → Bool) (limit : ℕ) → ((item : A) → test item ≡ true → length (spell item) ≤ limit) → (items : List A) → list_all test items ≡ true → length (flat_map spell items) ≤ length items * limit
+items_short : {A : Type 0} (spell : A → List ℕ) (test : A → Bool) (limit : ℕ) → ((item : A) → test item ≡ true → length (spell item) ≤ limit)
+    → (items : List A) → list_all test items ≡ true → length (flat_map spell items) ≤ length items * limit
 items_short spell test limit short [] passed = omega arith
 items_short spell test limit short (item ∷ items) passed =
     let both = and_parts (test item) (list_all test items) passed in
@@ -106,7 +108,8 @@ unfolding link_bytes is_proper_link
 link_short l passed =
     let dest = and_parts _ _ (and_parts _ _ passed).0 in
     let source = and_parts _ _ dest.0 in
-    simp length-append (omega (arith, label_bytes_short l.symbolic source.0, name_bytes_short l.source source.1, name_bytes_short l.dest dest.1, number_short l.max_active))
+    simp length-append (omega
+    (arith, label_bytes_short l.symbolic source.0, name_bytes_short l.source source.1, name_bytes_short l.dest dest.1, number_short l.max_active))
 
 -- an activity: a label and a number
 weight_short : (w : Weight) → is_proper_weight w ≡ true → length (weight_bytes w) ≤ 275
@@ -114,7 +117,8 @@ unfolding weight_bytes is_proper_weight
 weight_short w passed = simp length-append (omega (arith, label_bytes_short w.name (and_parts _ _ passed).0, number_short w.weight))
 
 -- a list: the number of its items, and each item
-list_short : {A : Type 0} (spell : A → List ℕ) (test : A → Bool) (limit low high : ℕ) → ((item : A) → test item ≡ true → length (spell item) ≤ limit) → (items : List A) → is_list low high test items ≡ true → (length (list_bytes spell items) ≤ 10 + length items * limit) × (length items ≤ high)
+list_short : {A : Type 0} (spell : A → List ℕ) (test : A → Bool) (limit low high : ℕ) → ((item : A) → test item ≡ true → length (spell item) ≤ limit)
+    → (items : List A) → is_list low high test items ≡ true → (length (list_bytes spell items) ≤ 10 + length items * limit) × (length items ≤ high)
 list_short spell test limit low high short items passed =
     let both = and_parts (is_within low high (length items)) (list_all test items) passed in (
       simp length-append (omega (arith, number_short (length items), items_short spell test limit short items both.1)),
@@ -148,7 +152,8 @@ settings_short s passed =
     (joined_short _ _ (265 + 10 + 10 + 269834 + 2399242) 17610
     (joined_short _ _ (265 + 10 + 10 + 269834) 2399242
     (joined_short _ _ (265 + 10 + 10) 269834
-    (joined_short _ _ (265 + 10) 10 (joined_short _ _ 265 10 (label_bytes_short s.vo workers.0) (number_short s.workers)) (number_short s.default_max_active)) ee) ll) ww)
+    (joined_short _ _ (265 + 10) 10 (joined_short _ _ 265 10 (label_bytes_short s.vo workers.0) (number_short s.workers))
+    (number_short s.default_max_active)) ee) ll) ww)
     (omega arith)
 
 -- a file: two names, two paths, a label, two numbers and a digest
@@ -220,7 +225,8 @@ command_short (CancelJob now j) passed = simp length-append (omega (arith, numbe
 command_short (CancelFile now j f) passed = simp length-append (omega (arith, number_short now, number_short j, number_short f))
 command_short (SetPriority now j priority) passed = simp length-append (omega (arith, number_short now, number_short j, number_short priority))
 command_short (Claim now word) passed = simp length-append (omega (arith, number_short now))
-command_short (Report now f attempt o) passed = simp length-append (omega (arith, number_short now, number_short f, number_short attempt, outcome_short o (and_parts _ _ passed).1))
+command_short (Report now f attempt o) passed =
+    simp length-append (omega (arith, number_short now, number_short f, number_short attempt, outcome_short o (and_parts _ _ passed).1))
 
 -- a proper entry's spelling is one body of the journal
 pub spelling_short : (entry : Entry) → IsProper entry → length (spelled entry) ≤ 4194304

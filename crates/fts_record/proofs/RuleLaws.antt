@@ -12,7 +12,7 @@ use Rattle.fts_tables.specs.declared.rows.JobKind.{JobKind}
 use Rattle.fts_tables.specs.declared.rows.Strategy.{Strategy}
 use Rattle.fts_record.specs.Proper.{is_u128, is_none_or, is_label_text, is_proper_endpoint, is_proper_link, is_proper_weight, has_proper_settings_fields, is_proper_settings, is_proper_file, has_proper_job_fields, is_proper_job}
 use Rattle.fts_record.specs.Reading.{◌>>=◌, number_at, label_at, list_at, endpoint_at, link_at, weight_at, settings_of, settings_fields_at, settings_at, kind_at, strategy_at, asked_id_at, flag_at, file_at, job_of, job_fields_at, job_at}
-use Rattle.fts_record.specs.Rules.{are_lawful, is_lawful}
+use Rattle.fts_tables.specs.Rules.{are_lawful, is_lawful}
 use Rattle.fts_record.specs.Laws.{AreBytes}
 use Rattle.fts_record.proofs.Readers.{done}
 use Rattle.fts_record.proofs.EntryLaws.{settings_fields_reads, job_fields_reads}
@@ -24,14 +24,16 @@ same_test false true into from = from refl
 same_test false false into from = refl
 
 -- what passes a test passes a weaker one, item by item
-pub all_weaker : {A : Type 0} (p q : A → Bool) → ((item : A) → p item ≡ true → q item ≡ true) → (items : List A) → list_all p items ≡ true → list_all q items ≡ true
+pub all_weaker : {A : Type 0} (p q : A → Bool) → ((item : A) → p item ≡ true → q item ≡ true) → (items : List A) → list_all p items ≡ true
+    → list_all q items ≡ true
 all_weaker p q into [] passed = refl
 all_weaker p q into (item ∷ items) passed =
     let both = and_parts (p item) (list_all p items) passed in
     and_from (q item) (list_all q items) (into item both.0) (all_weaker p q into items both.1)
 
 -- what passes two tests item by item passes both
-all_both : {A : Type 0} (p q : A → Bool) → (items : List A) → list_all p items ≡ true → list_all q items ≡ true → list_all (λ item. p item && q item) items ≡ true
+all_both : {A : Type 0} (p q : A → Bool) → (items : List A) → list_all p items ≡ true → list_all q items ≡ true
+    → list_all (λ item. p item && q item) items ≡ true
 all_both p q [] one other = refl
 all_both p q (item ∷ items) one other =
     let first = and_parts (p item) (list_all p items) one in
@@ -113,7 +115,11 @@ settings_kept s fields lawful =
 -- all rules, each by its name, are the one test
 pub settings_pass : (s : SettingsData) → IsSettings s → is_settings s ≡ true
 settings_pass s kept =
-    and_from _ _ (and_from _ _ (and_from _ _ (and_from _ _ (and_from _ _ (and_from _ _ (and_from _ _ (and_from _ _ (and_from _ _ (and_from _ _ (and_from _ _ (and_from _ _ (and_from _ _ (and_from _ _ (and_from _ _ kept.vo kept.workers) kept.default_limit) kept.endpoint_count) kept.link_count) kept.weight_count) kept.endpoint_names) kept.endpoint_limits) kept.link_pairs) kept.link_ends) kept.link_limits) kept.link_labels) kept.weight_names) kept.weight_labels) kept.weight_ranges) kept.default
+    let a = and_from _ _ (and_from _ _ (and_from _ _ kept.vo kept.workers) kept.default_limit) kept.endpoint_count in
+    let b = and_from _ _ (and_from _ _ (and_from _ _ a kept.link_count) kept.weight_count) kept.endpoint_names in
+    let c = and_from _ _ (and_from _ _ (and_from _ _ (and_from _ _ b kept.endpoint_limits) kept.link_pairs) kept.link_ends) kept.link_limits in
+    let d = and_from _ _ (and_from _ _ (and_from _ _ c kept.link_labels) kept.weight_names) kept.weight_labels in
+    and_from _ _ (and_from _ _ d kept.weight_ranges) kept.default
 
 -- settings that pass the one test keep the joining rules
 settings_lawful : (s : SettingsData) → is_settings s ≡ true → are_lawful s.endpoints s.links s.weights ≡ true
@@ -128,28 +134,34 @@ settings_lawful s passed =
 
 -- where the fields are in range, the rules of settings are the joining ones
 settings_ruled : (s : SettingsData) → has_proper_settings_fields s ≡ true → is_settings s ≡ are_lawful s.endpoints s.links s.weights
-settings_ruled s fields = same_test (is_settings s) (are_lawful s.endpoints s.links s.weights) (settings_lawful s) (λ lawful. settings_pass s (settings_kept s fields lawful))
+settings_ruled s fields =
+    same_test (is_settings s) (are_lawful s.endpoints s.links s.weights) (settings_lawful s) (λ lawful. settings_pass s (settings_kept s fields lawful))
 
 -- the fields of settings, read one after the other
-pub settings_fields_are : (bytes : List ℕ) (vo : List ℕ) (r1 : List ℕ) (workers : ℕ) (r2 : List ℕ) (limit : ℕ) (r3 : List ℕ) (endpoints : List Endpoint) (r4 : List ℕ) (links : List LinkRule) (r5 : List ℕ) (weights : List Weight) (r6 : List ℕ)
-    → label_at bytes ≡ Ok (vo, r1) → number_at 1 16 r1 ≡ Ok (workers, r2) → number_at 1 1000 r2 ≡ Ok (limit, r3) → list_at 1 256 endpoint_at r3 ≡ Ok (endpoints, r4) → list_at 0 1024 link_at r4 ≡ Ok (links, r5) → list_at 0 64 weight_at r5 ≡ Ok (weights, r6)
+pub settings_fields_are : (bytes : List ℕ) (vo : List ℕ) (r1 : List ℕ) (workers : ℕ) (r2 : List ℕ) (limit : ℕ) (r3 : List ℕ) (endpoints : List Endpoint)
+    (r4 : List ℕ) (links : List LinkRule) (r5 : List ℕ) (weights : List Weight) (r6 : List ℕ)
+    → label_at bytes ≡ Ok (vo, r1) → number_at 1 16 r1 ≡ Ok (workers, r2) → number_at 1 1000 r2 ≡ Ok (limit, r3)
+    → list_at 1 256 endpoint_at r3 ≡ Ok (endpoints, r4) → list_at 0 1024 link_at r4 ≡ Ok (links, r5) → list_at 0 64 weight_at r5 ≡ Ok (weights, r6)
     → settings_fields_at bytes ≡ Ok (settings_of vo workers limit endpoints links weights, r6)
 unfolding settings_fields_at
 settings_fields_are bytes vo r1 workers r2 limit r3 endpoints r4 links r5 weights r6 e1 e2 e3 e4 e5 e6 = rw (e1, e2, e3, e4, e5, e6) refl
 
 -- fields of settings that were read are in range
-pub settings_fields_fit : (bytes : List ℕ) (s : SettingsData) (rest : List ℕ) → AreBytes bytes → settings_fields_at bytes ≡ Ok (s, rest) → has_proper_settings_fields s ≡ true
+pub settings_fields_fit : (bytes : List ℕ) (s : SettingsData) (rest : List ℕ) → AreBytes bytes → settings_fields_at bytes ≡ Ok (s, rest)
+    → has_proper_settings_fields s ≡ true
 settings_fields_fit bytes s rest are e = (settings_fields_reads.takes bytes (s, rest) are e).fit
 
 -- settings that keep the joining rules are read
-pub settings_are_read : (bytes : List ℕ) (s : SettingsData) (rest : List ℕ) → AreBytes bytes → settings_fields_at bytes ≡ Ok (s, rest) → are_lawful s.endpoints s.links s.weights ≡ true → settings_at bytes ≡ Ok (s, rest)
+pub settings_are_read : (bytes : List ℕ) (s : SettingsData) (rest : List ℕ) → AreBytes bytes → settings_fields_at bytes ≡ Ok (s, rest)
+    → are_lawful s.endpoints s.links s.weights ≡ true → settings_at bytes ≡ Ok (s, rest)
 unfolding settings_at
 settings_are_read bytes s rest are e lawful =
     ap (λ r. r >>= λ value. cond (is_settings value.0) (Ok value) (Err (length bytes))) e
     ∙ ap (λ (b : Bool). cond b (done (s, rest)) (Err (length bytes))) (settings_ruled s (settings_fields_fit bytes s rest are e) ∙ lawful)
 
 -- settings that break one are not spelled from their first byte
-pub settings_are_refused : (bytes : List ℕ) (s : SettingsData) (rest : List ℕ) → AreBytes bytes → settings_fields_at bytes ≡ Ok (s, rest) → are_lawful s.endpoints s.links s.weights ≡ false → settings_at bytes ≡ Err (length bytes)
+pub settings_are_refused : (bytes : List ℕ) (s : SettingsData) (rest : List ℕ) → AreBytes bytes → settings_fields_at bytes ≡ Ok (s, rest)
+    → are_lawful s.endpoints s.links s.weights ≡ false → settings_at bytes ≡ Err (length bytes)
 unfolding settings_at
 settings_are_refused bytes s rest are e unlawful =
     ap (λ r. r >>= λ value. cond (is_settings value.0) (Ok value) (Err (length bytes))) e
@@ -164,7 +176,8 @@ pub weights_ready : (s : SettingsData) → IsSettings s → list_all (λ w. is_l
 weights_ready s kept = all_both (λ w. is_label w.name) (λ w. is_within 1 10000 w.weight) s.weights kept.weight_labels kept.weight_ranges
 
 -- settings of which each text and item is proper are proper
-pub settings_proper : (s : SettingsData) → IsSettings s → is_label_text s.vo ≡ true → list_all is_proper_endpoint s.endpoints ≡ true → list_all is_proper_link s.links ≡ true → list_all is_proper_weight s.weights ≡ true → is_proper_settings s ≡ true
+pub settings_proper : (s : SettingsData) → IsSettings s → is_label_text s.vo ≡ true → list_all is_proper_endpoint s.endpoints ≡ true
+    → list_all is_proper_link s.links ≡ true → list_all is_proper_weight s.weights ≡ true → is_proper_settings s ≡ true
 unfolding has_proper_settings_fields is_proper_settings
 settings_proper s kept vo endpoints links weights =
     and_from _ _
@@ -207,7 +220,10 @@ job_kept j fields lawful =
 
 -- all rules of a job, each by its name, are the one test
 pub job_pass : (j : JobData) → IsNewJob j → is_new_job j ≡ true
-job_pass j kept = and_from _ _ (and_from _ _ (and_from _ _ (and_from _ _ (and_from _ _ (and_from _ _ (and_from _ _ kept.priority kept.retry) kept.delay) kept.file_count) kept.apart) kept.sizes) kept.activities) kept.shape
+job_pass j kept = and_from _ _
+    (and_from _ _ (and_from _ _
+    (and_from _ _ (and_from _ _
+    (and_from _ _ (and_from _ _ kept.priority kept.retry) kept.delay) kept.file_count) kept.apart) kept.sizes) kept.activities) kept.shape
 
 -- a job that passes the one test keeps the joining rules
 job_lawful : (j : JobData) → is_new_job j ≡ true → is_lawful j.kind j.files ≡ true
@@ -224,25 +240,31 @@ job_ruled : (j : JobData) → has_proper_job_fields j ≡ true → is_new_job j 
 job_ruled j fields = same_test (is_new_job j) (is_lawful j.kind j.files) (job_lawful j) (λ lawful. job_pass j (job_kept j fields lawful))
 
 -- the fields of a job, read one after the other
-pub job_fields_are : (bytes : List ℕ) (kind : JobKind) (r1 : List ℕ) (strategy : Strategy) (r2 : List ℕ) (id : Option ℕ) (r3 : List ℕ) (priority : ℕ) (r4 : List ℕ) (retry : ℕ) (r5 : List ℕ) (delay : ℕ) (r6 : List ℕ) (overwrite : Bool) (r7 : List ℕ) (files : List NewFile) (r8 : List ℕ)
-    → kind_at bytes ≡ Ok (kind, r1) → strategy_at r1 ≡ Ok (strategy, r2) → asked_id_at r2 ≡ Ok (id, r3) → number_at 1 5 r3 ≡ Ok (priority, r4) → number_at 0 10 r4 ≡ Ok (retry, r5) → number_at 0 86400 r5 ≡ Ok (delay, r6) → flag_at r6 ≡ Ok (overwrite, r7) → list_at 1 200 file_at r7 ≡ Ok (files, r8)
+pub job_fields_are : (bytes : List ℕ) (kind : JobKind) (r1 : List ℕ) (strategy : Strategy) (r2 : List ℕ) (id : Option ℕ) (r3 : List ℕ) (priority : ℕ)
+    (r4 : List ℕ) (retry : ℕ) (r5 : List ℕ) (delay : ℕ) (r6 : List ℕ) (overwrite : Bool) (r7 : List ℕ) (files : List NewFile) (r8 : List ℕ)
+    → kind_at bytes ≡ Ok (kind, r1) → strategy_at r1 ≡ Ok (strategy, r2) → asked_id_at r2 ≡ Ok (id, r3) → number_at 1 5 r3 ≡ Ok (priority, r4)
+    → number_at 0 10 r4 ≡ Ok (retry, r5) → number_at 0 86400 r5 ≡ Ok (delay, r6) → flag_at r6 ≡ Ok (overwrite, r7)
+    → list_at 1 200 file_at r7 ≡ Ok (files, r8)
     → job_fields_at bytes ≡ Ok (job_of kind strategy id priority retry delay overwrite files, r8)
 unfolding job_fields_at
-job_fields_are bytes kind r1 strategy r2 id r3 priority r4 retry r5 delay r6 overwrite r7 files r8 e1 e2 e3 e4 e5 e6 e7 e8 = rw (e1, e2, e3, e4, e5, e6, e7, e8) refl
+job_fields_are bytes kind r1 strategy r2 id r3 priority r4 retry r5 delay r6 overwrite r7 files r8 e1 e2 e3 e4 e5 e6 e7 e8 =
+    rw (e1, e2, e3, e4, e5, e6, e7, e8) refl
 
 -- fields of a job that were read are in range
 pub job_fields_fit : (bytes : List ℕ) (j : JobData) (rest : List ℕ) → AreBytes bytes → job_fields_at bytes ≡ Ok (j, rest) → has_proper_job_fields j ≡ true
 job_fields_fit bytes j rest are e = (job_fields_reads.takes bytes (j, rest) are e).fit
 
 -- a job that keeps the joining rules is read
-pub job_is_read : (bytes : List ℕ) (j : JobData) (rest : List ℕ) → AreBytes bytes → job_fields_at bytes ≡ Ok (j, rest) → is_lawful j.kind j.files ≡ true → job_at bytes ≡ Ok (j, rest)
+pub job_is_read : (bytes : List ℕ) (j : JobData) (rest : List ℕ) → AreBytes bytes → job_fields_at bytes ≡ Ok (j, rest) → is_lawful j.kind j.files ≡ true
+    → job_at bytes ≡ Ok (j, rest)
 unfolding job_at
 job_is_read bytes j rest are e lawful =
     ap (λ r. r >>= λ value. cond (is_new_job value.0) (Ok value) (Err (length bytes))) e
     ∙ ap (λ (b : Bool). cond b (done (j, rest)) (Err (length bytes))) (job_ruled j (job_fields_fit bytes j rest are e) ∙ lawful)
 
 -- a job that breaks one is not spelled from its first byte
-pub job_is_refused : (bytes : List ℕ) (j : JobData) (rest : List ℕ) → AreBytes bytes → job_fields_at bytes ≡ Ok (j, rest) → is_lawful j.kind j.files ≡ false → job_at bytes ≡ Err (length bytes)
+pub job_is_refused : (bytes : List ℕ) (j : JobData) (rest : List ℕ) → AreBytes bytes → job_fields_at bytes ≡ Ok (j, rest) → is_lawful j.kind j.files ≡ false
+    → job_at bytes ≡ Err (length bytes)
 unfolding job_at
 job_is_refused bytes j rest are e unlawful =
     ap (λ r. r >>= λ value. cond (is_new_job value.0) (Ok value) (Err (length bytes))) e
@@ -251,7 +273,8 @@ job_is_refused bytes j rest are e unlawful =
 -- the files of a job are ready to be written
 pub files_ready : (j : JobData) → IsNewJob j → list_all (λ f. is_within 0 9223372036854775807 f.size && is_label f.activity) j.files ≡ true
 files_ready j kept = all_both (λ f. is_within 0 9223372036854775807 f.size) (λ f. is_label f.activity) j.files
-    (all_weaker (λ f. leb f.size 9223372036854775807) _ (λ f passed. and_from (leb 0 f.size) _ (le-leb 0 f.size (omega arith)) passed) j.files kept.sizes) kept.activities
+    (all_weaker (λ f. leb f.size 9223372036854775807) _
+    (λ f passed. and_from (leb 0 f.size) _ (le-leb 0 f.size (omega arith)) passed) j.files kept.sizes) kept.activities
 
 -- a job of which the id and each file is proper is proper
 pub job_proper : (j : JobData) → IsNewJob j → is_none_or is_u128 j.id ≡ true → list_all is_proper_file j.files ≡ true → is_proper_job j ≡ true

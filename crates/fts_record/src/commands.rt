@@ -4,7 +4,7 @@ ghost use Rattle.std.specs.Prelude.{◌≡◌, ◌++◌, ◌∷◌, OnOk, IsTrue
 ghost use Rattle.fts_record.specs.Spelling.{number_bytes, outcome_bytes, command_bytes};
 ghost use Rattle.fts_record.specs.Fields.{is_u32, is_u64};
 ghost use Rattle.fts_record.specs.Proper.{is_proper_outcome, is_proper_command, has_priority};
-ghost use Rattle.fts_record.specs.Reading.{restart_at as restart_read, submit_at as submit_read, cancel_job_at as cancel_job_read, cancel_file_at as cancel_file_read, set_priority_at as set_priority_read, claim_at as claim_read, report_at as report_read, command_at as command_read};
+ghost use Rattle.fts_record.specs.Reading.{restart_at, submit_at, cancel_job_at, cancel_file_at, set_priority_at, claim_at, report_at, command_at};
 ghost use Rattle.fts_record.specs.Answers.{Gives};
 
 use crate::bytes::write_byte;
@@ -33,7 +33,7 @@ const CLAIM: u8 = 6;
 const REPORT: u8 = 7;
 
 fn restart_at(alloc: Global, bytes: &[u8]) -> Result<(Command, &[u8]), Stop>
-    ensures { Gives (λ x. (x.0, x.1.now)) result (restart_read bytes.now) }
+    ensures { Gives (λ x. (x.0, x.1.now)) result (restart_at bytes.now) }
 {
     let (now, rest) = number_at(bytes, 0, LAST_MOMENT)?;
     let (settings, rest) = settings_at(alloc, rest)?;
@@ -41,7 +41,7 @@ fn restart_at(alloc: Global, bytes: &[u8]) -> Result<(Command, &[u8]), Stop>
 }
 
 fn submit_at(alloc: Global, bytes: &[u8]) -> Result<(Command, &[u8]), Stop>
-    ensures { Gives (λ x. (x.0, x.1.now)) result (submit_read bytes.now) }
+    ensures { Gives (λ x. (x.0, x.1.now)) result (submit_at bytes.now) }
 {
     let (now, rest) = number_at(bytes, 0, LAST_MOMENT)?;
     let (job, rest) = job_at(alloc, rest)?;
@@ -49,7 +49,7 @@ fn submit_at(alloc: Global, bytes: &[u8]) -> Result<(Command, &[u8]), Stop>
 }
 
 fn cancel_job_at(bytes: &[u8]) -> Result<(Command, &[u8]), Stop>
-    ensures { Gives (λ x. (x.0, x.1.now)) result (cancel_job_read bytes.now) }
+    ensures { Gives (λ x. (x.0, x.1.now)) result (cancel_job_at bytes.now) }
 {
     let (now, rest) = number_at(bytes, 0, LAST_MOMENT)?;
     let (job, rest) = small_at(rest, 0, u32::MAX)?;
@@ -57,7 +57,7 @@ fn cancel_job_at(bytes: &[u8]) -> Result<(Command, &[u8]), Stop>
 }
 
 fn cancel_file_at(bytes: &[u8]) -> Result<(Command, &[u8]), Stop>
-    ensures { Gives (λ x. (x.0, x.1.now)) result (cancel_file_read bytes.now) }
+    ensures { Gives (λ x. (x.0, x.1.now)) result (cancel_file_at bytes.now) }
 {
     let (now, rest) = number_at(bytes, 0, LAST_MOMENT)?;
     let (job, rest) = small_at(rest, 0, u32::MAX)?;
@@ -66,7 +66,7 @@ fn cancel_file_at(bytes: &[u8]) -> Result<(Command, &[u8]), Stop>
 }
 
 fn set_priority_at(bytes: &[u8]) -> Result<(Command, &[u8]), Stop>
-    ensures { Gives (λ x. (x.0, x.1.now)) result (set_priority_read bytes.now) }
+    ensures { Gives (λ x. (x.0, x.1.now)) result (set_priority_at bytes.now) }
 {
     let (now, rest) = number_at(bytes, 0, LAST_MOMENT)?;
     let (job, rest) = small_at(rest, 0, u32::MAX)?;
@@ -75,7 +75,7 @@ fn set_priority_at(bytes: &[u8]) -> Result<(Command, &[u8]), Stop>
 }
 
 fn claim_at(bytes: &[u8]) -> Result<(Command, &[u8]), Stop>
-    ensures { Gives (λ x. (x.0, x.1.now)) result (claim_read bytes.now) }
+    ensures { Gives (λ x. (x.0, x.1.now)) result (claim_at bytes.now) }
 {
     let (now, rest) = number_at(bytes, 0, LAST_MOMENT)?;
     let (word, rest) = word_at(rest)?;
@@ -83,7 +83,7 @@ fn claim_at(bytes: &[u8]) -> Result<(Command, &[u8]), Stop>
 }
 
 fn report_at(bytes: &[u8]) -> Result<(Command, &[u8]), Stop>
-    ensures { Gives (λ x. (x.0, x.1.now)) result (report_read bytes.now) }
+    ensures { Gives (λ x. (x.0, x.1.now)) result (report_at bytes.now) }
 {
     let (now, rest) = number_at(bytes, 0, LAST_MOMENT)?;
     let (file, rest) = small_at(rest, 0, u32::MAX)?;
@@ -101,7 +101,7 @@ fn report_at(bytes: &[u8]) -> Result<(Command, &[u8]), Stop>
 /// The command at the front.
 #[tactic(auto, unfolding(crate::specs::Reading::command_at))]
 pub fn command_at(alloc: Global, bytes: &[u8]) -> Result<(Command, &[u8]), Stop>
-    ensures { Gives (λ x. (x.0, x.1.now)) result (command_read bytes.now) }
+    ensures { Gives (λ x. (x.0, x.1.now)) result (command_at bytes.now) }
 {
     match bytes {
         [] => Err(Stop::Unspelled { left: 0 }),

@@ -5,7 +5,7 @@ ghost use Rattle.fts_tables.specs.SettingsData.{is_label, is_within};
 ghost use Rattle.fts_tables.specs.declared.limits.TheConstants.{MAX_SIZE};
 ghost use Rattle.fts_record.specs.Spelling.{file_bytes, job_bytes};
 ghost use Rattle.fts_record.specs.Proper.{is_proper_file, is_proper_job};
-ghost use Rattle.fts_record.specs.Reading.{file_at, job_at as job_read};
+ghost use Rattle.fts_record.specs.Reading.{file_at, job_at};
 ghost use Rattle.fts_record.specs.Answers.{Gives};
 
 use crate::flags::{
@@ -14,10 +14,10 @@ use crate::flags::{
 };
 use crate::lists::{Item, list_at, write_list};
 use crate::numbers::{number_at, small_at, write_number, write_small};
-use crate::rules::is_lawful_job;
 use crate::stops::Stop;
 use crate::texts::{label_at, name_at, path_at, write_label, write_name, write_path};
 use fts_tables::limits::{MAX_DELAY, MAX_FILES, MAX_PRIORITY, MAX_RETRY, MAX_SIZE, MIN_PRIORITY};
+use fts_tables::rules::is_lawful_job;
 use fts_tables::{Memory, NewFile, NewJob, Place};
 use std::alloc::Global;
 
@@ -72,7 +72,7 @@ impl Item for NewFile {
 /// The job at the front.
 #[tactic(auto, unfolding(crate::specs::Reading::job_at, crate::specs::Reading::job_fields_at))]
 pub fn job_at(alloc: Global, bytes: &[u8]) -> Result<(NewJob, &[u8]), Stop>
-    ensures { Gives (λ x. (x.0, x.1.now)) result (job_read bytes.now) }
+    ensures { Gives (λ x. (x.0, x.1.now)) result (job_at bytes.now) }
 {
     let (kind, rest) = kind_at(bytes)?;
     let (strategy, rest) = strategy_at(rest)?;

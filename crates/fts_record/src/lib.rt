@@ -1,7 +1,8 @@
 //! The one spelling of each entry of the journal: `write_entry` appends it, `read_entry` reads it back, and nothing else is read as an entry.
-//! The format stands in `specs/Spelling.antt` and docs/DEFINITIONS.md; `specs/Reading.antt` says which entry bytes are, or the place of the first field that is none.
+//! The format stands in `specs/Spelling.antt` and docs/DEFINITIONS.md; `specs/Reading.antt` says which entry bytes are, or the place of the
+//! first field that is none.
 //! Order of reading: `entries`, `commands`, `outcomes`, `settings`, `jobs`, `endpoints`, `lists`, then the fields: `texts`, `flags`, `numbers`.
-//! Called by fts_keep. Where entries are kept is not known here.
+//! For whoever keeps entries by their bytes, and today for the benchmarks. Where entries are kept is not known here.
 #![tactic(auto)]
 
 mod bytes;
@@ -14,7 +15,6 @@ pub mod laws;
 mod lists;
 mod numbers;
 mod outcomes;
-mod rules;
 mod settings;
 mod stops;
 #[cfg(test)]
