@@ -37,7 +37,8 @@ all_named names n m (x ∷ xs) named =
     by_case false = refl
 
 -- where each item names its turn, the items that name a number are those of its turns
-pub named_law : {I : Type 0} (names : I → ℕ) (turns : List (Turn I)) (n : ℕ) → AllNamed names turns → filter (λ x. names x == n) (items_of turns) ≡ items_by (n ∷ []) turns
+pub named_law : {I : Type 0} (names : I → ℕ) (turns : List (Turn I)) (n : ℕ) → AllNamed names turns
+    → filter (λ x. names x == n) (items_of turns) ≡ items_by (n ∷ []) turns
 named_law {I} names [] n named = refl
 named_law {I} names (t ∷ ts) n named =
     filter-append (λ x. names x == n) t.items (items_of ts)

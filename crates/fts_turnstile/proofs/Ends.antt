@@ -2,7 +2,7 @@
 use Rattle.std.proofs.Common.{◌≡◌, ℕ, zero, suc, ◌≤◌, List, [], ◌∷◌, ◌++◌, Option, Some, None, refl, sym, ap, ◌∙◌, subst, inl, ⊎_elim, arith, append-nil}
 use mathlib.Core.Option.{some, some-ne-none, some-injective}
 use lib.ListN.{get_elem?}
-use Rattle.atomic_table.specs.Table.{State, Me, Seen, Final, opening as first_state}
+use Rattle.atomic_table.specs.Table.{State, Seen, Final, opening as first_state}
 use Rattle.atomic_table.specs.Seated.{TableId}
 use Rattle.fts_turnstile.specs.declared.turn.Turn.{Turn}
 use Rattle.fts_turnstile.specs.declared.view.View.{View}
@@ -14,28 +14,17 @@ use Rattle.fts_turnstile.proofs.Lists.{at_one, among_left}
 use Rattle.fts_turnstile.proofs.Histories.{all_seen, all_given}
 
 module _ {T I : Type 0} (items : T → List I) (names : I → ℕ) (shows : T → List ℕ) (opening : List I) (opening_shows : List ℕ) where
-  -- a view of this lock
-  abbrev V : Type 0
-  V = View I
-
-  -- a seat of this lock
-  abbrev M : Type 0
-  M = Me (Option T) V
-
   -- the rule of this lock
-  abbrev Rule : State (Option T) V → Type 0
+  abbrev Rule : State (Option T) (View I) → Type 0
   Rule = IsOrderly items names shows opening opening_shows
 
   -- what is so of each view of this lock
-  abbrev Ok : List (Turn I) → ℕ → ℕ → ℕ → V → Type 0
+  abbrev Ok : List (Turn I) → ℕ → ℕ → ℕ → View I → Type 0
   Ok = IsInOrder opening opening_shows
 
-  -- the seat has this view
-  abbrev at : State (Option T) V → ℕ → V → Type 0
-  at s id v = get_elem? s.views id ≡ some v
-
   -- the rule holds of a new table
-  pub starts : (x : T) → items x ≡ opening → shows x ≡ opening_shows → Rule (record { words = 0 ∷ 0 ∷ 1 ∷ []; homes = some (Some x) ∷ []; views = first_view opening opening_shows ∷ [] })
+  pub starts : (x : T) → items x ≡ opening → shows x ≡ opening_shows
+      → Rule (record { words = 0 ∷ 0 ∷ 1 ∷ []; homes = some (Some x) ∷ []; views = first_view opening opening_shows ∷ [] })
   starts x xs ms = record {
     turns = [];
     tickets = 0;
@@ -71,20 +60,24 @@ module _ {T I : Type 0} (items : T → List I) (names : I → ℕ) (shows : T �
   }
     where
       -- the one view of a new table
-      only : (P : ℕ → V → Type 0) → P 0 (first_view opening opening_shows) → (j : ℕ) (v : V) → get_elem? (first_view opening opening_shows ∷ []) j ≡ some v → P j v
+      only : (P : ℕ → View I → Type 0) → P 0 (first_view opening opening_shows) → (j : ℕ) (v : View I)
+          → get_elem? (first_view opening opening_shows ∷ []) j ≡ some v → P j v
       only P p zero v e = subst (P 0) (some-injective _ _ e) p
       only P p (suc j) v e = absurd (some-ne-none v (sym e))
 
   -- at the end, pass 0 with all numbers has seen all turns, and the value is at home
-  pub closes : (id : ℕ) (v : V) (s : State (Option T) V) → Seen Rule id v s → v.lives ≡ 1 → v.number ≡ 0 → v.served ≡ 0 → ((n : ℕ) → n ≤ v.given → Among n (own_numbers v))
-      → (x : T) × (get_elem? s.homes 0 ≡ some (some (Some x))) × (items x ≡ v.opening ++ items_of v.seen) × (shows x ≡ shown_after v.opening_shows v.seen) × AllNamed names v.seen × AllGiven v.given v.seen
+  pub closes : (id : ℕ) (v : View I) (s : State (Option T) (View I)) → Seen Rule id v s → v.lives ≡ 1 → v.number ≡ 0 → v.served ≡ 0
+      → ((n : ℕ) → n ≤ v.given → Among n (own_numbers v))
+      → (x : T) × (get_elem? s.homes 0 ≡ some (some (Some x))) × (items x ≡ v.opening ++ items_of v.seen) × (shows x ≡ shown_after v.opening_shows v.seen)
+      × AllNamed names v.seen × AllGiven v.given v.seen
   closes id v s seen lives first not_served has_all =
       let r = seen.0 in
       let here = seen.1 in
       let f = r.each id v here in
       let k = f.pass lives in
       let given : v.given ≡ r.given = (k.draws first).0 in
-      let all : r.turns ≡ v.seen = all_seen v.seen f.seen.0 r.turns f.seen.1 (λ i t e h. let b = r.takers i t e in k.own i t e h (has_all t.number (omega arith))) in
+      let all : r.turns ≡ v.seen =
+      all_seen v.seen f.seen.0 r.turns f.seen.1 (λ i t e h. let b = r.takers i t e in k.own i t e h (has_all t.number (omega arith))) in
       ⊎_elim
       (λ (h : IsHome items names shows opening opening_shows s r.turns). (
         h.0,
@@ -95,7 +88,7 @@ module _ {T I : Type 0} (items : T → List I) (names : I → ℕ) (shows : T �
         subst (AllGiven v.given) all (subst (λ n. AllGiven n r.turns) (sym given) (all_given r.given r.turns r.takers)),
       ))
       (λ (a : IsAway items names shows opening opening_shows s).
-      let u : V = a.1.1 in
+      let u : View I = a.1.1 in
       let g = r.each a.1.0 u a.1.2 in
       let waits : u.waits ≡ 1 = (g.served a.1.3).0 in
       let le = g.waits in
@@ -105,7 +98,7 @@ module _ {T I : Type 0} (items : T → List I) (names : I → ℕ) (shows : T �
       let mine = among_left u.number (own_numbers v) v.told_numbers (has_all u.number (omega arith)) in
       let j = r.apart id a.1.0 v u here a.1.2 (lives, u_lives, (u.number, mine, inl refl)) in
       let is : u ≡ v = at_one s.views id u v (subst (λ z. get_elem? s.views z ≡ some u) (sym j) a.1.2) here in
-      let on : v.served ≡ 1 = subst (λ (z : V). z.served ≡ 1) is a.1.3 in
+      let on : v.served ≡ 1 = subst (λ (z : View I). z.served ≡ 1) is a.1.3 in
       absurd (omega arith))
       r.value
 
@@ -113,7 +106,8 @@ module _ {T I : Type 0} (items : T → List I) (names : I → ℕ) (shows : T �
   -- the table that is made
   pub starts_as : (slots : List (Option T)) (x y : T) → slots ≡ Some y ∷ [] → x ≡ y
       → IsOrderly items names shows (items x) (shows x) (first_state (0 ∷ 0 ∷ 1 ∷ []) slots (first_view (items x) (shows x)))
-  starts_as slots x y is same = subst (λ l. IsOrderly items names shows (items x) (shows x) (first_state (0 ∷ 0 ∷ 1 ∷ []) l (first_view (items x) (shows x)))) (sym is)
+  starts_as slots x y is same =
+      subst (λ l. IsOrderly items names shows (items x) (shows x) (first_state (0 ∷ 0 ∷ 1 ∷ []) l (first_view (items x) (shows x)))) (sym is)
       (starts items names shows (items x) (shows x) y (ap items (sym same)) (ap shows (sym same)))
 
   -- what the value at the end is to the pass that closed
@@ -132,7 +126,12 @@ module _ {T I : Type 0} (items : T → List I) (names : I → ℕ) (shows : T �
       let c = closes items names shows opening opening_shows id v f.0 f.1 r.0 (ap (λ q. q.number) is ∙ first) r.5 (subst HasAll (sym is) all) in (
         c.0,
         f.4 0 (Some c.0) c.1,
-        (c.2 ∙ ap seen_list is, c.3 ∙ ap (λ q. shown_after q.opening_shows q.seen) is, subst (λ q. AllNamed names q.seen) is c.4, subst (λ q. AllGiven q.given q.seen) is c.5),
+        (
+          c.2 ∙ ap seen_list is,
+          c.3 ∙ ap (λ q. shown_after q.opening_shows q.seen) is,
+          subst (λ q. AllNamed names q.seen) is c.4,
+          subst (λ q. AllGiven q.given q.seen) is c.5,
+        ),
       )
 
   -- the slot of a closed table is never empty

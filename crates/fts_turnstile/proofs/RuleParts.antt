@@ -2,11 +2,12 @@
 use Rattle.std.proofs.Common.{◌≡◌, ◌≢◌, ◌⊎◌, ℕ, ◌+◌, ◌≤◌, List, [], ◌∷◌, ◌++◌, length, set, Option, sym, ◌∙◌, subst, inl, inr, ⊎_elim, arith}
 use mathlib.Core.Option.{some}
 use lib.ListN.{get_elem?}
-use Rattle.atomic_table.specs.Table.{State, Me}
+use Rattle.atomic_table.specs.Table.{State}
 use Rattle.atomic_table.proofs.Lists.{set_else, at_longer}
 use Rattle.fts_turnstile.specs.declared.turn.Turn.{Turn}
 use Rattle.fts_turnstile.specs.declared.view.View.{View}
 use Rattle.fts_turnstile.specs.Rule.{ShareNumber, ShareTicket, IsInOrder, IsHome, IsAway, IsOrderly}
+use Rattle.fts_turnstile.proofs.Words.{at}
 use Rattle.fts_turnstile.proofs.Lists.{at_one}
 use Rattle.fts_turnstile.proofs.ViewLists.{total_le, each_set, each_push}
 
@@ -21,7 +22,8 @@ module _ {I : Type 0} where
 
 module _ {I : Type 0} (opening : List I) (opening_shows : List ℕ) where
   -- a view is in order where there are more tickets
-  pub more_tickets : (turns : List (Turn I)) (n m given hand : ℕ) (v : View I) → n ≤ m → IsInOrder opening opening_shows turns n given hand v → IsInOrder opening opening_shows turns m given hand v
+  pub more_tickets : (turns : List (Turn I)) (n m given hand : ℕ) (v : View I) → n ≤ m → IsInOrder opening opening_shows turns n given hand v
+      → IsInOrder opening opening_shows turns m given hand v
   more_tickets turns n m given hand v le f = record {
     seen = f.seen;
     told = f.told;
@@ -33,48 +35,53 @@ module _ {I : Type 0} (opening : List I) (opening_shows : List ℕ) where
   }
 
 module _ {T I : Type 0} (items : T → List I) (names : I → ℕ) (shows : T → List ℕ) (opening : List I) (opening_shows : List ℕ) where
-  -- a view of this lock
-  abbrev V : Type 0
-  V = View I
-
-  -- a seat of this lock
-  abbrev M : Type 0
-  M = Me (Option T) V
-
   -- the rule of this lock
-  abbrev Rule : State (Option T) V → Type 0
+  abbrev Rule : State (Option T) (View I) → Type 0
   Rule = IsOrderly items names shows opening opening_shows
 
   -- what is so of each view of this lock
-  abbrev Ok : List (Turn I) → ℕ → ℕ → ℕ → V → Type 0
+  abbrev Ok : List (Turn I) → ℕ → ℕ → ℕ → View I → Type 0
   Ok = IsInOrder opening opening_shows
 
-  -- the seat has this view
-  abbrev at : State (Option T) V → ℕ → V → Type 0
-  at s id v = get_elem? s.views id ≡ some v
-
   -- where the value is
-  abbrev Placed : State (Option T) V → List (Turn I) → Type 0
+  abbrev Placed : State (Option T) (View I) → List (Turn I) → Type 0
   Placed s turns = IsHome items names shows opening opening_shows s turns ⊎ IsAway items names shows opening opening_shows s
 
   -- there are no more tickets than pass numbers
-  pub few_wait : (s : State (Option T) V) (r : Rule s) → r.tickets ≤ length r.turns + (r.given + 1)
-  few_wait s r = let a = total_le (λ (v : V). v.waits) (λ (v : V). v.lives) s.views (λ j v e. (r.each j v e).waits) in let b = r.waiting in let c = r.living in omega arith
+  pub few_wait : (s : State (Option T) (View I)) (r : Rule s) → r.tickets ≤ length r.turns + (r.given + 1)
+  few_wait s r =
+      let a = total_le (λ (v : View I). v.waits) (λ (v : View I). v.lives) s.views (λ j v e. (r.each j v e).waits) in
+      let b = r.waiting in
+      let c = r.living in
+      omega arith
 
   -- no other pass is pass 0
-  pub not_first : (s : State (Option T) V) (r : Rule s) (id : ℕ) (v : V) → at s id v → v.lives ≡ 1 → v.number ≡ 0 → (j : ℕ) (u : V) → j ≢ id → at s j u → u.lives ≡ 1 → ¬ (u.number ≡ 0)
+  pub not_first : (s : State (Option T) (View I)) (r : Rule s) (id : ℕ) (v : View I) → at s id v → v.lives ≡ 1 → v.number ≡ 0 → (j : ℕ) (u : View I) → j ≢ id
+      → at s j u → u.lives ≡ 1 → ¬ (u.number ≡ 0)
   not_first s r id v here lives first j u apart e live z = apart (sym (r.apart id j v u here e (lives, live, (0, inl (sym first), inl (sym z)))))
 
   -- where the value is, once a view that hasn't it has changed
-  pub still : (s : State (Option T) V) (turns : List (Turn I)) (id : ℕ) (v w : V) (ws : List ℕ) → at s id v → ¬ (v.served ≡ 1) → ¬ (w.served ≡ 1) → Placed s turns
+  pub still : (s : State (Option T) (View I)) (turns : List (Turn I)) (id : ℕ) (v w : View I) (ws : List ℕ) → at s id v → ¬ (v.served ≡ 1) → ¬ (w.served ≡ 1)
+      → Placed s turns
       → Placed (record { words = ws; homes = s.homes; views = set s.views id w }) turns
   still s turns id v w ws here not_v not_w value = ⊎_elim
       (λ h. inl (h.0, h.1, h.2, h.3, each_set (λ u. ¬ (u.served ≡ 1)) s.views id w not_w (λ j u _ e. h.4 j u e)))
-      (λ a. inr (a.0, (a.1.0, a.1.1, set_else s.views id a.1.0 w (λ same. not_v (subst (λ u. u.served ≡ 1) (at_one s.views id a.1.1 v (subst (λ j. get_elem? s.views j ≡ some a.1.1) same a.1.2) here) a.1.3)) ∙ a.1.2, a.1.3)))
+      (λ a. inr (
+        a.0,
+        (
+          a.1.0,
+          a.1.1,
+          set_else s.views id a.1.0 w
+              (λ same. not_v (subst (λ u. u.served ≡ 1) (at_one s.views id a.1.1 v (subst (λ j. get_elem? s.views j ≡ some a.1.1) same a.1.2) here) a.1.3))
+              ∙ a.1.2,
+          a.1.3,
+        ),
+      ))
       value
 
   -- where the value is, once there is one more view
-  pub still_pushed : (s : State (Option T) V) (turns : List (Turn I)) (w : V) → ¬ (w.served ≡ 1) → Placed s turns → Placed (record { words = s.words; homes = s.homes; views = s.views ++ w ∷ [] }) turns
+  pub still_pushed : (s : State (Option T) (View I)) (turns : List (Turn I)) (w : View I) → ¬ (w.served ≡ 1) → Placed s turns
+      → Placed (record { words = s.words; homes = s.homes; views = s.views ++ w ∷ [] }) turns
   still_pushed s turns w not_w value = ⊎_elim
       (λ h. inl (h.0, h.1, h.2, h.3, each_push (λ u. ¬ (u.served ≡ 1)) s.views w not_w h.4))
       (λ a. inr (a.0, (a.1.0, a.1.1, at_longer s.views (w ∷ []) a.1.0 a.1.1 a.1.2, a.1.3)))

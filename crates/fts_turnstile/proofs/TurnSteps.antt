@@ -5,7 +5,7 @@ use mathlib.Core.Option.{some, none}
 use mathlib.Core.Logic.{dite}
 use native.Mathlib.Decide.{ℕ_discrete}
 use lib.ListN.{get_elem?}
-use Rattle.atomic_table.specs.Table.{State, Me, step, keeps, takes, gives, put_back, rest, Allows}
+use Rattle.atomic_table.specs.Table.{State, step, keeps, takes, gives, put_back, rest, Allows}
 use Rattle.atomic_table.proofs.Lists.{set_here, set_again, one_turn}
 use Rattle.fts_turnstile.specs.declared.turn.Turn.{Turn}
 use Rattle.fts_turnstile.specs.declared.view.View.{View}
@@ -13,42 +13,31 @@ use Rattle.fts_turnstile.specs.History.{Begins, Among, turn_of, items_of, shown_
 use Rattle.fts_turnstile.specs.Views.{own_numbers, all_numbers, view_with_ticket, served_view, view_after_turn}
 use Rattle.fts_turnstile.specs.Rule.{ShareNumber, ShareTicket, IsInOrder, IsHome, IsAway, IsOrderly}
 use Rattle.fts_turnstile.specs.Steps.{TookTicket, LookedAtTurn, PassedTurn}
+use Rattle.fts_turnstile.proofs.Words.{Seat, at}
 use Rattle.fts_turnstile.proofs.Lists.{at_below, at_pushed, at_one, begins_self, begins_more, among_left, among_right}
 use Rattle.fts_turnstile.proofs.Histories.{others_since, items_of-push, shown_after-push, named-push}
 use Rattle.fts_turnstile.proofs.ViewLists.{total_set, each_set, owned_set, apart_set, apart_less}
 use Rattle.fts_turnstile.proofs.RuleParts.{share_turned, ticket_turned, few_wait, more_tickets, still}
 
 module _ {T I : Type 0} (items : T → List I) (names : I → ℕ) (shows : T → List ℕ) (opening : List I) (opening_shows : List ℕ) where
-  -- a view of this lock
-  abbrev V : Type 0
-  V = View I
-
-  -- a seat of this lock
-  abbrev M : Type 0
-  M = Me (Option T) V
-
   -- the rule of this lock
-  abbrev Rule : State (Option T) V → Type 0
+  abbrev Rule : State (Option T) (View I) → Type 0
   Rule = IsOrderly items names shows opening opening_shows
 
   -- what is so of each view of this lock
-  abbrev Ok : List (Turn I) → ℕ → ℕ → ℕ → V → Type 0
+  abbrev Ok : List (Turn I) → ℕ → ℕ → ℕ → View I → Type 0
   Ok = IsInOrder opening opening_shows
 
-  -- the seat has this view
-  abbrev at : State (Option T) V → ℕ → V → Type 0
-  at s id v = get_elem? s.views id ≡ some v
-
   -- a ticket is taken
-  pub takes_ticket : (slots id : ℕ) (m : M) → m.0.lives ≡ 1 → m.0.waits ≡ 0 → m.0.served ≡ 0
+  pub takes_ticket : (slots id : ℕ) (m : Seat T I) → m.0.lives ≡ 1 → m.0.waits ≡ 0 → m.0.served ≡ 0
       → Allows Rule slots id m 1 (λ n. (n + 1) % 18446744073709551616) (TookTicket (step slots 1 1 0 none) m)
   takes_ticket slots id m lives waits not_served s r _ here _ =
-      let v : V = m.0 in
+      let v : View I = m.0 in
       let n : ℕ = r.tickets in
-      let w : V = view_with_ticket v n in
+      let w : View I = view_with_ticket v n in
       let f = r.each id v here in
-      let t = total_set (λ (u : V). u.waits) s.views id v w here in
-      let l = total_set (λ (u : V). u.lives) s.views id v w here in
+      let t = total_set (λ (u : View I). u.waits) s.views id v w here in
+      let l = total_set (λ (u : View I). u.lives) s.views id v w here in
       let wait = r.waiting in
       let live = r.living in
       let ws : List ℕ = set s.words 1 ((slice_index s.words 1 + 1) % 18446744073709551616) in
@@ -90,16 +79,18 @@ module _ {T I : Type 0} (items : T → List I) (names : I → ℕ) (shows : T �
               (λ j u _ e. more_tickets opening opening_shows r.turns n (n + 1) r.given r.hand u (omega arith) (r.each j u e));
           owned = owned_set r.given s.views id v w here (λ e. e) (λ n x. x) r.owned;
           apart = apart_less ShareNumber share_turned s.views id v w here r.apart (λ u x. x);
-          in_line = apart_set ShareTicket ticket_turned s.views id w r.in_line (λ j u _ e x. let t = (r.each j u e).ticket x.1 in let same : n ≡ u.ticket = x.2 in absurd (omega arith));
+          in_line = apart_set ShareTicket ticket_turned s.views id w r.in_line
+              (λ j u _ e x. let t = (r.each j u e).ticket x.1 in let same : n ≡ u.ticket = x.2 in absurd (omega arith));
           value = still items names shows opening opening_shows s r.turns id v w ws here (λ e. absurd (omega arith)) (λ e. absurd (omega arith)) r.value;
         },
         (n, (λ i. slice_index (r.words i) 1), refl, refl),
       )
 
   -- the turn is looked at: the pass that finds its ticket finds the value at home, since two tickets never share a remainder while they wait
-  pub looks : (slots id : ℕ) (m : M) → m.0.lives ≡ 1 → m.0.waits ≡ 1 → m.0.served ≡ 0 → m.1 ≡ [] → Allows Rule slots id m 0 (λ n. n) (LookedAtTurn items names shows (step slots 0 0 0 none) m)
+  pub looks : (slots id : ℕ) (m : Seat T I) → m.0.lives ≡ 1 → m.0.waits ≡ 1 → m.0.served ≡ 0 → m.1 ≡ []
+      → Allows Rule slots id m 0 (λ n. n) (LookedAtTurn items names shows (step slots 0 0 0 none) m)
   looks slots id m lives waits not_served empty s r _ here _ =
-      let v : V = m.0 in
+      let v : View I = m.0 in
       let f = r.each id v here in
       let k = f.pass lives in
       let t = f.ticket waits in
@@ -115,9 +106,9 @@ module _ {T I : Type 0} (items : T → List I) (names : I → ℕ) (shows : T �
       let mine : length r.turns ≡ v.ticket = one_turn (length r.turns) v.ticket 18446744073709551616 t.0 (omega arith) (sym found ∙ e) in
       ⊎_elim
       (λ (h : IsHome items names shows opening opening_shows s r.turns).
-      let w : V = served_view v r.turns in
-      let a = total_set (λ (u : V). u.waits) s.views id v w here in
-      let l = total_set (λ (u : V). u.lives) s.views id v w here in
+      let w : View I = served_view v r.turns in
+      let a = total_set (λ (u : View I). u.waits) s.views id v w here in
+      let l = total_set (λ (u : View I). u.lives) s.views id v w here in
       let wait = r.waiting in
       let live = r.living in (
         w,
@@ -173,30 +164,36 @@ module _ {T I : Type 0} (items : T → List I) (names : I → ℕ) (shows : T �
         ),
       ))
       (λ (a : IsAway items names shows opening opening_shows s).
-      let u : V = a.1.1 in
+      let u : View I = a.1.1 in
       let g = (r.each a.1.0 u a.1.2).served a.1.3 in
       let j : id ≡ a.1.0 = r.in_line id a.1.0 v u here a.1.2 (waits, g.0, (sym mine ∙ sym g.1)) in
       let is : u ≡ v = at_one s.views id u v (subst (λ z. get_elem? s.views z ≡ some u) (sym j) a.1.2) here in
-      let on : v.served ≡ 1 = subst (λ (z : V). z.served ≡ 1) is a.1.3 in
+      let on : v.served ≡ 1 = subst (λ (z : View I). z.served ≡ 1) is a.1.3 in
       absurd (omega arith))
       r.value)
-      (λ ne. (v, keeps, tt, subst Rule (λ i. record { words = sym same_words i; homes = s.homes; views = sym (set_again s.views id v here) i }) r, ((λ e. absurd (ne e)), (λ _. refl))))
+      (λ ne. (
+        v,
+        keeps,
+        tt,
+        subst Rule (λ i. record { words = sym same_words i; homes = s.homes; views = sym (set_again s.views id v here) i }) r,
+        ((λ e. absurd (ne e)), (λ _. refl)),
+      ))
 
   -- the turn is passed on, with the value that is put back and what was added to it
-  pub passes : (slots id : ℕ) (m : M) (y : T) (added : List I) → m.0.lives ≡ 1 → m.0.served ≡ 1 → m.0.told_numbers ≡ [] → m.1 ≡ (0, Some y) ∷ []
+  pub passes : (slots id : ℕ) (m : Seat T I) (y : T) (added : List I) → m.0.lives ≡ 1 → m.0.served ≡ 1 → m.0.told_numbers ≡ [] → m.1 ≡ (0, Some y) ∷ []
       → items y ≡ (m.0.opening ++ items_of m.0.seen) ++ added → AllName names m.0.number added
       → Allows Rule slots id m 0 (λ n. (n + 1) % 18446744073709551616) (PassedTurn items names shows (step slots 0 1 0 none) m)
   passes slots id m y added lives is_served none_told holds adds name s r _ here _ =
-      let v : V = m.0 in
+      let v : View I = m.0 in
       let f = r.each id v here in
       let k = f.pass lives in
       let g = f.served is_served in
       let t : Turn I = turn_of v.number added (shows y) in
-      let w : V = view_after_turn v t in
+      let w : View I = view_after_turn v t in
       let turns : List (Turn I) = r.turns ++ t ∷ [] in
       let long : length turns ≡ length r.turns + 1 = omega (arith, length-append r.turns (t ∷ [])) in
-      let a = total_set (λ (u : V). u.waits) s.views id v w here in
-      let l = total_set (λ (u : V). u.lives) s.views id v w here in
+      let a = total_set (λ (u : View I). u.waits) s.views id v w here in
+      let l = total_set (λ (u : View I). u.lives) s.views id v w here in
       let wait = r.waiting in
       let live = r.living in
       let waits : v.waits ≡ 1 = g.0 in
@@ -204,9 +201,12 @@ module _ {T I : Type 0} (items : T → List I) (names : I → ℕ) (shows : T �
       let ws : List ℕ = set s.words 0 ((slice_index s.words 0 + 1) % 18446744073709551616) in
       let words : ws ≡ (length turns % 18446744073709551616) ∷ (r.tickets % 18446744073709551616) ∷ (r.given + 1 + r.hand) ∷ [] =
       (λ i. set (r.words i) 0 ((slice_index (r.words i) 0 + 1) % 18446744073709551616))
-      ∙ ap (λ n. n ∷ (r.tickets % 18446744073709551616) ∷ (r.given + 1 + r.hand) ∷ []) (mod-add-mod (length r.turns) 18446744073709551616 1 ∙ ap (λ n. n % 18446744073709551616) (sym long)) in
-      let away : IsAway items names shows opening opening_shows s = ⊎_elim (λ (h : IsHome items names shows opening opening_shows s r.turns). absurd (h.4 id v here is_served)) (λ a'. a') r.value in
-      let other : (j : ℕ) (u : V) → j ≢ id → at s j u → ¬ (u.waits ≡ 1 × u.ticket ≡ length r.turns) = λ j u apart e x. apart (sym (r.in_line id j v u here e (waits, x.0, ticket ∙ sym x.1))) in (
+      ∙ ap (λ n. n ∷ (r.tickets % 18446744073709551616) ∷ (r.given + 1 + r.hand) ∷ [])
+      (mod-add-mod (length r.turns) 18446744073709551616 1 ∙ ap (λ n. n % 18446744073709551616) (sym long)) in
+      let away : IsAway items names shows opening opening_shows s =
+      ⊎_elim (λ (h : IsHome items names shows opening opening_shows s r.turns). absurd (h.4 id v here is_served)) (λ a'. a') r.value in
+      let other : (j : ℕ) (u : View I) → j ≢ id → at s j u → ¬ (u.waits ≡ 1 × u.ticket ≡ length r.turns) =
+      λ j u apart e x. apart (sym (r.in_line id j v u here e (waits, x.0, ticket ∙ sym x.1))) in (
         w,
         gives,
         tt,
@@ -218,7 +218,9 @@ module _ {T I : Type 0} (items : T → List I) (names : I → ℕ) (shows : T �
           words = words;
           few = r.few;
           named = named-push names r.turns t r.named name;
-          takers = λ i u e. ⊎_elim (λ x. r.takers i u x) (λ (x : (i ≡ length r.turns) × (t ≡ u)). subst (λ (z : Turn I). z.number ≤ r.given) x.1 (k.given_all v.number (inl refl))) (at_pushed r.turns t u i e);
+          takers = λ i u e. ⊎_elim (λ x. r.takers i u x)
+              (λ (x : (i ≡ length r.turns) × (t ≡ u)). subst (λ (z : Turn I). z.number ≤ r.given) x.1 (k.given_all v.number (inl refl)))
+              (at_pushed r.turns t u i e);
           waiting = omega arith;
           living = omega arith;
           each = each_set (Ok turns r.tickets r.given r.hand) s.views id w
@@ -232,7 +234,11 @@ module _ {T I : Type 0} (items : T → List I) (names : I → ℕ) (shows : T �
                 pass = λ _. record {
                   opening_is = k.opening_is;
                   shows_is = k.shows_is;
-                  own = λ i u e h. let b = at_below turns i u e in let q = length-append v.seen (t ∷ []) in let p : length v.seen ≡ length r.turns = ap length g.2 in absurd (omega arith);
+                  own = λ i u e h.
+                      let b = at_below turns i u e in
+                      let q = length-append v.seen (t ∷ []) in
+                      let p : length v.seen ≡ length r.turns = ap length g.2 in
+                      absurd (omega arith);
                   told_own = λ i u e h x. subst (Among u.number) none_told x;
                   once = k.once;
                   given_all = k.given_all;
@@ -251,10 +257,12 @@ module _ {T I : Type 0} (items : T → List I) (names : I → ℕ) (shows : T �
                       opening_is = q.opening_is;
                       shows_is = q.shows_is;
                       own = λ i u' e' h. ⊎_elim (λ x. q.own i u' x h)
-                          (λ (x : (i ≡ length r.turns) × (t ≡ u')). subst (λ (z' : Turn I). ¬ Among z'.number (own_numbers u)) x.1 (λ b. mine (among_left v.number (own_numbers u) u.told_numbers b)))
+                          (λ (x : (i ≡ length r.turns) × (t ≡ u')). subst (λ (z' : Turn I). ¬ Among z'.number (own_numbers u)) x.1
+                          (λ b. mine (among_left v.number (own_numbers u) u.told_numbers b)))
                           (at_pushed r.turns t u' i e');
                       told_own = λ i u' e' h. ⊎_elim (λ x. q.told_own i u' x h)
-                          (λ (x : (i ≡ length r.turns) × (t ≡ u')). subst (λ (z' : Turn I). ¬ Among z'.number u.told_numbers) x.1 (λ b. mine (among_right v.number (own_numbers u) u.told_numbers b)))
+                          (λ (x : (i ≡ length r.turns) × (t ≡ u')). subst (λ (z' : Turn I). ¬ Among z'.number u.told_numbers) x.1
+                          (λ b. mine (among_right v.number (own_numbers u) u.told_numbers b)))
                           (at_pushed r.turns t u' i e');
                       once = q.once;
                       given_all = q.given_all;
@@ -267,18 +275,21 @@ module _ {T I : Type 0} (items : T → List I) (names : I → ℕ) (shows : T �
           value = inl (
             y,
             (λ i. put_back (away.0 i) (holds i)),
-            adds ∙ (λ i. (k.opening_is i ++ items_of (g.2 i)) ++ added) ∙ append_assoc opening (items_of r.turns) added ∙ ap (λ l'. opening ++ l') (sym (items_of-push r.turns t)),
+            adds ∙ (λ i. (k.opening_is i ++ items_of (g.2 i)) ++ added) ∙ append_assoc opening (items_of r.turns) added
+                ∙ ap (λ l'. opening ++ l') (sym (items_of-push r.turns t)),
             sym (shown_after-push opening_shows r.turns t),
-            each_set (λ u. ¬ (u.served ≡ 1)) s.views id w (λ z. absurd (omega arith)) (λ j u apart e z. let q = (r.each j u e).served z in other j u apart e (q.0, q.1)),
+            each_set (λ u. ¬ (u.served ≡ 1)) s.views id w (λ z. absurd (omega arith))
+                (λ j u apart e z. let q = (r.each j u e).served z in other j u apart e (q.0, q.1)),
           );
         },
         (y, added, holds, adds, name, refl, ap rest holds),
       )
 
   -- the same, of a seat whose slot was just written
-  pub passes_as : (slots id : ℕ) (v : V) (c : List (ℕ × Option T)) (m : M) (y : T) (added : List I) → m ≡ (v, (0, Some y) ∷ rest c) → v.lives ≡ 1 → v.served ≡ 1 → v.told_numbers ≡ [] → c ≡ (0, None) ∷ []
+  pub passes_as : (slots id : ℕ) (v : View I) (c : List (ℕ × Option T)) (m : Seat T I) (y : T) (added : List I) → m ≡ (v, (0, Some y) ∷ rest c) → v.lives ≡ 1
+      → v.served ≡ 1 → v.told_numbers ≡ [] → c ≡ (0, None) ∷ []
       → items y ≡ (v.opening ++ items_of v.seen) ++ added → AllName names v.number added
       → Allows Rule slots id m 0 (λ n. (n + 1) % 18446744073709551616) (PassedTurn items names shows (step slots 0 1 0 none) m)
   passes_as slots id v c m y added is lives on none_told holds adds name =
-      subst (λ (z : M). Allows Rule slots id z 0 (λ n. (n + 1) % 18446744073709551616) (PassedTurn items names shows (step slots 0 1 0 none) z)) (sym is)
+      subst (λ (z : Seat T I). Allows Rule slots id z 0 (λ n. (n + 1) % 18446744073709551616) (PassedTurn items names shows (step slots 0 1 0 none) z)) (sym is)
       (passes slots id (v, (0, Some y) ∷ rest c) y added lives on none_told (ap (λ z. (0, Some y) ∷ rest z) holds) adds name)

@@ -13,7 +13,8 @@ use Rattle.fts_turnstile.proofs.Lists.{at_pushed, at_below}
 
 module _ {I : Type 0} where
   -- the sum once a view has changed
-  pub total_set : (f : View I → ℕ) (views : List (View I)) (j : ℕ) (v w : View I) → get_elem? views j ≡ some v → total f (set views j w) + f v ≡ total f views + f w
+  pub total_set : (f : View I → ℕ) (views : List (View I)) (j : ℕ) (v w : View I) → get_elem? views j ≡ some v
+      → total f (set views j w) + f v ≡ total f views + f w
   total_set f [] j v w e = absurd (some-ne-none v (sym e))
   total_set f (x ∷ xs) zero v w e = let is : f x ≡ f v = ap f (some-injective x v e) in omega arith
   total_set f (x ∷ xs) (suc j) v w e = let rest = total_set f xs j v w e in omega arith
@@ -31,43 +32,57 @@ module _ {I : Type 0} where
   -- what holds of each view, once one has changed
   pub each_set : (P : View I → Type 0) (views : List (View I)) (id : ℕ) (w : View I) → P w → ((j : ℕ) (u : View I) → j ≢ id → get_elem? views j ≡ some u → P u)
       → (j : ℕ) (u : View I) → get_elem? (set views id w) j ≡ some u → P u
-  each_set P views id w mine others j u e = ⊎_elim (λ (x : (j ≡ id) × (w ≡ u)). subst P x.1 mine) (λ (x : (j ≢ id) × (get_elem? views j ≡ some u)). others j u x.0 x.1) (at_set views id j w u e)
+  each_set P views id w mine others j u e =
+      ⊎_elim (λ (x : (j ≡ id) × (w ≡ u)). subst P x.1 mine) (λ (x : (j ≢ id) × (get_elem? views j ≡ some u)). others j u x.0 x.1) (at_set views id j w u e)
 
   -- what holds of each view, with one more
   pub each_push : (P : View I → Type 0) (views : List (View I)) (w : View I) → P w → ((j : ℕ) (u : View I) → get_elem? views j ≡ some u → P u)
       → (j : ℕ) (u : View I) → get_elem? (views ++ w ∷ []) j ≡ some u → P u
-  each_push P views w mine others j u e = ⊎_elim (λ (x : get_elem? views j ≡ some u). others j u x) (λ (x : (j ≡ length views) × (w ≡ u)). subst P x.1 mine) (at_pushed views w u j e)
+  each_push P views w mine others j u e =
+      ⊎_elim (λ (x : get_elem? views j ≡ some u). others j u x) (λ (x : (j ≡ length views) × (w ≡ u)). subst P x.1 mine) (at_pushed views w u j e)
 
   -- each number still belongs to a pass, once a view has changed and kept its numbers
-  pub owned_set : (given : ℕ) (views : List (View I)) (id : ℕ) (v w : View I) → get_elem? views id ≡ some v → (v.lives ≡ 1 → w.lives ≡ 1) → ((n : ℕ) → Among n (all_numbers v) → Among n (all_numbers w)) → AllOwned given views → AllOwned given (set views id w)
+  pub owned_set : (given : ℕ) (views : List (View I)) (id : ℕ) (v w : View I) → get_elem? views id ≡ some v → (v.lives ≡ 1 → w.lives ≡ 1)
+      → ((n : ℕ) → Among n (all_numbers v) → Among n (all_numbers w)) → AllOwned given views → AllOwned given (set views id w)
   owned_set given views id v w at lives more owned n le = go (owned n le)
     where
-      go : (j : ℕ) × (u : View I) × (get_elem? views j ≡ some u) × (u.lives ≡ 1) × Among n (all_numbers u) → (j : ℕ) × (u : View I) × (get_elem? (set views id w) j ≡ some u) × (u.lives ≡ 1) × Among n (all_numbers u)
+      go : (j : ℕ) × (u : View I) × (get_elem? views j ≡ some u) × (u.lives ≡ 1) × Among n (all_numbers u)
+          → (j : ℕ) × (u : View I) × (get_elem? (set views id w) j ≡ some u) × (u.lives ≡ 1) × Among n (all_numbers u)
       go o = dite (ℕ_discrete o.0 id)
           (λ same.
-          let is : o.1 ≡ v = some-injective o.1 v (sym o.2 ∙ (subst (λ j. get_elem? views j ≡ some v) (sym same) at)) in
-          (id, w, set_here views id w (at_below views id v at), lives (subst (λ (u : View I). u.lives ≡ 1) is o.3), more n (subst (λ (u : View I). Among n (all_numbers u)) is o.4)))
+          let is : o.1 ≡ v = some-injective o.1 v (sym o.2 ∙ (subst (λ j. get_elem? views j ≡ some v) (sym same) at)) in (
+            id,
+            w,
+            set_here views id w (at_below views id v at),
+            lives (subst (λ (u : View I). u.lives ≡ 1) is o.3),
+            more n (subst (λ (u : View I). Among n (all_numbers u)) is o.4),
+          ))
           (λ other. (o.0, o.1, set_else views id o.0 w other ∙ o.2, o.3, o.4))
 
   -- and with a new pass that has the next number
-  pub owned_push : (given : ℕ) (views : List (View I)) (w : View I) → w.lives ≡ 1 → Among (given + 1) (all_numbers w) → AllOwned given views → AllOwned (given + 1) (views ++ w ∷ [])
+  pub owned_push : (given : ℕ) (views : List (View I)) (w : View I) → w.lives ≡ 1 → Among (given + 1) (all_numbers w) → AllOwned given views
+      → AllOwned (given + 1) (views ++ w ∷ [])
   owned_push given views w lives has owned n le = dite (dec_le n given)
       (λ small. let o = owned n small in (o.0, o.1, at_longer views (w ∷ []) o.0 o.1 o.2, o.3, o.4))
-      (λ big. let is : given + 1 ≡ n = omega arith in (length views, w, at_last views w (length views) refl, lives, subst (λ k. Among k (all_numbers w)) is has))
+      (λ big. let is : given + 1 ≡ n = omega arith in
+      (length views, w, at_last views w (length views) refl, lives, subst (λ k. Among k (all_numbers w)) is has))
 
   -- and with a view more that owns none
   pub owned_more : (given : ℕ) (views : List (View I)) (w : View I) → AllOwned given views → AllOwned given (views ++ w ∷ [])
   owned_more given views w owned n le = let o = owned n le in (o.0, o.1, at_longer views (w ∷ []) o.0 o.1 o.2, o.3, o.4)
 
   -- and once a view has taken in the numbers of another
-  pub owned_join : (given : ℕ) (views : List (View I)) (a b : ℕ) (v w x y : View I) → get_elem? views a ≡ some v → ¬ (b ≡ a) → get_elem? views b ≡ some w → (v.lives ≡ 1 → x.lives ≡ 1) → (w.lives ≡ 1 → x.lives ≡ 1)
-      → ((n : ℕ) → Among n (all_numbers v) → Among n (all_numbers x)) → (w.lives ≡ 1 → (n : ℕ) → Among n (all_numbers w) → Among n (all_numbers x)) → AllOwned given views → AllOwned given (set (set views a x) b y)
+  pub owned_join : (given : ℕ) (views : List (View I)) (a b : ℕ) (v w x y : View I) → get_elem? views a ≡ some v → ¬ (b ≡ a) → get_elem? views b ≡ some w
+      → (v.lives ≡ 1 → x.lives ≡ 1) → (w.lives ≡ 1 → x.lives ≡ 1)
+      → ((n : ℕ) → Among n (all_numbers v) → Among n (all_numbers x)) → (w.lives ≡ 1 → (n : ℕ) → Among n (all_numbers w) → Among n (all_numbers x))
+      → AllOwned given views → AllOwned given (set (set views a x) b y)
   owned_join given views a b v w x y at apart there v_lives w_lives v_more w_more owned n le = go (owned n le)
     where
       here : get_elem? (set (set views a x) b y) a ≡ some x
       here = set_else (set views a x) b a y (λ e. apart (sym e)) ∙ set_here views a x (at_below views a v at)
 
-      go : (j : ℕ) × (u : View I) × (get_elem? views j ≡ some u) × (u.lives ≡ 1) × Among n (all_numbers u) → (j : ℕ) × (u : View I) × (get_elem? (set (set views a x) b y) j ≡ some u) × (u.lives ≡ 1) × Among n (all_numbers u)
+      go : (j : ℕ) × (u : View I) × (get_elem? views j ≡ some u) × (u.lives ≡ 1) × Among n (all_numbers u)
+          → (j : ℕ) × (u : View I) × (get_elem? (set (set views a x) b y) j ≡ some u) × (u.lives ≡ 1) × Among n (all_numbers u)
       go o = dite (ℕ_discrete o.0 a)
           (λ same.
           let is : o.1 ≡ v = some-injective o.1 v (sym o.2 ∙ (subst (λ j. get_elem? views j ≡ some v) (sym same) at)) in
@@ -81,7 +96,8 @@ module _ {I : Type 0} where
 
   module _ (R : View I → View I → Type 0) (turned : (v w : View I) → R v w → R w v) where
     -- no two views are so, once one has changed that then is so with no other
-    pub apart_set : (views : List (View I)) (id : ℕ) (w : View I) → NoTwo R views → ((j : ℕ) (u : View I) → j ≢ id → get_elem? views j ≡ some u → ¬ R w u) → NoTwo R (set views id w)
+    pub apart_set : (views : List (View I)) (id : ℕ) (w : View I) → NoTwo R views → ((j : ℕ) (u : View I) → j ≢ id → get_elem? views j ≡ some u → ¬ R w u)
+        → NoTwo R (set views id w)
     apart_set views id w old new i j x y ei ej r = ⊎_elim
         (λ (a : (i ≡ id) × (w ≡ x)). ⊎_elim
         (λ (b : (j ≡ id) × (w ≡ y)). a.0 ∙ sym b.0)
@@ -94,11 +110,13 @@ module _ {I : Type 0} where
         (at_set views id i w x ei)
 
     -- the same of a view that is so with no more than it was
-    pub apart_less : (views : List (View I)) (id : ℕ) (v w : View I) → get_elem? views id ≡ some v → NoTwo R views → ((u : View I) → R w u → R v u) → NoTwo R (set views id w)
+    pub apart_less : (views : List (View I)) (id : ℕ) (v w : View I) → get_elem? views id ≡ some v → NoTwo R views → ((u : View I) → R w u → R v u)
+        → NoTwo R (set views id w)
     apart_less views id v w at old less = apart_set views id w old (λ j u other e r. other (sym (old id j v u at e (less u r))))
 
     -- and with a view more that is so with none
-    pub apart_push : (views : List (View I)) (w : View I) → NoTwo R views → ((j : ℕ) (u : View I) → get_elem? views j ≡ some u → ¬ R w u) → NoTwo R (views ++ w ∷ [])
+    pub apart_push : (views : List (View I)) (w : View I) → NoTwo R views → ((j : ℕ) (u : View I) → get_elem? views j ≡ some u → ¬ R w u)
+        → NoTwo R (views ++ w ∷ [])
     apart_push views w old new i j x y ei ej r = ⊎_elim
         (λ (a : get_elem? views i ≡ some x). ⊎_elim
         (λ (b : get_elem? views j ≡ some y). old i j x y a b r)

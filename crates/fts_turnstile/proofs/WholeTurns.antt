@@ -21,7 +21,9 @@ module _ {T I : Type 0} (items : T → List I) (names : I → ℕ) (shows : T �
 
   -- the value and the view, once it is served
   abbrev Came : View I → Me (Option T) (View I) → T → Type 0
-  Came v m x = (n : ℕ) × (turns : List (Turn I)) × (m ≡ (served_view (view_with_ticket v n) turns, (0, None) ∷ [])) × OnlyOthersSince (own_numbers v) v.seen turns × AllNamed names turns × (items x ≡ v.opening ++ items_of turns) × (shows x ≡ shown_after v.opening_shows turns)
+  Came v m x = (n : ℕ) × (turns : List (Turn I)) × (m ≡ (served_view (view_with_ticket v n) turns, (0, None) ∷ []))
+      × OnlyOthersSince (own_numbers v) v.seen turns × AllNamed names turns × (items x ≡ v.opening ++ items_of turns)
+      × (shows x ≡ shown_after v.opening_shows turns)
 
   -- what entering tells, by the value that came out
   came : (v : View I) (m : Me (Option T) (View I)) (x : T) → Entered items names shows v m x → Came v m x
@@ -31,11 +33,16 @@ module _ {T I : Type 0} (items : T → List I) (names : I → ℕ) (shows : T �
       (e.0, s.0, e.3 ∙ ap (λ k. (k, (0, None) ∷ [])) s.2, s.4, s.5, ap items (sym same) ∙ s.6, ap shows (sym same) ∙ s.7)
 
   -- the value's list begins with what the pass had seen
-  pub begins_seen : (t : TableId) (v : View I) (m : Me (Option T) (View I)) (x : T) → Entered items names shows v m x → Begins (seen_list (pass_of t v)) (items x)
+  pub begins_seen : (t : TableId) (v : View I) (m : Me (Option T) (View I)) (x : T) → Entered items names shows v m x
+      → Begins (seen_list (pass_of t v)) (items x)
   begins_seen t v m x e = go (came v m x e)
     where
       go : Came v m x → Begins (seen_list (pass_of t v)) (items x)
-      go d = (items_of d.3.0, d.5 ∙ ap (λ l. v.opening ++ items_of l) d.3.1 ∙ ap (λ l. v.opening ++ l) (items_of-append v.seen d.3.0) ∙ sym (append_assoc v.opening (items_of v.seen) (items_of d.3.0)))
+      go d = (
+        items_of d.3.0,
+        d.5 ∙ ap (λ l. v.opening ++ items_of l) d.3.1 ∙ ap (λ l. v.opening ++ l) (items_of-append v.seen d.3.0)
+            ∙ sym (append_assoc v.opening (items_of v.seen) (items_of d.3.0)),
+      )
 
   -- a value to which the work appended may go back
   pub may_leave : (v : View I) (m : Me (Option T) (View I)) (x y : T) → Entered items names shows v m x → Appends items names v.number x y
@@ -50,7 +57,8 @@ module _ {T I : Type 0} (items : T → List I) (names : I → ℕ) (shows : T �
       )
 
   -- a whole turn, from what its first part, the work and its last part tell
-  pub took : (work : T → T → Type 0) (t u : TableId) (v : View I) (m : Me (Option T) (View I)) (w : View I) (x y : T) (p : PassView I) → pass_of t v ≡ p → Entered items names shows v m x → Left items names shows m.0 y w → work x y
+  pub took : (work : T → T → Type 0) (t u : TableId) (v : View I) (m : Me (Option T) (View I)) (w : View I) (x y : T) (p : PassView I) → pass_of t v ≡ p
+      → Entered items names shows v m x → Left items names shows m.0 y w → work x y
       → TookTurn items names shows work p (pass_of u w)
   took work t u v m w x y p same e l did = subst (λ q. TookTurn items names shows work q (pass_of u w)) same (go (came v m x e))
     where
@@ -59,7 +67,8 @@ module _ {T I : Type 0} (items : T → List I) (names : I → ℕ) (shows : T �
           let rest = d.3.0 in
           let is : d.1 ≡ v.seen ++ rest = d.3.1 in
           let at : m.0 ≡ served_view (view_with_ticket v d.0) d.1 = ap (λ z. z.0) d.2 in
-          let new_seen : w.seen ≡ (v.seen ++ rest) ++ turn_of v.number l.0 (shows y) ∷ [] = ap (λ z. z.seen) l.3 ∙ (λ i. (at i).seen ++ turn_of (at i).number l.0 (shows y) ∷ []) ∙ ap (λ z. z ++ turn_of v.number l.0 (shows y) ∷ []) is in
+          let new_seen : w.seen ≡ (v.seen ++ rest) ++ turn_of v.number l.0 (shows y) ∷ [] =
+          ap (λ z. z.seen) l.3 ∙ (λ i. (at i).seen ++ turn_of (at i).number l.0 (shows y) ∷ []) ∙ ap (λ z. z ++ turn_of v.number l.0 (shows y) ∷ []) is in
           let keeps : own_numbers w ≡ own_numbers v = ap own_numbers l.3 ∙ ap own_numbers at in
           record {
             between = rest;
@@ -80,5 +89,6 @@ module _ {T I : Type 0} (items : T → List I) (names : I → ℕ) (shows : T �
           }
 
 -- a new pass has no items of its own
-pub fresh_own : {I : Type 0} → (v w r : View I) → w ≡ view_with_number v → r ≡ new_view w → NoneBy ((v.given + 1) ∷ []) v.seen → items_by (r.number ∷ r.joined) r.seen ≡ []
+pub fresh_own : {I : Type 0} → (v w r : View I) → w ≡ view_with_number v → r ≡ new_view w → NoneBy ((v.given + 1) ∷ []) v.seen
+    → items_by (r.number ∷ r.joined) r.seen ≡ []
 fresh_own v w r e f none_of = ap (λ z. items_by (z.number ∷ z.joined) z.seen) (f ∙ ap new_view e) ∙ items_by-none ((v.given + 1) ∷ []) v.seen none_of

@@ -28,7 +28,21 @@ module _ {I : Type 0} where
 
   -- the view of a pass that has added nothing, with what it has seen and its number
   abbrev pub fresh_view : List I → List ℕ → List (Turn I) → ℕ → View I
-  fresh_view opening opening_shows seen number = record { opening = opening; opening_shows = opening_shows; seen = seen; told = []; told_numbers = []; lives = 1; number = number; joined = []; given = 0; hand = 0; waits = 0; ticket = 0; served = 0 }
+  fresh_view opening opening_shows seen number = record {
+    opening = opening;
+    opening_shows = opening_shows;
+    seen = seen;
+    told = [];
+    told_numbers = [];
+    lives = 1;
+    number = number;
+    joined = [];
+    given = 0;
+    hand = 0;
+    waits = 0;
+    ticket = 0;
+    served = 0;
+  }
 
   -- the first view of a lock that is made over a value with this list, which shows this
   abbrev pub first_view : List I → List ℕ → View I

@@ -2,7 +2,7 @@
 //! Keeps: the table has three words and one slot (the invariant below), and the rule of `specs/Rule.antt` between any two steps.
 //! Order of a turn: take a ticket, look until the turn is that ticket's, take the value, work, put the value back, pass the turn on.
 //! The value is back before the turn moves, and the turn moves before those who sleep are woken.
-//! Called by workers and connections, one thread a pass. `with_turn` waits; nothing else does.
+//! For threads that share one value, one pass a thread. Its caller today is `bench_turnstile`. `with_turn` waits; nothing else does.
 ghost use Rattle.std.specs.Prelude.{◌≡◌, ◌≢◌, ℕ, ◌+◌, ◌%◌, ◌<◌, ◌≤◌, ◌++◌, List, [], ◌∷◌, Some, None, IfOk, IfErr};
 ghost use Rattle.std.specs.Fn.{FnOnceReturnsAtMut};
 ghost use Rattle.fts_turnstile.specs.History.{Begins, OnlyOthersSince, shown_after, longer_of, items_by, AllNamed, AllGiven, NoneTwice};
@@ -40,7 +40,11 @@ impl<T: Logged> Model for Turnstile<T> {
 
     ghost Value = { TurnstileView T.Item };
 
-    ghost view = { λ t. record { table = t.table.shared.table_id; opening = T.items t.table.shared.key.value; opening_shows = T.shows t.table.shared.key.value } };
+    ghost view = { λ t. record {
+      table = t.table.shared.table_id;
+      opening = T.items t.table.shared.key.value;
+      opening_shows = T.shows t.table.shared.key.value;
+    } };
 
     ghost invariant = { λ t. (t.table.shared.table_id.words ≡ 3) × (t.table.shared.table_id.slots ≡ 1) };
 }

@@ -8,8 +8,13 @@ use Rattle.fts_turnstile.proofs.turnstile.Turnstile.join.Goals as goal
 pub join_seat-requires : goal.join_seat-requires
 join_seat-requires g c =
     let rests = c.pass.invariant.2 in
-    let other_rests = c.other.invariant.2 in
-    (search rules, search rules, search rules, search rules, takes_in _ _ _ _ _ _ _ _ _ rests.0 rests.2 rests.5 other_rests.0 other_rests.2 other_rests.4 other_rests.5)
+    let other_rests = c.other.invariant.2 in (
+      search rules,
+      search rules,
+      search rules,
+      search rules,
+      takes_in _ _ _ _ _ _ _ _ _ rests.0 rests.2 rests.5 other_rests.0 other_rests.2 other_rests.4 other_rests.5,
+    )
 
 pub load-requires : goal.load-requires
 load-requires g c =

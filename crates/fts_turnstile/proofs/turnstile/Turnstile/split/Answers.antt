@@ -15,9 +15,14 @@ pub split_seat-seat-requires : goal.split_seat-seat-requires
 split_seat-seat-requires g c =
     let rests = c.pass.invariant.2 in
     let drew = c.fetch_add-number.ensures.2.1 in
-    let first = ap (λ p. p.number) c.pass.view_is ∙ c.requires.first in
-    (search rules, search rules, splits _ _ _ _ _ _ _ (ap (λ v. v.lives) drew ∙ rests.0) (ap (λ v. v.number) drew ∙ first) (ap (λ v. v.hand) drew) (ap (λ v. v.served) drew ∙ rests.5))
+    let first = ap (λ p. p.number) c.pass.view_is ∙ c.requires.first in (
+      search rules,
+      search rules,
+      splits _ _ _ _ _ _ _ (ap (λ v. v.lives) drew ∙ rests.0) (ap (λ v. v.number) drew ∙ first) (ap (λ v. v.hand) drew) (ap (λ v. v.served) drew ∙ rests.5),
+    )
 
 pub returns-clause-fresh : goal.returns-clause-fresh
 returns-clause-fresh g c =
-    let drew = c.fetch_add-number.ensures.2 in fresh_own c.pass.inside.seat.me.0 c.fetch_add-number.new.seat.me.0 c.split_seat-seat.result.me.0 drew.1 (ap (λ m. m.0) c.split_seat-seat.ensures.4) drew.3
+    let drew = c.fetch_add-number.ensures.2 in
+    fresh_own c.pass.inside.seat.me.0 c.fetch_add-number.new.seat.me.0 c.split_seat-seat.result.me.0 drew.1
+    (ap (λ m. m.0) c.split_seat-seat.ensures.4) drew.3

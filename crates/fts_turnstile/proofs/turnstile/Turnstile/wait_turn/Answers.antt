@@ -8,5 +8,6 @@ load-turn-requires g c =
     let waiting = c.requires.waiting.0 in (
       search rules,
       search rules,
-      looks _ _ _ _ _ _ _ _ (ap (λ m. m.0.lives) as_before ∙ waiting.0) (ap (λ m. m.0.waits) as_before ∙ waiting.1) (ap (λ m. m.0.served) as_before ∙ waiting.2) (ap (λ m. m.1) as_before ∙ c.requires.waiting.1),
+      looks _ _ _ _ _ _ _ _ (ap (λ m. m.0.lives) as_before ∙ waiting.0) (ap (λ m. m.0.waits) as_before ∙ waiting.1)
+          (ap (λ m. m.0.served) as_before ∙ waiting.2) (ap (λ m. m.1) as_before ∙ c.requires.waiting.1),
     )
