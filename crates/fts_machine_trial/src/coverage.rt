@@ -1,4 +1,5 @@
-//! What came up in a trial: each kind of answer and of refusal, and each change of a row's state.
+//! What came up in a trial: each kind of answer and of refusal, and each change of a row's state. That no other change comes is a law of the
+//! machine (`fts_tables::laws::rows_move_by_allowed_steps`), and is not looked at here.
 use crate::plain::PlainRow;
 use fts_tables::{Answer, FileState, Refusal};
 
@@ -22,19 +23,10 @@ pub enum Event {
     Idle,
     Stale,
     Unchanged,
-    SubmittedToActive,
-    SubmittedToCanceled,
-    ActiveToFinished,
-    ActiveToFailed,
-    ActiveToSubmitted,
-    ActiveToCanceled,
-    NotUsedToSubmitted,
-    NotUsedToCanceled,
-    Forbidden,
 }
 
 /// All that is to come up.
-const WANTED: [Event; 25] = [
+const WANTED: [Event; 17] = [
     Event::Restarted,
     Event::RestartedWithRelease,
     Event::Submitted,
@@ -52,135 +44,108 @@ const WANTED: [Event; 25] = [
     Event::Idle,
     Event::Stale,
     Event::Unchanged,
-    Event::SubmittedToActive,
-    Event::SubmittedToCanceled,
-    Event::ActiveToFinished,
-    Event::ActiveToFailed,
-    Event::ActiveToSubmitted,
-    Event::ActiveToCanceled,
-    Event::NotUsedToSubmitted,
-    Event::NotUsedToCanceled,
 ];
 
-/// How often each event came, by its number.
+/// The changes of a row's state that are to come up.
+const MOVES: [(FileState, FileState); 8] = [
+    (FileState::Submitted, FileState::Active),
+    (FileState::Submitted, FileState::Canceled),
+    (FileState::Active, FileState::Finished),
+    (FileState::Active, FileState::Failed),
+    (FileState::Active, FileState::Submitted),
+    (FileState::Active, FileState::Canceled),
+    (FileState::NotUsed, FileState::Submitted),
+    (FileState::NotUsed, FileState::Canceled),
+];
+
+/// How often each event and each change came, by their places.
 #[derive(Drop)]
 pub struct Coverage {
-    counts: [u32; 26],
+    events: [u32; 17],
+    moves: [u32; 8],
 }
 
 impl Coverage {
     /// Nothing came yet.
     pub fn new() -> Coverage {
-        Coverage { counts: [0; 26] }
-    }
-
-    /// One more of an event.
-    fn note(&mut self, event: Event) {
-        if let Some(count) = self.counts.get_mut(event as usize) {
-            *count = count.saturating_add(1);
+        Coverage {
+            events: [0; 17],
+            moves: [0; 8],
         }
-    }
-
-    /// How often an event came.
-    pub fn count(&self, event: Event) -> u32 {
-        self.counts.get(event as usize).copied().unwrap_or(0)
     }
 
     /// Notes what a command was answered.
     pub fn note_answer(&mut self, answer: &Result<Answer, Refusal>) {
-        match answer {
-            Ok(answer) => self.note(event_of_answer(answer)),
-            Err(refusal) => self.note(event_of_refusal(refusal)),
+        let event = match answer {
+            Ok(answer) => event_of_answer(answer),
+            Err(refusal) => event_of_refusal(refusal),
+        };
+        if let Some(event) = event {
+            add_one(&mut self.events, event as usize);
         }
     }
 
     /// Notes how rows changed their states.
     pub fn note_moves(&mut self, before: &[FileState], after: &[PlainRow]) {
         for (from, row) in before.iter().zip(after) {
-            if *from != row.state {
-                self.note(event_of_move(*from, row.state));
+            if let Some(place) = MOVES.iter().position(|pair| *pair == (*from, row.state)) {
+                add_one(&mut self.moves, place);
             }
         }
     }
 
     /// The first event that came less than so often.
     pub fn rarer_than(&self, often: u32) -> Option<Event> {
-        WANTED
-            .iter()
-            .copied()
-            .find(|event| self.count(*event) < often)
+        WANTED.iter().copied().find(|event| self.events.get(*event as usize).copied().unwrap_or(0)
+            < often)
+    }
+
+    /// How often the rarest change came.
+    pub fn rarest_move(&self) -> u32 {
+        self.moves.iter().copied().min().unwrap_or(0)
     }
 }
 
-fn event_of_answer(answer: &Answer) -> Event {
+/// One more at a place.
+fn add_one(counts: &mut [u32], place: usize) {
+    if let Some(count) = counts.get_mut(place) {
+        *count = count.saturating_add(1);
+    }
+}
+
+fn event_of_answer(answer: &Answer) -> Option<Event> {
     match answer {
-        Answer::Restarted { released: 0 } => Event::Restarted,
-        Answer::Restarted { .. } => Event::RestartedWithRelease,
-        Answer::Submitted { .. } => Event::Submitted,
-        Answer::Cancelled { .. } => Event::Cancelled,
-        Answer::PrioritySet { .. } => Event::PrioritySet,
-        Answer::Claimed { attempt: 1, .. } => Event::Claimed,
-        Answer::Claimed { .. } => Event::ClaimedAgain,
+        Answer::Restarted { released: 0 } => Some(Event::Restarted),
+        Answer::Restarted { .. } => Some(Event::RestartedWithRelease),
+        Answer::Submitted { .. } => Some(Event::Submitted),
+        Answer::Cancelled { .. } => Some(Event::Cancelled),
+        Answer::PrioritySet { .. } => Some(Event::PrioritySet),
+        Answer::Claimed { attempt: 1, .. } => Some(Event::Claimed),
+        Answer::Claimed { .. } => Some(Event::ClaimedAgain),
         Answer::Reported { state, .. } => event_of_report(*state),
     }
 }
 
-fn event_of_report(state: FileState) -> Event {
+/// A report leaves no row ACTIVE or NOT_USED.
+fn event_of_report(state: FileState) -> Option<Event> {
     match state {
-        FileState::Finished => Event::ReportedFinished,
-        FileState::Failed => Event::ReportedFailed,
-        FileState::Submitted => Event::ReportedSubmitted,
-        FileState::Canceled => Event::ReportedCanceled,
-        FileState::Active | FileState::NotUsed => Event::Forbidden,
+        FileState::Finished => Some(Event::ReportedFinished),
+        FileState::Failed => Some(Event::ReportedFailed),
+        FileState::Submitted => Some(Event::ReportedSubmitted),
+        FileState::Canceled => Some(Event::ReportedCanceled),
+        FileState::Active | FileState::NotUsed => None,
     }
 }
 
-/// The limits of the lists are far away, so a refusal for them is none that may come.
-fn event_of_refusal(refusal: &Refusal) -> Event {
+/// The limits of the lists are far away, so a refusal for them is not to come up.
+fn event_of_refusal(refusal: &Refusal) -> Option<Event> {
     match refusal {
-        Refusal::NoJob => Event::NoJob,
-        Refusal::NoFile => Event::NoFile,
-        Refusal::Duplicate { .. } => Event::Duplicate,
-        Refusal::Idle => Event::Idle,
-        Refusal::Stale { .. } => Event::Stale,
-        Refusal::Unchanged { .. } => Event::Unchanged,
-        Refusal::JobsFull { .. } | Refusal::RowsFull { .. } => Event::Forbidden,
-    }
-}
-
-fn event_of_move(from: FileState, to: FileState) -> Event {
-    match from {
-        FileState::Submitted => event_of_waiting(to),
-        FileState::Active => event_of_active(to),
-        FileState::NotUsed => event_of_not_used(to),
-        FileState::Finished | FileState::Failed | FileState::Canceled => Event::Forbidden,
-    }
-}
-
-fn event_of_waiting(to: FileState) -> Event {
-    match to {
-        FileState::Active => Event::SubmittedToActive,
-        FileState::Canceled => Event::SubmittedToCanceled,
-        FileState::Submitted | FileState::Finished | FileState::Failed | FileState::NotUsed =>
-            Event::Forbidden,
-    }
-}
-
-fn event_of_active(to: FileState) -> Event {
-    match to {
-        FileState::Finished => Event::ActiveToFinished,
-        FileState::Failed => Event::ActiveToFailed,
-        FileState::Submitted => Event::ActiveToSubmitted,
-        FileState::Canceled => Event::ActiveToCanceled,
-        FileState::Active | FileState::NotUsed => Event::Forbidden,
-    }
-}
-
-fn event_of_not_used(to: FileState) -> Event {
-    match to {
-        FileState::Submitted => Event::NotUsedToSubmitted,
-        FileState::Canceled => Event::NotUsedToCanceled,
-        FileState::Active | FileState::Finished | FileState::Failed | FileState::NotUsed =>
-            Event::Forbidden,
+        Refusal::NoJob => Some(Event::NoJob),
+        Refusal::NoFile => Some(Event::NoFile),
+        Refusal::Duplicate { .. } => Some(Event::Duplicate),
+        Refusal::Idle => Some(Event::Idle),
+        Refusal::Stale { .. } => Some(Event::Stale),
+        Refusal::Unchanged { .. } => Some(Event::Unchanged),
+        Refusal::JobsFull { .. } | Refusal::RowsFull { .. } => None,
     }
 }

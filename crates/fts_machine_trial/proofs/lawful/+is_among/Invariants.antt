@@ -1,5 +1,0 @@
-use Rattle.std.proofs.Common.{length}
-use Rattle.fts_machine_trial.proofs.lawful.+is_among.Given as goal
-
-abbrev pub decreases-is_among : goal.decreases-is_among
-decreases-is_among g l = length l.others.now
