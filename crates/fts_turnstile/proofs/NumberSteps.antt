@@ -12,7 +12,7 @@ use Rattle.fts_turnstile.proofs.Words.{Seat}
 use Rattle.fts_turnstile.proofs.Lists.{at_front}
 use Rattle.fts_turnstile.proofs.Histories.{none_all}
 use Rattle.fts_turnstile.proofs.ViewLists.{total_set, total_push, each_set, each_push, owned_set, owned_push, apart_less, apart_push}
-use Rattle.fts_turnstile.proofs.RuleParts.{share_turned, ticket_turned, still, still_pushed, not_first}
+use Rattle.fts_turnstile.proofs.RuleParts.{share_turned, ticket_turned, recounted, still, still_pushed, not_first}
 
 module _ {T I : Type 0} (items : T → List I) (names : I → ℕ) (shows : T → List ℕ) (opening : List I) (opening_shows : List ℕ) where
   -- the rule of this lock
@@ -59,40 +59,9 @@ module _ {T I : Type 0} (items : T → List I) (names : I → ℕ) (shows : T �
           waiting = omega arith;
           living = omega arith;
           each = each_set (Ok r.turns r.tickets r.given 1) s.views id w
-              (record {
-                seen = f.seen;
-                told = f.told;
-                lives = f.lives;
-                waits = f.waits;
-                ticket = f.ticket;
-                served = f.served;
-                pass = λ _. record {
-                  opening_is = k.opening_is;
-                  shows_is = k.shows_is;
-                  own = k.own;
-                  told_own = k.told_own;
-                  once = k.once;
-                  given_all = k.given_all;
-                  draws = λ _. (d.0, refl);
-                };
-              })
-              (λ j u apart e. let o = r.each j u e in record {
-                seen = o.seen;
-                told = o.told;
-                lives = o.lives;
-                waits = o.waits;
-                ticket = o.ticket;
-                served = o.served;
-                pass = λ x. let q = o.pass x in record {
-                  opening_is = q.opening_is;
-                  shows_is = q.shows_is;
-                  own = q.own;
-                  told_own = q.told_own;
-                  once = q.once;
-                  given_all = q.given_all;
-                  draws = λ z. absurd (not_first items names shows opening opening_shows s r id v here lives first j u apart e x z);
-                };
-              });
+              (recounted opening opening_shows r.turns r.tickets r.given r.hand r.given 1 v.given 1 v (omega arith) f (λ _ _. (d.0, refl)))
+              (λ j u apart e. recounted opening opening_shows r.turns r.tickets r.given r.hand r.given 1 u.given u.hand u (omega arith) (r.each j u e)
+              (λ x z. absurd (not_first items names shows opening opening_shows s r id v here lives first j u apart e x z)));
           owned = owned_set r.given s.views id v w here (λ e. e) (λ n x. x) r.owned;
           apart = apart_less ShareNumber share_turned s.views id v w here r.apart (λ u x. x);
           in_line = apart_less ShareTicket ticket_turned s.views id v w here r.in_line (λ u x. x);
@@ -130,40 +99,10 @@ module _ {T I : Type 0} (items : T → List I) (names : I → ℕ) (shows : T �
       let live = r.living in
       let fits : (j : ℕ) (u : View I) → get_elem? views j ≡ some u → Ok r.turns r.tickets (r.given + 1) 0 u =
       each_set (Ok r.turns r.tickets (r.given + 1) 0) s.views id w
-      (record {
-        seen = f.seen;
-        told = f.told;
-        lives = f.lives;
-        waits = f.waits;
-        ticket = f.ticket;
-        served = f.served;
-        pass = λ _. record {
-          opening_is = k.opening_is;
-          shows_is = k.shows_is;
-          own = k.own;
-          told_own = k.told_own;
-          once = k.once;
-          given_all = λ n x. let b = k.given_all n x in omega arith;
-          draws = λ _. (ap (λ n. n + 1) d.0, refl);
-        };
-      })
-      (λ j u apart e. let o = r.each j u e in record {
-        seen = o.seen;
-        told = o.told;
-        lives = o.lives;
-        waits = o.waits;
-        ticket = o.ticket;
-        served = o.served;
-        pass = λ x. let q = o.pass x in record {
-          opening_is = q.opening_is;
-          shows_is = q.shows_is;
-          own = q.own;
-          told_own = q.told_own;
-          once = q.once;
-          given_all = λ n y. let b = q.given_all n y in omega arith;
-          draws = λ z. absurd (not_first items names shows opening opening_shows s r id v here lives first j u apart e x z);
-        };
-      }) in
+      (recounted opening opening_shows r.turns r.tickets r.given r.hand (r.given + 1) 0 (v.given + 1) 0 v (omega arith) f
+      (λ _ _. (ap (λ n. n + 1) d.0, refl)))
+      (λ j u apart e. recounted opening opening_shows r.turns r.tickets r.given r.hand (r.given + 1) 0 u.given u.hand u (omega arith) (r.each j u e)
+      (λ x z. absurd (not_first items names shows opening opening_shows s r id v here lives first j u apart e x z))) in
       let nobody : (j : ℕ) (u : View I) → get_elem? views j ≡ some u → ¬ ShareNumber new u = each_set (λ u. ¬ ShareNumber new u) s.views id w
       (λ x. ⊎_elim (λ (is : x.2.0 ≡ v.given + 1). let b = k.given_all x.2.0 x.2.2 in absurd (omega arith)) (λ z. z) x.2.1)
       (λ j u _ e x. ⊎_elim (λ (is : x.2.0 ≡ v.given + 1). let b = ((r.each j u e).pass x.1).given_all x.2.0 x.2.2 in absurd (omega arith)) (λ z. z) x.2.1) in

@@ -34,6 +34,29 @@ module _ {I : Type 0} (opening : List I) (opening_shows : List ℕ) where
     pass = f.pass;
   }
 
+  -- a view is in order with another count of numbers given and in hand, where no fewer were given and pass 0 says that count
+  pub recounted : (turns : List (Turn I)) (tickets given hand more held count kept : ℕ) (v : View I) → given ≤ more
+      → IsInOrder opening opening_shows turns tickets given hand v
+      → (v.lives ≡ 1 → v.number ≡ 0 → (count ≡ more) × (kept ≡ held))
+      → IsInOrder opening opening_shows turns tickets more held (record v { given = count; hand = kept })
+  recounted turns tickets given hand more held count kept v le f draws = record {
+    seen = f.seen;
+    told = f.told;
+    lives = f.lives;
+    waits = f.waits;
+    ticket = f.ticket;
+    served = f.served;
+    pass = λ x. let q = f.pass x in record {
+      opening_is = q.opening_is;
+      shows_is = q.shows_is;
+      own = q.own;
+      told_own = q.told_own;
+      once = q.once;
+      given_all = λ n y. let b = q.given_all n y in omega arith;
+      draws = draws x;
+    };
+  }
+
 module _ {T I : Type 0} (items : T → List I) (names : I → ℕ) (shows : T → List ℕ) (opening : List I) (opening_shows : List ℕ) where
   -- the rule of this lock
   abbrev Rule : State (Option T) (View I) → Type 0
