@@ -87,6 +87,14 @@ fn small(words: &[&str], place: usize) -> u32 {
     }
 }
 
+/// The number at a place of a line, of 16 bits.
+fn number_16(words: &[&str], place: usize) -> u16 {
+    match word(words, place).parse::<u16>() {
+        Ok(number) => number,
+        Err(_) => 0,
+    }
+}
+
 /// How a copy ended.
 fn outcome(name: &str) -> Outcome {
     match name {
@@ -213,8 +221,8 @@ fn waits(alloc: Global, desk: &Desk, job: u32) -> Result<String, AllocError> {
 /// How many files run from one endpoint to another, by their places.
 fn held(alloc: Global, desk: &Desk, words: &[&str]) -> Result<String, AllocError> {
     let link = LinkAt {
-        source: small(words, 1) as u16,
-        dest: small(words, 2) as u16,
+        source: number_16(words, 1),
+        dest: number_16(words, 2),
     };
     format!(in alloc; "{}", desk.held(link))
 }
