@@ -13,12 +13,7 @@ use toml::Value;
 fn are_tables(values: &[Value]) -> bool
     ensures { result ≡ list_all is_table (map view values.now) }
 {
-    for value in values {
-        if !value.is_table() {
-            return false;
-        }
-    }
-    true
+    values.iter().all(|value| value.is_table())
 }
 
 fn fits(kind: Kind, value: &Value) -> bool
@@ -61,23 +56,13 @@ fn lacks(key: SettingKey, table: &Value) -> bool
 fn any_has_wrong_type(key: SettingKey, tables: &[Value]) -> bool
     ensures { result ≡ list_any (has_wrong_type key) (map view tables.now) }
 {
-    for table in tables {
-        if has_wrong_type(key, table) {
-            return true;
-        }
-    }
-    false
+    tables.iter().any(|table| has_wrong_type(key, table))
 }
 
 fn any_lacks(key: SettingKey, tables: &[Value]) -> bool
     ensures { result ≡ list_any (lacks key) (map view tables.now) }
 {
-    for table in tables {
-        if lacks(key, table) {
-            return true;
-        }
-    }
-    false
+    tables.iter().any(|table| lacks(key, table))
 }
 
 /// Rule 2: no key has a value of another type.
