@@ -11,4 +11,5 @@ pub returns : goal.returns
 returns c =
     let values = c.args.tables.now in
     rw (any_of_viewed (has_wrong_type c.args.key) view values)
-    (any_from_yields_List (λ value. has_wrong_type c.args.key (view value)) _ _ _ c.any.ensures.ran (YieldsList-from_slice values cc) (λ x b q k. search (rules, tests)))
+    (any_from_yields_List (λ value. has_wrong_type c.args.key (view value)) _ _ _ c.any.ensures.ran (YieldsList-from_slice values cc)
+    (λ x b q k. search (rules, tests)))

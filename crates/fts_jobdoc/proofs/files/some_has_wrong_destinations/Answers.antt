@@ -11,4 +11,5 @@ pub returns : goal.returns
 returns c =
     let files = c.args.files.now in
     rw (any_of_viewed has_wrong_destinations view files)
-    (any_from_yields_List (λ file. has_wrong_destinations (view file)) _ _ _ c.any.ensures.ran (YieldsList-from_slice files cc) (λ x b q k. search (rules, tests)))
+    (any_from_yields_List (λ file. has_wrong_destinations (view file)) _ _ _ c.any.ensures.ran (YieldsList-from_slice files cc)
+    (λ x b q k. search (rules, tests)))
