@@ -22,11 +22,13 @@ apart-append_false : {T : Type 0} (same : T → T → Bool) (items more : List T
 apart-append_false same [] more twice = cc
 apart-append_false same (item ∷ items) more twice =
     ap (λ found. not found && are_apart same (items ++ more)) (list_any-append (same item) items more)
-    ∙ not_apart (list_any (same item) items) (list_any (same item) more) (are_apart same items) (are_apart same (items ++ more)) twice (apart-append_false same items more)
+    ∙ not_apart (list_any (same item) items) (list_any (same item) more) (are_apart same items) (are_apart same (items ++ more)) twice
+    (apart-append_false same items more)
 
 -- where two of the first items are the same, two of all are
 pub twice_of_first : {T : Type 0} (same : T → T → Bool) (items : List T) (count : ℕ) → are_apart same (take count items) ≡ false → are_apart same items ≡ false
-twice_of_first same items count twice = ap (are_apart same) (sym (take-append-drop count items)) ∙ apart-append_false same (take count items) (drop count items) twice
+twice_of_first same items count twice = ap (are_apart same) (sym (take-append-drop count items))
+    ∙ apart-append_false same (take count items) (drop count items) twice
 
 any_by_key : (link : LinkRule) (links : List LinkRule) → is_endpoint_name link.source ≡ true → list_all (λ other. is_endpoint_name other.source) links ≡ true
     → list_any (is_same_pair link) links ≡ list_any (is_same_key pair_key link) links
@@ -37,7 +39,8 @@ any_by_key link (other ∷ links) named all =
     ∙ ap (λ rest. is_same_key pair_key link other || rest) (any_by_key link links named parts.1)
 
 -- links are apart exactly where their keys are
-pub links_by_key : (links : List LinkRule) → list_all (λ link. is_endpoint_name link.source) links ≡ true → are_apart is_same_pair links ≡ are_apart (is_same_key pair_key) links
+pub links_by_key : (links : List LinkRule) → list_all (λ link. is_endpoint_name link.source) links ≡ true → are_apart is_same_pair links
+    ≡ are_apart (is_same_key pair_key) links
 links_by_key [] all = refl
 links_by_key (link ∷ links) all =
     let parts = and_parts (is_endpoint_name link.source) (list_all (λ one. is_endpoint_name one.source) links) all in
@@ -53,5 +56,6 @@ endpoints_decided s items (Some keys) same holds = ap (are_apart is_same_endpoin
 -- links are apart exactly where there is a set of their keys
 pub links_decided : (s : SettingsData) (items : List LinkRule) (held : Option (BTreeSet (String Global))) → items ≡ s.links
     → HoldsKeys pair_key (λ (link : LinkRule). is_endpoint_name link.source) items held → has_distinct_links s ≡ is_some held
-links_decided s items None same holds = ap (are_apart is_same_pair) (sym same) ∙ twice_of_first is_same_pair items holds.count (links_by_key (take holds.count items) holds.all_proper ∙ holds.twice)
+links_decided s items None same holds = ap (are_apart is_same_pair) (sym same)
+    ∙ twice_of_first is_same_pair items holds.count (links_by_key (take holds.count items) holds.all_proper ∙ holds.twice)
 links_decided s items (Some keys) same holds = ap (are_apart is_same_pair) (sym same) ∙ links_by_key items holds.all_proper ∙ holds.apart

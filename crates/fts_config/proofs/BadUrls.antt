@@ -5,7 +5,8 @@ use Rattle.std.specs.List.{flat_map}
 use Rattle.toml.specs.Data.{Data}
 use Rattle.toml.specs.View.{view}
 use Rattle.toml.specs.declared.value.Value.{Value}
-use Rattle.fts_config.specs.Faults.{unless, Gives}
+use Rattle.fts_tables.specs.FirstFault.{unless}
+use Rattle.fts_config.specs.Faults.{Gives}
 use Rattle.fts_joburl.specs.declared.fault.UrlFault.{UrlFault}
 use Rattle.fts_config.specs.declared.fault.SettingsFault.{SettingsFault}
 use Rattle.fts_config.specs.Reading.{endpoint_by, bad_or, first_bad}
@@ -14,19 +15,22 @@ good_first : (r : Result (List ℕ) UrlFault) (here all rest : Option SettingsFa
 good_first (Ok name) here all rest good further = further good
 good_first (Err fault) here all rest good further = cc
 
-bad_first : (r : Result (List ℕ) UrlFault) (here all : Option SettingsFault) (fault : SettingsFault) → bad_or r here ≡ Some fault → (here ≡ Some fault → all ≡ Some fault) → bad_or r all ≡ Some fault
+bad_first : (r : Result (List ℕ) UrlFault) (here all : Option SettingsFault) (fault : SettingsFault) → bad_or r here ≡ Some fault
+    → (here ≡ Some fault → all ≡ Some fault) → bad_or r all ≡ Some fault
 bad_first (Ok name) here all fault bad further = further bad
 bad_first (Err refused) here all fault bad further = bad
 
 -- behind good URLs the others decide
 pub first_bad-append_good : (urls more : List (List ℕ)) → first_bad urls ≡ None → first_bad (urls ++ more) ≡ first_bad more
 first_bad-append_good [] more good = refl
-first_bad-append_good (url ∷ urls) more good = good_first (endpoint_by url) (first_bad urls) (first_bad (urls ++ more)) (first_bad more) good (first_bad-append_good urls more)
+first_bad-append_good (url ∷ urls) more good = good_first (endpoint_by url) (first_bad urls) (first_bad (urls ++ more)) (first_bad more) good
+    (first_bad-append_good urls more)
 
 -- before others a bad URL stays the first
 pub first_bad-append_bad : (urls more : List (List ℕ)) (fault : SettingsFault) → first_bad urls ≡ Some fault → first_bad (urls ++ more) ≡ Some fault
 first_bad-append_bad [] more fault bad = cc
-first_bad-append_bad (url ∷ urls) more fault bad = bad_first (endpoint_by url) (first_bad urls) (first_bad (urls ++ more)) fault bad (first_bad-append_bad urls more fault)
+first_bad-append_bad (url ∷ urls) more fault bad = bad_first (endpoint_by url) (first_bad urls) (first_bad (urls ++ more)) fault bad
+    (first_bad-append_bad urls more fault)
 
 -- the entries that are left begin with this one
 rest_is : (entries : List Value) (i : ℕ) (entry : Value) → i < length entries → entry ≡ get_or entries i entry → drop i entries ≡ entry ∷ drop (i + 1) entries
@@ -52,7 +56,8 @@ good_here urls entries i entry inside is left good =
 
 -- one more item is read
 pub read_here : {A : Type 0} (value : Data → A) (entries : List Value) (i : ℕ) (entry : Value) (items read : List A) (item : A)
-    → i < length entries → entry ≡ get_or entries i entry → items ≡ map value (map view (take i entries)) → item ≡ value (view entry) → read ≡ items ++ item ∷ []
+    → i < length entries → entry ≡ get_or entries i entry → items ≡ map value (map view (take i entries)) → item ≡ value (view entry) → read
+    ≡ items ++ item ∷ []
     → read ≡ map value (map view (take (i + 1) entries))
 read_here value entries i entry items read item inside is so_far same pushed =
     let next : take (i + 1) entries ≡ take i entries ++ get_or entries i entry ∷ [] = take_more entries i entry inside in

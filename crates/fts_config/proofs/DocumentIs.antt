@@ -8,7 +8,8 @@ use Rattle.toml.specs.Parse.{parse_document}
 use Rattle.fts_config.specs.Document.{document_of}
 
 -- a text that is UTF-8 and TOML
-pub document_of-read : (text : List ℕ) (found : Members) (value : Data) → IsUtf8 text → parse_document text ≡ Some found → value ≡ table found → document_of text ≡ Some value
+pub document_of-read : (text : List ℕ) (found : Members) (value : Data) → IsUtf8 text → parse_document text ≡ Some found → value ≡ table found
+    → document_of text ≡ Some value
 unfolding document_of
 document_of-read text found value utf8 read same = rw (is_utf8-from_IsUtf8 text utf8, read, same) refl
 

@@ -8,8 +8,8 @@ use Rattle.fts_tables.specs.declared.settings.LinkRule.{LinkRule}
 use Rattle.fts_tables.specs.declared.settings.Weight.{Weight}
 use Rattle.fts_config.specs.declared.keys.SettingKey.TheVariants.{Vo, Workers, DefaultMaxActive, Storage, Link, Activity}
 use Rattle.fts_config.specs.declared.fault.SettingsFault.{SettingsFault}
-use Rattle.fts_config.specs.declared.reading.TheConstants.{DEFAULT_WORKERS, DEFAULT_LINK_LIMIT}
-use Rattle.fts_config.specs.Faults.{unless, Gives}
+use Rattle.fts_tables.specs.FirstFault.{unless}
+use Rattle.fts_config.specs.Faults.{Gives}
 use Rattle.fts_config.specs.Keys.{name_of}
 use Rattle.fts_config.specs.Tables.{tables_of}
 use Rattle.fts_config.specs.Reading.{first_bad, storage_urls, link_urls, bad_url, text_or, number_or, endpoint_in, link_in, weight_in, weights_in, settings_in}
@@ -26,7 +26,8 @@ pub listed_weights : (result : Result (List Weight) SettingsFault) (name : List 
     → Gives result (unless (first_bad (flat_map (λ (entry : Data). []) tables)) (map weight_in tables))
     → Gives result (Ok (weights_in (get (name_of Activity) document) document))
 listed_weights result name document found tables named there same gives =
-    let is : map weight_in tables ≡ weights_in (get (name_of Activity) document) document = ap (map weight_in) same ∙ ap (λ (o : Option Data). weights_in o document) (rw named at there) in
+    let is : map weight_in tables ≡ weights_in (get (name_of Activity) document) document = ap (map weight_in) same
+    ∙ ap (λ (o : Option Data). weights_in o document) (rw named at there) in
     subst (λ (weights : List Weight). Gives result (Ok weights)) is (rw (no_urls tables) at gives)
 
 -- a storage's bad URL is the document's
@@ -44,10 +45,12 @@ behind_storages document storages links found same same_links good decides =
     rw (← same, ← same_links) (first_bad-append_good (flat_map storage_urls storages) (flat_map link_urls links) good ∙ decides)
 
 -- the values of a draft, one by one
-pub draft_is : (document : Data) (vo : List ℕ) (workers limit : ℕ) (storages lists : List Data) (endpoints : List Endpoint) (links : List LinkRule) (weights : List Weight)
-    → vo ≡ text_or [] Vo document → workers ≡ number_or DEFAULT_WORKERS Workers document → limit ≡ number_or DEFAULT_LINK_LIMIT DefaultMaxActive document
+pub draft_is : (document : Data) (vo : List ℕ) (workers limit : ℕ) (storages lists : List Data) (endpoints : List Endpoint) (links : List LinkRule)
+    (weights : List Weight)
+    → vo ≡ text_or [] Vo document → workers ≡ number_or 4 Workers document → limit ≡ number_or 2 DefaultMaxActive document
     → storages ≡ tables_of Storage document → lists ≡ tables_of Link document
     → endpoints ≡ map endpoint_in storages → links ≡ map link_in lists → weights ≡ weights_in (get (name_of Activity) document) document
-    → ◌≡◌ {A = SettingsData} (record { vo = vo; workers = workers; default_max_active = limit; endpoints = endpoints; links = links; weights = weights }) (settings_in document)
+    → ◌≡◌ {A = SettingsData} (record { vo = vo; workers = workers; default_max_active = limit; endpoints = endpoints; links = links; weights = weights })
+    (settings_in document)
 unfolding settings_in
 draft_is document vo workers limit storages lists endpoints links weights e1 e2 e3 e4 e5 e6 e7 e8 = rw (e1, e2, e3, e6, e7, e8, e4, e5) refl

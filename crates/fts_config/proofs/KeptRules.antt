@@ -4,11 +4,12 @@ use Rattle.std.proofs.lemmas.Bool.{and_parts}
 use Rattle.fts_tables.specs.SettingsData.{SettingsData, IsSettings, has_vo_label, has_default_limit, has_endpoint_range, has_link_range, has_weight_range, has_endpoint_limits, has_link_limits, has_link_labels, has_activity_labels}
 use Rattle.fts_config.specs.declared.fault.SettingsFault.{SettingsFault}
 use Rattle.fts_config.specs.declared.fault.SettingsFault.TheVariants.{TwiceEndpoint, TwiceLink, UnknownEndpoint, LimitRange, WeightRange, NoDefaultWeight, WorkerRange, TooMany, BadLabel, TwiceWeight}
-use Rattle.fts_config.specs.Faults.{fault_unless, first_of, unless, Gives}
+use Rattle.fts_tables.specs.FirstFault.{fault_unless, first_fault, unless}
+use Rattle.fts_config.specs.Faults.{Gives}
 use Rattle.fts_config.specs.Rules.{twice_endpoint, twice_link, unknown_endpoint, limit_range, weight_range, no_default_weight, worker_range, too_many, bad_label, twice_weight, faults_of}
 
 -- a list of rules of which none is broken
-none_of : (rule : Option SettingsFault) (rules : List (Option SettingsFault)) → first_of (rule ∷ rules) ≡ None → (rule ≡ None) × (first_of rules ≡ None)
+none_of : (rule : Option SettingsFault) (rules : List (Option SettingsFault)) → first_fault (rule ∷ rules) ≡ None → (rule ≡ None) × (first_fault rules ≡ None)
 none_of None rules none = (refl, none)
 none_of (Some fault) rules none = cc
 
@@ -18,7 +19,7 @@ kept true fault none = refl
 kept false fault none = cc
 
 -- rule by rule
-pub settings_kept : (s : SettingsData) → first_of (faults_of s) ≡ None → IsSettings s
+pub settings_kept : (s : SettingsData) → first_fault (faults_of s) ≡ None → IsSettings s
 unfolding faults_of twice_endpoint twice_link unknown_endpoint limit_range weight_range no_default_weight worker_range too_many bad_label twice_weight
 settings_kept s none =
     let names = none_of _ _ none in

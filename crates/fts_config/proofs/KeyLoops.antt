@@ -20,7 +20,8 @@ regrouped false false true d = refl
 regrouped false false false d = refl
 
 -- a list with one more at its end
-apart-push : {T : Type 0} (same : T → T → Bool) (items : List T) (last : T) → are_apart same (items ++ last ∷ []) ≡ (are_apart same items && not (list_any (λ item. same item last) items))
+apart-push : {T : Type 0} (same : T → T → Bool) (items : List T) (last : T) → are_apart same (items ++ last ∷ [])
+    ≡ (are_apart same items && not (list_any (λ item. same item last) items))
 apart-push same [] last = refl
 apart-push same (item ∷ items) last =
     ap (λ found. not found && are_apart same (items ++ last ∷ [])) (list_any-append (same item) items (last ∷ []))
@@ -43,7 +44,8 @@ either false true = refl
 either false false = refl
 
 module _ {T : Type 0} (key : T → List ℕ) (proper : T → Bool) (items : List T) (i : ℕ) (item : T) (keys : BTreeSet (String Global)) (text : String Global)
-    (inside : i < length items) (is : item ≡ get_or items i item) (so_far : IsDistinct key proper (take i items) keys) (copied : string_bytes text ≡ key item) (named : proper item ≡ true) where
+    (inside : i < length items) (is : item ≡ get_or items i item) (so_far : IsDistinct key proper (take i items) keys)
+    (copied : string_bytes text ≡ key item) (named : proper item ≡ true) where
   next : take (i + 1) items ≡ take i items ++ item ∷ []
   next = take_more items i item inside ∙ ap (λ (one : T). take i items ++ one ∷ []) (sym is)
 
@@ -65,7 +67,8 @@ module _ {T : Type 0} (key : T → List ℕ) (proper : T → Bool) (items : List
   }
 
   -- its key is new
-  pub distinct_here : (new : BTreeSet (String Global)) → true ≡ not (contains string_cmp keys text) → Updates string_cmp keys new text true → IsDistinct key proper (take (i + 1) items) new
+  pub distinct_here : (new : BTreeSet (String Global)) → true ≡ not (contains string_cmp keys text) → Updates string_cmp keys new text true
+      → IsDistinct key proper (take (i + 1) items) new
   distinct_here new told updates = record {
     all_proper = all_named;
     apart = apart_next ∙ sym told;

@@ -1,3 +1,4 @@
+pub mod Viewed
 pub mod Listed
 pub mod DocumentIs
 pub mod BadUrls

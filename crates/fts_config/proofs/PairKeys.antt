@@ -93,5 +93,6 @@ joined (x ∷ a) b (y ∷ c) d none none_too =
     all_three (x == y) (bytes_eq a c) (bytes_eq b d) ∙ ap (λ rest. (x == y) && rest) (joined a b c d first.1 second.1)
 
 -- two links join one pair exactly where their keys are one
-pub same_pair_by_key : (one other : LinkRule) → is_endpoint_name one.source ≡ true → is_endpoint_name other.source ≡ true → is_same_pair one other ≡ bytes_eq (pair_key one) (pair_key other)
+pub same_pair_by_key : (one other : LinkRule) → is_endpoint_name one.source ≡ true → is_endpoint_name other.source ≡ true → is_same_pair one other
+    ≡ bytes_eq (pair_key one) (pair_key other)
 same_pair_by_key one other named named_too = joined one.source one.dest other.source other.dest (name_ink one.source named) (name_ink other.source named_too)

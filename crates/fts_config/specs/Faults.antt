@@ -1,5 +1,5 @@
--- The numbers of the rules of a settings' text, and the forms in which checks answer.
-use Rattle.std.specs.Prelude.{◌≡◌, ◌⊎◌, ℕ, Bool, List, [], ◌∷◌, Option, Some, None, Result, Ok, Err, if◌then◌else◌}
+-- The numbers of the rules of a settings' text, and the form in which checks answer.
+use Rattle.std.specs.Prelude.{◌≡◌, ◌⊎◌, ℕ, Result, Err}
 use Rattle.fts_config.specs.declared.fault.SettingsFault.{SettingsFault}
 use Rattle.fts_config.specs.declared.fault.SettingsFault.TheVariants.{NotToml, WrongType, Missing, BadUrl, TwiceEndpoint, TwiceLink, UnknownEndpoint, LimitRange, WeightRange, NoDefaultWeight, WorkerRange, TooMany, TooLong, BadLabel, TwiceWeight, Memory}
 
@@ -21,21 +21,6 @@ rule_of TooLong = 13
 rule_of BadLabel = 14
 rule_of TwiceWeight = 15
 rule_of Memory = 0
-
--- a rule's fault, where the rule isn't kept
-abbrev pub fault_unless : Bool → SettingsFault → Option SettingsFault
-fault_unless kept fault = if kept then None else Some fault
-
--- the first fault of a list of rules
-abbrev pub first_of : List (Option SettingsFault) → Option SettingsFault
-first_of [] = None
-first_of (None ∷ rules) = first_of rules
-first_of (Some fault ∷ rules) = Some fault
-
--- a value, unless there is a fault
-abbrev pub unless : {A : Type 0} → Option SettingsFault → A → Result A SettingsFault
-unless None value = Ok value
-unless (Some fault) value = Err fault
 
 -- the result is the expected one, or memory ran out
 abbrev pub Gives : {A : Type 0} → Result A SettingsFault → Result A SettingsFault → Type 0

@@ -7,7 +7,8 @@ use Rattle.fts_config.specs.declared.keys.Kind.TheVariants.{Text, Number, Tables
 
 -- all keys, in the order in which faults of types and of absence are answered
 abbrev pub all_keys : List SettingKey
-all_keys = Vo ∷ Workers ∷ DefaultMaxActive ∷ Storage ∷ Url ∷ Inbound ∷ Outbound ∷ Link ∷ SymbolicName ∷ LinkSource ∷ LinkDestination ∷ MaxActive ∷ Activity ∷ Name ∷ Weight ∷ []
+all_keys = Vo ∷ Workers ∷ DefaultMaxActive ∷ Storage ∷ Url ∷ Inbound ∷ Outbound ∷ Link ∷ SymbolicName ∷ LinkSource ∷ LinkDestination ∷ MaxActive ∷ Activity
+    ∷ Name ∷ Weight ∷ []
 
 -- how a key is spelled
 abbrev pub name_of : SettingKey → List ℕ

@@ -1,4 +1,5 @@
 -- The settings that a document gives: each value as it stands there, and where it doesn't the value that counts instead.
+-- These defaults are written out here, so that the code's constants have to be them.
 use Rattle.std.specs.Prelude.{ℕ, ℤ, pos, negsuc, min, List, [], ◌∷◌, ◌++◌, map, codes, Option, Some, None, option_and_then, Result, Ok, Err, unwrap_or}
 use Rattle.std.specs.List.{flat_map}
 use Rattle.std.specs.Option.{option_map_or}
@@ -12,7 +13,6 @@ use Rattle.fts_joburl.specs.Urls.{endpoint_of}
 use Rattle.fts_joburl.specs.declared.fault.UrlFault.{UrlFault}
 use Rattle.fts_config.specs.declared.keys.SettingKey.{SettingKey}
 use Rattle.fts_config.specs.declared.keys.SettingKey.TheVariants.{Vo, Workers, DefaultMaxActive, Storage, Url, Inbound, Outbound, Link, SymbolicName, LinkSource, LinkDestination, MaxActive, Activity, Name, Weight as WeightKey}
-use Rattle.fts_config.specs.declared.reading.TheConstants.{DEFAULT_WORKERS, DEFAULT_LINK_LIMIT, DEFAULT_ENDPOINT_LIMIT, DEFAULT_WEIGHT}
 use Rattle.fts_config.specs.declared.fault.SettingsFault.{SettingsFault}
 use Rattle.fts_config.specs.declared.fault.SettingsFault.TheVariants.{BadUrl}
 use Rattle.fts_config.specs.Keys.{name_of}
@@ -39,15 +39,15 @@ endpoint_by url = endpoint_of url
 abbrev pub named_by : List ℕ → List ℕ
 named_by url = result_unwrap_or (endpoint_by url) []
 
--- a storage
+-- a storage; 20 files at a time may come in and go out, where nothing is said
 abbrev pub endpoint_in : Data → Endpoint
 endpoint_in entry = record {
   name = named_by (text_or [] Url entry);
-  inbound = number_or DEFAULT_ENDPOINT_LIMIT Inbound entry;
-  outbound = number_or DEFAULT_ENDPOINT_LIMIT Outbound entry;
+  inbound = number_or 20 Inbound entry;
+  outbound = number_or 20 Outbound entry;
 }
 
--- a link
+-- a link; it is called `link`, where nothing is said
 abbrev pub link_in : Data → LinkRule
 link_in entry = record {
   symbolic = text_or (codes "link") SymbolicName entry;
@@ -63,17 +63,17 @@ weight_in entry = record {
   weight = number_or 0 WeightKey entry;
 }
 
--- the activities of a document: those that it lists, and `default` alone where it has no list
+-- the activities of a document: those that it lists, and `default` alone, with weight 1, where it has no list
 abbrev pub weights_in : Option Data → Data → List Weight
-weights_in None document = record { name = default_activity; weight = DEFAULT_WEIGHT } ∷ []
+weights_in None document = record { name = default_activity; weight = 1 } ∷ []
 weights_in (Some list) document = map weight_in (tables_of Activity document)
 
--- the settings that a document gives
+-- the settings that a document gives: 4 workers, and 2 files at a time on a link that isn't listed, where nothing is said
 unfoldable pub settings_in : Data → SettingsData
 settings_in document = record {
   vo = text_or [] Vo document;
-  workers = number_or DEFAULT_WORKERS Workers document;
-  default_max_active = number_or DEFAULT_LINK_LIMIT DefaultMaxActive document;
+  workers = number_or 4 Workers document;
+  default_max_active = number_or 2 DefaultMaxActive document;
   endpoints = map endpoint_in (tables_of Storage document);
   links = map link_in (tables_of Link document);
   weights = weights_in (get (name_of Activity) document) document;

@@ -1,10 +1,10 @@
 -- The rules of the values, each over the settings that a document gives; each is told by its fault where it is broken.
 -- Together they are the rules that the type `Settings` keeps (`fts_tables`, `specs/SettingsData.antt`).
 use Rattle.std.specs.Prelude.{◌&&◌, Option, List, [], ◌∷◌}
+use Rattle.fts_tables.specs.FirstFault.{fault_unless}
 use Rattle.fts_tables.specs.SettingsData.{SettingsData, has_vo_label, has_worker_range, has_default_limit, has_endpoint_range, has_link_range, has_weight_range, has_distinct_endpoints, has_endpoint_limits, has_distinct_links, has_known_links, has_link_limits, has_link_labels, has_distinct_activities, has_activity_labels, has_activity_weights, has_default_activity}
 use Rattle.fts_config.specs.declared.fault.SettingsFault.{SettingsFault}
 use Rattle.fts_config.specs.declared.fault.SettingsFault.TheVariants.{TwiceEndpoint, TwiceLink, UnknownEndpoint, LimitRange, WeightRange, NoDefaultWeight, WorkerRange, TooMany, BadLabel, TwiceWeight}
-use Rattle.fts_config.specs.Faults.{fault_unless}
 
 -- rule 5: no two storages have one name
 unfoldable pub twice_endpoint : SettingsData → Option SettingsFault

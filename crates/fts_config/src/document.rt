@@ -9,7 +9,8 @@ use toml::Value;
 
 /// The document that a text is; NotToml exactly where it is none.
 pub fn read_document(alloc: Global, text: &[u8]) -> Result<Value, SettingsFault>
-    ensures { MatchResult result (λ value. document_of text.now ≡ Some (view value)) (λ fault. (fault ≡ SettingsFault.Memory) ⊎ ((fault ≡ SettingsFault.NotToml) × (document_of text.now ≡ None))) }
+    ensures { MatchResult result (λ value. document_of text.now ≡ Some (view value))
+        (λ fault. (fault ≡ SettingsFault.Memory) ⊎ ((fault ≡ SettingsFault.NotToml) × (document_of text.now ≡ None))) }
 {
     match toml::table_from_slice(alloc, text) {
         Ok(table) => Ok(Value::Table(table)),

@@ -4,7 +4,8 @@ ghost use Rattle.std.specs.Prelude.{◌≡◌, ◌++◌, [], ◌∷◌};
 ghost use Rattle.toml.specs.Data.{get};
 ghost use Rattle.toml.specs.View.{view};
 ghost use Rattle.fts_tables.specs.SettingsData.{IsSettings, default_activity};
-ghost use Rattle.fts_config.specs.Faults.{unless, Gives};
+ghost use Rattle.fts_tables.specs.FirstFault.{unless};
+ghost use Rattle.fts_config.specs.Faults.{Gives};
 ghost use Rattle.fts_config.specs.Reading.{settings_in, bad_url, weights_in, named_by};
 ghost use Rattle.fts_config.specs.Keys.{name_of};
 
@@ -13,6 +14,7 @@ use crate::reading::{
 };
 use crate::tables::tables_of;
 use crate::{SettingKey, SettingsFault};
+use fts_tables::limits::DEFAULT_ACTIVITY;
 use fts_tables::{Endpoint, Items, Label, LinkRule, Settings, Weight};
 use std::alloc::Global;
 use std::marker::Model;
@@ -45,9 +47,9 @@ impl Model for Draft {
 }
 
 fn default_weights(alloc: Global) -> Result<Items<Weight>, SettingsFault>
-    ensures { Gives result (unless None (record { name = default_activity; weight = DEFAULT_WEIGHT } ∷ [])) }
+    ensures { Gives result (unless None (record { name = default_activity; weight = 1 } ∷ [])) }
 {
-    let name = read_label(alloc, "default")?;
+    let name = read_label(alloc, DEFAULT_ACTIVITY)?;
     let weight = Weight {
         name,
         weight: DEFAULT_WEIGHT,

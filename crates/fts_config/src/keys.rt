@@ -1,8 +1,8 @@
 //! The keys of the settings' text: how each is spelled, in which list of tables it stands, the type of its value, and whether it must be there.
-//! `SettingKey::ALL` has them in the order in which faults of types and of absence are answered.
-//! What belongs to a key is one function here, and one definition in `specs/Keys.antt`.
+//! `SettingKey::all` has them in the order in which faults of types and of absence are answered.
+//! What belongs to a key is one function here, for this crate alone, and one definition in `specs/Keys.antt`.
 ghost use Rattle.std.specs.Prelude.{◌≡◌};
-ghost use Rattle.fts_config.specs.Keys.{name_of, list_of, kind_of, is_needed as needed, all_keys};
+ghost use Rattle.fts_config.specs.Keys.{name_of, list_of, kind_of, is_needed, all_keys};
 
 /// A key of the settings' text.
 #[derive(Clone, Copy, Debug, PartialEq, Eq)]
@@ -37,7 +37,7 @@ pub enum Kind {
 
 impl SettingKey {
     /// All keys, in their order.
-    pub fn all() -> [SettingKey; 15]
+    pub(crate) fn all() -> [SettingKey; 15]
         ensures { result ≡ all_keys }
     {
         [
@@ -60,7 +60,7 @@ impl SettingKey {
     }
 
     /// How it is spelled.
-    pub fn name(self) -> &'static str
+    pub(crate) fn name(self) -> &'static str
         ensures { result.now ≡ name_of self }
     {
         match self {
@@ -83,7 +83,7 @@ impl SettingKey {
     }
 
     /// The list in whose tables it stands, and None where it stands in the document itself.
-    pub fn list(self) -> Option<SettingKey>
+    pub(crate) fn list(self) -> Option<SettingKey>
         ensures { result ≡ list_of self }
     {
         match self {
@@ -105,7 +105,7 @@ impl SettingKey {
     }
 
     /// The type of its value.
-    pub fn kind(self) -> Kind
+    pub(crate) fn kind(self) -> Kind
         ensures { result ≡ kind_of self }
     {
         match self {
@@ -126,8 +126,8 @@ impl SettingKey {
     }
 
     /// Whether it must be there.
-    pub fn is_needed(self) -> bool
-        ensures { result ≡ needed self }
+    pub(crate) fn is_needed(self) -> bool
+        ensures { result ≡ is_needed self }
     {
         match self {
             SettingKey::Vo

@@ -5,8 +5,9 @@ ghost use Rattle.std.specs.Prelude.{◌≡◌, ℕ, List, [], ◌∷◌, map};
 ghost use Rattle.std.specs.List.{flat_map};
 ghost use Rattle.toml.specs.Data.{Data};
 ghost use Rattle.toml.specs.View.{view};
-ghost use Rattle.fts_config.specs.Faults.{unless, Gives};
-ghost use Rattle.fts_config.specs.Reading.{text_or as text_there_or, number_or as number_there_or, nearest as nearest_of, named_by, first_bad, endpoint_in, link_in, weight_in, storage_urls, link_urls};
+ghost use Rattle.fts_tables.specs.FirstFault.{unless};
+ghost use Rattle.fts_config.specs.Faults.{Gives};
+ghost use Rattle.fts_config.specs.Reading.{text_or, number_or, nearest, named_by, first_bad, endpoint_in, link_in, weight_in, storage_urls, link_urls};
 
 use crate::{SettingKey, SettingsFault};
 use fts_joburl::{UrlFault, read_endpoint};
@@ -28,7 +29,7 @@ pub const DEFAULT_WEIGHT: u32 = 1;
 
 /// The text under a key, or another.
 pub fn text_or<'a>(entry: &'a Value, key: SettingKey, other: &'a str) -> &'a str
-    ensures { result.now ≡ text_there_or other.now key (view entry.now) }
+    ensures { result.now ≡ text_or other.now key (view entry.now) }
 {
     match entry.get(key.name()) {
         Some(value) => match value.as_str() {
@@ -40,7 +41,7 @@ pub fn text_or<'a>(entry: &'a Value, key: SettingKey, other: &'a str) -> &'a str
 }
 
 fn nearest(number: i64) -> u32
-    ensures { result ≡ nearest_of number }
+    ensures { result ≡ nearest number }
 {
     if number < 0 {
         0
@@ -53,7 +54,7 @@ fn nearest(number: i64) -> u32
 
 /// The number under a key, or another.
 pub fn number_or(entry: &Value, key: SettingKey, other: u32) -> u32
-    ensures { result ≡ number_there_or other key (view entry.now) }
+    ensures { result ≡ number_or other key (view entry.now) }
 {
     match entry.get(key.name()) {
         Some(value) => match value.as_integer() {

@@ -1,39 +1,26 @@
 //! The rules of the values of a draft, each by one function, whose result is the rule's definition in `specs/Rules.antt`.
 //! `check_values` has them in the order in which they are answered; a draft that passes keeps the rules of `Settings`.
-ghost use Rattle.std.specs.Prelude.{◌≡◌, ◌⊎◌, ◌&&◌, None, Some, MatchResult, bytes_eq};
-ghost use Rattle.std.specs.List.{list_all, list_any};
+//! What a rule asks is decided by `fts_tables::rules`, but for the names of storages and the pairs of links: these rules come before
+//! that of counts, so a hostile text may list tens of thousands, and ordered sets (`distinct`) tell them apart. Called by `settings`.
+ghost use Rattle.std.specs.Prelude.{◌≡◌, ◌⊎◌, ◌&&◌, None, Some, MatchResult};
+ghost use Rattle.std.specs.List.{list_all};
 ghost use Rattle.std.specs.BTreeSet.{contains_text};
-ghost use Rattle.fts_tables.specs.SettingsData.{is_active_limit as is_limit_of_links, is_label as is_label_text, is_within as within, are_apart as apart, is_same_activity, default_activity};
 ghost use Rattle.fts_config.specs.Distinct.{endpoint_key, HasKeys};
-ghost use Rattle.fts_config.specs.Faults.{unless, first_of, fault_unless, Gives};
+ghost use Rattle.fts_tables.specs.FirstFault.{unless, first_fault, fault_unless};
+ghost use Rattle.fts_config.specs.Faults.{Gives};
 ghost use Rattle.fts_config.specs.Rules.{twice_endpoint, twice_link, unknown_endpoint, limit_range, weight_range, no_default_weight, worker_range, too_many, bad_label, twice_weight, faults_of};
 
 use crate::SettingsFault;
 use crate::distinct::distinct_keys;
 use crate::draft::Draft;
-use fts_tables::limits::{
-    MAX_ACTIVE, MAX_ENDPOINTS, MAX_LABEL_BYTES, MAX_LINKS, MAX_WEIGHT, MAX_WEIGHTS, MAX_WORKERS,
+use fts_tables::limits::{MAX_ENDPOINTS, MAX_LINKS, MAX_WEIGHTS, MAX_WORKERS};
+use fts_tables::rules::{
+    are_apart, has_default, have_activity_labels, have_limits, have_link_labels, have_link_limits,
+    have_weights, is_active_limit, is_label,
 };
-use fts_tables::{Endpoint, Label, LinkRule, Settings, Weight};
+use fts_tables::{LinkRule, Settings};
 use std::alloc::Global;
 use std::collections::BTreeSet;
-
-fn is_among(weight: &Weight, others: &[Weight]) -> bool
-    ensures { result ≡ list_any (is_same_activity weight.now) others.now }
-{
-    others
-        .iter()
-        .any(|other| weight.name.as_str() == other.name.as_str())
-}
-
-fn are_apart(weights: &[Weight]) -> bool
-    ensures { result ≡ apart is_same_activity weights.now }
-{
-    match weights {
-        [] => true,
-        [first, rest @ ..] => !is_among(first, rest) && are_apart(rest),
-    }
-}
 
 fn is_known(names: &BTreeSet<String>, link: &LinkRule) -> bool
     ensures { result ≡ (contains_text names.now link.now.source && contains_text names.now link.now.dest) }
@@ -47,59 +34,6 @@ fn are_known(names: &BTreeSet<String>, links: &[LinkRule]) -> bool
     links.iter().all(|link| is_known(names, link))
 }
 
-fn has_default(weights: &[Weight]) -> bool
-    ensures { result ≡ list_any (λ weight. bytes_eq weight.name default_activity) weights.now }
-{
-    weights
-        .iter()
-        .any(|weight| weight.name.as_str() == "default")
-}
-
-fn is_limit(limit: u32) -> bool
-    ensures { result ≡ is_limit_of_links limit }
-{
-    1 <= limit && limit <= MAX_ACTIVE
-}
-
-fn have_limits(endpoints: &[Endpoint]) -> bool
-    ensures { result ≡ list_all (λ endpoint. is_limit_of_links endpoint.inbound && is_limit_of_links endpoint.outbound) endpoints.now }
-{
-    endpoints.iter().all(|endpoint| is_limit(endpoint.inbound) && is_limit(endpoint.outbound))
-}
-
-fn have_link_limits(links: &[LinkRule]) -> bool
-    ensures { result ≡ list_all (λ link. is_limit_of_links link.max_active) links.now }
-{
-    links.iter().all(|link| is_limit(link.max_active))
-}
-
-fn have_weights(weights: &[Weight]) -> bool
-    ensures { result ≡ list_all (λ weight. within 1 MAX_WEIGHT weight.weight) weights.now }
-{
-    weights
-        .iter()
-        .all(|weight| 1 <= weight.weight && weight.weight <= MAX_WEIGHT)
-}
-
-fn is_label(label: &Label) -> bool
-    ensures { result ≡ is_label_text label.now }
-{
-    let length = label.as_str().len();
-    1 <= length && length <= MAX_LABEL_BYTES
-}
-
-fn have_link_labels(links: &[LinkRule]) -> bool
-    ensures { result ≡ list_all (λ link. is_label_text link.symbolic) links.now }
-{
-    links.iter().all(|link| is_label(&link.symbolic))
-}
-
-fn have_labels(weights: &[Weight]) -> bool
-    ensures { result ≡ list_all (λ weight. is_label_text weight.name) weights.now }
-{
-    weights.iter().all(|weight| is_label(&weight.name))
-}
-
 fn verdict(kept: bool, fault: SettingsFault) -> Result<(), SettingsFault>
     ensures { result ≡ unless (fault_unless kept fault) tt }
 {
@@ -109,7 +43,8 @@ fn verdict(kept: bool, fault: SettingsFault) -> Result<(), SettingsFault>
 /// Rule 5, and the names of the storages where it is kept.
 #[tactic(auto, unfolding(crate::specs::Rules::twice_endpoint))]
 fn check_endpoints(alloc: Global, draft: &Draft) -> Result<BTreeSet<String>, SettingsFault>
-    ensures { MatchResult result (λ names. (twice_endpoint draft.now ≡ None) × HasKeys endpoint_key draft.now.endpoints names) (λ fault. (fault ≡ SettingsFault.Memory) ⊎ (twice_endpoint draft.now ≡ Some fault)) }
+    ensures { MatchResult result (λ names. (twice_endpoint draft.now ≡ None) × HasKeys endpoint_key draft.now.endpoints names)
+        (λ fault. (fault ≡ SettingsFault.Memory) ⊎ (twice_endpoint draft.now ≡ Some fault)) }
 {
     match distinct_keys(alloc, draft.endpoints.as_slice())? {
         Some(names) => Ok(names),
@@ -143,7 +78,7 @@ fn check_ends(names: &BTreeSet<String>, draft: &Draft) -> Result<(), SettingsFau
 fn check_limits(draft: &Draft) -> Result<(), SettingsFault>
     ensures { result ≡ unless (limit_range draft.now) tt }
 {
-    let kept = is_limit(draft.default_max_active)
+    let kept = is_active_limit(draft.default_max_active)
         && have_limits(draft.endpoints.as_slice())
         && have_link_limits(draft.links.as_slice());
     verdict(kept, SettingsFault::LimitRange)
@@ -200,9 +135,9 @@ fn check_counts(draft: &Draft) -> Result<(), SettingsFault>
 fn check_labels(draft: &Draft) -> Result<(), SettingsFault>
     ensures { result ≡ unless (bad_label draft.now) tt }
 {
-    let kept = is_label(&draft.vo)
+    let kept = is_label(draft.vo.as_str())
         && have_link_labels(draft.links.as_slice())
-        && have_labels(draft.weights.as_slice());
+        && have_activity_labels(draft.weights.as_slice());
     verdict(kept, SettingsFault::BadLabel)
 }
 
@@ -219,7 +154,7 @@ fn check_activities(draft: &Draft) -> Result<(), SettingsFault>
 
 #[tactic(auto, unfolding(crate::specs::Rules::faults_of))]
 fn check_values(alloc: Global, draft: &Draft) -> Result<(), SettingsFault>
-    ensures { Gives result (unless (first_of (faults_of draft.now)) tt) }
+    ensures { Gives result (unless (first_fault (faults_of draft.now)) tt) }
 {
     let names = check_endpoints(alloc, draft)?;
     check_links(alloc, draft)?;
@@ -235,7 +170,7 @@ fn check_values(alloc: Global, draft: &Draft) -> Result<(), SettingsFault>
 
 /// The settings that a draft is, or the fault of the first rule that it breaks.
 pub fn settled(alloc: Global, draft: Draft) -> Result<Settings, SettingsFault>
-    ensures { Gives result (unless (first_of (faults_of draft)) draft) }
+    ensures { Gives result (unless (first_fault (faults_of draft)) draft) }
 {
     check_values(alloc, &draft)?;
     Ok(draft.into_settings())

@@ -344,6 +344,14 @@ fn too_many_stands_between_its_neighbours(rt: HostRuntime) -> Result<(), Fail> {
 }
 
 #[test]
+fn a_text_that_is_no_utf_8_is_no_toml(rt: HostRuntime) {
+    assert_eq!(rt;
+        read_settings(rt.alloc(), &[b'#', 0xff]).err(),
+        Some(SettingsFault::NotToml)
+    );
+}
+
+#[test]
 fn a_text_that_is_too_long_is_told_first(rt: HostRuntime) -> Result<(), Fail> {
     let text = vec![in rt.alloc(); b'='; 1_048_577]?;
     assert_eq!(rt;

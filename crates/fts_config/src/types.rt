@@ -2,8 +2,8 @@
 ghost use Rattle.std.specs.Prelude.{◌≡◌, map};
 ghost use Rattle.std.specs.List.{list_all, list_any};
 ghost use Rattle.toml.specs.View.{view};
-ghost use Rattle.fts_config.specs.Faults.{unless};
-ghost use Rattle.fts_config.specs.Types.{is_table, fits as fitting, has_wrong_type as wrong_in, lacks as lacking, wrong_type, missing};
+ghost use Rattle.fts_tables.specs.FirstFault.{unless};
+ghost use Rattle.fts_config.specs.Types.{is_table, fits, has_wrong_type, lacks, wrong_type, missing};
 
 use crate::keys::Kind;
 use crate::tables::tables_with;
@@ -13,16 +13,11 @@ use toml::Value;
 fn are_tables(values: &[Value]) -> bool
     ensures { result ≡ list_all is_table (map view values.now) }
 {
-    for value in values {
-        if !value.is_table() {
-            return false;
-        }
-    }
-    true
+    values.iter().all(|value| value.is_table())
 }
 
 fn fits(kind: Kind, value: &Value) -> bool
-    ensures { result ≡ fitting kind (view value.now) }
+    ensures { result ≡ fits kind (view value.now) }
 {
     match kind {
         Kind::Text => value.is_str(),
@@ -35,7 +30,7 @@ fn fits(kind: Kind, value: &Value) -> bool
 }
 
 fn has_wrong_type(key: SettingKey, table: &Value) -> bool
-    ensures { result ≡ wrong_in key (view table.now) }
+    ensures { result ≡ has_wrong_type key (view table.now) }
 {
     match table.get(key.name()) {
         Some(value) => !fits(key.kind(), value),
@@ -44,7 +39,7 @@ fn has_wrong_type(key: SettingKey, table: &Value) -> bool
 }
 
 fn lacks(key: SettingKey, table: &Value) -> bool
-    ensures { result ≡ lacking key (view table.now) }
+    ensures { result ≡ lacks key (view table.now) }
 {
     if !key.is_needed() {
         return false;
@@ -59,25 +54,15 @@ fn lacks(key: SettingKey, table: &Value) -> bool
 }
 
 fn any_has_wrong_type(key: SettingKey, tables: &[Value]) -> bool
-    ensures { result ≡ list_any (wrong_in key) (map view tables.now) }
+    ensures { result ≡ list_any (has_wrong_type key) (map view tables.now) }
 {
-    for table in tables {
-        if has_wrong_type(key, table) {
-            return true;
-        }
-    }
-    false
+    tables.iter().any(|table| has_wrong_type(key, table))
 }
 
 fn any_lacks(key: SettingKey, tables: &[Value]) -> bool
-    ensures { result ≡ list_any (lacking key) (map view tables.now) }
+    ensures { result ≡ list_any (lacks key) (map view tables.now) }
 {
-    for table in tables {
-        if lacks(key, table) {
-            return true;
-        }
-    }
-    false
+    tables.iter().any(|table| lacks(key, table))
 }
 
 /// Rule 2: no key has a value of another type.

@@ -1,94 +1,139 @@
 -- The order of the rules: what each end of the chain of checks answers, and what a document that passes it keeps.
-use Rattle.std.proofs.Common.{◌≡◌, ◌⊎◌, ◌&&◌, ◌||◌, ◌==◌, inl, inr, false, List, length, map, codes, Option, Some, None, Result, Ok, Err, refl, ap, sym, ◌∙◌}
+use Rattle.std.proofs.Common.{◌≡◌, ◌⊎◌, ◌&&◌, ◌||◌, ◌==◌, inl, inr, false, List, ◌∷◌, ◌++◌, length, map, codes, Option, Some, None, Result, Ok, Err, refl, ap, sym, ◌∙◌}
 use Rattle.std.specs.Prelude.{⊤, nat_lt, nat_le}
 use Rattle.std.specs.List.{list_any, flat_map}
+use Rattle.std.specs.Option.{option_or}
 use Rattle.serde_json.specs.Data.{Data}
 use Rattle.fts_tables.specs.SettingsData.{SettingsData, is_label}
 use Rattle.fts_tables.specs.JobData.{IsNewJob, goes_elsewhere}
 use Rattle.fts_joburl.specs.declared.fault.UrlFault.{UrlFault}
 use Rattle.fts_jobdoc.specs.Json.{files_of, param}
 use Rattle.fts_jobdoc.specs.Fields.{has_wrong_sources, has_wrong_destinations, has_bad_filesize, has_bad_activity, has_replicas, has_bad_retry, retry_of, has_bad_delay, delay_of, has_bad_priority, lacks_priority, priority_in, is_verified, is_set}
-use Rattle.fts_jobdoc.specs.Checks.{first_refusal, unless_refused, Gives}
-use Rattle.fts_jobdoc.specs.Ends.{ends_of, urls_of, first_url_fault, refuse_url, url_rule, has_same_url, breaks_chain, all_ends_read}
-use Rattle.fts_jobdoc.specs.Documents.{shape_rules, shape_rule, ends_rules, ends_rule, files_rules, files_rule, params_rules, params_rule, kind_rules, kind_rule, later_rules, later_rule, all_rules, rules_of, priority_rules, priority_rule, kind_of, new_job, of_value}
+use Rattle.fts_tables.specs.FirstFault.{first_fault, unless}
+use Rattle.fts_jobdoc.specs.Checks.{Gives}
+use Rattle.fts_jobdoc.specs.Ends.{ends_of, urls_of, first_url_fault, url_refused, url_rule, has_same_url, breaks_chain, all_ends_read}
+use Rattle.fts_jobdoc.specs.Documents.{shape_rules, ends_rules, files_rules, params_rules, kind_rules, later_rules, all_rules, rules_of, priority_rules, kind_of, new_job, of_value}
 use Rattle.fts_jobdoc.specs.declared.ends.FileEnds.{FileEnds}
 use Rattle.fts_jobdoc.specs.declared.fault.DocFault.{DocFault}
 use Rattle.fts_jobdoc.specs.declared.fault.DocFault.TheVariants.{NotJson, Memory}
 use Rattle.fts_jobdoc.proofs.FieldRules.{within_or, retry_or, priority_given}
-use Rattle.fts_jobdoc.proofs.Ruled.{all_kept, unbroken, and_parts}
+use Rattle.fts_jobdoc.proofs.Ruled.{first_fault-append, first_fault-cons, neither, all_kept, unbroken, and_parts}
 use Rattle.fts_jobdoc.proofs.JobRules.{all_fit, all_from, sizes_fit, activities_fit, files_apart}
 use Rattle.fts_jobdoc.proofs.KindRules.{few_files, files_shaped}
 
 -- ---- the ends of the chain
 
--- the rules, over files that are the document's
-rules_are : (document : Data) (settings : SettingsData) (files : List Data) → files ≡ files_of document → rules_of document settings ≡ first_refusal (all_rules document settings files)
+-- what a rule says that was told as a refusal
+pub told : (rule : Option DocFault) (fault : DocFault) → ◌≡◌ {A = Result ⊤ DocFault} (Err fault) (unless rule tt) → rule ≡ Some fault
+told None fault e = absurd (cc)
+told (Some other) fault e = ap Some (cc)
+
+-- and one that was told as kept
+pub kept : (rule : Option DocFault) → ◌≡◌ {A = Result ⊤ DocFault} (Ok tt) (unless rule tt) → rule ≡ None
+kept None e = refl
+kept (Some other) e = absurd (cc)
+
+-- the first fault of all rules, by that of each group, over files that are the document's
+by_groups : (document : Data) (settings : SettingsData) (files : List Data) (shape urls later : Option DocFault) → files ≡ files_of document
+    → first_fault (shape_rules document files) ≡ shape → url_rule files ≡ urls
+    → first_fault (later_rules document settings files (map ends_of files)) ≡ later
+    → first_fault (rules_of document settings) ≡ option_or shape (option_or urls later)
 unfolding rules_of
-rules_are document settings files e = ap (λ f. first_refusal (all_rules document settings f)) (sym e)
+by_groups document settings files shape urls later e first second third =
+    ap (λ f. first_fault (all_rules document settings f)) (sym e)
+    ∙ first_fault-append (shape_rules document files) (url_rule files ∷ later_rules document settings files (map ends_of files))
+    ∙ ap (option_or (first_fault (shape_rules document files)))
+    (first_fault-cons (url_rule files) (later_rules document settings files (map ends_of files)))
+    ∙ rw (first, second, third) refl
 
 -- the first group refuses
 pub exit_shape : (document : Data) (settings : SettingsData) (files : List Data) (ends : List FileEnds) (fault : DocFault) → files ≡ files_of document
-    → Err fault ≡ shape_rule document files → Gives (Err fault) (unless_refused (rules_of document settings) ends)
-exit_shape document settings files ends fault e shape = inl (rw (rules_are document settings files e, ← shape) refl)
+    → ◌≡◌ {A = Result ⊤ DocFault} (Err fault) (unless (first_fault (shape_rules document files)) tt)
+    → Gives (Err fault) (unless (first_fault (rules_of document settings)) ends)
+exit_shape document settings files ends fault e shape =
+    inl (rw (by_groups document settings files (Some fault) _ _ e (told _ fault shape) refl refl) refl)
 
 -- what a refusal says of a rule, unless memory ran out
-refused_by : {T : Type 0} (rule : Result ⊤ DocFault) (value : T) (fault : DocFault) → Gives (Err fault) (unless_refused rule value) → (rule ≡ Err fault) ⊎ (fault ≡ Memory)
-refused_by (Ok kept) value fault (inl e) = absurd (cc)
-refused_by (Err other) value fault (inl e) = inl (ap Err (cc))
+refused_by : {T : Type 0} (rule : Option DocFault) (value : T) (fault : DocFault) → Gives (Err fault) (unless rule value)
+    → (rule ≡ Some fault) ⊎ (fault ≡ Memory)
+refused_by None value fault (inl e) = absurd (cc)
+refused_by (Some other) value fault (inl e) = inl (ap Some (cc))
 refused_by rule value fault (inr e) = inr (cc)
 
 -- a URL is refused
 pub exit_urls : (document : Data) (settings : SettingsData) (files : List Data) (ends : List FileEnds) (fault : DocFault) → files ≡ files_of document
-    → Ok tt ≡ shape_rule document files → Gives (Err fault) (all_ends_read files) → Gives (Err fault) (unless_refused (rules_of document settings) ends)
+    → ◌≡◌ {A = Result ⊤ DocFault} (Ok tt) (unless (first_fault (shape_rules document files)) tt) → Gives (Err fault) (all_ends_read files)
+    → Gives (Err fault) (unless (first_fault (rules_of document settings)) ends)
 exit_urls document settings files ends fault e shape urls =
     elim (refused_by (url_rule files) (map ends_of files) fault urls) [
-      | inl refused ↦ inl (rw (rules_are document settings files e, ← shape, refused) refl)
+      | inl refused ↦ inl (rw (by_groups document settings files None (Some fault) _ e (kept _ shape) refused refl) refl)
       | inr memory ↦ inr (ap Err memory)
     ]
 
 -- what was read of URLs that weren't refused
-pub passed_by : {T : Type 0} (rule : Result ⊤ DocFault) (value read : T) → Gives (Ok read) (unless_refused rule value) → (rule ≡ Ok tt) × (read ≡ value)
-passed_by (Ok kept) value read (inl e) = (refl, cc)
-passed_by (Err other) value read (inl e) = absurd (cc)
+pub passed_by : {T : Type 0} (rule : Option DocFault) (value read : T) → Gives (Ok read) (unless rule value) → (rule ≡ None) × (read ≡ value)
+passed_by None value read (inl e) = (refl, cc)
+passed_by (Some other) value read (inl e) = absurd (cc)
 passed_by rule value read (inr e) = absurd (cc)
 
 -- a later group refuses
-pub exit_later : (document : Data) (settings : SettingsData) (files : List Data) (ends read lent : List FileEnds) (fault : DocFault) → files ≡ files_of document
-    → Ok tt ≡ shape_rule document files → Gives (Ok read) (all_ends_read files) → lent ≡ read → Err fault ≡ later_rule document settings files lent
-    → Gives (Err fault) (unless_refused (rules_of document settings) ends)
+pub exit_later : (document : Data) (settings : SettingsData) (files : List Data) (ends read lent : List FileEnds) (fault : DocFault)
+    → files ≡ files_of document → ◌≡◌ {A = Result ⊤ DocFault} (Ok tt) (unless (first_fault (shape_rules document files)) tt)
+    → Gives (Ok read) (all_ends_read files) → lent ≡ read
+    → ◌≡◌ {A = Result ⊤ DocFault} (Err fault) (unless (first_fault (later_rules document settings files lent)) tt)
+    → Gives (Err fault) (unless (first_fault (rules_of document settings)) ends)
 exit_later document settings files ends read lent fault e shape urls is later =
     let passed = passed_by (url_rule files) (map ends_of files) read urls in
-    let refused : later_rule document settings files (map ends_of files) ≡ Err fault = sym (later ∙ ap (later_rule document settings files) (is ∙ passed.1)) in
-    inl (rw (rules_are document settings files e, ← shape, passed.0, refused) refl)
+    let refused : first_fault (later_rules document settings files (map ends_of files)) ≡ Some fault =
+    ap (λ xs. first_fault (later_rules document settings files xs)) (sym (is ∙ passed.1)) ∙ told _ fault later in
+    inl (rw (by_groups document settings files None None (Some fault) e (kept _ shape) passed.0 refused) refl)
 
 -- none refuses
 pub exit_passed : (document : Data) (settings : SettingsData) (files : List Data) (read lent : List FileEnds) → files ≡ files_of document
-    → Ok tt ≡ shape_rule document files → Gives (Ok read) (all_ends_read files) → lent ≡ read → Ok tt ≡ later_rule document settings files lent
-    → Gives (Ok read) (unless_refused (rules_of document settings) (map ends_of files))
+    → ◌≡◌ {A = Result ⊤ DocFault} (Ok tt) (unless (first_fault (shape_rules document files)) tt) → Gives (Ok read) (all_ends_read files) → lent ≡ read
+    → ◌≡◌ {A = Result ⊤ DocFault} (Ok tt) (unless (first_fault (later_rules document settings files lent)) tt)
+    → Gives (Ok read) (unless (first_fault (rules_of document settings)) (map ends_of files))
 exit_passed document settings files read lent e shape urls is later =
     let passed = passed_by (url_rule files) (map ends_of files) read urls in
-    let kept : later_rule document settings files (map ends_of files) ≡ Ok tt = sym (later ∙ ap (later_rule document settings files) (is ∙ passed.1)) in
-    inl (rw (rules_are document settings files e, ← shape, passed.0, kept) (ap Ok passed.1))
+    let none : first_fault (later_rules document settings files (map ends_of files)) ≡ None =
+    ap (λ xs. first_fault (later_rules document settings files xs)) (sym (is ∙ passed.1)) ∙ kept _ later in
+    inl (rw (by_groups document settings files None None None e (kept _ shape) passed.0 none) (ap Ok passed.1))
 
 -- what is refused is refused whatever would have been made
-pub refused_either : {A B : Type 0} (rule : Result ⊤ DocFault) (a : A) (b : B) (fault : DocFault) → Gives (Err fault) (unless_refused rule a) → Gives (Err fault) (unless_refused rule b)
+pub refused_either : {A B : Type 0} (rule : Option DocFault) (a : A) (b : B) (fault : DocFault)
+    → Gives (Err fault) (unless rule a) → Gives (Err fault) (unless rule b)
 refused_either rule a b fault refused =
     elim (refused_by rule a fault refused) [
       | inl by_rule ↦ inl (rw by_rule refl)
       | inr memory ↦ inr (ap Err memory)
     ]
 
+-- the first fault behind the URLs, by that of each of the four groups
+pub by_later : (document : Data) (settings : SettingsData) (files : List Data) (ends : List FileEnds)
+    → first_fault (later_rules document settings files ends)
+    ≡ option_or (first_fault (ends_rules settings ends)) (option_or (first_fault (files_rules (is_verified document) files))
+    (option_or (first_fault (params_rules document)) (first_fault (kind_rules document files ends))))
+unfolding later_rules
+by_later document settings files ends =
+    let fields = files_rules (is_verified document) files in
+    let params = params_rules document in
+    let kind = kind_rules document files ends in
+    first_fault-append (ends_rules settings ends) (fields ++ (params ++ kind))
+    ∙ ap (option_or (first_fault (ends_rules settings ends)))
+    (first_fault-append fields (params ++ kind) ∙ ap (option_or (first_fault fields)) (first_fault-append params kind))
+
 -- a body that couldn't be read
-pub unread : {T : Type 0} (read : Data → Result T DocFault) (value : Option Data) (fault : DocFault) → (fault ≡ Memory) ⊎ ((fault ≡ NotJson) × (value ≡ None)) → Gives (Err fault) (of_value read value)
+pub unread : {T : Type 0} (read : Data → Result T DocFault) (value : Option Data) (fault : DocFault)
+    → (fault ≡ Memory) ⊎ ((fault ≡ NotJson) × (value ≡ None)) → Gives (Err fault) (of_value read value)
 unread read value fault (inl memory) = inr (ap Err memory)
 unread read value fault (inr refused) = inl (ap Err refused.0 ∙ sym (ap (of_value read) refused.1))
 
 -- ---- what the rules keep
 
 -- where no fault is refused there is none
-no_url_fault : (fault : Option UrlFault) → refuse_url fault ≡ Ok tt → fault ≡ None
-no_url_fault None kept = refl
-no_url_fault (Some fault) kept = absurd (cc)
+no_url_fault : (fault : Option UrlFault) → url_refused fault ≡ None → fault ≡ None
+no_url_fault None none = refl
+no_url_fault (Some fault) none = absurd (cc)
 
 -- what the rules of a document keep that breaks none, as far as its job needs it
 pub record Keeps (document : Data) : Type 0 where
@@ -107,23 +152,26 @@ pub record Keeps (document : Data) : Type 0 where
   pub hops : (is_set (codes "multihop") document && (list_any has_replicas (files_of document) || breaks_chain (map ends_of (files_of document)))) ≡ false
 
 -- where none is broken
-pub all_keep : (document : Data) (settings : SettingsData) → rules_of document settings ≡ Ok tt → Keeps document
-unfolding rules_of shape_rule url_rule later_rule ends_rule files_rule params_rule kind_rule
+pub all_keep : (document : Data) (settings : SettingsData) → first_fault (rules_of document settings) ≡ None → Keeps document
+unfolding shape_rules url_rule ends_rules files_rules params_rules kind_rules
 all_keep document settings passed =
     let files = files_of document in
-    let groups = all_kept (all_rules document settings files) passed in
+    let groups = neither _ _ (sym (by_groups document settings files _ _ _ refl refl refl refl) ∙ passed) in
+    let behind = neither _ _ groups.1 in
+    let places = neither _ _ (sym (by_later document settings files (map ends_of files)) ∙ behind.1) in
+    let others = neither _ _ places.1 in
+    let last = neither _ _ others.1 in
     let shape = all_kept (shape_rules document files) groups.0 in
-    let later = all_kept (later_rules document settings files (map ends_of files)) groups.1.1.0 in
-    let ends = all_kept (ends_rules settings (map ends_of files)) later.0 in
-    let fields = all_kept (files_rules (is_verified document) files) later.1.0 in
-    let params = all_kept (params_rules document) later.1.1.0 in
-    let kind = all_kept (kind_rules document files (map ends_of files)) later.1.1.1.0 in
+    let ends = all_kept (ends_rules settings (map ends_of files)) places.0 in
+    let fields = all_kept (files_rules (is_verified document) files) others.0 in
+    let params = all_kept (params_rules document) last.0 in
+    let kind = all_kept (kind_rules document files (map ends_of files)) last.1 in
     record {
       some = unbroken _ _ shape.1.0;
       few = unbroken _ _ shape.1.1.0;
       sources = unbroken _ _ shape.1.1.1.1.0;
       dests = unbroken _ _ shape.1.1.1.1.1.0;
-      urls = no_url_fault _ groups.1.0;
+      urls = no_url_fault _ behind.0;
       distinct = unbroken _ _ ends.1.0;
       sizes = unbroken _ _ fields.0;
       activities = unbroken _ _ fields.1.1.1.1.0;
@@ -135,14 +183,15 @@ all_keep document settings passed =
     }
 
 -- the job of such a document keeps the rules of its type
-pub lawful : (document : Data) (settings : SettingsData) → rules_of document settings ≡ Ok tt → IsNewJob (new_job document settings)
+pub lawful : (document : Data) (settings : SettingsData) → first_fault (rules_of document settings) ≡ None → IsNewJob (new_job document settings)
 unfolding new_job kind_of priority_in retry_of delay_of has_bad_retry has_bad_delay has_bad_priority
 lawful document settings passed =
     let files = files_of document in
     let verified = is_verified document in
     let k = all_keep document settings passed in
     let fit = all_fit files k.sources k.dests k.urls k.distinct k.sizes k.activities in
-    let shaped = files_shaped (is_set (codes "multihop") document) (list_any has_replicas files) verified files fit (few_files (length files) k.some k.few) refl k.replicas k.hops in
+    let shaped = files_shaped (is_set (codes "multihop") document) (list_any has_replicas files) verified files fit (few_files (length files) k.some k.few)
+    refl k.replicas k.hops in
     record {
       priority = within_or 1 5 3 (param (codes "priority") document) k.priority refl;
       retry = retry_or 10 (param (codes "retry") document) k.retry;
@@ -155,8 +204,9 @@ lawful document settings passed =
     }
 
 -- a document that asks for a priority has no bad one
-pub priority_kept : (document : Data) → Ok tt ≡ priority_rule document → has_bad_priority document ≡ false
-unfolding priority_rule lacks_priority has_bad_priority
-priority_kept document kept =
-    let rules = all_kept (priority_rules document) (sym kept) in
+pub priority_kept : (document : Data) → ◌≡◌ {A = Result ⊤ DocFault} (Ok tt) (unless (first_fault (priority_rules document)) tt)
+    → has_bad_priority document ≡ false
+unfolding priority_rules lacks_priority has_bad_priority
+priority_kept document passed =
+    let rules = all_kept (priority_rules document) (kept _ passed) in
     priority_given (param (codes "priority") document) 1 5 (unbroken _ _ rules.1.1.0)

@@ -5,8 +5,9 @@ use Rattle.std.specs.Option.{option_or}
 use Rattle.serde_json.specs.Data.{Data}
 use Rattle.fts_tables.specs.declared.places.Place.{Place}
 use Rattle.fts_joburl.specs.declared.fault.UrlFault.{UrlFault}
-use Rattle.fts_jobdoc.specs.Checks.{unless_refused, Gives}
-use Rattle.fts_jobdoc.specs.Ends.{bad_url, place_read, places_of, fault_or, first_url_fault, urls_of, ends_of, refuse_url, url_rule, places_read, ends_read, all_ends_read}
+use Rattle.fts_tables.specs.FirstFault.{unless}
+use Rattle.fts_jobdoc.specs.Checks.{Gives}
+use Rattle.fts_jobdoc.specs.Ends.{bad_url, place_read, places_of, fault_or, first_url_fault, urls_of, ends_of, url_refused, url_rule, places_read, ends_read, all_ends_read}
 use Rattle.fts_jobdoc.specs.declared.ends.FileEnds.{FileEnds}
 use Rattle.fts_jobdoc.specs.declared.fault.DocFault.{DocFault}
 use Rattle.fts_jobdoc.specs.declared.fault.DocFault.TheVariants.{BadUrl}
@@ -27,12 +28,14 @@ extend-more front x (Ok rest) = ap Ok (append_assoc front (x ∷ []) rest)
 extend-more front x (Err fault) = refl
 
 -- an item that is kept, unless it is refused
-kept_first : {T : Type 0} (x : T) (xs : List T) (later : Option UrlFault) → unless_refused (refuse_url later) (x ∷ xs) ≡ extend (x ∷ []) (unless_refused (refuse_url later) xs)
+kept_first : {T : Type 0} (x : T) (xs : List T) (later : Option UrlFault) → unless (url_refused later) (x ∷ xs)
+    ≡ extend (x ∷ []) (unless (url_refused later) xs)
 kept_first x xs None = refl
 kept_first x xs (Some fault) = refl
 
 -- texts of which the first is a URL
-places_read-Ok : (text : List ℕ) (texts : List (List ℕ)) (place : Place) → place_read text ≡ Ok place → places_read (text ∷ texts) ≡ extend (place ∷ []) (places_read texts)
+places_read-Ok : (text : List ℕ) (texts : List (List ℕ)) (place : Place) → place_read text ≡ Ok place → places_read (text ∷ texts)
+    ≡ extend (place ∷ []) (places_read texts)
 unfolding first_url_fault places_of
 places_read-Ok text texts place e = rw e (kept_first place (places_of texts) (first_url_fault texts))
 
@@ -53,7 +56,8 @@ read_as (Err fault) place e = absurd (cc)
 
 -- one URL more was read
 pub places_read-step : (front : List Place) (text : List ℕ) (texts : List (List ℕ)) (place : Place) (whole : Result (List Place) DocFault)
-    → Gives (Ok place) (bad_url (place_read text)) → extend front (places_read (text ∷ texts)) ≡ whole → extend (front ++ place ∷ []) (places_read texts) ≡ whole
+    → Gives (Ok place) (bad_url (place_read text)) → extend front (places_read (text ∷ texts)) ≡ whole → extend (front ++ place ∷ []) (places_read texts)
+    ≡ whole
 places_read-step front text texts place whole read left =
     extend-more front place (places_read texts)
     ∙ sym (ap (extend front) (places_read-Ok text texts place (read_as (place_read text) place (gives-Ok (bad_url (place_read text)) place read)))) ∙ left
@@ -88,20 +92,20 @@ first_url_fault-append (x ∷ xs) ys =
 
 -- two values of which none is refused
 both_kept : {A B C : Type 0} (f g : Option UrlFault) (a : A) (b : B) (both : A → B → C) (x : A) (y : B)
-    → unless_refused (refuse_url f) a ≡ Ok x → unless_refused (refuse_url g) b ≡ Ok y → unless_refused (refuse_url (option_or f g)) (both a b) ≡ Ok (both x y)
+    → unless (url_refused f) a ≡ Ok x → unless (url_refused g) b ≡ Ok y → unless (url_refused (option_or f g)) (both a b) ≡ Ok (both x y)
 both_kept None None a b both x y e h = cc
 both_kept None (Some fault) a b both x y e h = absurd (cc)
 both_kept (Some fault) g a b both x y e h = absurd (cc)
 
 -- two values of which the first is refused
 first_refused : {A C : Type 0} (f g : Option UrlFault) (a : A) (c : C) (fault : DocFault)
-    → Err fault ≡ unless_refused (refuse_url f) a → Err fault ≡ unless_refused (refuse_url (option_or f g)) c
+    → Err fault ≡ unless (url_refused f) a → Err fault ≡ unless (url_refused (option_or f g)) c
 first_refused None g a c fault e = absurd (cc)
 first_refused (Some other) g a c fault e = ap Err (cc)
 
 -- two values of which the second is refused
 second_refused : {A B C : Type 0} (f g : Option UrlFault) (a : A) (x : A) (b : B) (c : C) (fault : DocFault)
-    → unless_refused (refuse_url f) a ≡ Ok x → Err fault ≡ unless_refused (refuse_url g) b → Err fault ≡ unless_refused (refuse_url (option_or f g)) c
+    → unless (url_refused f) a ≡ Ok x → Err fault ≡ unless (url_refused g) b → Err fault ≡ unless (url_refused (option_or f g)) c
 second_refused None None a x b c fault e h = absurd (cc)
 second_refused None (Some other) a x b c fault e h = ap Err (cc)
 second_refused (Some other) g a x b c fault e h = absurd (cc)
@@ -112,24 +116,25 @@ ends_made sources dests = record { sources = sources; dests = dests }
 
 -- a file of which both lists were read
 pub ends_read-both : (xs ys : List (List ℕ)) (sources dests : List Place) → places_read xs ≡ Ok sources → places_read ys ≡ Ok dests
-    → unless_refused (refuse_url (first_url_fault (xs ++ ys))) (ends_made (places_of xs) (places_of ys)) ≡ Ok (ends_made sources dests)
+    → unless (url_refused (first_url_fault (xs ++ ys))) (ends_made (places_of xs) (places_of ys)) ≡ Ok (ends_made sources dests)
 ends_read-both xs ys sources dests e h = rw (first_url_fault-append xs ys) (both_kept (first_url_fault xs) (first_url_fault ys) _ _ ends_made sources dests e h)
 
 -- a file of which a source was refused
 pub ends_read-source : (xs ys : List (List ℕ)) (ends : FileEnds) (fault : DocFault)
-    → Gives (Err fault) (places_read xs) → Gives (Err fault) (unless_refused (refuse_url (first_url_fault (xs ++ ys))) ends)
+    → Gives (Err fault) (places_read xs) → Gives (Err fault) (unless (url_refused (first_url_fault (xs ++ ys))) ends)
 ends_read-source xs ys ends fault (inl e) = inl (rw (first_url_fault-append xs ys) (first_refused (first_url_fault xs) (first_url_fault ys) _ ends fault e))
 ends_read-source xs ys ends fault (inr e) = inr (ap Err (cc))
 
 -- a file of which the destination was refused
 pub ends_read-dest : (xs ys : List (List ℕ)) (sources : List Place) (ends : FileEnds) (fault : DocFault) → places_read xs ≡ Ok sources
-    → Gives (Err fault) (places_read ys) → Gives (Err fault) (unless_refused (refuse_url (first_url_fault (xs ++ ys))) ends)
-ends_read-dest xs ys sources ends fault e (inl h) = inl (rw (first_url_fault-append xs ys) (second_refused (first_url_fault xs) (first_url_fault ys) _ sources _ ends fault e h))
+    → Gives (Err fault) (places_read ys) → Gives (Err fault) (unless (url_refused (first_url_fault (xs ++ ys))) ends)
+ends_read-dest xs ys sources ends fault e (inl h) = inl
+    (rw (first_url_fault-append xs ys) (second_refused (first_url_fault xs) (first_url_fault ys) _ sources _ ends fault e h))
 ends_read-dest xs ys sources ends fault e (inr h) = inr (ap Err (cc))
 
 -- a file that was kept is put first
-kept_before : {T : Type 0} (f later : Option UrlFault) (x y : T) (ys : List T) → unless_refused (refuse_url f) x ≡ Ok y
-    → unless_refused (refuse_url (option_or f later)) (x ∷ ys) ≡ extend (y ∷ []) (unless_refused (refuse_url later) ys)
+kept_before : {T : Type 0} (f later : Option UrlFault) (x y : T) (ys : List T) → unless (url_refused f) x ≡ Ok y
+    → unless (url_refused (option_or f later)) (x ∷ ys) ≡ extend (y ∷ []) (unless (url_refused later) ys)
 kept_before None None x y ys e = ap (λ z. Ok (z ∷ ys)) (cc)
 kept_before None (Some fault) x y ys e = refl
 kept_before (Some fault) later x y ys e = absurd (cc)
@@ -139,7 +144,8 @@ pub all_ends_read-step : (front : List FileEnds) (file : Data) (files : List Dat
     → Gives (Ok ends) (ends_read file) → extend front (all_ends_read (file ∷ files)) ≡ whole → extend (front ++ ends ∷ []) (all_ends_read files) ≡ whole
 unfolding url_rule
 all_ends_read-step front file files ends whole read left =
-    let first = kept_before (first_url_fault (urls_of file)) (first_url_fault (flat_map urls_of files)) (ends_of file) ends (map ends_of files) (gives-Ok (ends_read file) ends read) in
+    let first = kept_before (first_url_fault (urls_of file)) (first_url_fault (flat_map urls_of files)) (ends_of file) ends (map ends_of files)
+    (gives-Ok (ends_read file) ends read) in
     extend-more front ends (all_ends_read files)
     ∙ sym (ap (extend front) (rw (first_url_fault-append (urls_of file) (flat_map urls_of files)) first)) ∙ left
 
@@ -148,7 +154,8 @@ pub all_ends_read-refused : (front : List FileEnds) (file : Data) (files : List 
     → Gives (Err fault) (ends_read file) → extend front (all_ends_read (file ∷ files)) ≡ whole → Gives (Err fault) whole
 unfolding url_rule
 all_ends_read-refused front file files fault whole (inl e) left =
-    let first : Err fault ≡ unless_refused (refuse_url (option_or (first_url_fault (urls_of file)) (first_url_fault (flat_map urls_of files)))) (map ends_of (file ∷ files)) = first_refused _ _ _ _ fault e in
+    let first : Err fault ≡ unless (url_refused (option_or (first_url_fault (urls_of file)) (first_url_fault (flat_map urls_of files))))
+    (map ends_of (file ∷ files)) = first_refused _ _ _ _ fault e in
     let all : Err fault ≡ all_ends_read (file ∷ files) = rw (first_url_fault-append (urls_of file) (flat_map urls_of files)) first in
     inl (ap (extend front) all ∙ left)
 all_ends_read-refused front file files fault whole (inr e) left = inr (ap Err (cc))

@@ -33,7 +33,8 @@ below_end high n true e kept = absurd (cc)
 below_end high n false e kept = grind (arith, tests)
 
 -- retries that are there are a number of the range or -1, which is read as none
-pub retry_or : (high : ℕ) (found : Option Data) → fails (λ value. is_natural_within 0 high value || is_minus_one value) found ≡ false → nat_le (natural_or 0 found) high ≡ true
+pub retry_or : (high : ℕ) (found : Option Data) → fails (λ value. is_natural_within 0 high value || is_minus_one value) found ≡ false
+    → nat_le (natural_or 0 found) high ≡ true
 retry_or high None kept = grind (arith, tests)
 retry_or high (Some null) kept = grind (arith, tests)
 retry_or high (Some (boolean b)) kept = grind (arith, tests)
@@ -53,6 +54,7 @@ pub le_end : (n high : ℕ) → nat_le n high ≡ true → n ≤ high
 le_end n high few = grind (arith, tests)
 
 -- a priority that is there isn't a bad one
-pub priority_given : (found : Option Data) (low high : ℕ) → not (option_map_or (is_natural_within low high) found false) ≡ false → fails (is_natural_within low high) found ≡ false
+pub priority_given : (found : Option Data) (low high : ℕ) → not (option_map_or (is_natural_within low high) found false) ≡ false
+    → fails (is_natural_within low high) found ≡ false
 priority_given None low high given = refl
 priority_given (Some value) low high given = given

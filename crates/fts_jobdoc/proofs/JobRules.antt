@@ -27,7 +27,8 @@ use Rattle.fts_jobdoc.proofs.Ruled.{and_parts, or_parts, and_from}
 texts_all : (values : List Data) → list_all is_text values ≡ true → length (filter_map as_str values) ≡ length values
 texts_all [] all = refl
 texts_all (value ∷ values) all =
-    elim (as_str value) as (λ text. (is_some text && list_all is_text values) ≡ true → length (cons_option text (filter_map as_str values)) ≡ suc (length values)) [
+    elim (as_str value) as
+    (λ text. (is_some text && list_all is_text values) ≡ true → length (cons_option text (filter_map as_str values)) ≡ suc (length values)) [
       | Some text ↦ λ others. ap suc (texts_all values others)
       | None ↦ λ none. absurd (cc)
     ] all
@@ -37,7 +38,8 @@ places_all : (texts : List (List ℕ)) → first_url_fault texts ≡ None → le
 unfolding first_url_fault places_of
 places_all [] all = refl
 places_all (text ∷ texts) all =
-    elim (place_read text) as (λ read. fault_or read (first_url_fault texts) ≡ None → length (cons_option (place_kept read) (places_of texts)) ≡ suc (length texts)) [
+    elim (place_read text) as
+    (λ read. fault_or read (first_url_fault texts) ≡ None → length (cons_option (place_kept read) (places_of texts)) ≡ suc (length texts)) [
       | Ok place ↦ λ others. ap suc (places_all texts others)
       | Err fault ↦ λ some. absurd (cc)
     ] all
@@ -96,13 +98,15 @@ AllFit [] = Unit {0}
 AllFit (file ∷ files) = FileFits file × AllFit files
 
 -- where no rule is broken by any
-pub all_fit : (files : List Data) → list_any has_wrong_sources files ≡ false → list_any has_wrong_destinations files ≡ false → first_url_fault (flat_map urls_of files) ≡ None
+pub all_fit : (files : List Data) → list_any has_wrong_sources files ≡ false → list_any has_wrong_destinations files ≡ false
+    → first_url_fault (flat_map urls_of files) ≡ None
     → list_any has_same_url (map ends_of files) ≡ false → list_any has_bad_filesize files ≡ false → list_any has_bad_activity files ≡ false → AllFit files
 all_fit [] sources dests urls distinct sizes activities = tt
 all_fit (file ∷ files) sources dests urls distinct sizes activities =
     let s = or_parts (has_wrong_sources file) (list_any has_wrong_sources files) sources in
     let d = or_parts (has_wrong_destinations file) (list_any has_wrong_destinations files) dests in
-    let u = no_fault (first_url_fault (urls_of file)) (first_url_fault (flat_map urls_of files)) (sym (first_url_fault-append (urls_of file) (flat_map urls_of files)) ∙ urls) in
+    let u = no_fault (first_url_fault (urls_of file)) (first_url_fault (flat_map urls_of files))
+    (sym (first_url_fault-append (urls_of file) (flat_map urls_of files)) ∙ urls) in
     let n = or_parts (has_same_url (ends_of file)) (list_any has_same_url (map ends_of files)) distinct in
     let z = or_parts (has_bad_filesize file) (list_any has_bad_filesize files) sizes in
     let a = or_parts (has_bad_activity file) (list_any has_bad_activity files) activities in
@@ -111,29 +115,35 @@ all_fit (file ∷ files) sources dests urls distinct sizes activities =
 -- ---- tests of each file of the job
 
 -- a test that holds of what is made of any place
-pub all_map : (test : NewFile → Bool) (made : Place → NewFile) → ((place : Place) → test (made place) ≡ true) → (places : List Place) → list_all test (map made places) ≡ true
+pub all_map : (test : NewFile → Bool) (made : Place → NewFile) → ((place : Place) → test (made place) ≡ true) → (places : List Place)
+    → list_all test (map made places) ≡ true
 all_map test made holds [] = refl
 all_map test made holds (place ∷ places) = and_from (test (made place)) (list_all test (map made places)) (holds place) (all_map test made holds places)
 
 -- so with lists of files
-all_flat : (test : NewFile → Bool) (made : Place → List NewFile) → ((place : Place) → list_all test (made place) ≡ true) → (places : List Place) → list_all test (flat_map made places) ≡ true
+all_flat : (test : NewFile → Bool) (made : Place → List NewFile) → ((place : Place) → list_all test (made place) ≡ true) → (places : List Place)
+    → list_all test (flat_map made places) ≡ true
 all_flat test made holds [] = refl
 all_flat test made holds (place ∷ places) =
-    list_all-append test (made place) (flat_map made places) ∙ and_from (list_all test (made place)) (list_all test (flat_map made places)) (holds place) (all_flat test made holds places)
+    list_all-append test (made place) (flat_map made places) ∙ and_from (list_all test (made place)) (list_all test (flat_map made places)) (holds place)
+    (all_flat test made holds places)
 
 -- so with a file of the document, where the test looks at neither of its ends
 all_new : (test : NewFile → Bool) (verified : Bool) (index : ℕ) (file : Data) (ends : FileEnds)
     → ((dest source : Place) → test (new_file verified index file dest source) ≡ true) → list_all test (new_files verified index file ends) ≡ true
 all_new test verified index file ends holds =
-    all_flat test (λ dest. map (new_file verified index file dest) ends.sources) (λ dest. all_map test (new_file verified index file dest) (holds dest) ends.sources) ends.dests
+    all_flat test (λ dest. map (new_file verified index file dest) ends.sources)
+    (λ dest. all_map test (new_file verified index file dest) (holds dest) ends.sources) ends.dests
 
 -- so with all files
-pub all_from : (test : NewFile → Bool) (verified : Bool) → ((index : ℕ) (file : Data) → FileFits file → list_all test (new_files verified index file (ends_of file)) ≡ true)
+pub all_from : (test : NewFile → Bool) (verified : Bool)
+    → ((index : ℕ) (file : Data) → FileFits file → list_all test (new_files verified index file (ends_of file)) ≡ true)
     → (files : List Data) (index : ℕ) → AllFit files → list_all test (files_from verified index files) ≡ true
 all_from test verified holds [] index fit = refl
 all_from test verified holds (file ∷ files) index fit =
     list_all-append test (new_files verified index file (ends_of file)) (files_from verified (suc index) files)
-    ∙ and_from (list_all test (new_files verified index file (ends_of file))) (list_all test (files_from verified (suc index) files)) (holds index file fit.0) (all_from test verified holds files (suc index) fit.1)
+    ∙ and_from (list_all test (new_files verified index file (ends_of file))) (list_all test (files_from verified (suc index) files))
+    (holds index file fit.0) (all_from test verified holds files (suc index) fit.1)
 
 -- a file's size is in range
 size_fits : (file : Data) → has_bad_filesize file ≡ false → nat_le (size_of file) 9223372036854775807 ≡ true
@@ -141,9 +151,11 @@ unfolding has_bad_filesize size_of
 size_fits file kept = (and_parts (nat_le 0 (size_of file)) _ (within_or 0 9223372036854775807 0 (field (codes "filesize") file) kept refl)).1
 
 -- so in the job
-pub sizes_fit : (verified : Bool) (index : ℕ) (file : Data) → FileFits file → list_all (λ made. nat_le made.size 9223372036854775807) (new_files verified index file (ends_of file)) ≡ true
+pub sizes_fit : (verified : Bool) (index : ℕ) (file : Data) → FileFits file
+    → list_all (λ made. nat_le made.size 9223372036854775807) (new_files verified index file (ends_of file)) ≡ true
 unfolding new_file
-sizes_fit verified index file fit = all_new (λ made. nat_le made.size 9223372036854775807) verified index file (ends_of file) (λ dest source. size_fits file fit.size)
+sizes_fit verified index file fit = all_new (λ made. nat_le made.size 9223372036854775807) verified index file (ends_of file)
+    (λ dest source. size_fits file fit.size)
 
 -- a text that isn't too long names an activity
 label_fits : (text : List ℕ) (empty : Bool) → (length text == 0) ≡ empty → nat_le (length text) 255 ≡ true → is_label (cond empty default_activity text) ≡ true
@@ -156,7 +168,8 @@ name_fits (Some text) few = label_fits text (length text == 0) refl few
 name_fits None few = absurd (cc)
 
 -- a value that is found, or none
-activity_found : (found : Option Data) → option_map_or (λ value. not (is_activity value)) found false ≡ false → is_label (activity_named (option_and_then as_str found)) ≡ true
+activity_found : (found : Option Data) → option_map_or (λ value. not (is_activity value)) found false ≡ false
+    → is_label (activity_named (option_and_then as_str found)) ≡ true
 activity_found None kept = refl
 activity_found (Some value) kept = name_fits (as_str value) (is_true (is_activity value) kept)
 
@@ -166,12 +179,15 @@ unfolding has_bad_activity activity_of
 activity_fits file kept = activity_found (field (codes "activity") file) kept
 
 -- so in the job
-pub activities_fit : (verified : Bool) (index : ℕ) (file : Data) → FileFits file → list_all (λ made. is_label made.activity) (new_files verified index file (ends_of file)) ≡ true
+pub activities_fit : (verified : Bool) (index : ℕ) (file : Data) → FileFits file
+    → list_all (λ made. is_label made.activity) (new_files verified index file (ends_of file)) ≡ true
 unfolding new_file
-activities_fit verified index file fit = all_new (λ made. is_label made.activity) verified index file (ends_of file) (λ dest source. activity_fits file fit.activity)
+activities_fit verified index file fit = all_new (λ made. is_label made.activity) verified index file (ends_of file)
+    (λ dest source. activity_fits file fit.activity)
 
 -- no source is this destination
-sources_apart : (verified : Bool) (index : ℕ) (file : Data) (dest : Place) (sources : List Place) → list_any (λ source. is_same_place source dest) sources ≡ false
+sources_apart : (verified : Bool) (index : ℕ) (file : Data) (dest : Place) (sources : List Place) → list_any (λ source. is_same_place source dest) sources
+    ≡ false
     → list_all goes_elsewhere (map (new_file verified index file dest) sources) ≡ true
 unfolding new_file
 sources_apart verified index file dest [] none = refl
@@ -180,13 +196,17 @@ sources_apart verified index file dest (source ∷ sources) none =
     and_from (not (is_same_place source dest)) _ (ap not apart.0) (sources_apart verified index file dest sources apart.1)
 
 -- no source is any destination
-ends_apart : (verified : Bool) (index : ℕ) (file : Data) (sources dests : List Place) → list_any (λ dest. list_any (λ source. is_same_place source dest) sources) dests ≡ false
+ends_apart : (verified : Bool) (index : ℕ) (file : Data) (sources dests : List Place)
+    → list_any (λ dest. list_any (λ source. is_same_place source dest) sources) dests ≡ false
     → list_all goes_elsewhere (flat_map (λ dest. map (new_file verified index file dest) sources) dests) ≡ true
 ends_apart verified index file sources [] none = refl
 ends_apart verified index file sources (dest ∷ dests) none =
-    let apart = or_parts (list_any (λ source. is_same_place source dest) sources) (list_any (λ other. list_any (λ source. is_same_place source other) sources) dests) none in
-    list_all-append goes_elsewhere (map (new_file verified index file dest) sources) (flat_map (λ other. map (new_file verified index file other) sources) dests)
-    ∙ and_from (list_all goes_elsewhere (map (new_file verified index file dest) sources)) _ (sources_apart verified index file dest sources apart.0) (ends_apart verified index file sources dests apart.1)
+    let apart = or_parts (list_any (λ source. is_same_place source dest) sources)
+    (list_any (λ other. list_any (λ source. is_same_place source other) sources) dests) none in
+    list_all-append goes_elsewhere (map (new_file verified index file dest) sources)
+    (flat_map (λ other. map (new_file verified index file other) sources) dests)
+    ∙ and_from (list_all goes_elsewhere (map (new_file verified index file dest) sources)) _ (sources_apart verified index file dest sources apart.0)
+    (ends_apart verified index file sources dests apart.1)
 
 -- so in the job
 pub files_apart : (verified : Bool) (index : ℕ) (file : Data) → FileFits file → list_all goes_elsewhere (new_files verified index file (ends_of file)) ≡ true

@@ -1,7 +1,8 @@
 -- Bodies and JSON values against what `serde_json` says of them.
 use Rattle.std.proofs.Common.{◌≡◌, ◌||◌, Bool, true, false, cond, ℕ, List, [], ◌∷◌, map, Option, Some, None, refl, ap}
 use Rattle.std.specs.Prelude.{IsUtf8}
-use Rattle.std.specs.List.{list_any}
+use Rattle.std.specs.List.{list_any, list_all}
+use Rattle.std.proofs.lemmas.List.Folds.{list_all-map}
 use Rattle.std.specs.Str.{is_utf8}
 use Rattle.std.proofs.lemmas.Str.{IsUtf8-from_is_utf8, is_utf8-from_IsUtf8}
 use Rattle.serde_json.specs.Data.{Data}
@@ -27,7 +28,11 @@ pub list_of-items_of : (values : List Data) → list_of (items_of values) ≡ va
 list_of-items_of [] = refl
 list_of-items_of (value ∷ values) = ap (λ rest. value ∷ rest) (list_of-items_of values)
 
--- a test of what is made of each item is a test of each item
-pub list_any-map : {X Y : Type 0} (test : X → Bool) (h : Y → X) (ys : List Y) → list_any test (map h ys) ≡ list_any (λ y. test (h y)) ys
-list_any-map test h [] = refl
-list_any-map test h (y ∷ ys) = ap (λ b. test (h y) || b) (list_any-map test h ys)
+-- a test of what is made of each item is a test of each item: whether one passes
+pub any_of_viewed : {X Y : Type 0} (test : X → Bool) (h : Y → X) (ys : List Y) → list_any test (map h ys) ≡ list_any (λ y. test (h y)) ys
+any_of_viewed test h [] = refl
+any_of_viewed test h (y ∷ ys) = ap (λ b. test (h y) || b) (any_of_viewed test h ys)
+
+-- and whether all pass
+pub all_of_viewed : {X Y : Type 0} (test : X → Bool) (h : Y → X) (ys : List Y) → list_all test (map h ys) ≡ list_all (λ y. test (h y)) ys
+all_of_viewed test h ys = list_all-map test h ys

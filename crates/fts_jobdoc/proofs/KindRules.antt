@@ -1,5 +1,5 @@
 -- The files of a job have the shape of its kind, where the document breaks no rule.
-use Rattle.std.proofs.Common.{◌≡◌, ◌+◌, ◌&&◌, ◌||◌, ◌==◌, not, ℕ, suc, Bool, true, false, cond, List, [], ◌∷◌, ◌++◌, length, map, codes, Option, Some, None, refl, ap, sym, ◌∙◌, arith, tests, append-nil}
+use Rattle.std.proofs.Common.{◌≡◌, ◌&&◌, ◌||◌, ◌==◌, not, ℕ, suc, Bool, true, false, cond, List, [], ◌∷◌, ◌++◌, length, map, codes, Option, Some, None, refl, ap, sym, ◌∙◌, arith, tests, append-nil}
 use Rattle.std.specs.Prelude.{nat_lt, bytes_eq}
 use Rattle.std.specs.List.{list_any, list_all, flat_map}
 use Rattle.std.proofs.lemmas.List.{length-map}
@@ -62,14 +62,16 @@ all_single (file ∷ files) fit none =
     (single_of (ends_of file) (fit.0.sources ∙ one_value _ fit.0.few n.0) fit.0.dest, all_single files fit.1 n.1)
 
 -- a file of one source is one file of the job
-single_file : (verified : Bool) (index : ℕ) (file : Data) (single : Single (ends_of file)) → new_files verified index file (ends_of file) ≡ new_file verified index file single.dest single.source ∷ []
+single_file : (verified : Bool) (index : ℕ) (file : Data) (single : Single (ends_of file)) → new_files verified index file (ends_of file)
+    ≡ new_file verified index file single.dest single.source ∷ []
 single_file verified index file single = ap (new_files verified index file) single.is
 
 -- so the job has as many
 counted : (verified : Bool) (files : List Data) (index : ℕ) → AllSingle files → length (files_from verified index files) ≡ length files
 counted verified [] index single = refl
 counted verified (file ∷ files) index single =
-    ap (λ (made : List NewFile). length (made ++ files_from verified (suc index) files)) (single_file verified index file single.0) ∙ ap suc (counted verified files (suc index) single.1)
+    ap (λ (made : List NewFile). length (made ++ files_from verified (suc index) files)) (single_file verified index file single.0)
+    ∙ ap suc (counted verified files (suc index) single.1)
 
 -- a number is itself
 same_number : (n : ℕ) → (n == n) ≡ true
@@ -81,7 +83,8 @@ unfolding new_file
 indexed verified [] index single = refl
 indexed verified (file ∷ files) index single =
     ap (λ (made : List NewFile). are_indexed_from index (made ++ files_from verified (suc index) files)) (single_file verified index file single.0)
-    ∙ and_from (index == index) (are_indexed_from (suc index) (files_from verified (suc index) files)) (same_number index) (indexed verified files (suc index) single.1)
+    ∙ and_from (index == index) (are_indexed_from (suc index) (files_from verified (suc index) files)) (same_number index)
+    (indexed verified files (suc index) single.1)
 
 -- where one file meets the next, its destination is that one's source
 met : (ends next : FileEnds) (one : Single ends) (other : Single next) → meets ends next ≡ true → is_same_place one.dest other.source ≡ true
@@ -99,7 +102,8 @@ chained_from verified before one [] index single whole = refl
 chained_from verified before one (file ∷ files) index single whole =
     let w = or_parts (not (meets (ends_of before) (ends_of file))) (breaks_from (ends_of file) (map ends_of files)) whole in
     ap (λ (made : List NewFile). is_chain_from one.dest (made ++ files_from verified (suc index) files)) (single_file verified index file single.0)
-    ∙ and_from (is_same_place one.dest single.0.source) _ (met (ends_of before) (ends_of file) one single.0 (is_true (meets (ends_of before) (ends_of file)) w.0))
+    ∙ and_from (is_same_place one.dest single.0.source) _
+    (met (ends_of before) (ends_of file) one single.0 (is_true (meets (ends_of before) (ends_of file)) w.0))
     (chained_from verified file single.0 files (suc index) single.1 w.1)
 
 -- and all of them are a chain
@@ -122,7 +126,8 @@ same_digest None = refl
 same_digest (Some bytes) = same_text bytes
 
 -- files of one document's file are replicas of one another
-replica : (verified : Bool) (file : Data) (dest source other : Place) → is_replica_of (new_file verified 0 file dest source) (new_file verified 0 file dest other) ≡ true
+replica : (verified : Bool) (file : Data) (dest source other : Place)
+    → is_replica_of (new_file verified 0 file dest source) (new_file verified 0 file dest other) ≡ true
 unfolding new_file
 replica verified file dest source other =
     and_from _ (bytes_eq (activity_of file) (activity_of file))
@@ -138,7 +143,8 @@ replicas : (verified : Bool) (file : Data) (dest : Place) (sources : List Place)
 unfolding new_file
 replicas verified file dest [] = refl
 replicas verified file dest (source ∷ sources) =
-    and_from (list_all (λ made. made.index == 0) (map (new_file verified 0 file dest) sources)) (list_all (is_replica_of (new_file verified 0 file dest source)) (map (new_file verified 0 file dest) sources))
+    and_from (list_all (λ made. made.index == 0) (map (new_file verified 0 file dest) sources))
+    (list_all (is_replica_of (new_file verified 0 file dest source)) (map (new_file verified 0 file dest) sources))
     (all_map (λ made. made.index == 0) (new_file verified 0 file dest) (λ place. refl) sources)
     (all_map (is_replica_of (new_file verified 0 file dest source)) (new_file verified 0 file dest) (replica verified file dest source) sources)
 
@@ -152,7 +158,8 @@ pub record Shaped (kind : JobKind) (files : List NewFile) : Type 0 where
   pub count : is_within 1 200 (length files) ≡ true
 
 -- the files of a replica job
-replicas_shaped : (verified : Bool) (file : Data) (dest : Place) → FileFits file → has_replicas file ≡ true → (ends_of file).dests ≡ dest ∷ [] → Shaped Replica (files_from verified 0 (file ∷ []))
+replicas_shaped : (verified : Bool) (file : Data) (dest : Place) → FileFits file → has_replicas file ≡ true → (ends_of file).dests ≡ dest ∷ []
+    → Shaped Replica (files_from verified 0 (file ∷ []))
 unfolding has_replicas
 replicas_shaped verified file dest fit more one =
     let sources = (ends_of file).sources in
@@ -162,7 +169,8 @@ replicas_shaped verified file dest fit more one =
     let number : length made ≡ length (list_under (codes "sources") file) = length-map sources (new_file verified 0 file dest) ∙ fit.sources in
     let counts = more_values (length (list_under (codes "sources") file)) fit.few more in
     record {
-      shape = ap (has_shape Replica) are ∙ and_from (is_within 2 16 (length made)) (are_replicas made) (ap (is_within 2 16) number ∙ counts.0) (replicas verified file dest sources);
+      shape = ap (has_shape Replica) are ∙ and_from (is_within 2 16 (length made)) (are_replicas made) (ap (is_within 2 16) number ∙ counts.0)
+          (replicas verified file dest sources);
       count = ap (λ (files : List NewFile). is_within 1 200 (length files)) are ∙ ap (is_within 1 200) number ∙ counts.1;
     }
 
@@ -180,7 +188,8 @@ few_files n some few = grind (arith, tests)
 singles_shaped : (multihop : Bool) (verified : Bool) (files : List Data) → AllSingle files → is_within 1 200 (length files) ≡ true
     → (multihop && breaks_chain (map ends_of files)) ≡ false → Shaped (kind_by multihop false) (files_from verified 0 files)
 singles_shaped true verified files single few whole = record {
-  shape = and_from (are_indexed_from 0 (files_from verified 0 files)) (is_chain (files_from verified 0 files)) (indexed verified files 0 single) (chained verified files single whole);
+  shape = and_from (are_indexed_from 0 (files_from verified 0 files)) (is_chain (files_from verified 0 files)) (indexed verified files 0 single)
+      (chained verified files single whole);
   count = ap (is_within 1 200) (counted verified files 0 single) ∙ few;
 }
 singles_shaped false verified files single few whole = record {
@@ -189,7 +198,8 @@ singles_shaped false verified files single few whole = record {
 }
 
 -- the files of a job that has some
-several_shaped : (verified : Bool) (files : List Data) → AllFit files → list_any has_replicas files ≡ true → nat_lt 1 (length files) ≡ false → Shaped Replica (files_from verified 0 files)
+several_shaped : (verified : Bool) (files : List Data) → AllFit files → list_any has_replicas files ≡ true → nat_lt 1 (length files) ≡ false
+    → Shaped Replica (files_from verified 0 files)
 several_shaped verified [] fit more one = absurd (cc)
 several_shaped verified (file ∷ []) fit more one =
     let dest = one_of (ends_of file).dests fit.0.dest in

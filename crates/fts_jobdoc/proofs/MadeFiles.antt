@@ -23,6 +23,8 @@ pub files_step : (verified : Bool) (files : List Value) (all : List FileEnds) (i
     → made ++ files_from verified i (map view (drop i files)) ≡ whole
     → (made ++ new_files verified i (view file) ends) ++ files_from verified (i + 1) (map view (drop (i + 1) files)) ≡ whole
 files_step verified files all i file ends made whole e inside here there left =
-    let same : files_from verified i (map view (drop i files)) ≡ new_files verified i (view file) ends ++ files_from verified (i + 1) (map view (drop (i + 1) files)) =
+    let same : files_from verified i (map view (drop i files))
+    ≡ new_files verified i (view file) ends ++ files_from verified (i + 1) (map view (drop (i + 1) files)) =
     rw (data_left files i file inside here, ends_at files all i file ends e inside here there, add-one) refl in
-    append_assoc made (new_files verified i (view file) ends) (files_from verified (i + 1) (map view (drop (i + 1) files))) ∙ ap (λ rest. made ++ rest) (sym same) ∙ left
+    append_assoc made (new_files verified i (view file) ends) (files_from verified (i + 1) (map view (drop (i + 1) files)))
+    ∙ ap (λ rest. made ++ rest) (sym same) ∙ left

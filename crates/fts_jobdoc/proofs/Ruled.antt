@@ -1,24 +1,40 @@
--- What rules that were kept say, each alone.
-use Rattle.std.proofs.Common.{◌≡◌, ◌||◌, ◌&&◌, Bool, true, false, List, [], ◌∷◌, Result, Ok, Err, refl}
-use Rattle.std.specs.Prelude.{⊤}
-use Rattle.fts_jobdoc.specs.Checks.{refuse_if, first_refusal}
+-- What lists of rules say: of a list in two parts, and of rules that were kept, each alone.
+use Rattle.std.proofs.Common.{◌≡◌, ◌||◌, ◌&&◌, Bool, true, false, List, [], ◌∷◌, ◌++◌, Option, Some, None, refl}
+use Rattle.std.specs.Option.{option_or}
+use Rattle.fts_tables.specs.FirstFault.{fault_if, first_fault}
 use Rattle.fts_jobdoc.specs.declared.fault.DocFault.{DocFault}
 
+-- the first fault of two lists is that of the first, or else that of the second
+pub first_fault-append : (these those : List (Option DocFault)) → first_fault (these ++ those) ≡ option_or (first_fault these) (first_fault those)
+first_fault-append [] those = refl
+first_fault-append (None ∷ these) those = first_fault-append these those
+first_fault-append (Some fault ∷ these) those = refl
+
+-- the first fault of a list is that of its first rule, or else that of the others
+pub first_fault-cons : (rule : Option DocFault) (rules : List (Option DocFault)) → first_fault (rule ∷ rules) ≡ option_or rule (first_fault rules)
+first_fault-cons None rules = refl
+first_fault-cons (Some fault) rules = refl
+
+-- neither of two faults
+pub neither : (first later : Option DocFault) → option_or first later ≡ None → (first ≡ None) × (later ≡ None)
+neither None later none = (refl, none)
+neither (Some fault) later none = absurd (cc)
+
 -- a rule that was kept isn't broken
-pub unbroken : (broken : Bool) (fault : DocFault) → refuse_if broken fault ≡ Ok tt → broken ≡ false
+pub unbroken : (broken : Bool) (fault : DocFault) → fault_if broken fault ≡ None → broken ≡ false
 unbroken true fault kept = absurd (cc)
 unbroken false fault kept = refl
 
 -- all rules of a list were kept
-abbrev pub AllKept : List (Result ⊤ DocFault) → Type 0
+abbrev pub AllKept : List (Option DocFault) → Type 0
 AllKept [] = Unit {0}
-AllKept (rule ∷ rules) = (rule ≡ Ok tt) × AllKept rules
+AllKept (rule ∷ rules) = (rule ≡ None) × AllKept rules
 
--- where none is refused, all were kept
-pub all_kept : (rules : List (Result ⊤ DocFault)) → first_refusal rules ≡ Ok tt → AllKept rules
+-- where there is no fault, all were kept
+pub all_kept : (rules : List (Option DocFault)) → first_fault rules ≡ None → AllKept rules
 all_kept [] all = tt
-all_kept (Ok kept ∷ rules) all = (refl, all_kept rules all)
-all_kept (Err fault ∷ rules) all = absurd (cc)
+all_kept (None ∷ rules) all = (refl, all_kept rules all)
+all_kept (Some fault ∷ rules) all = absurd (cc)
 
 -- both of two tests
 pub and_parts : (a b : Bool) → (a && b) ≡ true → (a ≡ true) × (b ≡ true)

@@ -1,7 +1,8 @@
 -- Which new job a document is, or the least rule that it breaks; and which priority another document asks for.
-use Rattle.std.specs.Prelude.{ℕ, suc, Bool, ◌==◌, ◌&&◌, ◌||◌, ⊤, nat_lt, if◌then◌else◌, List, [], ◌∷◌, ◌++◌, length, map, Option, Some, None, option_map, Result, Err, codes}
+use Rattle.std.specs.Prelude.{ℕ, suc, Bool, ◌==◌, ◌&&◌, ◌||◌, nat_lt, if◌then◌else◌, List, [], ◌∷◌, ◌++◌, length, map, Option, Some, None, option_map, Result, Err, codes}
 use Rattle.std.specs.List.{list_any, flat_map}
 use Rattle.serde_json.specs.Data.{Data}
+use Rattle.fts_tables.specs.FirstFault.{fault_if, first_fault, unless}
 use Rattle.fts_tables.specs.JobData.{JobData}
 use Rattle.fts_tables.specs.SettingsData.{SettingsData}
 use Rattle.fts_tables.specs.declared.limits.TheConstants.{MAX_FILES}
@@ -12,105 +13,105 @@ use Rattle.fts_tables.specs.declared.rows.JobKind.TheVariants.{Plain, Replica, M
 use Rattle.fts_jobdoc.specs.Json.{value_of, files_of}
 use Rattle.fts_jobdoc.specs.Fields.{is_no_object, has_wrong_sources, has_wrong_destinations, has_bad_filesize, size_of, has_bad_checksum, has_other_algorithm, wanted_of, has_bad_strategy, strategy_of, has_bad_activity, activity_of, has_replicas, has_wrong_params, has_bad_retry, retry_of, has_bad_delay, delay_of, has_bad_priority, lacks_priority, priority_in, has_bad_verify, is_verified, is_set, unoffered_in, has_bad_sid, sid_in}
 use Rattle.fts_jobdoc.specs.Ends.{ends_of, url_rule, has_unknown_endpoint, has_same_url, breaks_chain}
-use Rattle.fts_jobdoc.specs.Checks.{refuse_if, refuse_unoffered, first_refusal, unless_refused}
 use Rattle.fts_jobdoc.specs.Ids.{sid_id}
 use Rattle.fts_jobdoc.specs.declared.ends.FileEnds.{FileEnds}
 use Rattle.fts_jobdoc.specs.declared.fault.DocFault.{DocFault}
-use Rattle.fts_jobdoc.specs.declared.fault.DocFault.TheVariants.{NotJson, NotObject, NoFiles, TooManyFiles, FileNotObject, SourcesWrong, DestinationsWrong, UnknownEndpoint, SameUrl, BadFilesize, BadChecksum, OtherAlgorithm, BadStrategy, BadActivity, ParamsNotObject, BadRetry, BadDelay, BadPriority, BadVerify, ReplicaManyFiles, MultihopShape, BadSid}
+use Rattle.fts_jobdoc.specs.declared.fault.DocFault.TheVariants.{NotJson, NotObject, NoFiles, TooManyFiles, FileNotObject, SourcesWrong, DestinationsWrong, UnknownEndpoint, SameUrl, BadFilesize, BadChecksum, OtherAlgorithm, BadStrategy, BadActivity, ParamsNotObject, BadRetry, BadDelay, BadPriority, BadVerify, NotOffered, ReplicaManyFiles, MultihopShape, BadSid}
 
--- ---- the rules, in the order of the table; rule 1 is that the body is JSON
+-- ---- the rules in the order in which they are answered, each behind its number; rule 1 is that the body is JSON
 
 -- the document's shape: an object with 1 to so many files, each an object with its sources and its destination
-abbrev pub shape_rules : Data → List Data → List (Result ⊤ DocFault)
+unfoldable pub shape_rules : Data → List Data → List (Option DocFault)
 shape_rules document files =
-    refuse_if (is_no_object document) NotObject
-    ∷ refuse_if (length files == 0) NoFiles
-    ∷ refuse_if (nat_lt MAX_FILES (length files)) TooManyFiles
-    ∷ refuse_if (list_any is_no_object files) FileNotObject
-    ∷ refuse_if (list_any has_wrong_sources files) SourcesWrong
-    ∷ refuse_if (list_any has_wrong_destinations files) DestinationsWrong
+    -- 2
+    fault_if (is_no_object document) NotObject
+    -- 3
+    ∷ fault_if (length files == 0) NoFiles
+    -- 4
+    ∷ fault_if (nat_lt MAX_FILES (length files)) TooManyFiles
+    -- 5
+    ∷ fault_if (list_any is_no_object files) FileNotObject
+    -- 6
+    ∷ fault_if (list_any has_wrong_sources files) SourcesWrong
+    -- 7
+    ∷ fault_if (list_any has_wrong_destinations files) DestinationsWrong
     ∷ []
-
--- the first of them that is broken; then comes the rule on URLs, number 8
-unfoldable pub shape_rule : Data → List Data → Result ⊤ DocFault
-shape_rule document files = first_refusal (shape_rules document files)
 
 -- where the files come from and go to, once their URLs were read
-abbrev pub ends_rules : SettingsData → List FileEnds → List (Result ⊤ DocFault)
+unfoldable pub ends_rules : SettingsData → List FileEnds → List (Option DocFault)
 ends_rules settings ends =
-    refuse_if (list_any (has_unknown_endpoint settings) ends) UnknownEndpoint
-    ∷ refuse_if (list_any has_same_url ends) SameUrl
+    -- 9
+    fault_if (list_any (has_unknown_endpoint settings) ends) UnknownEndpoint
+    -- 10
+    ∷ fault_if (list_any has_same_url ends) SameUrl
     ∷ []
-
--- the first of them that is broken
-unfoldable pub ends_rule : SettingsData → List FileEnds → Result ⊤ DocFault
-ends_rule settings ends = first_refusal (ends_rules settings ends)
 
 -- the other fields of the files; their checksums only where verification is asked for
-abbrev pub files_rules : Bool → List Data → List (Result ⊤ DocFault)
+unfoldable pub files_rules : Bool → List Data → List (Option DocFault)
 files_rules verified files =
-    refuse_if (list_any has_bad_filesize files) BadFilesize
-    ∷ refuse_if (verified && list_any has_bad_checksum files) BadChecksum
-    ∷ refuse_if (verified && list_any has_other_algorithm files) OtherAlgorithm
-    ∷ refuse_if (list_any has_bad_strategy files) BadStrategy
-    ∷ refuse_if (list_any has_bad_activity files) BadActivity
+    -- 11
+    fault_if (list_any has_bad_filesize files) BadFilesize
+    -- 12
+    ∷ fault_if (verified && list_any has_bad_checksum files) BadChecksum
+    -- 13
+    ∷ fault_if (verified && list_any has_other_algorithm files) OtherAlgorithm
+    -- 14
+    ∷ fault_if (list_any has_bad_strategy files) BadStrategy
+    -- 15
+    ∷ fault_if (list_any has_bad_activity files) BadActivity
     ∷ []
-
--- the first of them that is broken
-unfoldable pub files_rule : Bool → List Data → Result ⊤ DocFault
-files_rule verified files = first_refusal (files_rules verified files)
 
 -- the job's parameters
-abbrev pub params_rules : Data → List (Result ⊤ DocFault)
+unfoldable pub params_rules : Data → List (Option DocFault)
 params_rules document =
-    refuse_if (has_wrong_params document) ParamsNotObject
-    ∷ refuse_if (has_bad_retry document) BadRetry
-    ∷ refuse_if (has_bad_delay document) BadDelay
-    ∷ refuse_if (has_bad_priority document) BadPriority
-    ∷ refuse_if (has_bad_verify document) BadVerify
-    ∷ refuse_unoffered (unoffered_in document)
+    -- 16
+    fault_if (has_wrong_params document) ParamsNotObject
+    -- 17
+    ∷ fault_if (has_bad_retry document) BadRetry
+    -- 18
+    ∷ fault_if (has_bad_delay document) BadDelay
+    -- 19
+    ∷ fault_if (has_bad_priority document) BadPriority
+    -- 20
+    ∷ fault_if (has_bad_verify document) BadVerify
+    -- 21
+    ∷ option_map NotOffered (unoffered_in document)
     ∷ []
 
--- the first of them that is broken
-unfoldable pub params_rule : Data → Result ⊤ DocFault
-params_rule document = first_refusal (params_rules document)
+-- some file has replicas, and there are several files
+abbrev pub has_replicas_among : List Data → Bool
+has_replicas_among files = list_any has_replicas files && nat_lt 1 (length files)
 
 -- a multihop job whose files are no chain: one has replicas, or one doesn't go to where the next comes from
 abbrev pub has_wrong_hops : Data → List Data → List FileEnds → Bool
 has_wrong_hops document files ends = is_set (codes "multihop") document && (list_any has_replicas files || breaks_chain ends)
 
 -- the job's kind, and its id
-abbrev pub kind_rules : Data → List Data → List FileEnds → List (Result ⊤ DocFault)
+unfoldable pub kind_rules : Data → List Data → List FileEnds → List (Option DocFault)
 kind_rules document files ends =
-    refuse_if (list_any has_replicas files && nat_lt 1 (length files)) ReplicaManyFiles
-    ∷ refuse_if (has_wrong_hops document files ends) MultihopShape
-    ∷ refuse_if (has_bad_sid document) BadSid
+    -- 22
+    fault_if (has_replicas_among files) ReplicaManyFiles
+    -- 23
+    ∷ fault_if (has_wrong_hops document files ends) MultihopShape
+    -- 24
+    ∷ fault_if (has_bad_sid document) BadSid
     ∷ []
-
--- the first of them that is broken
-unfoldable pub kind_rule : Data → List Data → List FileEnds → Result ⊤ DocFault
-kind_rule document files ends = first_refusal (kind_rules document files ends)
 
 -- the rules behind the one on URLs
-abbrev pub later_rules : Data → SettingsData → List Data → List FileEnds → List (Result ⊤ DocFault)
+unfoldable pub later_rules : Data → SettingsData → List Data → List FileEnds → List (Option DocFault)
 later_rules document settings files ends =
-    ends_rule settings ends
-    ∷ files_rule (is_verified document) files
-    ∷ params_rule document
-    ∷ kind_rule document files ends
-    ∷ []
+    ends_rules settings ends
+    ++ (files_rules (is_verified document) files
+    ++ (params_rules document
+    ++ kind_rules document files ends))
 
--- the first of them that is broken
-unfoldable pub later_rule : Data → SettingsData → List Data → List FileEnds → Result ⊤ DocFault
-later_rule document settings files ends = first_refusal (later_rules document settings files ends)
+-- all rules from rule 2 on, of a document with these files; rule 8 is that on URLs
+abbrev pub all_rules : Data → SettingsData → List Data → List (Option DocFault)
+all_rules document settings files = shape_rules document files ++ url_rule files ∷ later_rules document settings files (map ends_of files)
 
--- all rules from rule 2 on
-abbrev pub all_rules : Data → SettingsData → List Data → List (Result ⊤ DocFault)
-all_rules document settings files = shape_rule document files ∷ url_rule files ∷ later_rule document settings files (map ends_of files) ∷ []
-
--- the least rule that a document breaks, from rule 2 on
-unfoldable pub rules_of : Data → SettingsData → Result ⊤ DocFault
-rules_of document settings = first_refusal (all_rules document settings (files_of document))
+-- all rules of a document from rule 2 on
+unfoldable pub rules_of : Data → SettingsData → List (Option DocFault)
+rules_of document settings = all_rules document settings (files_of document)
 
 -- ---- the job
 
@@ -153,7 +154,7 @@ new_job document settings = record {
 
 -- the job of a JSON value, or the least rule that it breaks
 unfoldable pub job_in : Data → SettingsData → Result JobData DocFault
-job_in document settings = unless_refused (rules_of document settings) (new_job document settings)
+job_in document settings = unless (first_fault (rules_of document settings)) (new_job document settings)
 
 -- what is made of the JSON value of a body; a body that has none breaks rule 1
 abbrev pub of_value : {T : Type 0} → (Data → Result T DocFault) → Option Data → Result T DocFault
@@ -166,18 +167,21 @@ job_of body settings = of_value (λ document. job_in document settings) (value_o
 
 -- ---- a document that asks for another priority
 
--- the rules of such a document
-abbrev pub priority_rules : Data → List (Result ⊤ DocFault)
+-- the rules of such a document, each behind its number
+unfoldable pub priority_rules : Data → List (Option DocFault)
 priority_rules document =
-    refuse_if (is_no_object document) NotObject
-    ∷ refuse_if (has_wrong_params document) ParamsNotObject
-    ∷ refuse_if (lacks_priority document) BadPriority
+    -- 2
+    fault_if (is_no_object document) NotObject
+    -- 16
+    ∷ fault_if (has_wrong_params document) ParamsNotObject
+    -- 19
+    ∷ fault_if (lacks_priority document) BadPriority
     ∷ []
 
--- the first of them that is broken
-unfoldable pub priority_rule : Data → Result ⊤ DocFault
-priority_rule document = first_refusal (priority_rules document)
+-- the priority of such a document, or the least rule that it breaks
+abbrev pub priority_given : Data → Result ℕ DocFault
+priority_given document = unless (first_fault (priority_rules document)) (priority_in document)
 
 -- the priority that a body asks for, or the least rule that it breaks
 unfoldable pub priority_of : List ℕ → Result ℕ DocFault
-priority_of body = of_value (λ document. unless_refused (priority_rule document) (priority_in document)) (value_of body)
+priority_of body = of_value priority_given (value_of body)

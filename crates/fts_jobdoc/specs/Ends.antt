@@ -1,7 +1,8 @@
 -- Where the files of a document come from and go to: the places that their URLs name, and the rules on them.
-use Rattle.std.specs.Prelude.{ℕ, Bool, false, not, ◌||◌, ⊤, List, [], ◌∷◌, ◌++◌, map, Option, Some, None, Result, Ok, Err, codes}
+use Rattle.std.specs.Prelude.{ℕ, Bool, false, not, ◌||◌, List, [], ◌∷◌, ◌++◌, map, Option, Some, None, option_map, Result, Ok, Err, codes}
 use Rattle.std.specs.List.{list_any, list_all, filter_map, flat_map}
 use Rattle.serde_json.specs.Data.{Data}
+use Rattle.fts_tables.specs.FirstFault.{unless}
 use Rattle.fts_tables.specs.SettingsData.{SettingsData, is_listed}
 use Rattle.fts_tables.specs.Places.{is_same_place}
 use Rattle.fts_tables.specs.declared.places.Place.{Place}
@@ -9,7 +10,6 @@ use Rattle.fts_joburl.specs.Urls.{surl_of}
 use Rattle.fts_joburl.specs.declared.read.Surl.{Surl}
 use Rattle.fts_joburl.specs.declared.fault.UrlFault.{UrlFault}
 use Rattle.fts_jobdoc.specs.Json.{texts_under}
-use Rattle.fts_jobdoc.specs.Checks.{unless_refused}
 use Rattle.fts_jobdoc.specs.declared.ends.FileEnds.{FileEnds}
 use Rattle.fts_jobdoc.specs.declared.fault.DocFault.{DocFault}
 use Rattle.fts_jobdoc.specs.declared.fault.DocFault.TheVariants.{BadUrl}
@@ -55,14 +55,13 @@ urls_of file = texts_under (codes "sources") file ++ texts_under (codes "destina
 unfoldable pub ends_of : Data → FileEnds
 ends_of file = record { sources = places_of (texts_under (codes "sources") file); dests = places_of (texts_under (codes "destinations") file) }
 
--- a broken URL is refused
-abbrev pub refuse_url : Option UrlFault → Result ⊤ DocFault
-refuse_url (Some fault) = Err (BadUrl fault)
-refuse_url None = Ok tt
+-- a broken URL is a fault of the document
+abbrev pub url_refused : Option UrlFault → Option DocFault
+url_refused fault = option_map BadUrl fault
 
--- rule 8: the first broken URL of the files is refused
-unfoldable pub url_rule : List Data → Result ⊤ DocFault
-url_rule files = refuse_url (first_url_fault (flat_map urls_of files))
+-- rule 8: the first broken URL of the files
+unfoldable pub url_rule : List Data → Option DocFault
+url_rule files = url_refused (first_url_fault (flat_map urls_of files))
 
 -- a place on an endpoint that the settings don't list
 abbrev pub is_elsewhere : SettingsData → Place → Bool
@@ -92,12 +91,12 @@ breaks_chain (ends ∷ later) = breaks_from ends later
 
 -- what is read of some URLs, unless one is broken
 abbrev pub places_read : List (List ℕ) → Result (List Place) DocFault
-places_read texts = unless_refused (refuse_url (first_url_fault texts)) (places_of texts)
+places_read texts = unless (url_refused (first_url_fault texts)) (places_of texts)
 
 -- what is read of a file's URLs, unless one is broken
 abbrev pub ends_read : Data → Result FileEnds DocFault
-ends_read file = unless_refused (refuse_url (first_url_fault (urls_of file))) (ends_of file)
+ends_read file = unless (url_refused (first_url_fault (urls_of file))) (ends_of file)
 
 -- what is read of the URLs of all files, unless one is broken
 abbrev pub all_ends_read : List Data → Result (List FileEnds) DocFault
-all_ends_read files = unless_refused (url_rule files) (map ends_of files)
+all_ends_read files = unless (url_rule files) (map ends_of files)

@@ -3,6 +3,7 @@ use Rattle.std.specs.Prelude.{ℕ, Bool, true, false, not, ◌==◌, ◌&&◌, �
 use Rattle.std.specs.Option.{option_map_or}
 use Rattle.serde_json.specs.Data.{Data}
 use Rattle.serde_json.specs.Find.{as_str, as_bool}
+use Rattle.fts_tables.specs.FirstFault.{fault_if, first_fault}
 use Rattle.fts_tables.specs.SettingsData.{is_label, default_activity}
 use Rattle.fts_tables.specs.declared.limits.TheConstants.{MIN_PRIORITY, MAX_PRIORITY, MAX_RETRY, MAX_DELAY, MAX_SOURCES, MAX_SIZE, MAX_LABEL_BYTES}
 use Rattle.fts_tables.specs.declared.rows.Strategy.{Strategy}
@@ -168,12 +169,13 @@ is_set key document = is_on (param key document)
 -- the first field of a document that asks for what isn't offered
 unfoldable pub unoffered_in : Data → Option Unoffered
 unoffered_in document =
-    if is_set (codes "reuse") document then Some Reuse
-    else if asks_for (codes "bring_online") document then Some BringOnline
-    else if asks_for (codes "copy_pin_lifetime") document then Some CopyPinLifetime
-    else if asks_for (codes "archive_timeout") document then Some ArchiveTimeout
-    else if asks_for (codes "max_time_in_queue") document then Some MaxTimeInQueue
-    else None
+    first_fault
+    (fault_if (is_set (codes "reuse") document) Reuse
+    ∷ fault_if (asks_for (codes "bring_online") document) BringOnline
+    ∷ fault_if (asks_for (codes "copy_pin_lifetime") document) CopyPinLifetime
+    ∷ fault_if (asks_for (codes "archive_timeout") document) ArchiveTimeout
+    ∷ fault_if (asks_for (codes "max_time_in_queue") document) MaxTimeInQueue
+    ∷ [])
 
 -- how ids are made
 abbrev pub is_generator : Data → Bool

@@ -43,14 +43,14 @@ pub const BODIES: [BodyCase; 14] = [
     ("a list", "[]", 2, "not an object"),
     ("an empty list of files", "{\"files\":[]}", 3, "no files"),
     (
-        "null for the files",
+        "no files, and a number for the parameters: no rule between is broken without files",
         "{\"files\":null,\"params\":3}",
         3,
         "no files",
     ),
     ("an object for the files", "{\"files\":{}}", 3, "no files"),
     (
-        "a number for a file",
+        "a number for a file: it has no sources either, so rule 5 is never broken alone",
         "{\"files\":[3]}",
         5,
         "file is not an object",
@@ -138,7 +138,7 @@ pub const URLS: [PairCase; 9] = [
         "unknown endpoint",
     ),
     (
-        "an unknown destination, from itself",
+        "an unknown endpoint, and a file onto itself",
         "https://c.example/f",
         "https://c.example/f",
         9,
@@ -420,12 +420,24 @@ pub const PARAMETERS: [PairCase; 22] = [
 ];
 
 /// Bodies of several files.
-pub const KINDS: [BodyCase; 9] = [
+pub const KINDS: [BodyCase; 11] = [
     (
         "a broken URL of the second file, and no size of the first",
         "{\"files\":[{\"sources\":[\"https://a.example/f\"],\"destinations\":[\"https://b.example/f\"],\"filesize\":-1},{\"sources\":[\"f\"],\"destinations\":[\"https://b.example/f\"]}],\"params\":{}}",
         8,
         "bad URL 1",
+    ),
+    (
+        "another algorithm of the first file, and no checksum of the second",
+        "{\"files\":[{\"sources\":[\"https://a.example/f\"],\"destinations\":[\"https://b.example/f\"],\"checksum\":\"ADLER32:0d5e1a2b\"},{\"sources\":[\"https://a.example/f\"],\"destinations\":[\"https://b.example/f\"],\"checksum\":\"0\"}],\"params\":{\"verify_checksum\":true}}",
+        12,
+        "bad checksum",
+    ),
+    (
+        "a number for the parameters, and replicas of one of two files: no rule between is broken without parameters",
+        "{\"files\":[{\"sources\":[\"https://a.example/f\"],\"destinations\":[\"https://b.example/f\"]},{\"sources\":[\"https://a.example/f\",\"https://a.example/g\"],\"destinations\":[\"https://b.example/f\"]}],\"params\":5}",
+        16,
+        "params is not an object",
     ),
     (
         "replicas of one of two files",

@@ -1,20 +1,21 @@
 //! The URLs of a document's files: each is read once, and is then a place on an endpoint.
-//! `read_all_ends` refuses the first broken one, in order of files, a file's sources before its destination. Then come the rules on places:
+//! `read_all_ends` refuses the first broken one, in order of files, a file's sources before its destination. Then come the tests on places:
 //! known endpoints, no file onto itself, and the chain of a multihop job, whose places are compared as places and not as texts.
-ghost use Rattle.std.specs.Prelude.{◌≡◌, ◌&&◌, ◌||◌, ◌++◌, ◌∷◌, [], map, OnOk, IfErr};
+//! Called by `job` and `rules`.
+ghost use Rattle.std.specs.Prelude.{◌≡◌, ◌++◌, ◌∷◌, [], map, OnOk, IfErr};
 ghost use Rattle.std.specs.List.{list_any, list_all, filter_map};
 ghost use Rattle.serde_json.specs.Find.{as_str};
 ghost use Rattle.serde_json.specs.View.{view};
-ghost use Rattle.fts_tables.specs.SettingsData.{is_listed as is_listed_in};
-ghost use Rattle.fts_tables.specs.Places.{is_same_place as is_one_place};
+ghost use Rattle.fts_tables.specs.Places.{is_same_place};
 ghost use Rattle.fts_jobdoc.specs.Json.{texts_under};
-ghost use Rattle.fts_jobdoc.specs.Checks.{Gives, refuse_if};
-ghost use Rattle.fts_jobdoc.specs.Ends.{place_read, bad_url, places_read, ends_read, all_ends_read, is_elsewhere, has_unknown_endpoint as goes_beyond, has_same_url as goes_nowhere, meets as meets_next, breaks_from as breaks_behind, breaks_chain as breaks};
+ghost use Rattle.fts_jobdoc.specs.Checks.{Gives};
+ghost use Rattle.fts_jobdoc.specs.Ends.{place_read, bad_url, places_read, ends_read, all_ends_read, is_elsewhere, has_unknown_endpoint, has_same_url, meets, breaks_from, breaks_chain};
 
 use crate::DocFault;
 use crate::json::list_under;
 use fts_joburl::{UrlFault, read_surl};
-use fts_tables::{Endpoint, Items, Memory, Place, Settings};
+use fts_tables::rules::is_listed;
+use fts_tables::{Items, Memory, Place, Settings};
 use serde_json::Value;
 use std::alloc::Global;
 
@@ -100,21 +101,16 @@ fn add<T: Drop>(items: &mut Items<T>, item: T) -> Result<(), DocFault>
     }
 }
 
-/// Every endpoint is in the settings.
-pub fn check_endpoints(settings: &Settings, all: &[FileEnds]) -> Result<(), DocFault>
-    ensures { result ≡ refuse_if (list_any (goes_beyond settings.now) all.now) DocFault.UnknownEndpoint }
+/// Whether some file is on an endpoint that isn't in the settings.
+pub fn some_has_unknown_endpoint(settings: &Settings, all: &[FileEnds]) -> bool
+    ensures { result ≡ list_any (has_unknown_endpoint settings.now) all.now }
 {
-    for ends in all {
-        if has_unknown_endpoint(settings, ends) {
-            return Err(DocFault::UnknownEndpoint);
-        }
-    }
-    Ok(())
+    all.iter().any(|ends| has_unknown_endpoint(settings, ends))
 }
 
 #[tactic(auto, unfolding(crate::specs::Ends::has_unknown_endpoint))]
 fn has_unknown_endpoint(settings: &Settings, ends: &FileEnds) -> bool
-    ensures { result ≡ goes_beyond settings.now ends.now }
+    ensures { result ≡ has_unknown_endpoint settings.now ends.now }
 {
     is_some_elsewhere(settings, ends.sources.as_slice())
         || is_some_elsewhere(settings, ends.dests.as_slice())
@@ -129,29 +125,16 @@ fn is_some_elsewhere(settings: &Settings, places: &[Place]) -> bool
         .any(|place| !is_listed(endpoints, place.endpoint.as_str()))
 }
 
-fn is_listed(endpoints: &[Endpoint], name: &str) -> bool
-    ensures { result ≡ is_listed_in endpoints.now name.now }
+/// Whether some file is copied onto itself.
+pub fn some_has_same_url(all: &[FileEnds]) -> bool
+    ensures { result ≡ list_any has_same_url all.now }
 {
-    endpoints
-        .iter()
-        .any(|endpoint| endpoint.name.as_str() == name)
-}
-
-/// No file is copied onto itself.
-pub fn check_distinct(all: &[FileEnds]) -> Result<(), DocFault>
-    ensures { result ≡ refuse_if (list_any goes_nowhere all.now) DocFault.SameUrl }
-{
-    for ends in all {
-        if has_same_url(ends) {
-            return Err(DocFault::SameUrl);
-        }
-    }
-    Ok(())
+    all.iter().any(|ends| has_same_url(ends))
 }
 
 #[tactic(auto, unfolding(crate::specs::Ends::has_same_url))]
 fn has_same_url(ends: &FileEnds) -> bool
-    ensures { result ≡ goes_nowhere ends.now }
+    ensures { result ≡ has_same_url ends.now }
 {
     let sources = ends.sources.as_slice();
     ends.dests
@@ -161,20 +144,14 @@ fn has_same_url(ends: &FileEnds) -> bool
 }
 
 fn is_among(place: &Place, sources: &[Place]) -> bool
-    ensures { result ≡ list_any (λ source. is_one_place source place.now) sources.now }
+    ensures { result ≡ list_any (λ source. is_same_place source place.now) sources.now }
 {
-    sources.iter().any(|source| is_same_place(source, place))
-}
-
-fn is_same_place(one: &Place, other: &Place) -> bool
-    ensures { result ≡ is_one_place one.now other.now }
-{
-    one.endpoint.as_str() == other.endpoint.as_str() && one.path.as_str() == other.path.as_str()
+    sources.iter().any(|source| source.is_same(place))
 }
 
 /// Whether a file's destination isn't the next file's source.
 pub fn breaks_chain(all: &[FileEnds]) -> bool
-    ensures { result ≡ breaks all.now }
+    ensures { result ≡ breaks_chain all.now }
 {
     match all {
         [] => false,
@@ -183,7 +160,7 @@ pub fn breaks_chain(all: &[FileEnds]) -> bool
 }
 
 fn breaks_from(first: &FileEnds, later: &[FileEnds]) -> bool
-    ensures { result ≡ breaks_behind first.now later.now }
+    ensures { result ≡ breaks_from first.now later.now }
 {
     let mut ends = first;
     for next in later {
@@ -197,7 +174,7 @@ fn breaks_from(first: &FileEnds, later: &[FileEnds]) -> bool
 
 #[tactic(auto, unfolding(crate::specs::Ends::meets))]
 fn meets(ends: &FileEnds, next: &FileEnds) -> bool
-    ensures { result ≡ meets_next ends.now next.now }
+    ensures { result ≡ meets ends.now next.now }
 {
     let sources = next.sources.as_slice();
     ends.dests
@@ -207,7 +184,7 @@ fn meets(ends: &FileEnds, next: &FileEnds) -> bool
 }
 
 fn is_each(place: &Place, sources: &[Place]) -> bool
-    ensures { result ≡ list_all (λ source. is_one_place place.now source) sources.now }
+    ensures { result ≡ list_all (λ source. is_same_place place.now source) sources.now }
 {
-    sources.iter().all(|source| is_same_place(place, source))
+    sources.iter().all(|source| place.is_same(source))
 }

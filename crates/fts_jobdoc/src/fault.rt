@@ -2,7 +2,7 @@
 //! `rule` and `message` are the table (`specs/Faults.antt`). Want of memory is no rule: its number is 0, and its text is empty.
 ghost use Rattle.std.specs.Prelude.{◌≡◌};
 ghost use Rattle.fts_jobdoc.specs.declared.fault.DocFault.TheVariants.{Memory as TheMemory};
-ghost use Rattle.fts_jobdoc.specs.Faults.{rule_of, message_of, url_message as url_text, unoffered_message as unoffered_text};
+ghost use Rattle.fts_jobdoc.specs.Faults.{rule_of, message_of, url_message, unoffered_message};
 
 use fts_joburl::UrlFault;
 use fts_tables::Memory;
@@ -118,7 +118,7 @@ impl DocFault {
 }
 
 fn url_message(fault: UrlFault) -> &'static str
-    ensures { result.now ≡ url_text fault }
+    ensures { result.now ≡ url_message fault }
 {
     match fault {
         UrlFault::NotUrl => "bad URL 1",
@@ -136,7 +136,7 @@ fn url_message(fault: UrlFault) -> &'static str
 }
 
 fn unoffered_message(field: Unoffered) -> &'static str
-    ensures { result.now ≡ unoffered_text field }
+    ensures { result.now ≡ unoffered_message field }
 {
     match field {
         Unoffered::Reuse => "not offered: reuse",

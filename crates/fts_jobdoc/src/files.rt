@@ -1,107 +1,64 @@
-//! The rules on each file of a document, in the order of the table, and what each of a file's fields stands for where the rules hold.
-//! A rule is a function `check_..` over all files, whose result is its definition in `specs/Fields.antt`; it takes the files once.
-ghost use Rattle.std.specs.Prelude.{◌≡◌, ◌==◌, ◌&&◌, false, length, map, nat_lt};
+//! The tests on each file of a document, in the order of the rules, and what each of a file's fields stands for where the rules hold.
+//! A test `has_..` answers its definition in `specs/Fields.antt` for one file; `some_has_..` asks it of all files, in one walk.
+//! Called by `rules`, and by `job` for the values.
+ghost use Rattle.std.specs.Prelude.{◌≡◌, map};
 ghost use Rattle.std.specs.List.{list_any};
 ghost use Rattle.serde_json.specs.View.{view};
-ghost use Rattle.fts_jobdoc.specs.Fields.{is_no_object, has_wrong_sources as has_sources_wrong, has_wrong_destinations as has_destinations_wrong, has_bad_filesize as has_filesize_wrong, size_of as size_in, has_bad_checksum as has_checksum_wrong, has_other_algorithm as has_algorithm_wrong, wanted_of, has_bad_strategy as has_strategy_wrong, file_strategy as strategy_of_file, strategy_of as strategy_of_job, is_activity, has_bad_activity as has_activity_wrong, activity_of as activity_in, has_replicas as has_two_sources};
-ghost use Rattle.fts_jobdoc.specs.Checks.{refuse_if};
+ghost use Rattle.fts_jobdoc.specs.Fields.{is_no_object, has_wrong_sources, has_wrong_destinations, has_bad_filesize, size_of, has_bad_checksum, has_other_algorithm, wanted_of, has_bad_strategy, file_strategy, strategy_of, is_activity, has_bad_activity, activity_of, has_replicas};
 
-use crate::DocFault;
 use crate::checksum::{Checksum, read_checksum};
 use crate::json::{
     field, has_texts, is_object, is_outside, is_this_text, list_under, natural_or, text_of,
 };
 use fts_tables::Strategy;
-use fts_tables::limits::{MAX_FILES, MAX_LABEL_BYTES, MAX_SIZE, MAX_SOURCES};
+use fts_tables::limits::{DEFAULT_ACTIVITY, MAX_LABEL_BYTES, MAX_SIZE, MAX_SOURCES};
 use serde_json::Value;
 
-/// There is a file.
-pub fn check_some(files: &[Value]) -> Result<(), DocFault>
-    ensures { result ≡ refuse_if (length (map view files.now) == 0) DocFault.NoFiles }
+/// Whether some file is no object.
+pub fn some_is_no_object(files: &[Value]) -> bool
+    ensures { result ≡ list_any is_no_object (map view files.now) }
 {
-    if files.is_empty() {
-        Err(DocFault::NoFiles)
-    } else {
-        Ok(())
-    }
+    files.iter().any(|file| !is_object(file))
 }
 
-/// There are not too many files.
-pub fn check_count(files: &[Value]) -> Result<(), DocFault>
-    ensures { result ≡ refuse_if (nat_lt MAX_FILES (length (map view files.now))) DocFault.TooManyFiles }
+/// Whether some file has no list of 1 to `MAX_SOURCES` texts as its sources.
+pub fn some_has_wrong_sources(files: &[Value]) -> bool
+    ensures { result ≡ list_any has_wrong_sources (map view files.now) }
 {
-    if files.len() > MAX_FILES {
-        Err(DocFault::TooManyFiles)
-    } else {
-        Ok(())
-    }
-}
-
-/// Each file is an object.
-pub fn check_objects(files: &[Value]) -> Result<(), DocFault>
-    ensures { result ≡ refuse_if (list_any is_no_object (map view files.now)) DocFault.FileNotObject }
-{
-    for file in files {
-        if !is_object(file) {
-            return Err(DocFault::FileNotObject);
-        }
-    }
-    Ok(())
-}
-
-/// Each file has a list of 1 to 16 texts as its sources.
-pub fn check_sources(files: &[Value]) -> Result<(), DocFault>
-    ensures { result ≡ refuse_if (list_any has_sources_wrong (map view files.now)) DocFault.SourcesWrong }
-{
-    for file in files {
-        if has_wrong_sources(file) {
-            return Err(DocFault::SourcesWrong);
-        }
-    }
-    Ok(())
+    files.iter().any(|file| has_wrong_sources(file))
 }
 
 #[tactic(auto, unfolding(crate::specs::Fields::has_wrong_sources))]
 fn has_wrong_sources(file: &Value) -> bool
-    ensures { result ≡ has_sources_wrong (view file.now) }
+    ensures { result ≡ has_wrong_sources (view file.now) }
 {
     !has_texts(file, "sources", 1, MAX_SOURCES)
 }
 
-/// Each file has a list of one text as its destinations.
-pub fn check_destinations(files: &[Value]) -> Result<(), DocFault>
-    ensures { result ≡ refuse_if (list_any has_destinations_wrong (map view files.now)) DocFault.DestinationsWrong }
+/// Whether some file has no list of one text as its destinations.
+pub fn some_has_wrong_destinations(files: &[Value]) -> bool
+    ensures { result ≡ list_any has_wrong_destinations (map view files.now) }
 {
-    for file in files {
-        if has_wrong_destinations(file) {
-            return Err(DocFault::DestinationsWrong);
-        }
-    }
-    Ok(())
+    files.iter().any(|file| has_wrong_destinations(file))
 }
 
 #[tactic(auto, unfolding(crate::specs::Fields::has_wrong_destinations))]
 fn has_wrong_destinations(file: &Value) -> bool
-    ensures { result ≡ has_destinations_wrong (view file.now) }
+    ensures { result ≡ has_wrong_destinations (view file.now) }
 {
     !has_texts(file, "destinations", 1, 1)
 }
 
-/// A file's size is a whole number of its range.
-pub fn check_filesizes(files: &[Value]) -> Result<(), DocFault>
-    ensures { result ≡ refuse_if (list_any has_filesize_wrong (map view files.now)) DocFault.BadFilesize }
+/// Whether some file's size is no whole number of its range, in bytes.
+pub fn some_has_bad_filesize(files: &[Value]) -> bool
+    ensures { result ≡ list_any has_bad_filesize (map view files.now) }
 {
-    for file in files {
-        if has_bad_filesize(file) {
-            return Err(DocFault::BadFilesize);
-        }
-    }
-    Ok(())
+    files.iter().any(|file| has_bad_filesize(file))
 }
 
 #[tactic(auto, unfolding(crate::specs::Fields::has_bad_filesize))]
 fn has_bad_filesize(file: &Value) -> bool
-    ensures { result ≡ has_filesize_wrong (view file.now) }
+    ensures { result ≡ has_bad_filesize (view file.now) }
 {
     is_outside(field(file, "filesize"), 0, MAX_SIZE)
 }
@@ -109,26 +66,21 @@ fn has_bad_filesize(file: &Value) -> bool
 /// The size that a file is to have, in bytes; 0 where any will do.
 #[tactic(auto, unfolding(crate::specs::Fields::size_of))]
 pub fn size_of(file: &Value) -> u64
-    ensures { result ≡ size_in (view file.now) }
+    ensures { result ≡ size_of (view file.now) }
 {
     natural_or(field(file, "filesize"), 0)
 }
 
-/// Each file's checksum is one.
-fn check_checksums(files: &[Value]) -> Result<(), DocFault>
-    ensures { result ≡ refuse_if (list_any has_checksum_wrong (map view files.now)) DocFault.BadChecksum }
+/// Whether some file's checksum is none.
+pub fn some_has_bad_checksum(files: &[Value]) -> bool
+    ensures { result ≡ list_any has_bad_checksum (map view files.now) }
 {
-    for file in files {
-        if has_bad_checksum(file) {
-            return Err(DocFault::BadChecksum);
-        }
-    }
-    Ok(())
+    files.iter().any(|file| has_bad_checksum(file))
 }
 
 #[tactic(auto, unfolding(crate::specs::Fields::has_bad_checksum))]
 fn has_bad_checksum(file: &Value) -> bool
-    ensures { result ≡ has_checksum_wrong (view file.now) }
+    ensures { result ≡ has_bad_checksum (view file.now) }
 {
     match read_checksum(file) {
         Checksum::Malformed => true,
@@ -136,47 +88,20 @@ fn has_bad_checksum(file: &Value) -> bool
     }
 }
 
-/// Each file's checksum is of MD5.
-fn check_algorithms(files: &[Value]) -> Result<(), DocFault>
-    ensures { result ≡ refuse_if (list_any has_algorithm_wrong (map view files.now)) DocFault.OtherAlgorithm }
+/// Whether some file's checksum is of another algorithm than MD5.
+pub fn some_has_other_algorithm(files: &[Value]) -> bool
+    ensures { result ≡ list_any has_other_algorithm (map view files.now) }
 {
-    for file in files {
-        if has_other_algorithm(file) {
-            return Err(DocFault::OtherAlgorithm);
-        }
-    }
-    Ok(())
+    files.iter().any(|file| has_other_algorithm(file))
 }
 
 #[tactic(auto, unfolding(crate::specs::Fields::has_other_algorithm))]
 fn has_other_algorithm(file: &Value) -> bool
-    ensures { result ≡ has_algorithm_wrong (view file.now) }
+    ensures { result ≡ has_other_algorithm (view file.now) }
 {
     match read_checksum(file) {
         Checksum::Other => true,
         Checksum::NotGiven | Checksum::Malformed | Checksum::Md5(_) => false,
-    }
-}
-
-/// Where verification is asked for, each file's checksum is one.
-pub fn check_wanted_checksums(verified: bool, files: &[Value]) -> Result<(), DocFault>
-    ensures { result ≡ refuse_if (verified && list_any has_checksum_wrong (map view files.now)) DocFault.BadChecksum }
-{
-    if verified {
-        check_checksums(files)
-    } else {
-        Ok(())
-    }
-}
-
-/// Where verification is asked for, each file's checksum is of MD5.
-pub fn check_wanted_algorithms(verified: bool, files: &[Value]) -> Result<(), DocFault>
-    ensures { result ≡ refuse_if (verified && list_any has_algorithm_wrong (map view files.now)) DocFault.OtherAlgorithm }
-{
-    if verified {
-        check_algorithms(files)
-    } else {
-        Ok(())
     }
 }
 
@@ -194,21 +119,16 @@ pub fn wanted_digest(verified: bool, file: &Value) -> Option<[u8; 16]>
     }
 }
 
-/// Each file's strategy is one.
-pub fn check_strategies(files: &[Value]) -> Result<(), DocFault>
-    ensures { result ≡ refuse_if (list_any has_strategy_wrong (map view files.now)) DocFault.BadStrategy }
+/// Whether some file's strategy is none.
+pub fn some_has_bad_strategy(files: &[Value]) -> bool
+    ensures { result ≡ list_any has_bad_strategy (map view files.now) }
 {
-    for file in files {
-        if has_bad_strategy(file) {
-            return Err(DocFault::BadStrategy);
-        }
-    }
-    Ok(())
+    files.iter().any(|file| has_bad_strategy(file))
 }
 
 #[tactic(auto, unfolding(crate::specs::Fields::has_bad_strategy))]
 fn has_bad_strategy(file: &Value) -> bool
-    ensures { result ≡ has_strategy_wrong (view file.now) }
+    ensures { result ≡ has_bad_strategy (view file.now) }
 {
     match field(file, "selection_strategy") {
         Some(strategy) => !(is_this_text(strategy, "auto") || is_this_text(strategy, "orderly")),
@@ -219,7 +139,7 @@ fn has_bad_strategy(file: &Value) -> bool
 /// The strategy of a job: that of its first file.
 #[tactic(auto, unfolding(crate::specs::Fields::strategy_of))]
 pub fn strategy_of(files: &[Value]) -> Strategy
-    ensures { result ≡ strategy_of_job (map view files.now) }
+    ensures { result ≡ strategy_of (map view files.now) }
 {
     match files {
         [] => Strategy::Auto,
@@ -229,7 +149,7 @@ pub fn strategy_of(files: &[Value]) -> Strategy
 
 #[tactic(auto, unfolding(crate::specs::Fields::file_strategy))]
 fn file_strategy(file: &Value) -> Strategy
-    ensures { result ≡ strategy_of_file (view file.now) }
+    ensures { result ≡ file_strategy (view file.now) }
 {
     match field(file, "selection_strategy") {
         Some(strategy) => {
@@ -243,29 +163,24 @@ fn file_strategy(file: &Value) -> Strategy
     }
 }
 
-/// Each file's activity is the name of one.
-pub fn check_activities(files: &[Value]) -> Result<(), DocFault>
-    ensures { result ≡ refuse_if (list_any has_activity_wrong (map view files.now)) DocFault.BadActivity }
+/// Whether some file's activity is the name of none.
+pub fn some_has_bad_activity(files: &[Value]) -> bool
+    ensures { result ≡ list_any has_bad_activity (map view files.now) }
 {
-    for file in files {
-        if has_bad_activity(file) {
-            return Err(DocFault::BadActivity);
-        }
-    }
-    Ok(())
+    files.iter().any(|file| has_bad_activity(file))
 }
 
 #[tactic(auto, unfolding(crate::specs::Fields::has_bad_activity))]
 fn has_bad_activity(file: &Value) -> bool
-    ensures { result ≡ has_activity_wrong (view file.now) }
+    ensures { result ≡ has_bad_activity (view file.now) }
 {
     match field(file, "activity") {
-        Some(activity) => !is_activity_name(activity),
+        Some(activity) => !is_activity(activity),
         None => false,
     }
 }
 
-fn is_activity_name(value: &Value) -> bool
+fn is_activity(value: &Value) -> bool
     ensures { result ≡ is_activity (view value.now) }
 {
     match value.as_str() {
@@ -277,47 +192,31 @@ fn is_activity_name(value: &Value) -> bool
 /// The activity that a file belongs to.
 #[tactic(auto, unfolding(crate::specs::Fields::activity_of))]
 pub fn activity_of(file: &Value) -> &str
-    ensures { result.now ≡ activity_in (view file.now) }
+    ensures { result.now ≡ activity_of (view file.now) }
 {
     match text_of(field(file, "activity")) {
         Some(activity) => {
             if activity.is_empty() {
-                "default"
+                DEFAULT_ACTIVITY
             } else {
                 activity
             }
         }
-        None => "default",
+        None => DEFAULT_ACTIVITY,
     }
 }
 
 /// Whether a file has two sources or more.
 #[tactic(auto, unfolding(crate::specs::Fields::has_replicas))]
 fn has_replicas(file: &Value) -> bool
-    ensures { result ≡ has_two_sources (view file.now) }
+    ensures { result ≡ has_replicas (view file.now) }
 {
     list_under(file, "sources").len() > 1
 }
 
 /// Whether some file has two sources or more.
 pub fn some_has_replicas(files: &[Value]) -> bool
-    ensures { result ≡ list_any has_two_sources (map view files.now) }
+    ensures { result ≡ list_any has_replicas (map view files.now) }
 {
-    for file in files {
-        if has_replicas(file) {
-            return true;
-        }
-    }
-    false
-}
-
-/// No file has replicas among several files.
-pub fn check_replicas(files: &[Value]) -> Result<(), DocFault>
-    ensures { result ≡ refuse_if (list_any has_two_sources (map view files.now) && nat_lt 1 (length (map view files.now))) DocFault.ReplicaManyFiles }
-{
-    if some_has_replicas(files) && files.len() > 1 {
-        Err(DocFault::ReplicaManyFiles)
-    } else {
-        Ok(())
-    }
+    files.iter().any(|file| has_replicas(file))
 }

@@ -1,16 +1,18 @@
 //! A body as a new job, or the least rule that it breaks; and the priority that another body asks for.
 //! Rules first, job after: JSON, shape, URLs, places, files, parameters, kind; then the job is built, field by field, from what the rules keep.
 //! So each rule of a `NewJob` follows from rules that were asked (`proofs/JobRules.antt`). `specs/Documents.antt` is the whole definition.
-//! Called by the routes. It takes no more time than the document is long, but for a comparison of each place with each endpoint.
-ghost use Rattle.std.specs.Prelude.{◌≡◌, ◌⊎◌, ◌≤◌, ◌++◌, length, map, option_map, false, Ok, OnOk, IfOk};
+//! `read_job` is called by fts_top and fts_machine_trial; `read_priority` waits for its caller, as no request changes a priority yet.
+//! Reading takes no more time than the document is long, but for a comparison of each place with each endpoint.
+ghost use Rattle.std.specs.Prelude.{◌≡◌, ◌⊎◌, ◌≤◌, ◌++◌, length, map, option_map, false, None, OnOk, IfOk};
 ghost use Rattle.serde_json.specs.View.{view};
 ghost use Rattle.fts_tables.specs.declared.limits.TheConstants.{MAX_FILES};
 ghost use Rattle.fts_jobdoc.specs.Json.{files_of};
 ghost use Rattle.fts_jobdoc.specs.Fields.{has_bad_retry, retry_of, has_bad_priority, priority_in, sid_in};
-ghost use Rattle.fts_jobdoc.specs.Checks.{Gives, unless_refused};
+ghost use Rattle.fts_tables.specs.FirstFault.{first_fault, unless};
+ghost use Rattle.fts_jobdoc.specs.Checks.{Gives};
 ghost use Rattle.fts_jobdoc.specs.Ends.{ends_of};
-ghost use Rattle.fts_jobdoc.specs.Ids.{sid_id as id_of};
-ghost use Rattle.fts_jobdoc.specs.Documents.{job_of, job_in as job_of_document, priority_of, rules_of, new_job, new_file, new_files, files_from, kind_of as kind_in};
+ghost use Rattle.fts_jobdoc.specs.Ids.{sid_id};
+ghost use Rattle.fts_jobdoc.specs.Documents.{job_of, job_in, priority_of, rules_of, new_job, new_file, new_files, files_from, kind_of};
 
 use crate::ends::{FileEnds, read_all_ends};
 use crate::files::{activity_of, size_of, some_has_replicas, strategy_of, wanted_digest};
@@ -18,6 +20,7 @@ use crate::json::{list_under, natural_or, param, read_value};
 use crate::params::{is_set, is_verified, read_delay, sid_of};
 use crate::rules::{check_later, check_priority_document, check_shape};
 use crate::{DocFault, sid_id};
+use fts_tables::limits::DEFAULT_PRIORITY;
 use fts_tables::{Items, JobKind, Label, Memory, NewFile, NewJob, Place, Settings};
 use serde_json::Value;
 use std::alloc::Global;
@@ -43,7 +46,7 @@ pub fn read_priority(alloc: Global, body: &[u8]) -> Result<u32, DocFault>
 
 /// The job of a document, or the least rule that it breaks.
 fn job_in(alloc: Global, document: &Value, settings: &Settings) -> Result<NewJob, DocFault>
-    ensures { Gives result (job_of_document (view document.now) settings.now) }
+    ensures { Gives result (job_in (view document.now) settings.now) }
 {
     let files = list_under(document, "files");
     let ends = check_all(alloc, document, files, settings)?;
@@ -59,7 +62,7 @@ fn check_all(
     settings: &Settings,
 ) -> Result<Items<FileEnds>, DocFault>
     requires { map view files.now ≡ files_of (view document.now) }
-    ensures { Gives result (unless_refused (rules_of (view document.now) settings.now) (map ends_of (map view files.now))) }
+    ensures { Gives result (unless (first_fault (rules_of (view document.now) settings.now)) (map ends_of (map view files.now))) }
 {
     check_shape(document, files)?;
     let ends = read_all_ends(alloc, files)?;
@@ -75,7 +78,7 @@ fn make_job(
     files: &[Value],
     ends: &[FileEnds],
 ) -> Result<NewJob, Memory>
-    requires kept { rules_of (view document.now) settings.now ≡ Ok tt }
+    requires kept { first_fault (rules_of (view document.now) settings.now) ≡ None }
     requires files { map view files.now ≡ files_of (view document.now) }
     requires ends { ends.now ≡ map ends_of (map view files.now) }
     ensures { IfOk result (λ job. job ≡ new_job (view document.now) settings.now) }
@@ -95,7 +98,7 @@ fn make_job(
 
 /// The id that the document asks for.
 fn job_id(document: &Value, settings: &Settings) -> Option<u128>
-    ensures { result ≡ option_map (id_of settings.now.vo) (sid_in (view document.now)) }
+    ensures { result ≡ option_map (sid_id settings.now.vo) (sid_in (view document.now)) }
 {
     match sid_of(document) {
         Some(sid) => Some(sid_id(settings.vo.as_str(), sid)),
@@ -106,7 +109,7 @@ fn job_id(document: &Value, settings: &Settings) -> Option<u128>
 #[tactic(auto, unfolding(crate::specs::Documents::kind_of))]
 fn kind_of(document: &Value, files: &[Value]) -> JobKind
     requires { map view files.now ≡ files_of (view document.now) }
-    ensures { result ≡ kind_in (view document.now) }
+    ensures { result ≡ kind_of (view document.now) }
 {
     if is_set(document, "multihop") {
         JobKind::Multihop
@@ -123,7 +126,7 @@ fn priority_value(document: &Value) -> u32
     requires { has_bad_priority (view document.now) ≡ false }
     ensures { result ≡ priority_in (view document.now) }
 {
-    natural_or(param(document, "priority"), 3) as u32
+    natural_or(param(document, "priority"), DEFAULT_PRIORITY as u64) as u32
 }
 
 /// The retries, at most `MAX_RETRY`; -1 means none.

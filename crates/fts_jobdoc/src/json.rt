@@ -5,7 +5,7 @@ ghost use Rattle.std.specs.Prelude.{◌≡◌, ◌⊎◌, Some, None, IfOk, IfEr
 ghost use Rattle.std.specs.List.{list_all};
 ghost use Rattle.serde_json.specs.Find.{as_str};
 ghost use Rattle.serde_json.specs.View.{view};
-ghost use Rattle.fts_jobdoc.specs.Json.{value_of, field as field_of, param as param_of, list_under as list_of_key, has_texts as has_texts_under, is_this_text as is_the_text, is_on as is_true, is_natural_within, is_minus_one as is_below_zero_by_one, fails, natural_or as natural_or_default, is_object as is_an_object, is_text as is_a_text};
+ghost use Rattle.fts_jobdoc.specs.Json.{value_of, field, param, list_under, has_texts, is_this_text, is_on, is_natural_within, is_minus_one, fails, natural_or, is_object, is_text};
 
 use crate::DocFault;
 use serde_json::Value;
@@ -31,7 +31,7 @@ pub fn read_value(alloc: Global, body: &[u8]) -> Result<Value, DocFault>
 /// What stands under a key of a value, where it isn't null.
 #[tactic(auto, unfolding(crate::specs::Json::field))]
 pub fn field<'a>(value: &'a Value, key: &str) -> Option<&'a Value>
-    ensures { option_map (λ found. view found.now) result ≡ field_of key.now (view value.now) }
+    ensures { option_map (λ found. view found.now) result ≡ field key.now (view value.now) }
 {
     let found = value.get(key)?;
     if found.is_null() { None } else { Some(found) }
@@ -40,7 +40,7 @@ pub fn field<'a>(value: &'a Value, key: &str) -> Option<&'a Value>
 /// What stands under a key of the document's `params`.
 #[tactic(auto, unfolding(crate::specs::Json::param))]
 pub fn param<'a>(document: &'a Value, key: &str) -> Option<&'a Value>
-    ensures { option_map (λ found. view found.now) result ≡ param_of key.now (view document.now) }
+    ensures { option_map (λ found. view found.now) result ≡ param key.now (view document.now) }
 {
     field(field(document, "params")?, key)
 }
@@ -48,7 +48,7 @@ pub fn param<'a>(document: &'a Value, key: &str) -> Option<&'a Value>
 /// The items of the list under a key, and none where no list is there.
 #[tactic(auto, unfolding(crate::specs::Json::list_under))]
 pub fn list_under<'a>(value: &'a Value, key: &str) -> &'a [Value]
-    ensures { map view result.now ≡ list_of_key key.now (view value.now) }
+    ensures { map view result.now ≡ list_under key.now (view value.now) }
 {
     let Some(found) = field(value, key) else {
         return &[];
@@ -61,7 +61,7 @@ pub fn list_under<'a>(value: &'a Value, key: &str) -> &'a [Value]
 
 /// Whether a value is an object.
 pub fn is_object(value: &Value) -> bool
-    ensures { result ≡ is_an_object (view value.now) }
+    ensures { result ≡ is_object (view value.now) }
 {
     value.is_object()
 }
@@ -69,21 +69,16 @@ pub fn is_object(value: &Value) -> bool
 /// Whether a list of texts alone is under a key, `low` to `high` of them.
 #[tactic(auto, unfolding(crate::specs::Json::has_texts))]
 pub fn has_texts(value: &Value, key: &str, low: usize, high: usize) -> bool
-    ensures { result ≡ has_texts_under low high key.now (view value.now) }
+    ensures { result ≡ has_texts low high key.now (view value.now) }
 {
     let list = list_under(value, key);
     low <= list.len() && list.len() <= high && are_texts(list)
 }
 
 fn are_texts(list: &[Value]) -> bool
-    ensures { result ≡ list_all is_a_text (map view list.now) }
+    ensures { result ≡ list_all is_text (map view list.now) }
 {
-    for item in list {
-        if !item.is_string() {
-            return false;
-        }
-    }
-    true
+    list.iter().all(|item| item.is_string())
 }
 
 /// The text that is found.
@@ -95,7 +90,7 @@ pub fn text_of<'a>(found: Option<&'a Value>) -> Option<&'a str>
 
 /// Whether a value is this text.
 pub fn is_this_text(value: &Value, text: &str) -> bool
-    ensures { result ≡ is_the_text text.now (view value.now) }
+    ensures { result ≡ is_this_text text.now (view value.now) }
 {
     match value.as_str() {
         Some(found) => found == text,
@@ -105,7 +100,7 @@ pub fn is_this_text(value: &Value, text: &str) -> bool
 
 /// Whether what is found is the JSON value true.
 pub fn is_on(found: Option<&Value>) -> bool
-    ensures { result ≡ is_true (option_map (λ value. view value.now) found.entry) }
+    ensures { result ≡ is_on (option_map (λ value. view value.now) found.entry) }
 {
     match found {
         Some(value) => value.as_bool().unwrap_or(false),
@@ -135,7 +130,7 @@ pub fn is_outside(found: Option<&Value>, low: u64, high: u64) -> bool
 
 /// Whether a value is the whole number -1.
 pub fn is_minus_one(value: &Value) -> bool
-    ensures { result ≡ is_below_zero_by_one (view value.now) }
+    ensures { result ≡ is_minus_one (view value.now) }
 {
     match value.as_i64() {
         Some(number) => number == -1,
@@ -145,7 +140,7 @@ pub fn is_minus_one(value: &Value) -> bool
 
 /// The whole number that is found, or what stands for one that is absent.
 pub fn natural_or(found: Option<&Value>, number: u64) -> u64
-    ensures { result ≡ natural_or_default number (option_map (λ value. view value.now) found.entry) }
+    ensures { result ≡ natural_or number (option_map (λ value. view value.now) found.entry) }
 {
     match found {
         Some(value) => value.as_u64().unwrap_or(number),

@@ -1,7 +1,7 @@
 //! Job documents: a request's body, read as a new job or refused by the least broken of 24 rules; the priority that another body asks
 //! for; and the id that a client's own id stands for. JSON (RFC 8259) is what `serde_json` reads, a URL what `fts_joburl` reads.
 //! Each answer is one function of the body and the settings: `job_of`, `priority_of`, `sid_id` (`specs/Documents.antt`, `specs/Ids.antt`).
-//! Called by the routes. Nothing here knows of HTTP, or of the rows that a job becomes.
+//! Called by fts_top, for the body of a submission, and by fts_machine_trial. Nothing here knows of HTTP, or of the rows that a job becomes.
 #![tactic(auto)]
 
 #[cfg(test)]

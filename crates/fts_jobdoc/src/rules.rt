@@ -1,93 +1,137 @@
 //! The rules in the order of the table, from rule 2 on: the first that is broken is the answer, since each is asked only after the lesser ones.
-//! A group of rules is one function, whose result is its definition in `specs/Documents.antt`. URLs are read in between, as rule 8.
-ghost use Rattle.std.specs.Prelude.{◌≡◌, map};
+//! A group of rules is one function, a line a rule, whose result is the first fault of its list in `specs/Documents.antt`.
+//! URLs are read between the shape and what is behind it, as rule 8. Called by `job`.
+ghost use Rattle.std.specs.Prelude.{◌≡◌, map, option_map};
 ghost use Rattle.serde_json.specs.View.{view};
-ghost use Rattle.fts_jobdoc.specs.Documents.{shape_rule, ends_rule, files_rule, params_rule, kind_rule, later_rule, priority_rule, has_wrong_hops};
-ghost use Rattle.fts_jobdoc.specs.Checks.{refuse_if};
-ghost use Rattle.fts_jobdoc.specs.Fields.{is_no_object};
+ghost use Rattle.fts_tables.specs.FirstFault.{fault_if, first_fault, unless};
+ghost use Rattle.fts_jobdoc.specs.Documents.{shape_rules, ends_rules, files_rules, params_rules, kind_rules, later_rules, priority_rules, has_replicas_among, has_wrong_hops};
+ghost use Rattle.fts_jobdoc.specs.Fields.{unoffered_in};
 
 use crate::DocFault;
-use crate::ends::{FileEnds, breaks_chain, check_distinct, check_endpoints};
+use crate::ends::{FileEnds, breaks_chain, some_has_same_url, some_has_unknown_endpoint};
 use crate::files::{
-    check_activities, check_count, check_destinations, check_filesizes, check_objects,
-    check_replicas, check_some, check_sources, check_strategies, check_wanted_algorithms,
-    check_wanted_checksums, some_has_replicas,
+    some_has_bad_activity, some_has_bad_checksum, some_has_bad_filesize, some_has_bad_strategy,
+    some_has_other_algorithm, some_has_replicas, some_has_wrong_destinations,
+    some_has_wrong_sources, some_is_no_object,
 };
 use crate::json::is_object;
 use crate::params::{
-    check_delay, check_offered, check_params, check_priority, check_priority_given, check_retry,
-    check_sid, check_verify, is_set, is_verified,
+    has_bad_delay, has_bad_priority, has_bad_retry, has_bad_sid, has_bad_verify, has_wrong_params,
+    is_set, is_verified, lacks_priority, unoffered_in,
 };
 use fts_tables::Settings;
+use fts_tables::limits::MAX_FILES;
 use serde_json::Value;
 
-/// The document's shape, rules 2 to 7.
-#[tactic(auto, unfolding(crate::specs::Documents::shape_rule))]
-pub fn check_shape(document: &Value, files: &[Value]) -> Result<(), DocFault>
-    ensures { result ≡ shape_rule (view document.now) (map view files.now) }
+/// A rule's fault, where the rule is broken.
+fn refuse_if(broken: bool, fault: DocFault) -> Result<(), DocFault>
+    ensures { result ≡ unless (fault_if broken fault) tt }
 {
-    check_object(document)?;
-    check_some(files)?;
-    check_count(files)?;
-    check_objects(files)?;
-    check_sources(files)?;
-    check_destinations(files)
+    if broken { Err(fault) } else { Ok(()) }
 }
 
-/// The document is an object.
-fn check_object(document: &Value) -> Result<(), DocFault>
-    ensures { result ≡ refuse_if (is_no_object (view document.now)) DocFault.NotObject }
+/// The document's shape, rules 2 to 7.
+#[tactic(auto, unfolding(crate::specs::Documents::shape_rules))]
+pub fn check_shape(document: &Value, files: &[Value]) -> Result<(), DocFault>
+    ensures { result ≡ unless (first_fault (shape_rules (view document.now) (map view files.now))) tt }
 {
-    if is_object(document) {
-        Ok(())
-    } else {
-        Err(DocFault::NotObject)
-    }
+    refuse_if(!is_object(document), DocFault::NotObject)?;
+    refuse_if(files.is_empty(), DocFault::NoFiles)?;
+    refuse_if(files.len() > MAX_FILES, DocFault::TooManyFiles)?;
+    refuse_if(some_is_no_object(files), DocFault::FileNotObject)?;
+    refuse_if(some_has_wrong_sources(files), DocFault::SourcesWrong)?;
+    refuse_if(
+        some_has_wrong_destinations(files),
+        DocFault::DestinationsWrong,
+    )
 }
 
 /// Where the files come from and go to, rules 9 and 10.
-#[tactic(auto, unfolding(crate::specs::Documents::ends_rule))]
+#[tactic(auto, unfolding(crate::specs::Documents::ends_rules))]
 fn check_ends(settings: &Settings, ends: &[FileEnds]) -> Result<(), DocFault>
-    ensures { result ≡ ends_rule settings.now ends.now }
+    ensures { result ≡ unless (first_fault (ends_rules settings.now ends.now)) tt }
 {
-    check_endpoints(settings, ends)?;
-    check_distinct(ends)
+    refuse_if(
+        some_has_unknown_endpoint(settings, ends),
+        DocFault::UnknownEndpoint,
+    )?;
+    refuse_if(some_has_same_url(ends), DocFault::SameUrl)
 }
 
 /// The other fields of the files, rules 11 to 15.
-#[tactic(auto, unfolding(crate::specs::Documents::files_rule))]
+#[tactic(auto, unfolding(crate::specs::Documents::files_rules))]
 fn check_files(verified: bool, files: &[Value]) -> Result<(), DocFault>
-    ensures { result ≡ files_rule verified (map view files.now) }
+    ensures { result ≡ unless (first_fault (files_rules verified (map view files.now))) tt }
 {
-    check_filesizes(files)?;
-    check_wanted_checksums(verified, files)?;
-    check_wanted_algorithms(verified, files)?;
-    check_strategies(files)?;
-    check_activities(files)
+    refuse_if(some_has_bad_filesize(files), DocFault::BadFilesize)?;
+    refuse_if(
+        verified && some_has_bad_checksum(files),
+        DocFault::BadChecksum,
+    )?;
+    refuse_if(
+        verified && some_has_other_algorithm(files),
+        DocFault::OtherAlgorithm,
+    )?;
+    refuse_if(some_has_bad_strategy(files), DocFault::BadStrategy)?;
+    refuse_if(some_has_bad_activity(files), DocFault::BadActivity)
 }
 
 /// The job's parameters, rules 16 to 21.
-#[tactic(auto, unfolding(crate::specs::Documents::params_rule))]
+#[tactic(auto, unfolding(crate::specs::Documents::params_rules))]
 fn check_parameters(document: &Value) -> Result<(), DocFault>
-    ensures { result ≡ params_rule (view document.now) }
+    ensures { result ≡ unless (first_fault (params_rules (view document.now))) tt }
 {
-    check_params(document)?;
-    check_retry(document)?;
-    check_delay(document)?;
-    check_priority(document)?;
-    check_verify(document)?;
+    refuse_if(has_wrong_params(document), DocFault::ParamsNotObject)?;
+    refuse_if(has_bad_retry(document), DocFault::BadRetry)?;
+    refuse_if(has_bad_delay(document), DocFault::BadDelay)?;
+    refuse_if(has_bad_priority(document), DocFault::BadPriority)?;
+    refuse_if(has_bad_verify(document), DocFault::BadVerify)?;
     check_offered(document)
 }
 
+/// Nothing is asked for that isn't offered, rule 21.
+fn check_offered(document: &Value) -> Result<(), DocFault>
+    ensures { result ≡ unless (option_map DocFault.NotOffered (unoffered_in (view document.now))) tt }
+{
+    match unoffered_in(document) {
+        Some(field) => Err(DocFault::NotOffered { field }),
+        None => Ok(()),
+    }
+}
+
+/// The job's kind and its id, rules 22 to 24.
+#[tactic(auto, unfolding(crate::specs::Documents::kind_rules))]
+fn check_kind(document: &Value, files: &[Value], ends: &[FileEnds]) -> Result<(), DocFault>
+    ensures { result ≡ unless (first_fault (kind_rules (view document.now) (map view files.now) ends.now)) tt }
+{
+    refuse_if(has_replicas_among(files), DocFault::ReplicaManyFiles)?;
+    refuse_if(
+        has_wrong_hops(document, files, ends),
+        DocFault::MultihopShape,
+    )?;
+    refuse_if(has_bad_sid(document), DocFault::BadSid)
+}
+
+fn has_replicas_among(files: &[Value]) -> bool
+    ensures { result ≡ has_replicas_among (map view files.now) }
+{
+    some_has_replicas(files) && files.len() > 1
+}
+
+fn has_wrong_hops(document: &Value, files: &[Value], ends: &[FileEnds]) -> bool
+    ensures { result ≡ has_wrong_hops (view document.now) (map view files.now) ends.now }
+{
+    is_set(document, "multihop") && (some_has_replicas(files) || breaks_chain(ends))
+}
+
 /// The rules behind the one on URLs, 9 to 24.
-#[tactic(auto, unfolding(crate::specs::Documents::later_rule))]
 pub fn check_later(
     document: &Value,
     settings: &Settings,
     files: &[Value],
     ends: &[FileEnds],
 ) -> Result<(), DocFault>
-    ensures { result ≡ later_rule (view document.now) settings.now (map view files.now) ends.now }
+    ensures { result ≡ unless (first_fault (later_rules (view document.now) settings.now (map view files.now) ends.now)) tt }
 {
     check_ends(settings, ends)?;
     check_files(is_verified(document), files)?;
@@ -95,33 +139,12 @@ pub fn check_later(
     check_kind(document, files, ends)
 }
 
-/// The job's kind and its id, rules 22 to 24.
-#[tactic(auto, unfolding(crate::specs::Documents::kind_rule))]
-fn check_kind(document: &Value, files: &[Value], ends: &[FileEnds]) -> Result<(), DocFault>
-    ensures { result ≡ kind_rule (view document.now) (map view files.now) ends.now }
-{
-    check_replicas(files)?;
-    check_multihop(document, files, ends)?;
-    check_sid(document)
-}
-
-/// The files of a multihop job are a chain.
-fn check_multihop(document: &Value, files: &[Value], ends: &[FileEnds]) -> Result<(), DocFault>
-    ensures { result ≡ refuse_if (has_wrong_hops (view document.now) (map view files.now) ends.now) DocFault.MultihopShape }
-{
-    if is_set(document, "multihop") && (some_has_replicas(files) || breaks_chain(ends)) {
-        Err(DocFault::MultihopShape)
-    } else {
-        Ok(())
-    }
-}
-
 /// The rules of a document that asks for another priority: 2, 16 and 19.
-#[tactic(auto, unfolding(crate::specs::Documents::priority_rule))]
+#[tactic(auto, unfolding(crate::specs::Documents::priority_rules))]
 pub fn check_priority_document(document: &Value) -> Result<(), DocFault>
-    ensures { result ≡ priority_rule (view document.now) }
+    ensures { result ≡ unless (first_fault (priority_rules (view document.now))) tt }
 {
-    check_object(document)?;
-    check_params(document)?;
-    check_priority_given(document)
+    refuse_if(!is_object(document), DocFault::NotObject)?;
+    refuse_if(has_wrong_params(document), DocFault::ParamsNotObject)?;
+    refuse_if(lacks_priority(document), DocFault::BadPriority)
 }

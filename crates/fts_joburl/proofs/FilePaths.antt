@@ -1,22 +1,21 @@
 -- What a URL without a fault names as its path is the path of a file.
-use Rattle.std.proofs.Common.{◌≡◌, ℕ, ◌+◌, ◌-◌, ◌<◌, ◌≤◌, Bool, true, false, List, [], ◌∷◌, ◌++◌, length, take, drop, get_or, refl, ap, sym, subst, ◌∙◌, ⊎_elim, length-append, arith, rules, tests}
-use Rattle.std.specs.Prelude.{codes, filter, not, ◌&&◌, ◌==◌, nat_eq, bytes_eq, All, cond}
+use Rattle.std.proofs.Common.{◌≡◌, ℕ, ◌+◌, ◌-◌, ◌≤◌, Bool, true, false, List, [], ◌∷◌, ◌++◌, length, take, drop, get_or, refl, ap, sym, subst, ◌∙◌, ⊎_elim, length-append, arith}
+use Rattle.std.specs.Prelude.{codes, filter, ◌==◌, nat_eq, bytes_eq, All}
 use Rattle.std.specs.List.{list_all, join_with_byte, onto_first, starts_with}
-use Rattle.std.proofs.lemmas.Bool.{and_from, and_parts, cases_Bool, cond-true, cond-false, ltb-false, le-leb, or_cases, true≢false, false_from_ne_true, not_from_false, not_from_true, and_right, both_ways}
-use Rattle.std.proofs.lemmas.Cmp.{nat_list_eq_equiv}
+use Rattle.std.proofs.lemmas.Bool.{and_from, and_parts, cases_Bool, cond-true, cond-false, le-leb, or_cases, true≢false, false_from_ne_true, not_from_false, not_from_true, and_right, both_ways}
 use Rattle.std.proofs.lemmas.List.{take-append-drop}
-use Rattle.std.proofs.lemmas.List.Folds.{list_all-append, list_all_at}
-use Rattle.std.proofs.lemmas.List.Sums.{AllPass-from_list_all}
+use Rattle.std.proofs.lemmas.List.Folds.{list_all_at}
 use Rattle.std.proofs.lemmas.List.Splits.{slice_split-cons_yes, slice_split-cons_no, slice_split_none, slice_split_at, join_with_byte-slice_split}
 use Rattle.std.proofs.lemmas.Slice.Eq.{bytes_eq-Decides}
 use Rattle.fts_tables.specs.declared.limits.TheConstants.{MAX_NAME_BYTES}
-use Rattle.fts_tables.specs.Names.{is_plain_byte, is_name_byte, is_segment, is_reserved, segments, is_path_key, IsPathKey}
+use Rattle.fts_tables.specs.Names.{is_plain_byte, is_name_byte, is_segment, is_reserved, segments, IsPathKey}
 use Rattle.fts_joburl.specs.Urls.{is_kept, kept_segments, begins_reserved, is_none}
 
 -- ---- the bytes of segments
 
 -- one more byte of a name, put before the first part
-named_onto_first : (byte : ℕ) (parts : List (List ℕ)) → is_name_byte byte ≡ true → list_all (list_all is_name_byte) parts ≡ true → list_all (list_all is_name_byte) (onto_first byte parts) ≡ true
+named_onto_first : (byte : ℕ) (parts : List (List ℕ)) → is_name_byte byte ≡ true → list_all (list_all is_name_byte) parts ≡ true
+    → list_all (list_all is_name_byte) (onto_first byte parts) ≡ true
 named_onto_first byte [] named others = and_from _ _ (and_from _ _ named refl) refl
 named_onto_first byte (part ∷ parts) named others =
     let both = and_parts (list_all is_name_byte part) (list_all (list_all is_name_byte) parts) others in
@@ -33,7 +32,8 @@ segments_are_named (byte ∷ path) plain =
     let both = and_parts (is_plain_byte byte) (list_all is_plain_byte path) plain in
     let others : list_all (list_all is_name_byte) (segments path) ≡ true = segments_are_named path both.1 in
     ⊎_elim (λ slash. subst (λ parts. list_all (list_all is_name_byte) parts ≡ true) (sym (slice_split-cons_yes (λ b. b == 0x2f) byte path slash)) others)
-    (λ no_slash. subst (λ parts. list_all (list_all is_name_byte) parts ≡ true) (sym (slice_split-cons_no (λ b. b == 0x2f) byte path no_slash)) (named_onto_first byte (segments path) (named_byte byte both.0 no_slash) others))
+    (λ no_slash. subst (λ parts. list_all (list_all is_name_byte) parts ≡ true) (sym (slice_split-cons_no (λ b. b == 0x2f) byte path no_slash))
+    (named_onto_first byte (segments path) (named_byte byte both.0 no_slash) others))
     (cases_Bool (byte == 0x2f))
 
 -- those that are kept are segments of a path
@@ -50,14 +50,16 @@ kept_are_segments (part ∷ parts) named =
 
 -- bytes of a name are no slashes
 no_slashes : (bytes : List ℕ) → list_all is_name_byte bytes ≡ true → All (λ b. (b == 0x2f) ≡ false) bytes
-no_slashes bytes named = λ k d below. false_from_ne_true _ (λ slash. both_ways _ (list_all_at is_name_byte bytes k d below (and_right (is_plain_byte (get_or bytes k d)) _ (not_from_true _ slash))) named)
+no_slashes bytes named = λ k d below. false_from_ne_true _
+    (λ slash. both_ways _ (list_all_at is_name_byte bytes k d below (and_right (is_plain_byte (get_or bytes k d)) _ (not_from_true _ slash))) named)
 
 -- a segment is of bytes of a name
 segment_is_named : (part : List ℕ) → is_segment part ≡ true → list_all is_name_byte part ≡ true
 segment_is_named part good = (and_parts (is_kept part) (list_all is_name_byte part) good).1
 
 -- joined segments have these segments
-segments_of_joined : (part : List ℕ) (parts : List (List ℕ)) → list_all is_segment (part ∷ parts) ≡ true → segments (join_with_byte 0x2f (part ∷ parts)) ≡ part ∷ parts
+segments_of_joined : (part : List ℕ) (parts : List (List ℕ)) → list_all is_segment (part ∷ parts) ≡ true → segments (join_with_byte 0x2f (part ∷ parts))
+    ≡ part ∷ parts
 segments_of_joined part [] good =
     let both = and_parts (is_segment part) true good in
     slice_split_none (λ b. b == 0x2f) part (no_slashes part (segment_is_named part both.0))
@@ -110,7 +112,8 @@ reserved_begins text reserved =
     (or_cases (bytes_eq text (codes ".fts")) (starts_with nat_eq text (codes ".fts/")) reserved)
 
 -- the path is one
-pub path_is_key : (path : List ℕ) → list_all is_plain_byte path ≡ true → length path ≤ MAX_NAME_BYTES → is_none (kept_segments path) ≡ false → begins_reserved (kept_segments path) ≡ false → IsPathKey (join_with_byte 0x2f (kept_segments path))
+pub path_is_key : (path : List ℕ) → list_all is_plain_byte path ≡ true → length path ≤ MAX_NAME_BYTES → is_none (kept_segments path) ≡ false
+    → begins_reserved (kept_segments path) ≡ false → IsPathKey (join_with_byte 0x2f (kept_segments path))
 path_is_key path plain short some free =
     let good : list_all is_segment (kept_segments path) ≡ true = kept_are_segments (segments path) (segments_are_named path plain) in
     let again : segments (join_with_byte 0x2f (kept_segments path)) ≡ kept_segments path = joined_again (kept_segments path) some good in

@@ -1,9 +1,10 @@
 //! The faults of a parsed URL: one function for each, and the first of them in their order.
-//! Each answers the test of its name in `specs/Urls.antt`.
+//! Each answers the test of its name in `specs/Urls.antt`, and the first that is broken is the answer (`first_fault`). Called by `read`.
 ghost use Rattle.std.specs.Prelude.{◌≡◌, ◌==◌, map};
 ghost use Rattle.std.specs.List.{list_all, list_any};
 ghost use Rattle.fts_tables.specs.Names.{is_plain_byte, is_name_byte};
-ghost use Rattle.fts_joburl.specs.Urls.{has_no_host, has_query, has_fragment, has_user, has_escape, is_none, is_too_long, begins_reserved, kept_segments, shared_fault, file_fault, endpoint_fault};
+ghost use Rattle.fts_tables.specs.FirstFault.{first_fault};
+ghost use Rattle.fts_joburl.specs.Urls.{has_user, has_escape, is_too_long, begins_reserved, kept_segments, shared_faults, file_faults, endpoint_faults};
 
 use crate::UrlFault;
 use crate::parts::host_text;
@@ -12,7 +13,7 @@ use url::Url;
 
 /// The first fault of those that a file's URL and an endpoint's can have, but for that of a text that is no URL.
 pub fn find_shared_fault(text: &str, url: &Url) -> Option<UrlFault>
-    ensures { result ≡ shared_fault text.now url.now }
+    ensures { result ≡ first_fault (shared_faults text.now url.now) }
 {
     if !url.has_host() {
         Some(UrlFault::NoHost)
@@ -32,7 +33,7 @@ pub fn find_shared_fault(text: &str, url: &Url) -> Option<UrlFault>
 /// The first of the others that a file's URL can have, with its segments.
 pub fn find_file_fault(url: &Url, segments: &[&str]) -> Option<UrlFault>
     requires { map (λ s. s.now) segments.now ≡ kept_segments url.now.path }
-    ensures { result ≡ file_fault url.now }
+    ensures { result ≡ first_fault (file_faults url.now) }
 {
     if segments.is_empty() {
         Some(UrlFault::NoPath)
@@ -48,7 +49,7 @@ pub fn find_file_fault(url: &Url, segments: &[&str]) -> Option<UrlFault>
 /// The first of the others that an endpoint's URL can have, with its segments.
 pub fn find_endpoint_fault(url: &Url, segments: &[&str]) -> Option<UrlFault>
     requires { map (λ s. s.now) segments.now ≡ kept_segments url.now.path }
-    ensures { result ≡ endpoint_fault url.now }
+    ensures { result ≡ first_fault (endpoint_faults url.now) }
 {
     if is_long(url) {
         Some(UrlFault::TooLong)

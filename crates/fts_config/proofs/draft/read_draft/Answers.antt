@@ -16,7 +16,8 @@ pub returns-in_err-links : goal.returns-in_err-links
 returns-in_err-links c =
     let p = err_from_is_err_and c.from_residual-in_err-links.result c.from_residual-in_err-links.ensures.1 in
     let storages = gives_good _ _ _ c.in_ok-endpoints.ensures in
-    rw (p.1, p.2) (gives_bad _ _ _ _ _ c.in_err-links.ensures (λ fault bad. behind_storages (view c.args.document.now) _ _ _ c.tables_of.ensures c.tables_of-2.ensures storages.0 bad))
+    rw (p.1, p.2) (gives_bad _ _ _ _ _ c.in_err-links.ensures
+    (λ fault bad. behind_storages (view c.args.document.now) _ _ _ c.tables_of.ensures c.tables_of-2.ensures storages.0 bad))
 
 pub returns : goal.returns
 returns c =
@@ -24,5 +25,7 @@ returns c =
     let links = gives_good _ _ _ c.in_ok-links.ensures in
     let weights = gives_good None _ _ c.in_ok-weights.ensures in
     let vo = gives_good None _ _ c.in_ok-vo.ensures in
-    let good : bad_url (view c.args.document.now) ≡ None = behind_storages (view c.args.document.now) _ _ _ c.tables_of.ensures c.tables_of-2.ensures storages.0 links.0 in
-    rw good (inl (ap Ok (draft_is (view c.args.document.now) _ _ _ _ _ _ _ _ (vo.1 ∙ c.text_or.ensures) c.number_or.ensures c.number_or-2.ensures c.tables_of.ensures c.tables_of-2.ensures storages.1 links.1 weights.1)))
+    let good : bad_url (view c.args.document.now) ≡ None = behind_storages (view c.args.document.now) _ _ _ c.tables_of.ensures c.tables_of-2.ensures
+    storages.0 links.0 in
+    rw good (inl (ap Ok (draft_is (view c.args.document.now) _ _ _ _ _ _ _ _ (vo.1 ∙ c.text_or.ensures) c.number_or.ensures c.number_or-2.ensures
+    c.tables_of.ensures c.tables_of-2.ensures storages.1 links.1 weights.1)))

@@ -9,4 +9,5 @@ use Rattle.fts_config.proofs.types.check_needed.Given as goal
 
 -- the keys that are left decide
 abbrev pub invariant-loop-key : goal.invariant-loop-key
-invariant-loop-key l = find (λ key. list_any (lacks key) (tables_with key (view l.document))) (drop l.key-index l.key-items) ≡ find (λ key. list_any (lacks key) (tables_with key (view l.document))) all_keys
+invariant-loop-key l = find (λ key. list_any (lacks key) (tables_with key (view l.document))) (drop l.key-index l.key-items)
+    ≡ find (λ key. list_any (lacks key) (tables_with key (view l.document))) all_keys

@@ -24,4 +24,5 @@ loop-file-preserved c =
 pub returns : goal.returns
 returns c =
     let nothing = drop_all c.loop-file.file-index c.args.files.now c.loop-file-test.false in
-    inl (all_ends_read-end c.loop-file.all _ (sym (ap (λ (values : List Value). extend c.loop-file.all (all_ends_read (map view values))) nothing) ∙ c.loop-file.invariant))
+    inl (all_ends_read-end c.loop-file.all _
+    (sym (ap (λ (values : List Value). extend c.loop-file.all (all_ends_read (map view values))) nothing) ∙ c.loop-file.invariant))

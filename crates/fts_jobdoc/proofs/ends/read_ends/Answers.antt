@@ -10,7 +10,8 @@ pub returns-in_err-sources : goal.returns-in_err-sources
 returns-in_err-sources c =
     let is : c.from_residual.result ≡ Err c.in_err-sources.field-0.0 = search rules in
     let file = view c.args.file.now in
-    rw is (ends_read-source (texts_under (codes "sources") file) (texts_under (codes "destinations") file) _ c.in_err-sources.field-0.0 c.in_err-sources.ensures)
+    rw is (ends_read-source (texts_under (codes "sources") file) (texts_under (codes "destinations") file) _ c.in_err-sources.field-0.0
+    c.in_err-sources.ensures)
 
 pub returns-in_err-dests : goal.returns-in_err-dests
 returns-in_err-dests c =

@@ -25,4 +25,5 @@ loop-item-preserved c =
 pub returns : goal.returns
 returns c =
     let nothing = drop_all c.loop-item.item-index c.args.list.now c.loop-item-test.false in
-    inl (places_read-end c.loop-item.places _ (sym (ap (λ items. extend c.loop-item.places (places_read (filter_map as_str (map view items)))) nothing) ∙ c.loop-item.invariant))
+    inl (places_read-end c.loop-item.places _
+    (sym (ap (λ items. extend c.loop-item.places (places_read (filter_map as_str (map view items)))) nothing) ∙ c.loop-item.invariant))

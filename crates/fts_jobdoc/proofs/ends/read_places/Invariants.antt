@@ -9,4 +9,5 @@ use Rattle.fts_jobdoc.proofs.ends.read_places.Given as goal
 
 -- the places so far, before those of the rest, are those of the whole
 abbrev pub invariant-loop-item : goal.invariant-loop-item
-invariant-loop-item l = extend l.places (places_read (filter_map as_str (map view (drop l.item-index l.list)))) ≡ places_read (filter_map as_str (map view l.list))
+invariant-loop-item l = extend l.places (places_read (filter_map as_str (map view (drop l.item-index l.list))))
+    ≡ places_read (filter_map as_str (map view l.list))

@@ -26,10 +26,32 @@ retry_value-requires c = (all_keep (view c.args.document.now) c.args.settings.no
 pub invariant_of-result : goal.invariant_of-result
 unfolding new_job
 invariant_of-result c =
-    rw (c.job_id.ensures, c.kind_of.ensures, c.strategy_of.ensures, c.priority_value.ensures, c.retry_value.ensures, c.read_delay.ensures, c.is_set.ensures, c.in_ok-made.ensures, c.is_verified.ensures, c.requires.files)
+    rw (
+      c.job_id.ensures,
+      c.kind_of.ensures,
+      c.strategy_of.ensures,
+      c.priority_value.ensures,
+      c.retry_value.ensures,
+      c.read_delay.ensures,
+      c.is_set.ensures,
+      c.in_ok-made.ensures,
+      c.is_verified.ensures,
+      c.requires.files,
+    )
     (lawful (view c.args.document.now) c.args.settings.now c.requires.kept)
 
 pub returns : goal.returns
 unfolding new_job
 returns c =
-    rw (c.job_id.ensures, c.kind_of.ensures, c.strategy_of.ensures, c.priority_value.ensures, c.retry_value.ensures, c.read_delay.ensures, c.is_set.ensures, c.in_ok-made.ensures, c.is_verified.ensures, c.requires.files) refl
+    rw (
+      c.job_id.ensures,
+      c.kind_of.ensures,
+      c.strategy_of.ensures,
+      c.priority_value.ensures,
+      c.retry_value.ensures,
+      c.read_delay.ensures,
+      c.is_set.ensures,
+      c.in_ok-made.ensures,
+      c.is_verified.ensures,
+      c.requires.files,
+    ) refl

@@ -1,5 +1,4 @@
 -- The join of the segments, by a byte.
-use Rattle.std.proofs.Common.{◌≡◌, IfOk, rules, string_bytes}
 use Rattle.fts_joburl.proofs.Joins.{joined_by_byte}
 use Rattle.fts_joburl.proofs.parts.join_by_slashes.Goals as goal
 

@@ -8,5 +8,6 @@ use Rattle.fts_joburl.proofs.parts.keep_segments.Goals as goal
 pub returns : goal.returns
 returns c = map_from_collect _ c.collect.ensures.ran
     (YieldsList-from_filter _ is_kept
-    (rw (← c.filter.ensures.source) at (YieldsList-from_str_split {s = c.split.result} 0x2f c.args.path.now (lit< tt) c.split.ensures.text c.split.ensures.has_more c.split.ensures.pattern))
+    (rw (← c.filter.ensures.source) at
+    (YieldsList-from_str_split {s = c.split.result} 0x2f c.args.path.now (lit< tt) c.split.ensures.text c.split.ensures.has_more c.split.ensures.pattern))
     c.filter.ensures.closure (λ x b q k. search (rules, tests)))

@@ -1,0 +1,14 @@
+-- A test of each file is one of its data.
+use Rattle.std.proofs.Common.{rules, tests}
+use Rattle.std.proofs.lemmas.Iterator.{YieldsList-from_slice}
+use Rattle.std.proofs.lemmas.Iterator.Search.{any_from_yields_List}
+use Rattle.serde_json.specs.View.{view}
+use Rattle.fts_jobdoc.specs.Fields.{has_other_algorithm}
+use Rattle.fts_jobdoc.proofs.JsonLemmas.{any_of_viewed}
+use Rattle.fts_jobdoc.proofs.files.some_has_other_algorithm.Goals as goal
+
+pub returns : goal.returns
+returns c =
+    let files = c.args.files.now in
+    rw (any_of_viewed has_other_algorithm view files)
+    (any_from_yields_List (λ file. has_other_algorithm (view file)) _ _ _ c.any.ensures.ran (YieldsList-from_slice files cc) (λ x b q k. search (rules, tests)))

@@ -1,0 +1,14 @@
+-- A test of each file is one of its data.
+use Rattle.std.proofs.Common.{rules, tests}
+use Rattle.std.proofs.lemmas.Iterator.{YieldsList-from_slice}
+use Rattle.std.proofs.lemmas.Iterator.Search.{any_from_yields_List}
+use Rattle.serde_json.specs.View.{view}
+use Rattle.fts_jobdoc.specs.Fields.{is_no_object}
+use Rattle.fts_jobdoc.proofs.JsonLemmas.{any_of_viewed}
+use Rattle.fts_jobdoc.proofs.files.some_is_no_object.Goals as goal
+
+pub returns : goal.returns
+returns c =
+    let files = c.args.files.now in
+    rw (any_of_viewed is_no_object view files)
+    (any_from_yields_List (λ file. is_no_object (view file)) _ _ _ c.any.ensures.ran (YieldsList-from_slice files cc) (λ x b q k. search (rules, tests)))
