@@ -78,14 +78,17 @@ module _ {Item Key : Type 0} (key : Item → Key) (cmp : Key → Key → Orderin
   best_from best items = fold (λ best item. if goes_before item best then item else best) best items
 
   -- neither the first one nor any of the items goes before the best
-  fold_least : (best : Item) (items : List Item) → (goes_before best (best_from best items) ≡ false) × AllByRecursion (λ item. goes_before item (best_from best items) ≡ false) items
+  fold_least : (best : Item) (items : List Item) → (goes_before best (best_from best items) ≡ false)
+      × AllByRecursion (λ item. goes_before item (best_from best items) ≡ false) items
   fold_least best [] = (not_itself (key best), tt)
   fold_least best (item ∷ items) = by_test (goes_before item best) refl (fold_least (if goes_before item best then item else best) items)
     where
       by_test : (answer : Bool) → goes_before item best ≡ answer
-          → (goes_before (cond answer item best) (best_from (cond answer item best) items) ≡ false) × AllByRecursion (λ other. goes_before other (best_from (cond answer item best) items) ≡ false) items
+          → (goes_before (cond answer item best) (best_from (cond answer item best) items) ≡ false)
+          × AllByRecursion (λ other. goes_before other (best_from (cond answer item best) items) ≡ false) items
           → (goes_before best (best_from (cond answer item best) items) ≡ false)
-          × ((goes_before item (best_from (cond answer item best) items) ≡ false) × AllByRecursion (λ other. goes_before other (best_from (cond answer item best) items) ≡ false) items)
+          × ((goes_before item (best_from (cond answer item best) items) ≡ false)
+          × AllByRecursion (λ other. goes_before other (best_from (cond answer item best) items) ≡ false) items)
       by_test true less behind = (not_through_less (key item) (key best) (key (best_from item items)) less behind.0, (behind.0, behind.1))
       by_test false not_less behind = (behind.0, (not_through_not (key item) (key best) (key (best_from best items)) not_less behind.0, behind.1))
 
@@ -93,10 +96,12 @@ module _ {Item Key : Type 0} (key : Item → Key) (cmp : Key → Key → Orderin
   pub least_below : (items : List Item) (best : Item) → least goes_before items ≡ Some best → AllByRecursion (λ item. goes_before item best ≡ false) items
   least_below [] best is = cc
   least_below (item ∷ items) best is =
-      subst (λ found. AllByRecursion (λ other. goes_before other found ≡ false) (item ∷ items)) (same_Some (best_from item items) best is) (fold_least item items)
+      subst (λ found. AllByRecursion (λ other. goes_before other found ≡ false) (item ∷ items)) (same_Some (best_from item items) best is)
+      (fold_least item items)
 
 -- two keys of which neither goes before the other are level
-level : {Key : Type 0} (cmp : Key → Key → Ordering) → IsTotalOrder cmp → (one other : Key) → is_lt (cmp one other) ≡ false → is_lt (cmp other one) ≡ false → cmp one other ≡ Equal
+level : {Key : Type 0} (cmp : Key → Key → Ordering) → IsTotalOrder cmp → (one other : Key) → is_lt (cmp one other) ≡ false → is_lt (cmp other one) ≡ false
+    → cmp one other ≡ Equal
 level cmp total one other first second = by_order (cmp one other) refl first
   where
     by_order : (order : Ordering) → cmp one other ≡ order → is_lt order ≡ false → cmp one other ≡ Equal
@@ -107,7 +112,8 @@ level cmp total one other first second = by_order (cmp one other) refl first
         cc
 
 -- what holds of each item that passes, where one passes
-any_all : {Item : Type 0} (Holds : Item → Type 0) (Goal : Type 0) (test : Item → Bool) (items : List Item) → list_any test items ≡ true → AllByRecursion Holds items
+any_all : {Item : Type 0} (Holds : Item → Type 0) (Goal : Type 0) (test : Item → Bool) (items : List Item) → list_any test items ≡ true
+    → AllByRecursion Holds items
     → ((item : Item) → test item ≡ true → Holds item → Goal) → Goal
 any_all Holds Goal test [] any all use_one = cc
 any_all Holds Goal test (item ∷ items) any all use_one = by_head (λ behind. any_all Holds Goal test items behind all.1 use_one) (test item) refl any
@@ -117,18 +123,22 @@ any_all Holds Goal test (item ∷ items) any all use_one = by_head (λ behind. a
     by_head behind false is any = behind any
 
 -- what holds of all that a filter kept holds of each that passes
-unfiltered : {Item : Type 0} (Holds : Item → Type 0) (test : Item → Bool) (items : List Item) → AllByRecursion Holds (filter test items) → AllByRecursion (λ item. test item ≡ true → Holds item) items
+unfiltered : {Item : Type 0} (Holds : Item → Type 0) (test : Item → Bool) (items : List Item) → AllByRecursion Holds (filter test items)
+    → AllByRecursion (λ item. test item ≡ true → Holds item) items
 unfiltered Holds test [] all = tt
 unfiltered Holds test (item ∷ items) all = by_head (unfiltered Holds test items) (test item) refl all
   where
-    by_head : (AllByRecursion Holds (filter test items) → AllByRecursion (λ other. test other ≡ true → Holds other) items) → (answer : Bool) → test item ≡ answer
-        → AllByRecursion Holds (cond answer (item ∷ filter test items) (filter test items)) → (test item ≡ true → Holds item) × AllByRecursion (λ other. test other ≡ true → Holds other) items
+    by_head : (AllByRecursion Holds (filter test items) → AllByRecursion (λ other. test other ≡ true → Holds other) items) → (answer : Bool)
+        → test item ≡ answer
+        → AllByRecursion Holds (cond answer (item ∷ filter test items) (filter test items))
+        → (test item ≡ true → Holds item) × AllByRecursion (λ other. test other ≡ true → Holds other) items
     by_head behind true is kept = (λ passes. kept.0, behind kept.1)
     by_head behind false is kept =
         (λ passes. let clash : true ≡ false = sym passes ∙ is in cc, behind kept)
 
 -- what holds of each item holds of each that a filter keeps
-filtered : {Item : Type 0} (Holds : Item → Type 0) (test : Item → Bool) (items : List Item) → AllByRecursion Holds items → AllByRecursion (λ item. (test item ≡ true) × Holds item) (filter test items)
+filtered : {Item : Type 0} (Holds : Item → Type 0) (test : Item → Bool) (items : List Item) → AllByRecursion Holds items
+    → AllByRecursion (λ item. (test item ≡ true) × Holds item) (filter test items)
 filtered Holds test [] all = tt
 filtered Holds test (item ∷ items) all = by_head (filtered Holds test items all.1) (test item) refl
   where
@@ -138,7 +148,8 @@ filtered Holds test (item ∷ items) all = by_head (filtered Holds test items al
     by_head behind false is = behind
 
 -- a weaker fact of each
-weaker : {Item : Type 0} (Holds Weaker : Item → Type 0) → ((item : Item) → Holds item → Weaker item) → (items : List Item) → AllByRecursion Holds items → AllByRecursion Weaker items
+weaker : {Item : Type 0} (Holds Weaker : Item → Type 0) → ((item : Item) → Holds item → Weaker item) → (items : List Item) → AllByRecursion Holds items
+    → AllByRecursion Weaker items
 weaker Holds Weaker weaken [] all = tt
 weaker Holds Weaker weaken (item ∷ items) all = (weaken item all.0, weaker Holds Weaker weaken items all.1)
 
@@ -148,20 +159,23 @@ of_all Holds holds [] = tt
 of_all Holds holds (item ∷ items) = (holds item, of_all Holds holds items)
 
 -- what holds of each item holds of the least
-holds_of_least : {Item : Type 0} (Holds : Item → Type 0) (is_less : Item → Item → Bool) (items : List Item) (best : Item) → AllByRecursion Holds items → least is_less items ≡ Some best → Holds best
+holds_of_least : {Item : Type 0} (Holds : Item → Type 0) (is_less : Item → Item → Bool) (items : List Item) (best : Item) → AllByRecursion Holds items
+    → least is_less items ≡ Some best → Holds best
 holds_of_least {Item} Holds is_less [] best all is = cc
 holds_of_least {Item} Holds is_less (item ∷ items) best all is = subst Holds (same_Some (fold choose item items) best is) (folded item items all.0 all.1)
   where
     choose : Item → Item → Item
     choose best item = if is_less item best then item else best
 
-    folded : (best : Item) (items : List Item) → Holds best → AllByRecursion Holds items → Holds (fold (λ best item. if is_less item best then item else best) best items)
+    folded : (best : Item) (items : List Item) → Holds best → AllByRecursion Holds items
+        → Holds (fold (λ best item. if is_less item best then item else best) best items)
     folded best [] here all = here
     folded best (next ∷ items) here all = folded (if is_less next best then next else best) items
         (elim (is_less next best) as (λ answer. Holds (cond answer next best)) [ true ↦ all.0 | false ↦ here ]) all.1
 
 -- each item passes its own test in the list
-found_by_itself : {Item : Type 0} (test : Item → Item → Bool) → ((item : Item) → test item item ≡ true) → (items : List Item) → AllByRecursion (λ item. list_any (test item) items ≡ true) items
+found_by_itself : {Item : Type 0} (test : Item → Item → Bool) → ((item : Item) → test item item ≡ true) → (items : List Item)
+    → AllByRecursion (λ item. list_any (test item) items ≡ true) items
 found_by_itself test same [] = tt
 found_by_itself test same (item ∷ items) = (
   ap (λ answer. answer || list_any (test item) items) (same item),
@@ -208,8 +222,10 @@ bytes_eq-refl (byte ∷ text) = ap (λ answer. answer && bytes_eq text text) (eq
 level_names : (one other : LinkNames) → name_cmp one other ≡ Equal → one ≡ other
 level_names one other is =
     let both = parts (slice_cmp nat_cmp one.source other.source) (slice_cmp nat_cmp one.dest other.dest) is in
-    ap (λ source. record { source = source; dest = one.dest }) (bytes_eq-same one.source other.source (sym (is_eq-slice_cmp one.source other.source) ∙ ap is_eq both.0))
-    ∙ ap (λ dest. record { source = other.source; dest = dest }) (bytes_eq-same one.dest other.dest (sym (is_eq-slice_cmp one.dest other.dest) ∙ ap is_eq both.1))
+    ap (λ source. record { source = source; dest = one.dest })
+    (bytes_eq-same one.source other.source (sym (is_eq-slice_cmp one.source other.source) ∙ ap is_eq both.0))
+    ∙ ap (λ dest. record { source = other.source; dest = dest })
+    (bytes_eq-same one.dest other.dest (sym (is_eq-slice_cmp one.dest other.dest) ∙ ap is_eq both.1))
   where
     parts : (first second : Ordering) → ordering_then first second ≡ Equal → (first ≡ Equal) × (second ≡ Equal)
     parts Less second is = cc
@@ -264,7 +280,8 @@ module _ (tables : Tables) (now : ℕ) where
 
   -- of links in order of names, the first that holds the least is the least of the claim's order
   fold_in_order : (best : LinkNames) (links : List LinkNames) → AllByRecursion (λ later. name_cmp best later ≡ Less) links → AreInOrder links
-      → fold (λ best link. if nat_lt (holds link) (holds best) then link else best) best links ≡ fold (λ best link. if is_lt (claim_cmp link best) then link else best) best links
+      → fold (λ best link. if nat_lt (holds link) (holds best) then link else best) best links
+      ≡ fold (λ best link. if is_lt (claim_cmp link best) then link else best) best links
   fold_in_order best [] after sorted = refl
   fold_in_order best (link ∷ links) after sorted =
       by_test (nat_lt (holds link) (holds best)) refl
@@ -275,48 +292,60 @@ module _ (tables : Tables) (now : ℕ) where
       chosen_before false = after.1
 
       by_test : (answer : Bool) → nat_lt (holds link) (holds best) ≡ answer
-          → fold (λ best link. if nat_lt (holds link) (holds best) then link else best) (cond answer link best) links ≡ fold (λ best link. if is_lt (claim_cmp link best) then link else best) (cond answer link best) links
+          → fold (λ best link. if nat_lt (holds link) (holds best) then link else best) (cond answer link best) links
+          ≡ fold (λ best link. if is_lt (claim_cmp link best) then link else best) (cond answer link best) links
           → fold (λ best link. if nat_lt (holds link) (holds best) then link else best) (cond answer link best) links
           ≡ fold (λ best link. if is_lt (claim_cmp link best) then link else best) (cond (is_lt (claim_cmp link best)) link best) links
       by_test answer is behind =
-          behind ∙ ap (λ chosen. fold (λ best link. if is_lt (claim_cmp link best) then link else best) (cond chosen link best) links) (sym (later_less link best after.0 ∙ is))
+          behind ∙ ap (λ chosen. fold (λ best link. if is_lt (claim_cmp link best) then link else best) (cond chosen link best) links)
+          (sym (later_less link best after.0 ∙ is))
 
   -- the same of whole lists
-  least_in_order : (links : List LinkNames) → AreInOrder links → least (λ one other. nat_lt (holds one) (holds other)) links ≡ least (λ one other. is_lt (claim_cmp one other)) links
+  least_in_order : (links : List LinkNames) → AreInOrder links → least (λ one other. nat_lt (holds one) (holds other)) links
+      ≡ least (λ one other. is_lt (claim_cmp one other)) links
   least_in_order [] sorted = refl
   least_in_order (link ∷ links) sorted = ap (λ found. Some found) (fold_in_order link links sorted.0 sorted.1)
 
   -- the link at the picked place is the least in the claim's order of those with a row
   place_is_least : (links : List LinkNames) → AreInOrder links
-      → option_and_then (slice_get links) (least_place (is_eligible_at (map (chance_of tables now) links)) (held_of (map (chance_of tables now) links)) (length links))
+      → option_and_then (slice_get links)
+      (least_place (is_eligible_at (map (chance_of tables now) links)) (held_of (map (chance_of tables now) links)) (length links))
       ≡ least (λ one other. is_lt (claim_cmp one other)) (filter has_row links)
   place_is_least links sorted =
       placed_least links has_row holds (is_eligible_at (map (chance_of tables now) links)) (held_of (map (chance_of tables now) links))
-      (λ place link at. ap (λ found. option_map_or (λ (chance : LinkChance). chance.eligible) found false) (slice_get-map (chance_of tables now) links place ∙ ap (option_map (chance_of tables now)) at))
-      (λ place link at. ap (λ found. option_map_or (λ (chance : LinkChance). chance.held) found 0) (slice_get-map (chance_of tables now) links place ∙ ap (option_map (chance_of tables now)) at))
+      (λ place link at. ap (λ found. option_map_or (λ (chance : LinkChance). chance.eligible) found false) (slice_get-map (chance_of tables now) links place
+      ∙ ap (option_map (chance_of tables now)) at))
+      (λ place link at. ap (λ found. option_map_or (λ (chance : LinkChance). chance.held) found 0) (slice_get-map (chance_of tables now) links place
+      ∙ ap (option_map (chance_of tables now)) at))
       ∙ least_in_order (filter has_row links) (filter_in_order has_row links sorted)
 
   -- a link of which a row may be claimed stands among the links with one
-  link_of_row : (links : List LinkNames) (row : FileRow) → list_any (λ (link : LinkNames). is_on_link link.source link.dest row) links ≡ true → has_row (link_of row) ≡ true
+  link_of_row : (links : List LinkNames) (row : FileRow) → list_any (λ (link : LinkNames). is_on_link link.source link.dest row) links ≡ true
+      → has_row (link_of row) ≡ true
       → (Holds : LinkNames → Type 0) → AllByRecursion Holds (filter has_row links) → Holds (link_of row)
   link_of_row links row listed waits Holds all =
-      any_all (λ link. has_row link ≡ true → Holds link) (Holds (link_of row)) (λ (link : LinkNames). is_on_link link.source link.dest row) links listed (unfiltered Holds has_row links all)
+      any_all (λ link. has_row link ≡ true → Holds link) (Holds (link_of row)) (λ (link : LinkNames). is_on_link link.source link.dest row) links listed
+      (unfiltered Holds has_row links all)
       (λ link on holds_if. subst Holds (sym (on_link_same link row on)) (holds_if (subst (λ other. has_row other ≡ true) (on_link_same link row on) waits)))
 
   -- the least row's link is the least link
   rows_alike : (links : List LinkNames) → AreAllLinks tables now links → (first : Option FileRow) (best : Option LinkNames)
-      → least (is_link_before tables.rows) (eligible_rows tables now) ≡ first → least (λ one other. is_lt (claim_cmp one other)) (filter has_row links) ≡ best → best ≡ option_map link_of first
+      → least (is_link_before tables.rows) (eligible_rows tables now) ≡ first → least (λ one other. is_lt (claim_cmp one other)) (filter has_row links) ≡ best
+      → best ≡ option_map link_of first
   rows_alike links listed None None first_is best_is = refl
   rows_alike links listed None (Some best) first_is best_is =
       -- no row may be claimed, so no link has one
-      absurd (none_has (eligible_rows tables now) first_is (holds_of_least (λ link. has_row link ≡ true) (λ one other. is_lt (claim_cmp one other)) (filter has_row links) best
-      (weaker (λ link. (has_row link ≡ true) × Unit {0}) (λ link. has_row link ≡ true) (λ link both. both.0) (filter has_row links) (filtered (λ link. Unit {0}) has_row links (of_all (λ link. Unit {0}) (λ link. tt) links))) best_is))
+      absurd (none_has (eligible_rows tables now) first_is
+      (holds_of_least (λ link. has_row link ≡ true) (λ one other. is_lt (claim_cmp one other)) (filter has_row links) best
+      (weaker (λ link. (has_row link ≡ true) × Unit {0}) (λ link. has_row link ≡ true) (λ link both. both.0) (filter has_row links)
+      (filtered (λ link. Unit {0}) has_row links (of_all (λ link. Unit {0}) (λ link. tt) links))) best_is))
     where
       none_has : (rows : List FileRow) → least (is_link_before tables.rows) rows ≡ None → list_any (is_on_link best.source best.dest) rows ≡ true → ⊥
       none_has [] none any = cc
       none_has (row ∷ rows) none any = cc
   rows_alike links listed (Some row) None first_is best_is =
-      absurd (link_of_row links row (holds_of_least (λ other. list_any (λ (link : LinkNames). is_on_link link.source link.dest other) links ≡ true) (is_link_before tables.rows) (eligible_rows tables now) row listed first_is)
+      absurd (link_of_row links row (holds_of_least (λ other. list_any (λ (link : LinkNames). is_on_link link.source link.dest other) links ≡ true)
+      (is_link_before tables.rows) (eligible_rows tables now) row listed first_is)
       (row_waits row first_is) (λ link. ⊥) (none_kept (filter has_row links) best_is))
     where
       none_kept : (some : List LinkNames) → least (λ one other. is_lt (claim_cmp one other)) some ≡ None → AllByRecursion (λ link. ⊥) some
@@ -326,7 +355,10 @@ module _ (tables : Tables) (now : ℕ) where
       row_waits : (row : FileRow) → least (is_link_before tables.rows) (eligible_rows tables now) ≡ Some row → has_row (link_of row) ≡ true
       row_waits row is = holds_of_least (λ other. has_row (link_of other) ≡ true) (is_link_before tables.rows) (eligible_rows tables now) row
           (found_by_itself (λ one other. is_on_link one.source.endpoint one.dest.endpoint other) on_own_link (eligible_rows tables now)) is
-  rows_alike links listed (Some row) (Some best) first_is best_is = ap (λ link. Some link) (level_names best (link_of row) (level_rest (nat_cmp (holds best) (holds (link_of row))) (name_cmp best (link_of row)) (level claim_cmp claim_total best (link_of row) not_before not_after)))
+  rows_alike links listed (Some row) (Some best) first_is best_is =
+      ap (λ link. Some link) (level_names best (link_of row)
+      (level_rest (nat_cmp (holds best) (holds (link_of row))) (name_cmp best (link_of row))
+      (level claim_cmp claim_total best (link_of row) not_before not_after)))
     where
       row_waits : has_row (link_of row) ≡ true
       row_waits = holds_of_least (λ other. has_row (link_of other) ≡ true) (is_link_before tables.rows) (eligible_rows tables now) row
@@ -334,22 +366,27 @@ module _ (tables : Tables) (now : ℕ) where
 
       best_has : has_row best ≡ true
       best_has = holds_of_least (λ link. has_row link ≡ true) (λ one other. is_lt (claim_cmp one other)) (filter has_row links) best
-          (weaker (λ link. (has_row link ≡ true) × Unit {0}) (λ link. has_row link ≡ true) (λ link both. both.0) (filter has_row links) (filtered (λ link. Unit {0}) has_row links (of_all (λ link. Unit {0}) (λ link. tt) links))) best_is
+          (weaker (λ link. (has_row link ≡ true) × Unit {0}) (λ link. has_row link ≡ true) (λ link both. both.0) (filter has_row links)
+          (filtered (λ link. Unit {0}) has_row links (of_all (λ link. Unit {0}) (λ link. tt) links))) best_is
 
       -- a row on the best link doesn't go before the first row
       not_before : is_lt (claim_cmp best (link_of row)) ≡ false
-      not_before = any_all (λ other. is_lt (claim_cmp (link_of other) (link_of row)) ≡ false) (is_lt (claim_cmp best (link_of row)) ≡ false) (is_on_link best.source best.dest) (eligible_rows tables now) best_has
+      not_before = any_all (λ other. is_lt (claim_cmp (link_of other) (link_of row)) ≡ false) (is_lt (claim_cmp best (link_of row)) ≡ false)
+          (is_on_link best.source best.dest) (eligible_rows tables now) best_has
           (least_below link_of claim_cmp claim_total (eligible_rows tables now) row first_is)
           (λ other on not_less. subst (λ link. is_lt (claim_cmp link (link_of row)) ≡ false) (on_link_same best other on) not_less)
 
       -- the first row's link doesn't go before the best
       not_after : is_lt (claim_cmp (link_of row) best) ≡ false
-      not_after = link_of_row links row (holds_of_least (λ other. list_any (λ (link : LinkNames). is_on_link link.source link.dest other) links ≡ true) (is_link_before tables.rows) (eligible_rows tables now) row listed first_is)
+      not_after = link_of_row links row
+          (holds_of_least (λ other. list_any (λ (link : LinkNames). is_on_link link.source link.dest other) links ≡ true) (is_link_before tables.rows)
+          (eligible_rows tables now) row listed first_is)
           row_waits (λ link. is_lt (claim_cmp link best) ≡ false) (least_below (λ link. link) claim_cmp claim_total (filter has_row links) best best_is)
 
   -- the link at the picked place is that of the claim's row
   pub picked_link : (links : List LinkNames) → AreInOrder links → AreAllLinks tables now links
-      → option_and_then (slice_get links) (least_place (is_eligible_at (map (chance_of tables now) links)) (held_of (map (chance_of tables now) links)) (length links))
+      → option_and_then (slice_get links)
+      (least_place (is_eligible_at (map (chance_of tables now) links)) (held_of (map (chance_of tables now) links)) (length links))
       ≡ option_map link_of (least (is_link_before tables.rows) (eligible_rows tables now))
   picked_link links sorted listed = place_is_least links sorted ∙ rows_alike links listed (least (is_link_before tables.rows) (eligible_rows tables now))
       (least (λ one other. is_lt (claim_cmp one other)) (filter has_row links)) refl refl

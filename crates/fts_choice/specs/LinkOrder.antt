@@ -30,7 +30,11 @@ AreInOrder (link ∷ links) = AllByRecursion (λ later. name_cmp link later ≡ 
 
 -- what a link holds, and whether one of its rows may be claimed
 abbrev pub chance_of : Tables → ℕ → LinkNames → LinkChance
-chance_of tables now link = record { held = held tables.rows link.source link.dest; eligible = list_any (is_on_link link.source link.dest) (eligible_rows tables now) }
+chance_of tables now link = record {
+  held = held tables.rows link.source link.dest;
+  eligible =
+      list_any (is_on_link link.source link.dest) (eligible_rows tables now);
+}
 
 -- each row that may be claimed is on one of these links
 abbrev pub AreAllLinks : Tables → ℕ → List LinkNames → Type 0

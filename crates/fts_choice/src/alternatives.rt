@@ -16,8 +16,8 @@ ghost use Rattle.std.specs.Prelude.{
 };
 ghost use Rattle.std.specs.List.{list_any};
 ghost use Rattle.fts_tables.specs.Tables.{is_not_used};
-ghost use Rattle.fts_tables.specs.Choice.{load, next_alternative as alternative_of};
-ghost use Rattle.fts_tables.specs.declared.rows.FileRow.{FileRow as Row};
+ghost use Rattle.fts_tables.specs.Choice.{load, next_alternative};
+ghost use Rattle.fts_tables.specs.declared.rows.FileRow.{FileRow};
 ghost use Rattle.fts_choice.specs.LeastPlaces.{
   is_lighter,
   is_better,
@@ -27,21 +27,14 @@ ghost use Rattle.fts_choice.specs.LeastPlaces.{
   alternative_place,
 };
 
-use fts_tables::{FileRow, FileState, Strategy};
-
-/// Whether a row's turn hasn't come.
-fn is_unused(row: &FileRow) -> bool
-    ensures answer { result ≡ is_not_used row.now.state }
-{
-    matches!(row.state, FileState::NotUsed)
-}
+use fts_tables::{FileRow, Strategy};
 
 /// Whether there is a row at a place whose turn hasn't come.
-fn is_unused_at(rows: &[FileRow], place: usize) -> bool
+fn is_not_used_at(rows: &[FileRow], place: usize) -> bool
     ensures answer { result ≡ is_not_used_at rows.now place }
 {
     match rows.get(place) {
-        Some(row) => is_unused(row),
+        Some(row) => row.state.is_not_used(),
         None => false,
     }
 }
@@ -70,14 +63,14 @@ fn is_better_place(loads: &[u32], best: Option<usize>, place: usize) -> bool
 fn is_next(rows: &[FileRow], loads: &[u32], best: Option<usize>, place: usize) -> bool
     ensures answer { result ≡ (is_not_used_at rows.now place && is_better (is_lighter (load_of loads.now)) best place) }
 {
-    is_unused_at(rows, place) && is_better_place(loads, best, place)
+    is_not_used_at(rows, place) && is_better_place(loads, best, place)
 }
 
 /// The place of the first row whose turn hasn't come.
-fn first_unused(rows: &[FileRow]) -> Option<usize>
+fn first_not_used(rows: &[FileRow]) -> Option<usize>
     ensures place { result ≡ position (λ row. is_not_used row.state) rows.now }
 {
-    rows.iter().position(|row| is_unused(row))
+    rows.iter().position(|row| row.state.is_not_used())
 }
 
 /// The place of the row whose turn hasn't come with the least load, and of several the first.
@@ -100,10 +93,11 @@ pub fn next_alternative(rows: &[FileRow], strategy: Strategy, loads: &[u32]) -> 
     ensures place { result ≡ alternative_place strategy rows.now loads.now }
     ensures none { (result ≡ None) ↔ IsFalse (list_any (λ row. is_not_used row.state) rows.now) }
     ensures inside { IfSome result (λ place. place < length rows.now) }
-    ensures row { (all : List Row) → loads.now ≡ map (load all) rows.now → option_and_then (slice_get rows.now) result ≡ alternative_of strategy all rows.now }
+    ensures row { (all : List FileRow) → loads.now ≡ map (load all) rows.now
+        → option_and_then (slice_get rows.now) result ≡ next_alternative strategy all rows.now }
 {
     match strategy {
-        Strategy::Orderly => first_unused(rows),
+        Strategy::Orderly => first_not_used(rows),
         Strategy::Auto => least_loaded(rows, loads),
     }
 }

@@ -1,4 +1,5 @@
-//! Which link a claim takes its file from.
+//! Which link a claim takes its file from, given all links with what each holds: `pick_link` waits for a caller, one that keeps links in order.
+//! The desk keeps none. It finds the link of its claim by a walk over the rows, to the same end (`picked_links_are_the_claims`).
 ghost use Rattle.std.specs.Prelude.{
   ◌≡◌,
   ◌↔◌,
@@ -96,5 +97,8 @@ pub fn pick_link(links: &[LinkChance]) -> Option<usize>
 
 /// A law: of all links in order of their names, each with its chance, the picked place is that of the link on which the machine's claim takes a row.
 pub fn picked_links_are_the_claims()
-    ensures link { (tables : Tables) (now : ℕ) (links : List LinkNames) → AreInOrder links → AreAllLinks tables now links → option_and_then (slice_get links) (least_place (is_eligible_at (map (chance_of tables now) links)) (held_of (map (chance_of tables now) links)) (length links)) ≡ option_map link_of (least (is_link_before tables.rows) (eligible_rows tables now)) }
+    ensures link { (tables : Tables) (now : ℕ) (links : List LinkNames) → AreInOrder links → AreAllLinks tables now links
+        → let chances = map (chance_of tables now) links in
+        option_and_then (slice_get links) (least_place (is_eligible_at chances) (held_of chances) (length links))
+        ≡ option_map link_of (least (is_link_before tables.rows) (eligible_rows tables now)) }
 {}

@@ -1,6 +1,7 @@
 //! The draw of an activity by the weights of those that take part.
 ghost use Rattle.std.specs.Prelude.{
   ◌≡◌,
+  ◌<◌,
   ◌≤◌,
   ◌↔◌,
   ℕ,
@@ -9,6 +10,7 @@ ghost use Rattle.std.specs.Prelude.{
   false,
   All,
   None,
+  IfSome,
   IsTrue,
   IsFalse,
   sum,
@@ -18,7 +20,7 @@ ghost use Rattle.std.specs.Prelude.{
 };
 ghost use Rattle.std.specs.List.{range_with_len, list_any};
 ghost use Rattle.fts_tables.specs.SettingsData.{is_within};
-ghost use Rattle.fts_tables.specs.Choice.{draw as drawn, shares};
+ghost use Rattle.fts_tables.specs.Choice.{draw, shares};
 ghost use Rattle.fts_tables.specs.declared.limits.TheConstants.{MAX_WEIGHT, MAX_WEIGHTS};
 ghost use Rattle.fts_choice.specs.Draws.{first_above, draws};
 
@@ -42,6 +44,7 @@ fn place_above(weights: &[u32], waiting: &[bool], number: u64) -> Option<usize>
     requires alike { length weights.now ≡ length waiting.now }
     requires few { length weights.now ≤ MAX_WEIGHTS }
     ensures place { result ≡ first_above number 0 (shares weights.now waiting.now) }
+    ensures inside { IfSome result (λ place. place < length weights.now) }
 {
     let mut running: u64 = 0;
     for place in 0..weights.len() {
@@ -61,8 +64,9 @@ pub fn draw(weights: &[u32], waiting: &[bool], word: u64) -> Option<usize>
     requires alike { length weights.now ≡ length waiting.now }
     requires few { length weights.now ≤ MAX_WEIGHTS }
     requires range { All (λ weight. IsTrue (is_within 1 MAX_WEIGHT weight)) weights.now }
-    ensures place { result ≡ drawn weights.now waiting.now word }
+    ensures place { result ≡ draw weights.now waiting.now word }
     ensures none { (result ≡ None) ↔ IsFalse (list_any (λ waits. waits) waiting.now) }
+    ensures inside { IfSome result (λ place. place < length weights.now) }
 {
     let total = total(weights, waiting);
     if total == 0 {
@@ -73,6 +77,8 @@ pub fn draw(weights: &[u32], waiting: &[bool], word: u64) -> Option<usize>
 
 /// The law of the draw: of the numbers below the sum of the weights that take part, as many draw a place as its weight says where it takes part, else none.
 pub fn draws_by_weight()
-    ensures share { (weights : List ℕ) (waiting : List Bool) (place : ℕ) → count_by (draws weights waiting place) (range_with_len 0 (sum (shares weights waiting))) ≡ get_or (shares weights waiting) place 0 }
-    ensures weight { (weights : List ℕ) (waiting : List Bool) (place : ℕ) → length weights ≡ length waiting → IsTrue (get_or waiting place false) → count_by (draws weights waiting place) (range_with_len 0 (sum (shares weights waiting))) ≡ get_or weights place 0 }
+    ensures share { (weights : List ℕ) (waiting : List Bool) (place : ℕ)
+        → count_by (draws weights waiting place) (range_with_len 0 (sum (shares weights waiting))) ≡ get_or (shares weights waiting) place 0 }
+    ensures weight { (weights : List ℕ) (waiting : List Bool) (place : ℕ) → length weights ≡ length waiting → IsTrue (get_or waiting place false)
+        → count_by (draws weights waiting place) (range_with_len 0 (sum (shares weights waiting))) ≡ get_or weights place 0 }
 {}

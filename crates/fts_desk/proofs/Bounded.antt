@@ -35,12 +35,14 @@ abbrev KeepsAttempt : (FileRow → FileRow) → Type 0
 KeepsAttempt change = (row : FileRow) → (change row).attempt ≡ row.attempt
 
 -- rows that were changed, each with at most one attempt more
-counted_more : (commands : ℕ) (change : FileRow → FileRow) → ((row : FileRow) → (change row).attempt ≤ suc row.attempt) → (rows : List FileRow) → AreCounted commands rows → AreCounted (suc commands) (map change rows)
+counted_more : (commands : ℕ) (change : FileRow → FileRow) → ((row : FileRow) → (change row).attempt ≤ suc row.attempt) → (rows : List FileRow)
+    → AreCounted commands rows → AreCounted (suc commands) (map change rows)
 counted_more commands change keeps [] all = tt
 counted_more commands change keeps (row ∷ rows) all = (omega (arith, keeps row, all.0), counted_more commands change keeps rows all.1)
 
 -- rows that were changed, with the attempts that they had
-counted_same : (commands : ℕ) (change : FileRow → FileRow) → KeepsAttempt change → (rows : List FileRow) → AreCounted commands rows → AreCounted commands (map change rows)
+counted_same : (commands : ℕ) (change : FileRow → FileRow) → KeepsAttempt change → (rows : List FileRow) → AreCounted commands rows
+    → AreCounted commands (map change rows)
 counted_same commands change keeps [] all = tt
 counted_same commands change keeps (row ∷ rows) all = (omega (arith, keeps row, all.0), counted_same commands change keeps rows all.1)
 
@@ -70,7 +72,8 @@ files_kept number priority (job ∷ jobs) all = (head (job.number == number), fi
 
 module _ (commands : ℕ) (jobs : List JobRow) where
   -- a change of each row that counts no attempt
-  pub bounded_same : (change : FileRow → FileRow) → KeepsAttempt change → (rows : List FileRow) → AreBounded commands jobs rows → AreBounded commands jobs (map change rows)
+  pub bounded_same : (change : FileRow → FileRow) → KeepsAttempt change → (rows : List FileRow) → AreBounded commands jobs rows
+      → AreBounded commands jobs (map change rows)
   bounded_same change keeps rows bounds = record {
     few_jobs = bounds.few_jobs;
     few_rows = omega (arith, length-map rows change, bounds.few_rows);
@@ -79,7 +82,8 @@ module _ (commands : ℕ) (jobs : List JobRow) where
   }
 
   -- a change of each row that counts one attempt at most
-  pub bounded_more : (change : FileRow → FileRow) → ((row : FileRow) → (change row).attempt ≤ suc row.attempt) → (rows : List FileRow) → AreBounded commands jobs rows → AreBounded (suc commands) jobs (map change rows)
+  pub bounded_more : (change : FileRow → FileRow) → ((row : FileRow) → (change row).attempt ≤ suc row.attempt) → (rows : List FileRow)
+      → AreBounded commands jobs rows → AreBounded (suc commands) jobs (map change rows)
   bounded_more change keeps rows bounds = record {
     few_jobs = bounds.few_jobs;
     few_rows = omega (arith, length-map rows change, bounds.few_rows);
@@ -89,10 +93,17 @@ module _ (commands : ℕ) (jobs : List JobRow) where
 
   -- one command more
   pub bounded_later : (rows : List FileRow) → AreBounded commands jobs rows → AreBounded (suc commands) jobs rows
-  bounded_later rows bounds = record { few_jobs = bounds.few_jobs; few_rows = bounds.few_rows; files = bounds.files; attempts = counted_later commands rows bounds.attempts }
+  bounded_later rows bounds = record {
+    few_jobs = bounds.few_jobs;
+    few_rows = bounds.few_rows;
+    files = bounds.files;
+    attempts =
+        counted_later commands rows bounds.attempts;
+  }
 
   -- a change of the row of an id that counts no attempt
-  bounded_row : (id : ℕ) (change : FileRow → FileRow) → KeepsAttempt change → (rows : List FileRow) → AreBounded commands jobs rows → AreBounded commands jobs (change_row id change rows)
+  bounded_row : (id : ℕ) (change : FileRow → FileRow) → KeepsAttempt change → (rows : List FileRow) → AreBounded commands jobs rows
+      → AreBounded commands jobs (change_row id change rows)
   bounded_row id change keeps rows bounds = bounded_same (λ row. if row.id == id then change row else row) (λ row. by_test row (row.id == id)) rows bounds
     where
       by_test : (row : FileRow) (answer : Bool) → (cond answer (change row) row).attempt ≡ row.attempt
@@ -101,7 +112,8 @@ module _ (commands : ℕ) (jobs : List JobRow) where
 
   -- a row that begins to wait
   bounded_woken : (id : ℕ) (rows : List FileRow) → AreBounded commands jobs rows → AreBounded commands jobs (submit_if_not_used id rows)
-  bounded_woken id rows bounds = bounded_row id (λ row. if is_not_used row.state then submitted row else row) (λ row. by_test row (is_not_used row.state)) rows bounds
+  bounded_woken id rows bounds =
+      bounded_row id (λ row. if is_not_used row.state then submitted row else row) (λ row. by_test row (is_not_used row.state)) rows bounds
     where
       by_test : (row : FileRow) (answer : Bool) → (cond answer (submitted row) row).attempt ≡ row.attempt
       by_test row true = refl
@@ -113,7 +125,8 @@ module _ (commands : ℕ) (jobs : List JobRow) where
   bounded_chosen (Some row) rows bounds = bounded_woken row.id rows bounds
 
   -- what follows a finish
-  bounded_finish : (kind : JobKind) (job : JobRow) (row : FileRow) (rows : List FileRow) → AreBounded commands jobs rows → AreBounded commands jobs (followed_finish kind job row rows)
+  bounded_finish : (kind : JobKind) (job : JobRow) (row : FileRow) (rows : List FileRow) → AreBounded commands jobs rows
+      → AreBounded commands jobs (followed_finish kind job row rows)
   bounded_finish Plain job row rows bounds = bounds
   bounded_finish Replica job row rows bounds = bounds
   bounded_finish Multihop job row rows bounds = by_test (nat_lt (row.id + 1) (job.first + job.count))
@@ -123,7 +136,8 @@ module _ (commands : ℕ) (jobs : List JobRow) where
       by_test false = bounds
 
   -- what follows a failure
-  bounded_failure : (kind : JobKind) (job : JobRow) (rows : List FileRow) → AreBounded commands jobs rows → AreBounded commands jobs (followed_failure kind job rows)
+  bounded_failure : (kind : JobKind) (job : JobRow) (rows : List FileRow) → AreBounded commands jobs rows
+      → AreBounded commands jobs (followed_failure kind job rows)
   bounded_failure Plain job rows bounds = bounds
   bounded_failure Multihop job rows bounds = bounds
   bounded_failure Replica job rows bounds = bounded_chosen (next_alternative job.strategy rows (rows_of_job rows job.number)) rows bounds
@@ -132,7 +146,8 @@ module _ (commands : ℕ) (jobs : List JobRow) where
   pub bounded_followed : (job : JobRow) (row : FileRow) (rows : List FileRow) → AreBounded commands jobs rows → AreBounded commands jobs (followed job row rows)
   bounded_followed job row rows bounds = by_test (is_finished row.state) (is_failed row.state)
     where
-      by_test : (finished failed : Bool) → AreBounded commands jobs (cond finished (followed_finish job.kind job row rows) (cond failed (followed_failure job.kind job rows) rows))
+      by_test : (finished failed : Bool)
+          → AreBounded commands jobs (cond finished (followed_finish job.kind job row rows) (cond failed (followed_failure job.kind job rows) rows))
       by_test true failed = bounded_finish job.kind job row rows bounds
       by_test false true = bounded_failure job.kind job rows bounds
       by_test false false = bounds
@@ -167,7 +182,9 @@ cancelled_of-attempt number row = by_test (row.job == number)
 failure-attempt : (job : JobRow) (now : ℕ) (outcome : Outcome) (row : FileRow) → (reported_failure job now outcome row).attempt ≡ row.attempt
 failure-attempt job now outcome row = by_test (is_retryable outcome && nat_lt row.retries job.retry)
   where
-    by_test : (answer : Bool) → (cond answer (record row { state = Submitted; retries = row.retries + 1; not_before = min (now + job.delay) LAST_MOMENT; reason = Ended outcome }) (record row { state = Failed; reason = Ended outcome })).attempt ≡ row.attempt
+    by_test : (answer : Bool) → (cond answer
+        (record row { state = Submitted; retries = row.retries + 1; not_before = min (now + job.delay) LAST_MOMENT; reason = Ended outcome })
+        (record row { state = Failed; reason = Ended outcome })).attempt ≡ row.attempt
     by_test true = refl
     by_test false = refl
 
@@ -231,14 +248,19 @@ woken_new commands count id rows fresh = record {
     keeps row = by_test row (row.id == id) (is_not_used row.state)
 
 -- the new rows of a job of a kind
-kind_new : (commands number id : ℕ) (kind : JobKind) (rows : List FileRow) (job : JobData) → AreNew commands (length job.files) (rows_of_kind kind rows number id job)
-kind_new commands number id Plain rows job = record { counted = new_counted commands number id Submitted job.files; number = length-new_rows number id Submitted job.files }
+kind_new : (commands number id : ℕ) (kind : JobKind) (rows : List FileRow) (job : JobData)
+    → AreNew commands (length job.files) (rows_of_kind kind rows number id job)
+kind_new commands number id Plain rows job =
+    record { counted = new_counted commands number id Submitted job.files; number = length-new_rows number id Submitted job.files }
 kind_new commands number id Multihop rows job =
-    woken_new commands (length job.files) id (new_rows number id NotUsed job.files) (record { counted = new_counted commands number id NotUsed job.files; number = length-new_rows number id NotUsed job.files })
+    woken_new commands (length job.files) id (new_rows number id NotUsed job.files)
+    (record { counted = new_counted commands number id NotUsed job.files; number = length-new_rows number id NotUsed job.files })
 kind_new commands number id Replica rows job =
-    by_chosen (next_alternative job.strategy rows (new_rows number id NotUsed job.files)) (record { counted = new_counted commands number id NotUsed job.files; number = length-new_rows number id NotUsed job.files })
+    by_chosen (next_alternative job.strategy rows (new_rows number id NotUsed job.files))
+    (record { counted = new_counted commands number id NotUsed job.files; number = length-new_rows number id NotUsed job.files })
   where
-    by_chosen : (chosen : Option FileRow) → AreNew commands (length job.files) (new_rows number id NotUsed job.files) → AreNew commands (length job.files) (submit_chosen chosen (new_rows number id NotUsed job.files))
+    by_chosen : (chosen : Option FileRow) → AreNew commands (length job.files) (new_rows number id NotUsed job.files)
+        → AreNew commands (length job.files) (submit_chosen chosen (new_rows number id NotUsed job.files))
     by_chosen None fresh = fresh
     by_chosen (Some row) fresh = woken_new commands (length job.files) row.id (new_rows number id NotUsed job.files) fresh
 
@@ -263,7 +285,9 @@ module _ (tables : Tables) (commands now : ℕ) (bounds : AreBounded commands ta
       by_rows few_jobs false is = added few_jobs (ltb-false _ _ is)
 
       by_jobs : (room : Bool) → nat_lt (length tables.jobs) MAX_JOBS ≡ room
-          → BoundedAfter (suc commands) (cond room (cond (nat_lt MAX_ROWS (length tables.rows + length job.files)) (Err (RowsFull (length tables.rows))) (add_job tables now job)) (Err (JobsFull (length tables.jobs))))
+          → BoundedAfter (suc commands) (cond room
+          (cond (nat_lt MAX_ROWS (length tables.rows + length job.files)) (Err (RowsFull (length tables.rows))) (add_job tables now job))
+          (Err (JobsFull (length tables.jobs))))
       by_jobs true is = by_rows (ltb-true _ _ is) (nat_lt MAX_ROWS (length tables.rows + length job.files)) refl
       by_jobs false is = tt
 
@@ -276,16 +300,21 @@ module _ (tables : Tables) (commands now : ℕ) (bounds : AreBounded commands ta
   bounded_cancel_rows : (job : JobRow) → BoundedAfter (suc commands) (cancel_rows tables now job)
   bounded_cancel_rows job = by_test (not (is_settled_job (rows_of_job tables.rows job.number)) && list_any is_cancellable (rows_of_job tables.rows job.number))
     where
-      by_test : (answer : Bool) → BoundedAfter (suc commands) (cond {A = Outcomes} answer (Ok (with_rows tables now (map (cancelled_of job.number) tables.rows), Cancelled job.number)) (Err (Unchanged job.number)))
-      by_test true = bounded_same (suc commands) tables.jobs (cancelled_of job.number) (cancelled_of-attempt job.number) tables.rows (bounded_later commands tables.jobs tables.rows bounds)
+      by_test : (answer : Bool) → BoundedAfter (suc commands)
+          (cond {A = Outcomes} answer (Ok (with_rows tables now (map (cancelled_of job.number) tables.rows), Cancelled job.number))
+          (Err (Unchanged job.number)))
+      by_test true = bounded_same (suc commands) tables.jobs (cancelled_of job.number) (cancelled_of-attempt job.number) tables.rows
+          (bounded_later commands tables.jobs tables.rows bounds)
       by_test false = tt
 
   -- a cancellation of one row
   bounded_cancel_row : (job : JobRow) (row : FileRow) → BoundedAfter (suc commands) (cancel_row tables now job row)
   bounded_cancel_row job row = by_test (is_cancellable row)
     where
-      by_test : (answer : Bool) → BoundedAfter (suc commands) (cond {A = Outcomes} answer (Ok (with_rows tables now (change_row row.id cancelled tables.rows), Cancelled job.number)) (Err (Unchanged job.number)))
-      by_test true = bounded_row (suc commands) tables.jobs row.id cancelled cancelled-attempt tables.rows (bounded_later commands tables.jobs tables.rows bounds)
+      by_test : (answer : Bool) → BoundedAfter (suc commands)
+          (cond {A = Outcomes} answer (Ok (with_rows tables now (change_row row.id cancelled tables.rows), Cancelled job.number)) (Err (Unchanged job.number)))
+      by_test true = bounded_row (suc commands) tables.jobs row.id cancelled cancelled-attempt tables.rows
+          (bounded_later commands tables.jobs tables.rows bounds)
       by_test false = tt
 
   -- a cancellation of a file, by the kind of its job
@@ -311,7 +340,8 @@ module _ (tables : Tables) (commands now : ℕ) (bounds : AreBounded commands ta
       later = bounded_later commands tables.jobs tables.rows bounds
 
       by_test : (answer : Bool)
-          → BoundedAfter (suc commands) (cond {A = Outcomes} answer (Err (Unchanged job.number)) (Ok (record tables { moment = now; jobs = map (prioritized job.number priority) tables.jobs }, PrioritySet job.number)))
+          → BoundedAfter (suc commands) (cond {A = Outcomes} answer (Err (Unchanged job.number))
+          (Ok (record tables { moment = now; jobs = map (prioritized job.number priority) tables.jobs }, PrioritySet job.number)))
       by_test true = tt
       by_test false = record {
         few_jobs = omega (arith, length-map tables.jobs (prioritized job.number priority), later.few_jobs);
@@ -323,7 +353,8 @@ module _ (tables : Tables) (commands now : ℕ) (bounds : AreBounded commands ta
   -- a claim
   bounded_claim : (picked : Option FileRow) → BoundedAfter (suc commands) (claim tables now picked)
   bounded_claim None = tt
-  bounded_claim (Some row) = bounded_more commands tables.jobs (λ other. if other.id == row.id then claimed other else other) (claimed-attempt row.id) tables.rows bounds
+  bounded_claim (Some row) = bounded_more commands tables.jobs (λ other. if other.id == row.id then claimed other else other)
+      (claimed-attempt row.id) tables.rows bounds
 
   -- a report
   bounded_report : (found : Option FileRow) (attempt : ℕ) (outcome : Outcome) → BoundedAfter (suc commands) (report tables now found attempt outcome)
@@ -331,9 +362,15 @@ module _ (tables : Tables) (commands now : ℕ) (bounds : AreBounded commands ta
   bounded_report (Some row) attempt outcome = by_job (job_at tables.jobs row.job)
     where
       by_test : (job : JobRow) (answer : Bool)
-          → BoundedAfter (suc commands) (cond {A = Outcomes} answer (Ok (with_rows tables now (followed job (reported job now outcome row) (change_row row.id (reported job now outcome) tables.rows)), Reported row.id (reported job now outcome row).state)) (Err (Stale row.state row.attempt)))
-      by_test job true = bounded_followed (suc commands) tables.jobs job (reported job now outcome row) (change_row row.id (reported job now outcome) tables.rows)
-          (bounded_row (suc commands) tables.jobs row.id (reported job now outcome) (reported-attempt job now outcome) tables.rows (bounded_later commands tables.jobs tables.rows bounds))
+          → BoundedAfter (suc commands) (cond {A = Outcomes} answer
+          (Ok (
+            with_rows tables now (followed job (reported job now outcome row) (change_row row.id (reported job now outcome) tables.rows)),
+            Reported row.id (reported job now outcome row).state,
+          )) (Err (Stale row.state row.attempt)))
+      by_test job true = bounded_followed (suc commands) tables.jobs job (reported job now outcome row)
+          (change_row row.id (reported job now outcome) tables.rows)
+          (bounded_row (suc commands) tables.jobs row.id (reported job now outcome) (reported-attempt job now outcome) tables.rows
+          (bounded_later commands tables.jobs tables.rows bounds))
       by_test job false = tt
 
       by_job : (found : Option JobRow) → BoundedAfter (suc commands) (report_of tables now row attempt outcome found)
@@ -347,23 +384,34 @@ module _ (tables : Tables) (commands now : ℕ) (bounds : AreBounded commands ta
   bounded_job act keeps (Some job) = keeps job
 
 -- an accepted command keeps the bounds, with one command more
-pub bounded_step : (tables : Tables) (commands : ℕ) (command : Command) → AreBounded commands tables.jobs tables.rows → BringsFiles command → BoundedAfter (suc commands) (step tables command)
-bounded_step tables commands (Restart now settings) bounds files = bounded_same (suc commands) tables.jobs released released-attempt tables.rows (bounded_later commands tables.jobs tables.rows bounds)
-bounded_step tables commands (Submit now job) bounds files = bounded_submit tables commands (max now tables.moment) bounds (option_and_then (number_of_id tables.jobs) job.id) job files
-bounded_step tables commands (CancelJob now job) bounds files = bounded_job tables commands (max now tables.moment) bounds (cancel_rows tables (max now tables.moment)) (bounded_cancel_rows tables commands (max now tables.moment) bounds) (job_at tables.jobs job)
+pub bounded_step : (tables : Tables) (commands : ℕ) (command : Command) → AreBounded commands tables.jobs tables.rows → BringsFiles command
+    → BoundedAfter (suc commands) (step tables command)
+bounded_step tables commands (Restart now settings) bounds files =
+    bounded_same (suc commands) tables.jobs released released-attempt tables.rows (bounded_later commands tables.jobs tables.rows bounds)
+bounded_step tables commands (Submit now job) bounds files =
+    bounded_submit tables commands (max now tables.moment) bounds (option_and_then (number_of_id tables.jobs) job.id) job files
+bounded_step tables commands (CancelJob now job) bounds files =
+    bounded_job tables commands (max now tables.moment) bounds (cancel_rows tables (max now tables.moment))
+    (bounded_cancel_rows tables commands (max now tables.moment) bounds) (job_at tables.jobs job)
 bounded_step tables commands (CancelFile now job file) bounds files =
-    bounded_job tables commands (max now tables.moment) bounds (λ found. cancel_file tables (max now tables.moment) found (row_at tables.rows file)) (λ found. bounded_cancel_file tables commands (max now tables.moment) bounds found (row_at tables.rows file)) (job_at tables.jobs job)
+    bounded_job tables commands (max now tables.moment) bounds (λ found. cancel_file tables (max now tables.moment) found (row_at tables.rows file))
+    (λ found. bounded_cancel_file tables commands (max now tables.moment) bounds found (row_at tables.rows file)) (job_at tables.jobs job)
 bounded_step tables commands (SetPriority now job priority) bounds files =
-    bounded_job tables commands (max now tables.moment) bounds (λ found. set_priority tables (max now tables.moment) found priority) (bounded_priority tables commands (max now tables.moment) bounds priority) (job_at tables.jobs job)
-bounded_step tables commands (Claim now word) bounds files = bounded_claim tables commands (max now tables.moment) bounds (pick tables (max now tables.moment) word)
-bounded_step tables commands (Report now file attempt outcome) bounds files = bounded_report tables commands (max now tables.moment) bounds (row_at tables.rows file) attempt outcome
+    bounded_job tables commands (max now tables.moment) bounds (λ found. set_priority tables (max now tables.moment) found priority)
+    (bounded_priority tables commands (max now tables.moment) bounds priority) (job_at tables.jobs job)
+bounded_step tables commands (Claim now word) bounds files =
+    bounded_claim tables commands (max now tables.moment) bounds (pick tables (max now tables.moment) word)
+bounded_step tables commands (Report now file attempt outcome) bounds files =
+    bounded_report tables commands (max now tables.moment) bounds (row_at tables.rows file) attempt outcome
 
 -- the tables after an accepted command keep the bounds
-pub bounds_kept : (tables : Tables) (commands : ℕ) (command : Command) → AreBounded commands tables.jobs tables.rows → BringsFiles command → IsAccepted (step tables command)
+pub bounds_kept : (tables : Tables) (commands : ℕ) (command : Command) → AreBounded commands tables.jobs tables.rows → BringsFiles command
+    → IsAccepted (step tables command)
     → AreBounded (commands + 1) (tables_after tables (step tables command)).jobs (tables_after tables (step tables command)).rows
 bounds_kept tables commands command bounds files accepted = by_outcome (step tables command) accepted (bounded_step tables commands command bounds files)
   where
-    by_outcome : (outcome : Outcomes) → IsAccepted outcome → BoundedAfter (suc commands) outcome → AreBounded (commands + 1) (tables_after tables outcome).jobs (tables_after tables outcome).rows
+    by_outcome : (outcome : Outcomes) → IsAccepted outcome → BoundedAfter (suc commands) outcome
+        → AreBounded (commands + 1) (tables_after tables outcome).jobs (tables_after tables outcome).rows
     by_outcome (Ok done) accepted bounded =
         let one_more : suc commands ≡ commands + 1 = omega arith in
         subst (λ number. AreBounded number done.0.jobs done.0.rows) one_more bounded

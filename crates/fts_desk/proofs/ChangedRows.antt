@@ -9,11 +9,13 @@ use Rattle.fts_tables.specs.declared.rows.FileRow.{FileRow}
 use Rattle.fts_desk.specs.Places.{change_at, woken}
 
 -- what was written at a place is a change of the row that stood there
-pub change_at-set : (rows : List FileRow) (place : ℕ) (change : FileRow → FileRow) (default changed : FileRow) → place < length rows → changed ≡ change (get_or rows place default)
+pub change_at-set : (rows : List FileRow) (place : ℕ) (change : FileRow → FileRow) (default changed : FileRow) → place < length rows
+    → changed ≡ change (get_or rows place default)
     → set rows place changed ≡ change_at place change rows
 change_at-set [] place change default changed inside is = absurd (omega arith)
 change_at-set (row ∷ rows) zero change default changed inside is = ap (λ first. first ∷ rows) is
-change_at-set (row ∷ rows) (suc place) change default changed inside is = ap (λ after. row ∷ after) (change_at-set rows place change default changed (omega arith) is)
+change_at-set (row ∷ rows) (suc place) change default changed inside is =
+    ap (λ after. row ∷ after) (change_at-set rows place change default changed (omega arith) is)
 
 -- behind the last row there is nothing to change
 pub change_at-past : (rows : List FileRow) (place : ℕ) (change : FileRow → FileRow) → length rows ≤ place → change_at place change rows ≡ rows
@@ -22,25 +24,30 @@ change_at-past (row ∷ rows) zero change past = absurd (omega arith)
 change_at-past (row ∷ rows) (suc place) change past = ap (λ after. row ∷ after) (change_at-past rows place change (omega arith))
 
 -- no row has an id below the first one
-change_none : (start : ℕ) (rows : List FileRow) (id : ℕ) (change : FileRow → FileRow) → AreNumberedFrom (λ row. row.id) start rows → id < start → change_row id change rows ≡ rows
+change_none : (start : ℕ) (rows : List FileRow) (id : ℕ) (change : FileRow → FileRow) → AreNumberedFrom (λ row. row.id) start rows → id < start
+    → change_row id change rows ≡ rows
 change_none start [] id change numbered below = refl
 change_none start (row ∷ rows) id change numbered below =
     let differs : (row.id == id) ≡ false = ne_eqb row.id id (λ is. omega (arith, numbered.0)) in
     let behind : id < suc start = omega arith in
-    ap (λ answer. cond answer (change row) row ∷ change_row id change rows) differs ∙ ap (λ after. row ∷ after) (change_none (suc start) rows id change numbered.1 behind)
+    ap (λ answer. cond answer (change row) row ∷ change_row id change rows) differs
+    ∙ ap (λ after. row ∷ after) (change_none (suc start) rows id change numbered.1 behind)
 
 -- in a numbered list the row of an id stands as far behind the first as its id is above the first number
-pub change_row-place : (start : ℕ) (rows : List FileRow) (place id : ℕ) (change : FileRow → FileRow) → AreNumberedFrom (λ row. row.id) start rows → id ≡ start + place
+pub change_row-place : (start : ℕ) (rows : List FileRow) (place id : ℕ) (change : FileRow → FileRow) → AreNumberedFrom (λ row. row.id) start rows
+    → id ≡ start + place
     → change_row id change rows ≡ change_at place change rows
 change_row-place start [] place id change numbered is = refl
 change_row-place start (row ∷ rows) zero id change numbered is =
     let same : (row.id == id) ≡ true = eq-eqb row.id id (omega (arith, numbered.0)) in
     let below : id < suc start = omega arith in
-    ap (λ answer. cond answer (change row) row ∷ change_row id change rows) same ∙ ap (λ after. change row ∷ after) (change_none (suc start) rows id change numbered.1 below)
+    ap (λ answer. cond answer (change row) row ∷ change_row id change rows) same
+    ∙ ap (λ after. change row ∷ after) (change_none (suc start) rows id change numbered.1 below)
 change_row-place start (row ∷ rows) (suc place) id change numbered is =
     let differs : (row.id == id) ≡ false = ne_eqb row.id id (λ same. omega (arith, numbered.0)) in
     let behind : id ≡ suc start + place = omega arith in
-    ap (λ answer. cond answer (change row) row ∷ change_row id change rows) differs ∙ ap (λ after. row ∷ after) (change_row-place (suc start) rows place id change numbered.1 behind)
+    ap (λ answer. cond answer (change row) row ∷ change_row id change rows) differs
+    ∙ ap (λ after. row ∷ after) (change_row-place (suc start) rows place id change numbered.1 behind)
 
 -- a change behind other rows
 pub change_at-behind : (before after : List FileRow) (place number : ℕ) (change : FileRow → FileRow) → number ≡ length before + place
@@ -52,7 +59,8 @@ change_at-behind (row ∷ before) after place zero change is = absurd (omega ari
 change_at-behind (row ∷ before) after place (suc number) change is = ap (λ rows. row ∷ rows) (change_at-behind before after place number change (omega arith))
 
 -- in a numbered list the item at a place has the number that lies as far above the first
-pub number_at_place : {Item : Type 0} (number_of : Item → ℕ) (start : ℕ) (items : List Item) (place : ℕ) (item : Item) → AreNumberedFrom number_of start items → slice_get items place ≡ Some item
+pub number_at_place : {Item : Type 0} (number_of : Item → ℕ) (start : ℕ) (items : List Item) (place : ℕ) (item : Item) → AreNumberedFrom number_of start items
+    → slice_get items place ≡ Some item
     → number_of item ≡ start + place
 number_at_place number_of start [] place item numbered at = cc
 number_at_place number_of start (first ∷ items) zero item numbered at = ap number_of (sym (same_Some first item at)) ∙ numbered.0 ∙ sym (add-zero start)
@@ -61,23 +69,28 @@ number_at_place number_of start (first ∷ items) (suc place) item numbered at =
     number_at_place number_of (suc start) items place item numbered.1 at ∙ next
 
 -- and so has a row its id
-pub id_at : (start : ℕ) (rows : List FileRow) (place : ℕ) (row : FileRow) → AreNumberedFrom (λ other. other.id) start rows → slice_get rows place ≡ Some row → row.id ≡ start + place
+pub id_at : (start : ℕ) (rows : List FileRow) (place : ℕ) (row : FileRow) → AreNumberedFrom (λ other. other.id) start rows → slice_get rows place ≡ Some row
+    → row.id ≡ start + place
 id_at start rows place row numbered at = number_at_place (λ (other : FileRow). other.id) start rows place row numbered at
 
 -- the row that was chosen at a place is woken there
-pub submit_chosen-place : (start : ℕ) (rows : List FileRow) (place : ℕ) (chosen : Option FileRow) → AreNumberedFrom (λ row. row.id) start rows → place < length rows → slice_get rows place ≡ chosen
+pub submit_chosen-place : (start : ℕ) (rows : List FileRow) (place : ℕ) (chosen : Option FileRow) → AreNumberedFrom (λ row. row.id) start rows
+    → place < length rows → slice_get rows place ≡ chosen
     → submit_chosen chosen rows ≡ change_at place woken rows
 submit_chosen-place start rows place None numbered inside at = absurd (past (slice_get_cases rows place).1)
   where
-    past : ((row : FileRow) × (place < length rows) × (slice_get rows place ≡ Some row) × (get_or rows place row ≡ row)) ⊎ ((length rows ≤ place) × (slice_get rows place ≡ None)) → ⊥
+    past : ((row : FileRow) × (place < length rows) × (slice_get rows place ≡ Some row) × (get_or rows place row ≡ row))
+        ⊎ ((length rows ≤ place) × (slice_get rows place ≡ None)) → ⊥
     past (inl found) =
         let clash : Some found.0 ≡ None = sym found.2 ∙ at in
         cc
     past (inr none) = omega (arith, none.0)
-submit_chosen-place start rows place (Some row) numbered inside at = change_row-place start rows place row.id woken numbered (id_at start rows place row numbered at)
+submit_chosen-place start rows place (Some row) numbered inside at =
+    change_row-place start rows place row.id woken numbered (id_at start rows place row numbered at)
 
 -- what was written at a place of a numbered list is a change of the row with the id behind it
-pub change_row-set : (rows : List FileRow) (place : ℕ) (change : FileRow → FileRow) (default changed : FileRow) → AreNumberedFrom (λ row. row.id) 1 rows → place < length rows
+pub change_row-set : (rows : List FileRow) (place : ℕ) (change : FileRow → FileRow) (default changed : FileRow) → AreNumberedFrom (λ row. row.id) 1 rows
+    → place < length rows
     → changed ≡ change (get_or rows place default) → set rows place changed ≡ change_row (place + 1) change rows
 change_row-set rows place change default changed numbered inside is =
     let next : place + 1 ≡ 1 + place = omega arith in

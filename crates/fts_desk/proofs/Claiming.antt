@@ -18,31 +18,37 @@ use Rattle.fts_desk.specs.Prepared.{IsPrepared}
 use Rattle.fts_desk.specs.declared.desk.DeskFault.TheVariants.{Rule}
 
 -- the row at a place has the id behind it
-id_at : (first : ℕ) (rows : List FileRow) (place : ℕ) (other : FileRow) → AreNumberedFrom (λ row. row.id) first rows → place < length rows → (get_or rows place other).id ≡ first + place
+id_at : (first : ℕ) (rows : List FileRow) (place : ℕ) (other : FileRow) → AreNumberedFrom (λ row. row.id) first rows → place < length rows
+    → (get_or rows place other).id ≡ first + place
 id_at first [] place other numbered inside = absurd (omega arith)
 id_at first (row ∷ rows) zero other numbered inside = numbered.0 ∙ omega arith
 id_at first (row ∷ rows) (suc place) other numbered inside = id_at (suc first) rows place other numbered.1 (omega arith) ∙ omega arith
 
 -- a row whose id is not there is not changed
-change_none : (first : ℕ) (rows : List FileRow) (id : ℕ) (change : FileRow → FileRow) → AreNumberedFrom (λ row. row.id) first rows → id < first → change_row id change rows ≡ rows
+change_none : (first : ℕ) (rows : List FileRow) (id : ℕ) (change : FileRow → FileRow) → AreNumberedFrom (λ row. row.id) first rows → id < first
+    → change_row id change rows ≡ rows
 change_none first [] id change numbered less = refl
 change_none first (row ∷ rows) id change numbered less =
     let differs : (row.id == id) ≡ false = ne_eqb row.id id (λ same. omega (arith, numbered.0)) in
     let below : id < suc first = omega arith in
-    ap (λ answer. cond answer (change row) row ∷ change_row id change rows) differs ∙ ap (λ others. row ∷ others) (change_none (suc first) rows id change numbered.1 below)
+    ap (λ answer. cond answer (change row) row ∷ change_row id change rows) differs
+    ∙ ap (λ others. row ∷ others) (change_none (suc first) rows id change numbered.1 below)
 
 -- changing the row of an id is changing the row at its place
-change_at : (first : ℕ) (rows : List FileRow) (place id : ℕ) (change : FileRow → FileRow) (other : FileRow) → AreNumberedFrom (λ row. row.id) first rows → place < length rows → id ≡ first + place
+change_at : (first : ℕ) (rows : List FileRow) (place id : ℕ) (change : FileRow → FileRow) (other : FileRow) → AreNumberedFrom (λ row. row.id) first rows
+    → place < length rows → id ≡ first + place
     → change_row id change rows ≡ set rows place (change (get_or rows place other))
 change_at first [] place id change other numbered inside is = absurd (omega arith)
 change_at first (row ∷ rows) zero id change other numbered inside is =
     let same : (row.id == id) ≡ true = eq-eqb row.id id (omega (arith, numbered.0)) in
-    ap (λ answer. cond answer (change row) row ∷ change_row id change rows) same ∙ ap (λ others. change row ∷ others) (change_none (suc first) rows id change numbered.1 (omega arith))
+    ap (λ answer. cond answer (change row) row ∷ change_row id change rows) same
+    ∙ ap (λ others. change row ∷ others) (change_none (suc first) rows id change numbered.1 (omega arith))
 change_at first (row ∷ rows) (suc place) id change other numbered inside is =
     let differs : (row.id == id) ≡ false = ne_eqb row.id id (λ same. omega (arith, numbered.0)) in
     let within : place < length rows = omega arith in
     let next : id ≡ suc first + place = omega arith in
-    ap (λ answer. cond answer (change row) row ∷ change_row id change rows) differs ∙ ap (λ others. row ∷ others) (change_at (suc first) rows place id change other numbered.1 within next)
+    ap (λ answer. cond answer (change row) row ∷ change_row id change rows) differs
+    ∙ ap (λ others. row ∷ others) (change_at (suc first) rows place id change other numbered.1 within next)
 
 -- the machine's claim of the row at a place that was picked
 pub claim_at : (tables : Tables) (now word place : ℕ) (row after other : FileRow) → AreNumberedFrom (λ row. row.id) 1 tables.rows → place < length tables.rows
@@ -75,7 +81,8 @@ never_eligible tables now none row =
 -- so none is picked
 pub no_pick : (tables : Tables) (now word : ℕ) → tables.settings ≡ None → pick tables now word ≡ None
 no_pick tables now word none =
-    ap (λ rows. option_and_then (λ first. pick_of_link tables.jobs (weights_of tables.settings) (filter (is_same_link first) rows) word) (least (is_link_before tables.rows) rows))
+    ap (λ rows. option_and_then (λ first. pick_of_link tables.jobs (weights_of tables.settings) (filter (is_same_link first) rows) word)
+    (least (is_link_before tables.rows) rows))
     (filter_nothing (is_eligible tables now) (never_eligible tables now none) tables.rows)
 
 -- where none is picked, the machine is idle
@@ -83,12 +90,14 @@ pub idle_after : (tables : Tables) (now : ℕ) (picked : Option FileRow) → pic
 idle_after tables now picked none = subst (λ found. IsPrepared {T = ℕ} (claim tables now found) (Err (Rule Idle))) (sym none) refl
 
 -- what is picked depends on jobs, rows and settings alone
-pick_lists : (tables : Tables) (settings : SettingsData) (now word : ℕ) → tables.settings ≡ Some settings → pick tables now word ≡ pick (tables_of_lists tables.jobs tables.rows settings) now word
+pick_lists : (tables : Tables) (settings : SettingsData) (now word : ℕ) → tables.settings ≡ Some settings
+    → pick tables now word ≡ pick (tables_of_lists tables.jobs tables.rows settings) now word
 pick_lists tables settings now word is = ap (λ settings. pick (record tables { settings = settings }) now word) is
 
 -- what was picked of lists that are the tables' is the machine's pick
 pub picked_of_lists : (tables : Tables) (jobs : List JobRow) (rows : List FileRow) (settings : SettingsData) (now moment word : ℕ) (found : Option FileRow)
-    → jobs ≡ tables.jobs → rows ≡ tables.rows → tables.settings ≡ Some settings → moment ≡ now → found ≡ pick (tables_of_lists jobs rows settings) moment word → pick tables now word ≡ found
+    → jobs ≡ tables.jobs → rows ≡ tables.rows → tables.settings ≡ Some settings → moment ≡ now → found ≡ pick (tables_of_lists jobs rows settings) moment word
+    → pick tables now word ≡ found
 picked_of_lists tables jobs rows settings now moment word found same_jobs same_rows is same_moment picked =
     pick_lists tables settings now word is
     ∙ sym (picked
@@ -97,5 +106,6 @@ picked_of_lists tables jobs rows settings now moment word found same_jobs same_r
     ∙ ap (λ jobs. pick (tables_of_lists jobs tables.rows settings) now word) same_jobs)))
 
 -- the machine accepts the claim of a row that is picked
-pub accepted : (tables : Tables) (now word place : ℕ) (row : FileRow) → pick tables now word ≡ Some row → IsPrepared {T = ℕ} (claim tables now (pick tables now word)) (Ok place)
+pub accepted : (tables : Tables) (now word place : ℕ) (row : FileRow) → pick tables now word ≡ Some row
+    → IsPrepared {T = ℕ} (claim tables now (pick tables now word)) (Ok place)
 accepted tables now word place row picked = subst (λ found. IsPrepared {T = ℕ} (claim tables now found) (Ok place)) (sym picked) tt

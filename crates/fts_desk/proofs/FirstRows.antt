@@ -22,7 +22,8 @@ least-push {Item} is_less (first ∷ items) item =
 module _ {Item : Type 0} (is_less : Item → Item → Bool) (test : Item → Bool) (items : List Item) (place : ℕ) (item : Item) (best : Option Item)
     (inside : place < length items) (is : item ≡ get_or items place item) (so_far : best ≡ least is_less (filter test (take place items))) where
   -- whether the item passes or not
-  by_test : (answer : Bool) → cond (answer && is_better is_less best item) (Some item) best ≡ least is_less (filter test (take place items) ++ cond answer (item ∷ []) [])
+  by_test : (answer : Bool) → cond (answer && is_better is_less best item) (Some item) best
+      ≡ least is_less (filter test (take place items) ++ cond answer (item ∷ []) [])
   by_test true = ap (λ found. cond (is_better is_less found item) (Some item) found) so_far ∙ sym (least-push is_less (filter test (take place items)) item)
   by_test false = so_far ∙ ap (least is_less) (sym (append-nil (filter test (take place items))))
 

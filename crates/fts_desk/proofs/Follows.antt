@@ -14,7 +14,8 @@ use Rattle.fts_desk.specs.Standing.{StandTogether}
 use Rattle.fts_desk.proofs.ChangedRows.{change_row-place, submit_chosen-place}
 
 -- the hop behind a row was woken at its place
-pub hop_woken : (rows after : List FileRow) (job : JobRow) (row : FileRow) (place : ℕ) → AreNumberedFrom (λ other. other.id) 1 rows → row.id ≡ place + 1 → place + 2 < job.first + job.count
+pub hop_woken : (rows after : List FileRow) (job : JobRow) (row : FileRow) (place : ℕ) → AreNumberedFrom (λ other. other.id) 1 rows → row.id ≡ place + 1
+    → place + 2 < job.first + job.count
     → after ≡ change_at (place + 1) woken rows → after ≡ followed_finish Multihop job row rows
 hop_woken rows after job row place numbered at inside is =
     let next : row.id + 1 ≡ 1 + (place + 1) = omega arith in
@@ -39,10 +40,13 @@ part_at (suc from) count place (row ∷ rows) inside =
     part_at from count place rows inside ∙ ap (slice_get (row ∷ rows)) next
 
 -- the next alternative was woken at its place
-pub alternative_woken : (rows of_job after : List FileRow) (job : JobRow) (place : ℕ) → AreNumberedFrom (λ row. row.id) 1 rows → StandTogether rows job → of_job ≡ rows_of_job rows job.number
-    → place < job.count → slice_get of_job place ≡ next_alternative job.strategy rows of_job → after ≡ change_at (job.first - 1 + place) woken rows → after ≡ followed_failure Replica job rows
+pub alternative_woken : (rows of_job after : List FileRow) (job : JobRow) (place : ℕ) → AreNumberedFrom (λ row. row.id) 1 rows → StandTogether rows job
+    → of_job ≡ rows_of_job rows job.number
+    → place < job.count → slice_get of_job place ≡ next_alternative job.strategy rows of_job → after ≡ change_at (job.first - 1 + place) woken rows
+    → after ≡ followed_failure Replica job rows
 alternative_woken rows of_job after job place numbered stand these inside chosen is =
     let there : slice_get rows (job.first - 1 + place) ≡ next_alternative job.strategy rows (rows_of_job rows job.number) =
     sym (ap (λ (some : List FileRow). slice_get some place) (these ∙ stand.taken) ∙ part_at (job.first - 1) job.count place rows inside)
     ∙ chosen ∙ ap (next_alternative job.strategy rows) these in
-    is ∙ sym (submit_chosen-place 1 rows (job.first - 1 + place) (next_alternative job.strategy rows (rows_of_job rows job.number)) numbered (omega (arith, stand.inside)) there)
+    is ∙ sym (submit_chosen-place 1 rows (job.first - 1 + place) (next_alternative job.strategy rows (rows_of_job rows job.number)) numbered
+    (omega (arith, stand.inside)) there)

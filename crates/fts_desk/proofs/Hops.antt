@@ -18,7 +18,8 @@ use Rattle.fts_desk.proofs.ChangedRows.{change_row-place, id_at}
 use Rattle.fts_desk.proofs.Follows.{part_at, hop_woken}
 
 -- a row that passes both tests is found by the one among those that the other keeps
-any_kept : (keep test : FileRow → Bool) (rows : List FileRow) (place : ℕ) (row : FileRow) → slice_get rows place ≡ Some row → keep row ≡ true → test row ≡ true → list_any test (filter keep rows) ≡ true
+any_kept : (keep test : FileRow → Bool) (rows : List FileRow) (place : ℕ) (row : FileRow) → slice_get rows place ≡ Some row → keep row ≡ true → test row ≡ true
+    → list_any test (filter keep rows) ≡ true
 any_kept keep test [] place row at kept passed = cc
 any_kept keep test (head ∷ rows) zero row at kept passed =
     let same : row ≡ head = sym (same_Some head row at) in
@@ -35,12 +36,14 @@ any_kept keep test (head ∷ rows) (suc place) row at kept passed = by_head (kee
     by_head false behind = behind
 
 -- the ids in the front of a numbered list
-front_ids : (start count id : ℕ) (rows : List FileRow) → AreNumberedFrom (λ row. row.id) start rows → list_any (λ row. row.id == id) (take count rows) ≡ true → (start ≤ id) × (id < start + count)
+front_ids : (start count id : ℕ) (rows : List FileRow) → AreNumberedFrom (λ row. row.id) start rows → list_any (λ row. row.id == id) (take count rows) ≡ true
+    → (start ≤ id) × (id < start + count)
 front_ids start zero id rows numbered any = cc
 front_ids start (suc count) id [] numbered any = cc
 front_ids start (suc count) id (row ∷ rows) numbered any = by_head (λ behind. front_ids (suc start) count id rows numbered.1 behind) (row.id == id) refl any
   where
-    by_head : (list_any (λ other. other.id == id) (take count rows) ≡ true → (suc start ≤ id) × (id < suc start + count)) → (answer : Bool) → (row.id == id) ≡ answer
+    by_head : (list_any (λ other. other.id == id) (take count rows) ≡ true → (suc start ≤ id) × (id < suc start + count)) → (answer : Bool)
+        → (row.id == id) ≡ answer
         → (answer || list_any (λ other. other.id == id) (take count rows)) ≡ true → (start ≤ id) × (id < start + suc count)
     by_head behind true same here = (omega (arith, eqb-true row.id id same, numbered.0), omega (arith, eqb-true row.id id same, numbered.0))
     by_head behind false other there =
@@ -48,27 +51,32 @@ front_ids start (suc count) id (row ∷ rows) numbered any = by_head (λ behind.
         (omega (arith, bounds.0), omega (arith, bounds.1))
 
 -- what is left of a numbered list is numbered from a greater number
-numbered-drop : (start from : ℕ) (rows : List FileRow) → AreNumberedFrom (λ row. row.id) start rows → AreNumberedFrom (λ row. row.id) (start + from) (drop from rows)
+numbered-drop : (start from : ℕ) (rows : List FileRow) → AreNumberedFrom (λ row. row.id) start rows
+    → AreNumberedFrom (λ row. row.id) (start + from) (drop from rows)
 numbered-drop start zero rows numbered =
     let same : start ≡ start + 0 = omega arith in
     subst (λ first. AreNumberedFrom (λ row. row.id) first rows) same numbered
-numbered-drop start (suc from) [] numbered = subst (λ (rows : List FileRow). AreNumberedFrom (λ row. row.id) (start + suc from) rows) (sym (drop-nil (suc from))) tt
+numbered-drop start (suc from) [] numbered =
+    subst (λ (rows : List FileRow). AreNumberedFrom (λ row. row.id) (start + suc from) rows) (sym (drop-nil (suc from))) tt
 numbered-drop start (suc from) (row ∷ rows) numbered =
     let same : suc start + from ≡ start + suc from = omega arith in
     subst (λ first. AreNumberedFrom (λ row. row.id) first (drop from rows)) same (numbered-drop (suc start) from rows numbered.1)
 
 -- a row of a job stands among the job's rows
-pub stands_inside : (rows : List FileRow) (job : JobRow) (place : ℕ) (row : FileRow) → AreNumberedFrom (λ other. other.id) 1 rows → StandTogether rows job → slice_get rows place ≡ Some row → row.job ≡ job.number
+pub stands_inside : (rows : List FileRow) (job : JobRow) (place : ℕ) (row : FileRow) → AreNumberedFrom (λ other. other.id) 1 rows → StandTogether rows job
+    → slice_get rows place ≡ Some row → row.job ≡ job.number
     → (job.first - 1 ≤ place) × (place < job.first - 1 + job.count)
 stands_inside rows job place row numbered stand at of_job =
     let id = id_at 1 rows place row numbered at in
-    let any = any_kept (λ other. other.job == job.number) (λ other. other.id == row.id) rows place row at (eq-eqb row.job job.number of_job) (eq-eqb row.id row.id refl) in
+    let any = any_kept (λ other. other.job == job.number) (λ other. other.id == row.id) rows place row at (eq-eqb row.job job.number of_job)
+    (eq-eqb row.id row.id refl) in
     let bounds = front_ids (1 + (job.first - 1)) job.count row.id (drop (job.first - 1) rows) (numbered-drop 1 (job.first - 1) rows numbered)
     (sym (ap (list_any (λ (other : FileRow). other.id == row.id)) stand.taken) ∙ any) in
     (omega (arith, bounds.0, id), omega (arith, bounds.1, id))
 
 -- a change that leaves the row at a place leaves all
-change_at-same : (rows : List FileRow) (place : ℕ) (change : FileRow → FileRow) (row : FileRow) → slice_get rows place ≡ Some row → change row ≡ row → change_at place change rows ≡ rows
+change_at-same : (rows : List FileRow) (place : ℕ) (change : FileRow → FileRow) (row : FileRow) → slice_get rows place ≡ Some row → change row ≡ row
+    → change_at place change rows ≡ rows
 change_at-same [] place change row at same = refl
 change_at-same (head ∷ rows) zero change row at same =
     let here : head ≡ row = same_Some head row at in
@@ -76,7 +84,8 @@ change_at-same (head ∷ rows) zero change row at same =
 change_at-same (head ∷ rows) (suc place) change row at same = ap (λ after. head ∷ after) (change_at-same rows place change row at same)
 
 -- what it means that a hop was found, or none
-hop_cases : (used : Bool) (next : ℕ) (found : Option ℕ) → found ≡ cond used (Some next) None → ((place : ℕ) → found ≡ Some place → (used ≡ true) × (place ≡ next)) × (found ≡ None → used ≡ false)
+hop_cases : (used : Bool) (next : ℕ) (found : Option ℕ) → found ≡ cond used (Some next) None
+    → ((place : ℕ) → found ≡ Some place → (used ≡ true) × (place ≡ next)) × (found ≡ None → used ≡ false)
 hop_cases true next found is = (λ place at. (refl, sym (same_Some next place (sym is ∙ at))), λ none. cc)
 hop_cases false next found is = (λ place at. cc, λ none. refl)
 
@@ -91,15 +100,18 @@ unused_inside rows place unused = elim (slice_get_cases rows place).1 [
     clash is = cc
 
 -- a row of a job, and the hop behind it
-module _ (rows of_job : List FileRow) (job : JobRow) (row : FileRow) (place : ℕ) (numbered : AreNumberedFrom (λ other. other.id) 1 rows) (stand : StandTogether rows job) (these : of_job ≡ rows_of_job rows job.number) (count_is : length of_job ≡ job.count)
+module _ (rows of_job : List FileRow) (job : JobRow) (row : FileRow) (place : ℕ) (numbered : AreNumberedFrom (λ other. other.id) 1 rows)
+    (stand : StandTogether rows job) (these : of_job ≡ rows_of_job rows job.number) (count_is : length of_job ≡ job.count)
     (at : row.id ≡ place + 1) (low : job.first - 1 ≤ place) (high : place < job.first - 1 + job.count) where
   -- the hop that was found is woken
-  pub found_hop : (next : ℕ) (after : List FileRow) → Some next ≡ hop_after of_job (place - (job.first - 1)) → after ≡ change_at (job.first - 1 + next) woken rows → after ≡ followed_finish Multihop job row rows
+  pub found_hop : (next : ℕ) (after : List FileRow) → Some next ≡ hop_after of_job (place - (job.first - 1))
+      → after ≡ change_at (job.first - 1 + next) woken rows → after ≡ followed_finish Multihop job row rows
   found_hop next after found is =
       let is_hop = (hop_cases (is_not_used_at of_job (place - (job.first - 1) + 1)) (place - (job.first - 1) + 1) (Some next) found).0 next refl in
       let inside = unused_inside of_job (place - (job.first - 1) + 1) is_hop.0 in
       let behind : job.first - 1 + next ≡ place + 1 = omega (arith, is_hop.1, low) in
-      hop_woken rows after job row place numbered at (omega (arith, inside, count_is, low, stand.first)) (is ∙ ap (λ number. change_at number woken rows) behind)
+      hop_woken rows after job row place numbered at (omega (arith, inside, count_is, low, stand.first))
+      (is ∙ ap (λ number. change_at number woken rows) behind)
 
   -- where none was found, none is woken
   pub no_hop : None ≡ hop_after of_job (place - (job.first - 1)) → rows ≡ followed_finish Multihop job row rows
@@ -118,10 +130,13 @@ module _ (rows of_job : List FileRow) (job : JobRow) (row : FileRow) (place : �
           let next : row.id + 1 ≡ 1 + (place + 1) = omega (arith, at) in
           let same : job.first - 1 + (place - (job.first - 1) + 1) ≡ place + 1 = omega (arith, low) in
           let there : slice_get of_job (place - (job.first - 1) + 1) ≡ slice_get rows (place + 1) =
-          ap (λ (some : List FileRow). slice_get some (place - (job.first - 1) + 1)) (these ∙ stand.taken) ∙ part_at (job.first - 1) job.count (place - (job.first - 1) + 1) rows within ∙ ap (slice_get rows) same in
+          ap (λ (some : List FileRow). slice_get some (place - (job.first - 1) + 1)) (these ∙ stand.taken)
+          ∙ part_at (job.first - 1) job.count (place - (job.first - 1) + 1) rows within ∙ ap (slice_get rows) same in
           elim (slice_get_cases rows (place + 1)).1 [
             | inl found ↦
-                let unused : is_not_used found.0.state ≡ false = sym (ap (λ (here : Option FileRow). option_map_or (λ other. is_not_used other.state) here false) (there ∙ found.2)) ∙ used in
-                sym (change_row-place 1 rows (place + 1) (row.id + 1) woken numbered next ∙ change_at-same rows (place + 1) woken found.0 found.2 (stays found.0 unused))
+                let unused : is_not_used found.0.state ≡ false =
+                sym (ap (λ (here : Option FileRow). option_map_or (λ other. is_not_used other.state) here false) (there ∙ found.2)) ∙ used in
+                sym (change_row-place 1 rows (place + 1) (row.id + 1) woken numbered next
+                ∙ change_at-same rows (place + 1) woken found.0 found.2 (stays found.0 unused))
             | inr past ↦ absurd (omega (arith, past.0, stand.inside, within))
           ]

@@ -16,13 +16,17 @@ use Rattle.fts_desk.specs.Standing.{StandTogether}
 
 -- a failure that may be tried again, or not, is the same file's
 tried_file : (row : FileRow) (again : Bool) (retries moment : ℕ) (outcome : Outcome)
-    → file_of (if again then record row { state = Submitted; retries = retries; not_before = moment; reason = Ended outcome } else record row { state = Failed; reason = Ended outcome }) ≡ file_of row
+    → file_of (if again then record row { state = Submitted; retries = retries; not_before = moment; reason = Ended outcome } else record row {
+      state = Failed;
+      reason = Ended outcome;
+    }) ≡ file_of row
 tried_file row true retries moment outcome = refl
 tried_file row false retries moment outcome = refl
 
 -- a failure is the same file's
 failed_file : (job : JobRow) (now : ℕ) (outcome : Outcome) (row : FileRow) → file_of (reported_failure job now outcome row) ≡ file_of row
-failed_file job now outcome row = tried_file row (is_retryable outcome && nat_lt row.retries job.retry) (row.retries + 1) (min (now + job.delay) LAST_MOMENT) outcome
+failed_file job now outcome row =
+    tried_file row (is_retryable outcome && nat_lt row.retries job.retry) (row.retries + 1) (min (now + job.delay) LAST_MOMENT) outcome
 
 -- each outcome leaves the file
 ended_file : (job : JobRow) (now : ℕ) (outcome : Outcome) (row : FileRow) → file_of (reported_without_cancel job now outcome row) ≡ file_of row
@@ -36,7 +40,8 @@ ended_file job now StoreFailed row = failed_file job now StoreFailed row
 ended_file job now Stopped row = failed_file job now Stopped row
 
 -- a cancellation leaves it as well
-asked_file : (job : JobRow) (now : ℕ) (outcome : Outcome) (row : FileRow) (asked : Bool) → file_of (if asked then canceled row else reported_without_cancel job now outcome row) ≡ file_of row
+asked_file : (job : JobRow) (now : ℕ) (outcome : Outcome) (row : FileRow) (asked : Bool)
+    → file_of (if asked then canceled row else reported_without_cancel job now outcome row) ≡ file_of row
 asked_file job now outcome row true = refl
 asked_file job now outcome row false = ended_file job now outcome row
 
@@ -55,11 +60,13 @@ module _ (change : FileRow → FileRow) (keeps : (row : FileRow) → file_of (ch
   rows_of_job-map : (rows : List FileRow) (number : ℕ) → rows_of_job (map change rows) number ≡ map change (rows_of_job rows number)
   rows_of_job-map [] number = refl
   rows_of_job-map (row ∷ rows) number =
-      ap (λ job. cond (job == number) (change row ∷ rows_of_job (map change rows) number) (rows_of_job (map change rows) number)) (ap (λ (file : FileOfRow). file.job) (keeps row))
+      ap (λ job. cond (job == number) (change row ∷ rows_of_job (map change rows) number) (rows_of_job (map change rows) number))
+      (ap (λ (file : FileOfRow). file.job) (keeps row))
       ∙ by_head (row.job == number) (rows_of_job-map rows number)
     where
       by_head : (answer : Bool) → rows_of_job (map change rows) number ≡ map change (rows_of_job rows number)
-          → cond answer (change row ∷ rows_of_job (map change rows) number) (rows_of_job (map change rows) number) ≡ map change (cond answer (row ∷ rows_of_job rows number) (rows_of_job rows number))
+          → cond answer (change row ∷ rows_of_job (map change rows) number) (rows_of_job (map change rows) number)
+          ≡ map change (cond answer (row ∷ rows_of_job rows number) (rows_of_job rows number))
       by_head true behind = ap (λ after. change row ∷ after) behind
       by_head false behind = behind
 
@@ -73,7 +80,8 @@ module _ (change : FileRow → FileRow) (keeps : (row : FileRow) → file_of (ch
   }
 
 -- a change of the row with an id leaves each row's file where it leaves that of every row
-pub one_file : (id : ℕ) (change : FileRow → FileRow) → ((row : FileRow) → file_of (change row) ≡ file_of row) → (row : FileRow) → file_of (if row.id == id then change row else row) ≡ file_of row
+pub one_file : (id : ℕ) (change : FileRow → FileRow) → ((row : FileRow) → file_of (change row) ≡ file_of row) → (row : FileRow)
+    → file_of (if row.id == id then change row else row) ≡ file_of row
 one_file id change keeps row = by_test (row.id == id)
   where
     by_test : (answer : Bool) → file_of (if answer then change row else row) ≡ file_of row

@@ -36,7 +36,8 @@ not_before_itself rows one other same =
     let holds_other = held rows other.source.endpoint other.dest.endpoint in
     let sources = slice_cmp nat_cmp one.source.endpoint other.source.endpoint in
     let dests = slice_cmp nat_cmp one.dest.endpoint other.dest.endpoint in
-    let alike : holds_one ≡ holds_other = ap (λ name. held rows name one.dest.endpoint) (one_text one.source.endpoint other.source.endpoint ends.0) ∙ ap (held rows other.source.endpoint) (one_text one.dest.endpoint other.dest.endpoint ends.1) in
+    let alike : holds_one ≡ holds_other = ap (λ name. held rows name one.dest.endpoint) (one_text one.source.endpoint other.source.endpoint ends.0)
+    ∙ ap (held rows other.source.endpoint) (one_text one.dest.endpoint other.dest.endpoint ends.1) in
     ap (λ order. is_lt (ordering_then order (ordering_then sources dests))) (sym (nat_cmp_is holds_one holds_other Equal alike))
     ∙ (ap (λ order. is_lt (ordering_then Equal (ordering_then order dests))) (names_equal one.source.endpoint other.source.endpoint ends.0)
     ∙ ap (λ order. is_lt (ordering_then Equal (ordering_then Equal order))) (names_equal one.dest.endpoint other.dest.endpoint ends.1))

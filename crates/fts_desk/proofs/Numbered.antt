@@ -13,16 +13,19 @@ use Rattle.fts_desk.specs.Bounds.{HaveFiles}
 
 module _ {Item : Type 0} (number_of : Item → ℕ) where
   -- a number below the first is found nowhere
-  pub find-below : (start : ℕ) (items : List Item) (number : ℕ) → AreNumberedFrom number_of start items → number < start → find (λ item. number_of item == number) items ≡ None
+  pub find-below : (start : ℕ) (items : List Item) (number : ℕ) → AreNumberedFrom number_of start items → number < start
+      → find (λ item. number_of item == number) items ≡ None
   find-below start [] number numbered below = refl
   find-below start (item ∷ items) number numbered below = by_head (find-below (suc start) items number numbered.1 (omega arith)) (number_of item == number) refl
     where
-      by_head : find (λ item. number_of item == number) items ≡ None → (answer : Bool) → (number_of item == number) ≡ answer → cond answer (Some item) (find (λ item. number_of item == number) items) ≡ None
+      by_head : find (λ item. number_of item == number) items ≡ None → (answer : Bool) → (number_of item == number) ≡ answer
+          → cond answer (Some item) (find (λ item. number_of item == number) items) ≡ None
       by_head behind true same = absurd (omega (arith, eqb-true (number_of item) number same, numbered.0))
       by_head behind false other = behind
 
   -- a number is found as far behind the first as it is above it
-  pub find-at : (start : ℕ) (items : List Item) (number place : ℕ) → AreNumberedFrom number_of start items → number ≡ start + place → find (λ item. number_of item == number) items ≡ slice_get items place
+  pub find-at : (start : ℕ) (items : List Item) (number place : ℕ) → AreNumberedFrom number_of start items → number ≡ start + place
+      → find (λ item. number_of item == number) items ≡ slice_get items place
   find-at start [] number zero numbered is = refl
   find-at start [] number (suc place) numbered is = refl
   find-at start (item ∷ items) number zero numbered is = by_head (number_of item == number) refl
@@ -30,9 +33,11 @@ module _ {Item : Type 0} (number_of : Item → ℕ) where
       by_head : (answer : Bool) → (number_of item == number) ≡ answer → cond answer (Some item) (find (λ item. number_of item == number) items) ≡ Some item
       by_head true same = refl
       by_head false other = absurd (eqb-false (number_of item) number other (omega (arith, numbered.0)))
-  find-at start (item ∷ items) number (suc place) numbered is = by_head (find-at (suc start) items number place numbered.1 (omega arith)) (number_of item == number) refl
+  find-at start (item ∷ items) number (suc place) numbered is =
+      by_head (find-at (suc start) items number place numbered.1 (omega arith)) (number_of item == number) refl
     where
-      by_head : find (λ item. number_of item == number) items ≡ slice_get items place → (answer : Bool) → (number_of item == number) ≡ answer → cond answer (Some item) (find (λ item. number_of item == number) items) ≡ slice_get items place
+      by_head : find (λ item. number_of item == number) items ≡ slice_get items place → (answer : Bool) → (number_of item == number) ≡ answer
+          → cond answer (Some item) (find (λ item. number_of item == number) items) ≡ slice_get items place
       by_head behind true same = absurd (omega (arith, eqb-true (number_of item) number same, numbered.0))
       by_head behind false other = behind
 
@@ -44,18 +49,22 @@ module _ {Item : Type 0} (number_of : Item → ℕ) where
   slice_get-beyond (item ∷ items) (suc place) past = slice_get-beyond items place (omega arith)
 
   -- what stands at the place of a number is what is found by it
-  pub found_at : (items : List Item) (number : ℕ) → AreNumberedFrom number_of 1 items → option_and_then (slice_get items) (place_in number (length items)) ≡ find (λ item. number_of item == number) items
+  pub found_at : (items : List Item) (number : ℕ) → AreNumberedFrom number_of 1 items → option_and_then (slice_get items) (place_in number (length items))
+      ≡ find (λ item. number_of item == number) items
   found_at items number numbered = by_test (nat_le 1 number) (nat_le number (length items)) refl refl
     where
-      by_test : (low high : Bool) → nat_le 1 number ≡ low → nat_le number (length items) ≡ high → option_and_then (slice_get items) (cond (low && high) (Some (number - 1)) None) ≡ find (λ item. number_of item == number) items
+      by_test : (low high : Bool) → nat_le 1 number ≡ low → nat_le number (length items) ≡ high
+          → option_and_then (slice_get items) (cond (low && high) (Some (number - 1)) None) ≡ find (λ item. number_of item == number) items
       by_test false high is inside = sym (find-below 1 items number numbered (omega (arith, leb-false 1 number is)))
       by_test true true is inside = sym (find-at 1 items number (number - 1) numbered (omega (arith, leb-true 1 number is)))
       by_test true false is past =
           let above = leb-true 1 number is in
-          sym (find-at 1 items number (number - 1) numbered (omega (arith, above)) ∙ slice_get-beyond items (number - 1) (omega (arith, above, leb-false number (length items) past)))
+          sym (find-at 1 items number (number - 1) numbered (omega (arith, above))
+          ∙ slice_get-beyond items (number - 1) (omega (arith, above, leb-false number (length items) past)))
 
   -- a number that is found is one of those that the items have
-  pub within_found : (items : List Item) (number : ℕ) (found : Item) → AreNumberedFrom number_of 1 items → find (λ item. number_of item == number) items ≡ Some found → (1 ≤ number) × (number ≤ length items)
+  pub within_found : (items : List Item) (number : ℕ) (found : Item) → AreNumberedFrom number_of 1 items
+      → find (λ item. number_of item == number) items ≡ Some found → (1 ≤ number) × (number ≤ length items)
   within_found items number found numbered is = by_test (nat_le 1 number) (nat_le number (length items)) refl refl
     where
       none : find (λ item. number_of item == number) items ≡ None → ⊥
@@ -66,7 +75,8 @@ module _ {Item : Type 0} (number_of : Item → ℕ) where
       by_test true true low_is high_is = (leb-true 1 number low_is, leb-true number (length items) high_is)
       by_test true false low_is high_is =
           let above = leb-true 1 number low_is in
-          absurd (none (find-at 1 items number (number - 1) numbered (omega (arith, above)) ∙ slice_get-beyond items (number - 1) (omega (arith, above, leb-false number (length items) high_is))))
+          absurd (none (find-at 1 items number (number - 1) numbered (omega (arith, above))
+          ∙ slice_get-beyond items (number - 1) (omega (arith, above, leb-false number (length items) high_is))))
 
 -- the first items of equal lists are equal
 heads_alike : (one other : ℕ) (ones others : List ℕ) → ◌≡◌ {A = List ℕ} (one ∷ ones) (other ∷ others) → one ≡ other
@@ -86,7 +96,8 @@ front_is (suc count) number others (row ∷ rows) owned =
     (omega (arith, behind.0), behind.1)
 
 -- of the rows in front that another job owns none is taken
-front_passed : (count number wanted : ℕ) (others : List ℕ) (rows : List FileRow) → map (λ row. row.job) rows ≡ replicate count number ++ others → number ≢ wanted
+front_passed : (count number wanted : ℕ) (others : List ℕ) (rows : List FileRow) → map (λ row. row.job) rows ≡ replicate count number ++ others
+    → number ≢ wanted
     → rows_of_job rows wanted ≡ rows_of_job (drop count rows) wanted
 front_passed zero number wanted others rows owned apart = refl
 front_passed (suc count) number wanted others [] owned apart = cc
@@ -108,7 +119,8 @@ front_taken (suc count) number others (row ∷ rows) owned =
     same_number one other is = grind (arith, is)
 
 -- where all jobs have greater numbers, no row is of this one
-none_owned : (start : ℕ) (jobs : List JobRow) (rows : List FileRow) (wanted : ℕ) → AreNumberedFrom (λ job. job.number) start jobs → map (λ row. row.job) rows ≡ owners jobs → wanted < start
+none_owned : (start : ℕ) (jobs : List JobRow) (rows : List FileRow) (wanted : ℕ) → AreNumberedFrom (λ job. job.number) start jobs
+    → map (λ row. row.job) rows ≡ owners jobs → wanted < start
     → rows_of_job rows wanted ≡ []
 none_owned start [] [] wanted numbered owned below = refl
 none_owned start [] (row ∷ rows) wanted numbered owned below = cc
@@ -121,7 +133,8 @@ pub number_at : (jobs : List JobRow) (number : ℕ) (job : JobRow) → job_at jo
 number_at [] number job is = cc
 number_at (head ∷ jobs) number job is = by_head (number_at jobs number job) (head.number == number) refl is
   where
-    by_head : (job_at jobs number ≡ Some job → job.number ≡ number) → (answer : Bool) → (head.number == number) ≡ answer → cond answer (Some head) (job_at jobs number) ≡ Some job → job.number ≡ number
+    by_head : (job_at jobs number ≡ Some job → job.number ≡ number) → (answer : Bool) → (head.number == number) ≡ answer
+        → cond answer (Some head) (job_at jobs number) ≡ Some job → job.number ≡ number
     by_head behind true same at = ap (λ (found : JobRow). found.number) (sym (same_Some head job at)) ∙ eqb-true head.number number same
     by_head behind false other at = behind at
 
@@ -141,10 +154,13 @@ record StandFrom (next : ℕ) (rows : List FileRow) (job : JobRow) : Type 0 wher
   inside : job.first - next + job.count ≤ length rows
   taken : rows_of_job rows job.number ≡ take job.count (drop (job.first - next) rows)
 
-stand_from : (start next : ℕ) (jobs : List JobRow) (rows : List FileRow) (number : ℕ) (job : JobRow) → AreNumberedFrom (λ job. job.number) start jobs → AreFirstsFrom next jobs
+stand_from : (start next : ℕ) (jobs : List JobRow) (rows : List FileRow) (number : ℕ) (job : JobRow) → AreNumberedFrom (λ job. job.number) start jobs
+    → AreFirstsFrom next jobs
     → map (λ row. row.job) rows ≡ owners jobs → job_at jobs number ≡ Some job → StandFrom next rows job
 stand_from start next [] rows number job numbered firsts owned is = cc
-stand_from start next (head ∷ jobs) rows number job numbered firsts owned is = by_head (stand_from (suc start) (next + head.count) jobs (drop head.count rows) number job numbered.1 firsts.1 (front_is head.count head.number (owners jobs) rows owned).1) (head.number == number) refl is
+stand_from start next (head ∷ jobs) rows number job numbered firsts owned is =
+    by_head (stand_from (suc start) (next + head.count) jobs (drop head.count rows) number job numbered.1 firsts.1
+    (front_is head.count head.number (owners jobs) rows owned).1) (head.number == number) refl is
   where
     front : (head.count ≤ length rows) × (map (λ row. row.job) (drop head.count rows) ≡ owners jobs)
     front = front_is head.count head.number (owners jobs) rows owned
@@ -155,14 +171,16 @@ stand_from start next (head ∷ jobs) rows number job numbered firsts owned is =
       inside = omega (arith, firsts.0, front.0);
       taken =
           front_taken head.count head.number (owners jobs) rows owned
-          ∙ (ap (λ (others : List FileRow). take head.count rows ++ others) (none_owned (suc start) jobs (drop head.count rows) head.number numbered.1 front.1 (omega (arith, numbered.0)))
+          ∙ (ap (λ (others : List FileRow). take head.count rows ++ others)
+          (none_owned (suc start) jobs (drop head.count rows) head.number numbered.1 front.1 (omega (arith, numbered.0)))
           ∙ (append-nil (take head.count rows) ∙ ap (λ place. take head.count (drop place rows)) zero_is));
     })
       where
         zero_is : 0 ≡ head.first - next
         zero_is = omega (arith, firsts.0)
 
-    of_others : (job_at jobs number ≡ Some job → StandFrom (next + head.count) (drop head.count rows) job) → (head.number == number) ≡ false → job_at jobs number ≡ Some job → StandFrom next rows job
+    of_others : (job_at jobs number ≡ Some job → StandFrom (next + head.count) (drop head.count rows) job) → (head.number == number) ≡ false
+        → job_at jobs number ≡ Some job → StandFrom next rows job
     of_others stand other at =
         let behind = stand at in
         let found = number_at jobs number job at in
@@ -172,10 +190,12 @@ stand_from start next (head ∷ jobs) rows number job numbered firsts owned is =
           inside = omega (arith, behind.inside, behind.first, front.0, length-drop head.count rows);
           taken =
               front_passed head.count head.number job.number (owners jobs) rows owned (λ same. eqb-false head.number number other (same ∙ found))
-              ∙ (behind.taken ∙ (ap (take job.count) (drop-drop head.count (job.first - (next + head.count)) rows) ∙ ap (λ place. take job.count (drop place rows)) place));
+              ∙ (behind.taken ∙ (ap (take job.count) (drop-drop head.count (job.first - (next + head.count)) rows)
+              ∙ ap (λ place. take job.count (drop place rows)) place));
         }
 
-    by_head : (job_at jobs number ≡ Some job → StandFrom (next + head.count) (drop head.count rows) job) → (answer : Bool) → (head.number == number) ≡ answer → cond answer (Some head) (job_at jobs number) ≡ Some job → StandFrom next rows job
+    by_head : (job_at jobs number ≡ Some job → StandFrom (next + head.count) (drop head.count rows) job) → (answer : Bool) → (head.number == number) ≡ answer
+        → cond answer (Some head) (job_at jobs number) ≡ Some job → StandFrom next rows job
     by_head stand true same at = of_head (same_Some head job at)
     by_head stand false other at = of_others stand other at
 
@@ -186,13 +206,17 @@ stand_together tables number job formed is =
     record { first = stand.first; inside = stand.inside; taken = stand.taken }
 
 -- where no job has a number, no row is of it
-none_from : (start next : ℕ) (jobs : List JobRow) (rows : List FileRow) (number : ℕ) → AreNumberedFrom (λ job. job.number) start jobs → map (λ row. row.job) rows ≡ owners jobs → job_at jobs number ≡ None
+none_from : (start next : ℕ) (jobs : List JobRow) (rows : List FileRow) (number : ℕ) → AreNumberedFrom (λ job. job.number) start jobs
+    → map (λ row. row.job) rows ≡ owners jobs → job_at jobs number ≡ None
     → rows_of_job rows number ≡ []
 none_from start next [] [] number numbered owned is = refl
 none_from start next [] (row ∷ rows) number numbered owned is = cc
-none_from start next (head ∷ jobs) rows number numbered owned is = by_head (none_from (suc start) (next + head.count) jobs (drop head.count rows) number numbered.1 (front_is head.count head.number (owners jobs) rows owned).1) (head.number == number) refl is
+none_from start next (head ∷ jobs) rows number numbered owned is =
+    by_head (none_from (suc start) (next + head.count) jobs (drop head.count rows) number numbered.1
+    (front_is head.count head.number (owners jobs) rows owned).1) (head.number == number) refl is
   where
-    by_head : (job_at jobs number ≡ None → rows_of_job (drop head.count rows) number ≡ []) → (answer : Bool) → (head.number == number) ≡ answer → cond answer (Some head) (job_at jobs number) ≡ None → rows_of_job rows number ≡ []
+    by_head : (job_at jobs number ≡ None → rows_of_job (drop head.count rows) number ≡ []) → (answer : Bool) → (head.number == number) ≡ answer
+        → cond answer (Some head) (job_at jobs number) ≡ None → rows_of_job rows number ≡ []
     by_head behind true same at = cc
     by_head behind false other at = front_passed head.count head.number number (owners jobs) rows owned (eqb-false head.number number other) ∙ behind at
 

@@ -19,7 +19,8 @@ module _ (all rows : List FileRow) (i : ℕ) (d : FileRow) (lt : i < length all)
   -- one more was given up
   pub counted : (count : ℕ) → count ≡ count_by (λ r. is_active r.state) (take i all) → is_active (get_or rows i d).state ≡ true
       → count + 1 ≡ count_by (λ r. is_active r.state) (take (i + 1) all)
-  counted count c a = ap (λ n. n + 1) c ∙ sym (count_by_more_yes (λ (r : FileRow). is_active r.state) all i d lt (ap (λ (r : FileRow). is_active r.state) (sym untouched) ∙ a))
+  counted count c a = ap (λ n. n + 1) c
+      ∙ sym (count_by_more_yes (λ (r : FileRow). is_active r.state) all i d lt (ap (λ (r : FileRow). is_active r.state) (sym untouched) ∙ a))
 
   -- none was given up here
   pub passed_by : (count : ℕ) → count ≡ count_by (λ r. is_active r.state) (take i all) → is_active (get_or rows i d).state ≡ false

@@ -13,18 +13,21 @@ use Rattle.fts_tables.specs.declared.commands.Answer.{Answer}
 use Rattle.fts_tables.specs.declared.commands.Answer.TheVariants.{Reported}
 
 -- what stands at the place that a look-up in a lent list gave is what the list's own look-up finds
-pub found_there : {Item : Type 0} (find_in : List Item → Option Item) (lent items : List Item) (place : ℕ) (item : Item) → lent ≡ items → slice_get lent place ≡ find_in lent → place < length lent
+pub found_there : {Item : Type 0} (find_in : List Item → Option Item) (lent items : List Item) (place : ℕ) (item : Item) → lent ≡ items
+    → slice_get lent place ≡ find_in lent → place < length lent
     → item ≡ get_or items place item → find_in items ≡ Some item
 found_there find_in lent items place item same found inside here =
     let within : place < length items = omega (arith, ap length same) in
     sym (subst (λ some. slice_get some place ≡ find_in some) same found) ∙ slice_get_read items (length items) place item refl within here
 
 -- what is accepted on a test is what the test allows
-accepted_if : (test : Bool) (done : Tables × Answer) (refused : Outcomes) → (IsAccepted refused → ⊥) → IsAccepted (cond test (Ok done) refused) → cond test (Ok done) refused ≡ Ok done
+accepted_if : (test : Bool) (done : Tables × Answer) (refused : Outcomes) → (IsAccepted refused → ⊥) → IsAccepted (cond test (Ok done) refused)
+    → cond test (Ok done) refused ≡ Ok done
 accepted_if true done refused never accepted = refl
 accepted_if false done refused never accepted = absurd (never accepted)
 
-module _ (tables : Tables) (now file attempt : ℕ) (outcome : Outcome) (row : FileRow) (found : row_at tables.rows file ≡ Some row) (accepted : IsAccepted (report tables now (row_at tables.rows file) attempt outcome)) where
+module _ (tables : Tables) (now file attempt : ℕ) (outcome : Outcome) (row : FileRow) (found : row_at tables.rows file ≡ Some row)
+    (accepted : IsAccepted (report tables now (row_at tables.rows file) attempt outcome)) where
   -- the row's report is accepted
   accepted_of_row : IsAccepted (report_of tables now row attempt outcome (job_at tables.jobs row.job))
   accepted_of_row = subst (λ found. IsAccepted (report tables now found attempt outcome)) found accepted
@@ -35,7 +38,8 @@ module _ (tables : Tables) (now file attempt : ℕ) (outcome : Outcome) (row : F
 
   -- the step leaves the row reported, and what follows it
   pub report_is : (job : JobRow) (after : List FileRow) (answer : Answer) → job_at tables.jobs row.job ≡ Some job
-      → after ≡ followed job (reported job now outcome row) (change_row row.id (reported job now outcome) tables.rows) → answer ≡ Reported row.id (reported job now outcome row).state
+      → after ≡ followed job (reported job now outcome row) (change_row row.id (reported job now outcome) tables.rows)
+      → answer ≡ Reported row.id (reported job now outcome row).state
       → report tables now (row_at tables.rows file) attempt outcome ≡ Ok (with_rows tables now after, answer)
   report_is job after answer of_job left told =
       let accepted_of_job = subst (λ found. IsAccepted (report_of tables now row attempt outcome found)) of_job accepted_of_row in

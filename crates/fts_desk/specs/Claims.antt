@@ -8,10 +8,29 @@ use Rattle.fts_tables.specs.Choice.{least, draw, has_activity, is_row_before}
 use Rattle.fts_tables.specs.declared.settings.Weight.{Weight}
 use Rattle.fts_tables.specs.declared.rows.FileRow.{FileRow}
 use Rattle.fts_tables.specs.declared.rows.JobRow.{JobRow}
+use Rattle.fts_desk.specs.declared.claim_view.ClaimView.{ClaimView}
+
+-- the rows that run, which are the ACTIVE ones, all rows, the jobs, the settings and the moment
+pub record ClaimData : Type 0 where
+  pub running : List FileRow
+  pub rows : List FileRow
+  pub jobs : List JobRow
+  pub settings : SettingsData
+  pub moment : ℕ
+
+-- what contracts see of these fields
+abbrev pub claim_data : ClaimView → ClaimData
+claim_data view = record {
+  running = map (λ row. row.now) view.running.now;
+  rows = view.rows.now;
+  jobs = view.jobs.now;
+  settings = view.settings.now;
+  moment = view.moment;
+}
 
 -- the rows that run
-abbrev pub active_rows : List FileRow → List FileRow
-active_rows rows = filter (λ row. is_active row.state) rows
+abbrev pub running_rows : List FileRow → List FileRow
+running_rows rows = filter (λ row. is_active row.state) rows
 
 -- tables of these rows and settings alone: whether a row may be claimed depends on no more of them
 abbrev pub tables_with : List FileRow → SettingsData → Tables
@@ -21,9 +40,9 @@ tables_with rows settings = record { jobs = []; rows = rows; moment = 0; setting
 abbrev pub tables_of_lists : List JobRow → List FileRow → SettingsData → Tables
 tables_of_lists jobs rows settings = record { jobs = jobs; rows = rows; moment = 0; settings = Some settings }
 
--- whether a row may be claimed now, while some rows run
-abbrev pub may_claim : List FileRow → SettingsData → ℕ → FileRow → Bool
-may_claim running settings now row = is_eligible (tables_with running settings) now row
+-- whether a row may be claimed now, while those rows run
+abbrev pub may_claim : ClaimData → FileRow → Bool
+may_claim view row = is_eligible (tables_with view.running view.settings) view.moment row
 
 -- whether a row's slots are left, its endpoints known, and its destination not busy
 abbrev pub is_free : Tables → FileRow → Bool
@@ -34,14 +53,20 @@ abbrev pub is_better : {Item : Type 0} → (Item → Item → Bool) → Option I
 is_better is_less None item = true
 is_better is_less (Some best) item = is_less item best
 
--- whether a row may be claimed on a link under an activity, while some rows run
-abbrev pub is_candidate : List FileRow → SettingsData → ℕ → FileRow → Weight → FileRow → Bool
-is_candidate running settings now link weight row =
-    may_claim running settings now row && is_same_link link row && has_activity settings.weights weight row
+-- whether a row may be claimed on a link under an activity
+abbrev pub is_candidate : ClaimData → FileRow → Weight → FileRow → Bool
+is_candidate view link weight row = may_claim view row && is_same_link link row && has_activity view.settings.weights weight row
 
--- the row that a word picks on a link, while some rows run
-abbrev pub pick_on_link : List FileRow → SettingsData → List JobRow → List FileRow → ℕ → FileRow → ℕ → Option FileRow
-pick_on_link running settings jobs rows now link word =
-    option_and_then (λ weight. least (is_row_before jobs) (filter (is_candidate running settings now link weight) rows))
-    (option_and_then (slice_get settings.weights)
-    (draw (map (λ weight. weight.weight) settings.weights) (map (λ weight. list_any (is_candidate running settings now link weight) rows) settings.weights) word))
+-- the weights of the activities
+abbrev pub listed_weights : ClaimData → List ℕ
+listed_weights view = map (λ weight. weight.weight) view.settings.weights
+
+-- which of the activities wait on a link
+abbrev pub waiting_on : ClaimData → FileRow → List Bool
+waiting_on view link = map (λ weight. list_any (is_candidate view link weight) view.rows) view.settings.weights
+
+-- the row that a word picks on a link
+abbrev pub pick_on_link : ClaimData → FileRow → ℕ → Option FileRow
+pick_on_link view link word =
+    option_and_then (λ weight. least (is_row_before view.jobs) (filter (is_candidate view link weight) view.rows))
+    (option_and_then (slice_get view.settings.weights) (draw (listed_weights view) (waiting_on view link) word))

@@ -5,6 +5,7 @@ use Rattle.fts_tables.specs.Choice.{pick}
 use Rattle.fts_tables.specs.Step.{step}
 use Rattle.fts_tables.specs.History.{IsAccepted}
 use Rattle.fts_tables.specs.Laws.{IsStanding}
+use Rattle.fts_tables.specs.declared.limits.TheConstants.{MAX_COMMANDS}
 use Rattle.fts_tables.specs.declared.commands.Command.{Command}
 use Rattle.fts_tables.specs.declared.commands.Command.TheVariants.{Restart, Submit, CancelJob, CancelFile, SetPriority, Claim, Report}
 use Rattle.fts_desk.specs.DeskData.{DeskData}
@@ -25,7 +26,7 @@ pub record IsSound (tables : Tables) (commands : ℕ) : Type 0 where
 -- tables that are sound after fewer commands than can be counted
 pub record IsSoundEnough (tables : Tables) : Type 0 where
   pub commands : ℕ
-  pub few : commands < 4294967295
+  pub few : commands < MAX_COMMANDS
   pub sound : IsSound tables commands
 
 -- the row at a place is the one that a claim picks
@@ -51,7 +52,7 @@ pub record IsPlanned (kept : Kept) (command : Command) (place : ℕ) : Type 0 wh
 
 -- all that committing a command needs, a number of commands that can still rise among it
 pub record IsReadyFor (kept : Kept) (commands place : ℕ) (command : Command) : Type 0 where
-  pub few : commands < 4294967295
+  pub few : commands < MAX_COMMANDS
   pub accepted : IsAccepted (step (tables_kept kept) command)
   pub planned : IsPlanned kept command place
 

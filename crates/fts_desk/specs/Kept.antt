@@ -35,10 +35,10 @@ HasRoom kept (SetPriority now job priority) = Unit {0}
 HasRoom kept (Claim now word) = Unit {0}
 HasRoom kept (Report now file attempt outcome) = Unit {0}
 
--- the limits on the numbers of jobs and rows, in the order of the machine's refusals
+-- the limits on the numbers of jobs and rows, in the order of the machine's refusals; want of memory where both leave room
 abbrev pub IsRoomFor : ℕ → ℕ → ℕ → Result (Unit {0}) DeskFault → Type 0
 IsRoomFor jobs rows files (Ok made) = Unit {0}
-IsRoomFor jobs rows files (Err Memory) = Unit {0}
+IsRoomFor jobs rows files (Err Memory) = (jobs < MAX_JOBS) × (rows + files ≤ MAX_ROWS)
 IsRoomFor jobs rows files (Err (Rule (JobsFull number))) = (number ≡ jobs) × (MAX_JOBS ≤ jobs)
 IsRoomFor jobs rows files (Err (Rule (RowsFull number))) = (number ≡ rows) × (jobs < MAX_JOBS) × (MAX_ROWS < rows + files)
 IsRoomFor jobs rows files (Err (Rule rule)) = ⊥

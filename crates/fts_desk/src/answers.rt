@@ -1,22 +1,22 @@
 //! What the tables answer without changing: the rows and the state of a job, and what a link holds.
 ghost use Rattle.std.specs.Prelude.{◌≡◌, ◌↔◌, ◌≤◌, [], length, Some, None, option_map};
-ghost use Rattle.fts_tables.specs.Tables.{AreWellFormed, rows_of_job as rows_of_number_in, job_at};
+ghost use Rattle.fts_tables.specs.Tables.{AreWellFormed, rows_of_job, job_at};
 ghost use Rattle.fts_tables.specs.Limits.{held};
 ghost use Rattle.fts_tables.specs.declared.limits.TheConstants.{MAX_ROWS};
 ghost use Rattle.fts_desk.specs.Kept.{tables_kept};
 ghost use Rattle.fts_desk.specs.Bounds.{HaveFiles};
-ghost use Rattle.fts_desk.specs.DeskData.{state_at, name_at as name_at_place, held_at};
+ghost use Rattle.fts_desk.specs.DeskData.{state_at, name_at, held_at};
 
 use crate::kept::Kept;
 use crate::lookups::{find_job, rows_of_job, rows_stand_together};
 use fts_states::job_state;
-use fts_tables::{FileRow, FileState, JobState, LinkAt, Settings};
+use fts_tables::{FileRow, JobState, LinkAt, Settings};
 
 /// The rows of the job of a number, and none where there is no such job.
 pub fn rows_of_number(kept: &Kept, number: u32) -> &[FileRow]
     requires formed { AreWellFormed (tables_kept kept.now) }
     requires files { HaveFiles kept.now.jobs.items }
-    ensures rows { result.now ≡ rows_of_number_in kept.now.rows.items number }
+    ensures rows { result.now ≡ rows_of_job kept.now.rows.items number }
     ensures none { (result.now ≡ []) ↔ (job_at kept.now.jobs.items number ≡ None) }
 {
     rows_stand_together();
@@ -41,7 +41,7 @@ pub fn state_of(kept: &Kept, number: u32) -> Option<JobState>
 
 /// The name of the endpoint at a place of the settings, where there is one.
 fn name_at(settings: Option<&Settings>, place: u16) -> Option<&str>
-    ensures name { option_map (λ name. name.now) result ≡ name_at_place (option_map (λ settings. settings.now) settings.entry) place }
+    ensures name { option_map (λ name. name.now) result ≡ name_at (option_map (λ settings. settings.now) settings.entry) place }
 {
     match settings?.endpoints.as_slice().get(usize::from(place)) {
         Some(endpoint) => Some(endpoint.name.as_str()),
@@ -55,11 +55,7 @@ fn held_between(rows: &[FileRow], source: &str, dest: &str) -> usize
     ensures few { result ≤ length rows.now }
 {
     rows.iter()
-        .filter(|row| {
-            matches!(row.state, FileState::Active)
-                && row.source.endpoint.as_str() == source
-                && row.dest.endpoint.as_str() == dest
-        })
+        .filter(|row| row.state.is_active() && row.is_on_link(source, dest))
         .count()
 }
 

@@ -8,5 +8,7 @@ ghost use Rattle.fts_desk.specs.Bounds.{AreBounded, BringsFiles};
 
 /// A law: an accepted command keeps the bounds, with one command more.
 pub fn steps_keep_bounds()
-    ensures bounds { (tables : Tables) (commands : ℕ) (command : Command) → AreBounded commands tables.jobs tables.rows → BringsFiles command → IsAccepted (step tables command) → AreBounded (commands + 1) (tables_after tables (step tables command)).jobs (tables_after tables (step tables command)).rows }
+    ensures bounds { (tables : Tables) (commands : ℕ) (command : Command)
+        → AreBounded commands tables.jobs tables.rows → BringsFiles command → IsAccepted (step tables command)
+        → AreBounded (commands + 1) (tables_after tables (step tables command)).jobs (tables_after tables (step tables command)).rows }
 {}

@@ -4,8 +4,8 @@
 ghost use Rattle.std.specs.Prelude.{◌≡◌, ℕ, ◌==◌, map, option_map, Ok, Err, if◌then◌else◌};
 ghost use Rattle.std.specs.List.{list_any};
 ghost use Rattle.fts_tables.specs.Tables.{Tables, AreNumberedFrom, AreWellFormed, job_at, is_live};
-ghost use Rattle.fts_tables.specs.Moves.{cancelled, is_cancellable as may_be_cancelled, is_settled_job as has_settled, change_row};
-ghost use Rattle.fts_tables.specs.Step.{step, cancel_rows, cancel_row as cancel_one_row, cancel_one};
+ghost use Rattle.fts_tables.specs.Moves.{cancelled, is_cancellable, is_settled_job, change_row};
+ghost use Rattle.fts_tables.specs.Step.{step, cancel_rows, cancel_row, cancel_one};
 ghost use Rattle.fts_desk.specs.Cancels.{cancelled_of, after_file, IsInside};
 ghost use Rattle.fts_tables.specs.History.{IsAccepted};
 ghost use Rattle.fts_tables.specs.declared.commands.Command.TheVariants.{CancelJob, CancelFile};
@@ -49,7 +49,8 @@ pub fn check_file(kept: &Kept, job: u32, file: u32) -> Result<(), Refusal>
 /// Whether a row that was named together with a job may be cancelled.
 fn check_found(rows: &[FileRow], job: &JobRow, row: &FileRow) -> Result<(), Refusal>
     requires together { StandTogether rows.now job.now }
-    ensures answer { (tables : Tables) (now : ℕ) → tables.rows ≡ rows.now → IsChecked (if row.now.job == job.now.number then cancel_one tables now job.now row.now job.now.kind else Err Refusal.NoFile) result }
+    ensures answer { (tables : Tables) (now : ℕ) → tables.rows ≡ rows.now
+        → IsChecked (if row.now.job == job.now.number then cancel_one tables now job.now row.now job.now.kind else Err Refusal.NoFile) result }
 {
     if row.job != job.number {
         return Err(Refusal::NoFile);
@@ -62,7 +63,7 @@ fn check_found(rows: &[FileRow], job: &JobRow, row: &FileRow) -> Result<(), Refu
 
 /// Whether a row of a plain job may be cancelled.
 fn check_row(job: &JobRow, row: &FileRow) -> Result<(), Refusal>
-    ensures answer { (tables : Tables) (now : ℕ) → IsChecked (cancel_one_row tables now job.now row.now) result }
+    ensures answer { (tables : Tables) (now : ℕ) → IsChecked (cancel_row tables now job.now row.now) result }
 {
     if is_cancellable(row) {
         Ok(())
@@ -86,7 +87,7 @@ fn check_rows(rows: &[FileRow], job: &JobRow) -> Result<(), Refusal>
 
 /// Whether a cancellation would change a row.
 fn is_cancellable(row: &FileRow) -> bool
-    ensures answer { result ≡ may_be_cancelled row.now }
+    ensures answer { result ≡ is_cancellable row.now }
 {
     match after_cancel(row) {
         CancelStep::Stays => false,
@@ -96,14 +97,14 @@ fn is_cancellable(row: &FileRow) -> bool
 
 /// Whether a cancellation would change one of these rows.
 fn any_cancellable(rows: &[FileRow]) -> bool
-    ensures answer { result ≡ list_any may_be_cancelled rows.now }
+    ensures answer { result ≡ list_any is_cancellable rows.now }
 {
     rows.iter().any(|row| is_cancellable(row))
 }
 
 /// Whether none of a job's rows waits or runs.
 pub fn is_settled_job(rows: &[FileRow]) -> bool
-    ensures answer { result ≡ has_settled rows.now }
+    ensures answer { result ≡ is_settled_job rows.now }
 {
     !any_live(rows)
 }
@@ -112,7 +113,7 @@ pub fn is_settled_job(rows: &[FileRow]) -> bool
 fn any_live(rows: &[FileRow]) -> bool
     ensures answer { result ≡ list_any (λ row. is_live row.state) rows.now }
 {
-    rows.iter().any(|row| matches!(row.state, FileState::Submitted | FileState::Active))
+    rows.iter().any(|row| row.state.is_live())
 }
 
 /// Cancels a job.

@@ -1,5 +1,5 @@
 //! Claim: a worker takes a file to copy. `find_claim` says which row that is, or that the machine refuses; `claim` makes it ACTIVE.
-//! Idle is the only refusal. What `find_claim` takes of memory, a list of the ACTIVE rows, it gives back; `claim` takes none and can't fail.
+//! Idle is the only refusal. What `find_claim` takes of memory, a list of the rows that run, it gives back; `claim` takes none and can't fail.
 //! Called by the desk: `find_claim` as it prepares a Claim, `claim` as it commits it, with the tables unchanged between the two.
 ghost use Rattle.std.specs.Prelude.{
   ◌≡◌,
@@ -19,13 +19,14 @@ ghost use Rattle.fts_tables.specs.Moves.{claimed};
 ghost use Rattle.fts_tables.specs.Step.{step};
 ghost use Rattle.fts_tables.specs.declared.commands.Command.TheVariants.{Claim};
 ghost use Rattle.fts_tables.specs.declared.commands.Answer.TheVariants.{Claimed};
+ghost use Rattle.fts_tables.specs.declared.limits.TheConstants.{MAX_COMMANDS};
 ghost use Rattle.fts_desk.specs.Kept.{tables_kept};
 ghost use Rattle.fts_desk.specs.Prepared.{IsPrepared};
 
 use crate::DeskFault;
+use crate::claim_view::{ClaimView, running_rows};
 use crate::kept::Kept;
 use crate::search::pick_row;
-use crate::slots_left::running_rows;
 use fts_tables::laws::picked_rows_stand;
 use fts_tables::{Answer, FileRow, FileState, Memory, Refusal};
 use std::alloc::Global;
@@ -34,7 +35,8 @@ use std::alloc::Global;
 pub fn find_claim(alloc: Global, kept: &Kept, now: u64, word: u64) -> Result<usize, DeskFault>
     requires formed { AreWellFormed (tables_kept kept.now) }
     ensures answer { IsPrepared (step (tables_kept kept.now) (Claim now word)) result }
-    ensures picked { IfOk result (λ place. (place < length kept.now.rows.items) × (pick (tables_kept kept.now) (max now kept.now.moment) word ≡ slice_get kept.now.rows.items place)) }
+    ensures picked { IfOk result (λ place. (place < length kept.now.rows.items)
+        × (pick (tables_kept kept.now) (max now kept.now.moment) word ≡ slice_get kept.now.rows.items place)) }
 {
     picked_rows_stand();
     let settings = match &kept.settings {
@@ -45,8 +47,14 @@ pub fn find_claim(alloc: Global, kept: &Kept, now: u64, word: u64) -> Result<usi
         Ok(running) => running,
         Err(Memory) => return Err(DeskFault::Memory),
     };
-    let moment = now.max(kept.moment);
-    match pick_row(&running, &kept.rows, settings, &kept.jobs, moment, word) {
+    let view = ClaimView {
+        running: &running,
+        rows: &kept.rows,
+        jobs: &kept.jobs,
+        settings,
+        moment: now.max(kept.moment),
+    };
+    match pick_row(&view, word) {
         Some(row) => Ok(row.id as usize - 1),
         None => Err(DeskFault::Rule(Refusal::Idle)),
     }
@@ -54,7 +62,7 @@ pub fn find_claim(alloc: Global, kept: &Kept, now: u64, word: u64) -> Result<usi
 
 /// A row becomes ACTIVE, for one attempt more.
 fn claim_row(row: &mut FileRow) -> Answer
-    requires attempts { row.old.attempt < 4294967295 }
+    requires attempts { row.old.attempt < MAX_COMMANDS }
     ensures row { row.new ≡ claimed row.old }
     ensures answer { result ≡ Claimed row.old.id (row.old.attempt + 1) }
 {
@@ -70,8 +78,9 @@ fn claim_row(row: &mut FileRow) -> Answer
 pub fn claim(kept: &mut Kept, now: u64, place: usize) -> Answer
     requires formed { AreWellFormed (tables_kept kept.old) }
     requires place { place < length kept.old.rows.items }
-    requires attempts { IfSome (slice_get kept.old.rows.items place) (λ row. row.attempt < 4294967295) }
-    ensures step { (word : ℕ) → pick (tables_kept kept.old) (max now kept.old.moment) word ≡ slice_get kept.old.rows.items place → step (tables_kept kept.old) (Claim now word) ≡ Ok (tables_kept kept.new, result) }
+    requires attempts { IfSome (slice_get kept.old.rows.items place) (λ row. row.attempt < MAX_COMMANDS) }
+    ensures step { (word : ℕ) → pick (tables_kept kept.old) (max now kept.old.moment) word ≡ slice_get kept.old.rows.items place
+        → step (tables_kept kept.old) (Claim now word) ≡ Ok (tables_kept kept.new, result) }
 {
     kept.moment = now.max(kept.moment);
     claim_row(&mut kept.rows[place])

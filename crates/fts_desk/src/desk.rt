@@ -2,19 +2,19 @@
 //! Keeps: tables of the machine's form, with no limit passed and each list within its bounds, and for the command that was prepared
 //! all that committing it needs (`IsDesk`).
 //! Order: `prepare` refuses a command or makes room for it and keeps a copy; `commit` takes the copy and makes the machine's step.
-//! Called by the layer that keeps the journal, which writes the command between the two.
+//! Called by `fts_top`, which commits what it prepared; a caller that keeps a journal writes the command between the two.
 ghost use Rattle.std.specs.Prelude.{◌≡◌, ◌↔◌, ◌+◌, ◌<◌, ◌≤◌, [], length, None, Some, IsSome, IfSome, OnOk, OnErr, Ok, option_map};
-ghost use Rattle.fts_tables.specs.Tables.{empty_tables, number_of_id, rows_of_job as rows_of_number, job_at};
+ghost use Rattle.fts_tables.specs.Tables.{empty_tables, number_of_id, rows_of_job, job_at};
 ghost use Rattle.fts_tables.specs.Laws.{IsStanding};
 ghost use Rattle.fts_tables.specs.Step.{step};
-ghost use Rattle.fts_tables.specs.declared.limits.TheConstants.{MAX_JOBS, MAX_ROWS};
+ghost use Rattle.fts_tables.specs.declared.limits.TheConstants.{MAX_JOBS, MAX_ROWS, MAX_COMMANDS};
 ghost use Rattle.fts_desk.specs.DeskData.{state_at, held_at};
 ghost use Rattle.fts_desk.specs.Prepared.{IsPrepared};
 
 use crate::answers::{held_on_link, rows_of_number, state_of};
 use crate::bounds::steps_keep_bounds;
 use crate::commands::{decide, make_step};
-use crate::find::number_of_id as find_number;
+use crate::find::number_of_id;
 use crate::kept::Kept;
 use fts_tables::laws::steps_keep_standing;
 use fts_tables::{Answer, Command, FileRow, JobRow, JobState, LinkAt, Memory, Refusal, Settings};
@@ -80,9 +80,9 @@ impl Desk {
     }
 
     /// Makes room for a command, in place of one that room was made for before, or says why the machine refuses it.
-    /// The tables stay as they are, and after any `Err` there is room for no command. `commands` has to be below the greatest `u32`.
+    /// The tables stay as they are, and after any `Err` there is room for no command. `commands` has to be below `MAX_COMMANDS`.
     pub fn prepare(&mut self, command: &Command) -> Result<Plan, DeskFault>
-        requires few { self.old.commands < 4294967295 }
+        requires few { self.old.commands < MAX_COMMANDS }
         ensures answer { IsPrepared (step self.old.tables command.now) result }
         ensures tables { self.new.tables ≡ self.old.tables }
         ensures commands { self.new.commands ≡ self.old.commands }
@@ -148,12 +148,12 @@ impl Desk {
     pub fn find(&self, id: u128) -> Option<u32>
         ensures { result ≡ number_of_id self.now.tables.jobs id }
     {
-        find_number(&self.kept.jobs, id)
+        number_of_id(&self.kept.jobs, id)
     }
 
     /// The rows of the job of a number, in order of id. There is none exactly where there is no such job.
     pub fn job_rows(&self, job: u32) -> &[FileRow]
-        ensures rows { result.now ≡ rows_of_number self.now.tables.rows job }
+        ensures rows { result.now ≡ rows_of_job self.now.tables.rows job }
         ensures none { (result.now ≡ []) ↔ (job_at self.now.tables.jobs job ≡ None) }
     {
         rows_of_number(&self.kept, job)

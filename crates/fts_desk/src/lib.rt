@@ -1,12 +1,14 @@
 //! The transfer machine's tables, as a running service keeps them.
 //! A command is applied in two steps: `Desk::prepare` refuses it or makes room for it, and `Desk::commit` does it, takes no memory and can't fail.
-//! What is done lies between them: the caller writes the command to its journal once it is prepared, and commits it once it is written.
+//! A caller that keeps a journal writes the command to it once it is prepared, and commits it once it is written. `fts_top`, which calls the desk
+//! today, keeps none.
 //! Each command is a module of its own: a check that answers as the machine's step would, and the step. `commands.rt` brings them together.
 #![tactic(auto)]
 
 mod answers;
 mod bounds;
 mod cancels;
+mod claim_view;
 mod claims;
 mod commands;
 mod desk;

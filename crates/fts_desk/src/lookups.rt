@@ -2,8 +2,8 @@
 //! That each answer is the machine's own (`job_at`, `row_at`, `rows_of_job`) rests on the form of the tables (`AreWellFormed`).
 //! Called by the module of each command that names a job or a file.
 ghost use Rattle.std.specs.Prelude.{◌≡◌, ◌<◌, ◌+◌, ℕ, length, slice_get, Some, IfSome, option_map, option_and_then};
-ghost use Rattle.fts_tables.specs.Tables.{Tables, AreNumberedFrom, AreWellFormed, job_at, row_at, rows_of_job as rows_of_number};
-ghost use Rattle.fts_tables.specs.declared.rows.JobRow.{JobRow as Job};
+ghost use Rattle.fts_tables.specs.Tables.{Tables, AreNumberedFrom, AreWellFormed, job_at, row_at, rows_of_job};
+ghost use Rattle.fts_tables.specs.declared.rows.JobRow.{JobRow};
 ghost use Rattle.fts_desk.specs.Standing.{place_in, StandTogether};
 
 use fts_tables::{FileRow, JobRow};
@@ -57,7 +57,7 @@ pub fn find_row(rows: &[FileRow], id: u32) -> Option<&FileRow>
 /// The rows of a job, in order of id.
 pub fn rows_of_job<'a>(rows: &'a [FileRow], job: &JobRow) -> &'a [FileRow]
     requires together { StandTogether rows.now job.now }
-    ensures rows { result.now ≡ rows_of_number rows.now job.now.number }
+    ensures rows { result.now ≡ rows_of_job rows.now job.now.number }
     ensures count { length result.now ≡ job.now.count }
 {
     let from = job.first as usize - 1;
@@ -66,5 +66,6 @@ pub fn rows_of_job<'a>(rows: &'a [FileRow], job: &JobRow) -> &'a [FileRow]
 
 /// A law: in well-formed tables the rows of each job stand together.
 pub fn rows_stand_together()
-    ensures together { (tables : Tables) (number : ℕ) (job : Job) → AreWellFormed tables → job_at tables.jobs number ≡ Some job → StandTogether tables.rows job }
+    ensures together { (tables : Tables) (number : ℕ) (job : JobRow) → AreWellFormed tables → job_at tables.jobs number ≡ Some job
+        → StandTogether tables.rows job }
 {}

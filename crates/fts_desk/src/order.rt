@@ -1,16 +1,12 @@
 //! Which of two rows a claim takes first: by their links, and on one link by their jobs and ids.
-//! Keeps: each answer is the machine's own word (`fts_tables/specs/Choice.antt`), where the running rows stand for all rows.
+//! Keeps: each answer is the machine's own word (`fts_tables/specs/Choice.antt`), where the rows that run stand for all rows.
 //! Called by the search of a claim.
 ghost use Rattle.std.specs.Prelude.{◌≡◌, map, option_map};
 ghost use Rattle.std.specs.Ordering.{nat_cmp, ordering_then};
 ghost use Rattle.std.specs.Cmp.Lexicographic.{slice_cmp};
-ghost use Rattle.fts_tables.specs.Tables.{AreNumberedFrom, job_at, is_same_link as same_link};
+ghost use Rattle.fts_tables.specs.Tables.{AreNumberedFrom, job_at};
 ghost use Rattle.fts_tables.specs.Limits.{held};
-ghost use Rattle.fts_tables.specs.Choice.{
-  is_link_before as link_before,
-  is_row_before as row_before,
-  priority_of as priority,
-};
+ghost use Rattle.fts_tables.specs.Choice.{is_link_before, is_row_before, priority_of};
 
 use crate::lookups::job_place;
 use crate::slots_left::held_on;
@@ -30,14 +26,16 @@ fn held_beside(running: &[&FileRow], row: &FileRow) -> usize
 
 /// The links of two rows, by what they hold.
 fn compare_held(running: &[&FileRow], one: &FileRow, other: &FileRow) -> Ordering
-    ensures order { result ≡ nat_cmp (held (map (λ row. row.now) running.now) one.now.source.endpoint one.now.dest.endpoint) (held (map (λ row. row.now) running.now) other.now.source.endpoint other.now.dest.endpoint) }
+    ensures order { let rows = map (λ row. row.now) running.now in
+        result ≡ nat_cmp (held rows one.now.source.endpoint one.now.dest.endpoint) (held rows other.now.source.endpoint other.now.dest.endpoint) }
 {
     held_beside(running, one).cmp(&held_beside(running, other))
 }
 
 /// The links of two rows, by the names of their endpoints.
 fn compare_names(one: &FileRow, other: &FileRow) -> Ordering
-    ensures order { result ≡ ordering_then (slice_cmp nat_cmp one.now.source.endpoint other.now.source.endpoint) (slice_cmp nat_cmp one.now.dest.endpoint other.now.dest.endpoint) }
+    ensures order { result ≡ ordering_then (slice_cmp nat_cmp one.now.source.endpoint other.now.source.endpoint)
+        (slice_cmp nat_cmp one.now.dest.endpoint other.now.dest.endpoint) }
 {
     let by_source = one
         .source
@@ -48,19 +46,11 @@ fn compare_names(one: &FileRow, other: &FileRow) -> Ordering
     by_source.then(by_dest)
 }
 
-/// Whether two rows have one link.
-pub fn is_same_link(one: &FileRow, other: &FileRow) -> bool
-    ensures answer { result ≡ same_link one.now other.now }
-{
-    one.source.endpoint.as_str() == other.source.endpoint.as_str()
-        && one.dest.endpoint.as_str() == other.dest.endpoint.as_str()
-}
-
 /// Whether a row's link goes before another's: it holds less, or as much and its names come first. On one link nothing is counted.
 pub fn is_link_before(running: &[&FileRow], one: &FileRow, other: &FileRow) -> bool
-    ensures answer { result ≡ link_before (map (λ row. row.now) running.now) one.now other.now }
+    ensures answer { result ≡ is_link_before (map (λ row. row.now) running.now) one.now other.now }
 {
-    if is_same_link(one, other) {
+    if one.is_same_link(other) {
         return false;
     }
     compare_held(running, one, other)
@@ -82,7 +72,7 @@ fn job_of<'a>(jobs: &'a [JobRow], number: u32) -> Option<&'a JobRow>
 /// The priority of a row's job, and 0 where there is none.
 fn priority_of(jobs: &[JobRow], row: &FileRow) -> u32
     requires numbered { AreNumberedFrom (λ job. job.number) 1 jobs.now }
-    ensures priority { result ≡ priority jobs.now row.now }
+    ensures priority { result ≡ priority_of jobs.now row.now }
 {
     match job_of(jobs, row.job) {
         Some(job) => job.priority,
@@ -93,7 +83,7 @@ fn priority_of(jobs: &[JobRow], row: &FileRow) -> u32
 /// Whether a row goes before another of its link and activity: its job's priority is greater, or the same and its id less.
 pub fn is_row_before(jobs: &[JobRow], one: &FileRow, other: &FileRow) -> bool
     requires numbered { AreNumberedFrom (λ job. job.number) 1 jobs.now }
-    ensures answer { result ≡ row_before jobs.now one.now other.now }
+    ensures answer { result ≡ is_row_before jobs.now one.now other.now }
 {
     priority_of(jobs, other)
         .cmp(&priority_of(jobs, one))

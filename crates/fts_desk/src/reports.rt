@@ -20,7 +20,7 @@ ghost use Rattle.fts_tables.specs.Tables.{
   Tables,
   AreNumberedFrom,
   AreWellFormed,
-  is_active as is_active_state,
+  is_active,
   job_at,
 };
 ghost use Rattle.fts_tables.specs.Moves.{
@@ -35,9 +35,9 @@ ghost use Rattle.fts_tables.specs.History.{IsAccepted};
 ghost use Rattle.fts_tables.specs.declared.commands.Command.TheVariants.{Report};
 ghost use Rattle.fts_tables.specs.declared.commands.Answer.TheVariants.{Reported};
 ghost use Rattle.fts_tables.specs.declared.limits.TheConstants.{MAX_FILES, MAX_ROWS};
-ghost use Rattle.fts_tables.specs.declared.rows.FileRow.{FileRow as Row};
-ghost use Rattle.fts_tables.specs.declared.rows.JobRow.{JobRow as Job};
-ghost use Rattle.fts_tables.specs.declared.rows.Outcome.{Outcome as Ended};
+ghost use Rattle.fts_tables.specs.declared.rows.FileRow.{FileRow};
+ghost use Rattle.fts_tables.specs.declared.rows.JobRow.{JobRow};
+ghost use Rattle.fts_tables.specs.declared.rows.Outcome.{Outcome};
 ghost use Rattle.fts_tables.specs.declared.rows.JobKind.TheVariants.{Multihop, Replica};
 ghost use Rattle.fts_states.specs.Afters.{with_follow};
 ghost use Rattle.fts_desk.specs.Kept.{tables_kept, IsWithinLimits};
@@ -51,13 +51,13 @@ use crate::sources::next_source;
 use crate::waking::wake_at;
 use fts_choice::next_hop;
 use fts_states::{After, Follow, after_report};
-use fts_tables::{Answer, FileRow, FileState, JobRow, Outcome, Refusal};
+use fts_tables::{Answer, FileRow, JobRow, Outcome, Refusal};
 
 /// Whether a report of a file's attempt is taken, or how the machine refuses it: `NoFile` where there is no such file,
 /// `Stale` where it isn't ACTIVE or at another attempt.
 pub fn check_report(kept: &Kept, file: u32, attempt: u32) -> Result<(), Refusal>
     requires formed { AreWellFormed (tables_kept kept.now) }
-    ensures answer { (now : ℕ) (outcome : Ended) → IsChecked (step (tables_kept kept.now) (Report now file attempt outcome)) result }
+    ensures answer { (now : ℕ) (outcome : Outcome) → IsChecked (step (tables_kept kept.now) (Report now file attempt outcome)) result }
 {
     match row_place(&kept.rows, file) {
         Some(place) => check_row(&kept.jobs, &kept.rows[place], attempt),
@@ -68,7 +68,8 @@ pub fn check_report(kept: &Kept, file: u32, attempt: u32) -> Result<(), Refusal>
 /// Whether a report of an attempt of this row is taken.
 fn check_row(jobs: &[JobRow], row: &FileRow, attempt: u32) -> Result<(), Refusal>
     requires numbered { AreNumberedFrom (λ job. job.number) 1 jobs.now }
-    ensures answer { (tables : Tables) (now : ℕ) (outcome : Ended) → IsChecked (report_of tables now row.now attempt outcome (job_at jobs.now row.now.job)) result }
+    ensures answer { (tables : Tables) (now : ℕ) (outcome : Outcome)
+        → IsChecked (report_of tables now row.now attempt outcome (job_at jobs.now row.now.job)) result }
 {
     match job_place(jobs, row.job) {
         Some(_) => check_attempt(row, attempt),
@@ -78,29 +79,16 @@ fn check_row(jobs: &[JobRow], row: &FileRow, attempt: u32) -> Result<(), Refusal
 
 /// Whether this attempt of a row runs.
 fn check_attempt(row: &FileRow, attempt: u32) -> Result<(), Refusal>
-    ensures answer { (tables : Tables) (now : ℕ) (outcome : Ended) (job : Job) → IsChecked (report_of tables now row.now attempt outcome (Some job)) result }
+    ensures answer { (tables : Tables) (now : ℕ) (outcome : Outcome) (job : JobRow)
+        → IsChecked (report_of tables now row.now attempt outcome (Some job)) result }
 {
-    if is_active(row) && row.attempt == attempt {
+    if row.state.is_active() && row.attempt == attempt {
         Ok(())
     } else {
         Err(Refusal::Stale {
             state: row.state,
             attempt: row.attempt,
         })
-    }
-}
-
-/// Whether a row's copy runs.
-fn is_active(row: &FileRow) -> bool
-    ensures answer { result ≡ is_active_state row.now.state }
-{
-    match row.state {
-        FileState::Active => true,
-        FileState::Submitted
-        | FileState::Finished
-        | FileState::Failed
-        | FileState::Canceled
-        | FileState::NotUsed => false,
     }
 }
 
@@ -142,9 +130,10 @@ fn report_at(
     requires limits { (length rows.old ≤ MAX_ROWS) × (job.now.count ≤ MAX_FILES) }
     requires inside { place < length rows.old }
     requires owned { (job.now.first - 1 ≤ place) × (place < job.now.first - 1 + job.now.count) }
-    requires active { (row : Row) → slice_get rows.old place ≡ Some row → IsTrue (is_active_state row.state) }
-    ensures rows { (row : Row) → slice_get rows.old place ≡ Some row → rows.new ≡ followed job.now (reported job.now now outcome.now row) (change_row row.id (reported job.now now outcome.now) rows.old) }
-    ensures answer { (row : Row) → slice_get rows.old place ≡ Some row → result ≡ Reported row.id (reported job.now now outcome.now row).state }
+    requires active { (row : FileRow) → slice_get rows.old place ≡ Some row → IsTrue (is_active row.state) }
+    ensures rows { (row : FileRow) → slice_get rows.old place ≡ Some row
+        → rows.new ≡ followed job.now (reported job.now now outcome.now row) (change_row row.id (reported job.now now outcome.now) rows.old) }
+    ensures answer { (row : FileRow) → slice_get rows.old place ≡ Some row → result ≡ Reported row.id (reported job.now now outcome.now row).state }
 {
     let file = rows[place].id;
     let after = report_row(&mut rows[place], job, now, outcome);
@@ -157,10 +146,10 @@ fn report_at(
 
 /// Reports the copy of a row, and says what follows it.
 fn report_row(row: &mut FileRow, job: &JobRow, now: u64, outcome: &Outcome) -> After
-    requires active { IsTrue (is_active_state row.old.state) }
+    requires active { IsTrue (is_active row.old.state) }
     ensures row { row.new ≡ reported job.now now outcome.now row.old }
     ensures state { result.state ≡ row.new.state }
-    ensures follow { (rows : List Row) → followed job.now row.new rows ≡ with_follow result.follow job.now row.old rows }
+    ensures follow { (rows : List FileRow) → followed job.now row.new rows ≡ with_follow result.follow job.now row.old rows }
 {
     let after = after_report(row, job, outcome, now);
     row.state = after.state;
@@ -178,7 +167,7 @@ fn follow(rows: &mut [FileRow], place: usize, job: &JobRow, follow: Follow)
     requires together { StandTogether rows.old job.now }
     requires limits { (length rows.old ≤ MAX_ROWS) × (job.now.count ≤ MAX_FILES) }
     requires owned { (job.now.first - 1 ≤ place) × (place < job.now.first - 1 + job.now.count) }
-    ensures rows { (row : Row) → row.id ≡ place + 1 → rows.new ≡ with_follow follow job.now row rows.old }
+    ensures rows { (row : FileRow) → row.id ≡ place + 1 → rows.new ≡ with_follow follow job.now row rows.old }
 {
     match follow {
         Follow::Nothing => {}
@@ -192,7 +181,7 @@ fn wake_hop(rows: &mut [FileRow], place: usize, job: &JobRow)
     requires numbered { AreNumberedFrom (λ row. row.id) 1 rows.old }
     requires together { StandTogether rows.old job.now }
     requires owned { (job.now.first - 1 ≤ place) × (place < job.now.first - 1 + job.now.count) }
-    ensures rows { (row : Row) → row.id ≡ place + 1 → rows.new ≡ followed_finish Multihop job.now row rows.old }
+    ensures rows { (row : FileRow) → row.id ≡ place + 1 → rows.new ≡ followed_finish Multihop job.now row rows.old }
 {
     let first = job.first as usize - 1;
     match next_hop(rows_of_job(rows, job), place - first) {

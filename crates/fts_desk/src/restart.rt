@@ -8,7 +8,7 @@ ghost use Rattle.fts_desk.specs.Kept.{tables_kept};
 
 use crate::kept::Kept;
 use fts_states::after_restart;
-use fts_tables::{Answer, FileRow, FileState, Reason, Settings};
+use fts_tables::{Answer, FileRow, Reason, Settings};
 
 /// Begins a run with these settings.
 pub fn restart(kept: &mut Kept, now: u64, settings: Settings) -> Answer
@@ -44,18 +44,12 @@ fn release_one(row: &mut FileRow) -> bool
     ensures was { result ≡ is_active row.old.state }
 {
     let state = after_restart(row);
-    match row.state {
-        FileState::Active => {
-            if matches!(state, FileState::Canceled) {
-                row.reason = Reason::Cancelled;
-            }
-            row.state = state;
-            true
-        }
-        FileState::Submitted
-        | FileState::Finished
-        | FileState::Failed
-        | FileState::Canceled
-        | FileState::NotUsed => false,
+    if !row.state.is_active() {
+        return false;
     }
+    if state.is_canceled() {
+        row.reason = Reason::Cancelled;
+    }
+    row.state = state;
+    true
 }

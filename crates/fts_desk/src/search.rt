@@ -1,13 +1,15 @@
 //! The row that a claim takes, found without memory by walking the rows: first the link, then the activity that the word draws, then the row.
 //! Keeps: `pick_row` is the machine's `pick` (`fts_tables/specs/Choice.antt`), given the rows that run.
-//! Each walk tests what is cheap first, so a claim costs the rows times the running rows and the listed activities.
+//! Each walk tests what is cheap first: only a row that is due, and in reach of the answer, is held against the rows that run.
 //! Called by the claim's decision.
 ghost use Rattle.std.specs.Prelude.{
   ◌≡◌,
+  ◌<◌,
   ◌≤◌,
   ◌&&◌,
   All,
   IsTrue,
+  IfSome,
   length,
   map,
   bytes_eq,
@@ -19,31 +21,35 @@ ghost use Rattle.fts_tables.specs.SettingsData.{is_within};
 ghost use Rattle.fts_tables.specs.Tables.{AreNumberedFrom};
 ghost use Rattle.fts_tables.specs.Choice.{
   least,
-  is_link_before as link_before,
-  is_row_before as row_before,
-  has_activity as under_activity,
-  draw as drawn,
+  is_link_before,
+  is_row_before,
+  has_activity,
+  draw,
   pick,
 };
 ghost use Rattle.fts_tables.specs.declared.limits.TheConstants.{MAX_WEIGHT, MAX_WEIGHTS};
 ghost use Rattle.fts_desk.specs.Claims.{
-  active_rows,
+  claim_data,
+  running_rows,
   is_better,
   may_claim,
-  is_candidate as candidate,
+  is_candidate,
+  listed_weights,
+  waiting_on,
   pick_on_link,
   tables_of_lists,
 };
 
-use crate::order::{is_link_before, is_row_before, is_same_link};
+use crate::claim_view::ClaimView;
+use crate::order::{is_link_before, is_row_before};
 use crate::slots_left::{is_due, is_free};
 use fts_choice::draw;
 use fts_tables::limits::MAX_WEIGHTS;
-use fts_tables::{FileRow, JobRow, Settings, Weight};
+use fts_tables::{FileRow, Settings, Weight};
 
 /// Whether a row's link goes before that of the best so far.
 fn is_better_link(running: &[&FileRow], best: Option<&FileRow>, row: &FileRow) -> bool
-    ensures answer { result ≡ is_better (link_before (map (λ row. row.now) running.now)) (option_map (λ best. best.now) best.entry) row.now }
+    ensures answer { result ≡ is_better (is_link_before (map (λ row. row.now) running.now)) (option_map (λ best. best.now) best.entry) row.now }
 {
     match best {
         Some(best) => is_link_before(running, row, best),
@@ -52,30 +58,21 @@ fn is_better_link(running: &[&FileRow], best: Option<&FileRow>, row: &FileRow) -
 }
 
 /// Whether a row may be claimed, and its link goes before that of the best so far.
-fn is_next_link(
-    running: &[&FileRow],
-    settings: &Settings,
-    now: u64,
-    best: Option<&FileRow>,
-    row: &FileRow,
-) -> bool
-    ensures answer { result ≡ (may_claim (map (λ row. row.now) running.now) settings.now now row.now && is_better (link_before (map (λ row. row.now) running.now)) (option_map (λ best. best.now) best.entry) row.now) }
+fn is_next_link(view: &ClaimView, best: Option<&FileRow>, row: &FileRow) -> bool
+    ensures answer { let seen = claim_data view.now in
+        result ≡ (may_claim seen row.now && is_better (is_link_before seen.running) (option_map (λ best. best.now) best.entry) row.now) }
 {
-    is_due(row, now) && is_better_link(running, best, row) && is_free(running, settings, row)
+    is_due(row, view.moment) && is_better_link(view.running, best, row) && is_free(view, row)
 }
 
 /// The first of the rows that may be claimed whose link goes before the others.
-fn first_link<'a>(
-    running: &[&FileRow],
-    rows: &'a [FileRow],
-    settings: &Settings,
-    now: u64,
-) -> Option<&'a FileRow>
-    ensures first { option_map (λ row. row.now) result ≡ least (link_before (map (λ row. row.now) running.now)) (filter (may_claim (map (λ row. row.now) running.now) settings.now now) rows.now) }
+fn first_link<'a>(view: &ClaimView<'a>) -> Option<&'a FileRow>
+    ensures first { let seen = claim_data view.now in
+        option_map (λ row. row.now) result ≡ least (is_link_before seen.running) (filter (may_claim seen) seen.rows) }
 {
     let mut best: Option<&FileRow> = None;
-    for row in rows {
-        if is_next_link(running, settings, now, best, row) {
+    for row in view.rows {
+        if is_next_link(view, best, row) {
             best = Some(row);
         }
     }
@@ -91,7 +88,7 @@ fn is_listed(weights: &[Weight], name: &str) -> bool
 
 /// Whether a row counts under an activity: its own where that is listed, else the default.
 fn has_activity(weights: &[Weight], weight: &Weight, row: &FileRow) -> bool
-    ensures answer { result ≡ under_activity weights.now weight.now row.now }
+    ensures answer { result ≡ has_activity weights.now weight.now row.now }
 {
     let is_own = row.activity.as_str() == weight.name.as_str();
     let is_default = weight.name.as_str() == "default";
@@ -106,74 +103,54 @@ fn has_activity(weights: &[Weight], weight: &Weight, row: &FileRow) -> bool
 }
 
 /// Whether a row may be claimed on a link under an activity.
-fn is_candidate(
-    running: &[&FileRow],
-    settings: &Settings,
-    now: u64,
-    link: &FileRow,
-    weight: &Weight,
-    row: &FileRow,
-) -> bool
-    ensures answer { result ≡ candidate (map (λ row. row.now) running.now) settings.now now link.now weight.now row.now }
+fn is_candidate(view: &ClaimView, link: &FileRow, weight: &Weight, row: &FileRow) -> bool
+    ensures answer { result ≡ is_candidate (claim_data view.now) link.now weight.now row.now }
 {
-    is_due(row, now)
-        && is_same_link(link, row)
+    let settings = view.settings;
+    is_due(row, view.moment)
+        && link.is_same_link(row)
         && has_activity(settings.weights.as_slice(), weight, row)
-        && is_free(running, settings, row)
+        && is_free(view, row)
 }
 
 /// Whether a row of a link waits under an activity.
-fn is_waiting(
-    running: &[&FileRow],
-    rows: &[FileRow],
-    settings: &Settings,
-    now: u64,
-    link: &FileRow,
-    weight: &Weight,
-) -> bool
-    ensures answer { result ≡ list_any (candidate (map (λ row. row.now) running.now) settings.now now link.now weight.now) rows.now }
+fn is_waiting(view: &ClaimView, link: &FileRow, weight: &Weight) -> bool
+    ensures answer { let seen = claim_data view.now in result ≡ list_any (is_candidate seen link.now weight.now) seen.rows }
 {
-    rows.iter().any(|row| is_candidate(running, settings, now, link, weight, row))
+    view.rows
+        .iter()
+        .any(|row| is_candidate(view, link, weight, row))
 }
 
 /// Whether a row may be claimed on a link under an activity, and goes before the best so far.
 fn is_next_row(
-    running: &[&FileRow],
-    settings: &Settings,
-    jobs: &[JobRow],
-    now: u64,
+    view: &ClaimView,
     link: &FileRow,
     weight: &Weight,
     best: Option<&FileRow>,
     row: &FileRow,
 ) -> bool
-    requires numbered { AreNumberedFrom (λ job. job.number) 1 jobs.now }
-    ensures answer { result ≡ (candidate (map (λ row. row.now) running.now) settings.now now link.now weight.now row.now && is_better (row_before jobs.now) (option_map (λ best. best.now) best.entry) row.now) }
+    requires numbered { AreNumberedFrom (λ job. job.number) 1 view.now.jobs.now }
+    ensures answer { let seen = claim_data view.now in
+        result ≡ (is_candidate seen link.now weight.now row.now && is_better (is_row_before seen.jobs) (option_map (λ best. best.now) best.entry) row.now) }
 {
     if let Some(best) = best
-        && !is_row_before(jobs, row, best)
+        && !is_row_before(view.jobs, row, best)
     {
         return false;
     }
-    is_candidate(running, settings, now, link, weight, row)
+    is_candidate(view, link, weight, row)
 }
 
 /// The first of a link's rows under an activity.
-fn first_row<'a>(
-    running: &[&FileRow],
-    rows: &'a [FileRow],
-    settings: &Settings,
-    jobs: &[JobRow],
-    now: u64,
-    link: &FileRow,
-    weight: &Weight,
-) -> Option<&'a FileRow>
-    requires numbered { AreNumberedFrom (λ job. job.number) 1 jobs.now }
-    ensures first { option_map (λ row. row.now) result ≡ least (row_before jobs.now) (filter (candidate (map (λ row. row.now) running.now) settings.now now link.now weight.now) rows.now) }
+fn first_row<'a>(view: &ClaimView<'a>, link: &FileRow, weight: &Weight) -> Option<&'a FileRow>
+    requires numbered { AreNumberedFrom (λ job. job.number) 1 view.now.jobs.now }
+    ensures first { let seen = claim_data view.now in
+        option_map (λ row. row.now) result ≡ least (is_row_before seen.jobs) (filter (is_candidate seen link.now weight.now) seen.rows) }
 {
     let mut best: Option<&FileRow> = None;
-    for row in rows {
-        if is_next_row(running, settings, jobs, now, link, weight, best, row) {
+    for row in view.rows {
+        if is_next_row(view, link, weight, best, row) {
             best = Some(row);
         }
     }
@@ -181,23 +158,16 @@ fn first_row<'a>(
 }
 
 /// The weights of the activities, and which of them wait on a link.
-fn fill_shares(
-    running: &[&FileRow],
-    rows: &[FileRow],
-    settings: &Settings,
-    now: u64,
-    link: &FileRow,
-    shares: &mut [u32],
-    waiting: &mut [bool],
-)
-    requires shares { length shares.old ≡ length settings.now.weights }
-    requires waiting { length waiting.old ≡ length settings.now.weights }
-    ensures shares { shares.new ≡ map (λ weight. weight.weight) settings.now.weights }
-    ensures waiting { waiting.new ≡ map (λ weight. list_any (candidate (map (λ row. row.now) running.now) settings.now now link.now weight) rows.now) settings.now.weights }
+fn fill_shares(view: &ClaimView, link: &FileRow, shares: &mut [u32], waiting: &mut [bool])
+    requires shares { length shares.old ≡ length view.now.settings.now.weights }
+    requires waiting { length waiting.old ≡ length view.now.settings.now.weights }
+    ensures shares { shares.new ≡ listed_weights (claim_data view.now) }
+    ensures waiting { waiting.new ≡ waiting_on (claim_data view.now) link.now }
 {
+    let settings = view.settings;
     for (place, weight) in settings.weights.as_slice().iter().enumerate() {
         shares[place] = weight.weight;
-        waiting[place] = is_waiting(running, rows, settings, now, link, weight);
+        waiting[place] = is_waiting(view, link, weight);
     }
 }
 
@@ -211,68 +181,38 @@ fn count_weights(settings: &Settings) -> usize
 }
 
 /// The place of the activity that a word draws among those that wait on a link.
-fn draw_place(
-    running: &[&FileRow],
-    rows: &[FileRow],
-    settings: &Settings,
-    now: u64,
-    link: &FileRow,
-    word: u64,
-) -> Option<usize>
-    ensures place { result ≡ drawn (map (λ weight. weight.weight) settings.now.weights) (map (λ weight. list_any (candidate (map (λ row. row.now) running.now) settings.now now link.now weight) rows.now) settings.now.weights) word }
+fn draw_place(view: &ClaimView, link: &FileRow, word: u64) -> Option<usize>
+    ensures place { let seen = claim_data view.now in result ≡ draw (listed_weights seen) (waiting_on seen link.now) word }
+    ensures inside { IfSome result (λ place. place < length view.now.settings.now.weights) }
 {
-    let count = count_weights(settings);
+    let count = count_weights(view.settings);
     let mut shares = [0u32; MAX_WEIGHTS];
     let mut waiting = [false; MAX_WEIGHTS];
-    fill_shares(
-        running,
-        rows,
-        settings,
-        now,
-        link,
-        &mut shares[..count],
-        &mut waiting[..count],
-    );
+    fill_shares(view, link, &mut shares[..count], &mut waiting[..count]);
     draw(&shares[..count], &waiting[..count], word)
 }
 
 /// The row that a word picks on a link.
-fn row_of_link<'a>(
-    running: &[&FileRow],
-    rows: &'a [FileRow],
-    settings: &Settings,
-    jobs: &[JobRow],
-    now: u64,
-    link: &FileRow,
-    word: u64,
-) -> Option<&'a FileRow>
-    requires numbered { AreNumberedFrom (λ job. job.number) 1 jobs.now }
-    ensures row { option_map (λ row. row.now) result ≡ pick_on_link (map (λ row. row.now) running.now) settings.now jobs.now rows.now now link.now word }
+fn row_of_link<'a>(view: &ClaimView<'a>, link: &FileRow, word: u64) -> Option<&'a FileRow>
+    requires numbered { AreNumberedFrom (λ job. job.number) 1 view.now.jobs.now }
+    ensures row { option_map (λ row. row.now) result ≡ pick_on_link (claim_data view.now) link.now word }
 {
-    match draw_place(running, rows, settings, now, link, word) {
+    let settings = view.settings;
+    match draw_place(view, link, word) {
         None => None,
-        Some(place) => match settings.weights.as_slice().get(place) {
-            None => None,
-            Some(weight) => first_row(running, rows, settings, jobs, now, link, weight),
-        },
+        Some(place) => first_row(view, link, &settings.weights.as_slice()[place]),
     }
 }
 
-/// The row that a claim picks, given the ACTIVE rows.
-pub fn pick_row<'a>(
-    running: &[&FileRow],
-    rows: &'a [FileRow],
-    settings: &Settings,
-    jobs: &[JobRow],
-    now: u64,
-    word: u64,
-) -> Option<&'a FileRow>
-    requires numbered { AreNumberedFrom (λ job. job.number) 1 jobs.now }
-    requires running { map (λ row. row.now) running.now ≡ active_rows rows.now }
-    ensures row { option_map (λ row. row.now) result ≡ pick (tables_of_lists jobs.now rows.now settings.now) now word }
+/// The row that a claim picks, given the rows that run.
+pub fn pick_row<'a>(view: &ClaimView<'a>, word: u64) -> Option<&'a FileRow>
+    requires numbered { AreNumberedFrom (λ job. job.number) 1 view.now.jobs.now }
+    requires running { let seen = claim_data view.now in seen.running ≡ running_rows seen.rows }
+    ensures row { let seen = claim_data view.now in
+        option_map (λ row. row.now) result ≡ pick (tables_of_lists seen.jobs seen.rows seen.settings) seen.moment word }
 {
-    match first_link(running, rows, settings, now) {
+    match first_link(view) {
         None => None,
-        Some(link) => row_of_link(running, rows, settings, jobs, now, link, word),
+        Some(link) => row_of_link(view, link, word),
     }
 }

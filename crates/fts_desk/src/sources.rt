@@ -1,41 +1,22 @@
 //! Which source of a replica job comes next.
 //! Its loads are counted over all rows, into an array on the stack: no job has more than `MAX_FILES` rows.
 ghost use Rattle.std.specs.Prelude.{◌≡◌, ◌≤◌, ◌<◌, length, map, take, slice_get, option_and_then, IfSome, List};
-ghost use Rattle.fts_tables.specs.Tables.{is_live as is_live_state, is_same_link as has_same_link};
-ghost use Rattle.fts_tables.specs.Choice.{load as load_of, next_alternative as alternative_of};
-ghost use Rattle.fts_tables.specs.declared.rows.FileRow.{FileRow as Row};
+ghost use Rattle.fts_tables.specs.Choice.{load, next_alternative};
+ghost use Rattle.fts_tables.specs.declared.rows.FileRow.{FileRow};
 ghost use Rattle.fts_tables.specs.declared.rows.Strategy.TheVariants.{Auto, Orderly};
 ghost use Rattle.fts_tables.specs.declared.limits.TheConstants.{MAX_FILES, MAX_ROWS};
 
 use fts_choice::next_alternative;
 use fts_tables::limits::MAX_FILES;
-use fts_tables::{FileRow, FileState, Strategy};
-
-/// Whether a row waits or runs.
-fn is_live(row: &FileRow) -> bool
-    ensures answer { result ≡ is_live_state row.now.state }
-{
-    match row.state {
-        FileState::Submitted | FileState::Active => true,
-        FileState::Finished | FileState::Failed | FileState::Canceled | FileState::NotUsed => false,
-    }
-}
-
-/// Whether two rows have one link.
-fn is_same_link(one: &FileRow, other: &FileRow) -> bool
-    ensures answer { result ≡ has_same_link one.now other.now }
-{
-    one.source.endpoint.as_str() == other.source.endpoint.as_str()
-        && one.dest.endpoint.as_str() == other.dest.endpoint.as_str()
-}
+use fts_tables::{FileRow, Strategy};
 
 /// How many rows wait or run on a row's link.
 fn load(rows: &[FileRow], row: &FileRow) -> u32
     requires few { length rows.now ≤ MAX_ROWS }
-    ensures load { result ≡ load_of rows.now row.now }
+    ensures load { result ≡ load rows.now row.now }
 {
     rows.iter()
-        .filter(|other| is_live(other) && is_same_link(row, other))
+        .filter(|other| other.state.is_live() && row.is_same_link(other))
         .count() as u32
 }
 
@@ -43,7 +24,7 @@ fn load(rows: &[FileRow], row: &FileRow) -> u32
 fn fill_loads(loads: &mut [u32; MAX_FILES], rows: &[FileRow], of_job: &[FileRow])
     requires few { length rows.now ≤ MAX_ROWS }
     requires room { length of_job.now ≤ MAX_FILES }
-    ensures loads { take (length of_job.now) loads.new ≡ map (load_of rows.now) of_job.now }
+    ensures loads { take (length of_job.now) loads.new ≡ map (load rows.now) of_job.now }
 {
     for place in 0..of_job.len() {
         loads[place] = load(rows, &of_job[place]);
@@ -54,7 +35,7 @@ fn fill_loads(loads: &mut [u32; MAX_FILES], rows: &[FileRow], of_job: &[FileRow]
 pub fn next_source(rows: &[FileRow], of_job: &[FileRow], strategy: Strategy) -> Option<usize>
     requires few { length rows.now ≤ MAX_ROWS }
     requires room { length of_job.now ≤ MAX_FILES }
-    ensures row { option_and_then (slice_get of_job.now) result ≡ alternative_of strategy rows.now of_job.now }
+    ensures row { option_and_then (slice_get of_job.now) result ≡ next_alternative strategy rows.now of_job.now }
     ensures inside { IfSome result (λ place. place < length of_job.now) }
 {
     match strategy {
@@ -67,7 +48,7 @@ pub fn next_source(rows: &[FileRow], of_job: &[FileRow], strategy: Strategy) -> 
 fn lightest_source(rows: &[FileRow], of_job: &[FileRow]) -> Option<usize>
     requires few { length rows.now ≤ MAX_ROWS }
     requires room { length of_job.now ≤ MAX_FILES }
-    ensures row { option_and_then (slice_get of_job.now) result ≡ alternative_of Auto rows.now of_job.now }
+    ensures row { option_and_then (slice_get of_job.now) result ≡ next_alternative Auto rows.now of_job.now }
     ensures inside { IfSome result (λ place. place < length of_job.now) }
 {
     let mut loads = [0; MAX_FILES];
@@ -78,7 +59,7 @@ fn lightest_source(rows: &[FileRow], of_job: &[FileRow]) -> Option<usize>
 /// The place of the first row whose turn hasn't come. No load is counted for it: those handed on are of no rows at all.
 fn first_source(of_job: &[FileRow]) -> Option<usize>
     requires room { length of_job.now ≤ MAX_FILES }
-    ensures row { (rows : List Row) → option_and_then (slice_get of_job.now) result ≡ alternative_of Orderly rows of_job.now }
+    ensures row { (rows : List FileRow) → option_and_then (slice_get of_job.now) result ≡ next_alternative Orderly rows of_job.now }
     ensures inside { IfSome result (λ place. place < length of_job.now) }
 {
     let mut loads = [0; MAX_FILES];

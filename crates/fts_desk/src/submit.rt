@@ -16,7 +16,7 @@ ghost use Rattle.std.specs.Prelude.{
   OnOk,
 };
 ghost use Rattle.fts_tables.specs.JobData.{JobData};
-ghost use Rattle.fts_tables.specs.Tables.{number_of_id as number_of_id_in};
+ghost use Rattle.fts_tables.specs.Tables.{number_of_id};
 ghost use Rattle.fts_tables.specs.Moves.{
   new_row,
   new_rows,
@@ -69,7 +69,7 @@ pub fn make_room(kept: &mut Kept, job: &NewJob) -> Result<(), DeskFault>
 
 /// The least number of a job with the id that a new job was given, where it was given one.
 fn number_of_given(jobs: &[JobRow], id: Option<u128>) -> Option<u32>
-    ensures number { result ≡ option_and_then (number_of_id_in jobs.now) id }
+    ensures number { result ≡ option_and_then (number_of_id jobs.now) id }
 {
     match id {
         Some(id) => number_of_id(jobs, id),
@@ -163,7 +163,8 @@ fn add_rows_of_kind(
     requires room { length rows.old.items + length files.items ≤ vec_capacity rows.old }
     requires few { length rows.old.items + length files.items ≤ MAX_ROWS }
     requires files { length files.items ≤ MAX_FILES }
-    ensures rows { (new : JobData) → new.files ≡ files.items → new.strategy ≡ strategy → rows.new.items ≡ rows.old.items ++ rows_of_kind kind rows.old.items job (length rows.old.items + 1) new }
+    ensures rows { (new : JobData) → new.files ≡ files.items → new.strategy ≡ strategy
+        → rows.new.items ≡ rows.old.items ++ rows_of_kind kind rows.old.items job (length rows.old.items + 1) new }
     ensures count { length rows.new.items ≡ length rows.old.items + length files.items }
 {
     match kind {
@@ -177,7 +178,8 @@ fn add_rows_of_kind(
 fn add_hops(rows: &mut Vec<FileRow>, job: u32, files: Vec<NewFile>)
     requires room { length rows.old.items + length files.items ≤ vec_capacity rows.old }
     requires few { length rows.old.items + length files.items ≤ MAX_ROWS }
-    ensures rows { rows.new.items ≡ rows.old.items ++ submit_if_not_used (length rows.old.items + 1) (new_rows job (length rows.old.items + 1) FileState.NotUsed files.items) }
+    ensures rows { rows.new.items ≡ rows.old.items
+        ++ submit_if_not_used (length rows.old.items + 1) (new_rows job (length rows.old.items + 1) FileState.NotUsed files.items) }
 {
     let first = rows.len();
     add_rows(rows, job, FileState::NotUsed, files);
@@ -189,7 +191,8 @@ fn add_sources(rows: &mut Vec<FileRow>, job: u32, strategy: Strategy, files: Vec
     requires room { length rows.old.items + length files.items ≤ vec_capacity rows.old }
     requires few { length rows.old.items + length files.items ≤ MAX_ROWS }
     requires files { length files.items ≤ MAX_FILES }
-    ensures rows { let added = new_rows job (length rows.old.items + 1) FileState.NotUsed files.items in rows.new.items ≡ rows.old.items ++ submit_chosen (next_alternative strategy rows.old.items added) added }
+    ensures rows { let added = new_rows job (length rows.old.items + 1) FileState.NotUsed files.items in
+        rows.new.items ≡ rows.old.items ++ submit_chosen (next_alternative strategy rows.old.items added) added }
 {
     let first = rows.len();
     add_rows(rows, job, FileState::NotUsed, files);

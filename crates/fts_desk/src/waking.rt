@@ -9,13 +9,8 @@ use fts_tables::{FileRow, FileState};
 fn wake(row: &mut FileRow)
     ensures row { row.new ≡ woken row.old }
 {
-    match row.state {
-        FileState::NotUsed => row.state = FileState::Submitted,
-        FileState::Submitted
-        | FileState::Active
-        | FileState::Finished
-        | FileState::Failed
-        | FileState::Canceled => {}
+    if row.state.is_not_used() {
+        row.state = FileState::Submitted;
     }
 }
 

@@ -1,12 +1,12 @@
 //! Counts of a list of links, by walking it.
-ghost use Rattle.std.specs.Prelude.{◌≡◌, position as position_by};
-ghost use Rattle.fts_slots.specs.SlotsData.{held_of, outbound_of, inbound_of, is_same_link as is_same};
+ghost use Rattle.std.specs.Prelude.{◌≡◌, position};
+ghost use Rattle.fts_slots.specs.SlotsData.{held_of, outbound_of, inbound_of, is_same_link};
 
 use fts_tables::LinkAt;
 
 /// Whether two links are one.
 fn is_same_link(one: &LinkAt, other: &LinkAt) -> bool
-    ensures answer { result ≡ is_same one.now other.now }
+    ensures answer { result ≡ is_same_link one.now other.now }
 {
     other.source == one.source && other.dest == one.dest
 }
@@ -37,7 +37,7 @@ pub fn count_to(links: &[LinkAt], endpoint: u16) -> usize
 
 /// The first place of a link in a list.
 pub fn place_of_link(links: &[LinkAt], link: LinkAt) -> Option<usize>
-    ensures place { result ≡ position_by (is_same link) links.now }
+    ensures place { result ≡ position (is_same_link link) links.now }
 {
     links.iter().position(|other| is_same_link(&link, other))
 }

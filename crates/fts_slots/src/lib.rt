@@ -1,7 +1,9 @@
-//! The slots taken on each link and endpoint, and their limits.
+//! The limits of links and endpoints, and the slots taken of them.
+//! `link_limit`, `outbound_limit`, `inbound_limit` and `endpoint_at` go by the names of endpoints. The desk calls them: a limit is decided here alone.
 //! Contracts see a `Slots` as its settings and the list of links held; what is held, inbound and outbound are counts of that list.
 //! Kept in its type (`AreSlots`): no count of the list passes its limit, and there is room for all that the limits allow, so `take` needs no memory.
-//! Called by the desk: `free` before a claim, `take` with it, `give` at the report. It knows nothing of rows and jobs.
+//! `Slots` waits for a caller: the desk counts the ACTIVE rows themselves. It is for one that keeps counts between claims: `free` before a claim,
+//! `take` with it, `give` at the report. It knows nothing of rows and jobs.
 #![tactic(auto)]
 
 mod counts;
@@ -10,5 +12,7 @@ mod slots;
 #[cfg(test)]
 mod tests;
 
-pub use limits::limits_by_place_are_by_name;
+pub use limits::{
+    endpoint_at, inbound_limit, limits_by_place_are_by_name, link_limit, outbound_limit,
+};
 pub use slots::Slots;

@@ -1,4 +1,5 @@
-//! The limits of links and endpoints, by the places of endpoints in the settings.
+//! The limits of links and endpoints: by the names of endpoints, and by their places in the settings. Both ways read one rule or one endpoint.
+//! Called by the desk's claim, by names, and by `Slots`, by places.
 ghost use Rattle.std.specs.Prelude.{
   ◌≡◌,
   ◌<◌,
@@ -16,10 +17,11 @@ ghost use Rattle.std.specs.Prelude.{
   length,
   sum_by,
 };
+ghost use Rattle.std.specs.Option.{option_map_or};
 ghost use Rattle.fts_tables.specs.SettingsData.{SettingsData, IsSettings, is_listed};
-ghost use Rattle.fts_tables.specs.Limits.{link_limit, outbound_limit, inbound_limit};
+ghost use Rattle.fts_tables.specs.Limits.{endpoint_at, link_limit, outbound_limit, inbound_limit};
 ghost use Rattle.fts_slots.specs.SlotsData.{
-  name_at as name_at_place,
+  name_at,
   outbound_limit_at,
   inbound_limit_at,
   link_limit_at,
@@ -48,7 +50,7 @@ pub fn place_of_endpoint(endpoints: &[Endpoint], name: &str) -> Option<usize>
 
 /// The name of the endpoint at a place, and the empty text past the end.
 fn name_at(settings: &Settings, place: u16) -> &str
-    ensures name { result.now ≡ name_at_place settings.now place }
+    ensures name { result.now ≡ name_at settings.now place }
 {
     match settings.endpoints.as_slice().get(usize::from(place)) {
         Some(endpoint) => endpoint.name.as_str(),
@@ -56,16 +58,28 @@ fn name_at(settings: &Settings, place: u16) -> &str
     }
 }
 
+/// The endpoint of a name, where the settings list it.
+pub fn endpoint_at<'a>(settings: &'a Settings, name: &str) -> Option<&'a Endpoint>
+    ensures endpoint { option_map (λ endpoint. endpoint.now) result ≡ endpoint_at (Some settings.now) name.now }
+{
+    settings
+        .endpoints
+        .as_slice()
+        .iter()
+        .find(|endpoint| endpoint.name.as_str() == name)
+}
+
 /// The rule of a link by the names of its ends, where it is listed.
 fn link_rule<'a>(settings: &'a Settings, source: &str, dest: &str) -> Option<&'a LinkRule>
-    ensures rule { option_map (λ rule. rule.now) result ≡ find (λ rule. bytes_eq rule.source source.now && bytes_eq rule.dest dest.now) settings.now.links }
+    ensures rule { option_map (λ rule. rule.now) result
+        ≡ find (λ rule. bytes_eq rule.source source.now && bytes_eq rule.dest dest.now) settings.now.links }
 {
     settings.links.as_slice().iter().find(|rule| rule.source.as_str() == source
         && rule.dest.as_str() == dest)
 }
 
-/// The limit of a link by the names of its ends.
-fn limit_by_names(settings: &Settings, source: &str, dest: &str) -> u32
+/// How many files may be ACTIVE on a link, by the names of its ends: from 1 to 1,000, as the settings list it, else their common limit.
+pub fn link_limit(settings: &Settings, source: &str, dest: &str) -> u32
     ensures limit { result ≡ link_limit (Some settings.now) source.now dest.now }
 {
     match link_rule(settings, source, dest) {
@@ -74,11 +88,45 @@ fn limit_by_names(settings: &Settings, source: &str, dest: &str) -> u32
     }
 }
 
+/// How many files may come from an endpoint, and 0 where there is none.
+fn outbound_of(endpoint: Option<&Endpoint>) -> u32
+    ensures limit { result ≡ option_map_or (λ endpoint. endpoint.now.outbound) endpoint.entry 0 }
+{
+    match endpoint {
+        Some(endpoint) => endpoint.outbound,
+        None => 0,
+    }
+}
+
+/// How many files may go to an endpoint, and 0 where there is none.
+fn inbound_of(endpoint: Option<&Endpoint>) -> u32
+    ensures limit { result ≡ option_map_or (λ endpoint. endpoint.now.inbound) endpoint.entry 0 }
+{
+    match endpoint {
+        Some(endpoint) => endpoint.inbound,
+        None => 0,
+    }
+}
+
+/// How many files may come from the endpoint of a name, and 0 where the settings don't list it.
+pub fn outbound_limit(settings: &Settings, name: &str) -> u32
+    ensures limit { result ≡ outbound_limit (Some settings.now) name.now }
+{
+    outbound_of(endpoint_at(settings, name))
+}
+
+/// How many files may go to the endpoint of a name, and 0 where the settings don't list it.
+pub fn inbound_limit(settings: &Settings, name: &str) -> u32
+    ensures limit { result ≡ inbound_limit (Some settings.now) name.now }
+{
+    inbound_of(endpoint_at(settings, name))
+}
+
 /// How many files may be ACTIVE on a link.
 pub fn link_limit_of(settings: &Settings, link: LinkAt) -> u32
     ensures limit { result ≡ link_limit_at settings.now link }
 {
-    limit_by_names(
+    link_limit(
         settings,
         name_at(settings, link.source),
         name_at(settings, link.dest),
@@ -89,20 +137,14 @@ pub fn link_limit_of(settings: &Settings, link: LinkAt) -> u32
 pub fn outbound_limit_of(settings: &Settings, place: u16) -> u32
     ensures limit { result ≡ outbound_limit_at settings.now place }
 {
-    match settings.endpoints.as_slice().get(usize::from(place)) {
-        Some(endpoint) => endpoint.outbound,
-        None => 0,
-    }
+    outbound_of(settings.endpoints.as_slice().get(usize::from(place)))
 }
 
 /// How many files may go to the endpoint at a place.
 pub fn inbound_limit_of(settings: &Settings, place: u16) -> u32
     ensures limit { result ≡ inbound_limit_at settings.now place }
 {
-    match settings.endpoints.as_slice().get(usize::from(place)) {
-        Some(endpoint) => endpoint.inbound,
-        None => 0,
-    }
+    inbound_of(settings.endpoints.as_slice().get(usize::from(place)))
 }
 
 /// How many files may come from all endpoints together.
@@ -119,6 +161,8 @@ pub fn whole_outbound(settings: &Settings) -> usize
 
 /// A law: since no endpoint is listed twice, the limits by its place are the machine's, which are by its name.
 pub fn limits_by_place_are_by_name()
-    ensures outbound { (settings : SettingsData) (place : ℕ) → IsSettings settings → place < length settings.endpoints → outbound_limit (Some settings) (name_at_place settings place) ≡ outbound_limit_at settings place }
-    ensures inbound { (settings : SettingsData) (place : ℕ) → IsSettings settings → place < length settings.endpoints → inbound_limit (Some settings) (name_at_place settings place) ≡ inbound_limit_at settings place }
+    ensures outbound { (settings : SettingsData) (place : ℕ) → IsSettings settings → place < length settings.endpoints
+        → outbound_limit (Some settings) (name_at settings place) ≡ outbound_limit_at settings place }
+    ensures inbound { (settings : SettingsData) (place : ℕ) → IsSettings settings → place < length settings.endpoints
+        → inbound_limit (Some settings) (name_at settings place) ≡ inbound_limit_at settings place }
 {}

@@ -2,7 +2,7 @@
 //! Each count walks the list. `take` writes into room that `new` made: as many links as the outbound limits add up to, which no list within the limits passes.
 ghost use Rattle.std.specs.Prelude.{◌≡◌, ◌<◌, ◌+◌, ◌↔◌, [], ◌∷◌, ◌++◌, Bool, length, count_by, if◌then◌else◌, IsTrue, IsFalse, IfOk, None};
 ghost use Rattle.fts_tables.specs.SettingsData.{is_listed};
-ghost use Rattle.fts_tables.specs.declared.settings.LinkAt.{LinkAt as Link};
+ghost use Rattle.fts_tables.specs.declared.settings.LinkAt.{LinkAt};
 ghost use Rattle.fts_slots.specs.SlotsData.{
   SlotsData,
   AreWithin,
@@ -89,7 +89,7 @@ impl Slots {
     pub fn give(&mut self, link: LinkAt)
         requires held { 0 < held_of self.old.links link }
         ensures slots { self.new ≡ record self.old { links = without_link link self.old.links } }
-        ensures counts { (test : Link → Bool) → count_by test self.old.links ≡ count_by test self.new.links + (if test link then 1 else 0) }
+        ensures counts { (test : LinkAt → Bool) → count_by test self.old.links ≡ count_by test self.new.links + (if test link then 1 else 0) }
     {
         if let Some(place) = place_of_link(self.links.as_slice(), link) {
             self.links.remove(place);

@@ -11,48 +11,44 @@ ghost use Rattle.fts_tables.specs.Tables.{
 };
 ghost use Rattle.fts_tables.specs.Moves.{settled_state, state_of_job};
 
-use fts_tables::{FileRow, FileState, JobKind, JobState};
+use fts_tables::{FileRow, JobKind, JobState};
 
 /// Whether a file waits or runs.
 fn any_live(rows: &[FileRow]) -> bool
     ensures answer { result ≡ list_any (λ row. is_live row.state) rows.now }
 {
-    rows.iter().any(|row| matches!(row.state, FileState::Submitted | FileState::Active))
+    rows.iter().any(|row| row.state.is_live())
 }
 
 /// Whether a file runs or is settled.
 fn any_begun(rows: &[FileRow]) -> bool
     ensures answer { result ≡ list_any (λ row. is_active row.state || is_settled row.state) rows.now }
 {
-    rows.iter().any(|row| !matches!(row.state, FileState::Submitted | FileState::NotUsed))
+    rows.iter().any(|row| row.state.is_active() || row.state.is_settled())
 }
 
 fn any_canceled(rows: &[FileRow]) -> bool
     ensures answer { result ≡ list_any (λ row. is_canceled row.state) rows.now }
 {
-    rows.iter()
-        .any(|row| matches!(row.state, FileState::Canceled))
+    rows.iter().any(|row| row.state.is_canceled())
 }
 
 fn any_finished(rows: &[FileRow]) -> bool
     ensures answer { result ≡ list_any (λ row. is_finished row.state) rows.now }
 {
-    rows.iter()
-        .any(|row| matches!(row.state, FileState::Finished))
+    rows.iter().any(|row| row.state.is_finished())
 }
 
 fn all_finished(rows: &[FileRow]) -> bool
     ensures answer { result ≡ list_all (λ row. is_finished row.state) rows.now }
 {
-    rows.iter()
-        .all(|row| matches!(row.state, FileState::Finished))
+    rows.iter().all(|row| row.state.is_finished())
 }
 
 fn all_failed(rows: &[FileRow]) -> bool
     ensures answer { result ≡ list_all (λ row. is_failed row.state) rows.now }
 {
-    rows.iter()
-        .all(|row| matches!(row.state, FileState::Failed))
+    rows.iter().all(|row| row.state.is_failed())
 }
 
 /// The state of a settled job of which no row was cancelled.

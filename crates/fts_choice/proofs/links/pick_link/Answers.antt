@@ -20,12 +20,15 @@ pub returns-clause-none : goal.returns-clause-none
 returns-clause-none c =
     let links = c.args.links.now in
     let found = least_place-none (λ link. link.eligible) links (held_of links) in
-    let whole : c.loop-place.place ≡ length links = omega (arith, c.loop-place-test.false, c.loop-place.auto.place-end) in
-    (λ none. found.0 (sym (c.loop-place.invariant.best ∙ ap (least_place (is_eligible_at links) (held_of links)) whole) ∙ none), λ none. c.loop-place.invariant.best ∙ (ap (least_place (is_eligible_at links) (held_of links)) whole ∙ found.1 none))
+    let whole : c.loop-place.place ≡ length links = omega (arith, c.loop-place-test.false, c.loop-place.auto.place-end) in (
+      λ none. found.0 (sym (c.loop-place.invariant.best ∙ ap (least_place (is_eligible_at links) (held_of links)) whole) ∙ none),
+      λ none. c.loop-place.invariant.best ∙ (ap (least_place (is_eligible_at links) (held_of links)) whole ∙ found.1 none),
+    )
 
 pub returns-clause-inside : goal.returns-clause-inside
 returns-clause-inside c =
     let links = c.args.links.now in
     let whole : c.loop-place.place ≡ length links = omega (arith, c.loop-place-test.false, c.loop-place.auto.place-end) in
-    subst (λ found. IfSome found (λ place. place < length links)) (sym (c.loop-place.invariant.best ∙ ap (least_place (is_eligible_at links) (held_of links)) whole))
+    subst (λ found. IfSome found (λ place. place < length links))
+    (sym (c.loop-place.invariant.best ∙ ap (least_place (is_eligible_at links) (held_of links)) whole))
     (least_place-inside (is_eligible_at links) (held_of links) (length links))

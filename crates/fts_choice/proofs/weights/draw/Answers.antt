@@ -9,7 +9,8 @@ use Rattle.fts_choice.proofs.weights.draw.Goals as goal
 pub returns-then-total-eq0-clause-place : goal.returns-then-total-eq0-clause-place
 returns-then-total-eq0-clause-place c =
     let parts = shares c.args.weights.now c.args.waiting.now in
-    sym (place_is_first_above (c.args.word % sum parts) 0 parts ∙ none_above (c.args.word % sum parts) 0 parts (omega (arith, c.total-total.ensures.total, c.if-total-eq0.true)))
+    sym (place_is_first_above (c.args.word % sum parts) 0 parts
+    ∙ none_above (c.args.word % sum parts) 0 parts (omega (arith, c.total-total.ensures.total, c.if-total-eq0.true)))
 
 pub returns-then-total-eq0-clause-none : goal.returns-then-total-eq0-clause-none
 returns-then-total-eq0-clause-none c = (
@@ -21,7 +22,8 @@ returns-then-total-eq0-clause-none c = (
 pub returns-clause-place : goal.returns-clause-place
 returns-clause-place c =
     let parts = shares c.args.weights.now c.args.waiting.now in
-    c.place_above.ensures.place ∙ (ap (λ number. first_above (c.args.word % number) 0 parts) c.total-total.ensures.total ∙ sym (place_is_first_above (c.args.word % sum parts) 0 parts))
+    c.place_above.ensures.place ∙ (ap (λ number. first_above (c.args.word % number) 0 parts) c.total-total.ensures.total
+    ∙ sym (place_is_first_above (c.args.word % sum parts) 0 parts))
 
 pub returns-clause-none : goal.returns-clause-none
 returns-clause-none c =
@@ -30,5 +32,10 @@ returns-clause-none c =
           let fits = fits_unless_above (c.args.word % c.total-total.result) 0 parts (omega arith) (sym c.place_above.ensures.place ∙ none) in
           let less : c.args.word % c.total-total.result < c.total-total.result = mod-lt c.args.word (omega (arith, c.if-total-eq0.false)) in
           absurd (omega (arith, fits, less, c.total-total.ensures.total)),
-      λ nobody. absurd (omega (arith, nobody_waits c.args.weights.now c.args.waiting.now c.requires.alike nobody, c.total-total.ensures.total, c.if-total-eq0.false)),
+      λ nobody. absurd (omega (
+        arith,
+        nobody_waits c.args.weights.now c.args.waiting.now c.requires.alike nobody,
+        c.total-total.ensures.total,
+        c.if-total-eq0.false,
+      )),
     )

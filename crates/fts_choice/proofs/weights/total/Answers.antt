@@ -14,7 +14,13 @@ loop-place-preserved c =
     let inv = c.loop-place.invariant in
     elim c.if-waiting-place.branch [
       | then-waiting-place w ↦ record {
-        total = omega (arith, w.total-is, inv.total, w.from-total.ensures, more_taking weights waiting place c.requires.alike (omega arith) w.if-waiting-place.true);
+        total = omega (
+          arith,
+          w.total-is,
+          inv.total,
+          w.from-total.ensures,
+          more_taking weights waiting place c.requires.alike (omega arith) w.if-waiting-place.true,
+        );
         small = omega (arith, w.total-is, inv.small, w.from-total.ensures, c.type_inv.weights place);
       }
       | else-waiting-place w ↦ record {
@@ -25,5 +31,7 @@ loop-place-preserved c =
 
 pub returns : goal.returns
 returns c = record {
-  total = c.loop-place.invariant.total ∙ ap sum (take_all c.loop-place.place (shares c.args.weights.now c.args.waiting.now) (omega (arith, length-shares c.args.weights.now c.args.waiting.now c.requires.alike)));
+  total = c.loop-place.invariant.total
+      ∙ ap sum (take_all c.loop-place.place (shares c.args.weights.now c.args.waiting.now)
+      (omega (arith, length-shares c.args.weights.now c.args.waiting.now c.requires.alike)));
 }

@@ -9,7 +9,10 @@ use Rattle.fts_desk.proofs.answers.rows_of_number.Goals as goal
 pub rows_of_job-requires : goal.rows_of_job-requires
 rows_of_job-requires c =
     let found = sym (c.in-Some.ensures.job ∙ ap (λ jobs. job_at jobs c.args.number) c.deref.ensures.value) in
-    record { together = subst (λ rows. StandTogether rows c.in-Some.job.now) (sym c.deref-in-Some.ensures.value) (c.rows_stand_together.ensures.together (tables_kept c.args.kept.now) c.args.number c.in-Some.job.now c.requires.formed found) }
+    record {
+      together = subst (λ rows. StandTogether rows c.in-Some.job.now) (sym c.deref-in-Some.ensures.value)
+          (c.rows_stand_together.ensures.together (tables_kept c.args.kept.now) c.args.number c.in-Some.job.now c.requires.formed found);
+    }
 
 pub returns-in-Some-clause-rows : goal.returns-in-Some-clause-rows
 returns-in-Some-clause-rows c =

@@ -14,11 +14,13 @@ use Rattle.fts_desk.proofs.cancels.cancel_file.Goals as goal
 pub cancel_by_kind-requires : goal.cancel_by_kind-requires
 cancel_by_kind-requires c =
     let tables = tables_kept c.args.kept.now in
-    let named = file_found tables (max c.args.now c.args.kept.now.moment) c.args.job c.args.file (job_at tables.jobs c.args.job) (row_at tables.rows c.args.file) c.requires.accepted in
+    let named = file_found tables (max c.args.now c.args.kept.now.moment) c.args.job c.args.file (job_at tables.jobs c.args.job)
+    (row_at tables.rows c.args.file) c.requires.accepted in
     let stands = c.found_rows_stand.ensures.place tables c.args.file named.0 c.requires.formed named.1 in
     let within = slice_get_within tables.rows (c.args.file - 1) named.0 stands.1 in
     record {
-      inside = subst (λ rows. IsInside rows c.args.file) (sym c.deref_mut.ensures.value) (record { numbered = c.requires.formed.rows; first = stands.0; last = omega (arith, stands.0, within) });
+      inside = subst (λ rows. IsInside rows c.args.file) (sym c.deref_mut.ensures.value)
+          (record { numbered = c.requires.formed.rows; first = stands.0; last = omega (arith, stands.0, within) });
     }
 
 pub returns : goal.returns
@@ -32,5 +34,6 @@ returns c =
     record {
       step = file_cancelled tables now c.args.job c.args.file c.requires.accepted
           ∙ rows_done tables (Cancelled c.args.job) (max c.args.now c.args.kept.now.moment) c.max-kept.result
-          (after_file (option_map (λ (job : JobRow). job.kind) (job_at tables.jobs c.args.job)) c.args.job c.args.file tables.rows) (with_items c.args.kept.now.rows c.cancel_by_kind.new.rows).items (sym c.max-kept.ensures) rows;
+          (after_file (option_map (λ (job : JobRow). job.kind) (job_at tables.jobs c.args.job)) c.args.job c.args.file tables.rows)
+          (with_items c.args.kept.now.rows c.cancel_by_kind.new.rows).items (sym c.max-kept.ensures) rows;
     }

@@ -13,7 +13,8 @@ returns c =
     let row = c.index_mut.result.now in
     let rows = set tables.rows c.args.place c.claim_row.new.row in
     record {
-      step = λ word picked. claim_at tables (max c.args.now tables.moment) word c.args.place row c.claim_row.new.row _ c.requires.formed.rows c.requires.place picked c.index_mut.ensures.value c.claim_row.ensures.row
+      step = λ word picked. claim_at tables (max c.args.now tables.moment) word c.args.place row c.claim_row.new.row _ c.requires.formed.rows c.requires.place
+          picked c.index_mut.ensures.value c.claim_row.ensures.row
           ∙ (ap (λ moment. Ok (with_rows tables moment rows, Claimed row.id (row.attempt + 1))) (sym c.max-kept.ensures)
           ∙ ap (λ answer. Ok (with_rows tables c.max-kept.result rows, answer)) (sym c.claim_row.ensures.answer));
     }

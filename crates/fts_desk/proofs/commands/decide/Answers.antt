@@ -8,4 +8,5 @@ use Rattle.fts_desk.proofs.commands.decide.Goals as goal
 
 pub returns-in-Submit-clause-answer : goal.returns-in-Submit-clause-answer
 returns-in-Submit-clause-answer c =
-    subst (λ (command : Command). IsPrepared (step (tables_kept c.args.kept.now) command) c.make_room.result) (sym c.in-Submit.is) (c.make_room.ensures.answer c.in-Submit.now)
+    subst (λ (command : Command). IsPrepared (step (tables_kept c.args.kept.now) command) c.make_room.result) (sym c.in-Submit.is)
+    (c.make_room.ensures.answer c.in-Submit.now)

@@ -5,4 +5,5 @@ use Rattle.fts_desk.proofs.Numbered.{found_at}
 use Rattle.fts_desk.proofs.lookups.job_place.Goals as goal
 
 pub returns-clause-job : goal.returns-clause-job
-returns-clause-job c = ap (option_and_then (slice_get c.args.jobs.now)) c.place_of.ensures.place ∙ found_at (λ (job : JobRow). job.number) c.args.jobs.now c.args.number c.requires.numbered
+returns-clause-job c = ap (option_and_then (slice_get c.args.jobs.now)) c.place_of.ensures.place
+    ∙ found_at (λ (job : JobRow). job.number) c.args.jobs.now c.args.number c.requires.numbered

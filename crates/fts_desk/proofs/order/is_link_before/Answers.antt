@@ -5,5 +5,6 @@ use Rattle.fts_desk.proofs.order.is_link_before.Goals as goal
 
 pub returns-then-is_same_link : goal.returns-then-is_same_link
 returns-then-is_same_link c = record {
-  answer = sym (not_before_itself (map (λ row. row.now) c.args.running.now) c.args.one.now c.args.other.now (sym c.is_same_link.ensures.answer ∙ c.if-is_same_link.true));
+  answer = sym (not_before_itself (map (λ row. row.now) c.args.running.now) c.args.one.now c.args.other.now (sym c.is_same_link.ensures
+      ∙ c.if-is_same_link.true));
 }

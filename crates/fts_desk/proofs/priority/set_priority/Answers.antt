@@ -18,7 +18,8 @@ returns c =
     ∙ sym (with_items_is c.args.kept.now.jobs c.prioritize.new.jobs (c.prioritize.auto.jobs ∙ c.deref_mut.ensures.len)) in
     record {
       step = priority_set tables now c.args.job c.args.priority c.requires.accepted
-          ∙ jobs_done tables (PrioritySet c.args.job) now c.max-kept.result (map change tables.jobs) (with_items c.args.kept.now.jobs c.prioritize.new.jobs).items (sym c.max-kept.ensures) jobs;
+          ∙ jobs_done tables (PrioritySet c.args.job) now c.max-kept.result (map change tables.jobs)
+          (with_items c.args.kept.now.jobs c.prioritize.new.jobs).items (sym c.max-kept.ensures) jobs;
     }
 
 pub prioritize-requires-clause-first : goal.prioritize-requires-clause-first

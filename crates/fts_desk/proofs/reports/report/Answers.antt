@@ -21,7 +21,8 @@ pub report_at-requires-clause-together : goal.report_at-requires-clause-together
 report_at-requires-clause-together c =
     let row = c.index.result.now in
     let job = c.index-in-Some-job_place.result.now in
-    let of_job = found_there (λ (jobs : List JobRow). job_at jobs row.job) c.deref-in-Some.result.now c.args.kept.now.jobs.items c.in-Some-job_place.number job c.deref-in-Some.ensures.value
+    let of_job = found_there (λ (jobs : List JobRow). job_at jobs row.job) c.deref-in-Some.result.now c.args.kept.now.jobs.items c.in-Some-job_place.number job
+    c.deref-in-Some.ensures.value
     c.in-Some-job_place.ensures.job c.in-Some-job_place.ensures.inside.0 c.index-in-Some-job_place.ensures in
     subst (λ (rows : List FileRow). StandTogether rows job) (sym c.deref_mut.ensures.value)
     (c.rows_stand_together.ensures.together (tables_kept c.args.kept.now) row.job job c.requires.formed of_job)
@@ -40,16 +41,19 @@ report_at-requires-clause-owned c =
     let within : place < length rows = omega (arith, ap length c.deref.ensures.value, c.in-Some.ensures.inside.0) in
     let among : number < length jobs = omega (arith, ap length c.deref-in-Some.ensures.value, c.in-Some-job_place.ensures.inside.0) in
     let at = slice_get_read rows (length rows) place row refl within c.index.ensures in
-    let numbered = number_at_place (λ (other : JobRow). other.number) 1 jobs number job c.requires.formed.jobs (slice_get_read jobs (length jobs) number job refl among c.index-in-Some-job_place.ensures) in
+    let numbered = number_at_place (λ (other : JobRow). other.number) 1 jobs number job c.requires.formed.jobs
+    (slice_get_read jobs (length jobs) number job refl among c.index-in-Some-job_place.ensures) in
     let owner : row.job ≡ job.number = omega (arith, numbered, c.in-Some-job_place.ensures.inside.1) in
     stands_inside rows job place row c.requires.formed.rows stand at owner
 
 pub unreachable-requires : goal.unreachable-requires
 unreachable-requires c =
     let row = c.index.result.now in
-    let found = found_there (λ (rows : List FileRow). row_at rows c.args.file) c.deref.result.now c.args.kept.now.rows.items c.in-Some.place row c.deref.ensures.value c.in-Some.ensures.row
+    let found = found_there (λ (rows : List FileRow). row_at rows c.args.file) c.deref.result.now c.args.kept.now.rows.items c.in-Some.place row
+    c.deref.ensures.value c.in-Some.ensures.row
     c.in-Some.ensures.inside.0 c.index.ensures in
-    reported_of_job (tables_kept c.args.kept.now) (max c.args.now c.args.kept.now.moment) c.args.file c.args.attempt c.args.outcome row found c.requires.accepted
+    reported_of_job (tables_kept c.args.kept.now) (max c.args.now c.args.kept.now.moment) c.args.file c.args.attempt c.args.outcome row found
+    c.requires.accepted
     (ap (λ (jobs : List JobRow). job_at jobs row.job) (sym c.deref-in-Some.ensures.value) ∙ sym c.in-None-job_place.ensures.job)
 
 pub returns-clause-step : goal.returns-clause-step
@@ -60,9 +64,11 @@ returns-clause-step c =
     let row = c.index.result.now in
     let job = c.index-in-Some-job_place.result.now in
     let change = reported job now c.args.outcome in
-    let found = found_there (λ (some : List FileRow). row_at some c.args.file) c.deref.result.now rows c.in-Some.place row c.deref.ensures.value c.in-Some.ensures.row
+    let found = found_there (λ (some : List FileRow). row_at some c.args.file) c.deref.result.now rows c.in-Some.place row c.deref.ensures.value
+    c.in-Some.ensures.row
     c.in-Some.ensures.inside.0 c.index.ensures in
-    let of_job = found_there (λ (jobs : List JobRow). job_at jobs row.job) c.deref-in-Some.result.now c.args.kept.now.jobs.items c.in-Some-job_place.number job c.deref-in-Some.ensures.value
+    let of_job = found_there (λ (jobs : List JobRow). job_at jobs row.job) c.deref-in-Some.result.now c.args.kept.now.jobs.items c.in-Some-job_place.number job
+    c.deref-in-Some.ensures.value
     c.in-Some-job_place.ensures.job c.in-Some-job_place.ensures.inside.0 c.index-in-Some-job_place.ensures in
     let lent : c.deref_mut.result.now ≡ rows = c.deref_mut.ensures.value in
     let within : c.in-Some.place < length rows = omega (arith, ap length c.deref.ensures.value, c.in-Some.ensures.inside.0) in

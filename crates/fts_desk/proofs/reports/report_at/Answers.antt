@@ -15,7 +15,8 @@ use Rattle.fts_desk.proofs.reports.report_at.Goals as goal
 pub follow-requires-clause-numbered : goal.follow-requires-clause-numbered
 follow-requires-clause-numbered c =
     let change = reported c.args.job.now c.args.now c.args.outcome.now in
-    let written = change_row-set c.args.rows.now c.args.place change c.index-rows-place-2.result c.report_row-after.new.row c.requires.numbered c.requires.inside c.report_row-after.ensures.row in
+    let written = change_row-set c.args.rows.now c.args.place change c.index-rows-place-2.result c.report_row-after.new.row c.requires.numbered
+    c.requires.inside c.report_row-after.ensures.row in
     let one = λ (row : FileRow). if row.id == c.args.place + 1 then change row else row in
     subst (λ (rows : List FileRow). AreNumberedFrom (λ row. row.id) 1 rows) (sym written)
     (numbered-map one (one_file (c.args.place + 1) change (reported_file c.args.job.now c.args.now c.args.outcome.now)) 1 c.args.rows.now c.requires.numbered)
@@ -23,10 +24,12 @@ follow-requires-clause-numbered c =
 pub follow-requires-clause-together : goal.follow-requires-clause-together
 follow-requires-clause-together c =
     let change = reported c.args.job.now c.args.now c.args.outcome.now in
-    let written = change_row-set c.args.rows.now c.args.place change c.index-rows-place-2.result c.report_row-after.new.row c.requires.numbered c.requires.inside c.report_row-after.ensures.row in
+    let written = change_row-set c.args.rows.now c.args.place change c.index-rows-place-2.result c.report_row-after.new.row c.requires.numbered
+    c.requires.inside c.report_row-after.ensures.row in
     let one = λ (row : FileRow). if row.id == c.args.place + 1 then change row else row in
     subst (λ (rows : List FileRow). StandTogether rows c.args.job.now) (sym written)
-    (together-map one (one_file (c.args.place + 1) change (reported_file c.args.job.now c.args.now c.args.outcome.now)) c.args.rows.now c.args.job.now c.requires.together)
+    (together-map one (one_file (c.args.place + 1) change (reported_file c.args.job.now c.args.now c.args.outcome.now)) c.args.rows.now c.args.job.now
+    c.requires.together)
 
 pub returns-clause-rows : goal.returns-clause-rows
 returns-clause-rows c = λ row at.
@@ -38,10 +41,12 @@ returns-clause-rows c = λ row at.
     let after = set rows place c.report_row-after.new.row in
     let there : get_or rows place c.index-rows-place-2.result ≡ row = get_or_from_slice_get rows place row c.index-rows-place-2.result at in
     let id : row.id ≡ place + 1 = omega (arith, id_at 1 rows place row c.requires.numbered at) in
-    let written = change_row-set rows place change c.index-rows-place-2.result c.report_row-after.new.row c.requires.numbered c.requires.inside c.report_row-after.ensures.row in
+    let written = change_row-set rows place change c.index-rows-place-2.result c.report_row-after.new.row c.requires.numbered c.requires.inside
+    c.report_row-after.ensures.row in
     let changed : c.report_row-after.new.row ≡ change row = c.report_row-after.ensures.row ∙ ap change there in
     c.follow.ensures.rows row id ∙ ap (λ (other : FileRow). with_follow next job other after) (sym there) ∙ sym (c.report_row-after.ensures.follow after)
-    ∙ ap (λ (other : FileRow). followed job other after) changed ∙ ap (followed job (change row)) (written ∙ ap (λ number. change_row number change rows) (sym id))
+    ∙ ap (λ (other : FileRow). followed job other after) changed
+    ∙ ap (followed job (change row)) (written ∙ ap (λ number. change_row number change rows) (sym id))
 
 pub returns-clause-answer : goal.returns-clause-answer
 returns-clause-answer c = λ row at.

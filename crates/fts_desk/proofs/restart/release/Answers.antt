@@ -14,7 +14,11 @@ loop-row-preserved c =
       rows = ap (λ r. set c.loop-row.rows c.loop-row.row-index r) (c.release_one.ensures.row ∙ ap released (sym c.row-item.is))
           ∙ map_over_more released c.args.rows.now c.loop-row.rows c.loop-row.row-index x c.loop-row-test.true inv.rows c.row-item.is;
       count = elim c.if-release_one.branch [
-        | then-release_one w ↦ w.count-is ∙ counted c.args.rows.now c.loop-row.rows c.loop-row.row-index x c.loop-row-test.true inv.rows c.loop-row.count inv.count (sym c.release_one.ensures.was ∙ w.if-release_one.true)
-        | else-release_one w ↦ w.count-is ∙ passed_by c.args.rows.now c.loop-row.rows c.loop-row.row-index x c.loop-row-test.true inv.rows c.loop-row.count inv.count (sym c.release_one.ensures.was ∙ w.if-release_one.false)
+        | then-release_one w ↦ w.count-is
+            ∙ counted c.args.rows.now c.loop-row.rows c.loop-row.row-index x c.loop-row-test.true inv.rows c.loop-row.count inv.count
+            (sym c.release_one.ensures.was ∙ w.if-release_one.true)
+        | else-release_one w ↦ w.count-is
+            ∙ passed_by c.args.rows.now c.loop-row.rows c.loop-row.row-index x c.loop-row-test.true inv.rows c.loop-row.count inv.count
+            (sym c.release_one.ensures.was ∙ w.if-release_one.false)
       ];
     }

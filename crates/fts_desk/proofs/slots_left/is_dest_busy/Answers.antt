@@ -8,5 +8,6 @@ use Rattle.fts_desk.proofs.slots_left.is_dest_busy.Goals as goal
 
 pub returns : goal.returns
 returns c = record {
-  answer = c.is_taken.ensures.answer ∙ sym (list_any-map (λ (other : FileRow). is_active other.state && is_same_place other.dest c.args.row.now.dest) (λ row. row.now) c.args.running.now);
+  answer = c.is_taken.ensures.answer
+      ∙ sym (list_any-map (λ (other : FileRow). is_active other.state && is_same_place other.dest c.args.row.now.dest) (λ row. row.now) c.args.running.now);
 }

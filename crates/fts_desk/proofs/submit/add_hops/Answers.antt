@@ -17,6 +17,7 @@ returns c =
     let all : c.deref_mut.result.now ≡ before ++ added = c.deref_mut.ensures.value ∙ c.add_rows.ensures in
     record {
       rows = with_items_is c.add_rows.new.rows c.wake_at.new.rows (c.wake_at.auto.rows ∙ c.deref_mut.ensures.len)
-          ∙ first_woken before added c.wake_at.new.rows first (length before + 1) (new_rows-numbered c.args.job (length before + 1) NotUsed c.args.files.items) at
+          ∙ first_woken before added c.wake_at.new.rows first (length before + 1) (new_rows-numbered c.args.job (length before + 1) NotUsed c.args.files.items)
+          at
           (c.wake_at.ensures.rows ∙ ap (change_at first woken) all);
     }

@@ -11,14 +11,16 @@ pub returns-in-Plain-clause-count : goal.returns-in-Plain-clause-count
 returns-in-Plain-clause-count c =
     let before = c.args.rows.now.items in
     let added = new_rows c.args.job (length before + 1) Submitted c.args.files.items in
-    ap length c.add_rows.ensures ∙ length-append before added ∙ ap (λ n. length before + n) (length-new_rows c.args.job (length before + 1) Submitted c.args.files.items)
+    ap length c.add_rows.ensures ∙ length-append before added
+    ∙ ap (λ n. length before + n) (length-new_rows c.args.job (length before + 1) Submitted c.args.files.items)
 
 pub returns-in-Multihop-clause-count : goal.returns-in-Multihop-clause-count
 returns-in-Multihop-clause-count c =
     let before = c.args.rows.now.items in
     let added = new_rows c.args.job (length before + 1) NotUsed c.args.files.items in
     ap length c.add_hops.ensures.rows ∙ length-append before (submit_if_not_used (length before + 1) added)
-    ∙ ap (λ n. length before + n) (length-submit_if_not_used (length before + 1) added ∙ length-new_rows c.args.job (length before + 1) NotUsed c.args.files.items)
+    ∙ ap (λ n. length before + n) (length-submit_if_not_used (length before + 1) added
+    ∙ length-new_rows c.args.job (length before + 1) NotUsed c.args.files.items)
 
 pub returns-in-Replica-clause-count : goal.returns-in-Replica-clause-count
 returns-in-Replica-clause-count c =

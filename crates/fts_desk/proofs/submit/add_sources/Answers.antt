@@ -34,9 +34,11 @@ returns-in-Some c =
     let inside : place < length added = omega (arith, ap length behind, c.in-Some.ensures.inside) in
     let chosen : slice_get added place ≡ next_alternative c.args.strategy before added =
     ap (λ (rows : List FileRow). slice_get rows place) (sym behind) ∙ c.in-Some.ensures.row
-    ∙ ap (λ (rows : List FileRow). next_alternative c.args.strategy rows (take (length c.deref-2.result.now - first) (drop first c.deref-2.result.now))) there ∙ ap (next_alternative c.args.strategy before) behind in
+    ∙ ap (λ (rows : List FileRow). next_alternative c.args.strategy rows (take (length c.deref-2.result.now - first) (drop first c.deref-2.result.now))) there
+    ∙ ap (next_alternative c.args.strategy before) behind in
     record {
       rows = with_items_is c.add_rows.new.rows c.wake_at.new.rows (c.wake_at.auto.rows ∙ c.deref_mut.ensures.len)
           ∙ chosen_woken before added c.wake_at.new.rows place (first + place) (length before + 1) (next_alternative c.args.strategy before added)
-          (new_rows-numbered c.args.job (length before + 1) NotUsed c.args.files.items) number inside chosen (c.wake_at.ensures.rows ∙ ap (change_at (first + place) woken) all);
+          (new_rows-numbered c.args.job (length before + 1) NotUsed c.args.files.items) number inside chosen (c.wake_at.ensures.rows
+          ∙ ap (change_at (first + place) woken) all);
     }

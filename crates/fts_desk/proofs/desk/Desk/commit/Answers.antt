@@ -12,7 +12,8 @@ invariant_of-self c =
     let planned = sym c.take.ensures.value ∙ c.in-Some.is in
     let ready = ready_for inside.kept inside.commands inside.place inside.planned command c.self.invariant.ready planned in
     record {
-      sound = sound_after tables (tables_kept c.make_step.new.kept) inside.commands command c.make_step.result c.self.invariant.sound ready.planned.files c.make_step.ensures.step
+      sound = sound_after tables (tables_kept c.make_step.new.kept) inside.commands command c.make_step.result c.self.invariant.sound ready.planned.files
+          c.make_step.ensures.step
           (c.steps_keep_standing.ensures.standing tables command c.self.invariant.sound.standing ready.accepted)
           (c.steps_keep_bounds.ensures.bounds tables inside.commands command c.self.invariant.sound.bounds ready.planned.files ready.accepted);
       ready = rw c.take.ensures.after tt;

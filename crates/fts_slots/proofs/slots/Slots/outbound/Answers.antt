@@ -6,6 +6,8 @@ use Rattle.fts_slots.proofs.slots.Slots.outbound.Goals as goal
 
 pub overflow_cast-result : goal.overflow_cast-result
 overflow_cast-result c =
-    let few = few_counted (record { settings = c.self.inside.settings; links = c.self.inside.links.items }) (λ link. link.source == c.args.endpoint) c.self.invariant.settings c.self.invariant.within in
-    let counted = subst (λ (links : List LinkAt). count_by (λ (link : LinkAt). link.source == c.args.endpoint) links ≤ 256000) (sym c.as_slice.ensures.value) few in
+    let few = few_counted (record { settings = c.self.inside.settings; links = c.self.inside.links.items })
+    (λ link. link.source == c.args.endpoint) c.self.invariant.settings c.self.invariant.within in
+    let counted = subst (λ (links : List LinkAt). count_by (λ (link : LinkAt). link.source == c.args.endpoint) links ≤ 256000)
+    (sym c.as_slice.ensures.value) few in
     omega (arith, c.count_from.ensures.count, counted)

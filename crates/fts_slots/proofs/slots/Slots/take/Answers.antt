@@ -10,7 +10,12 @@ push_reserved-requires c =
     let slots : SlotsData = record { settings = c.self.inside.settings; links = c.self.inside.links.items } in
     let after : SlotsData = record { settings = c.self.inside.settings; links = c.self.inside.links.items ++ c.args.link ∷ [] } in
     let free = subst (λ (held : SlotsData). is_free held c.args.link ≡ true) (sym c.self.view_is) c.requires.free in
-    omega (arith, room_for after (within_after_take slots c.args.link c.self.invariant.within free), length_push c.self.inside.links.items c.args.link, c.self.invariant.room)
+    omega (
+      arith,
+      room_for after (within_after_take slots c.args.link c.self.invariant.within free),
+      length_push c.self.inside.links.items c.args.link,
+      c.self.invariant.room,
+    )
 
 pub invariant_of-self : goal.invariant_of-self
 invariant_of-self c =
@@ -18,6 +23,7 @@ invariant_of-self c =
     let free = subst (λ (held : SlotsData). is_free held c.args.link ≡ true) (sym c.self.view_is) c.requires.free in
     record {
       settings = c.self.invariant.settings;
-      within = subst (λ links. AreWithin (record { settings = c.self.inside.settings; links = links })) (sym c.push_reserved.ensures.items) (within_after_take slots c.args.link c.self.invariant.within free);
+      within = subst (λ links. AreWithin (record { settings = c.self.inside.settings; links = links })) (sym c.push_reserved.ensures.items)
+          (within_after_take slots c.args.link c.self.invariant.within free);
       room = omega (arith, c.self.invariant.room, c.push_reserved.ensures.capacity);
     }
