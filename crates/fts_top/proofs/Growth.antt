@@ -42,10 +42,16 @@ AreGiven-push before between after (first ∷ moments) now given tick = (given.0
 AreLoaded-push : (kept : List ℕ) (before : Reading) (requests : List RequestData) (behind : List ℕ) (between after : Reading) (room : RoomData)
     → AreLoaded kept before requests behind between → Loads behind between after room (Ok true)
     → AreLoaded kept before (requests ++ room.request ∷ []) room.kept after
-AreLoaded-push kept before [] behind between after room loaded load = (after, (room, (
-  subst (λ (b : Reading). Loads kept b after room (Ok true)) loaded.1 (subst (λ (k : List ℕ). Loads k between after room (Ok true)) loaded.0 load),
-  (refl, (refl, refl)),
-)))
+AreLoaded-push kept before [] behind between after room loaded load = (
+  after,
+  (
+    room,
+    (
+      subst (λ (b : Reading). Loads kept b after room (Ok true)) loaded.1 (subst (λ (k : List ℕ). Loads k between after room (Ok true)) loaded.0 load),
+      (refl, (refl, refl)),
+    ),
+  ),
+)
 AreLoaded-push kept before (request ∷ requests) behind between after room loaded load =
     (loaded.0, (loaded.1.0, (loaded.1.1.0, (loaded.1.1.1.0, AreLoaded-push loaded.1.0.kept loaded.0 requests behind between after room loaded.1.1.1.1 load))))
 

@@ -84,8 +84,18 @@ fn refused_reply(alloc: Global, id: u128, refusal: Refusal) -> Reply
 {
     match refusal {
         Refusal::Duplicate { job: _ } => duplicate_reply(alloc, id),
-        Refusal::JobsFull { jobs: _ } => refusal_reply(alloc, "jobs full", JOBS_FULL, statuses::INSUFFICIENT_STORAGE),
-        Refusal::RowsFull { rows: _ } => refusal_reply(alloc, "rows full", ROWS_FULL, statuses::INSUFFICIENT_STORAGE),
+        Refusal::JobsFull { jobs: _ } => refusal_reply(
+            alloc,
+            "jobs full",
+            JOBS_FULL,
+            statuses::INSUFFICIENT_STORAGE,
+        ),
+        Refusal::RowsFull { rows: _ } => refusal_reply(
+            alloc,
+            "rows full",
+            ROWS_FULL,
+            statuses::INSUFFICIENT_STORAGE,
+        ),
         Refusal::NoJob
         | Refusal::NoFile
         | Refusal::Idle

@@ -8,9 +8,6 @@ use fts_wire::{Allow, Reply, statuses};
 use std::alloc::Global;
 use uuid::Uuid;
 
-/// The rule that an id is new.
-const DUPLICATE: u32 = 34;
-
 /// The rule that there may be so many rows.
 pub const ROWS_FULL: u32 = 36;
 
@@ -91,8 +88,7 @@ fn make_duplicate_body(alloc: Global, id: u128) -> Result<Items<u8>, Memory>
     let id = Uuid::from_u128(id).hyphenated();
     let id = id.encode_lower(&mut buffer);
     let text = format!(in alloc;
-        "{{\"job_id\":\"{id}\",\"message\":\"duplicate\",\"rule\":{DUPLICATE},\"status\":{}}}",
-        statuses::CONFLICT
+        "{{\"job_id\":\"{id}\",\"message\":\"duplicate\",\"rule\":34,\"status\":409}}"
     )?;
     Ok(Items::from_vec(text.into_bytes()))
 }

@@ -16,7 +16,7 @@ use crate::reading::load_settings;
 use crate::session::run_session;
 use crate::words::is_session_command;
 use fts_desk::Desk;
-use fts_tables::{Clock, Command, FileRow, FileState, Memory, Settings};
+use fts_tables::{Clock, Command, FileRow, Memory, Settings};
 use fts_wire::{Room, Sink, Source};
 use std::alloc::Global;
 
@@ -224,34 +224,26 @@ fn count_finished(rows: &[FileRow]) -> usize
     ensures count { result ≡ count_by (λ row. is_finished row.state) rows.now }
     ensures few { result ≤ length rows.now }
 {
-    rows.iter()
-        .filter(|row| matches!(row.state, FileState::Finished))
-        .count()
+    rows.iter().filter(|row| row.state.is_finished()).count()
 }
 
 fn count_failed(rows: &[FileRow]) -> usize
     ensures count { result ≡ count_by (λ row. is_failed row.state) rows.now }
     ensures few { result ≤ length rows.now }
 {
-    rows.iter()
-        .filter(|row| matches!(row.state, FileState::Failed))
-        .count()
+    rows.iter().filter(|row| row.state.is_failed()).count()
 }
 
 fn count_canceled(rows: &[FileRow]) -> usize
     ensures count { result ≡ count_by (λ row. is_canceled row.state) rows.now }
     ensures few { result ≤ length rows.now }
 {
-    rows.iter()
-        .filter(|row| matches!(row.state, FileState::Canceled))
-        .count()
+    rows.iter().filter(|row| row.state.is_canceled()).count()
 }
 
 fn count_submitted(rows: &[FileRow]) -> usize
     ensures count { result ≡ count_by (λ row. is_submitted row.state) rows.now }
     ensures few { result ≤ length rows.now }
 {
-    rows.iter()
-        .filter(|row| matches!(row.state, FileState::Submitted))
-        .count()
+    rows.iter().filter(|row| row.state.is_submitted()).count()
 }
