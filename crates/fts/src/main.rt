@@ -1,12 +1,16 @@
 //! The program `fts STAND COMMAND`: it makes the real outside, calls `run`, and ends with its status.
 //! The stand `-` alone is built: its settings are a text in memory. For another one, and where a word is no UTF-8, `run` gets an empty list of
-//! words, which is no command.
+//! words, which is no command. Both decisions stand in `specs/CommandLine.antt`.
 #![tactic(auto)]
+ghost use Rattle.std.specs.Prelude.{◌≡◌};
+ghost use Rattle.fts.specs.CommandLine.{words_of, exit_status_of};
 
 mod outside;
+#[cfg(test)]
+mod tests;
 
 use fts_tables::Memory;
-use fts_top::{Outside, run};
+use fts_top::{Ending, Outside, run};
 use fts_wire::{MemorySource, StdSink, StdSource};
 use outside::SystemClock;
 use std::process::ExitCode;
@@ -16,39 +20,66 @@ use std::{env, io};
 const STAND_SETTINGS: &str =
     "vo = \"demo\"\nworkers = 2\n[[storage]]\nurl = \"https://a.example\"\n[[storage]]\nurl = \"https://b.example\"\n";
 
-/// The words behind the stand `-`.
-fn command_words(rt: &HostRuntime) -> Result<Vec<String>, Memory> {
-    let mut words = Vec::new(rt.alloc());
-    let mut is_our_stand = false;
+/// The words of the command line, with the program's name first; none where one of them is no UTF-8.
+fn command_line(rt: &HostRuntime) -> Result<Vec<String>, Memory> {
+    let mut line = Vec::new(rt.alloc());
     let args = match env::args(rt) {
         Ok(args) => args,
         Err(e) if e.kind() == io::ErrorKind::OutOfMemory => return Err(Memory),
-        Err(_) => return Ok(words),
+        Err(_) => return Ok(line),
     };
-    for (i, word) in args.enumerate() {
-        if i == 1 {
-            is_our_stand = word.as_str() == "-";
-        } else if is_our_stand && words.push(word).is_err() {
+    for word in args {
+        if line.push(word).is_err() {
             return Err(Memory);
         }
     }
-    Ok(words)
+    Ok(line)
 }
 
-fn main(rt: HostRuntime) -> ExitCode {
-    let Ok(words) = command_words(&rt) else {
-        return ExitCode::from(1);
+/// The words of a command line that are the command's.
+fn command_words(line: &[String]) -> &[String]
+    ensures { result.now ≡ words_of line.now }
+{
+    match line {
+        [_, stand, words @ ..] => {
+            if stand.as_str() == "-" {
+                words
+            } else {
+                &[]
+            }
+        }
+        _ => &[],
+    }
+}
+
+/// The status of the process.
+fn exit_status(ended: Result<Ending, Memory>) -> u8
+    ensures { result ≡ exit_status_of ended }
+{
+    match ended {
+        Ok(ending) => ending.status,
+        Err(Memory) => 1,
+    }
+}
+
+/// Makes the outside of the stand `-`, and runs the command in it.
+fn run_stand(rt: HostRuntime) -> Result<Ending, Memory> {
+    let line = command_line(&rt)?;
+    let settings = match Vec::from_slice(rt.alloc(), STAND_SETTINGS.as_bytes()) {
+        Ok(settings) => settings,
+        Err(_) => return Err(Memory),
     };
-    let Ok(settings) = Vec::from_slice(rt.alloc(), STAND_SETTINGS.as_bytes()) else {
-        return ExitCode::from(1);
-    };
+    let alloc = rt.alloc();
     let mut outside = Outside {
-        settings: MemorySource::new(settings, Vec::new(rt.alloc())),
+        settings: MemorySource::new(settings, Vec::new(alloc)),
         input: StdSource::new(rt.stdin()),
         output: StdSink::new(rt.stdout()),
         notes: StdSink::new(rt.stderr()),
         clock: SystemClock::new(rt),
     };
-    let ending = run(rt.alloc(), words.as_slice(), &mut outside);
-    ExitCode::from(ending.status)
+    Ok(run(alloc, command_words(line.as_slice()), &mut outside))
+}
+
+fn main(rt: HostRuntime) -> ExitCode {
+    ExitCode::from(exit_status(run_stand(rt)))
 }

@@ -1,5 +1,4 @@
 mod Submits
-mod Sent
 pub mod Phrases
 mod Growth
 pub mod Turns

@@ -1,6 +1,6 @@
 -- The line that a run writes to its notes, by how it ended.
 use Rattle.std.specs.Prelude.{ℕ, List, [], ◌++◌, codes, decimal, Option, Result}
-use Rattle.fts_wire.specs.Outside.{CountsFaults}
+use Rattle.fts_tables.specs.Counts.{CountsFaults}
 use Rattle.fts_wire.specs.Response.{Sends}
 use Rattle.fts_wire.specs.declared.outside.SinkFailed.{SinkFailed}
 use Rattle.fts_top.specs.declared.ends.RunEnd.{RunEnd}

@@ -1,7 +1,7 @@
 -- What a run of the program is: which words it accepts, with which status it ends, and what it did.
 use Rattle.std.specs.Prelude.{◌≡◌, ◌≢◌, ◌⊎◌, ℕ, Bool, false, List, [], ◌∷◌, count_by, codes, bytes_eq, string_bytes, String, Option, IfSome, Ok, Err}
 use Rattle.std.specs.declared.alloc.Global.{Global}
-use Rattle.fts_tables.specs.Coming.{Coming, later}
+use Rattle.fts_tables.specs.Coming.{Coming, Gives}
 use Rattle.fts_tables.specs.SettingsData.{SettingsData, IsSettings}
 use Rattle.fts_tables.specs.Tables.{Tables, is_submitted, is_finished, is_failed, is_canceled}
 use Rattle.fts_tables.specs.declared.commands.Entry.{Entry}
@@ -10,7 +10,7 @@ use Rattle.fts_config.specs.Faults.{rule_of}
 use Rattle.fts_config.specs.Settings.{settings_of}
 use Rattle.fts_config.specs.declared.fault.SettingsFault.{SettingsFault}
 use Rattle.fts_config.specs.declared.fault.SettingsFault.TheVariants.{Memory}
-use Rattle.fts_top.specs.Session.{IfTold, Session, begun_with}
+use Rattle.fts_top.specs.Session.{OneThread, Session}
 use Rattle.fts_top.specs.declared.ends.RunEnd.{RunEnd}
 use Rattle.fts_top.specs.declared.ends.RunEnd.TheVariants.{NoMemory, NoCommand, SettingsUnread, SettingsRule, Session as SessionRan}
 use Rattle.fts_top.specs.declared.ends.SessionEnd.{SessionEnd}
@@ -80,29 +80,28 @@ IsStop text SettingsUnread = Unit {0}
 IsStop text (SettingsRule rule) = IsBroken text rule
 IsStop text (SessionRan end) = ⊥
 
--- a run stopped before its first request: it took no byte of the input and wrote no response
-pub record HasNotBegun (end : RunEnd) (tally : Tally) (text bytes left held after : Option (List ℕ)) : Type 0 where
+-- a run stopped before its first request: it did not read its input, and wrote no response
+pub record HasNotBegun (end : RunEnd) (tally : Tally) (text : Option (List ℕ)) (before after : OneThread) : Type 0 where
   pub stop : IsStop text end
   pub counted : tally ≡ no_tally
-  pub untaken : left ≡ bytes
-  pub unwritten : after ≡ held
+  pub untaken : after.input ≡ before.input
+  pub unwritten : after.output ≡ before.output
 
--- a run of a session, from its Restart on: its list is Restart and what the session adds
-pub record Ran (settings : SettingsData) (end : SessionEnd) (tally : Tally) (bytes held : List ℕ) (moments : Coming) (left after : Option (List ℕ)) : Type 0 where
-  pub tables : Tables
-  pub session : Session (begun_with (restart_at moments.0 settings ∷ []) (later moments)) bytes held end tables left after
-  pub counted : tally ≡ tally_of tables
-
--- a run came to its session: under the settings of the text and, where input, output and moments are told, as the session says
-pub record HasBegun (end : RunEnd) (tally : Tally) (text bytes left held after : Option (List ℕ)) (moments : Option Coming) : Type 0 where
+-- A run came to its session: under the settings of the text, from its Restart at the next moment on.
+-- Its list is Restart and what the session adds.
+pub record HasBegun (end : RunEnd) (tally : Tally) (text : Option (List ℕ)) (before after : OneThread) : Type 0 where
   pub settings : SettingsData
   pub kept : IsSettings settings
   pub read : AreRead text settings
+  pub now : ℕ
+  pub moments : Option Coming
+  pub moment : Gives before.moments moments now
   pub session_end : SessionEnd
   pub ended : end ≡ SessionRan session_end
-  pub ran : IfTold bytes held moments (λ b h m. Ran settings session_end tally b h m left after)
+  pub tables : Tables
+  pub session : Session (restart_at now settings ∷ []) [] (record before { moments = moments }) after session_end tables
+  pub counted : tally ≡ tally_of tables
 
 -- what a run did that ended so: it stopped before its first request, or ran a session
-abbrev pub RanOver : RunEnd → Tally → Option (List ℕ) → Option (List ℕ) → Option (List ℕ) → Option (List ℕ) → Option (List ℕ) → Option Coming → Type 0
-RanOver end tally text bytes left held after moments =
-    HasNotBegun end tally text bytes left held after ⊎ HasBegun end tally text bytes left held after moments
+abbrev pub RanOver : RunEnd → Tally → Option (List ℕ) → OneThread → OneThread → Type 0
+RanOver end tally text before after = HasNotBegun end tally text before after ⊎ HasBegun end tally text before after

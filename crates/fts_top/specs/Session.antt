@@ -1,30 +1,51 @@
--- A session over told input, output and moments: its requests, the list that they make, their responses, and how it ended.
-use Rattle.std.specs.Prelude.{◌≡◌, ◌⊎◌, ℕ, ◌+◌, ◌<◌, ◌≤◌, ◌==◌, Bool, true, false, List, [], ◌∷◌, ◌++◌, map, length, Option, Some, None, Result, Ok, Err}
+-- A session: its requests, the list that they make, their responses, how its input was read, and how it ended.
+-- Input, output and moments are told or not, each by itself. What is said of one asks nothing of the others.
+use Rattle.std.specs.Prelude.{◌≡◌, ◌⊎◌, ℕ, ◌+◌, ◌<◌, ◌≤◌, ◌==◌, Bool, true, false, List, [], ◌∷◌, ◌++◌, map, length, Option, Some, None, option_map, Result, Ok, Err}
 use Rattle.std.specs.List.{concat}
-use Rattle.fts_tables.specs.Coming.{Coming, later}
+use Rattle.fts_tables.specs.Coming.{Coming, Gives}
 use Rattle.fts_tables.specs.Tables.{Tables}
 use Rattle.fts_tables.specs.History.{tables_of}
 use Rattle.fts_tables.specs.declared.limits.TheConstants.{MAX_REQUESTS}
 use Rattle.fts_tables.specs.declared.commands.Entry.{Entry}
 use Rattle.fts_wire.specs.RequestData.{RequestData}
-use Rattle.fts_wire.specs.Requests.{Next, next_of, IsShort, AreRequests, Closed, EndsInside, NotBuilt}
-use Rattle.fts_wire.specs.Response.{response_of, IsCut, Sends}
+use Rattle.fts_wire.specs.RoomData.{RoomData}
+use Rattle.fts_wire.specs.Requests.{AreRequests}
+use Rattle.fts_wire.specs.Taken.{pending}
+use Rattle.fts_wire.specs.Answered.{IsLoaded}
+use Rattle.fts_wire.specs.Response.{response_of, Sends}
 use Rattle.fts_wire.specs.declared.outside.SinkFailed.{SinkFailed}
+use Rattle.fts_wire.specs.declared.request.WireFault.{WireFault}
+use Rattle.fts_wire.specs.declared.request.WireFault.TheVariants.{NotBuilt, EndsInside, SourceFailed}
 use Rattle.fts_wire.specs.declared.response.Reply.{Reply}
 use Rattle.fts_top.specs.Replies.{reply_to, entries_of, no_memory, not_built}
 use Rattle.fts_top.specs.declared.ends.SessionEnd.{SessionEnd}
 use Rattle.fts_top.specs.declared.ends.SessionEnd.TheVariants.{Closed as EndClosed, EndsInside as EndEndsInside, Refused as EndRefused, Many as EndMany, SourceFailed as EndSourceFailed, SinkFailed as EndSinkFailed}
 
--- a request that was answered, and whether there was no memory to do it
+-- how far an input was read: the bytes left, where it tells them, and how often it was read
+pub record Reading : Type 0 where
+  pub left : Option (List ℕ)
+  pub reads : ℕ
+
+-- what one thread meets: its input, the bytes that its output holds, and the moments to come, where they are told
+pub record OneThread : Type 0 where
+  pub input : Reading
+  pub output : Option (List ℕ)
+  pub moments : Option Coming
+
+-- the same by its parts
+abbrev pub one_thread : Option (List ℕ) → ℕ → Option (List ℕ) → Option Coming → OneThread
+one_thread left reads output moments = record { input = record { left = left; reads = reads }; output = output; moments = moments }
+
+-- a request that was answered, at which moment, and whether there was no memory to do it
 pub record Exchange : Type 0 where
   pub request : RequestData
+  pub now : ℕ
   pub lacks_memory : Bool
 
--- what requests made so far: the list of accepted commands, the response to each request, and the moments to come
+-- what requests made so far: the list of accepted commands, and the response to each request
 pub record Progress : Type 0 where
   pub entries : List Entry
   pub responses : List (List ℕ)
-  pub moments : Coming
 
 -- the reply to a request over a list, at a moment: by the tables of that list, or want of memory
 abbrev pub reply_over : List Entry → ℕ → List ℕ → Bool → Reply
@@ -40,13 +61,12 @@ entries_over entries now body false = entries_of (tables_of entries) now body
 abbrev pub response_after : ℕ → Reply → List ℕ
 response_after count reply = response_of reply false (count + 1 == MAX_REQUESTS)
 
--- one request more, at the next moment
+-- one request more
 abbrev pub with_exchange : Progress → Exchange → Progress
 with_exchange so_far exchange = record {
-  entries = so_far.entries ++ entries_over so_far.entries so_far.moments.0 exchange.request.body exchange.lacks_memory;
+  entries = so_far.entries ++ entries_over so_far.entries exchange.now exchange.request.body exchange.lacks_memory;
   responses = so_far.responses
-      ++ response_after (length so_far.responses) (reply_over so_far.entries so_far.moments.0 exchange.request.body exchange.lacks_memory) ∷ [];
-  moments = later so_far.moments;
+      ++ response_after (length so_far.responses) (reply_over so_far.entries exchange.now exchange.request.body exchange.lacks_memory) ∷ [];
 }
 
 -- these requests more, in their order
@@ -54,26 +74,58 @@ abbrev pub with_exchanges : Progress → List Exchange → Progress
 with_exchanges so_far [] = so_far
 with_exchanges so_far (exchange ∷ more) = with_exchanges (with_exchange so_far exchange) more
 
+-- a list of commands, and no response yet
+abbrev pub begun_with : List Entry → Progress
+begun_with entries = record { entries = entries; responses = [] }
+
 -- the requests that were answered
 abbrev pub requests_of : List Exchange → List RequestData
 requests_of exchanges = map (λ exchange. exchange.request) exchanges
 
--- a connection may have more requests than these responses, and this comes next in the bytes behind them
-abbrev pub ComesNext : List (List ℕ) → List ℕ → Next → Type 0
-ComesNext responses rest next = (length responses < MAX_REQUESTS) × (next_of rest ≡ next)
+-- the moments at which they were
+abbrev pub moments_of : List Exchange → List ℕ
+moments_of exchanges = map (λ exchange. exchange.now) exchanges
 
--- behind what was held, these responses were written, one after another and each whole
-abbrev pub AreWritten : List ℕ → Option (List ℕ) → List (List ℕ) → Type 0
-AreWritten held after responses = after ≡ Some (held ++ concat responses)
+-- these moments were given one after another, where they are told: each is the next one
+abbrev pub AreGiven : Option Coming → List ℕ → Option Coming → Type 0
+AreGiven before [] after = after ≡ before
+AreGiven before (now ∷ more) after = (next : Option Coming) × (Gives before next now × AreGiven next more after)
+
+-- bytes are these requests, one after another, and then this rest, where they are told
+abbrev pub AreRequestsIn : Option (List ℕ) → List RequestData → Option (List ℕ) → Type 0
+AreRequestsIn None requests rest = rest ≡ None
+AreRequestsIn (Some bytes) requests None = ⊥
+AreRequestsIn (Some bytes) requests (Some rest) = AreRequests bytes requests rest
+
+-- one load, from what was kept on: what it found, and what it took to find it
+abbrev pub Loads : List ℕ → Reading → Reading → RoomData → Result Bool WireFault → Type 0
+Loads kept before after room result = IsLoaded kept before.left after.left before.reads after.reads room result
+
+-- these requests were loaded one after another, each by one load, and this is kept behind them
+abbrev pub AreLoaded : List ℕ → Reading → List RequestData → List ℕ → Reading → Type 0
+AreLoaded kept before [] behind after = (behind ≡ kept) × (after ≡ before)
+AreLoaded kept before (request ∷ more) behind after =
+    (next : Reading) × ((room : RoomData) × (Loads kept before next room (Ok true) × ((room.request ≡ request) × AreLoaded room.kept next more behind after)))
+
+-- the last load of a session found no request, but this
+abbrev pub LoadsNone : List ℕ → Reading → Reading → Result Bool WireFault → Type 0
+LoadsNone kept before after result = (room : RoomData) × Loads kept before after room result
+
+-- what an output holds behind these responses, one after another and each whole, where it tells that
+abbrev pub written : Option (List ℕ) → List (List ℕ) → Option (List ℕ)
+written held responses = option_map (λ before. before ++ concat responses) held
+
+-- these responses were written, one after another and each whole
+abbrev pub AreWritten : Option (List ℕ) → Option (List ℕ) → List (List ℕ) → Type 0
+AreWritten held after responses = after ≡ written held responses
 
 -- a write failed in the last of these responses: those before it were written whole, and of the last a part
-pub record AreCutShort (held : List ℕ) (after : Option (List ℕ)) (responses : List (List ℕ)) : Type 0 where
+pub record AreCutShort (held after : Option (List ℕ)) (responses : List (List ℕ)) : Type 0 where
   pub whole : List (List ℕ)
   pub last : List ℕ
   pub all : responses ≡ whole ++ last ∷ []
-  pub now : List ℕ
-  pub told : after ≡ Some now
-  pub cut : IsCut (held ++ concat whole) now last
+  pub failed : SinkFailed
+  pub cut : Sends (written held whole) after last (Err failed)
 
 -- the response to bytes that begin no head of ours: not built, or want of memory; it says close
 abbrev pub IsRefusal : List ℕ → Type 0
@@ -96,45 +148,35 @@ pub record IsRefused (before after : Option (List ℕ)) (end : SessionEnd) : Typ
 abbrev pub WithRefusal : (List (List ℕ) → Type 0) → List (List ℕ) → Type 0
 WithRefusal P responses = (response : List ℕ) × (IsRefusal response × P (responses ++ response ∷ []))
 
--- a read failed behind the requests: all that was taken of the rest is less than a request, and the source has the others left
-pub record IsReadCut (rest : List ℕ) (left : Option (List ℕ)) : Type 0 where
-  pub taken : List ℕ
-  pub behind : List ℕ
-  pub parts : rest ≡ taken ++ behind
-  pub short : IsShort taken
-  pub told : left ≡ Some behind
+-- Behind its requests a session tries one load more, which finds no request; behind the last request that a connection may have, and where
+-- a response could not be written, it tries none.
+abbrev pub TriesOneMore : List (List ℕ) → List ℕ → Reading → Reading → Result Bool WireFault → Type 0
+TriesOneMore responses kept between after result = (length responses < MAX_REQUESTS) × LoadsNone kept between after result
 
--- how a session ended, with these responses and this rest of the bytes behind its requests
-abbrev pub Ends : List (List ℕ) → List ℕ → List ℕ → Option (List ℕ) → Option (List ℕ) → SessionEnd → Type 0
-Ends responses rest held left after EndClosed = ComesNext responses rest Closed × AreWritten held after responses
-Ends responses rest held left after EndEndsInside = ComesNext responses rest EndsInside × AreWritten held after responses
-Ends responses rest held left after EndRefused = ComesNext responses rest NotBuilt × WithRefusal (AreWritten held after) responses
-Ends responses rest held left after EndMany = (length responses ≡ MAX_REQUESTS) × AreWritten held after responses
-Ends responses rest held left after EndSourceFailed = (length responses < MAX_REQUESTS) × IsReadCut rest left × AreWritten held after responses
-Ends responses rest held left after EndSinkFailed =
-    AreCutShort held after responses ⊎ (ComesNext responses rest NotBuilt × WithRefusal (AreCutShort held after) responses)
+-- how a session ended, with these responses, this kept behind its requests, and its input read so far then
+abbrev pub Ends : List (List ℕ) → List ℕ → Reading → OneThread → OneThread → SessionEnd → Type 0
+Ends responses kept between before after EndClosed =
+    TriesOneMore responses kept between after.input (Ok false) × AreWritten before.output after.output responses
+Ends responses kept between before after EndEndsInside =
+    TriesOneMore responses kept between after.input (Err EndsInside) × AreWritten before.output after.output responses
+Ends responses kept between before after EndRefused =
+    TriesOneMore responses kept between after.input (Err NotBuilt) × WithRefusal (AreWritten before.output after.output) responses
+Ends responses kept between before after EndMany =
+    (length responses ≡ MAX_REQUESTS) × ((after.input ≡ between) × AreWritten before.output after.output responses)
+Ends responses kept between before after EndSourceFailed =
+    TriesOneMore responses kept between after.input (Err SourceFailed) × AreWritten before.output after.output responses
+Ends responses kept between before after EndSinkFailed =
+    ((after.input ≡ between) × AreCutShort before.output after.output responses)
+    ⊎ (TriesOneMore responses kept between after.input (Err NotBuilt) × WithRefusal (AreCutShort before.output after.output) responses)
 
--- a session that began with a list, and left these tables, these bytes of the input and these of the output
-pub record Session (start : Progress) (bytes held : List ℕ) (end : SessionEnd) (tables : Tables) (left after : Option (List ℕ)) : Type 0 where
+-- a session that began with a list and with these bytes kept, and left these tables
+pub record Session (start : List Entry) (kept : List ℕ) (before after : OneThread) (end : SessionEnd) (tables : Tables) : Type 0 where
   pub exchanges : List Exchange
-  pub rest : List ℕ
-  pub requests : AreRequests bytes (requests_of exchanges) rest
   pub few : length exchanges ≤ MAX_REQUESTS
-  pub folded : tables ≡ tables_of (with_exchanges start exchanges).entries
-  pub ends : Ends (with_exchanges start exchanges).responses rest held left after end
-
--- a list of commands, and no response yet
-abbrev pub begun_with : List Entry → Coming → Progress
-begun_with entries moments = record { entries = entries; responses = []; moments = moments }
-
--- where input, output and moments are told
-abbrev pub IfTold : Option (List ℕ) → Option (List ℕ) → Option Coming → (List ℕ → List ℕ → Coming → Type 0) → Type 0
-IfTold (Some bytes) (Some held) (Some moments) P = P bytes held moments
-IfTold (Some bytes) (Some held) None P = Unit {0}
-IfTold (Some bytes) None moments P = Unit {0}
-IfTold None held moments P = Unit {0}
-
--- a session from a list of commands on
-abbrev pub SessionFrom : List Entry → Option (List ℕ) → Option (List ℕ) → Option Coming → SessionEnd → Tables → Option (List ℕ) → Option (List ℕ) → Type 0
-SessionFrom entries bytes held moments end tables left after =
-    IfTold bytes held moments (λ b h m. Session (begun_with entries m) b h end tables left after)
+  pub moments : AreGiven before.moments (moments_of exchanges) after.moments
+  pub folded : tables ≡ tables_of (with_exchanges (begun_with start) exchanges).entries
+  pub behind : List ℕ
+  pub between : Reading
+  pub loaded : AreLoaded kept before.input (requests_of exchanges) behind between
+  pub requests : AreRequestsIn (pending kept before.input.left) (requests_of exchanges) (pending behind between.left)
+  pub ends : Ends (with_exchanges (begun_with start) exchanges).responses behind between before after end

@@ -4,11 +4,13 @@
 ghost use Rattle.std.specs.Prelude.{◌≡◌, ◌≢◌, ◌⊎◌, ◌+◌, ◌<◌, ◌≤◌, IsSome};
 ghost use Rattle.fts_top.specs.Replies.{Answers, AnswersDocument, IsOrNoMemory, RefusesSubmission, document_of, id_of_new, reply_to_refusal};
 
-use crate::reply::{duplicate_reply, make_accepted_body, no_memory_reply, refusal_reply};
+use crate::reply::{
+    JOBS_FULL, ROWS_FULL, duplicate_reply, make_accepted_body, no_memory_reply, refusal_reply,
+};
 use fts_desk::{Desk, DeskFault, standard_id};
 use fts_jobdoc::{DocFault, read_job};
 use fts_tables::{Command, Memory, NewJob, Refusal};
-use fts_wire::{Allow, Reply};
+use fts_wire::{Allow, Reply, statuses};
 use std::alloc::Global;
 
 /// Answers a request with this body at a moment. There are settings in force, and they stay. Whatever a document asks for is built.
@@ -23,7 +25,7 @@ pub fn answer(alloc: Global, desk: &mut Desk, body: &[u8], now: u64) -> Reply
     match read_document(alloc, desk, body) {
         Ok(job) => submit(alloc, desk, now, job),
         Err(DocFault::Memory) => no_memory_reply(alloc),
-        Err(fault) => refusal_reply(alloc, fault.message(), fault.rule(), 400),
+        Err(fault) => refusal_reply(alloc, fault.message(), fault.rule(), statuses::BAD_REQUEST),
     }
 }
 
@@ -56,7 +58,7 @@ fn submit(alloc: Global, desk: &mut Desk, now: u64, job: NewJob) -> Reply
         Ok(body) => {
             desk.commit(plan);
             Reply {
-                status: 200,
+                status: statuses::OK,
                 allow: Allow::None,
                 body,
             }
@@ -82,8 +84,18 @@ fn refused_reply(alloc: Global, id: u128, refusal: Refusal) -> Reply
 {
     match refusal {
         Refusal::Duplicate { job: _ } => duplicate_reply(alloc, id),
-        Refusal::JobsFull { jobs: _ } => refusal_reply(alloc, "jobs full", 37, 507),
-        Refusal::RowsFull { rows: _ } => refusal_reply(alloc, "rows full", 36, 507),
+        Refusal::JobsFull { jobs: _ } => refusal_reply(
+            alloc,
+            "jobs full",
+            JOBS_FULL,
+            statuses::INSUFFICIENT_STORAGE,
+        ),
+        Refusal::RowsFull { rows: _ } => refusal_reply(
+            alloc,
+            "rows full",
+            ROWS_FULL,
+            statuses::INSUFFICIENT_STORAGE,
+        ),
         Refusal::NoJob
         | Refusal::NoFile
         | Refusal::Idle

@@ -1,11 +1,11 @@
 //! The line that a run writes to its notes where it does not end with status 0 (`specs/Notes.antt`). It takes no memory, and a failed write changes nothing.
-ghost use Rattle.std.specs.Prelude.{◌≡◌, ◌++◌, codes};
-ghost use Rattle.fts_wire.specs.Outside.{CountsFaults};
+ghost use Rattle.std.specs.Prelude.{◌≡◌};
+ghost use Rattle.fts_tables.specs.Counts.{CountsFaults};
 ghost use Rattle.fts_wire.specs.Response.{Sends};
 ghost use Rattle.fts_top.specs.Notes.{session_note_of, rule_note_of, note_of, IsNoted};
 
 use crate::ends::{RunEnd, SessionEnd};
-use fts_wire::{Sink, SinkFailed, send_all};
+use fts_wire::{Sink, SinkFailed, send_all, send_parts};
 use itoa::Buffer;
 
 /// Writes the line of a run's end, as far as the notes take it.
@@ -48,22 +48,14 @@ fn send_rule<N: Sink>(notes: &mut N, rule: u32) -> Result<(), SinkFailed>
     ensures sent { Sends (N.held notes.old) (N.held notes.new) (rule_note_of rule) result }
     ensures cause { CountsFaults (N.faults notes.old) (N.faults notes.new) result }
 {
-    match send_all(notes, "fts: settings rule ".as_bytes()) {
-        Ok(()) => {}
-        Err(fault) => return Err(fault),
-    }
-    let mut digits = Buffer::new();
-    send_line(notes, digits.format(rule).as_bytes())
-}
-
-/// Sends these bytes and a line feed.
-fn send_line<N: Sink>(notes: &mut N, bytes: &[u8]) -> Result<(), SinkFailed>
-    ensures sent { Sends (N.held notes.old) (N.held notes.new) (bytes.now ++ codes "\n") result }
-    ensures cause { CountsFaults (N.faults notes.old) (N.faults notes.new) result }
-{
-    match send_all(notes, bytes) {
-        Ok(()) => {}
-        Err(fault) => return Err(fault),
-    }
-    send_all(notes, "\n".as_bytes())
+    let mut buffer = Buffer::new();
+    let digits = buffer.format(rule);
+    send_parts(
+        notes,
+        &[
+            "fts: settings rule ".as_bytes(),
+            digits.as_bytes(),
+            "\n".as_bytes(),
+        ],
+    )
 }

@@ -1,7 +1,7 @@
 //! The settings of a run: their text, read whole, and then by its rules.
 //! A text that is too long breaks a rule as any other; only a failed read leaves the settings unread.
 ghost use Rattle.std.specs.Prelude.{◌≡◌, ◌≢◌, Some, IfOk, IfErr};
-ghost use Rattle.fts_wire.specs.Outside.{Rose};
+ghost use Rattle.fts_tables.specs.Counts.{Rose};
 ghost use Rattle.fts_top.specs.Run.{status_of, AreRead, IsStop, EndsBy};
 
 use crate::ends::RunEnd;

@@ -4,16 +4,25 @@ ghost use Rattle.std.specs.Prelude.{◌≡◌, IfOk};
 ghost use Rattle.fts_top.specs.Replies.{accepted_body, duplicate_body, refusal_body, refusal_of, duplicate, no_memory, IsOrNoMemory};
 
 use fts_tables::{Items, Memory};
-use fts_wire::{Allow, Reply};
+use fts_wire::{Allow, Reply, statuses};
 use std::alloc::Global;
 use uuid::Uuid;
+
+/// The rule that there may be so many rows.
+pub const ROWS_FULL: u32 = 36;
+
+/// The rule that there may be so many jobs.
+pub const JOBS_FULL: u32 = 37;
+
+/// The rule that what is asked for is built.
+pub const NOT_BUILT: u32 = 40;
 
 /// The reply where there is no memory for another one. It takes none.
 pub fn no_memory_reply(alloc: Global) -> Reply
     ensures { result ≡ no_memory }
 {
     Reply {
-        status: 500,
+        status: statuses::INTERNAL_SERVER_ERROR,
         allow: Allow::None,
         body: Items::new(alloc),
     }
@@ -64,7 +73,7 @@ pub fn duplicate_reply(alloc: Global, id: u128) -> Reply
 {
     match make_duplicate_body(alloc, id) {
         Ok(body) => Reply {
-            status: 409,
+            status: statuses::CONFLICT,
             allow: Allow::None,
             body,
         },

@@ -1,20 +1,20 @@
 //! A session: the requests of one connection, answered one after another over one desk.
-//! Keeps, from request to request: the tables are those of the list so far, and what was written are its responses (`SessionFrom`).
-//! Order of a request: it is read, the clock is asked, it is answered, its response is written. The millionth response says close.
+//! Keeps, from request to request: the tables are those of the list so far, what was written are its responses, and each request was read by one
+//! load (`Session`). Order of a request: it is read, the clock is asked, it is answered, its response is written. The millionth response says
+//! close, and nothing is read behind it, nor behind a load that found no request.
 ghost use Rattle.std.specs.Prelude.{◌≡◌, ◌≤◌, List, IsSome};
 ghost use Rattle.fts_tables.specs.History.{tables_of};
 ghost use Rattle.fts_tables.specs.declared.commands.Entry.{Entry};
-ghost use Rattle.fts_wire.specs.Outside.{Rose};
-ghost use Rattle.fts_wire.specs.Taken.{pending};
-ghost use Rattle.fts_top.specs.Session.{SessionFrom, IsRefused};
+ghost use Rattle.fts_tables.specs.Counts.{Rose};
+ghost use Rattle.fts_top.specs.Session.{Session, IsRefused, one_thread};
 
 use crate::answer::answer;
 use crate::ends::SessionEnd;
-use crate::reply::refusal_reply;
+use crate::reply::{NOT_BUILT, refusal_reply};
 use fts_desk::Desk;
 use fts_tables::Clock;
 use fts_tables::limits::MAX_REQUESTS;
-use fts_wire::{Room, Sink, SinkFailed, Source, WireFault, write_response};
+use fts_wire::{Room, Sink, SinkFailed, Source, WireFault, statuses, write_response};
 use std::alloc::Global;
 
 /// Answers the requests of a connection under the settings in force. The room has kept nothing that a request of another connection left.
@@ -30,8 +30,9 @@ pub fn run_session<S: Source, K: Sink, C: Clock>(
     requires settings { IsSome desk.old.tables.settings }
     // Whatever list the tables are of, the session goes on from it.
     ensures session { (entries : List Entry) → desk.old.tables ≡ tables_of entries
-        → SessionFrom entries (pending room.old.kept (S.left input.old)) (K.held output.old) (C.moments clock.old)
-        result desk.new.tables (S.left input.new) (K.held output.new) }
+        → Session entries room.old.kept
+        (one_thread (S.left input.old) (S.reads input.old) (K.held output.old) (C.moments clock.old))
+        (one_thread (S.left input.new) (S.reads input.new) (K.held output.new) (C.moments clock.new)) result desk.new.tables }
     ensures input { result ≡ SessionEnd.SourceFailed → Rose (S.faults input.old) (S.faults input.new) }
     ensures output { result ≡ SessionEnd.SinkFailed → Rose (K.faults output.old) (K.faults output.new) }
 {
@@ -60,7 +61,7 @@ fn refuse<K: Sink>(alloc: Global, output: &mut K) -> SessionEnd
     ensures output { result ≡ SessionEnd.SinkFailed → Rose (K.faults output.old) (K.faults output.new) }
     ensures keeps { K.faults output.old ≤ K.faults output.new }
 {
-    let reply = refusal_reply(alloc, "not built", 40, 501);
+    let reply = refusal_reply(alloc, "not built", NOT_BUILT, statuses::NOT_IMPLEMENTED);
     match write_response(output, false, true, &reply) {
         Ok(()) => SessionEnd::Refused,
         Err(SinkFailed) => SessionEnd::SinkFailed,

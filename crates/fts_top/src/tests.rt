@@ -1,11 +1,14 @@
-//! What no clause says: that runs succeed with ample memory, that the definitions mean what a client sends and reads, and what is seen where a
-//! read, a write or a note fails. Requests and responses are written out. The id of the client's own id is Python's, by `uuid.uuid5` twice.
+//! What no clause says: that runs succeed with ample memory, that the definitions mean what a client sends and reads, in which order reads,
+//! writes and looks at the clock come, and what is seen where a read, a write or a note fails. Requests and responses are written out; the first
+//! row has those of `examples/two-submissions.http` and `.reply.http`, byte for byte. The id of the client's own id is Python's, by `uuid.uuid5`
+//! twice.
 ghost use Rattle.std.specs.Prelude.{◌≡◌, ◌≤◌, ◌≢◌, [], length, IfOk};
 
 use crate::{Ending, Outside, run};
-use fts_tables::ListClock;
-use fts_wire::{MemorySink, MemorySource, Source, SourceFailed};
+use fts_tables::{Clock, ListClock};
+use fts_wire::{MemorySink, MemorySource, Sink, SinkFailed, Source, SourceFailed};
 use std::alloc::Global;
+use std::cell::Cell;
 use std::test::Fail;
 
 /// Where inputs are cut in two, and 0 for a byte at a time: within and at the end of each line of a head of 43 bytes and of a body of 93.
@@ -172,6 +175,7 @@ struct Pieces {
     first: usize,
     piece: usize,
     fails: bool,
+    reads: u64,
     faults: u64,
     ghost within: { at ≤ length bytes.items },
 }
@@ -183,9 +187,12 @@ impl Source for Pieces {
 
     ghost faults = { λ source. source.faults };
 
+    ghost reads = { λ source. source.reads };
+
     ghost beside = { λ _. record { bytes = None; faults = 0 } };
 
     fn read(&mut self, into: &mut [u8]) -> Result<usize, SourceFailed> {
+        self.reads = self.reads.saturating_add(1);
         let most = if self.at == 0 { self.first } else { self.piece };
         let n = (self.bytes.len() - self.at).min(most).min(into.len());
         let end = self.at + n;
@@ -213,6 +220,7 @@ fn source_of(
         first,
         piece,
         fails,
+        reads: 0,
         faults: 0,
     })
 }
@@ -223,10 +231,10 @@ type Meets = Outside<MemorySource, Pieces, MemorySink, MemorySink, ListClock>;
 /// An outside with these settings and this input, in which a read of the settings, a write and a note with these numbers fail.
 fn outside_under(
     alloc: Global,
-    settings: (&str, u32),
+    settings: (&str, u64),
     input: Pieces,
-    write: u32,
-    note: u32,
+    write: u64,
+    note: u64,
 ) -> Result<Meets, Fail> {
     let text = Vec::from_slice(alloc, settings.0.as_bytes())?;
     Ok(Outside {
@@ -239,12 +247,16 @@ fn outside_under(
 }
 
 /// An outside under the stand's settings.
-fn outside_with(alloc: Global, input: Pieces, write: u32, note: u32) -> Result<Meets, Fail> {
+fn outside_with(alloc: Global, input: Pieces, write: u64, note: u64) -> Result<Meets, Fail> {
     outside_under(alloc, (STAND, 0), input, write, note)
 }
 
 /// A run of these words.
-fn run_words(alloc: Global, words: &[&str], outside: &mut Meets) -> Result<Ending, Fail> {
+fn run_words<F: Source, S: Source, K: Sink, N: Sink, C: Clock>(
+    alloc: Global,
+    words: &[&str],
+    outside: &mut Outside<F, S, K, N, C>,
+) -> Result<Ending, Fail> {
     let mut owned = Vec::new(alloc);
     for word in words {
         owned.push(String::from_str(alloc, word)?)?;
@@ -335,8 +347,8 @@ fn a_request_whose_response_could_not_be_written_is_the_last_one(
 struct Stop {
     case: &'static str,
     text: &'static str,
-    read: u32,
-    note: u32,
+    read: u64,
+    note: u64,
     status: u8,
     noted: &'static str,
 }
@@ -432,5 +444,132 @@ fn other_words_are_no_command(rt: HostRuntime) -> Result<(), Fail> {
             );
         }
     }
+    Ok(())
+}
+
+/// A client that sends its second request only once something was written to it. How often it was read stands in a cell.
+#[derive(Drop)]
+struct WaitingClient<'a> {
+    first: &'a [u8],
+    second: &'a [u8],
+    sent: u64,
+    reads: u64,
+    reads_seen: &'a Cell<u64>,
+    written: &'a Cell<u64>,
+}
+
+impl Source for WaitingClient<'_> {
+    ghost use Rattle.std.specs.Prelude.{None};
+
+    ghost left = { λ _. None };
+
+    ghost faults = { λ _. 0 };
+
+    ghost reads = { λ client. client.reads };
+
+    ghost beside = { λ _. record { bytes = None; faults = 0 } };
+
+    fn read(&mut self, into: &mut [u8]) -> Result<usize, SourceFailed> {
+        self.reads = self.reads.saturating_add(1);
+        self.reads_seen.set(self.reads);
+        let request = match self.sent {
+            0 => self.first,
+            1 if self.written.get() > 0 => self.second,
+            _ => return Ok(0),
+        };
+        let n = request.len().min(into.len());
+        into[..n].copy_from_slice(&request[..n]);
+        self.sent = self.sent.saturating_add(1);
+        Ok(n)
+    }
+}
+
+/// What a client gets. How often it was written to stands in a cell.
+#[derive(Drop)]
+struct Answers<'a> {
+    sink: MemorySink,
+    written: &'a Cell<u64>,
+}
+
+impl Sink for Answers<'_> {
+    ghost held = { λ answers. ⟦<MemorySink as Sink>⟧.held answers.sink };
+
+    ghost faults = { λ answers. ⟦<MemorySink as Sink>⟧.faults answers.sink };
+
+    ghost beside = { λ answers. ⟦<MemorySink as Sink>⟧.beside answers.sink };
+
+    fn write(&mut self, bytes: &[u8]) -> Result<usize, SinkFailed> {
+        self.written.set(self.written.get().saturating_add(1));
+        self.sink.write(bytes)
+    }
+}
+
+/// A clock that notes how often a client had been read whenever it was asked.
+#[derive(Drop)]
+struct NotingClock<'a> {
+    reads_seen: &'a Cell<u64>,
+    noted: Vec<u64>,
+}
+
+impl Clock for NotingClock<'_> {
+    ghost use Rattle.std.specs.Prelude.{None};
+
+    ghost moments = { λ _. None };
+
+    fn now(&mut self) -> u64 {
+        match self.noted.push(self.reads_seen.get()) {
+            Ok(()) => 1_700_000_000,
+            Err(_) => 0,
+        }
+    }
+
+    fn rest(&mut self) {}
+}
+
+#[test]
+fn a_request_is_read_then_timed_then_answered_before_the_next_is_read(
+    rt: HostRuntime,
+) -> Result<(), Fail> {
+    let (reads_seen, written) = (Cell::new(0), Cell::new(0));
+    let text = Vec::from_slice(rt.alloc(), STAND.as_bytes())?;
+    let requests = ROWS[0].input.as_bytes();
+    let middle = requests.len().min(136);
+    let mut outside = Outside {
+        settings: MemorySource::new(text, Vec::new(rt.alloc())),
+        input: WaitingClient {
+            first: &requests[..middle],
+            second: &requests[middle..],
+            sent: 0,
+            reads: 0,
+            reads_seen: &reads_seen,
+            written: &written,
+        },
+        output: Answers {
+            sink: MemorySink::new(rt.alloc(), Vec::new(rt.alloc())),
+            written: &written,
+        },
+        notes: MemorySink::new(rt.alloc(), Vec::new(rt.alloc())),
+        clock: NotingClock {
+            reads_seen: &reads_seen,
+            noted: Vec::new(rt.alloc()),
+        },
+    };
+    let ending = run_words(rt.alloc(), &["session"], &mut outside)?;
+    assert_eq!(rt;
+        outside.output.sink.bytes(),
+        ROWS[0].output.as_bytes(),
+        "both are answered"
+    );
+    assert_eq!(rt;
+        outside.clock.noted.as_slice(),
+        &[0, 1, 2][..],
+        "reads before each moment"
+    );
+    assert_eq!(rt;
+        reads_seen.get(),
+        3,
+        "a read for each request, and one for the end"
+    );
+    assert_eq!(rt; ending.status, 0, "the input's end");
     Ok(())
 }

@@ -5,8 +5,9 @@ ghost use Rattle.std.specs.Prelude.{◌≡◌, ◌≢◌, ◌↔◌, ◌≤◌, 
 ghost use Rattle.fts_tables.specs.History.{tables_of};
 ghost use Rattle.fts_tables.specs.Coming.{Gives};
 ghost use Rattle.fts_tables.specs.Tables.{is_submitted, is_finished, is_failed, is_canceled};
-ghost use Rattle.fts_wire.specs.Outside.{Rose};
+ghost use Rattle.fts_tables.specs.Counts.{Rose};
 ghost use Rattle.fts_top.specs.Notes.{note_of, IsNoted};
+ghost use Rattle.fts_top.specs.Session.{one_thread};
 ghost use Rattle.fts_top.specs.Run.{is_session, status_of, tally_of, no_tally, restart_at, AreRead, RanOver};
 
 use crate::ends::RunEnd;
@@ -15,7 +16,7 @@ use crate::reading::load_settings;
 use crate::session::run_session;
 use crate::words::is_session_command;
 use fts_desk::Desk;
-use fts_tables::{Clock, Command, FileRow, FileState, Memory, Settings};
+use fts_tables::{Clock, Command, FileRow, Memory, Settings};
 use fts_wire::{Room, Sink, Source};
 use std::alloc::Global;
 
@@ -63,9 +64,12 @@ pub fn run<F: Source, S: Source, K: Sink, N: Sink, C: Clock>(
     outside: &mut Outside<F, S, K, N, C>,
 ) -> Ending
     ensures words { (result.status ≡ 2) ↔ (is_session words.now ≡ false) }
+    ensures untouched { is_session words.now ≡ false → (outside.new.settings ≡ outside.old.settings) × (outside.new.input ≡ outside.old.input)
+        × (outside.new.output ≡ outside.old.output) × (outside.new.clock ≡ outside.old.clock) }
     // Its end decides the status and the note, and is the end of what it did.
     ensures run { (end : RunEnd) × ((result.status ≡ status_of end) × (RanOver end result.tally (F.left outside.old.settings)
-        (S.left outside.old.input) (S.left outside.new.input) (K.held outside.old.output) (K.held outside.new.output) (C.moments outside.old.clock)
+        (one_thread (S.left outside.old.input) (S.reads outside.old.input) (K.held outside.old.output) (C.moments outside.old.clock))
+        (one_thread (S.left outside.new.input) (S.reads outside.new.input) (K.held outside.new.output) (C.moments outside.new.clock))
         × IsNoted (N.held outside.old.notes) (N.held outside.new.notes) (N.faults outside.old.notes) (N.faults outside.new.notes) (note_of end))) }
     ensures settings { result.status ≡ 8 → Rose (F.faults outside.old.settings) (F.faults outside.new.settings) }
     ensures input { result.status ≡ 5 → Rose (S.faults outside.old.input) (S.faults outside.new.input) }
@@ -96,8 +100,11 @@ fn do_command<F: Source, S: Source, K: Sink, C: Clock>(
     clock: &mut C,
 ) -> Done
     ensures words { (status_of result.end ≡ 2) ↔ (is_session words.now ≡ false) }
+    ensures untouched { is_session words.now ≡ false → (settings.new ≡ settings.old) × (input.new ≡ input.old)
+        × (output.new ≡ output.old) × (clock.new ≡ clock.old) }
     ensures run { RanOver result.end result.tally (F.left settings.old)
-        (S.left input.old) (S.left input.new) (K.held output.old) (K.held output.new) (C.moments clock.old) }
+        (one_thread (S.left input.old) (S.reads input.old) (K.held output.old) (C.moments clock.old))
+        (one_thread (S.left input.new) (S.reads input.new) (K.held output.new) (C.moments clock.new)) }
     ensures settings { status_of result.end ≡ 8 → Rose (F.faults settings.old) (F.faults settings.new) }
     ensures input { status_of result.end ≡ 5 → Rose (S.faults input.old) (S.faults input.new) }
     ensures output { status_of result.end ≡ 6 → Rose (K.faults output.old) (K.faults output.new) }
@@ -119,7 +126,8 @@ fn begin_session<F: Source, S: Source, K: Sink, C: Clock>(
 ) -> Done
     ensures words { status_of result.end ≢ 2 }
     ensures run { RanOver result.end result.tally (F.left settings.old)
-        (S.left input.old) (S.left input.new) (K.held output.old) (K.held output.new) (C.moments clock.old) }
+        (one_thread (S.left input.old) (S.reads input.old) (K.held output.old) (C.moments clock.old))
+        (one_thread (S.left input.new) (S.reads input.new) (K.held output.new) (C.moments clock.new)) }
     ensures settings { status_of result.end ≡ 8 → Rose (F.faults settings.old) (F.faults settings.new) }
     ensures input { status_of result.end ≡ 5 → Rose (S.faults input.old) (S.faults input.new) }
     ensures output { status_of result.end ≡ 6 → Rose (K.faults output.old) (K.faults output.new) }
@@ -140,7 +148,8 @@ fn serve_under<S: Source, K: Sink, C: Clock>(
 ) -> Done
     ensures words { status_of result.end ≢ 2 }
     ensures run { (text : Option (List ℕ)) → AreRead text settings → RanOver result.end result.tally text
-        (S.left input.old) (S.left input.new) (K.held output.old) (K.held output.new) (C.moments clock.old) }
+        (one_thread (S.left input.old) (S.reads input.old) (K.held output.old) (C.moments clock.old))
+        (one_thread (S.left input.new) (S.reads input.new) (K.held output.new) (C.moments clock.new)) }
     ensures settings { status_of result.end ≢ 8 }
     ensures input { status_of result.end ≡ 5 → Rose (S.faults input.old) (S.faults input.new) }
     ensures output { status_of result.end ≡ 6 → Rose (K.faults output.old) (K.faults output.new) }
@@ -215,34 +224,26 @@ fn count_finished(rows: &[FileRow]) -> usize
     ensures count { result ≡ count_by (λ row. is_finished row.state) rows.now }
     ensures few { result ≤ length rows.now }
 {
-    rows.iter()
-        .filter(|row| matches!(row.state, FileState::Finished))
-        .count()
+    rows.iter().filter(|row| row.state.is_finished()).count()
 }
 
 fn count_failed(rows: &[FileRow]) -> usize
     ensures count { result ≡ count_by (λ row. is_failed row.state) rows.now }
     ensures few { result ≤ length rows.now }
 {
-    rows.iter()
-        .filter(|row| matches!(row.state, FileState::Failed))
-        .count()
+    rows.iter().filter(|row| row.state.is_failed()).count()
 }
 
 fn count_canceled(rows: &[FileRow]) -> usize
     ensures count { result ≡ count_by (λ row. is_canceled row.state) rows.now }
     ensures few { result ≤ length rows.now }
 {
-    rows.iter()
-        .filter(|row| matches!(row.state, FileState::Canceled))
-        .count()
+    rows.iter().filter(|row| row.state.is_canceled()).count()
 }
 
 fn count_submitted(rows: &[FileRow]) -> usize
     ensures count { result ≡ count_by (λ row. is_submitted row.state) rows.now }
     ensures few { result ≤ length rows.now }
 {
-    rows.iter()
-        .filter(|row| matches!(row.state, FileState::Submitted))
-        .count()
+    rows.iter().filter(|row| row.state.is_submitted()).count()
 }

@@ -9,7 +9,8 @@ use Rattle.fts_wire.specs.Look.{look_of}
 use Rattle.fts_wire.specs.RequestData.{RequestData, plain_request}
 use Rattle.fts_wire.specs.RoomData.{RoomData}
 use Rattle.fts_wire.specs.Requests.{Next, next_of, next_by, at_end, Closed, EndsInside, NotBuilt, Asks}
-use Rattle.fts_wire.specs.Taken.{pending, IsNext, IsUsedUp, LooksLike, Takes, TakenFrom, StandsIn, IsTaken}
+use Rattle.std.specs.List.{concat}
+use Rattle.fts_wire.specs.Taken.{pending, IsNext, IsUsedUp, LooksLike, Takes, StandsIn, reads_without, IsTaken}
 use Rattle.fts_wire.proofs.Bounds.{request_bound}
 use Rattle.fts_wire.proofs.Stable.{Stays, look_more}
 
@@ -73,11 +74,11 @@ refused_more bytes more e =
     not_inside c = cc (e, c)
 
 -- the bytes at hand and what is left behind them are all that was to come
-all_bytes : (kept left bytes rest : List ℕ) → TakenFrom kept left bytes rest → kept ++ left ≡ bytes ++ rest
-all_bytes kept left bytes rest t =
-    ap (λ xs. kept ++ xs) t.from_source ∙ sym (append_assoc kept t.taken rest) ∙ ap (λ xs. xs ++ rest) (sym t.onto_kept)
+all_bytes : (kept left bytes rest : List ℕ) (old new more : ℕ) → Takes kept (Some left) bytes (Some rest) old new more → kept ++ left ≡ bytes ++ rest
+all_bytes kept left bytes rest old new more t =
+    ap (λ xs. kept ++ xs) t.from_source ∙ sym (append_assoc kept (concat t.pieces) rest) ∙ ap (λ xs. xs ++ rest) (sym t.onto_kept)
 
-stands_next : (bytes rest : List ℕ) (room : RoomData) (result : Result Bool WireFault) → StandsIn bytes rest room result
+stands_next : (bytes rest : List ℕ) (room : RoomData) (result : Result Bool WireFault) → StandsIn bytes (Some rest) room result
     → IsNext (Some (bytes ++ rest)) (Some (room.kept ++ rest)) room result
 stands_next bytes rest room (Ok true) s = asks_more bytes rest room.kept room.request s
 stands_next bytes rest room (Ok false) s =
@@ -88,41 +89,38 @@ stands_next bytes rest room (Err EndsInsideFault) s = ap next_of (ap (λ xs. byt
 stands_next bytes rest room (Err SourceFailed) s = (ap (λ xs. xs ++ rest) s.1, ap look_of s.1 ∙ s.0)
 
 -- what a call found in what it took is what it found next
-pub next_from_taken : (kept : List ℕ) (before after : Option (List ℕ)) (room : RoomData) (result : Result Bool WireFault)
-    → IsTaken kept before after room result → IsNext (pending kept before) (pending room.kept after) room result
-next_from_taken kept None after room result t = ap (pending room.kept) t
-next_from_taken kept (Some left) None room result t = absurd t
-next_from_taken kept (Some left) (Some rest) room result t =
-    subst (λ all. IsNext (Some all) (Some (room.kept ++ rest)) room result) (sym (all_bytes kept left t.0 rest t.1.0)) (stands_next t.0 rest room result t.1.1)
+pub next_from_taken : (kept : List ℕ) (before after : Option (List ℕ)) (old new : ℕ) (room : RoomData) (result : Result Bool WireFault)
+    → IsTaken kept before after old new room result → IsNext (pending kept before) (pending room.kept after) room result
+next_from_taken kept None after old new room result t = ap (pending room.kept) t.takes.from_source
+next_from_taken kept (Some left) None old new room result t = absurd t.takes.from_source
+next_from_taken kept (Some left) (Some rest) old new room result t =
+    subst (λ all. IsNext (Some all) (Some (room.kept ++ rest)) room result)
+    (sym (all_bytes kept left t.bytes rest old new (reads_without result) t.takes)) (stands_next t.bytes rest room result t.stands)
 
 inside : (bytes : List ℕ) → bytes ≢ [] → at_end bytes ≡ EndsInside
 inside [] h = absurd (h refl)
 inside (b ∷ bs) h = refl
 
-fault_stands : (bytes rest : List ℕ) (old new : ℕ) (room : RoomData) (fault : WireFault) → LooksLike bytes (Some rest) old new (Err fault) → room.kept ≡ bytes
-    → StandsIn bytes rest room (Err fault)
-fault_stands bytes rest old new room NotBuiltFault h k = (ap (λ l. next_by l bytes) h, k)
-fault_stands bytes rest old new room EndsInsideFault h k = (ap (λ l. next_by l bytes) h.0 ∙ inside bytes h.1.0, (h.1.1, k))
-fault_stands bytes rest old new room SourceFailed h k = (h.0, k)
+fault_stands : (bytes : List ℕ) (left : Option (List ℕ)) (faults faults2 : ℕ) (room : RoomData) (fault : WireFault)
+    → LooksLike bytes left faults faults2 (Err fault) → room.kept ≡ bytes → StandsIn bytes left room (Err fault)
+fault_stands bytes left faults faults2 room NotBuiltFault h k = (ap (λ l. next_by l bytes) h, k)
+fault_stands bytes left faults faults2 room EndsInsideFault h k = (ap (λ l. next_by l bytes) h.0 ∙ inside bytes h.1.0, (h.1.1, k))
+fault_stands bytes left faults faults2 room SourceFailed h k = (h.0, k)
 
 -- a fault, by the look that a fill ended with
-pub taken_fault : (kept : List ℕ) (before after : Option (List ℕ)) (bytes : List ℕ) (old new : ℕ) (room : RoomData) (fault : WireFault)
-    → Takes kept before bytes after → LooksLike bytes after old new (Err fault) → room.kept ≡ bytes → IsTaken kept before after room (Err fault)
-taken_fault kept None after bytes old new room fault t h k = t
-taken_fault kept (Some left) None bytes old new room fault t h k = absurd t
-taken_fault kept (Some left) (Some rest) bytes old new room fault t h k = (bytes, (t, fault_stands bytes rest old new room fault h k))
+pub taken_fault : (kept : List ℕ) (before after : Option (List ℕ)) (old new : ℕ) (bytes : List ℕ) (faults faults2 : ℕ) (room : RoomData) (fault : WireFault)
+    → Takes kept before bytes after old new (reads_without (Err fault)) → LooksLike bytes after faults faults2 (Err fault) → room.kept ≡ bytes
+    → IsTaken kept before after old new room (Err fault)
+taken_fault kept before after old new bytes faults faults2 room fault t h k =
+    record { bytes = bytes; takes = t; stands = fault_stands bytes after faults faults2 room fault h k }
 
 -- the end of the input between requests
-pub taken_closed : (kept : List ℕ) (before after : Option (List ℕ)) (bytes : List ℕ) (room : RoomData)
-    → Takes kept before bytes after → bytes ≡ [] → IsUsedUp after → room.kept ≡ bytes → IsTaken kept before after room (Ok false)
-taken_closed kept None after bytes room t none used k = t
-taken_closed kept (Some left) None bytes room t none used k = absurd t
-taken_closed kept (Some left) (Some rest) bytes room t none used k = (bytes, (t, (none, (used, k))))
+pub taken_closed : (kept : List ℕ) (before after : Option (List ℕ)) (old new : ℕ) (bytes : List ℕ) (room : RoomData)
+    → Takes kept before bytes after old new 1 → bytes ≡ [] → IsUsedUp after → room.kept ≡ bytes → IsTaken kept before after old new room (Ok false)
+taken_closed kept before after old new bytes room t none used k = record { bytes = bytes; takes = t; stands = (none, (used, k)) }
 
 -- a request
-pub taken_asked : (kept : List ℕ) (before after : Option (List ℕ)) (bytes : List ℕ) (head body : ℕ) → Takes kept before bytes after
-    → look_of bytes ≡ Found head body
-    → IsTaken kept before after (record { request = plain_request (take body (drop head bytes)); kept = drop (head + body) bytes }) (Ok true)
-taken_asked kept None after bytes head body t e = t
-taken_asked kept (Some left) None bytes head body t e = absurd t
-taken_asked kept (Some left) (Some rest) bytes head body t e = (bytes, (t, ap (λ l. next_by l bytes) e))
+pub taken_asked : (kept : List ℕ) (before after : Option (List ℕ)) (old new : ℕ) (bytes : List ℕ) (head body : ℕ)
+    → Takes kept before bytes after old new 0 → look_of bytes ≡ Found head body
+    → IsTaken kept before after old new (record { request = plain_request (take body (drop head bytes)); kept = drop (head + body) bytes }) (Ok true)
+taken_asked kept before after old new bytes head body t e = record { bytes = bytes; takes = t; stands = ap (λ l. next_by l bytes) e }

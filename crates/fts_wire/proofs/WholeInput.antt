@@ -2,24 +2,17 @@
 use Rattle.std.proofs.Common.{◌≡◌, ℕ, ◌+◌, ◌-◌, min, ◌<◌, ◌≤◌, List, [], ◌∷◌, ◌++◌, length, take, drop, Option, Some, None, Ok, Err, refl, ap, sym, ◌∙◌, arith, subst, append_assoc, append-nil, ⊎_elim, inl, inr, length-append, length-drop}
 use Rattle.std.proofs.lemmas.List.{take-append-drop, length-take, nil_from_length}
 use Rattle.std.proofs.Math.Seq.{drop-append-add}
-use Rattle.fts_wire.specs.Outside.{Reads, Rose, CountsFaults}
-use Rattle.fts_wire.specs.ReadAll.{IsAll, IsRefused, IsPartTaken, IsTakenOf}
+use Rattle.fts_tables.specs.Counts.{Rose, CountsFaults}
+use Rattle.fts_wire.specs.Outside.{Reads, IsTakenOf}
+use Rattle.fts_wire.proofs.Pieces.{taken_then, gives_piece}
+use Rattle.fts_wire.specs.ReadAll.{IsAll, IsRefused, IsPartTaken}
 use Rattle.fts_wire.specs.declared.whole_input.ReadAllFault.TheVariants.{TooLong, SourceFailed, Memory}
-
--- nothing is taken at first
-pub none_taken : (left : Option (List ℕ)) → IsTakenOf left left []
-none_taken None = refl
-none_taken (Some left) = refl
 
 -- a read takes a piece more
 pub piece_taken : (E : Type 0) (before mid after : Option (List ℕ)) (bytes into : List ℕ) (n : ℕ)
     → IsTakenOf before mid bytes → Reads {E = E} mid after into (Ok n) → IsTakenOf before after (bytes ++ take n into)
-piece_taken E None mid after bytes into n taken read = subst (λ m. Reads {E = E} m after into (Ok n)) taken read
-piece_taken E (Some left) None after bytes into n taken read = absurd taken
-piece_taken E (Some left) (Some rest) None bytes into n taken read = absurd read
-piece_taken E (Some left) (Some rest) (Some behind) bytes into n taken read =
-    let parts : rest ≡ take n into ++ behind = sym (ap (λ front. front ++ behind) read.taken ∙ ap (λ back. take n rest ++ back) read.rest ∙ take-append-drop n rest) in
-    taken ∙ ap (λ back. bytes ++ back) parts ∙ sym (append_assoc bytes (take n into) behind)
+piece_taken E before mid after bytes into n taken read =
+    taken_then before mid after bytes (take n into) taken (gives_piece E mid after into n read)
 
 -- a read of nothing is the end
 pub all_taken : (E : Type 0) (limit : ℕ) (before mid after : Option (List ℕ)) (bytes into : List ℕ) (n : ℕ) → n ≡ 0 → 0 < length into → length bytes ≤ limit

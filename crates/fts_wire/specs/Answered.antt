@@ -22,12 +22,13 @@ IsFound room (Err fault) (Ok found) = ⊥
 IsFound room (Ok loaded) (Err e) = ⊥
 
 -- what a load found: of all that was to come, and of what was taken of it
-pub record IsLoaded (kept : List ℕ) (before after : Option (List ℕ)) (room : RoomData) (result : Result Bool WireFault) : Type 0 where
+pub record IsLoaded (kept : List ℕ) (before after : Option (List ℕ)) (old new : ℕ) (room : RoomData) (result : Result Bool WireFault) : Type 0 where
   pub next : IsNext (pending kept before) (pending room.kept after) room result
-  pub taken : IsTaken kept before after room result
+  pub taken : IsTaken kept before after old new room result
 
 -- the same of a request that is lent
-abbrev pub IsNextRequest : List ℕ → Option (List ℕ) → Option (List ℕ) → RoomData → Result (Option Request) WireFault → Type 0
-IsNextRequest kept before after room (Ok (Some request)) = IsLoaded kept before after room (Ok true) × (request_data request ≡ room.request)
-IsNextRequest kept before after room (Ok None) = IsLoaded kept before after room (Ok false)
-IsNextRequest kept before after room (Err fault) = IsLoaded kept before after room (Err fault)
+abbrev pub IsNextRequest : List ℕ → Option (List ℕ) → Option (List ℕ) → ℕ → ℕ → RoomData → Result (Option Request) WireFault → Type 0
+IsNextRequest kept before after old new room (Ok (Some request)) =
+    IsLoaded kept before after old new room (Ok true) × (request_data request ≡ room.request)
+IsNextRequest kept before after old new room (Ok None) = IsLoaded kept before after old new room (Ok false)
+IsNextRequest kept before after old new room (Err fault) = IsLoaded kept before after old new room (Err fault)

@@ -1,4 +1,5 @@
 pub mod Outside
+pub mod Memory
 pub mod Piece
 pub mod Look
 pub mod RequestData

@@ -1,14 +1,10 @@
--- What a source has left and a sink holds, where they tell it, their counts of faults, and the two sides of a line.
-use Rattle.std.specs.Prelude.{◌≡◌, ◌⊎◌, ℕ, ◌<◌, ◌≤◌, List, ◌++◌, length, take, drop, Option, Some, None, Result, Ok, Err, IsErr}
+-- What a source has left and a sink holds, where they tell it, how often they were called and have failed, and the two sides of a line.
+use Rattle.std.specs.Prelude.{◌≡◌, ℕ, zero, suc, ◌+◌, ◌<◌, ◌≤◌, min, List, ◌++◌, length, take, drop, Option, Some, None, Result, Ok, Err}
 
--- a count of faults went up, or stands at its type's end
-abbrev pub Rose : ℕ → ℕ → Type 0
-Rose old new = (old < new) ⊎ (18446744073709551615 ≤ new)
-
--- a count never falls, and a call fails only where it rose
-pub record CountsFaults {T E : Type 0} (old new : ℕ) (result : Result T E) : Type 0 where
-  pub keeps : old ≤ new
-  pub cause : IsErr result → Rose old new
+-- a count that went up by so many, as far as its type goes
+abbrev pub raised : ℕ → ℕ → ℕ
+raised count zero = count
+raised count (suc n) = min (count + suc n) 18446744073709551615
 
 -- the other side of a line: its bytes, where it tells them, and its count of faults
 pub record Beside : Type 0 where
@@ -35,6 +31,12 @@ Writes None new piece result = new ≡ None
 Writes (Some held) None piece result = ⊥
 Writes (Some held) (Some now) piece (Ok n) = now ≡ held ++ take n piece
 Writes (Some held) (Some now) piece (Err e) = now ≡ held
+
+-- these bytes were taken off the front of those left, and the rest is left, where that is told
+abbrev pub IsTakenOf : Option (List ℕ) → Option (List ℕ) → List ℕ → Type 0
+IsTakenOf None after bytes = after ≡ None
+IsTakenOf (Some left) None bytes = ⊥
+IsTakenOf (Some left) (Some rest) bytes = left ≡ bytes ++ rest
 
 -- what a source shows of itself: the bytes left, its count of faults, and the side beside it; and a sink with the bytes held
 pub record Side (L : Type 0) : Type 0 where

@@ -23,9 +23,3 @@ IsRefused limit (Some left) None fault = ⊥
 IsRefused limit (Some left) (Some rest) TooLong = (limit < length left) × (rest ≡ drop (limit + 1) left)
 IsRefused limit (Some left) (Some rest) SourceFailed = IsPartTaken limit left rest
 IsRefused limit (Some left) (Some rest) Memory = IsPartTaken limit left rest
-
--- these bytes were taken, and the rest is left
-abbrev pub IsTakenOf : Option (List ℕ) → Option (List ℕ) → List ℕ → Type 0
-IsTakenOf None after bytes = after ≡ None
-IsTakenOf (Some left) None bytes = ⊥
-IsTakenOf (Some left) (Some rest) bytes = left ≡ bytes ++ rest

@@ -1,6 +1,8 @@
 -- What reading did: to all that was to come, and to the bytes that were taken of it.
-use Rattle.std.specs.Prelude.{◌≡◌, ◌≢◌, ◌⊎◌, Bool, true, false, ℕ, ◌≤◌, List, [], ◌++◌, length, Option, Some, None, Result, Ok, Err, option_map, IfSome}
-use Rattle.fts_wire.specs.Outside.{Rose}
+use Rattle.std.specs.Prelude.{◌≡◌, ◌≢◌, ℕ, ◌+◌, ◌<◌, ◌≤◌, Bool, true, false, List, [], ◌∷◌, ◌++◌, length, Option, Some, None, Result, Ok, Err, option_map, IfSome}
+use Rattle.std.specs.List.{concat}
+use Rattle.fts_tables.specs.Counts.{Rose}
+use Rattle.fts_wire.specs.Outside.{IsTakenOf, raised}
 use Rattle.fts_wire.specs.Look.{look_of}
 use Rattle.fts_wire.specs.RoomData.{RoomData}
 use Rattle.fts_wire.specs.Requests.{next_of, IsShort, Closed, EndsInside, NotBuilt, Asks}
@@ -24,45 +26,51 @@ IsNext (Some bytes) (Some rest) room (Err NotBuiltFault) = next_of bytes ≡ Not
 IsNext (Some bytes) (Some rest) room (Err EndsInsideFault) = next_of bytes ≡ EndsInside
 IsNext (Some bytes) (Some rest) room (Err SourceFailed) = (rest ≡ bytes) × IsShort room.kept
 
--- the last read of a call, and what was there before it: less than a request, so nothing is read past the piece in which a request ends
-pub record LastRead (kept taken : List ℕ) : Type 0 where
-  pub earlier : List ℕ
-  pub piece : List ℕ
-  pub parts : taken ≡ earlier ++ piece
-  pub short : IsShort (kept ++ earlier)
+-- A piece was read behind these bytes, which are less than a request: so nothing is read past the piece in which a request ends.
+pub record IsRead (bytes piece : List ℕ) : Type 0 where
+  pub short : IsShort bytes
+  pub some : 0 < length piece
   pub small : length piece ≤ PIECE_BYTES
 
--- what was taken of the bytes left stands at the end of those that were kept
-pub record TakenFrom (kept left bytes rest : List ℕ) : Type 0 where
-  pub taken : List ℕ
-  pub from_source : left ≡ taken ++ rest
-  pub onto_kept : bytes ≡ kept ++ taken
-  pub no_further : (taken ≡ []) ⊎ LastRead kept taken
+-- these pieces were read, one after another
+abbrev pub AreRead : List ℕ → List (List ℕ) → Type 0
+AreRead bytes [] = Unit {0}
+AreRead bytes (piece ∷ pieces) = IsRead bytes piece × AreRead (bytes ++ piece) pieces
 
--- the same of a source that may tell what it has left
-abbrev pub Takes : List ℕ → Option (List ℕ) → List ℕ → Option (List ℕ) → Type 0
-Takes kept None bytes after = after ≡ None
-Takes kept (Some left) bytes None = ⊥
-Takes kept (Some left) bytes (Some rest) = TakenFrom kept left bytes rest
-
--- What a call found in the bytes at hand, behind which the source has this rest left: it is known by them alone.
--- A request is taken away from them; otherwise all of them are kept.
-abbrev pub StandsIn : List ℕ → List ℕ → RoomData → Result Bool WireFault → Type 0
-StandsIn bytes rest room (Ok true) = next_of bytes ≡ Asks room.request room.kept
-StandsIn bytes rest room (Ok false) = (bytes ≡ []) × ((rest ≡ []) × (room.kept ≡ bytes))
-StandsIn bytes rest room (Err NotBuiltFault) = (next_of bytes ≡ NotBuilt) × (room.kept ≡ bytes)
-StandsIn bytes rest room (Err EndsInsideFault) = (next_of bytes ≡ EndsInside) × ((rest ≡ []) × (room.kept ≡ bytes))
-StandsIn bytes rest room (Err SourceFailed) = IsShort bytes × (room.kept ≡ bytes)
-
--- what a call took, and what it found in that
-abbrev pub IsTaken : List ℕ → Option (List ℕ) → Option (List ℕ) → RoomData → Result Bool WireFault → Type 0
-IsTaken kept None after room result = after ≡ None
-IsTaken kept (Some left) None room result = ⊥
-IsTaken kept (Some left) (Some rest) room result = (bytes : List ℕ) × (TakenFrom kept left bytes rest × StandsIn bytes rest room result)
+-- What was taken stands behind the bytes that were kept: pieces of what the source had left, each of one read. So many reads more gave none.
+pub record Takes (kept : List ℕ) (before : Option (List ℕ)) (bytes : List ℕ) (after : Option (List ℕ)) (old new more : ℕ) : Type 0 where
+  pub pieces : List (List ℕ)
+  pub each : AreRead kept pieces
+  pub from_source : IsTakenOf before after (concat pieces)
+  pub onto_kept : bytes ≡ kept ++ concat pieces
+  pub counted : new ≡ raised old (length pieces + more)
 
 -- nothing is left, where it is told
 abbrev pub IsUsedUp : Option (List ℕ) → Type 0
 IsUsedUp left = IfSome left (λ rest. rest ≡ [])
+
+-- What a call found in the bytes at hand, behind which the source has this left: it is known by them alone.
+-- A request is taken away from them; otherwise all of them are kept.
+abbrev pub StandsIn : List ℕ → Option (List ℕ) → RoomData → Result Bool WireFault → Type 0
+StandsIn bytes left room (Ok true) = next_of bytes ≡ Asks room.request room.kept
+StandsIn bytes left room (Ok false) = (bytes ≡ []) × (IsUsedUp left × (room.kept ≡ bytes))
+StandsIn bytes left room (Err NotBuiltFault) = (next_of bytes ≡ NotBuilt) × (room.kept ≡ bytes)
+StandsIn bytes left room (Err EndsInsideFault) = (next_of bytes ≡ EndsInside) × (IsUsedUp left × (room.kept ≡ bytes))
+StandsIn bytes left room (Err SourceFailed) = IsShort bytes × (room.kept ≡ bytes)
+
+-- how many reads of a call gave no byte: the one that found the end or failed, which is the last
+abbrev pub reads_without : Result Bool WireFault → ℕ
+reads_without (Ok true) = 0
+reads_without (Ok false) = 1
+reads_without (Err NotBuiltFault) = 0
+reads_without (Err EndsInsideFault) = 1
+reads_without (Err SourceFailed) = 1
+
+-- what a call took, by how many reads, and what it found in that
+pub record IsTaken (kept : List ℕ) (before after : Option (List ℕ)) (old new : ℕ) (room : RoomData) (result : Result Bool WireFault) : Type 0 where
+  pub bytes : List ℕ
+  pub takes : Takes kept before bytes after old new (reads_without result)
+  pub stands : StandsIn bytes after room result
 
 -- how a look at the bytes at hand ended
 abbrev pub LooksLike : List ℕ → Option (List ℕ) → ℕ → ℕ → Result (Option (ℕ × ℕ)) WireFault → Type 0
@@ -71,3 +79,9 @@ LooksLike bytes left old new (Ok None) = (bytes ≡ []) × IsUsedUp left
 LooksLike bytes left old new (Err NotBuiltFault) = look_of bytes ≡ Refused
 LooksLike bytes left old new (Err EndsInsideFault) = IsShort bytes × ((bytes ≢ []) × IsUsedUp left)
 LooksLike bytes left old new (Err SourceFailed) = IsShort bytes × Rose old new
+
+-- what such a look is to a call: a request, the end, or a fault
+abbrev pub loads : Result (Option (ℕ × ℕ)) WireFault → Result Bool WireFault
+loads (Ok (Some parts)) = Ok true
+loads (Ok None) = Ok false
+loads (Err fault) = Err fault

@@ -3,19 +3,24 @@
 //! so a request costs its own bytes, however many are kept behind it.
 //! Called by `request` alone.
 ghost use Rattle.std.specs.Prelude.{◌≡◌, ◌+◌, ◌≤◌, [], length, take, drop, vec_capacity, IfOk, OnErr};
-ghost use Rattle.fts_wire.specs.Outside.{CountsFaults};
+ghost use Rattle.fts_tables.specs.Counts.{CountsFaults};
+ghost use Rattle.fts_wire.specs.Outside.{raised};
 ghost use Rattle.fts_wire.specs.Piece.{AddsPiece};
 
 use crate::{Source, SourceFailed};
 use fts_tables::Memory;
+use fts_tables::limits::MAX_CONTENT_BYTES;
 use std::alloc::Global;
 use std::marker::Model;
 
 /// At most this many bytes are asked of a source at a time.
 pub const PIECE_BYTES: usize = 65_536;
 
-/// What is short of a request, and one piece more: 1,048,576 of a body, 48 of a head, and the piece.
-pub const BUFFER_BYTES: usize = 1_114_176;
+/// The bytes of the longest plain head: 37 before the length, its 7 digits, and 4 behind it.
+const MAX_HEAD_BYTES: usize = 48;
+
+/// What is short of a request, and one piece more.
+pub const BUFFER_BYTES: usize = MAX_HEAD_BYTES + MAX_CONTENT_BYTES + PIECE_BYTES;
 
 /// The bytes at hand.
 #[derive(Drop)]
@@ -79,6 +84,7 @@ impl Buffer {
         requires room { length self.old + PIECE_BYTES ≤ BUFFER_BYTES }
         ensures piece { IfOk result (λ n. AddsPiece (S.left source.old) (S.left source.new) self.old self.new n) }
         ensures err { OnErr result ((self.new ≡ self.old) × (S.left source.new ≡ S.left source.old)) }
+        ensures counted { S.reads source.new ≡ raised (S.reads source.old) 1 }
         ensures cause { CountsFaults (S.faults source.old) (S.faults source.new) result }
         ensures beside { S.beside source.new ≡ S.beside source.old }
     {

@@ -11,6 +11,7 @@ mod outside;
 mod request;
 mod response;
 mod standard;
+pub mod statuses;
 #[cfg(test)]
 mod tests;
 mod whole_input;
@@ -18,6 +19,6 @@ mod whole_input;
 pub use memory::{MemoryLine, MemorySink, MemorySource};
 pub use outside::{Sink, SinkFailed, Source, SourceFailed};
 pub use request::{Request, Room, WireFault, next_request};
-pub use response::{Allow, Reply, send_all, write_response};
+pub use response::{Allow, Reply, send_all, send_parts, write_response};
 pub use standard::{StdSink, StdSource};
 pub use whole_input::{ReadAllFault, read_all};

@@ -1,13 +1,13 @@
 //! Requests, one after another, from a source.
 //! Keeps: what is kept followed by what the source has left loses exactly the request (`load`, clause `next`); what was found stands in the bytes
-//! taken alone, and the last read of a call is made only while they are less than a request (clause `taken`).
+//! taken alone, and each read of a call is made only while they are less than a request (clause `taken`).
 //! Order of a load: the last request's bytes are given up; then look, and read a piece, until the look is no longer short.
 //! Called by fts_top. Format: docs/DEFINITIONS.md, "HTTP".
 ghost use Rattle.std.specs.Prelude.{◌≡◌, ◌≤◌, [], Err, IfOk, IfSome, ⊤};
 ghost use Rattle.std.specs.Borrow.{sem, follows_so};
 ghost use mathlib.Core.Option.{none};
-ghost use Rattle.fts_wire.specs.Outside.{Rose};
-ghost use Rattle.fts_wire.specs.Taken.{pending, LooksLike, IsNext, IsTaken, Takes};
+ghost use Rattle.fts_tables.specs.Counts.{Rose};
+ghost use Rattle.fts_wire.specs.Taken.{pending, loads, reads_without, LooksLike, IsNext, IsTaken, Takes};
 ghost use Rattle.fts_wire.specs.Room.{IsWithin};
 ghost use Rattle.fts_wire.specs.Answered.{request_data, IsNextRequest, IsFound};
 ghost use Rattle.fts_wire.specs.contracts.request.Room.{the_row};
@@ -98,7 +98,7 @@ impl Room {
     /// It takes no memory, and reads nothing past the piece in which the request ends.
     pub fn load<S: Source>(&mut self, source: &mut S) -> Result<bool, WireFault>
         ensures next { IsNext (pending self.old.kept (S.left source.old)) (pending self.new.kept (S.left source.new)) self.new result }
-        ensures taken { IsTaken self.old.kept (S.left source.old) (S.left source.new) self.new result }
+        ensures taken { IsTaken self.old.kept (S.left source.old) (S.left source.new) (S.reads source.old) (S.reads source.new) self.new result }
         ensures failed { result ≡ Err WireFault.SourceFailed → Rose (S.faults source.old) (S.faults source.new) }
         ensures faults { S.faults source.old ≤ S.faults source.new }
         ensures beside { S.beside source.new ≡ S.beside source.old }
@@ -131,7 +131,8 @@ impl Room {
 
 /// Reads until a request stands whole in the bytes, and gives the lengths of its head and its body.
 fn fill<S: Source>(source: &mut S, buffer: &mut Buffer) -> Result<Option<(usize, usize)>, WireFault>
-    ensures takes { Takes buffer.old (S.left source.old) buffer.new (S.left source.new) }
+    ensures takes { Takes buffer.old (S.left source.old) buffer.new (S.left source.new)
+        (S.reads source.old) (S.reads source.new) (reads_without (loads result)) }
     ensures look { LooksLike buffer.new (S.left source.new) (S.faults source.old) (S.faults source.new) result }
     ensures within { IfOk result (λ found. IfSome found (λ parts. IsWithin parts.0 parts.1 buffer.new)) }
     ensures faults { S.faults source.old ≤ S.faults source.new }
@@ -164,7 +165,7 @@ pub fn next_request<'a, S: Source>(
     source: &mut S,
 ) -> Result<Option<Request<'a>>, WireFault>
     ensures* after { sem 𝓛 (follows_so the_row the_row room.entry.ghost_name none (λ _ _. ⊤)
-        (λ n. IsNextRequest room.old.kept (S.left source.old) (S.left source.new) n result)) }
+        (λ n. IsNextRequest room.old.kept (S.left source.old) (S.left source.new) (S.reads source.old) (S.reads source.new) n result)) }
     ensures failed { result ≡ Err WireFault.SourceFailed → Rose (S.faults source.old) (S.faults source.new) }
     ensures faults { S.faults source.old ≤ S.faults source.new }
     ensures beside { S.beside source.new ≡ S.beside source.old }

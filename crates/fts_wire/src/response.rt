@@ -3,11 +3,12 @@
 //! Order: the head with as much of the body as makes one piece, and then the rest of the body. A short response is one piece, since a head
 //! and a body that are written apart keep a client waiting for the second.
 //! Called by fts_top. Format: docs/DEFINITIONS.md, "HTTP" (RFC 9112, section 4).
-ghost use Rattle.std.specs.Prelude.{◌≡◌, ◌+◌, ◌≤◌, ◌++◌, length, IsTrue};
-ghost use Rattle.fts_wire.specs.Outside.{CountsFaults};
+ghost use Rattle.std.specs.Prelude.{◌≡◌, ◌+◌, ◌≤◌, ◌++◌, length, map, IsTrue};
+ghost use Rattle.std.specs.List.{concat};
+ghost use Rattle.fts_tables.specs.Counts.{CountsFaults};
 ghost use Rattle.fts_wire.specs.Response.{phrase_of, has_phrase, has_methods, allow_line_of, close_line_of, head_of, body_of, response_of, Sends};
 
-use crate::{Sink, SinkFailed};
+use crate::{Sink, SinkFailed, statuses};
 use arrayvec::{ArrayString, ArrayVec};
 use fts_tables::Items;
 use itoa::Buffer;
@@ -54,7 +55,7 @@ pub fn write_response<K: Sink>(
     let head = response_head(reply.status, body.len(), reply.allow, close);
     let first = body.len().min(FIRST_PIECE_BYTES - head.len());
     let piece = first_piece(&head, &body[..first]);
-    send_both(sink, piece.as_slice(), &body[first..])
+    send_parts(sink, &[piece.as_slice(), &body[first..]])
 }
 
 /// The body that is sent.
@@ -112,16 +113,16 @@ fn phrase(status: u16) -> &'static str
     ensures short { length result.now ≤ 40 }
 {
     match status {
-        200 => "OK",
-        400 => "Bad Request",
-        404 => "Not Found",
-        405 => "Method Not Allowed",
-        409 => "Conflict",
-        413 => "Payload Too Large",
-        431 => "Request Header Fields Too Large",
-        500 => "Internal Server Error",
-        501 => "Not Implemented",
-        503 => "Service Unavailable",
+        statuses::OK => "OK",
+        statuses::BAD_REQUEST => "Bad Request",
+        statuses::NOT_FOUND => "Not Found",
+        statuses::METHOD_NOT_ALLOWED => "Method Not Allowed",
+        statuses::CONFLICT => "Conflict",
+        statuses::PAYLOAD_TOO_LARGE => "Payload Too Large",
+        statuses::HEADER_FIELDS_TOO_LARGE => "Request Header Fields Too Large",
+        statuses::INTERNAL_SERVER_ERROR => "Internal Server Error",
+        statuses::NOT_IMPLEMENTED => "Not Implemented",
+        statuses::SERVICE_UNAVAILABLE => "Service Unavailable",
         _ => "Insufficient Storage",
     }
 }
@@ -131,7 +132,7 @@ fn allow_line(status: u16, allow: Allow) -> &'static str
     ensures line { result.now ≡ allow_line_of status allow }
     ensures short { length result.now ≤ 40 }
 {
-    if status != 405 {
+    if status != statuses::METHOD_NOT_ALLOWED {
         return "";
     }
     match allow {
@@ -151,17 +152,19 @@ fn close_line(close: bool) -> &'static str
     if close { "Connection: close\r\n" } else { "" }
 }
 
-/// Sends the one and then the other.
-fn send_both<K: Sink>(sink: &mut K, first: &[u8], second: &[u8]) -> Result<(), SinkFailed>
-    ensures sent { Sends (K.held sink.old) (K.held sink.new) (first.now ++ second.now) result }
+/// Sends the parts, one after another. Where a write fails, a part of them all was sent.
+pub fn send_parts<K: Sink>(sink: &mut K, parts: &[&[u8]]) -> Result<(), SinkFailed>
+    ensures sent { Sends (K.held sink.old) (K.held sink.new) (concat (map (λ part. part.now) parts.now)) result }
     ensures cause { CountsFaults (K.faults sink.old) (K.faults sink.new) result }
     ensures beside { K.beside sink.new ≡ K.beside sink.old }
 {
-    match send_all(sink, first) {
-        Ok(()) => {}
-        Err(fault) => return Err(fault),
+    'sending: for part in parts {
+        match send_all(sink, part) {
+            Ok(()) => {}
+            Err(fault) => return Err(fault),
+        }
     }
-    send_all(sink, second)
+    Ok(())
 }
 
 /// Sends all of the bytes, each time what the sink has not taken yet. Where a write fails, a part of them was sent.

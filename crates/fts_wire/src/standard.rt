@@ -1,7 +1,12 @@
 //! A source over a reader and a sink over a writer: files, standard streams, sockets.
 //! They tell nothing of bytes, and count each failure. A writer that takes nothing of a piece that is not empty has failed.
+//! Keeps: where the reader or the writer itself tells its bytes, a call has done to them what it answers (`read`, clause `reader`; `write`,
+//! clause `writer`). So a failure is not answered as the end of the input, nor as written.
 //! Made by the program, at the outside.
-ghost use Rattle.std.specs.Prelude.{◌≡◌, None};
+ghost use Rattle.std.specs.Prelude.{◌≡◌, ◌≤◌, ◌<◌, length, None, IfOk};
+ghost use Rattle.std.specs.Io.KnownBytes.{ReadConsumes, WriteAppends};
+ghost use Rattle.fts_tables.specs.Counts.{CountsFaults};
+ghost use Rattle.fts_wire.specs.Outside.{Reads, Writes, raised};
 
 use crate::{Sink, SinkFailed, Source, SourceFailed};
 use std::io::{Read, Write};
@@ -10,15 +15,21 @@ use std::io::{Read, Write};
 #[derive(Drop)]
 pub struct StdSource<R: Read> {
     reader: R,
+    reads: u64,
     faults: u64,
 }
 
 impl<R: Read> StdSource<R> {
     /// A source of what the reader gives.
     pub fn new(reader: R) -> StdSource<R>
-        ensures { ⟦<StdSource<R> as Source>⟧.faults result ≡ 0 }
+        ensures reads { ⟦<StdSource<R> as Source>⟧.reads result ≡ 0 }
+        ensures faults { ⟦<StdSource<R> as Source>⟧.faults result ≡ 0 }
     {
-        StdSource { reader, faults: 0 }
+        StdSource {
+            reader,
+            reads: 0,
+            faults: 0,
+        }
     }
 }
 
@@ -29,9 +40,18 @@ impl<R: Read> Source for StdSource<R> {
 
     ghost faults = { λ s. s.faults };
 
+    ghost reads = { λ s. s.reads };
+
     ghost beside = { λ _. record { bytes = None; faults = 0 } };
 
-    fn read(&mut self, into: &mut [u8]) -> Result<usize, SourceFailed> {
+    fn read(&mut self, into: &mut [u8]) -> Result<usize, SourceFailed>
+        ensures bound { IfOk result (λ n. n ≤ length into.new) }
+        ensures read { Reads None None into.new result }
+        ensures counted { self.new.reads ≡ raised self.old.reads 1 }
+        ensures cause { CountsFaults self.old.faults self.new.faults result }
+        ensures reader { ReadConsumes (R.remaining self.old.reader) (R.remaining self.new.reader) result into.new }
+    {
+        self.reads = self.reads.saturating_add(1);
         match self.reader.read(into) {
             Ok(n) => Ok(n),
             Err(_) => {
@@ -67,7 +87,13 @@ impl<W: Write> Sink for StdSink<W> {
 
     ghost beside = { λ _. record { bytes = None; faults = 0 } };
 
-    fn write(&mut self, bytes: &[u8]) -> Result<usize, SinkFailed> {
+    fn write(&mut self, bytes: &[u8]) -> Result<usize, SinkFailed>
+        ensures bound { IfOk result (λ n. n ≤ length bytes.now) }
+        ensures some { IfOk result (λ n. 0 < length bytes.now → 0 < n) }
+        ensures written { Writes None None bytes.now result }
+        ensures cause { CountsFaults self.old.faults self.new.faults result }
+        ensures writer { WriteAppends (W.contents self.old.writer) (W.contents self.new.writer) result bytes.now }
+    {
         match self.writer.write(bytes) {
             Ok(n) => {
                 if n > 0 || bytes.is_empty() {

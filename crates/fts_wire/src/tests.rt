@@ -1,14 +1,16 @@
 //! What no clause says: that each call succeeds with ample memory, that the definitions mean what the standard means, in how few pieces
-//! a response goes out, and which calls of the fakes fail.
+//! a response goes out, and what comes of a reader and a writer that fail and tell nothing.
 ghost use Rattle.std.specs.Prelude.{◌≡◌, IfOk, IsTrue};
 ghost use Rattle.fts_wire.specs.Response.{has_phrase, has_methods};
 
 use crate::{
     Allow, MemoryLine, MemorySink, MemorySource, ReadAllFault, Reply, Room, Sink, SinkFailed,
-    Source, StdSink, StdSource, WireFault, next_request, read_all, write_response,
+    Source, SourceFailed, StdSink, StdSource, WireFault, next_request, read_all, write_response,
 };
 use fts_tables::Items;
 use std::collections::VecDeque;
+use std::io;
+use std::io::{Read, Write};
 use std::test::Fail;
 
 /// What a call said of its source.
@@ -292,6 +294,52 @@ fn a_reader_and_a_writer_are_a_source_and_a_sink(rt: HostRuntime) -> Result<(), 
     assert_eq!(rt; source.read(&mut into), Ok(0));
     let mut sink = StdSink::new(VecDeque::new(rt.alloc()));
     assert_eq!(rt; sink.write(&[1, 2, 3]), Ok(3));
+    Ok(())
+}
+
+/// A reader and a writer whose first call fails, and whose later ones have nothing to give and take nothing.
+#[derive(Drop)]
+struct FailsAtFirst {
+    has_failed: bool,
+}
+
+impl FailsAtFirst {
+    fn call(&mut self) -> io::Result<usize>
+        ensures { IfOk result (λ n. n ≡ 0) }
+    {
+        if self.has_failed {
+            return Ok(0);
+        }
+        self.has_failed = true;
+        Err(io::Error::from(io::ErrorKind::Other))
+    }
+}
+
+impl Read for FailsAtFirst {
+    fn read(&mut self, _buf: &mut [u8]) -> io::Result<usize> {
+        self.call()
+    }
+}
+
+impl Write for FailsAtFirst {
+    fn write(&mut self, _buf: &[u8]) -> io::Result<usize> {
+        self.call()
+    }
+
+    fn flush(&mut self) -> io::Result<()> {
+        Ok(())
+    }
+}
+
+#[test]
+fn a_reader_and_a_writer_that_fail_are_heard(rt: HostRuntime) -> Result<(), Fail> {
+    let mut source = StdSource::new(FailsAtFirst { has_failed: false });
+    assert_eq!(rt; source.read(&mut [0; 4]), Err(SourceFailed), "a failure");
+    assert_eq!(rt; source.read(&mut [0; 4]), Ok(0), "the end behind it");
+    let mut sink = StdSink::new(FailsAtFirst { has_failed: false });
+    assert_eq!(rt; sink.write(&[1, 2, 3]), Err(SinkFailed), "a failure");
+    assert_eq!(rt; sink.write(&[1, 2, 3]), Err(SinkFailed), "nothing taken");
+    assert_eq!(rt; sink.write(&[]), Ok(0), "nothing to take");
     Ok(())
 }
 

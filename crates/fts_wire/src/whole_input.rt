@@ -2,7 +2,8 @@
 //! Keeps: the bytes are all that were left, in order; nothing is read beyond the byte that shows that there are too many (`read_all`).
 //! Called by fts_top, for the settings' text.
 ghost use Rattle.std.specs.Prelude.{◌≡◌, ◌≤◌, ◌<◌, length, Err, IfOk, IfErr};
-ghost use Rattle.fts_wire.specs.Outside.{Rose, Reads, CountsFaults};
+ghost use Rattle.fts_tables.specs.Counts.{Rose, CountsFaults};
+ghost use Rattle.fts_wire.specs.Outside.{Reads};
 ghost use Rattle.fts_wire.specs.ReadAll.{IsAll, IsRefused};
 
 use crate::buffer::PIECE_BYTES;

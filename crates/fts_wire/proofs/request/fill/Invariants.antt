@@ -4,7 +4,8 @@ use Rattle.fts_wire.proofs.request.fill.Given as goal
 
 abbrev pub invariant-reading : goal.invariant-reading
 invariant-reading g l = record {
-  takes : Takes l.fn.buffer (g.S.Source.left l.fn.source) l.buffer (g.S.Source.left l.source);
+  takes : Takes l.fn.buffer (g.S.Source.left l.fn.source) l.buffer (g.S.Source.left l.source)
+      (g.S.Source.reads l.fn.source) (g.S.Source.reads l.source) 0;
   faults : g.S.Source.faults l.fn.source ≤ g.S.Source.faults l.source;
   beside : g.S.Source.beside l.source ≡ g.S.Source.beside l.fn.source;
 }

@@ -1,6 +1,6 @@
 -- The bytes so far were taken off the front of those that were left, and there is room for a byte more.
 use Rattle.std.proofs.Common.{◌≡◌, ◌≤◌, ◌<◌, ◌-◌, length}
-use Rattle.fts_wire.specs.ReadAll.{IsTakenOf}
+use Rattle.fts_wire.specs.Outside.{IsTakenOf}
 use Rattle.fts_wire.proofs.whole_input.read_all.Given as goal
 
 abbrev pub invariant-reading : goal.invariant-reading

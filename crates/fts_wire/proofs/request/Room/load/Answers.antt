@@ -1,7 +1,7 @@
 use Rattle.std.proofs.Common.{ℕ, List, true, refl, ap, ◌∙◌, subst, Ok, Err}
 use Rattle.fts_wire.specs.RoomData.{RoomData}
 use Rattle.fts_wire.specs.Room.{room_data}
-use Rattle.fts_wire.specs.Taken.{Takes}
+use Rattle.fts_wire.specs.Taken.{Takes, reads_without}
 use Rattle.fts_wire.proofs.Next.{taken_fault, taken_asked, next_from_taken}
 use Rattle.fts_wire.proofs.request.Room.load.Goals as goal
 
@@ -9,19 +9,23 @@ pub returns-in-Err-clause-next : goal.returns-in-Err-clause-next
 returns-in-Err-clause-next g c =
     let before = g.S.Source.left c.args.source.now in
     let after = g.S.Source.left c.fill.new.source in
+    let old = g.S.Source.reads c.args.source.now in
+    let new = g.S.Source.reads c.fill.new.source in
     let kept = c.skip.ensures ∙ ap (λ (r : RoomData). r.kept) c.self.view_is in
-    let takes = subst (λ (k : List ℕ). Takes k before c.fill.new.buffer after) kept c.fill.ensures.takes in
+    let takes = subst (λ (k : List ℕ). Takes k before c.fill.new.buffer after old new (reads_without (Err c.in-Err.fault))) kept c.in-Err.ensures.takes in
     let room = room_data (record { buffer = c.fill.new.buffer; head = 0; body = 0 }) in
-    next_from_taken c.args.self.now.kept before after room (Err c.in-Err.fault)
-    (taken_fault c.args.self.now.kept before after c.fill.new.buffer _ _ room c.in-Err.fault takes c.in-Err.ensures.look refl)
+    next_from_taken c.args.self.now.kept before after old new room (Err c.in-Err.fault)
+    (taken_fault c.args.self.now.kept before after old new c.fill.new.buffer _ _ room c.in-Err.fault takes c.in-Err.ensures.look refl)
 
 pub returns-in-Ok-Some-clause-next : goal.returns-in-Ok-Some-clause-next
 returns-in-Ok-Some-clause-next g c =
     let before = g.S.Source.left c.args.source.now in
     let after = g.S.Source.left c.fill.new.source in
+    let old = g.S.Source.reads c.args.source.now in
+    let new = g.S.Source.reads c.fill.new.source in
     let kept = c.skip.ensures ∙ ap (λ (r : RoomData). r.kept) c.self.view_is in
-    let takes = subst (λ (k : List ℕ). Takes k before c.fill.new.buffer after) kept c.fill.ensures.takes in
-    let room = room_data (record { buffer = c.fill.new.buffer; head = c.in-Ok-Some.head; body = c.in-Ok-Some.body }) in
     let found = rw c.in-Ok-Some.field-0-is at c.in-Ok-Some.ensures in
-    next_from_taken c.args.self.now.kept before after room (Ok true)
-    (taken_asked c.args.self.now.kept before after c.fill.new.buffer c.in-Ok-Some.head c.in-Ok-Some.body takes found.look)
+    let takes = subst (λ (k : List ℕ). Takes k before c.fill.new.buffer after old new 0) kept found.takes in
+    let room = room_data (record { buffer = c.fill.new.buffer; head = c.in-Ok-Some.head; body = c.in-Ok-Some.body }) in
+    next_from_taken c.args.self.now.kept before after old new room (Ok true)
+    (taken_asked c.args.self.now.kept before after old new c.fill.new.buffer c.in-Ok-Some.head c.in-Ok-Some.body takes found.look)
