@@ -81,7 +81,7 @@ impl<F: RawFile> Guard<F> {
         let belief = self.restored()?;
         let end = at.saturating_add(bytes.len() as u64);
         self.belief = Belief::Nothing;
-        make_ready(&mut self.file, &mut self.ready, end)?;
+        make_ready(&mut self.file, &mut self.ready, at, end)?;
         self.file.write_at(at, bytes)?;
         self.ready = self.ready.max(end);
         if let Belief::ReadBack { writes } = belief {
@@ -103,6 +103,17 @@ impl<F: RawFile> Guard<F> {
         self.file.sync()?;
         self.belief = belief;
         Ok(())
+    }
+
+    /// The file, given back.
+    #[cfg(test)]
+    pub(crate) fn into_file(self) -> F {
+        let Guard {
+            file,
+            ready: _,
+            belief: _,
+        } = self;
+        file
     }
 
     // What is believed; where that is nothing, the pages are synced and dropped first, and the end is looked at anew.
@@ -139,13 +150,18 @@ fn ready_end(end: u64) -> u64
     end.max(block_end.min(MAX_JOURNAL_BYTES))
 }
 
-// Writes zeros up to a block's end and syncs them, where a write would pass what is ready. An empty file gets none, so that what a crash
-// leaves of its first write is no longer than that write.
-fn make_ready<F: RawFile>(file: &mut F, ready: &mut u64, end: u64) -> Result<(), DiskFailed>
+// Writes zeros up to a block's end and syncs them, where a write from inside what is ready, or its end, would pass it. An empty file gets
+// none, so that what a crash leaves of its first write is no longer than that write.
+fn make_ready<F: RawFile>(
+    file: &mut F,
+    ready: &mut u64,
+    at: u64,
+    end: u64,
+) -> Result<(), DiskFailed>
     ensures sound { F.pages file.old ≡ Sound → OnOk result (F.pages file.new ≡ Sound) }
     ensures handle { F.handle file.new ≡ F.handle file.old }
 {
-    if end <= *ready || *ready == 0 {
+    if end <= *ready || *ready == 0 || *ready < at {
         return Ok(());
     }
     let target = ready_end(end);
