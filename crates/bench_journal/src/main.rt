@@ -1,5 +1,7 @@
-//! Measures appends of the journal beside a floor of the same calls in the same run: two positioned writes and two fdatasyncs each.
+//! Measures appends of the journal beside a floor of the same calls in the same run: two positioned writes and two fdatasyncs each, on a file
+//! that grows, where the journal's has zeros ahead.
 //! With no word it prints nothing, so that its run in the gate is the same each time. `rt run -- 500` makes 500 appends of each.
+//! `append PATH COUNT` and `list PATH` make a journal of numbered bodies and print those of one, for `bench/failing-disk.sh`.
 //! Both write to files in the folder where it runs, and take turns in batches, so that the device's moods fall on both.
 #![tactic(auto)]
 
@@ -79,11 +81,72 @@ fn measure(rt: &HostRuntime, alloc: Global, appends: u64) -> io::Result<()> {
     fs::remove_file(rt, FLOOR_PATH)
 }
 
-fn main(rt: HostRuntime) -> io::Result<()> {
-    for word in env::args(&rt)?.skip(1) {
-        if let Ok(appends) = word.as_str().parse::<u64>() {
-            measure(&rt, rt.alloc(), appends)?;
+/// The bytes of a numbered body: so long that some hundred of them pass a block that was made ready.
+const NUMBERED_BYTES: usize = 2000;
+
+/// A body that holds its number.
+fn body_of(number: u64) -> [u8; NUMBERED_BYTES] {
+    let mut body = [7; NUMBERED_BYTES];
+    body[..8].copy_from_slice(&number.to_le_bytes());
+    body
+}
+
+/// The number that a body holds.
+fn number_of(body: &[u8]) -> u64 {
+    match body.split_first_chunk::<8>() {
+        Some((number, _)) => u64::from_le_bytes(*number),
+        None => u64::MAX,
+    }
+}
+
+/// Appends bodies with the numbers from 0, and prints of each whether it was kept; a doubt is settled before the next.
+fn append_numbered(rt: &HostRuntime, alloc: Global, path: &str, count: u64) -> io::Result<()> {
+    let Ok(mut journal) = Journal::create(alloc, FileDisk::open(rt, path)) else {
+        return Err(io::Error::from(io::ErrorKind::Other));
+    };
+    for number in 0..count {
+        let settled = journal.settle().is_ok();
+        if settled && !journal.doubt() && journal.append(&body_of(number)).is_ok() {
+            println!(rt; "kept {number}")?;
+        } else {
+            println!(rt; "failed {number}")?;
         }
     }
     Ok(())
+}
+
+/// Prints the number of each body of a journal.
+fn list(rt: &HostRuntime, alloc: Global, path: &str) -> io::Result<()> {
+    let Ok(mut journal) = Journal::load(alloc, FileDisk::view(rt, path)) else {
+        return Err(io::Error::from(io::ErrorKind::InvalidData));
+    };
+    let mut body = Vec::new(alloc);
+    for n in 0..journal.count() {
+        if n < journal.count() && journal.body(n, &mut body).is_ok() {
+            println!(rt; "kept {}", number_of(&body))?;
+        }
+    }
+    Ok(())
+}
+
+fn main(rt: HostRuntime) -> io::Result<()> {
+    let mut words = env::args(&rt)?.skip(1);
+    let alloc = rt.alloc();
+    match (words.next(), words.next(), words.next()) {
+        (Some(call), Some(path), Some(count)) if call.as_str() == "append" => {
+            append_numbered(
+                &rt,
+                alloc,
+                path.as_str(),
+                count.as_str().parse().unwrap_or(0),
+            )
+        }
+        (Some(call), Some(path), None) if call.as_str() == "list" => list(
+            &rt,
+            alloc,
+            path.as_str(),
+        ),
+        (Some(appends), None, None) => measure(&rt, alloc, appends.as_str().parse().unwrap_or(0)),
+        _ => Ok(()),
+    }
 }
