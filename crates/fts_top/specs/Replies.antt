@@ -141,7 +141,8 @@ IsOrNoMemory reply expected = (reply ≡ expected) ⊎ (reply ≡ no_memory)
 -- what answering a document did: its reply and its entry, or want of memory and nothing
 abbrev pub AnswersDocument : Tables → ℕ → Result JobData DocFault → Reply → Tables → Type 0
 AnswersDocument tables now document reply after =
-    ((reply ≡ no_memory) × (after ≡ tables)) ⊎ ((reply ≡ reply_to_document tables now document) × (after ≡ tables_from tables (entries_of_document tables now document)))
+    ((reply ≡ no_memory) × (after ≡ tables))
+    ⊎ ((reply ≡ reply_to_document tables now document) × (after ≡ tables_from tables (entries_of_document tables now document)))
 
 -- the same of a request with this body
 abbrev pub Answers : Tables → ℕ → List ℕ → Reply → Tables → Type 0

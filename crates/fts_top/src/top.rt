@@ -173,7 +173,8 @@ fn restarted_desk<C: Clock>(
     settings: Settings,
     clock: &mut C,
 ) -> Result<Desk, Memory>
-    ensures desk { IfOk result (λ desk. (now : ℕ) × (Gives (C.moments clock.old) (C.moments clock.new) now × (desk.tables ≡ tables_of (restart_at now settings ∷ [])))) }
+    ensures desk { IfOk result (λ desk. (now : ℕ) × (Gives (C.moments clock.old) (C.moments clock.new) now
+        × (desk.tables ≡ tables_of (restart_at now settings ∷ [])))) }
     ensures settings { IfOk result (λ desk. IsSome desk.tables.settings) }
     ensures commands { IfOk result (λ desk. desk.commands ≡ 1) }
 {
