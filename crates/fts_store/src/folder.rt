@@ -7,7 +7,8 @@
 ghost use Rattle.std.specs.Prelude.{◌≡◌, false, IsErr, IfOk};
 ghost use Rattle.std.specs.List.{list_all};
 ghost use Rattle.fts_tables.specs.Names.{segments};
-ghost use Rattle.fts_store.specs.Store.{CountsFaults, place_at};
+ghost use Rattle.fts_tables.specs.Counts.{CountsFaults};
+ghost use Rattle.fts_store.specs.Store.{place_at};
 ghost use Rattle.fts_store.specs.Folder.{is_name, stays_inside};
 
 use crate::{Store, StoreFailed};
@@ -320,11 +321,14 @@ impl<R: Files<File = File>> FolderStore<R> {
 }
 
 impl<R: Files<File = File>> Store for FolderStore<R> {
-    ghost use Rattle.std.specs.Prelude.{◌≡◌, ◌⊎◌, false, IsErr};
-    ghost use Rattle.fts_store.specs.Store.{untold, CountsFaults, place_at};
+    ghost use Rattle.std.specs.Prelude.{◌≡◌, ◌⊎◌, false, None, IsErr};
+    ghost use Rattle.fts_tables.specs.Counts.{CountsFaults};
+    ghost use Rattle.fts_store.specs.Store.{untold, place_at};
     ghost use Rattle.fts_store.specs.Folder.{folder_faults, stays_inside};
 
     ghost state = { λ _. untold };
+
+    ghost calls = { λ _. None };
 
     ghost faults = { folder_faults };
 

@@ -5,7 +5,8 @@
 //! For tests of what stands on a store, and for runs that end with their program.
 ghost use Rattle.std.specs.Prelude.{◌≡◌, ◌≤◌, ◌+◌, ◌==◌, if◌then◌else◌, min, length, IsTrue, ◌↔◌, Contains};
 ghost use Rattle.std.specs.List.{list_any};
-ghost use Rattle.fts_store.specs.Store.{CountsFaults, Reads};
+ghost use Rattle.fts_tables.specs.Counts.{CountsFaults};
+ghost use Rattle.fts_store.specs.Store.{Reads};
 ghost use Rattle.fts_store.specs.Memory.{but_last};
 
 use crate::held::{Held, StoredFile};
@@ -109,7 +110,7 @@ fn read(bytes: &[u8], offset: u64, into: &mut [u8]) -> usize
 
 impl MemoryStore {
     ghost use Rattle.std.specs.Prelude.{◌≡◌};
-    ghost use Rattle.fts_store.specs.Store.{CountsFaults};
+    ghost use Rattle.fts_tables.specs.Counts.{CountsFaults};
     ghost use Rattle.fts_store.specs.Memory.{memory_state, memory_faults, Numbered};
 
     // Gives a call its number. One that is listed fails, and is counted.
@@ -130,10 +131,13 @@ impl MemoryStore {
 
 impl Store for MemoryStore {
     ghost use Rattle.std.specs.Prelude.{◌≡◌, ◌≤◌, ◌++◌, [], length, Some, None, IsSome, IfOk, OnOk, OnErr};
-    ghost use Rattle.fts_store.specs.Store.{CountsFaults, IsFaithful, Stays, Reads, Same, SameBut, place_at, bytes_of, size_of, with_file, with_move};
+    ghost use Rattle.fts_tables.specs.Counts.{CountsFaults};
+    ghost use Rattle.fts_store.specs.Store.{IsFaithful, Stays, Reads, Same, SameBut, place_at, bytes_of, size_of, with_file, with_move};
     ghost use Rattle.fts_store.specs.Memory.{memory_state, memory_faults, Numbered, kept_bytes, next_append};
 
     ghost state = { memory_state };
+
+    ghost calls = { λ _. None };
 
     ghost faults = { memory_faults };
 
