@@ -2,6 +2,8 @@ mod Parts
 mod Differing
 mod Filling
 mod Watching
+mod Playing
+mod Following
 mod Putting
 mod Matching
 mod Ending

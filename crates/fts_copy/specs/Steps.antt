@@ -102,7 +102,7 @@ IsWritten order old new size (Err (ReadBackDiffers at)) = ⊥
 IsWritten order old new size (Err (Verified n digest)) = ⊥
 
 -- a piece of the part is that of the source, and was put into the digest; or they differ at a place
-abbrev pub MatchesPiece : Order → StoreState → Md5 → Md5 → ℕ → ℕ → Result (Unit {0}) Outcome → Type 0
+abbrev pub MatchesPiece : Order → StoreState → Md5 → Md5 → ℕ → ℕ → Result ℕ Outcome → Type 0
 MatchesPiece order store before after offset wanted (Ok done) = IsTold store
     → (piece_at (part_bytes order store) offset wanted ≡ piece_at (source_bytes order store) offset wanted)
     × ((message : List ℕ) → Holds before message → Holds after (message ++ piece_at (part_bytes order store) offset wanted))
