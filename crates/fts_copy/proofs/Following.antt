@@ -1,5 +1,5 @@
 -- Each step of a copy follows its script.
-use Rattle.std.proofs.Common.{◌≡◌, ℕ, zero, suc, ◌+◌, ◌-◌, ◌*◌, ◌<◌, ◌≤◌, Bool, true, false, Option, Some, None, Result, Ok, Err, List, [], ◌∷◌, ◌++◌, length, take, refl, sym, ◌∙◌, ap, subst, arith, tests}
+use Rattle.std.proofs.Common.{◌≡◌, ℕ, suc, ◌+◌, ◌-◌, ◌*◌, ◌<◌, ◌≤◌, Bool, true, false, Option, Some, None, Result, Ok, Err, List, [], ◌++◌, length, refl, sym, ◌∙◌, ap, subst, arith, tests}
 use Rattle.std.specs.Prelude.{min, nat_lt, is_some, bytes_eq, ◌||◌, if◌then◌else◌}
 use Rattle.md5.specs.Md5.{md5}
 use Rattle.fts_tables.specs.declared.places.Place.{Place}
@@ -10,7 +10,7 @@ use Rattle.fts_copy.specs.declared.pieces.TheConstants.{PIECE_BYTES}
 use Rattle.fts_copy.specs.Copy.{Order, part_of, is_other_size, is_other_digest}
 use Rattle.fts_copy.specs.Differences.{first_difference}
 use Rattle.fts_copy.specs.Watch.{pieces, with_answer}
-use Rattle.fts_copy.specs.Script.{Script, Ends, Asks, Sizes, Appends, Creates, Renames, Log, LeadsTo, log_of, unless_failed, unless_no, goes_on, reads_piece, reads_behind, puts_in_place, agrees, ends_there, unless_differs, matches_piece, matches, reads_back, digests, writes_piece, unless_short, writes, writes_part, transfers, fits, is_free, looks_at, looks, copy_of}
+use Rattle.fts_copy.specs.Script.{Script, Ends, Asks, Appends, Renames, Log, LeadsTo, log_of, unless_failed, unless_no, goes_on, reads_piece, reads_behind, puts_in_place, agrees, ends_there, unless_differs, matches_piece, matches, reads_back, digests, writes_piece, unless_short, writes, writes_part, transfers, fits, is_free, looks_at, looks, copy_of}
 use Rattle.fts_copy.proofs.Playing.{leads_same, then_leads, sizes_leads, creates_leads, asks_leads, by_test, by_else}
 
 -- a test that holds, and one that doesn't
@@ -68,7 +68,7 @@ piece_writes order offset wanted next calls old new answer is = asks_leads (read
 -- before a piece is read back
 pub piece_matches : (order : Order) (offset wanted : ℕ) (next : List ℕ → Script) (calls : Option (List Call)) (old new : Option (List Bool)) (answer : Bool) → new ≡ with_answer old answer
     → LeadsTo (matches_piece order offset wanted next) (log_of calls old)
-        (unless_no answer (reads_piece order.source offset wanted (λ held. reads_piece (part_of order) offset wanted (λ kept. unless_differs offset (first_difference held kept) (next kept))))) (log_of calls new)
+    (unless_no answer (reads_piece order.source offset wanted (λ held. reads_piece (part_of order) offset wanted (λ kept. unless_differs offset (first_difference held kept) (next kept))))) (log_of calls new)
 unfolding matches_piece
 piece_matches order offset wanted next calls old new answer is =
     asks_leads (reads_piece order.source offset wanted (λ held. reads_piece (part_of order) offset wanted (λ kept. unless_differs offset (first_difference held kept) (next kept)))) calls old new answer is
@@ -87,19 +87,19 @@ match_leads offset found same log is = subst (λ f. LeadsTo (unless_differs offs
 pub more_writes : (order : Order) (size all piece offset wanted : ℕ) (next : List ℕ → Script) (written : List ℕ) (log : Log) → piece < all → offset ≡ piece * PIECE_BYTES
     → wanted ≡ min PIECE_BYTES (size - offset)
     → LeadsTo (writes order size next (all - piece) (piece * PIECE_BYTES) written) log
-        (writes_piece order offset wanted (λ bytes. unless_short offset wanted bytes (writes order size next (all - (piece + 1)) ((piece + 1) * PIECE_BYTES) (written ++ bytes)))) log
+    (writes_piece order offset wanted (λ bytes. unless_short offset wanted bytes (writes order size next (all - (piece + 1)) ((piece + 1) * PIECE_BYTES) (written ++ bytes)))) log
 unfolding writes
 more_writes order size all piece offset wanted next written log inside start long =
     let rest : all - piece ≡ suc (all - (piece + 1)) = omega arith in
     let behind : offset + PIECE_BYTES ≡ (piece + 1) * PIECE_BYTES = omega arith in
     subst (λ n. LeadsTo (writes order size next n (piece * PIECE_BYTES) written) log (writes_piece order offset wanted (λ bytes. unless_short offset wanted bytes
-        (writes order size next (all - (piece + 1)) ((piece + 1) * PIECE_BYTES) (written ++ bytes)))) log) (sym rest)
+    (writes order size next (all - (piece + 1)) ((piece + 1) * PIECE_BYTES) (written ++ bytes)))) log) (sym rest)
     (subst (λ o. LeadsTo (writes order size next (suc (all - (piece + 1))) o written) log (writes_piece order offset wanted (λ bytes. unless_short offset wanted bytes
-        (writes order size next (all - (piece + 1)) ((piece + 1) * PIECE_BYTES) (written ++ bytes)))) log) start
+    (writes order size next (all - (piece + 1)) ((piece + 1) * PIECE_BYTES) (written ++ bytes)))) log) start
     (subst (λ w. LeadsTo (writes order size next (suc (all - (piece + 1))) offset written) log (writes_piece order offset w (λ bytes. unless_short offset w bytes
-        (writes order size next (all - (piece + 1)) ((piece + 1) * PIECE_BYTES) (written ++ bytes)))) log) (sym long)
+    (writes order size next (all - (piece + 1)) ((piece + 1) * PIECE_BYTES) (written ++ bytes)))) log) (sym long)
     (subst (λ b. LeadsTo (writes order size next (suc (all - (piece + 1))) offset written) log (writes_piece order offset (min PIECE_BYTES (size - offset)) (λ bytes. unless_short offset (min PIECE_BYTES (size - offset)) bytes
-        (writes order size next (all - (piece + 1)) b (written ++ bytes)))) log) behind
+    (writes order size next (all - (piece + 1)) b (written ++ bytes)))) log) behind
     (leads_same (writes order size next (suc (all - (piece + 1))) offset written) log))))
 
 -- all were written
@@ -131,19 +131,19 @@ whole_leads offset wanted count bytes whole log long enough =
 pub more_matches : (order : Order) (size all piece offset wanted : ℕ) (next : List ℕ → Script) (read : List ℕ) (log : Log) → piece < all → offset ≡ piece * PIECE_BYTES
     → wanted ≡ min PIECE_BYTES (size - offset)
     → LeadsTo (matches order size next (all - piece) (piece * PIECE_BYTES) read) log
-        (matches_piece order offset wanted (λ bytes. matches order size next (all - (piece + 1)) ((piece + 1) * PIECE_BYTES) (read ++ bytes))) log
+    (matches_piece order offset wanted (λ bytes. matches order size next (all - (piece + 1)) ((piece + 1) * PIECE_BYTES) (read ++ bytes))) log
 unfolding matches
 more_matches order size all piece offset wanted next read log inside start long =
     let rest : all - piece ≡ suc (all - (piece + 1)) = omega arith in
     let behind : offset + PIECE_BYTES ≡ (piece + 1) * PIECE_BYTES = omega arith in
     subst (λ n. LeadsTo (matches order size next n (piece * PIECE_BYTES) read) log (matches_piece order offset wanted
-        (λ bytes. matches order size next (all - (piece + 1)) ((piece + 1) * PIECE_BYTES) (read ++ bytes))) log) (sym rest)
+    (λ bytes. matches order size next (all - (piece + 1)) ((piece + 1) * PIECE_BYTES) (read ++ bytes))) log) (sym rest)
     (subst (λ o. LeadsTo (matches order size next (suc (all - (piece + 1))) o read) log (matches_piece order offset wanted
-        (λ bytes. matches order size next (all - (piece + 1)) ((piece + 1) * PIECE_BYTES) (read ++ bytes))) log) start
+    (λ bytes. matches order size next (all - (piece + 1)) ((piece + 1) * PIECE_BYTES) (read ++ bytes))) log) start
     (subst (λ w. LeadsTo (matches order size next (suc (all - (piece + 1))) offset read) log (matches_piece order offset w
-        (λ bytes. matches order size next (all - (piece + 1)) ((piece + 1) * PIECE_BYTES) (read ++ bytes))) log) (sym long)
+    (λ bytes. matches order size next (all - (piece + 1)) ((piece + 1) * PIECE_BYTES) (read ++ bytes))) log) (sym long)
     (subst (λ b. LeadsTo (matches order size next (suc (all - (piece + 1))) offset read) log (matches_piece order offset (min PIECE_BYTES (size - offset))
-        (λ bytes. matches order size next (all - (piece + 1)) b (read ++ bytes))) log) behind
+    (λ bytes. matches order size next (all - (piece + 1)) b (read ++ bytes))) log) behind
     (leads_same (matches order size next (suc (all - (piece + 1))) offset read) log))))
 
 -- all were read back
@@ -181,7 +181,7 @@ back_leads order size next log = leads_same (reads_back order size next) log
 -- behind the pieces
 pub behind_both : (order : Order) (size : ℕ) (next : List ℕ → Script) (again : List ℕ) (log : Log)
     → LeadsTo (ends_there order size next again) log
-        (reads_behind order.source size (λ source. reads_behind (part_of order) size (λ part. if source || part then Ends (ReadBackDiffers size) else next again))) log
+    (reads_behind order.source size (λ source. reads_behind (part_of order) size (λ part. if source || part then Ends (ReadBackDiffers size) else next again))) log
 unfolding ends_there
 behind_both order size next again log = leads_same (ends_there order size next again) log
 

@@ -4,6 +4,7 @@ mod Filling
 mod Watching
 mod Playing
 mod Following
+mod Rows
 mod Putting
 mod Matching
 mod Ending

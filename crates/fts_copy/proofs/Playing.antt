@@ -36,9 +36,11 @@ pub sizes_leads : {E : Type 0} (at place : Place) (next : Option ℕ → Script)
 unfolding Plays
 sizes_leads at place next old new answers (Ok size) same is = record {
   onward = λ last outcome plays.
-      inl (size, subst (λ calls. Plays (next size) (log_of calls answers) last outcome) (is ∙ ap (λ p. with_call old (Sized p (Some size))) same) plays) }
+      inl (size, subst (λ calls. Plays (next size) (log_of calls answers) last outcome) (is ∙ ap (λ p. with_call old (Sized p (Some size))) same) plays);
+}
 sizes_leads at place next old new answers (Err error) same is = record {
-  onward = λ last outcome plays. inr (subst (λ calls. IsEnd (log_of calls answers) StoreFailed last outcome) (is ∙ ap (λ p. with_call old (Sized p None)) same) plays) }
+  onward = λ last outcome plays. inr (subst (λ calls. IsEnd (log_of calls answers) StoreFailed last outcome) (is ∙ ap (λ p. with_call old (Sized p None)) same) plays);
+}
 
 -- bytes were read
 pub reads_leads : {E : Type 0} (at : Place) (offset wanted : ℕ) (next : List ℕ → Script) (old new : Option (List Call)) (answers : Option (List Bool)) (into : List ℕ) (result : Result ℕ E)
@@ -46,18 +48,22 @@ pub reads_leads : {E : Type 0} (at : Place) (offset wanted : ℕ) (next : List �
     → LeadsTo (Reads at offset wanted next) (log_of old answers) (unless_failed (λ count. next (take count into)) result) (log_of new answers)
 unfolding Plays
 reads_leads at offset wanted next old new answers into (Ok count) is = record {
-  onward = λ last outcome plays. inl (take count into, subst (λ calls. Plays (next (take count into)) (log_of calls answers) last outcome) is plays) }
+  onward = λ last outcome plays. inl (take count into, subst (λ calls. Plays (next (take count into)) (log_of calls answers) last outcome) is plays);
+}
 reads_leads at offset wanted next old new answers into (Err error) is = record {
-  onward = λ last outcome plays. inr (subst (λ calls. IsEnd (log_of calls answers) StoreFailed last outcome) is plays) }
+  onward = λ last outcome plays. inr (subst (λ calls. IsEnd (log_of calls answers) StoreFailed last outcome) is plays);
+}
 
 -- a file was made
 pub creates_leads : {E : Type 0} (at place : Place) (next : Script) (old new : Option (List Call)) (answers : Option (List Bool)) (result : Result (Unit {0}) E)
     → at ≡ place → new ≡ with_call old (Created at (answer_of result)) → LeadsTo (Creates place next) (log_of old answers) (unless_failed (λ done. next) result) (log_of new answers)
 unfolding Plays
 creates_leads at place next old new answers (Ok done) same is = record {
-  onward = λ last outcome plays. inl (subst (λ calls. Plays next (log_of calls answers) last outcome) (is ∙ ap (λ p. with_call old (Created p (Some tt))) same) plays) }
+  onward = λ last outcome plays. inl (subst (λ calls. Plays next (log_of calls answers) last outcome) (is ∙ ap (λ p. with_call old (Created p (Some tt))) same) plays);
+}
 creates_leads at place next old new answers (Err error) same is = record {
-  onward = λ last outcome plays. inr (subst (λ calls. IsEnd (log_of calls answers) StoreFailed last outcome) (is ∙ ap (λ p. with_call old (Created p None)) same) plays) }
+  onward = λ last outcome plays. inr (subst (λ calls. IsEnd (log_of calls answers) StoreFailed last outcome) (is ∙ ap (λ p. with_call old (Created p None)) same) plays);
+}
 
 -- bytes were appended
 pub appends_leads : {E : Type 0} (at place : Place) (bytes : List ℕ) (next : Script) (old new : Option (List Call)) (answers : Option (List Bool)) (result : Result (Unit {0}) E)
@@ -65,9 +71,11 @@ pub appends_leads : {E : Type 0} (at place : Place) (bytes : List ℕ) (next : S
     → LeadsTo (Appends place bytes next) (log_of old answers) (unless_failed (λ done. next) result) (log_of new answers)
 unfolding Plays
 appends_leads at place bytes next old new answers (Ok done) same is = record {
-  onward = λ last outcome plays. inl (subst (λ calls. Plays next (log_of calls answers) last outcome) (is ∙ ap (λ p. with_call old (Appended p bytes (Some tt))) same) plays) }
+  onward = λ last outcome plays. inl (subst (λ calls. Plays next (log_of calls answers) last outcome) (is ∙ ap (λ p. with_call old (Appended p bytes (Some tt))) same) plays);
+}
 appends_leads at place bytes next old new answers (Err error) same is = record {
-  onward = λ last outcome plays. inr (subst (λ calls. IsEnd (log_of calls answers) StoreFailed last outcome) (is ∙ ap (λ p. with_call old (Appended p bytes None)) same) plays) }
+  onward = λ last outcome plays. inr (subst (λ calls. IsEnd (log_of calls answers) StoreFailed last outcome) (is ∙ ap (λ p. with_call old (Appended p bytes None)) same) plays);
+}
 
 -- a file was moved
 pub renames_leads : {E : Type 0} (at place to target : Place) (next : Script) (old new : Option (List Call)) (answers : Option (List Bool)) (result : Result (Unit {0}) E)
@@ -76,10 +84,12 @@ pub renames_leads : {E : Type 0} (at place to target : Place) (next : Script) (o
 unfolding Plays
 renames_leads at place to target next old new answers (Ok done) same there is = record {
   onward = λ last outcome plays. inl (subst (λ calls. Plays next (log_of calls answers) last outcome)
-      (is ∙ ap (λ p. with_call old (Renamed p to (Some tt))) same ∙ ap (λ p. with_call old (Renamed place p (Some tt))) there) plays) }
+      (is ∙ ap (λ p. with_call old (Renamed p to (Some tt))) same ∙ ap (λ p. with_call old (Renamed place p (Some tt))) there) plays);
+}
 renames_leads at place to target next old new answers (Err error) same there is = record {
   onward = λ last outcome plays. inr (subst (λ calls. IsEnd (log_of calls answers) StoreFailed last outcome)
-      (is ∙ ap (λ p. with_call old (Renamed p to None)) same ∙ ap (λ p. with_call old (Renamed place p None)) there) plays) }
+      (is ∙ ap (λ p. with_call old (Renamed p to None)) same ∙ ap (λ p. with_call old (Renamed place p None)) there) plays);
+}
 
 -- a test that holds, and one that doesn't
 chosen : (b : Bool) (one other : Script) → b ≡ true → (if b then one else other) ≡ one
@@ -108,7 +118,7 @@ some_bytes (suc count) (byte ∷ bytes) ended more some inside = refl
 reads_once : {E : Type 0} (at : Place) (offset wanted times rest : ℕ) (next : List ℕ → Script) (got : List ℕ) (old new : Option (List Call)) (answers : Option (List Bool))
     (into : List ℕ) (result : Result ℕ E) → times ≡ suc rest → length got < wanted → new ≡ with_call old (Read at (offset + length got) (wanted - length got) (bytes_read result into))
     → LeadsTo (reads_on at offset wanted next times got) (log_of old answers)
-        (unless_failed (λ count. unless_none (take count into) (next got) (reads_on at offset wanted next rest (got ++ take count into))) result) (log_of new answers)
+    (unless_failed (λ count. unless_none (take count into) (next got) (reads_on at offset wanted next rest (got ++ take count into))) result) (log_of new answers)
 unfolding reads_on
 reads_once at offset wanted times rest next got old new answers into result more short is =
     let test : nat_lt (length got) wanted ≡ true = grind (arith, tests, short) in

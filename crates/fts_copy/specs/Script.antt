@@ -1,5 +1,5 @@
 -- The copy as a script: which call it makes of a store, when it asks its watch, and how it ends, by the answer to each. The digest is MD5 (RFC 1321).
-use Rattle.std.specs.Prelude.{◌≡◌, ◌⊎◌, ℕ, zero, suc, ◌+◌, ◌-◌, min, Bool, true, false, ◌||◌, nat_lt, is_some, if◌then◌else◌, bytes_eq, Option, Some, None, option_map, Result, Ok, Err, List, [], ◌∷◌, ◌++◌, length}
+use Rattle.std.specs.Prelude.{◌≡◌, ◌⊎◌, ℕ, zero, suc, ◌+◌, ◌-◌, min, Bool, true, false, ◌||◌, nat_lt, is_some, if◌then◌else◌, bytes_eq, Option, Some, None, Result, Ok, Err, List, [], ◌∷◌, ◌++◌, length}
 use Rattle.md5.specs.Md5.{md5}
 use Rattle.fts_tables.specs.declared.places.Place.{Place}
 use Rattle.fts_tables.specs.declared.rows.Outcome.{Outcome}
@@ -30,7 +30,8 @@ unless_none (byte ∷ bytes) ended more = more
 unfoldable pub reads_on : Place → ℕ → ℕ → (List ℕ → Script) → ℕ → List ℕ → Script
 reads_on at offset wanted next zero got = next got
 reads_on at offset wanted next (suc times) got =
-    if nat_lt (length got) wanted then Reads at (offset + length got) (wanted - length got) (λ bytes. unless_none bytes (next got) (reads_on at offset wanted next times (got ++ bytes)))
+    if nat_lt (length got) wanted
+    then Reads at (offset + length got) (wanted - length got) (λ bytes. unless_none bytes (next got) (reads_on at offset wanted next times (got ++ bytes)))
     else next got
 
 -- reads so many bytes of a file from an offset on, or as many as there are; no read that goes on gives nothing, so as many reads are enough
@@ -62,7 +63,8 @@ unless_differs offset None same = same
 -- 6. a piece of the source and of the part
 unfoldable pub matches_piece : Order → ℕ → ℕ → (List ℕ → Script) → Script
 matches_piece order offset wanted next =
-    Asks (reads_piece order.source offset wanted (λ held. reads_piece (part_of order) offset wanted (λ kept. unless_differs offset (first_difference held kept) (next kept))))
+    Asks (reads_piece order.source offset wanted (λ held.
+    reads_piece (part_of order) offset wanted (λ kept. unless_differs offset (first_difference held kept) (next kept))))
 
 -- 6. piece by piece, so many more of them; what was read back so far
 unfoldable pub matches : Order → ℕ → (List ℕ → Script) → ℕ → ℕ → List ℕ → Script
@@ -107,7 +109,9 @@ fits order next size = if is_other_size order.size size then Ends (SourceSize si
 
 -- 2. nothing is at the destination, where it may not be replaced
 unfoldable pub is_free : Order → (ℕ → Script) → ℕ → Script
-is_free order next size = if order.overwrite then fits order next size else Sizes order.dest (λ dest. if is_some dest then Ends DestinationExists else fits order next size)
+is_free order next size =
+    if order.overwrite then fits order next size
+    else Sizes order.dest (λ dest. if is_some dest then Ends DestinationExists else fits order next size)
 
 -- 1. the source is there
 unfoldable pub looks_at : Order → (ℕ → Script) → Option ℕ → Script
@@ -147,11 +151,13 @@ Plays (Asks next) old new ended = Plays next (asked old true) new ended ⊎ IsEn
 Plays (Sizes at next) old new ended =
     ((size : Option ℕ) × Plays (next size) (called old (Sized at (Some size))) new ended) ⊎ IsEnd (called old (Sized at None)) StoreFailed new ended
 Plays (Reads at offset wanted next) old new ended =
-    ((bytes : List ℕ) × Plays (next bytes) (called old (Read at offset wanted (Some bytes))) new ended) ⊎ IsEnd (called old (Read at offset wanted None)) StoreFailed new ended
+    ((bytes : List ℕ) × Plays (next bytes) (called old (Read at offset wanted (Some bytes))) new ended)
+    ⊎ IsEnd (called old (Read at offset wanted None)) StoreFailed new ended
 Plays (Creates at next) old new ended = Plays next (called old (Created at (Some tt))) new ended ⊎ IsEnd (called old (Created at None)) StoreFailed new ended
 Plays (Appends at bytes next) old new ended =
     Plays next (called old (Appended at bytes (Some tt))) new ended ⊎ IsEnd (called old (Appended at bytes None)) StoreFailed new ended
-Plays (Renames from to next) old new ended = Plays next (called old (Renamed from to (Some tt))) new ended ⊎ IsEnd (called old (Renamed from to None)) StoreFailed new ended
+Plays (Renames from to next) old new ended =
+    Plays next (called old (Renamed from to (Some tt))) new ended ⊎ IsEnd (called old (Renamed from to None)) StoreFailed new ended
 
 -- the log of a store and its watch
 abbrev pub log_of : Option (List Call) → Option (List Bool) → Log

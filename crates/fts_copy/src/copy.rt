@@ -92,7 +92,8 @@ fn attempt<E: Store, V: Watch>(
     ensures apart { IsApart order.now }
     ensures stays { Stays (E.state store.old) (E.state store.new) }
     ensures copy { IsTold (E.state store.old) → IsCopy order.now (E.state store.old) (E.state store.new) (ended result) }
-    ensures script { Plays (copy_of order.now) (log_of (E.calls store.old) (V.answers watch.old)) (log_of (E.calls store.new) (V.answers watch.new)) (ended result) }
+    ensures script { Plays (copy_of order.now)
+        (log_of (E.calls store.old) (V.answers watch.old)) (log_of (E.calls store.new) (V.answers watch.new)) (ended result) }
     ensures no_fewer_faults { E.faults store.old ≤ E.faults store.new }
     ensures store_failed { ended result ≡ Outcome.StoreFailed → Rose (E.faults store.old) (E.faults store.new) }
     ensures noes { NoesBy (ended result) (V.noes watch.old) (V.noes watch.new) }
@@ -124,7 +125,8 @@ pub fn copy_verified<E: Store, V: Watch>(
     ensures room { room.new ≡ room.old }
     ensures stays { Stays (E.state store.old) (E.state store.new) }
     ensures copy { IsTold (E.state store.old) → IfSome room.old (λ order. IsCopy order (E.state store.old) (E.state store.new) result) }
-    ensures script { IfSome room.old (λ order. Plays (copy_of order) (log_of (E.calls store.old) (V.answers watch.old)) (log_of (E.calls store.new) (V.answers watch.new)) result) }
+    ensures script { IfSome room.old (λ order. Plays (copy_of order)
+        (log_of (E.calls store.old) (V.answers watch.old)) (log_of (E.calls store.new) (V.answers watch.new)) result) }
     ensures destination { IsTold (E.state store.old) → IfSome room.old (λ order. KeepsDest order (E.state store.old).files (E.state store.new).files result) }
     ensures no_fewer_faults { E.faults store.old ≤ E.faults store.new }
     ensures store_failed { result ≡ Outcome.StoreFailed → Rose (E.faults store.old) (E.faults store.new) }

@@ -33,7 +33,8 @@ fn match_piece<E: Store, V: Watch>(
     ensures matches { MatchesPiece order.now (E.state store.old) hasher.old hasher.new offset wanted result }
     ensures hashed { IfOk result (λ count. (message : List ℕ) → Holds hasher.old message → Holds hasher.new (message ++ take count second.new)) }
     ensures script { (next : List ℕ → Script) → LeadsTo (matches_piece order.now offset wanted next)
-        (log_of (E.calls store.old) (V.answers watch.old)) (goes_on (λ count. next (take count second.new)) result) (log_of (E.calls store.new) (V.answers watch.new)) }
+        (log_of (E.calls store.old) (V.answers watch.old)) (goes_on (λ count. next (take count second.new)) result)
+        (log_of (E.calls store.new) (V.answers watch.new)) }
     ensures counted { Counted (E.faults store.old) (E.faults store.new) result }
     ensures watched { Watched V.noes V.askings V.later 1 watch.old watch.new result }
 {

@@ -24,8 +24,10 @@ fn read_more<E: Store>(
     ensures same { E.state store.new ≡ E.state store.old }
     ensures within { IfOk result (λ count. from + count ≤ to) }
     ensures kept { take from buffer.new ≡ take from buffer.old }
-    ensures called { E.calls store.new ≡ with_call (E.calls store.old) (Read (place_at at.entry) offset (to - from) (bytes_read result (drop from buffer.new))) }
-    ensures bytes { IsTold (E.state store.old) → IfOk result (λ count. ReadsMore (bytes_of ((E.state store.old).files (place_at at.entry))) offset buffer.old buffer.new from count) }
+    ensures called { E.calls store.new ≡ with_call (E.calls store.old)
+        (Read (place_at at.entry) offset (to - from) (bytes_read result (drop from buffer.new))) }
+    ensures bytes { IsTold (E.state store.old) → IfOk result (λ count.
+        ReadsMore (bytes_of ((E.state store.old).files (place_at at.entry))) offset buffer.old buffer.new from count) }
     ensures cause { CountsFaults (E.faults store.old) (E.faults store.new) result }
 {
     store.read_at(at, offset, &mut buffer[from..to])
@@ -45,7 +47,8 @@ pub fn fill<E: Store>(
     ensures within { IfOk result (λ count. count ≤ wanted) }
     ensures script { (answers : Option (List Bool)) (next : List ℕ → Script) → LeadsTo (reads_piece (place_at at.entry) offset wanted next)
         (log_of (E.calls store.old) answers) (unless_failed (λ count. next (take count buffer.new)) result) (log_of (E.calls store.new) answers) }
-    ensures bytes { IsTold (E.state store.old) → IfOk result (λ count. take count buffer.new ≡ piece_at (bytes_of ((E.state store.old).files (place_at at.entry))) offset wanted) }
+    ensures bytes { IsTold (E.state store.old) → IfOk result (λ count.
+        take count buffer.new ≡ piece_at (bytes_of ((E.state store.old).files (place_at at.entry))) offset wanted) }
     ensures cause { CountsFaults (E.faults store.old) (E.faults store.new) result }
 {
     let mut filled = 0;
@@ -70,7 +73,8 @@ pub fn is_longer<E: Store>(
     ensures same { E.state store.new ≡ E.state store.old }
     ensures script { (answers : Option (List Bool)) (next : Bool → Script) → LeadsTo (reads_behind (place_at at.entry) size next)
         (log_of (E.calls store.old) answers) (unless_failed next result) (log_of (E.calls store.new) answers) }
-    ensures longer { IsTold (E.state store.old) → IfOk result (λ longer. longer ≡ nat_lt size (length (bytes_of ((E.state store.old).files (place_at at.entry))))) }
+    ensures longer { IsTold (E.state store.old) → IfOk result (λ longer.
+        longer ≡ nat_lt size (length (bytes_of ((E.state store.old).files (place_at at.entry))))) }
     ensures cause { CountsFaults (E.faults store.old) (E.faults store.new) result }
 {
     let count = fill(store, at, size, buffer, 1)?;

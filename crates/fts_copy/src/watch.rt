@@ -1,6 +1,7 @@
 //! The trait of a watch, which a copy asks before each piece whether it is still wanted; and one that counts, for tests and for copies that
 //! nobody calls off.
-//! A watch counts its askings and its noes, and may tell its answers. What else is known of it later is its own relation (`later`), which holds from a watch to itself
+//! A watch counts its askings and its noes, and may tell its answers.
+//! What else is known of it later is its own relation (`later`), which holds from a watch to itself
 //! and passes on, so a copy can promise it of any watch.
 ghost use Rattle.std.specs.Prelude.{◌≡◌, ◌≤◌, ℕ, Bool, false, Option, List, IsTrue};
 ghost use Rattle.fts_tables.specs.Counts.{Rose};

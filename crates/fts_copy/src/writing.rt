@@ -34,7 +34,8 @@ fn put_piece<E: Store, V: Watch>(
     ensures broken { IsBroken result }
     ensures hashed { IfOk result (λ count. (message : List ℕ) → Holds hasher.old message → Holds hasher.new (message ++ take count buffer.new)) }
     ensures script { (next : List ℕ → Script) → LeadsTo (writes_piece order.now offset wanted next)
-        (log_of (E.calls store.old) (V.answers watch.old)) (goes_on (λ count. next (take count buffer.new)) result) (log_of (E.calls store.new) (V.answers watch.new)) }
+        (log_of (E.calls store.old) (V.answers watch.old)) (goes_on (λ count. next (take count buffer.new)) result)
+        (log_of (E.calls store.new) (V.answers watch.new)) }
     ensures counted { Counted (E.faults store.old) (E.faults store.new) result }
     ensures watched { Watched V.noes V.askings V.later 1 watch.old watch.new result }
 {

@@ -2,7 +2,7 @@ use Rattle.std.proofs.Common.{◌≡◌, Ok, Err, ap, sym, subst, rules}
 use Rattle.fts_tables.specs.declared.rows.Outcome.{Outcome}
 use Rattle.fts_copy.specs.Copy.{IsCopy, ended}
 use Rattle.fts_tables.specs.declared.rows.Outcome.TheVariants.{Verified}
-use Rattle.fts_copy.specs.Script.{Ends, LeadsTo, log_of, agrees, puts_in_place, reads_back, transfers}
+use Rattle.fts_copy.specs.Script.{Ends, log_of, agrees, puts_in_place, reads_back, transfers}
 use Rattle.fts_copy.proofs.Playing.{then_leads, ended_plays, over_leads, onward_leads}
 use Rattle.fts_copy.proofs.Following.{copy_leads, transfer_leads, agree_leads, last_leads}
 use Rattle.fts_copy.proofs.Ending.{Ready, make_ready, read_ends, put_ends, verified_ends}

@@ -1,7 +1,6 @@
-use Rattle.std.proofs.Common.{◌≡◌}
 use Rattle.fts_store.specs.Store.{place_at}
 use Rattle.fts_copy.specs.Copy.{part_of}
-use Rattle.fts_copy.specs.Script.{Script, Asks, Renames, LeadsTo, log_of}
+use Rattle.fts_copy.specs.Script.{Script, Asks, Renames, log_of}
 use Rattle.fts_copy.proofs.Playing.{then_leads, asks_leads, renames_leads, stopped_leads, wanted_leads, done_leads, failed_leads}
 use Rattle.fts_copy.proofs.copy.put_in_place.Goals as goal
 

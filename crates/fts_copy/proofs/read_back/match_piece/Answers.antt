@@ -4,7 +4,7 @@ use Rattle.fts_tables.specs.declared.rows.Outcome.TheVariants.{StoreFailed}
 use Rattle.fts_store.specs.Store.{IsTold, place_at}
 use Rattle.fts_copy.specs.Copy.{part_of}
 use Rattle.fts_copy.specs.Differences.{first_difference}
-use Rattle.fts_copy.specs.Script.{Script, Ends, LeadsTo, log_of, reads_piece, unless_differs, matches_piece}
+use Rattle.fts_copy.specs.Script.{Ends, log_of, reads_piece, unless_differs, matches_piece}
 use Rattle.fts_copy.proofs.Playing.{then_leads, same_place, stopped_leads, wanted_leads}
 use Rattle.fts_copy.proofs.Following.{piece_matches, differ_leads, match_leads}
 use Rattle.fts_copy.specs.Steps.{source_bytes, part_bytes, piece_at}

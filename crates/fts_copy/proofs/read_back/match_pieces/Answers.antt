@@ -3,7 +3,7 @@ use Rattle.fts_store.specs.Store.{StoreState, IsTold}
 use Rattle.fts_copy.specs.Steps.{MatchedSoFar, MatchesPiece}
 use Rattle.fts_copy.specs.declared.pieces.TheConstants.{PIECE_BYTES}
 use Rattle.fts_copy.specs.Watch.{pieces}
-use Rattle.fts_copy.specs.Script.{LeadsTo, log_of, matches}
+use Rattle.fts_copy.specs.Script.{log_of, matches}
 use Rattle.fts_copy.proofs.Playing.{then_leads}
 use Rattle.fts_copy.proofs.Following.{first_matches, more_matches, all_matches}
 use Rattle.fts_copy.proofs.Putting.{piece_end, piece_at_start}

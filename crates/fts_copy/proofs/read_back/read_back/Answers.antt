@@ -3,7 +3,7 @@ use Rattle.std.specs.Prelude.{nat_lt, ◌||◌, if◌then◌else◌}
 use Rattle.fts_tables.specs.declared.rows.Outcome.TheVariants.{StoreFailed, ReadBackDiffers}
 use Rattle.fts_store.specs.Store.{IsTold, place_at}
 use Rattle.fts_copy.specs.Copy.{part_of}
-use Rattle.fts_copy.specs.Script.{Script, Ends, LeadsTo, log_of, reads_back, reads_behind, ends_there}
+use Rattle.fts_copy.specs.Script.{Ends, log_of, reads_back, reads_behind, ends_there}
 use Rattle.fts_copy.proofs.Playing.{then_leads, same_behind, by_test, by_else}
 use Rattle.fts_copy.proofs.Following.{back_leads, behind_both}
 use Rattle.fts_copy.specs.Steps.{source_bytes, part_bytes}

@@ -1,4 +1,4 @@
-use Rattle.std.proofs.Common.{◌≡◌, ◌<◌, ◌-◌, ◌∙◌, Ok, Err, take, length, refl, subst, sym, arith, rules}
+use Rattle.std.proofs.Common.{◌≡◌, ◌-◌, ◌∙◌, Ok, Err, take, length, refl, subst, arith, rules}
 use Rattle.std.proofs.lemmas.List.{length-take-le}
 use Rattle.fts_store.specs.Store.{IsTold, bytes_of, place_at}
 use Rattle.fts_copy.specs.Script.{LeadsTo, log_of, reads_piece}
@@ -57,6 +57,6 @@ pub returns-clause-script : goal.returns-clause-script
 returns-clause-script g c answers next =
     let long : length (take c.loop-filled.filled c.loop-filled.buffer) ≡ c.loop-filled.filled = length-take-le c.loop-filled.filled c.loop-filled.buffer (omega arith) in
     subst (λ s. LeadsTo (reads_piece (place_at c.args.at) c.args.offset c.args.wanted next) (log_of (g.E.Store.calls c.args.store.now) answers) s
-        (log_of (g.E.Store.calls c.loop-filled.store) answers))
+    (log_of (g.E.Store.calls c.loop-filled.store) answers))
     (read_enough (place_at c.args.at) c.args.offset c.args.wanted next c.loop-filled.invariant.times (take c.loop-filled.filled c.loop-filled.buffer) (omega arith))
     (c.loop-filled.invariant.script answers next)

@@ -1,6 +1,6 @@
 use Rattle.std.proofs.Common.{◌≡◌, true, false, Err, subst, arith, rules}
 use Rattle.fts_store.specs.Store.{bytes_of, place_at}
-use Rattle.fts_copy.specs.Script.{Script, LeadsTo, log_of, reads_piece, unless_none}
+use Rattle.fts_copy.specs.Script.{LeadsTo, log_of, reads_piece, unless_none}
 use Rattle.fts_copy.proofs.Filling.{longer_by}
 use Rattle.fts_copy.proofs.Playing.{then_leads, behind_leads, byte_behind}
 use Rattle.fts_copy.proofs.reading.is_longer.Goals as goal

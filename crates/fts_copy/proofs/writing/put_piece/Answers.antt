@@ -1,8 +1,8 @@
-use Rattle.std.proofs.Common.{◌≡◌, take}
+use Rattle.std.proofs.Common.{take}
 use Rattle.fts_tables.specs.declared.rows.Outcome.TheVariants.{StoreFailed}
 use Rattle.fts_store.specs.Store.{place_at}
 use Rattle.fts_copy.specs.Copy.{part_of}
-use Rattle.fts_copy.specs.Script.{Script, Ends, Appends, LeadsTo, log_of, reads_piece, writes_piece}
+use Rattle.fts_copy.specs.Script.{Ends, Appends, log_of, reads_piece, writes_piece}
 use Rattle.fts_copy.proofs.Playing.{then_leads, appends_leads, same_place, stopped_leads, wanted_leads, done_leads, failed_leads}
 use Rattle.fts_copy.proofs.Following.{piece_writes}
 use Rattle.fts_copy.proofs.writing.put_piece.Goals as goal
@@ -45,4 +45,3 @@ returns-clause-script g c next =
     (then_leads (same_place (place_at c.source.result) order.source c.args.offset c.args.wanted (λ piece. Appends (part_of order) piece (next piece)) (log_of calls after) (log_of (g.E.Store.calls c.fill.new.store) after) (Appends (part_of order) (take c.in-Ok.count c.fill.new.buffer) (next (take c.in-Ok.count c.fill.new.buffer))) c.source.ensures.place (c.in-Ok.ensures.script after (λ piece. Appends (part_of order) piece (next piece))))
     (done_leads (Appends (part_of order) (take c.in-Ok.count c.fill.new.buffer) (next (take c.in-Ok.count c.fill.new.buffer))) (log_of (g.E.Store.calls c.fill.new.store) after) (log_of (g.E.Store.calls c.append.new.self) after) (λ done. next (take c.in-Ok.count c.fill.new.buffer)) c.append.result tt c.in-Ok-append.is
     (appends_leads (place_at c.part.result) (part_of order) (take c.in-Ok.count c.fill.new.buffer) (next (take c.in-Ok.count c.fill.new.buffer)) (g.E.Store.calls c.fill.new.store) (g.E.Store.calls c.append.new.self) after c.append.result c.part.ensures c.append.ensures.called)))
-

@@ -5,7 +5,7 @@ use Rattle.fts_copy.specs.Copy.{part_of}
 use Rattle.fts_copy.specs.Steps.{PutSoFar, PutsPiece}
 use Rattle.fts_copy.specs.declared.pieces.TheConstants.{PIECE_BYTES}
 use Rattle.fts_copy.specs.Watch.{pieces}
-use Rattle.fts_copy.specs.Script.{LeadsTo, log_of, unless_short, writes}
+use Rattle.fts_copy.specs.Script.{log_of, unless_short, writes}
 use Rattle.fts_copy.proofs.Playing.{then_leads}
 use Rattle.fts_copy.proofs.Following.{first_writes, more_writes, all_writes, short_leads, whole_leads}
 use Rattle.fts_copy.proofs.Putting.{but_more, more_put, piece_end, piece_at_start, piece_is_whole}

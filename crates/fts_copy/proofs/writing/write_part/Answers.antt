@@ -1,7 +1,7 @@
 use Rattle.std.proofs.Common.{◌≡◌, Err, [], sym, ◌∙◌, rules}
 use Rattle.fts_store.specs.Store.{place_at}
 use Rattle.fts_copy.specs.Watch.{pieces}
-use Rattle.fts_copy.specs.Script.{LeadsTo, log_of, digests, writes, writes_part}
+use Rattle.fts_copy.specs.Script.{log_of, digests, writes, writes_part}
 use Rattle.fts_copy.proofs.Playing.{then_leads, done_leads, failed_leads}
 use Rattle.fts_copy.proofs.Following.{part_leads, misdigest_leads, digest_leads}
 use Rattle.fts_copy.proofs.writing.write_part.Goals as goal
