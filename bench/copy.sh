@@ -1,12 +1,13 @@
 #!/bin/sh
-# Verified copies beside cp, a sync a file and md5sum, in one folder and one run.
-# bench/copy.sh PROGRAM [FOLDER]: PROGRAM is bench_copy as it was built, FOLDER an empty folder on the disk to be measured.
+# Verified copies beside a C program with the same steps and syncs, in one folder and one run: small files into one folder, small files into 50 in turn,
+# and large ones. Beside the large ones also two MD5 passes.
+# bench/copy.sh PROGRAM [FOLDER]: PROGRAM is bench_copy as it was built, FOLDER an empty folder on the disk to be measured. Needs a C compiler.
 set -eu
 program=$1
 folder=${2:-$(mktemp -d)}
-root=$folder/grid
-source=$root/https:,,a.example
-peer=$folder/peer
+source=$folder/grid/https:,,a.example
+peer=$folder/copy_peer
+cc -O2 -o "$peer" "$(dirname "$0")/copy_peer.c"
 
 seconds() {
     start=$(date +%s.%N)
@@ -15,19 +16,12 @@ seconds() {
     echo "$start $end" | awk '{ printf "%.3f", $2 - $1 }'
 }
 
+# A copy anew: what an earlier run made is gone, and what that left to write is written.
 copies() {
-    "$program" "$root" "$1" "$2"
-}
-
-# What a careful operator would type: a copy, a sync of the file and of its folder, and the digests of both sides.
-peers() {
-    mkdir -p "$peer/$1"
-    for file in "$source/$1"/*; do
-        copy=$peer/$1/${file##*/}
-        cp "$file" "$copy"
-        sync "$copy" "$peer/$1"
-        [ "$(md5sum <"$file")" = "$(md5sum <"$copy")" ]
-    done
+    rm -rf "$folder/grid/https:,,b.example"
+    sync
+    seconds "$1" "$folder/grid" "$2" "$3" "$4"
+    grep -q "verified $3" "$folder/output" || exit 1
 }
 
 digests() {
@@ -36,8 +30,12 @@ digests() {
 }
 
 mkdir -p "$source/small" "$source/large"
+for n in $(seq 0 49); do
+    mkdir -p "$source/spread/d$n"
+done
 awk 'BEGIN { for (n = 0; n < 2000; n++) print n, (n * 2741) % 4096 }' | while read -r n bytes; do
     head -c "$bytes" /dev/urandom >"$source/small/f$n"
+    cp "$source/small/f$n" "$source/spread/d$((n % 50))/f$n"
 done
 for n in $(seq 0 63); do
     head -c 4194304 /dev/urandom >"$source/large/f$n"
@@ -45,14 +43,15 @@ done
 sync
 
 for run in 1 2 3; do
-    for set in "small 2000" "large 64"; do
+    for set in "small 2000 1" "spread 2000 50" "large 64 1"; do
         # shellcheck disable=SC2086
-        ours=$(seconds copies $set)
-        grep -q "verified ${set#* }" "$folder/output"
-        theirs=$(seconds peers "${set% *}")
-        digest=$(seconds digests "${set% *}")
-        echo "run $run, $set: copies $ours s, cp + sync + md5sum $theirs s, two MD5 passes $digest s"
-        echo "$ours $theirs $digest" | awk '{ printf "  ratio to cp + sync + md5sum %.2f, to two MD5 passes %.2f\n", $1 / $2, $1 / $3 }'
+        ours=$(copies "$program" $set)
+        # shellcheck disable=SC2086
+        theirs=$(copies "$peer" $set)
+        echo "run $run, $set: copies $ours s, the same steps in C $theirs s"
+        echo "$ours $theirs" | awk '{ printf "  ratio %.2f\n", $1 / $2 }'
     done
+    digest=$(seconds digests large)
+    echo "run $run, two MD5 passes over the large files: $digest s"
 done
 rm -rf "$folder"

@@ -1,6 +1,7 @@
 //! Copies files as the service does, for `bench/copy.sh`.
-//! `bench_copy ROOT SET COUNT` copies `SET/f0` up to `SET/f(COUNT - 1)` of `https://a.example` below ROOT to `https://b.example`, each by way of its
-//! part, and prints how many were verified. Without arguments it does nothing.
+//! `bench_copy ROOT SET COUNT FOLDERS` copies `SET/f0` up to `SET/f(COUNT - 1)` of `https://a.example` below ROOT to `https://b.example`, each by way
+//! of its part, and prints how many were verified. Where FOLDERS is more than 1, file n lies in `SET/dM`, M being n modulo FOLDERS.
+//! Without arguments it does nothing.
 #![tactic(auto)]
 
 use fts_copy::{CopyRoom, CountingWatch, copy_verified};
@@ -60,11 +61,27 @@ fn is_verified<E: Store>(store: &mut E, room: &mut CopyRoom, row: &FileRow) -> b
     }
 }
 
-fn copy_set<E: Store>(alloc: Global, store: &mut E, set: &str, count: u32) -> io::Result<u32> {
+// The path of a file of a set, which lies in one folder or in so many.
+fn path_of(alloc: Global, set: &str, file: u32, folders: u32) -> io::Result<String> {
+    if folders > 1 {
+        let folder = file % folders;
+        Ok(format!(in alloc; "{set}/d{folder}/f{file}")?)
+    } else {
+        Ok(format!(in alloc; "{set}/f{file}")?)
+    }
+}
+
+fn copy_set<E: Store>(
+    alloc: Global,
+    store: &mut E,
+    set: &str,
+    count: u32,
+    folders: u32,
+) -> io::Result<u32> {
     let mut room = CopyRoom::new(alloc).map_err(no_memory)?;
     let mut verified: u32 = 0;
     for file in 0..count {
-        let path = format!(in alloc; "{set}/f{file}")?;
+        let path = path_of(alloc, set, file, folders)?;
         if let Some(row) = row(alloc, file, path.as_str()).map_err(no_memory)? {
             if is_verified(store, &mut room, &row) {
                 verified = verified.saturating_add(1);
@@ -81,11 +98,15 @@ fn main(rt: HostRuntime) -> io::Result<()> {
     let (Some(root), Some(set), Some(count)) = (args.next(), args.next(), args.next()) else {
         return Ok(());
     };
-    let Ok(count) = count.parse::<u32>() else {
+    let folders = args.next();
+    let Some(folders) = folders else {
+        return Ok(());
+    };
+    let (Ok(count), Ok(folders)) = (count.parse::<u32>(), folders.parse::<u32>()) else {
         return Err(io::Error::from(io::ErrorKind::InvalidInput));
     };
     let mut store = FolderStore::new(rt, alloc, root);
-    let verified = copy_set(alloc, &mut store, set.as_str(), count)?;
+    let verified = copy_set(alloc, &mut store, set.as_str(), count, folders)?;
     println!(rt; "verified {verified}")?;
     Ok(())
 }

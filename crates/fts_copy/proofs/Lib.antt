@@ -2,6 +2,9 @@ mod Parts
 mod Differing
 mod Filling
 mod Watching
+mod Playing
+mod Following
+mod Rows
 mod Putting
 mod Matching
 mod Ending

@@ -1,7 +1,8 @@
 -- What becomes of a watch and of a count over steps that follow each other.
 use Rattle.std.proofs.Common.{◌≡◌, ℕ, ◌+◌, ◌≤◌, Result, Ok, Err, OnOk, refl, ◌∙◌, subst, inl, inr, arith}
 use Rattle.fts_tables.specs.declared.rows.Outcome.{Outcome}
-use Rattle.fts_store.specs.Store.{Rose, Stays}
+use Rattle.fts_tables.specs.Counts.{Rose}
+use Rattle.fts_store.specs.Store.{Stays}
 use Rattle.fts_copy.specs.Watch.{IsAsked, NoesAfter, Watched}
 
 -- askings add up

@@ -38,10 +38,12 @@ pub record ReadsMore (bytes : List ℕ) (offset : ℕ) (old new : List ℕ) (fro
 
 -- the checks before anything is made
 abbrev pub IsLook : Order → StoreState → Result ℕ Outcome → Type 0
-IsLook order store (Ok size) = IsTold store → (length (source_bytes order store) ≡ size) × IsSome (store.files order.source) × (is_in_the_way order store.files ≡ false) × (is_other_size order.size size ≡ false)
+IsLook order store (Ok size) = IsTold store
+    → (length (source_bytes order store) ≡ size) × IsSome (store.files order.source) × (is_in_the_way order store.files ≡ false) × (is_other_size order.size size ≡ false)
 IsLook order store (Err SourceMissing) = IsTold store → store.files order.source ≡ None
 IsLook order store (Err DestinationExists) = IsTold store → IsSome (store.files order.source) × (is_in_the_way order store.files ≡ true)
-IsLook order store (Err (SourceSize seen)) = IsTold store → (length (source_bytes order store) ≡ seen) × IsSome (store.files order.source) × (is_in_the_way order store.files ≡ false) × (is_other_size order.size seen ≡ true)
+IsLook order store (Err (SourceSize seen)) = IsTold store
+    → (length (source_bytes order store) ≡ seen) × IsSome (store.files order.source) × (is_in_the_way order store.files ≡ false) × (is_other_size order.size seen ≡ true)
 IsLook order store (Err StoreFailed) = Unit {0}
 IsLook order store (Err Stopped) = ⊥
 IsLook order store (Err (SourceDigest seen)) = ⊥
@@ -92,7 +94,8 @@ PutsPieces order old new size (Err (Verified n digest)) = ⊥
 abbrev pub IsWritten : Order → StoreState → StoreState → ℕ → Result (List ℕ) Outcome → Type 0
 IsWritten order old new size (Ok digest) = KnowsSource order old size → (digest ≡ md5 (source_bytes order old)) × (is_other_digest order.wanted digest ≡ false)
     × IsSome (new.files (part_of order)) × (IsFaithful old → part_bytes order new ≡ source_bytes order old)
-IsWritten order old new size (Err (SourceDigest seen)) = KnowsSource order old size → (seen ≡ md5 (source_bytes order old)) × (is_other_digest order.wanted seen ≡ true)
+IsWritten order old new size (Err (SourceDigest seen)) = KnowsSource order old size
+    → (seen ≡ md5 (source_bytes order old)) × (is_other_digest order.wanted seen ≡ true)
 IsWritten order old new size (Err (SourceSize seen)) = KnowsSource order old size → ⊥
 IsWritten order old new size (Err StoreFailed) = Unit {0}
 IsWritten order old new size (Err Stopped) = Unit {0}
@@ -102,12 +105,13 @@ IsWritten order old new size (Err (ReadBackDiffers at)) = ⊥
 IsWritten order old new size (Err (Verified n digest)) = ⊥
 
 -- a piece of the part is that of the source, and was put into the digest; or they differ at a place
-abbrev pub MatchesPiece : Order → StoreState → Md5 → Md5 → ℕ → ℕ → Result (Unit {0}) Outcome → Type 0
+abbrev pub MatchesPiece : Order → StoreState → Md5 → Md5 → ℕ → ℕ → Result ℕ Outcome → Type 0
 MatchesPiece order store before after offset wanted (Ok done) = IsTold store
     → (piece_at (part_bytes order store) offset wanted ≡ piece_at (source_bytes order store) offset wanted)
     × ((message : List ℕ) → Holds before message → Holds after (message ++ piece_at (part_bytes order store) offset wanted))
 MatchesPiece order store before after offset wanted (Err (ReadBackDiffers at)) = IsTold store
-    → (n : ℕ) × (first_difference (piece_at (source_bytes order store) offset wanted) (piece_at (part_bytes order store) offset wanted) ≡ Some n) × (at ≡ offset + n)
+    → (n : ℕ) × (first_difference (piece_at (source_bytes order store) offset wanted) (piece_at (part_bytes order store) offset wanted) ≡ Some n)
+    × (at ≡ offset + n)
 MatchesPiece order store before after offset wanted (Err StoreFailed) = Unit {0}
 MatchesPiece order store before after offset wanted (Err Stopped) = Unit {0}
 MatchesPiece order store before after offset wanted (Err SourceMissing) = ⊥
@@ -123,8 +127,10 @@ pub record MatchedSoFar (order : Order) (store : StoreState) (hasher : Md5) (don
 
 -- all pieces of the part are those of the source, and this is their digest; or they differ at a place
 abbrev pub MatchesPieces : Order → StoreState → ℕ → Result (List ℕ) Outcome → Type 0
-MatchesPieces order store size (Ok digest) = KnowsSource order store size → (take size (part_bytes order store) ≡ source_bytes order store) × (digest ≡ md5 (source_bytes order store))
-MatchesPieces order store size (Err (ReadBackDiffers at)) = KnowsSource order store size → first_difference (source_bytes order store) (part_bytes order store) ≡ Some at
+MatchesPieces order store size (Ok digest) = KnowsSource order store size
+    → (take size (part_bytes order store) ≡ source_bytes order store) × (digest ≡ md5 (source_bytes order store))
+MatchesPieces order store size (Err (ReadBackDiffers at)) = KnowsSource order store size
+    → first_difference (source_bytes order store) (part_bytes order store) ≡ Some at
 MatchesPieces order store size (Err StoreFailed) = Unit {0}
 MatchesPieces order store size (Err Stopped) = Unit {0}
 MatchesPieces order store size (Err SourceMissing) = ⊥
@@ -135,8 +141,10 @@ MatchesPieces order store size (Err (Verified n digest)) = ⊥
 
 -- the part holds what the source holds, and this is its digest; or they differ at a place
 abbrev pub IsReadBack : Order → StoreState → ℕ → Result (List ℕ) Outcome → Type 0
-IsReadBack order store size (Ok digest) = KnowsSource order store size → (part_bytes order store ≡ source_bytes order store) × (digest ≡ md5 (source_bytes order store))
-IsReadBack order store size (Err (ReadBackDiffers at)) = KnowsSource order store size → first_difference (source_bytes order store) (part_bytes order store) ≡ Some at
+IsReadBack order store size (Ok digest) = KnowsSource order store size
+    → (part_bytes order store ≡ source_bytes order store) × (digest ≡ md5 (source_bytes order store))
+IsReadBack order store size (Err (ReadBackDiffers at)) = KnowsSource order store size
+    → first_difference (source_bytes order store) (part_bytes order store) ≡ Some at
 IsReadBack order store size (Err StoreFailed) = Unit {0}
 IsReadBack order store size (Err Stopped) = Unit {0}
 IsReadBack order store size (Err SourceMissing) = ⊥

@@ -1,9 +1,9 @@
 -- What a watch counts, and what a copy asks of it.
-use Rattle.std.specs.Prelude.{◌≡◌, ℕ, ◌+◌, ◌*◌, ◌≤◌, min, Result, Ok, Err, OnOk}
+use Rattle.std.specs.Prelude.{◌≡◌, ℕ, ◌+◌, ◌*◌, ◌≤◌, min, Bool, Option, option_map, Result, Ok, Err, OnOk, List, [], ◌∷◌, ◌++◌}
 use Rattle.std.specs.Int.{div_ceil}
 use Rattle.fts_tables.specs.declared.rows.Outcome.{Outcome}
 use Rattle.fts_tables.specs.declared.rows.Outcome.TheVariants.{Verified, SourceMissing, DestinationExists, SourceSize, SourceDigest, ReadBackDiffers, StoreFailed, Stopped}
-use Rattle.fts_store.specs.Store.{Rose}
+use Rattle.fts_tables.specs.Counts.{Rose}
 use Rattle.fts_copy.specs.declared.pieces.TheConstants.{PIECE_BYTES}
 
 -- the number of pieces of a file
@@ -13,6 +13,10 @@ pieces size = div_ceil size PIECE_BYTES
 -- a count after one asking; at the end of its type it stays
 abbrev pub asked_once : ℕ → ℕ
 asked_once count = min (count + 1) 18446744073709551615
+
+-- the answers that were told, and this one behind them; a watch that tells none tells none
+abbrev pub with_answer : Option (List Bool) → Bool → Option (List Bool)
+with_answer answers answer = option_map (λ list. list ++ answer ∷ []) answers
 
 -- the askings rose by at least this many, or stand at the end of their type
 abbrev pub IsAsked : ℕ → ℕ → ℕ → Type 0

@@ -1,9 +1,11 @@
 //! The copy of one file, in this order: look at the source and the destination, write the part, read it back, put it in its place.
 //! Each step answers what the next one needs, or how the copy ends. What each end leaves is `IsCopy` of `specs/Copy.antt`.
 //! Called by fts_workers alone, outside every turn. It takes no memory.
-ghost use Rattle.std.specs.Prelude.{◌≡◌, ◌≤◌, if◌then◌else◌, Some, IsSome, IfSome, length, bytes_eq};
-ghost use Rattle.fts_store.specs.Store.{IsTold, Rose, Stays};
-ghost use Rattle.fts_copy.specs.Copy.{IsApart, IsCopy, KeepsDest, ended};
+ghost use Rattle.std.specs.Prelude.{◌≡◌, ◌≤◌, ℕ, if◌then◌else◌, Bool, Option, Some, IsSome, IfSome, List, length, bytes_eq};
+ghost use Rattle.fts_tables.specs.Counts.{Rose};
+ghost use Rattle.fts_store.specs.Store.{IsTold, Stays};
+ghost use Rattle.fts_copy.specs.Copy.{IsApart, IsCopy, KeepsDest, ended, part_of};
+ghost use Rattle.fts_copy.specs.Script.{Script, Asks, LeadsTo, Plays, Renames, copy_of, goes_on, log_of, looks};
 ghost use Rattle.fts_copy.specs.Steps.{IsLook, IsPutInPlace};
 ghost use Rattle.fts_copy.specs.Watch.{Counted, NoesBy, VerifiedAsks, Watched};
 
@@ -20,6 +22,8 @@ fn look<E: Store>(store: &mut E, order: &Loaded) -> Result<u64, Outcome>
     ensures apart { IsApart order.now }
     ensures same { E.state store.new ≡ E.state store.old }
     ensures look { IsLook order.now (E.state store.old) result }
+    ensures script { (answers : Option (List Bool)) (next : ℕ → Script) → LeadsTo (looks order.now next)
+        (log_of (E.calls store.old) answers) (goes_on next result) (log_of (E.calls store.new) answers) }
     ensures counted { Counted (E.faults store.old) (E.faults store.new) result }
 {
     let Ok(source) = store.size(order.source()) else {
@@ -61,6 +65,8 @@ fn put_in_place<E: Store, V: Watch>(
 ) -> Result<(), Outcome>
     ensures stays { Stays (E.state store.old) (E.state store.new) }
     ensures put { IsPutInPlace order.now (E.state store.old) (E.state store.new) result }
+    ensures script { (next : Script) → LeadsTo (Asks (Renames (part_of order.now) order.now.dest next))
+        (log_of (E.calls store.old) (V.answers watch.old)) (goes_on (λ done. next) result) (log_of (E.calls store.new) (V.answers watch.new)) }
     ensures counted { Counted (E.faults store.old) (E.faults store.new) result }
     ensures watched { Watched V.noes V.askings V.later 1 watch.old watch.new result }
 {
@@ -86,6 +92,8 @@ fn attempt<E: Store, V: Watch>(
     ensures apart { IsApart order.now }
     ensures stays { Stays (E.state store.old) (E.state store.new) }
     ensures copy { IsTold (E.state store.old) → IsCopy order.now (E.state store.old) (E.state store.new) (ended result) }
+    ensures script { Plays (copy_of order.now)
+        (log_of (E.calls store.old) (V.answers watch.old)) (log_of (E.calls store.new) (V.answers watch.new)) (ended result) }
     ensures no_fewer_faults { E.faults store.old ≤ E.faults store.new }
     ensures store_failed { ended result ≡ Outcome.StoreFailed → Rose (E.faults store.old) (E.faults store.new) }
     ensures noes { NoesBy (ended result) (V.noes watch.old) (V.noes watch.new) }
@@ -117,6 +125,8 @@ pub fn copy_verified<E: Store, V: Watch>(
     ensures room { room.new ≡ room.old }
     ensures stays { Stays (E.state store.old) (E.state store.new) }
     ensures copy { IsTold (E.state store.old) → IfSome room.old (λ order. IsCopy order (E.state store.old) (E.state store.new) result) }
+    ensures script { IfSome room.old (λ order. Plays (copy_of order)
+        (log_of (E.calls store.old) (V.answers watch.old)) (log_of (E.calls store.new) (V.answers watch.new)) result) }
     ensures destination { IsTold (E.state store.old) → IfSome room.old (λ order. KeepsDest order (E.state store.old).files (E.state store.new).files result) }
     ensures no_fewer_faults { E.faults store.old ≤ E.faults store.new }
     ensures store_failed { result ≡ Outcome.StoreFailed → Rose (E.faults store.old) (E.faults store.new) }

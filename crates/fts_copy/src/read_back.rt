@@ -1,6 +1,8 @@
 //! Reads back what was written, and the source once more, piece by piece: each byte is compared, and the part's digest is taken anew.
 //! The watch is asked before each piece. No file changes.
-ghost use Rattle.std.specs.Prelude.{◌≡◌, ◌<◌, ◌≤◌, ◌+◌, length};
+ghost use Rattle.std.specs.Prelude.{◌≡◌, ◌<◌, ◌≤◌, ◌+◌, ℕ, List, [], length, take, ◌++◌, IfOk};
+ghost use Rattle.md5.specs.Md5.{Holds};
+ghost use Rattle.fts_copy.specs.Script.{Script, LeadsTo, goes_on, log_of, matches, matches_piece, reads_back};
 ghost use Rattle.fts_copy.specs.Steps.{IsReadBack, MatchesPiece, MatchesPieces};
 ghost use Rattle.fts_copy.specs.Watch.{Counted, Watched, pieces};
 
@@ -13,7 +15,7 @@ use fts_store::Store;
 use fts_tables::Outcome;
 use md5::{Digest, Md5};
 
-// Compares a piece of the part with that of the source, and puts it into the digest.
+// Compares a piece of the part with that of the source, and puts it into the digest. Gives how many bytes the part had there.
 fn match_piece<E: Store, V: Watch>(
     store: &mut E,
     order: &Loaded,
@@ -23,12 +25,16 @@ fn match_piece<E: Store, V: Watch>(
     watch: &mut V,
     hasher: &mut Md5,
     offset: u64,
-) -> Result<(), Outcome>
+) -> Result<usize, Outcome>
     requires first { wanted ≤ length first.old }
     requires second { wanted ≤ length second.old }
     requires end { offset + wanted < 18446744073709551616 }
     ensures same { E.state store.new ≡ E.state store.old }
     ensures matches { MatchesPiece order.now (E.state store.old) hasher.old hasher.new offset wanted result }
+    ensures hashed { IfOk result (λ count. (message : List ℕ) → Holds hasher.old message → Holds hasher.new (message ++ take count second.new)) }
+    ensures script { (next : List ℕ → Script) → LeadsTo (matches_piece order.now offset wanted next)
+        (log_of (E.calls store.old) (V.answers watch.old)) (goes_on (λ count. next (take count second.new)) result)
+        (log_of (E.calls store.new) (V.answers watch.new)) }
     ensures counted { Counted (E.faults store.old) (E.faults store.new) result }
     ensures watched { Watched V.noes V.askings V.later 1 watch.old watch.new result }
 {
@@ -46,7 +52,7 @@ fn match_piece<E: Store, V: Watch>(
         Some(at) => Err(Outcome::ReadBackDiffers {
             at: offset + at as u64,
         }),
-        None => Ok(()),
+        None => Ok(kept),
     }
 }
 
@@ -63,6 +69,8 @@ fn match_pieces<E: Store, V: Watch>(
     requires second { PIECE_BYTES ≤ length second.old }
     ensures same { E.state store.new ≡ E.state store.old }
     ensures matches { MatchesPieces order.now (E.state store.old) size result }
+    ensures script { (next : List ℕ → Script) → LeadsTo (matches order.now size next (pieces size) 0 [])
+        (log_of (E.calls store.old) (V.answers watch.old)) (goes_on next result) (log_of (E.calls store.new) (V.answers watch.new)) }
     ensures counted { Counted (E.faults store.old) (E.faults store.new) result }
     ensures watched { Watched V.noes V.askings V.later (pieces size) watch.old watch.new result }
 {
@@ -97,6 +105,8 @@ pub fn read_back<E: Store, V: Watch>(
     requires second { PIECE_BYTES ≤ length second.old }
     ensures same { E.state store.new ≡ E.state store.old }
     ensures read { IsReadBack order.now (E.state store.old) size result }
+    ensures script { (next : List ℕ → Script) → LeadsTo (reads_back order.now size next)
+        (log_of (E.calls store.old) (V.answers watch.old)) (goes_on next result) (log_of (E.calls store.new) (V.answers watch.new)) }
     ensures counted { Counted (E.faults store.old) (E.faults store.new) result }
     ensures watched { Watched V.noes V.askings V.later (pieces size) watch.old watch.new result }
 {

@@ -6,8 +6,9 @@ use fts_tables::{
     Reason,
 };
 use std::alloc::{AllocError, Global};
-use std::fs;
+use std::fs::{self, File, Files, OpenOptions};
 use std::test::Fail;
+use std::thread::join;
 
 const EMPTY: [u8; 16] = *b"\xd4\x1d\x8c\xd9\x8f\x00\xb2\x04\xe9\x80\x09\x98\xec\xf8\x42\x7e";
 
@@ -339,6 +340,50 @@ fn a_file_is_copied_between_real_folders(rt: HostRuntime) -> Result<(), Fail> {
         "a folder is there"
     );
     assert!(rt; fs::exists(&rt, held)?, "it is there still");
+    fs::remove_dir_all(&rt, root)?;
+    Ok(())
+}
+
+// Cuts a file and makes it as long as it was, so often.
+fn cut_and_lengthen<R: Files<File = File>>(rt: &R, path: &str) {
+    for _ in 0..100 {
+        if let Ok(file) = OpenOptions::new().write(true).open(rt, path) {
+            let _cut = file.set_len(66_000);
+            let _whole = file.set_len(70_000);
+        }
+    }
+}
+
+// How many of some copies said that they were verified, and left a destination of another length.
+fn wrong_lengths<E: Store>(store: &mut E, room: &mut CopyRoom, row: &FileRow) -> u32 {
+    let mut wrong: u32 = 0;
+    for _ in 0..3 {
+        if let (Outcome::Verified { size, .. }, _) = copied(store, room, row, true, u64::MAX) {
+            if store.size(dest()) != Ok(Some(size)) {
+                wrong = wrong.saturating_add(1);
+            }
+        }
+    }
+    wrong
+}
+
+#[test]
+fn a_source_that_another_thread_cuts_is_never_verified_short(rt: HostRuntime) -> Result<(), Fail> {
+    let alloc = rt.alloc();
+    let root = "grid-of-a-cut";
+    let source = "grid-of-a-cut/https:,,a.example/data/f1";
+    let _old = fs::remove_dir_all(&rt, root);
+    let mut room = CopyRoom::new(alloc)?;
+    let row = row(alloc, 0, None)?;
+    let mut store = FolderStore::new(rt, alloc, String::from_str(alloc, root)?);
+    fs::create_dir_all(&rt, "grid-of-a-cut/https:,,a.example/data")?;
+    fs::write(&rt, source, pattern(alloc, 70_000)?.as_slice())?;
+    let (wrong, _) = join(
+        &rt,
+        || wrong_lengths(&mut store, &mut room, &row),
+        || cut_and_lengthen(&rt, source),
+    );
+    assert_eq!(rt; wrong, 0);
     fs::remove_dir_all(&rt, root)?;
     Ok(())
 }

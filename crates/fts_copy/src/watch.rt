@@ -1,10 +1,11 @@
 //! The trait of a watch, which a copy asks before each piece whether it is still wanted; and one that counts, for tests and for copies that
 //! nobody calls off.
-//! A watch counts its askings and its noes. What else is known of it later is its own relation (`later`), which holds from a watch to itself
+//! A watch counts its askings and its noes, and may tell its answers.
+//! What else is known of it later is its own relation (`later`), which holds from a watch to itself
 //! and passes on, so a copy can promise it of any watch.
-ghost use Rattle.std.specs.Prelude.{◌≡◌, ◌≤◌, ℕ, false, IsTrue};
-ghost use Rattle.fts_store.specs.Store.{Rose};
-ghost use Rattle.fts_copy.specs.Watch.{asked_once};
+ghost use Rattle.std.specs.Prelude.{◌≡◌, ◌≤◌, ℕ, Bool, false, Option, List, IsTrue};
+ghost use Rattle.fts_tables.specs.Counts.{Rose};
+ghost use Rattle.fts_copy.specs.Watch.{asked_once, with_answer};
 
 /// What says whether a copy is still wanted.
 pub trait Watch {
@@ -14,11 +15,15 @@ pub trait Watch {
     /// How often it was asked, up to the greatest `u64`.
     ghost askings: { Self → ℕ };
 
+    /// The answers that it gave, where it tells them.
+    ghost answers: { Self → Option (List Bool) };
+
     /// What is known of a watch later, by what it was before.
     ghost later: { Self → Self → Type 0 };
 
     /// Whether the copy is still wanted.
     fn wanted(&mut self) -> bool
+        ensures told { answers self.new ≡ with_answer (answers self.old) result }
         ensures asked { askings self.new ≡ asked_once (askings self.old) }
         ensures yes { IsTrue result → noes self.new ≡ noes self.old }
         ensures no { result ≡ false → Rose (noes self.old) (noes self.new) }
@@ -65,11 +70,14 @@ impl CountingWatch {
 }
 
 impl Watch for CountingWatch {
+    ghost use Rattle.std.specs.Prelude.{None};
     ghost use Rattle.fts_copy.specs.Counting.{asked_so_far, said_no, IsLater, later_itself, later_passes};
 
     ghost noes = { said_no };
 
     ghost askings = { asked_so_far };
+
+    ghost answers = { λ _. None };
 
     ghost later = { IsLater };
 

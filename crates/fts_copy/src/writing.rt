@@ -1,8 +1,10 @@
 //! Writes the part: made from nothing, then piece by piece from the source, each of which goes into the digest.
 //! The watch is asked before each piece. No other file changes.
-ghost use Rattle.std.specs.Prelude.{◌<◌, ◌≤◌, ◌+◌, length, IfOk};
+ghost use Rattle.std.specs.Prelude.{◌<◌, ◌≤◌, ◌+◌, ℕ, List, [], length, take, ◌++◌, IfOk};
+ghost use Rattle.md5.specs.Md5.{Holds};
 ghost use Rattle.fts_store.specs.Store.{IsTold, SameBut, Stays};
 ghost use Rattle.fts_copy.specs.Copy.{part_of, IsApart};
+ghost use Rattle.fts_copy.specs.Script.{Script, LeadsTo, goes_on, log_of, writes, writes_part, writes_piece};
 ghost use Rattle.fts_copy.specs.Steps.{IsBroken, IsWritten, PutsPiece, PutsPieces};
 ghost use Rattle.fts_copy.specs.Watch.{Counted, Watched, pieces};
 
@@ -30,6 +32,10 @@ fn put_piece<E: Store, V: Watch>(
     ensures within { IfOk result (λ count. count ≤ wanted) }
     ensures puts { IsTold (E.state store.old) → PutsPiece order.now (E.state store.old) (E.state store.new) hasher.old hasher.new offset wanted result }
     ensures broken { IsBroken result }
+    ensures hashed { IfOk result (λ count. (message : List ℕ) → Holds hasher.old message → Holds hasher.new (message ++ take count buffer.new)) }
+    ensures script { (next : List ℕ → Script) → LeadsTo (writes_piece order.now offset wanted next)
+        (log_of (E.calls store.old) (V.answers watch.old)) (goes_on (λ count. next (take count buffer.new)) result)
+        (log_of (E.calls store.new) (V.answers watch.new)) }
     ensures counted { Counted (E.faults store.old) (E.faults store.new) result }
     ensures watched { Watched V.noes V.askings V.later 1 watch.old watch.new result }
 {
@@ -59,6 +65,8 @@ fn put_pieces<E: Store, V: Watch>(
     ensures stays { Stays (E.state store.old) (E.state store.new) }
     ensures others { IsTold (E.state store.old) → SameBut (part_of order.now) (E.state store.old).files (E.state store.new).files }
     ensures puts { PutsPieces order.now (E.state store.old) (E.state store.new) size result }
+    ensures script { (next : List ℕ → Script) → LeadsTo (writes order.now size next (pieces size) 0 [])
+        (log_of (E.calls store.old) (V.answers watch.old)) (goes_on next result) (log_of (E.calls store.new) (V.answers watch.new)) }
     ensures counted { Counted (E.faults store.old) (E.faults store.new) result }
     ensures watched { Watched V.noes V.askings V.later (pieces size) watch.old watch.new result }
 {
@@ -89,6 +97,8 @@ pub fn write_part<E: Store, V: Watch>(
     ensures stays { Stays (E.state store.old) (E.state store.new) }
     ensures others { IsTold (E.state store.old) → SameBut (part_of order.now) (E.state store.old).files (E.state store.new).files }
     ensures written { IsWritten order.now (E.state store.old) (E.state store.new) size result }
+    ensures script { (next : List ℕ → Script) → LeadsTo (writes_part order.now size next)
+        (log_of (E.calls store.old) (V.answers watch.old)) (goes_on next result) (log_of (E.calls store.new) (V.answers watch.new)) }
     ensures counted { Counted (E.faults store.old) (E.faults store.new) result }
     ensures watched { Watched V.noes V.askings V.later (pieces size) watch.old watch.new result }
 {

@@ -1,4 +1,5 @@
 pub mod Store
+pub mod Calls
 pub mod Held
 pub mod Memory
 pub mod Folder

@@ -33,6 +33,10 @@ pub record Numbered {T E : Type 0} (old new : MemoryStore) (result : Result T E)
   pub fail : new.fail.items ≡ old.fail.items
   pub drop : new.drop.items ≡ old.drop.items
 
+-- a call that takes no memory fails where its number is listed, and nowhere else
+abbrev pub FailsOnlyListed : {T E : Type 0} → MemoryStore → Result T E → Type 0
+FailsOnlyListed old result = IsErr result → Contains old.fail.items (next_call old)
+
 -- all but the last byte
 abbrev pub but_last : List ℕ → List ℕ
 but_last bytes = take (length bytes - 1) bytes

@@ -1,23 +1,29 @@
 //! The real store: files in folders. It tells nothing of its files.
 //! An endpoint's files lie in the folder of its name, each slash of which is a comma, below the store's own folder (`stays_inside`).
 //! Where there is no such name, or a part of the path is a file, there is no file. A folder in a file's place, a full device, a name that
-//! is too long and any other error of the system is a failed call, and counted.
-//! Order of a rename: the file's data synced, the file moved, its new folder synced, and once for a folder those above it.
+//! is too long and any other error of the system is a failed call, and counted. A file that finds no room is emptied.
+//! Order of a rename: the file's data synced, the folders opened that are to be synced, the file moved, these folders synced.
+//! A file that is made is a new one: what had its name loses it. One that is moved to where the last look found nothing replaces nothing.
 //! At most two files are open: one that is read and one that is written, which is read by the same handle. A look at a size lets both go.
-ghost use Rattle.std.specs.Prelude.{◌≡◌, false, IsErr, IfOk};
-ghost use Rattle.std.specs.List.{list_all};
-ghost use Rattle.fts_tables.specs.Names.{segments};
-ghost use Rattle.fts_store.specs.Store.{CountsFaults, place_at};
-ghost use Rattle.fts_store.specs.Folder.{is_name, stays_inside};
+ghost use Rattle.std.specs.Prelude.{◌≡◌, ◌≤◌, false, length, IsErr, IfOk};
+ghost use Rattle.fts_tables.specs.Counts.{CountsFaults};
+ghost use Rattle.fts_store.specs.Store.{place_at};
+ghost use Rattle.fts_store.specs.Folder.{stays_inside};
 
+use crate::inside::{failed, folder_of, path_of, stays_inside};
 use crate::{Store, StoreFailed};
 use fts_tables::PlaceRef;
-use std::alloc::{AllocError, Global};
+use std::alloc::Global;
 use std::fs::{self, File, Files, OpenOptions};
 use std::io::{self, Write};
 use std::os::fd::AsRawFd;
 use std::os::unix::fs::FileExt;
-use std::path::Path;
+
+/// How often a read that was interrupted is tried.
+const READ_TRIES: u32 = 1_000;
+
+/// The folders whose names are known to be stable, at most.
+const MAX_STABLE_FOLDERS: usize = 256;
 
 /// An open file, and the place that it lies at.
 #[derive(Drop)]
@@ -35,80 +41,86 @@ pub struct FolderStore<R> {
     root: String,
     reading: Option<Opened>,
     writing: Option<Opened>,
-    /// The folder that was last moved into, once its name and those of the folders above it are stable.
-    stable: Option<String>,
+    /// Where the last look that found a file found it.
+    found: Option<String>,
+    /// Where the last look found nothing.
+    free: Option<String>,
+    /// Folders whose names, and those of the folders above them, are stable.
+    stable: Vec<String>,
     pub(crate) faults: u64,
 }
 
-fn is_name(text: &[u8]) -> bool
-    ensures { result ≡ is_name text.now }
-{
-    !matches!(text, b"" | b"." | b"..")
-}
-
-fn are_names(text: &[u8]) -> bool
-    ensures { result ≡ list_all is_name (segments text.now) }
-{
-    text.split(|byte| *byte == 0x2f)
-        .all(|segment| is_name(segment))
-}
-
-fn stays_inside(at: PlaceRef<'_>) -> bool
-    ensures { result ≡ stays_inside (place_at at.entry) }
-{
-    is_name(at.endpoint.as_bytes()) && are_names(at.path.as_bytes())
-}
-
-fn failed<T>(kind: io::ErrorKind) -> io::Result<T>
-    ensures { IsErr result }
-{
-    Err(io::Error::from(kind))
-}
-
-// The path of a file, where it lies below the root.
-fn path_of(alloc: Global, root: &str, at: PlaceRef<'_>) -> io::Result<String>
-    ensures { stays_inside (place_at at.entry) ≡ false → IsErr result }
-{
-    if !stays_inside(at) {
-        return failed(io::ErrorKind::InvalidInput);
-    }
-    let mut path = String::from_str(alloc, root)?;
-    path.push('/')?;
-    for letter in at.endpoint.chars() {
-        path.push(if letter == '/' { ',' } else { letter })?;
-    }
-    path.push('/')?;
-    path.push_str(at.path)?;
-    Ok(path)
-}
-
-// The folder that a file lies in.
-fn folder_of(path: &str) -> &str {
-    match Path::new(path).parent() {
-        Some(folder) => folder.as_str(),
-        None => ".",
+fn is_path(known: &Option<String>, path: &str) -> bool {
+    match known {
+        Some(known) => known.as_str() == path,
+        None => false,
     }
 }
 
-fn make_folder_of<R: Files<File = File>>(rt: &R, path: &str) -> io::Result<()> {
-    fs::create_dir_all(rt, folder_of(path))
+// A file of no bytes that wasn't there.
+fn create_new<R: Files<File = File>>(rt: &R, path: &str) -> io::Result<File> {
+    OpenOptions::new()
+        .read(true)
+        .write(true)
+        .create_new(true)
+        .open(rt, path)
 }
 
-fn sync_folder<R: Files<File = File>>(rt: &R, folder: &str) -> io::Result<()> {
-    File::open(rt, folder)?.sync_all()
-}
-
-// Makes stable the names of a folder and of those above it, up to the root's own.
-fn sync_above<R: Files<File = File>>(rt: &R, root: &str, folder: &str) -> io::Result<()> {
-    let mut below = folder;
-    for _ in 0..folder.len() {
-        if below.len() < root.len() {
-            break;
+// A file of no bytes in place of what has its name, which isn't followed.
+fn create_anew<R: Files<File = File>>(rt: &R, path: &str) -> io::Result<File> {
+    match create_new(rt, path) {
+        Err(error) if error.kind() == io::ErrorKind::AlreadyExists => {
+            fs::remove_file(rt, path)?;
+            create_new(rt, path)
         }
-        below = folder_of(below);
-        sync_folder(rt, if below.is_empty() { "." } else { below })?;
+        Err(error) if error.kind() == io::ErrorKind::NotFound => {
+            fs::create_dir_all(rt, folder_of(path))?;
+            create_new(rt, path)
+        }
+        answer => answer,
     }
-    Ok(())
+}
+
+// Moves a file to where nothing is: the name is made only where there is none. A file system that has no second names is asked just before.
+fn move_to_free<R: Files<File = File>>(rt: &R, old: &str, new: &str) -> io::Result<()> {
+    match fs::hard_link(rt, old, new) {
+        Ok(()) => fs::remove_file(rt, old),
+        Err(error) => match error.kind() {
+            io::ErrorKind::PermissionDenied | io::ErrorKind::Unsupported => {
+                if fs::exists(rt, new)? {
+                    return failed(io::ErrorKind::AlreadyExists);
+                }
+                fs::rename(rt, old, new)
+            }
+            _ => Err(error),
+        },
+    }
+}
+
+// Reads again where a signal interrupted a read.
+fn read_some(file: &File, offset: u64, into: &mut [u8]) -> io::Result<usize>
+    ensures { IfOk result (λ count. count ≤ length into.new) }
+{
+    for _ in 0..READ_TRIES {
+        match file.read_at(into, offset) {
+            Err(error) if error.kind() == io::ErrorKind::Interrupted => {}
+            answer => return answer,
+        }
+    }
+    failed(io::ErrorKind::Interrupted)
+}
+
+// A file that finds no room lets go of what it has.
+fn unless_full(file: &File, answer: io::Result<()>) -> io::Result<()> {
+    if let Err(error) = &answer {
+        if matches!(
+            error.kind(),
+            io::ErrorKind::StorageFull | io::ErrorKind::QuotaExceeded
+        ) {
+            let _emptied = file.set_len(0);
+        }
+    }
+    answer
 }
 
 // What is printed to a standard stream that was closed must not land in the file.
@@ -118,6 +130,65 @@ fn above_streams(file: File) -> io::Result<File> {
     } else {
         file.try_clone()
     }
+}
+
+fn is_stable(stable: &[String], folder: &str) -> bool {
+    stable.iter().any(|known| known.as_str() == folder)
+}
+
+// The folder is there. Where it wasn't, no folder is known to be stable any more.
+fn open_folder<R: Files<File = File>>(
+    rt: &R,
+    stable: &mut Vec<String>,
+    folder: &str,
+) -> io::Result<File> {
+    match File::open(rt, folder) {
+        Err(error) if error.kind() == io::ErrorKind::NotFound => {
+            stable.clear();
+            fs::create_dir_all(rt, folder)?;
+            File::open(rt, folder)
+        }
+        answer => answer,
+    }
+}
+
+// Opens what makes a folder's name stable: the folders above it, up to the first whose name is known to be stable, or the root's own.
+fn open_above<R: Files<File = File>>(
+    rt: &R,
+    root: &str,
+    stable: &[String],
+    folder: &str,
+    open: &mut Vec<File>,
+) -> io::Result<()> {
+    let mut below = folder;
+    for _ in 0..folder.len() {
+        if below.len() < root.len() || is_stable(stable, below) {
+            break;
+        }
+        let above = folder_of(below);
+        below = if above.is_empty() { "." } else { above };
+        open.push(File::open(rt, below)?)?;
+    }
+    Ok(())
+}
+
+// The folder's name, and those above it, are stable from now on.
+fn remember(alloc: Global, stable: &mut Vec<String>, folder: &str) -> io::Result<()> {
+    if is_stable(stable, folder) {
+        return Ok(());
+    }
+    if stable.len() >= MAX_STABLE_FOLDERS {
+        stable.clear();
+    }
+    stable.push(String::from_str(alloc, folder)?)?;
+    Ok(())
+}
+
+fn sync_all(folders: &[File]) -> io::Result<()> {
+    for folder in folders {
+        folder.sync_all()?;
+    }
+    Ok(())
 }
 
 impl Opened {
@@ -171,7 +242,9 @@ impl<R: Files<File = File>> FolderStore<R> {
             root,
             reading: None,
             writing: None,
-            stable: None,
+            found: None,
+            free: None,
+            stable: Vec::new(alloc),
             faults: 0,
         }
     }
@@ -193,21 +266,30 @@ impl<R: Files<File = File>> FolderStore<R> {
     {
         self.reading = None;
         self.writing = None;
+        self.free = None;
         let path = path_of(self.alloc, self.root.as_str(), at)?;
         match fs::metadata(&self.rt, path.as_str()) {
-            Ok(found) if found.is_file() => Ok(Some(found.len())),
+            Ok(found) if found.is_file() => {
+                self.found = Some(path);
+                Ok(Some(found.len()))
+            }
             Ok(_) => failed(io::ErrorKind::IsADirectory),
             Err(error) => match error.kind() {
-                io::ErrorKind::NotFound | io::ErrorKind::NotADirectory => Ok(None),
+                io::ErrorKind::NotFound | io::ErrorKind::NotADirectory => {
+                    self.free = Some(path);
+                    Ok(None)
+                }
                 _ => Err(error),
             },
         }
     }
 
-    // Opens a file that is there.
+    // Opens a file that is there. A pipe would wait for its other end, so it isn't opened.
     fn open(&self, at: PlaceRef<'_>, options: &OpenOptions) -> io::Result<Opened> {
         let path = path_of(self.alloc, self.root.as_str(), at)?;
-        if !fs::metadata(&self.rt, path.as_str())?.is_file() {
+        if !is_path(&self.found, path.as_str())
+            && !fs::metadata(&self.rt, path.as_str())?.is_file()
+        {
             return failed(io::ErrorKind::IsADirectory);
         }
         Opened::new(self.alloc, at, options.open(&self.rt, path.as_str())?)
@@ -216,10 +298,14 @@ impl<R: Files<File = File>> FolderStore<R> {
     fn read(&mut self, at: PlaceRef<'_>, offset: u64, into: &mut [u8]) -> io::Result<usize>
         ensures faults { folder_faults self.new ≡ folder_faults self.old }
         ensures within { IfOk result (λ count. count ≤ length into.new) }
+        ensures outside { stays_inside (place_at at.entry) ≡ false → IsErr result }
     {
+        if !stays_inside(at) {
+            return failed(io::ErrorKind::InvalidInput);
+        }
         if let Some(opened) = &self.writing {
             if opened.is_at(at) {
-                return opened.file.read_at(into, offset);
+                return read_some(&opened.file, offset, into);
             }
         }
         if !is_at(&self.reading, at) {
@@ -227,7 +313,7 @@ impl<R: Files<File = File>> FolderStore<R> {
             self.reading = Some(self.open(at, OpenOptions::new().read(true))?);
         }
         match &self.reading {
-            Some(opened) => opened.file.read_at(into, offset),
+            Some(opened) => read_some(&opened.file, offset, into),
             None => failed(io::ErrorKind::NotFound),
         }
     }
@@ -239,26 +325,27 @@ impl<R: Files<File = File>> FolderStore<R> {
         self.writing = None;
         self.let_go(at);
         let path = path_of(self.alloc, self.root.as_str(), at)?;
-        make_folder_of(&self.rt, path.as_str())?;
-        let file = OpenOptions::new()
-            .read(true)
-            .write(true)
-            .create(true)
-            .truncate(true)
-            .open(&self.rt, path.as_str())?;
+        let file = create_anew(&self.rt, path.as_str())?;
         self.writing = Some(Opened::new(self.alloc, at, file)?);
         Ok(())
     }
 
     fn write(&mut self, at: PlaceRef<'_>, bytes: &[u8]) -> io::Result<()>
-        ensures { folder_faults self.new ≡ folder_faults self.old }
+        ensures faults { folder_faults self.new ≡ folder_faults self.old }
+        ensures outside { stays_inside (place_at at.entry) ≡ false → IsErr result }
     {
+        if !stays_inside(at) {
+            return failed(io::ErrorKind::InvalidInput);
+        }
         if !is_at(&self.writing, at) {
             self.writing = None;
             self.writing = Some(self.open(at, OpenOptions::new().read(true).append(true))?);
         }
         match &mut self.writing {
-            Some(opened) => opened.file.write_all(bytes),
+            Some(opened) => {
+                let answer = opened.file.write_all(bytes);
+                unless_full(&opened.file, answer)
+            }
             None => failed(io::ErrorKind::NotFound),
         }
     }
@@ -268,28 +355,14 @@ impl<R: Files<File = File>> FolderStore<R> {
         ensures { folder_faults self.new ≡ folder_faults self.old }
     {
         match &self.writing {
-            Some(opened) if opened.is_at(at) => opened.file.sync_data(),
+            Some(opened) if opened.is_at(at) => {
+                unless_full(&opened.file, opened.file.sync_data())
+            }
             _ => self
                 .open(at, OpenOptions::new().read(true))?
                 .file
                 .sync_data(),
         }
-    }
-
-    // The names of a folder, and those above it where that isn't known yet, are stable at `Ok`.
-    fn settle(&mut self, folder: &str) -> io::Result<()>
-        ensures { folder_faults self.new ≡ folder_faults self.old }
-    {
-        sync_folder(&self.rt, folder)?;
-        let is_stable = match &self.stable {
-            Some(stable) => stable.as_str() == folder,
-            None => false,
-        };
-        if !is_stable {
-            sync_above(&self.rt, self.root.as_str(), folder)?;
-            self.stable = Some(String::from_str(self.alloc, folder)?);
-        }
-        Ok(())
     }
 
     fn shift(&mut self, from: PlaceRef<'_>, to: PlaceRef<'_>) -> io::Result<()>
@@ -301,9 +374,24 @@ impl<R: Files<File = File>> FolderStore<R> {
         self.sync(from)?;
         self.reading = None;
         self.writing = None;
-        make_folder_of(&self.rt, new.as_str())?;
-        fs::rename(&self.rt, old.as_str(), new.as_str())?;
-        self.settle(folder_of(new.as_str()))
+        self.found = None;
+        let folder = folder_of(new.as_str());
+        let mut folders = Vec::new(self.alloc);
+        folders.push(open_folder(&self.rt, &mut self.stable, folder)?)?;
+        open_above(
+            &self.rt,
+            self.root.as_str(),
+            &self.stable,
+            folder,
+            &mut folders,
+        )?;
+        if is_path(&self.free, new.as_str()) {
+            move_to_free(&self.rt, old.as_str(), new.as_str())?;
+        } else {
+            fs::rename(&self.rt, old.as_str(), new.as_str())?;
+        }
+        sync_all(&folders)?;
+        remember(self.alloc, &mut self.stable, folder)
     }
 
     fn erase(&mut self, at: PlaceRef<'_>) -> io::Result<()>
@@ -311,20 +399,27 @@ impl<R: Files<File = File>> FolderStore<R> {
         ensures outside { stays_inside (place_at at.entry) ≡ false → IsErr result }
     {
         self.let_go(at);
+        self.found = None;
         let path = path_of(self.alloc, self.root.as_str(), at)?;
         match fs::remove_file(&self.rt, path.as_str()) {
-            Err(error) if error.kind() == io::ErrorKind::NotFound => Ok(()),
-            answer => answer,
+            Err(error) => match error.kind() {
+                io::ErrorKind::NotFound | io::ErrorKind::NotADirectory => Ok(()),
+                _ => Err(error),
+            },
+            Ok(()) => Ok(()),
         }
     }
 }
 
 impl<R: Files<File = File>> Store for FolderStore<R> {
-    ghost use Rattle.std.specs.Prelude.{◌≡◌, ◌⊎◌, false, IsErr};
-    ghost use Rattle.fts_store.specs.Store.{untold, CountsFaults, place_at};
+    ghost use Rattle.std.specs.Prelude.{◌≡◌, ◌⊎◌, ◌≤◌, false, length, None, IfOk, IsErr};
+    ghost use Rattle.fts_tables.specs.Counts.{CountsFaults};
+    ghost use Rattle.fts_store.specs.Store.{untold, place_at};
     ghost use Rattle.fts_store.specs.Folder.{folder_faults, stays_inside};
 
     ghost state = { λ _. untold };
+
+    ghost calls = { λ _. None };
 
     ghost faults = { folder_faults };
 
@@ -341,7 +436,11 @@ impl<R: Files<File = File>> Store for FolderStore<R> {
         at: PlaceRef<'_>,
         offset: u64,
         into: &mut [u8],
-    ) -> Result<usize, StoreFailed> {
+    ) -> Result<usize, StoreFailed>
+        ensures within { IfOk result (λ count. count ≤ length into.new) }
+        ensures cause { CountsFaults (folder_faults self.old) (folder_faults self.new) result }
+        ensures outside { stays_inside (place_at at.entry) ≡ false → IsErr result }
+    {
         let answer = self.read(at, offset, into);
         count(&mut self.faults, answer)
     }
@@ -354,7 +453,10 @@ impl<R: Files<File = File>> Store for FolderStore<R> {
         count(&mut self.faults, answer)
     }
 
-    fn append(&mut self, at: PlaceRef<'_>, bytes: &[u8]) -> Result<(), StoreFailed> {
+    fn append(&mut self, at: PlaceRef<'_>, bytes: &[u8]) -> Result<(), StoreFailed>
+        ensures cause { CountsFaults (folder_faults self.old) (folder_faults self.new) result }
+        ensures outside { stays_inside (place_at at.entry) ≡ false → IsErr result }
+    {
         let answer = self.write(at, bytes);
         count(&mut self.faults, answer)
     }

@@ -5,6 +5,7 @@
 
 mod folder;
 mod held;
+mod inside;
 mod memory;
 mod store;
 #[cfg(test)]

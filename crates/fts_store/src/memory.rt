@@ -5,7 +5,8 @@
 //! For tests of what stands on a store, and for runs that end with their program.
 ghost use Rattle.std.specs.Prelude.{◌≡◌, ◌≤◌, ◌+◌, ◌==◌, if◌then◌else◌, min, length, IsTrue, ◌↔◌, Contains};
 ghost use Rattle.std.specs.List.{list_any};
-ghost use Rattle.fts_store.specs.Store.{CountsFaults, Reads};
+ghost use Rattle.fts_tables.specs.Counts.{CountsFaults};
+ghost use Rattle.fts_store.specs.Store.{Reads};
 ghost use Rattle.fts_store.specs.Memory.{but_last};
 
 use crate::held::{Held, StoredFile};
@@ -28,7 +29,7 @@ impl MemoryStore {
     ghost use Rattle.std.specs.Prelude.{◌≡◌};
     ghost use Rattle.fts_store.specs.Store.{Same, place_at};
     ghost use Rattle.fts_store.specs.Held.{given_at};
-    ghost use Rattle.fts_store.specs.Memory.{memory_state, failing_calls, losing_appends, calls_made, appends_made};
+    ghost use Rattle.fts_store.specs.Memory.{memory_state, memory_faults, failing_calls, losing_appends, calls_made, appends_made};
 
     /// A store of these files, whose n-th call, from 1, fails where n is in `fail`, and whose n-th append loses its last byte where n is in
     /// `drop`. Where two files have one place, the first is there.
@@ -43,6 +44,7 @@ impl MemoryStore {
         ensures loses { losing_appends result ≡ drop.items }
         ensures calls { calls_made result ≡ 0 }
         ensures appends { appends_made result ≡ 0 }
+        ensures faults { memory_faults result ≡ 0 }
     {
         let held = Held {
             alloc,
@@ -109,8 +111,8 @@ fn read(bytes: &[u8], offset: u64, into: &mut [u8]) -> usize
 
 impl MemoryStore {
     ghost use Rattle.std.specs.Prelude.{◌≡◌};
-    ghost use Rattle.fts_store.specs.Store.{CountsFaults};
-    ghost use Rattle.fts_store.specs.Memory.{memory_state, memory_faults, Numbered};
+    ghost use Rattle.fts_tables.specs.Counts.{CountsFaults};
+    ghost use Rattle.fts_store.specs.Memory.{memory_state, memory_faults, FailsOnlyListed, Numbered};
 
     // Gives a call its number. One that is listed fails, and is counted.
     fn begin(&mut self) -> Result<(), StoreFailed>
@@ -119,6 +121,7 @@ impl MemoryStore {
         ensures same { memory_state self.new ≡ memory_state self.old }
         ensures cause { CountsFaults (memory_faults self.old) (memory_faults self.new) result }
         ensures numbered { Numbered self.old self.new result }
+        ensures only { FailsOnlyListed self.old result }
     {
         if is_listed(&mut self.number, &self.fail) {
             count(&mut self.faults, Err(StoreFailed))
@@ -130,10 +133,13 @@ impl MemoryStore {
 
 impl Store for MemoryStore {
     ghost use Rattle.std.specs.Prelude.{◌≡◌, ◌≤◌, ◌++◌, [], length, Some, None, IsSome, IfOk, OnOk, OnErr};
-    ghost use Rattle.fts_store.specs.Store.{CountsFaults, IsFaithful, Stays, Reads, Same, SameBut, place_at, bytes_of, size_of, with_file, with_move};
-    ghost use Rattle.fts_store.specs.Memory.{memory_state, memory_faults, Numbered, kept_bytes, next_append};
+    ghost use Rattle.fts_tables.specs.Counts.{CountsFaults};
+    ghost use Rattle.fts_store.specs.Store.{IsFaithful, Stays, Reads, Same, SameBut, place_at, bytes_of, size_of, with_file, with_move};
+    ghost use Rattle.fts_store.specs.Memory.{memory_state, memory_faults, FailsOnlyListed, Numbered, kept_bytes, next_append};
 
     ghost state = { memory_state };
+
+    ghost calls = { λ _. None };
 
     ghost faults = { memory_faults };
 
@@ -142,6 +148,7 @@ impl Store for MemoryStore {
         ensures size { IfOk result (λ size. size ≡ size_of ((memory_state self.old).files (place_at at.entry))) }
         ensures cause { CountsFaults (memory_faults self.old) (memory_faults self.new) result }
         ensures numbered { Numbered self.old self.new result }
+        ensures only { FailsOnlyListed self.old result }
     {
         self.begin()?;
         Ok(self.held.file(at).map(|bytes| bytes.len() as u64))
@@ -158,6 +165,7 @@ impl Store for MemoryStore {
         ensures bytes { IfOk result (λ count. Reads (bytes_of ((memory_state self.old).files (place_at at.entry))) offset into.new count) }
         ensures cause { CountsFaults (memory_faults self.old) (memory_faults self.new) result }
         ensures numbered { Numbered self.old self.new result }
+        ensures only { FailsOnlyListed self.old result }
     {
         self.begin()?;
         Ok(read(self.held.file(at).unwrap_or(&[]), offset, into))

@@ -3,6 +3,7 @@ use crate::{FolderStore, MemoryStore, Store, StoreFailed, StoredFile};
 use fts_tables::{EndpointName, Items, Memory, PathKey, Place, PlaceRef};
 use std::alloc::Global;
 use std::fs;
+use std::os::unix::fs::symlink;
 use std::test::Fail;
 
 const ENDPOINT: &str = "https://b.example:8443";
@@ -122,6 +123,7 @@ fn a_folder_refuses_what_is_no_file_of_its_own(rt: HostRuntime) -> Result<(), Fa
     let root = "grid-of-a-refusal";
     let _old = fs::remove_dir_all(&rt, root);
     let mut store = FolderStore::new(rt, alloc, String::from_str(alloc, root)?);
+    let mut into = [0; 4];
     assert_eq!(rt; store.create(at("a/file")), Ok(()));
     for (case, path, size) in [
         ("a folder is there", "a", Err(StoreFailed)),
@@ -134,6 +136,18 @@ fn a_folder_refuses_what_is_no_file_of_its_own(rt: HostRuntime) -> Result<(), Fa
         assert_eq!(rt; store.size(at(path)), size, "{case}");
         if path != "b" {
             assert_eq!(rt; store.create(at(path)), Err(StoreFailed), "{case}");
+            assert_eq!(rt; store.append(at(path), b"x"), Err(StoreFailed), "{case}");
+            assert_eq!(rt;
+                store.read_at(at(path), 0, &mut into),
+                Err(StoreFailed),
+                "{case}"
+            );
+            let removed = if path == "a/file/b" {
+                Ok(())
+            } else {
+                Err(StoreFailed)
+            };
+            assert_eq!(rt; store.remove(at(path)), removed, "{case}");
             assert_eq!(rt;
                 store.rename(at("a/file"), at(path)),
                 Err(StoreFailed),
@@ -152,6 +166,54 @@ fn a_folder_refuses_what_is_no_file_of_its_own(rt: HostRuntime) -> Result<(), Fa
         Err(StoreFailed),
         "nothing is there"
     );
+    fs::remove_dir_all(&rt, root)?;
+    Ok(())
+}
+
+#[test]
+fn a_part_is_made_anew_and_replaces_what_was_looked_at_alone(rt: HostRuntime) -> Result<(), Fail> {
+    let alloc = rt.alloc();
+    let root = "grid-of-a-part";
+    let _old = fs::remove_dir_all(&rt, root);
+    fs::create_dir_all(&rt, "grid-of-a-part/https:,,b.example:8443/.fts")?;
+    fs::write(&rt, "grid-of-a-part/outside", "kept")?;
+    symlink(
+        &rt,
+        "../../outside",
+        "grid-of-a-part/https:,,b.example:8443/.fts/part-1",
+    )?;
+    let mut store = FolderStore::new(rt, alloc, String::from_str(alloc, root)?);
+    let held = "grid-of-a-part/https:,,b.example:8443/d";
+    for (case, there, want, bytes) in [
+        ("nothing was there, and nothing is", "", Ok(()), "abcd"),
+        (
+            "nothing was there, and a file is now",
+            "other",
+            Err(StoreFailed),
+            "other",
+        ),
+    ] {
+        let _old = fs::remove_file(&rt, held);
+        assert_eq!(rt; store.create(at(".fts/part-1")), Ok(()), "{case}");
+        assert_eq!(rt; store.append(at(".fts/part-1"), b"abcd"), Ok(()), "{case}");
+        assert_eq!(rt; store.size(at("d")), Ok(None), "{case}");
+        if !there.is_empty() {
+            fs::write(&rt, held, there)?;
+        }
+        assert_eq!(rt; store.rename(at(".fts/part-1"), at("d")), want, "{case}");
+        assert_eq!(rt; fs::read(&rt, held)?.as_slice(), bytes.as_bytes(), "{case}");
+    }
+    assert_eq!(rt;
+        fs::read(&rt, "grid-of-a-part/outside")?.as_slice(),
+        b"kept".as_slice()
+    );
+    assert_eq!(rt; store.size(at("d")), Ok(Some(5)));
+    assert_eq!(rt;
+        store.rename(at(".fts/part-1"), at("d")),
+        Ok(()),
+        "a file that was seen is replaced"
+    );
+    assert_eq!(rt; store.size(at("d")), Ok(Some(4)));
     fs::remove_dir_all(&rt, root)?;
     Ok(())
 }

@@ -1,5 +1,4 @@
 use Rattle.std.proofs.Common.{◌≡◌, length, sym, arith}
-use Rattle.fts_copy.specs.Differences.{first_difference}
 use Rattle.fts_copy.proofs.Differing.{differs_at, shorter_ends, all_shared, one_of_two}
 use Rattle.fts_copy.proofs.differences.first_difference.Goals as goal
 

@@ -1,4 +1,4 @@
-use Rattle.std.proofs.Common.{◌<◌, ◌≤◌, List, ℕ, length, subst, sym, arith, lit<}
+use Rattle.std.proofs.Common.{◌≤◌, List, ℕ, length, subst, sym, arith, lit<}
 use Rattle.fts_copy.specs.Copy.{HasSegments}
 use Rattle.fts_copy.proofs.Parts.{part_path_short, key_has_segments}
 use Rattle.fts_copy.proofs.order.Loaded.of.Goals as goal

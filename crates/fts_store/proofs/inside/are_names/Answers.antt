@@ -4,7 +4,7 @@ use Rattle.std.specs.Prelude.{◌==◌}
 use Rattle.std.proofs.lemmas.Iterator.Search.{all_from_yields_List}
 use Rattle.std.proofs.lemmas.Iterator.Splits.{YieldsList-from_slice_split}
 use Rattle.fts_store.specs.Folder.{is_name}
-use Rattle.fts_store.proofs.folder.are_names.Goals as goal
+use Rattle.fts_store.proofs.inside.are_names.Goals as goal
 
 -- the chain goes over the parts of the split, and tests each
 pub returns : goal.returns
