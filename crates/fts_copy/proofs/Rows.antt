@@ -42,6 +42,6 @@ called_off = inl (Some 3, inl (None, inl (inr (refl, refl))))
 -- a part of an empty file that has a byte
 longer : Plays (copy_of row) (told [] [])
     (told (Sized row.source (Some (Some 0)) ∷ Sized row.dest (Some None) ∷ Created (part_of row) (Some tt) ∷ Read row.source 0 1 (Some []) ∷ Read (part_of row) 0 1 (Some (97 ∷ []))
-        ∷ []) []) (ReadBackDiffers 0)
+    ∷ []) []) (ReadBackDiffers 0)
 unfolding copy_of looks looks_at is_free fits transfers writes_part writes digests reads_back matches ends_there reads_behind reads_piece reads_on Plays
 longer = inl (Some 0, inl (None, inl (inl ([], inl (97 ∷ [], (refl, refl))))))

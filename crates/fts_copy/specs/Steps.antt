@@ -39,11 +39,13 @@ pub record ReadsMore (bytes : List ℕ) (offset : ℕ) (old new : List ℕ) (fro
 -- the checks before anything is made
 abbrev pub IsLook : Order → StoreState → Result ℕ Outcome → Type 0
 IsLook order store (Ok size) = IsTold store
-    → (length (source_bytes order store) ≡ size) × IsSome (store.files order.source) × (is_in_the_way order store.files ≡ false) × (is_other_size order.size size ≡ false)
+    → (length (source_bytes order store) ≡ size) × IsSome (store.files order.source)
+    × (is_in_the_way order store.files ≡ false) × (is_other_size order.size size ≡ false)
 IsLook order store (Err SourceMissing) = IsTold store → store.files order.source ≡ None
 IsLook order store (Err DestinationExists) = IsTold store → IsSome (store.files order.source) × (is_in_the_way order store.files ≡ true)
 IsLook order store (Err (SourceSize seen)) = IsTold store
-    → (length (source_bytes order store) ≡ seen) × IsSome (store.files order.source) × (is_in_the_way order store.files ≡ false) × (is_other_size order.size seen ≡ true)
+    → (length (source_bytes order store) ≡ seen) × IsSome (store.files order.source)
+    × (is_in_the_way order store.files ≡ false) × (is_other_size order.size seen ≡ true)
 IsLook order store (Err StoreFailed) = Unit {0}
 IsLook order store (Err Stopped) = ⊥
 IsLook order store (Err (SourceDigest seen)) = ⊥

@@ -131,7 +131,8 @@ fn own(
 fn exchange(made: &mut Vec<Entry>, n: usize, file: Option<Vec<u8>>) -> Option<Vec<u8>>
     requires { n < length made.old.items }
     ensures given { (files : _) (place : Place) → IsEntryOf made.old.items n place → kept_file result ≡ files_over files made.old.items place }
-    ensures put { (files : _) (place : Place) → IsEntryOf made.old.items n place → Same (files_over files made.new.items) (with_file (files_over files made.old.items) place (kept_file file)) }
+    ensures put { (files : _) (place : Place) → IsEntryOf made.old.items n place
+        → Same (files_over files made.new.items) (with_file (files_over files made.old.items) place (kept_file file)) }
     ensures stay { (place : Place) → position (is_entry_at place) made.new.items ≡ position (is_entry_at place) made.old.items }
 {
     mem::replace(&mut made[n].file, file)
