@@ -2,6 +2,7 @@
 //! The stand `-` alone is built: its settings are a text in memory. For another one, and where a word is no UTF-8, `run` gets an empty list of
 //! words, which is no command. Both decisions stand in `specs/CommandLine.antt`.
 #![tactic(auto)]
+
 ghost use Rattle.std.specs.Prelude.{◌≡◌};
 ghost use Rattle.fts.specs.CommandLine.{words_of, exit_status_of};
 
@@ -41,13 +42,7 @@ fn command_words(line: &[String]) -> &[String]
     ensures { result.now ≡ words_of line.now }
 {
     match line {
-        [_, stand, words @ ..] => {
-            if stand.as_str() == "-" {
-                words
-            } else {
-                &[]
-            }
-        }
+        [_, stand, words @ ..] => { if stand.as_str() == "-" { words } else { &[] } }
         _ => &[],
     }
 }
