@@ -1,0 +1,88 @@
+-- The loop over the bodies of a journal: one entry more, a fault, and the end.
+use Rattle.std.proofs.Common.{◌≡◌, refl, ap, sym, ◌∙◌, subst, ℕ, zero, suc, ◌+◌, ◌≤◌, ◌<◌, List, [], ◌∷◌, ◌++◌, length, take, drop, slice_get, Option, Some, None, Result, Ok, Err, All, arith, add-one}
+use Rattle.std.proofs.lemmas.List.{length-append}
+use Rattle.std.proofs.lemmas.List.Elements.{All-nil, All-push}
+use Rattle.fts_tables.specs.Tables.{Tables, empty_tables}
+use Rattle.fts_tables.specs.Step.{Outcomes, step}
+use Rattle.fts_tables.specs.History.{tables_of, tables_after, IsAccepted, IsLegal}
+use Rattle.fts_tables.specs.declared.commands.Entry.{Entry}
+use Rattle.fts_tables.specs.declared.commands.Answer.{Answer}
+use Rattle.fts_record.specs.Spelling.{spelled}
+use Rattle.fts_record.specs.Proper.{IsProper}
+use Rattle.fts_record.specs.Reading.{entry_in}
+use Rattle.fts_disk.specs.Disk.{DiskState, IsTold, IsLawful, LeavesOnly}
+use Rattle.fts_journal.specs.Journal.{JournalData, Keeps}
+use Rattle.fts_keep.specs.Keeps.{bodies_of}
+use Rattle.fts_keep.specs.Damage.{fault_behind, fault_at, fault_from, fault_in}
+use Rattle.fts_keep.specs.Folding.{TakesEntry, LeavesJournal, HasFolded, Folds}
+use Rattle.fts_keep.proofs.Lists.{tables_from-append, legal_more, bodies_more}
+use Rattle.fts_keep.proofs.Moments.{same_still, more_still}
+
+-- the items from a place on
+drop_at_place : {A : Type 0} (items : List A) (n : ℕ) (item : A) → slice_get items n ≡ Some item → drop n items ≡ item ∷ drop (suc n) items
+drop_at_place [] n item is = absurd cc
+drop_at_place (first ∷ items) zero item is = let same : first ≡ item = cc in ap (λ x. x ∷ items) same
+drop_at_place (first ∷ items) (suc n) item is = drop_at_place items n item is
+
+-- the items up to a place
+take_at_place : {A : Type 0} (items : List A) (n : ℕ) (item : A) → slice_get items n ≡ Some item → take (suc n) items ≡ take n items ++ item ∷ []
+take_at_place [] n item is = absurd cc
+take_at_place (first ∷ items) zero item is = let same : first ≡ item = cc in ap (λ x. x ∷ []) same
+take_at_place (first ∷ items) (suc n) item is = ap (λ rest. first ∷ rest) (take_at_place items n item is)
+
+-- none of no items
+take_none : {A : Type 0} (n : ℕ) → take {A = A} n [] ≡ []
+take_none zero = refl
+take_none (suc n) = refl
+
+-- all items
+pub take_all : {A : Type 0} (items : List A) (n : ℕ) → length items ≡ n → take n items ≡ items
+take_all [] n is = take_none n
+take_all (item ∷ items) zero is = absurd (omega (arith, is))
+take_all (item ∷ items) (suc n) is = ap (λ rest. item ∷ rest) (take_all items n (omega (arith, is)))
+
+-- a step that was done is accepted, and leaves its tables
+step_done : (before after : Tables) (answer : Answer) (came : Outcomes) → came ≡ Ok (after, answer) → IsAccepted came × (tables_after before came ≡ after)
+step_done before after answer (Ok done) is = (tt, ap (λ (d : Tables × Answer). d.0) (let same : done ≡ (after, answer) = cc in same))
+step_done before after answer (Err refusal) is = absurd cc
+
+module _ {D : Type 0} (state : D → DiskState) (journal : JournalData D) where
+  -- nothing was folded yet
+  pub folded_none : HasFolded state journal empty_tables 8 0
+  folded_none = record {
+    entries = [];
+    folded = refl;
+    legal = tt;
+    counted = refl;
+    proper = All-nil IsProper;
+    spells = λ told. refl;
+    behind = λ told. refl;
+  }
+
+  -- one entry more
+  pub folded_more : (tables after : Tables) (gate n : ℕ) (body : List ℕ) → HasFolded state journal tables gate n → TakesEntry tables body after
+      → (IsTold (state journal.disk) → slice_get journal.bodies n ≡ Some body) → HasFolded state journal after (gate + 5 + length body) (n + 1)
+  folded_more tables after gate n body so_far takes here =
+      let done = step_done tables after takes.answer (step tables takes.entry.command) takes.stepped in
+      record {
+        entries = so_far.entries ++ takes.entry ∷ [];
+        folded = sym done.1 ∙ ap (λ t. tables_after t (step t takes.entry.command)) so_far.folded ∙ sym (tables_from-append empty_tables so_far.entries (takes.entry ∷ []));
+        legal = legal_more empty_tables so_far.entries takes.entry so_far.legal (subst (λ t. IsAccepted (step t takes.entry.command)) so_far.folded done.0);
+        counted = omega (arith, so_far.counted, length-append so_far.entries (takes.entry ∷ []));
+        proper = All-push IsProper so_far.entries takes.entry so_far.proper takes.proper;
+        spells = λ told. ap (λ k. take k journal.bodies) (add-one n) ∙ take_at_place journal.bodies n body (here told) ∙ ap (λ b. b ++ body ∷ []) (so_far.spells told)
+            ∙ ap (λ x. bodies_of so_far.entries ++ x ∷ []) takes.spells ∙ sym (bodies_more so_far.entries takes.entry);
+        behind = λ told. so_far.behind told
+            ∙ ap (λ rest. fault_from tables gate rest) (drop_at_place journal.bodies n body (here told))
+            ∙ ap (λ read. fault_at tables gate read (λ next. fault_from next (gate + 5 + length body) (drop (suc n) journal.bodies))) takes.read
+            ∙ ap (λ came. fault_behind gate came (λ next. fault_from next (gate + 5 + length body) (drop (suc n) journal.bodies))) takes.stepped
+            ∙ ap (λ k. fault_from after (gate + 5 + length body) (drop k journal.bodies)) (sym (add-one n));
+      }
+
+  -- a fault that a body is, whatever follows, is the first of all
+  pub folded_fault : (tables : Tables) (gate n offset : ℕ) (body : List ℕ) → HasFolded state journal tables gate n → ((later : Tables → Option ℕ) → fault_at tables gate (entry_in body) later ≡ Some offset)
+      → IsTold (state journal.disk) → slice_get journal.bodies n ≡ Some body → fault_in journal.bodies ≡ Some offset
+  folded_fault tables gate n offset body so_far fault told here =
+      so_far.behind told
+      ∙ ap (λ rest. fault_from tables gate rest) (drop_at_place journal.bodies n body here)
+      ∙ fault (λ next. fault_from next (gate + 5 + length body) (drop (suc n) journal.bodies))

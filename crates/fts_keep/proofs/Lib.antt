@@ -1,0 +1,8 @@
+pub mod Moments
+pub mod Lists
+pub mod Tying
+pub mod Exits
+pub mod Damaged
+pub mod Folded
+pub mod Settled
+pub mod Starting

@@ -1,0 +1,81 @@
+-- What folding the bodies of a journal comes to, one body after the other: the list so far, or the first fault.
+use Rattle.std.specs.Prelude.{◌≡◌, ℕ, ◌+◌, ◌*◌, ◌≤◌, ◌<◌, Option, Some, None, List, length, take, drop, Result, Ok, Err, All}
+use Rattle.fts_tables.specs.Counts.{Rose}
+use Rattle.fts_tables.specs.Tables.{Tables}
+use Rattle.fts_tables.specs.Step.{step}
+use Rattle.fts_tables.specs.History.{tables_of, IsLegal}
+use Rattle.fts_tables.specs.declared.limits.TheConstants.{MAX_JOURNAL_BYTES}
+use Rattle.fts_tables.specs.declared.commands.Entry.{Entry}
+use Rattle.fts_tables.specs.declared.commands.Answer.{Answer}
+use Rattle.fts_record.specs.Spelling.{spelled}
+use Rattle.fts_record.specs.Proper.{IsProper}
+use Rattle.fts_record.specs.Reading.{entry_in}
+use Rattle.fts_disk.specs.Disk.{DiskState, IsTold, LeavesOnly}
+use Rattle.fts_journal.specs.Format.{used_by}
+use Rattle.fts_journal.specs.Journal.{JournalData}
+use Rattle.fts_keep.specs.Keeps.{bodies_of}
+use Rattle.fts_keep.specs.Damage.{fault_at, fault_from, fault_in}
+use Rattle.fts_keep.specs.Started.{IsStill}
+use Rattle.fts_keep.specs.declared.fault.KeepFault.{KeepFault}
+use Rattle.fts_keep.specs.declared.fault.KeepFault.TheVariants.{Rule, DiskFailed, JournalFull, Damaged, Memory}
+
+-- a body is the spelling of an entry, and this entry leads from the tables before to those after
+pub record TakesEntry (before : Tables) (body : List ℕ) (after : Tables) : Type 0 where
+  pub entry : Entry
+  pub answer : Answer
+  pub spells : body ≡ spelled entry
+  pub proper : IsProper entry
+  pub read : entry_in body ≡ Ok entry
+  pub stepped : step before entry.command ≡ Ok (after, answer)
+
+-- what comes of a body behind the gate at this offset: its entry, or the fault that it is whatever follows
+abbrev pub Takes : Tables → ℕ → List ℕ → Tables → Result (Unit {0}) KeepFault → Type 0
+Takes before gate body after (Ok done) = TakesEntry before body after
+Takes before gate body after (Err (Damaged offset)) = (later : Tables → Option ℕ) → fault_at before gate (entry_in body) later ≡ Some offset
+Takes before gate body after (Err Memory) = Unit {0}
+Takes before gate body after (Err DiskFailed) = ⊥
+Takes before gate body after (Err (JournalFull used)) = ⊥
+Takes before gate body after (Err (Rule refusal)) = ⊥
+
+-- a reading of bodies leaves the journal as it was
+pub record LeavesJournal {D : Type 0} (state : D → DiskState) (faults : D → ℕ) (old new : JournalData D) : Type 0 where
+  pub count : new.count ≡ old.count
+  pub used : new.used ≡ old.used
+  pub in_doubt : new.in_doubt ≡ old.in_doubt
+  pub told : (state new.disk).told ≡ (state old.disk).told
+  pub counts : faults old.disk ≤ faults new.disk
+  pub bodies : IsTold (state old.disk) → new.bodies ≡ old.bodies
+  pub doubt : IsTold (state old.disk) → new.doubt ≡ old.doubt
+  pub still : IsTold (state old.disk) → IsStill (state old.disk) (state new.disk)
+
+-- so many bodies were folded: the tables are those of a legal list; where the disk tells its contents its bodies begin with the spellings of
+-- this list, and the first fault is one of the bodies that follow
+pub record HasFolded {D : Type 0} (state : D → DiskState) (journal : JournalData D) (tables : Tables) (gate n : ℕ) : Type 0 where
+  pub entries : List Entry
+  pub folded : tables ≡ tables_of entries
+  pub legal : IsLegal entries
+  pub counted : n ≡ length entries
+  pub proper : All IsProper entries
+  pub spells : IsTold (state journal.disk) → take n journal.bodies ≡ bodies_of entries
+  pub behind : IsTold (state journal.disk) → fault_in journal.bodies ≡ fault_from tables gate (drop n journal.bodies)
+
+-- all bodies were folded, of a journal whose bytes are in their bounds
+pub record Folds {D : Type 0} (state : D → DiskState) (journal : JournalData D) (tables : Tables) (commands : ℕ) : Type 0 where
+  pub entries : List Entry
+  pub folded : tables ≡ tables_of entries
+  pub legal : IsLegal entries
+  pub counted : commands ≡ length entries
+  pub all : commands ≡ journal.count
+  pub low : 8 + 6 * journal.count ≤ journal.used
+  pub high : journal.used < MAX_JOURNAL_BYTES
+  pub fills : IsTold (state journal.disk) → journal.used ≡ used_by journal.bodies
+  pub proper : All IsProper entries
+  pub spells : IsTold (state journal.disk) → journal.bodies ≡ bodies_of entries
+
+-- why they weren't
+abbrev pub FoldFault : {D : Type 0} → (D → DiskState) → (D → ℕ) → JournalData D → JournalData D → KeepFault → Type 0
+FoldFault state faults old new (Damaged offset) = IsTold (state old.disk) → fault_in old.bodies ≡ Some offset
+FoldFault state faults old new DiskFailed = Rose (faults old.disk) (faults new.disk)
+FoldFault state faults old new Memory = Unit {0}
+FoldFault state faults old new (JournalFull used) = ⊥
+FoldFault state faults old new (Rule refusal) = ⊥

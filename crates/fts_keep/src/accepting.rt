@@ -1,0 +1,38 @@
+//! One entry: checked, journaled, and only then done.
+//! Order: the checks, which write nothing (`check`); `settle`, which ends an old doubt; `append`, which is stable at its `Ok`; `commit`, which
+//! can't fail. So what is refused was never written, and what was written is done.
+//! Keeps: the tables are the fold of the journal's list (`IsTied`). Called by `Keep::apply`, and by `Keep::start` for its Restart.
+ghost use Rattle.std.specs.Prelude.{◌≤◌, IsTrue};
+ghost use Rattle.fts_record.specs.Proper.{has_priority};
+ghost use Rattle.fts_keep.specs.Views.{keep_of, IsTied};
+ghost use Rattle.fts_keep.specs.Applied.{Applied, AppliesSafely};
+
+use crate::KeepFault;
+use crate::checking::check;
+use fts_desk::Desk;
+use fts_disk::Disk;
+use fts_journal::Journal;
+use fts_record::laws::what_is_spelled_is_read;
+use fts_tables::{Answer, Entry};
+use std::alloc::Global;
+
+/// Tries an entry over a desk and its journal.
+pub fn accept<D: Disk>(
+    alloc: Global,
+    desk: &mut Desk,
+    journal: &mut Journal<D>,
+    entry: &Entry,
+) -> Result<Answer, KeepFault>
+    requires priority { IsTrue (has_priority entry.now.command) }
+    requires tied { IsTied D.state desk.old journal.old }
+    ensures tied { IsTied D.state desk.new journal.new }
+    ensures applied { Applied D.state D.faults (keep_of D.state desk.old journal.old) (keep_of D.state desk.new journal.new) entry.now result }
+    ensures safe { AppliesSafely D.state (keep_of D.state desk.old journal.old) (keep_of D.state desk.new journal.new) entry.now }
+    ensures counts { D.faults journal.old.disk ≤ D.faults journal.new.disk }
+{
+    what_is_spelled_is_read();
+    let (plan, body) = check(alloc, desk, journal.used(), entry)?;
+    journal.settle()?;
+    journal.append(&body)?;
+    Ok(desk.commit(plan))
+}

@@ -1,0 +1,137 @@
+//! The keep: a list of entries on a disk, and the desk that the list makes.
+//! Keeps: the tables are the fold of the list, and every image of a told disk stands for the list, or for it with the entry in doubt (`IsKept`).
+//! Order: a start opens the journal, folds its entries and has a Restart accepted; each command after it is checked, journaled and then done.
+//! Called by the layers that answer requests and copy files. It knows neither.
+ghost use Rattle.std.specs.Prelude.{◌≡◌, IsSome, IfOk, IfErr, IsTrue, Ok, Err};
+ghost use Rattle.fts_record.specs.Proper.{has_priority};
+ghost use Rattle.fts_keep.specs.Applied.{Applied, AppliesSafely, entry_by};
+ghost use Rattle.fts_keep.specs.Started.{Started, Viewed};
+
+use crate::KeepFault;
+use crate::accepting::accept;
+use crate::folding::fold;
+use crate::laws::damage_is_one;
+use crate::opening::open;
+use fts_desk::Desk;
+use fts_disk::Disk;
+use fts_journal::Journal;
+use fts_tables::{Answer, Command, Entry, Settings};
+use std::alloc::Global;
+use std::marker::Model;
+
+/// A list of entries on a disk, and the desk that it makes. Contracts see the list, the entry in doubt or none, the tables, the number of bytes
+/// used, and the disk; over a disk that doesn't tell its contents they see the list empty, and the rest all the same.
+#[derive(Drop)]
+pub struct Keep<D: Disk> {
+    alloc: Global,
+    desk: Desk,
+    journal: Journal<D>,
+}
+
+impl<D: Disk> Model for Keep<D> {
+    ghost use Rattle.fts_keep.specs.Keeps.{KeepData};
+    ghost use Rattle.fts_keep.specs.Views.{keep_of, IsKept};
+
+    ghost Value = { KeepData D };
+
+    ghost view = { λ k. keep_of D.state k.desk k.journal };
+
+    ghost invariant = { λ k. IsKept D.state k.desk k.journal };
+}
+
+impl<D: Disk> Keep<D> {
+    ghost use Rattle.std.specs.Prelude.{◌≡◌, IsSome, IfOk, IfErr, IsTrue, Ok, Err};
+    ghost use Rattle.fts_keep.specs.Keeps.{IsKeep, Grows};
+
+    /// Makes a journal on an empty disk, or folds the one that is there, and then has a Restart of writer 0 accepted.
+    /// `now` is in seconds since 1970. Gives the disk back where it isn't started; `Rule` never comes.
+    pub fn start(
+        alloc: Global,
+        disk: D,
+        settings: Settings,
+        now: u64,
+    ) -> Result<Keep<D>, (KeepFault, D)>
+        ensures ok { IfOk result (λ keep. Started D.state D.faults disk settings now (Ok keep)) }
+        ensures err { IfErr result (λ stopped. Started D.state D.faults disk settings now (Err stopped)) }
+    {
+        damage_is_one();
+        let mut journal = match open(alloc, disk) {
+            Ok(journal) => journal,
+            Err(stopped) => return Err(stopped),
+        };
+        let mut desk = match fold(alloc, &mut journal) {
+            Ok(desk) => desk,
+            Err(fault) => return Err((fault, journal.close())),
+        };
+        let restart = Entry {
+            writer: 0,
+            command: Command::Restart { now, settings },
+        };
+        match accept(alloc, &mut desk, &mut journal, &restart) {
+            Ok(_) => Ok(Keep {
+                alloc,
+                desk,
+                journal,
+            }),
+            Err(fault) => Err((fault, journal.close())),
+        }
+    }
+
+    /// Tries a command of a writer. At `Ok` the tables are the machine's and every crash leaves the command; a refusal leaves list and tables as
+    /// they were. `Rule` comes exactly where the machine refuses, `JournalFull` exactly by the journal's limit; `Damaged` never.
+    /// After `DiskFailed` one entry is in doubt at most, and the next command that passes its checks ends the doubt first.
+    pub fn apply(&mut self, writer: u32, command: Command) -> Result<Answer, KeepFault>
+        requires priority { IsTrue (has_priority command) }
+        ensures applied { Applied D.state D.faults self.old self.new (entry_by writer command) result }
+        ensures safe { AppliesSafely D.state self.old self.new (entry_by writer command) }
+        ensures grows { Grows D.state D.faults writer self.old self.new }
+    {
+        let entry = Entry { writer, command };
+        accept(self.alloc, &mut self.desk, &mut self.journal, &entry)
+    }
+
+    /// The desk that the list makes. It has settings in force.
+    pub fn desk(&self) -> &Desk
+        ensures tables { result.now.tables ≡ self.now.tables }
+        ensures commands { result.now.commands ≡ self.now.commands }
+        ensures settings { IsSome result.now.tables.settings }
+        ensures kept { IsKeep D.state self.now }
+    {
+        &self.desk
+    }
+
+    /// The offset of the journal's last gate, in bytes.
+    pub fn used(&self) -> u64
+        ensures { result ≡ self.now.used }
+    {
+        self.journal.used()
+    }
+
+    /// The disk, given back.
+    pub fn close(self) -> D
+        ensures { result ≡ self.disk }
+    {
+        let Keep {
+            alloc: _,
+            desk: _,
+            journal,
+        } = self;
+        journal.close()
+    }
+
+    /// Folds the journal of a disk without a Restart, and gives the disk back. A disk without a byte is damaged at 0.
+    /// Nothing is written; `Rule` and `JournalFull` never come.
+    pub fn view(alloc: Global, disk: D) -> Result<(Desk, D), (KeepFault, D)>
+        ensures ok { IfOk result (λ viewed. Viewed D.state D.faults disk (Ok (viewed.0.tables, viewed.1))) }
+        ensures err { IfErr result (λ stopped. Viewed D.state D.faults disk (Err stopped)) }
+    {
+        let mut journal = match Journal::load(alloc, disk) {
+            Ok(journal) => journal,
+            Err((fault, disk)) => return Err((fault.into(), disk)),
+        };
+        match fold(alloc, &mut journal) {
+            Ok(desk) => Ok((desk, journal.close())),
+            Err(fault) => Err((fault, journal.close())),
+        }
+    }
+}
