@@ -1,8 +1,8 @@
 //! What is checked before anything is written: the machine's refusals, memory, and the journal's limit.
 //! Order: the desk prepares the command, the entry is spelled, and its bytes are held against what is left of the journal.
 //! Nothing has changed then but what the desk has room for. Called by `accept`.
-ghost use Rattle.std.specs.Prelude.{◌≡◌, ◌<◌, Some, IfOk, OnOk, IsTrue};
-ghost use Rattle.fts_tables.specs.declared.limits.TheConstants.{MAX_JOURNAL_BYTES};
+ghost use Rattle.std.specs.Prelude.{◌≡◌, ◌<◌, ◌≤◌, length, Some, IfOk, OnOk, IsTrue};
+ghost use Rattle.fts_tables.specs.declared.limits.TheConstants.{MAX_JOURNAL_BYTES, MAX_BODY_BYTES};
 ghost use Rattle.fts_record.specs.Spelling.{spelled};
 ghost use Rattle.fts_record.specs.Proper.{IsProper, has_priority};
 ghost use Rattle.fts_keep.specs.Applied.{Checks};
@@ -30,6 +30,7 @@ pub fn check(
     ensures planned { OnOk result (desk.new.planned ≡ Some entry.now.command) }
     ensures body { IfOk result (λ checked. checked.1.items ≡ spelled entry.now) }
     ensures proper { OnOk result (IsProper entry.now) }
+    ensures short { OnOk result (length (spelled entry.now) ≤ MAX_BODY_BYTES) }
 {
     let plan = match desk.prepare(&entry.command) {
         Ok(plan) => plan,
