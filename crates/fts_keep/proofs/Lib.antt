@@ -6,3 +6,4 @@ pub mod Damaged
 pub mod Folded
 pub mod Settled
 pub mod Starting
+pub mod Applying

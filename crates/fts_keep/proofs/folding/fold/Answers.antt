@@ -1,0 +1,82 @@
+-- Each exit of the loop, by the lemmas of `Folded`.
+use Rattle.std.proofs.Common.{◌≡◌, ◌∙◌, refl, ap, sym, subst, ◌+◌, ◌≤◌, slice_get, Some, length, rules, arith}
+use Rattle.fts_disk.specs.Disk.{IsTold}
+use Rattle.fts_keep.specs.Faults.{fault_of}
+use Rattle.fts_keep.specs.Folding.{HasFolded, FoldFault}
+use Rattle.fts_keep.proofs.Folded.{folded_none, folded_more, leaves_none, leaves_more, read_fault, take_fault, on_err, take_all}
+use Rattle.fts_keep.proofs.folding.fold.Goals as goal
+
+pub loop-n-init : goal.loop-n-init
+loop-n-init g c = record {
+  leaves = leaves_none g.D.Disk.state g.D.Disk.faults g.met.D.Disk.lawful c.args.journal.now;
+  folded = subst (λ t. HasFolded g.D.Disk.state c.args.journal.now t 8 0) (sym c.empty-desk.ensures.tables) (folded_none g.D.Disk.state c.args.journal.now);
+  commands = c.empty-desk.ensures.commands;
+  low = omega arith;
+}
+
+pub body-requires : goal.body-requires
+body-requires g c = omega (arith, c.loop-n.invariant.leaves.count, c.count-n-end.ensures.count, c.loop-n-test.true)
+
+pub returns-in_err-body-clause-leaves : goal.returns-in_err-body-clause-leaves
+returns-in_err-body-clause-leaves g c = leaves_more g.D.Disk.state g.D.Disk.faults g.met.D.Disk.lawful c.args.journal.now c.loop-n.journal c.body.new.self
+    c.loop-n.invariant.leaves c.body.ensures.told c.body.ensures.kept c.body.ensures.counts c.body.ensures.keeps c.body.ensures.doubt
+
+pub returns-in_err-body-clause-fault : goal.returns-in_err-body-clause-fault
+returns-in_err-body-clause-fault g c = on_err c.from_residual.result (fault_of c.in_err-body.field-0.0) (FoldFault g.D.Disk.state g.D.Disk.faults c.args.journal.now c.body.new.self)
+    c.from_residual.ensures.1
+    (read_fault g.D.Disk.state g.D.Disk.faults c.args.journal.now c.loop-n.journal c.body.new.self c.loop-n.invariant.leaves.counts c.in_err-body.field-0.0 c.in_err-body.ensures.disk_failed c.in_err-body.ensures.others)
+
+pub take_entry-requires-clause-few : goal.take_entry-requires-clause-few
+take_entry-requires-clause-few g c = omega (arith, c.loop-n.invariant.commands, c.count-n-end.ensures.count, c.loop-n-test.true, c.used.ensures.least, c.used.ensures.most)
+
+pub take_entry-requires-clause-low : goal.take_entry-requires-clause-low
+take_entry-requires-clause-low g c = omega (arith, c.loop-n.invariant.low, c.count-n-end.ensures.count, c.loop-n-test.true, c.used.ensures.least, c.used.ensures.most)
+
+pub returns-in_err-take_entry-clause-leaves : goal.returns-in_err-take_entry-clause-leaves
+returns-in_err-take_entry-clause-leaves g c = leaves_more g.D.Disk.state g.D.Disk.faults g.met.D.Disk.lawful c.args.journal.now c.loop-n.journal c.body.new.self
+    c.loop-n.invariant.leaves c.body.ensures.told c.body.ensures.kept c.body.ensures.counts c.body.ensures.keeps c.body.ensures.doubt
+
+pub returns-in_err-take_entry-clause-fault : goal.returns-in_err-take_entry-clause-fault
+returns-in_err-take_entry-clause-fault g c = on_err c.from_residual-in_err-take_entry.result c.in_err-take_entry.field-0.0 (FoldFault g.D.Disk.state g.D.Disk.faults c.args.journal.now c.body.new.self)
+    c.from_residual-in_err-take_entry.ensures.1
+    (take_fault g.D.Disk.state g.D.Disk.faults c.args.journal.now c.body.new.self c.loop-n.desk.tables c.take_entry.new.desk.tables c.loop-n.gate c.loop-n.n c.deref.result.now c.loop-n.invariant.folded
+    (λ told. ap (λ b. slice_get b c.loop-n.n) (sym (c.loop-n.invariant.leaves.bodies told)) ∙ c.in_ok-body.ensures.read (c.loop-n.invariant.leaves.told ∙ told) ∙ ap (λ b. Some b) (sym c.deref.ensures.value))
+    c.in_err-take_entry.field-0.0 c.in_err-take_entry.ensures.takes)
+
+pub overflow_add-gate-in-loop-n : goal.overflow_add-gate-in-loop-n
+overflow_add-gate-in-loop-n g c =
+    let short : c.loop-n.gate + (5 + c.len.result) ≤ 100000000000000 = omega (arith, c.loop-n.invariant.low, c.count-n-end.ensures.count, c.loop-n-test.true, c.used.ensures.least, c.used.ensures.most, c.in_ok-take_entry.ensures.short, c.len.ensures, ap length c.deref.ensures.value) in
+    search (rules, short)
+
+pub loop-n-preserved : goal.loop-n-preserved
+loop-n-preserved g c =
+    let long : c.loop-n.gate + 5 + length c.deref.result.now ≡ c.loop-n.gate + (5 + c.len.result) = omega (arith, c.len.ensures, ap length c.deref.ensures.value) in
+    record {
+      leaves = leaves_more g.D.Disk.state g.D.Disk.faults g.met.D.Disk.lawful c.args.journal.now c.loop-n.journal c.body.new.self
+          c.loop-n.invariant.leaves c.body.ensures.told c.body.ensures.kept c.body.ensures.counts c.body.ensures.keeps c.body.ensures.doubt;
+      folded = subst (λ k. HasFolded g.D.Disk.state c.args.journal.now c.take_entry.new.desk.tables k (c.loop-n.n + 1)) long
+          (folded_more g.D.Disk.state c.args.journal.now c.loop-n.desk.tables c.take_entry.new.desk.tables c.loop-n.gate c.loop-n.n c.deref.result.now c.loop-n.invariant.folded c.in_ok-take_entry.ensures.takes
+          (λ told. ap (λ b. slice_get b c.loop-n.n) (sym (c.loop-n.invariant.leaves.bodies told)) ∙ c.in_ok-body.ensures.read (c.loop-n.invariant.leaves.told ∙ told) ∙ ap (λ b. Some b) (sym c.deref.ensures.value)));
+      commands = omega (arith, c.in_ok-take_entry.ensures.commands, c.loop-n.invariant.commands);
+      low = omega (arith, c.loop-n.invariant.low, c.in_ok-take_entry.ensures.short, long);
+    }
+
+pub returns-clause-leaves : goal.returns-clause-leaves
+returns-clause-leaves g c = c.loop-n.invariant.leaves
+
+pub returns-clause-folded : goal.returns-clause-folded
+returns-clause-folded g c =
+    let folded = c.loop-n.invariant.folded in
+    let all : c.loop-n.n ≡ c.count-n-end.result = omega (arith, c.loop-n.auto.n-end, c.loop-n-test.false) in
+    record {
+      entries = folded.entries;
+      folded = folded.folded;
+      legal = folded.legal;
+      counted = c.loop-n.invariant.commands ∙ folded.counted;
+      all = c.loop-n.invariant.commands ∙ all ∙ c.count-n-end.ensures.count;
+      low = omega (arith, c.used.ensures.least, c.used.ensures.used);
+      high = omega (arith, c.used.ensures.most, c.used.ensures.used);
+      fills = λ told. sym c.used.ensures.used ∙ c.used.ensures.offset told;
+      proper = folded.proper;
+      spells = λ told. sym (take_all c.args.journal.now.bodies c.loop-n.n (c.count-n-end.ensures.told told ∙ sym all)) ∙ folded.spells told;
+    }
