@@ -21,14 +21,15 @@ use Rattle.fts_keep.proofs.Moments.{weakened}
 use Rattle.fts_keep.proofs.Tying.{list_untold}
 use Rattle.fts_keep.proofs.Settled.{settings_stay, settings_begin}
 
+-- what fits comes to what it is
+fit_of : (fit : Bool) (used : ℕ) (found done : Tables × Answer) → (if fit then Ok {T = Tables × Answer} {E = KeepFault} found else Err (JournalFull used)) ≡ Ok done → found ≡ done
+fit_of true used found done is = cc
+fit_of false used found done is = absurd cc
+
 -- what came to something was the step's
 step_of : (used : ℕ) (entry : Entry) (came : Outcomes) (done : Tables × Answer) → applied_by used entry came ≡ Ok done → came ≡ Ok done
 step_of used entry (Err refusal) done is = absurd cc
-step_of used entry (Ok found) done is = by (fits used entry) is
-  where
-    by : (b : Bool) → (if b then Ok found else Err (JournalFull used)) ≡ Ok done → Ok found ≡ Ok done
-    by true e = e
-    by false e = absurd cc
+step_of used entry (Ok found) done is = ap (λ (d : Tables × Answer). Ok d) (fit_of (fits used entry) used found done is)
 
 module _ {D : Type 0} (state : D → DiskState) (faults : D → ℕ) (desk next : DeskData) (journal last : JournalData D) (entry : Entry) where
   -- settings that were in force still are

@@ -81,6 +81,15 @@ ruled_by : (fit : Bool) (done : Tables × Answer) (before : ℕ) (refusal : Refu
 ruled_by true done before refusal is = cc
 ruled_by false done before refusal is = cc
 
+-- a refused entry leaves what the disk tells
+module _ {D : Type 0} (state : D → DiskState) (faults : D → ℕ) (old new : KeepData D) (entry : Entry) where
+  told_still : (fault : KeepFault) → Applied state faults old new entry (Err fault) → (state new.disk).told ≡ (state old.disk).told
+  told_still (Rule refusal) applied = ap (λ (k : KeepData D). (state k.disk).told) applied.1
+  told_still (JournalFull used) applied = ap (λ (k : KeepData D). (state k.disk).told) applied.1
+  told_still DiskFailed applied = applied.keeps.told
+  told_still Memory applied = applied.keeps.told
+  told_still (Damaged offset) applied = absurd applied
+
 module _ {D : Type 0} (state : D → DiskState) (faults : D → ℕ) (reads : (entry : Entry) → IsProper entry → read_of (spelled entry) ≡ Some entry)
     (lawful : (disk : D) → IsTold (state disk) → IsLawful (state disk)) (once : (content : List ℕ) → DamageIsOne content) (disk : D) (settings : SettingsData) (now : ℕ) where
   -- the Restart
@@ -89,13 +98,16 @@ module _ {D : Type 0} (state : D → DiskState) (faults : D → ℕ) (reads : (e
 
   -- a journal that wasn't opened
   pub unopened : (left : D) (fault : KeepFault) → OpensNot state faults disk left fault → Started state faults disk settings now (Err (fault, left))
-  unopened left fault opens = (why fault opens.cause, record {
-    told = opens.told;
-    counts = opens.counts;
-    images = λ told opening sound. let still = quiet_still (state disk) (state left) (opens.quiet told (whole_some (state disk).seen opening sound)) in
-        weakened (state disk) (state left) (state disk).may_leave _ still.moments (λ content there. inl there);
-    quiet = λ told offset some damaged. quiet_still (state disk) (state left) (opens.quiet told some);
-  })
+  unopened left fault opens = (
+    why fault opens.cause,
+    record {
+      told = opens.told;
+      counts = opens.counts;
+      images = λ told opening sound. let still = quiet_still (state disk) (state left) (opens.quiet told (whole_some (state disk).seen opening sound)) in
+          weakened (state disk) (state left) (state disk).may_leave _ still.moments (λ content there. inl there);
+      quiet = λ told offset some damaged. quiet_still (state disk) (state left) (opens.quiet told some);
+    },
+  )
     where
       why : (f : KeepFault) → OpenFault state faults disk left f → StartFault state faults disk left settings now f
       why (Damaged offset) cause = λ told. let c = cause told in (c.0, ⊎_elim (λ no. inl no) (λ cut. inr (inl cut)) c.1)
@@ -116,13 +128,16 @@ module _ {D : Type 0} (state : D → DiskState) (faults : D → ℕ) (reads : (e
 
     -- bodies that weren't folded
     pub unfolded : (fault : KeepFault) → FoldFault state faults journal folded fault → Started state faults disk settings now (Err (fault, folded.disk))
-    unfolded fault cause = (why fault cause, record {
-      told = leaves.told ∙ opens.told;
-      counts = omega (arith, opens.counts, leaves.counts);
-      images = λ told opening sound. let still = looked_still told (whole_some (state disk).seen opening sound) in
-          weakened (state disk) (state folded.disk) (state disk).may_leave _ still.moments (λ content there. inl there);
-      quiet = λ told offset some damaged. looked_still told some;
-    })
+    unfolded fault cause = (
+      why fault cause,
+      record {
+        told = leaves.told ∙ opens.told;
+        counts = omega (arith, opens.counts, leaves.counts);
+        images = λ told opening sound. let still = looked_still told (whole_some (state disk).seen opening sound) in
+            weakened (state disk) (state folded.disk) (state disk).may_leave _ still.moments (λ content there. inl there);
+        quiet = λ told offset some damaged. looked_still told some;
+      },
+    )
       where
         why : (f : KeepFault) → FoldFault state faults journal folded f → StartFault state faults disk folded.disk settings now f
         why (Damaged offset) cause = λ told. fault_damages (state disk).seen journal.bodies offset (opens.own told).list (cause (told_journal told))
@@ -207,52 +222,58 @@ module _ {D : Type 0} (state : D → DiskState) (faults : D → ℕ) (reads : (e
         -- the Restart was accepted
         pub started : (answer : Answer) → Applied state faults (keep_of state desk folded) (keep_of state next last) restart (Ok answer) → IsTied state next last
             → Started state faults disk settings now (Ok (keep_of state next last))
-        started answer accepts tied = (folds.entries, record {
-          legal = folds.legal;
-          folded = accepted_tables folds.entries restart desk.tables next.tables folded.used answer folds.folded accepts.done;
-          counted = omega (arith, accepts.commands, folds.counted);
-          before = folded.used;
-          least = omega (arith, folds.low, folds.all, folds.counted, leaves.used);
-          room = fits_by folded.used restart (step desk.tables restart.command) (subst (λ came. IsOk came) (sym accepts.done) refl);
-          filled = accepts.used;
-          sure = accepts.no_doubt;
-          told = accepts.told ∙ leaves.told ∙ opens.told;
-          counts = omega (arith, opens.counts, leaves.counts, counts);
-          unlisted = λ untold. list_untold (state last.disk).told (entries_in last.bodies) (accepts.told ∙ leaves.told ∙ opens.told ∙ untold);
-          own = λ told.
-              let there = leaves.told ∙ told_journal told in
-              let listed = (accepts.listed there).0 ∙ ap (λ l. l ++ restart ∷ []) (before_entries told) in
-              record {
-                opened = journal.disk;
-                opens = opened_first told;
-                listed = listed;
-                no_doubt = (accepts.listed there).1;
-                holds = tied.fold.holds (accepts.told ∙ there);
-                images = since_opening told (keep_of state next last).entries listed;
-                counts = omega (arith, leaves.counts, counts);
-              };
-        })
+        started answer accepts tied = (
+          folds.entries,
+          record {
+            legal = folds.legal;
+            folded = accepted_tables folds.entries restart desk.tables next.tables folded.used answer folds.folded accepts.done;
+            counted = omega (arith, accepts.commands, folds.counted);
+            before = folded.used;
+            least = omega (arith, folds.low, folds.all, folds.counted, leaves.used);
+            room = fits_by folded.used restart (step desk.tables restart.command) (subst (λ came. IsOk came) (sym accepts.done) refl);
+            filled = accepts.used;
+            sure = accepts.no_doubt;
+            told = accepts.told ∙ leaves.told ∙ opens.told;
+            counts = omega (arith, opens.counts, leaves.counts, counts);
+            unlisted = λ untold. list_untold (state last.disk).told (entries_in last.bodies) (accepts.told ∙ leaves.told ∙ opens.told ∙ untold);
+            own = λ told.
+                let there = leaves.told ∙ told_journal told in
+                let listed = (accepts.listed there).0 ∙ ap (λ l. l ++ restart ∷ []) (before_entries told) in
+                record {
+                  opened = journal.disk;
+                  opens = opened_first told;
+                  listed = listed;
+                  no_doubt = (accepts.listed there).1;
+                  holds = tied.fold.holds (accepts.told ∙ there);
+                  images = since_opening told (keep_of state next last).entries listed;
+                  counts = omega (arith, leaves.counts, counts);
+                };
+          },
+        )
 
         -- it wasn't
-        pub unstarted : (fault : KeepFault) → (state last.disk).told ≡ (state folded.disk).told → Applied state faults (keep_of state desk folded) (keep_of state next last) restart (Err fault)
+        pub unstarted : (fault : KeepFault) → Applied state faults (keep_of state desk folded) (keep_of state next last) restart (Err fault)
             → Started state faults disk settings now (Err (fault, last.disk))
-        unstarted fault kept applied = (why fault applied, record {
-          told = kept ∙ leaves.told ∙ opens.told;
-          counts = omega (arith, opens.counts, leaves.counts, counts);
-          images = λ told opening sound.
-              let same : folds.entries ≡ opening = ⊎_elim
-              (λ none. absurd (whole_some (state disk).seen opening sound none.0))
-              (λ own. (once (state disk).seen).list folds.entries opening own sound)
-              (opened_list told) in
-              subst (λ l. LeavesOnly (state disk) (state last.disk) (λ content. (state disk).may_leave content ⊎ IsImageSince l (restarted l now settings) content)) same
-              (behind_still (state disk) (state journal.disk) (state last.disk) (IsImageSince folds.entries (restarted folds.entries now settings))
-              (quiet_still (state disk) (state journal.disk) ((opens.own told).quiet (whole_some (state disk).seen opening sound)))
-              (since_opening told (restarted folds.entries now settings) refl));
-          quiet = λ told offset some damaged. absurd (⊎_elim
-              (λ none. some none.0)
-              (λ own. (once (state disk).seen).apart offset folds.entries damaged own)
-              (opened_list told));
-        })
+        unstarted fault applied = (
+          why fault applied,
+          record {
+            told = told_still state faults (keep_of state desk folded) (keep_of state next last) restart fault applied ∙ leaves.told ∙ opens.told;
+            counts = omega (arith, opens.counts, leaves.counts, counts);
+            images = λ told opening sound.
+                let same : folds.entries ≡ opening = ⊎_elim
+                (λ none. absurd (whole_some (state disk).seen opening sound none.0))
+                (λ own. (once (state disk).seen).list folds.entries opening own sound)
+                (opened_list told) in
+                subst (λ l. LeavesOnly (state disk) (state last.disk) (λ content. (state disk).may_leave content ⊎ IsImageSince l (restarted l now settings) content)) same
+                (behind_still (state disk) (state journal.disk) (state last.disk) (IsImageSince folds.entries (restarted folds.entries now settings))
+                (quiet_still (state disk) (state journal.disk) ((opens.own told).quiet (whole_some (state disk).seen opening sound)))
+                (since_opening told (restarted folds.entries now settings) refl));
+            quiet = λ told offset some damaged. absurd (⊎_elim
+                (λ none. some none.0)
+                (λ own. (once (state disk).seen).apart offset folds.entries damaged own)
+                (opened_list told));
+          },
+        )
           where
             why : (f : KeepFault) → Applied state faults (keep_of state desk folded) (keep_of state next last) restart (Err f) → StartFault state faults disk last.disk settings now f
             why (Damaged offset) a = absurd a

@@ -15,6 +15,7 @@ use crate::opening::open;
 use fts_desk::Desk;
 use fts_disk::Disk;
 use fts_journal::Journal;
+use fts_record::laws::what_is_spelled_is_read;
 use fts_tables::{Answer, Command, Entry, Settings};
 use std::alloc::Global;
 use std::marker::Model;
@@ -57,6 +58,7 @@ impl<D: Disk> Keep<D> {
         ensures err { IfErr result (λ stopped. Started D.state D.faults disk settings now (Err stopped)) }
     {
         damage_is_one();
+        what_is_spelled_is_read();
         let mut journal = match open(alloc, disk) {
             Ok(journal) => journal,
             Err(stopped) => return Err(stopped),

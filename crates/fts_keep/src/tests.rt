@@ -1,14 +1,13 @@
 //! What no clause says: calls with ample memory, worked bytes, every failing call of a run, and every stop.
+ghost use Rattle.std.specs.Prelude.{IfOk, IsTrue};
+ghost use Rattle.fts_record.specs.Proper.{has_priority};
+
 use crate::{Keep, KeepFault};
 use fts_disk::MemoryDisk;
 use fts_record::read_entry;
-use fts_record::laws::what_is_read_is_spelled;
 use fts_tables::{Answer, Command, FileState, Memory, Settings};
 use std::alloc::Global;
 use std::test::Fail;
-
-ghost use Rattle.std.specs.Prelude.{IfOk, IsTrue};
-ghost use Rattle.fts_record.specs.Proper.{has_priority};
 
 // Two endpoints, of which each link carries two files; the activity is `default`.
 const RESTART: &[u8] =
@@ -42,7 +41,7 @@ fn settings(alloc: Global) -> Result<Settings, Memory> {
 }
 
 // The sizes of the files of the rows that a start over these bytes finds, or why it doesn't start.
-fn found(alloc: Global, bytes: Vec<u8>) -> Result<Result<Vec<u64>, KeepFault>, Memory> {
+fn found(alloc: Global, bytes: Vec<u8>) -> Result<Result<Vec<u64>, KeepFault>, Fail> {
     let disk = MemoryDisk::holding(alloc, bytes, Vec::new(alloc));
     match Keep::start(alloc, disk, settings(alloc)?, 1_700_000_000) {
         Ok(keep) => {
@@ -65,7 +64,7 @@ struct Ran {
 }
 
 // A start and two submissions. With no failure these are calls 1 to 7 of the disk, 8 to 11, and 12 to 15.
-fn run(alloc: Global, fail: Vec<u32>) -> Result<Result<Ran, KeepFault>, Memory> {
+fn run(alloc: Global, fail: Vec<u32>) -> Result<Result<Ran, KeepFault>, Fail> {
     let started = Keep::start(
         alloc,
         MemoryDisk::new(alloc, fail),
@@ -175,7 +174,10 @@ fn a_restart_lets_go_of_what_was_copied(rt: HostRuntime) -> Result<(), Fail> {
         ),
         (
             CLAIM,
-            Answer::Claimed { file: 1, attempt: 1 },
+            Answer::Claimed {
+                file: 1,
+                attempt: 1,
+            },
             FileState::Active,
         ),
     ] {
@@ -191,7 +193,11 @@ fn a_restart_lets_go_of_what_was_copied(rt: HostRuntime) -> Result<(), Fail> {
         panic!(rt; "it starts again")
     };
     assert_eq!(rt; again.desk().commands(), 4);
-    let states = again.desk().rows().iter().map(|row| (row.state, row.attempt));
+    let states = again
+        .desk()
+        .rows()
+        .iter()
+        .map(|row| (row.state, row.attempt));
     for state in states {
         assert_eq!(rt; state, (FileState::Submitted, 1));
     }
@@ -234,7 +240,10 @@ fn damaged_bytes_are_told_by_their_offset(rt: HostRuntime) -> Result<(), Fail> {
         assert_eq!(rt; looked, Some(want), "{case}, by one who looks");
     }
     let empty = Keep::view(alloc, MemoryDisk::new(alloc, Vec::new(alloc)));
-    assert_eq!(rt; empty.err().map(|(fault, _)| fault), Some(KeepFault::Damaged { offset: 0 }));
+    assert_eq!(rt;
+        empty.err().map(|(fault, _)| fault),
+        Some(KeepFault::Damaged { offset: 0 })
+    );
     Ok(())
 }
 
