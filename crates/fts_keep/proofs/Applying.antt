@@ -22,7 +22,7 @@ use Rattle.fts_keep.proofs.Tying.{list_untold}
 use Rattle.fts_keep.proofs.Settled.{settings_stay, settings_begin}
 
 -- what fits comes to what it is
-fit_of : (fit : Bool) (used : ℕ) (found done : Tables × Answer) → (if fit then Ok {T = Tables × Answer} {E = KeepFault} found else Err (JournalFull used)) ≡ Ok done → found ≡ done
+fit_of : (fit : Bool) (used : ℕ) (found done : Tables × Answer) → (if fit then Ok found else Err (JournalFull used)) ≡ Ok done → found ≡ done
 fit_of true used found done is = cc
 fit_of false used found done is = absurd cc
 
