@@ -1,6 +1,6 @@
 -- How the settings of a source's text follow from the bytes that were read of it.
-use Rattle.std.proofs.Common.{◌≡◌, ◌≢◌, ◌⊎◌, inl, inr, ℕ, ◌<◌, List, length, Option, Some, None, Result, Ok, Err, refl, ap, sym, ◌∙◌, subst}
-use Rattle.std.specs.Prelude.{nat_lt, cond, IfSome, IfOk, IfErr}
+use Rattle.std.proofs.Common.{◌≡◌, ◌≢◌, ◌⊎◌, inl, inr, ℕ, ◌<◌, List, length, Option, Some, None, Result, Ok, Err, refl, sym, subst}
+use Rattle.std.specs.Prelude.{IfSome}
 use Rattle.std.proofs.lemmas.Bool.{lt-ltb}
 use Rattle.fts_tables.specs.SettingsData.{SettingsData}
 use Rattle.fts_tables.specs.declared.limits.TheConstants.{MAX_SETTINGS_BYTES}

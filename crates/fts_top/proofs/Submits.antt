@@ -1,5 +1,5 @@
 -- What a submission is answered with: its refusals, its id, and that the settings stay.
-use Rattle.std.proofs.Common.{◌≡◌, ℕ, ◌+◌, Bool, true, false, cond, List, length, Option, Some, None, Result, Ok, Err, inl, inr, refl, ap, sym, subst, ◌∙◌}
+use Rattle.std.proofs.Common.{◌≡◌, ℕ, ◌+◌, Bool, true, false, cond, List, length, Option, Some, None, Ok, Err, inl, inr, refl, ap, sym, subst, ◌∙◌}
 use Rattle.std.specs.Prelude.{nat_lt, option_and_then, is_ok, max}
 use Rattle.std.proofs.lemmas.Bool.{false≢true}
 use Rattle.fts_tables.specs.SettingsData.{SettingsData}
@@ -15,7 +15,6 @@ use Rattle.fts_tables.specs.declared.commands.Refusal.TheVariants.{Duplicate, Jo
 use Rattle.fts_desk.specs.Prepared.{IsPrepared}
 use Rattle.fts_desk.specs.declared.desk.DeskFault.TheVariants.{Rule}
 use Rattle.fts_wire.specs.declared.response.Allow.TheVariants.{None as NoAllow}
-use Rattle.fts_jobdoc.specs.declared.fault.DocFault.{DocFault}
 use Rattle.fts_top.specs.Replies.{accepted_body, reply_by, reply_to_refusal, entries_by, id_of_new, IsOrNoMemory, RefusesSubmission, AnswersDocument}
 use Rattle.fts_wire.specs.declared.response.Reply.{Reply}
 

@@ -1,5 +1,5 @@
 -- A turn of a session's loop, and the ways in which the session ends.
-use Rattle.std.proofs.Common.{◌≡◌, inl, inr, ℕ, ◌+◌, ◌<◌, ◌≤◌, ◌==◌, Bool, true, false, List, [], ◌∷◌, ◌++◌, length, Option, Some, None, Result, Ok, Err, refl, ap, sym, ◌∙◌, subst, arith, append-nil}
+use Rattle.std.proofs.Common.{◌≡◌, inl, inr, ℕ, ◌+◌, ◌<◌, ◌≤◌, ◌==◌, Bool, true, false, List, [], ◌∷◌, ◌++◌, Option, Some, None, Result, Ok, Err, refl, ap, sym, ◌∙◌, subst, arith, append-nil}
 use Rattle.std.specs.List.{concat}
 use Rattle.fts_tables.specs.Coming.{Coming, Gives}
 use Rattle.fts_tables.specs.Tables.{Tables}
@@ -14,7 +14,7 @@ use Rattle.fts_wire.specs.declared.request.WireFault.TheVariants.{NotBuilt, Ends
 use Rattle.fts_wire.specs.declared.outside.SinkFailed.{SinkFailed}
 use Rattle.fts_wire.specs.declared.response.Reply.{Reply}
 use Rattle.fts_top.specs.Replies.{not_built, IsOrNoMemory, Answers}
-use Rattle.fts_top.specs.Session.{Reading, OneThread, one_thread, AreRequestsIn, Loads, TriesOneMore, AreWritten, AreCutShort, IsRefusal, end_by, IsRefused, Ends, Session}
+use Rattle.fts_top.specs.Session.{Reading, OneThread, AreRequestsIn, Loads, TriesOneMore, AreWritten, AreCutShort, IsRefusal, end_by, IsRefused, Ends, Session}
 use Rattle.fts_top.specs.declared.ends.SessionEnd.{SessionEnd}
 use Rattle.fts_top.specs.declared.ends.SessionEnd.TheVariants.{Closed as EndClosed, EndsInside as EndEndsInside, Refused as EndRefused, Many as EndMany, SourceFailed as EndSourceFailed, SinkFailed as EndSinkFailed}
 use Rattle.fts_top.proofs.Growth.{Grown, progress_of, count_of_responses, pushed, concat-push}

@@ -1,5 +1,5 @@
 -- The answer to a submission that was accepted, and to one that was refused.
-use Rattle.std.proofs.Common.{◌≡◌, ap, sym, ◌∙◌, subst, Ok, Err}
+use Rattle.std.proofs.Common.{◌≡◌, ap, sym, ◌∙◌, subst, Ok}
 use Rattle.std.specs.Prelude.{IfSome}
 use Rattle.fts_tables.specs.Tables.{Tables}
 use Rattle.fts_tables.specs.declared.commands.Command.TheVariants.{Submit}
