@@ -385,7 +385,9 @@ impl<R: Files<File = File>> FolderStore<R> {
             folder,
             &mut folders,
         )?;
-        if is_path(&self.free, new.as_str()) {
+        let was_free = is_path(&self.free, new.as_str());
+        self.free = None;
+        if was_free {
             move_to_free(&self.rt, old.as_str(), new.as_str())?;
         } else {
             fs::rename(&self.rt, old.as_str(), new.as_str())?;
