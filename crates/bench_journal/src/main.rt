@@ -129,24 +129,21 @@ fn list(rt: &HostRuntime, alloc: Global, path: &str) -> io::Result<()> {
     Ok(())
 }
 
+fn number(word: &str) -> u64 {
+    word.parse().unwrap_or(0)
+}
+
 fn main(rt: HostRuntime) -> io::Result<()> {
-    let mut words = env::args(&rt)?.skip(1);
     let alloc = rt.alloc();
-    match (words.next(), words.next(), words.next()) {
-        (Some(call), Some(path), Some(count)) if call.as_str() == "append" => {
-            append_numbered(
-                &rt,
-                alloc,
-                path.as_str(),
-                count.as_str().parse().unwrap_or(0),
-            )
-        }
-        (Some(call), Some(path), None) if call.as_str() == "list" => list(
-            &rt,
-            alloc,
-            path.as_str(),
-        ),
-        (Some(appends), None, None) => measure(&rt, alloc, appends.as_str().parse().unwrap_or(0)),
-        _ => Ok(()),
-    }
+    let mut words = env::args(&rt)?.skip(1);
+    let Some(call) = words.next() else {
+        return Ok(());
+    };
+    let Some(path) = words.next() else {
+        return measure(&rt, alloc, number(call.as_str()));
+    };
+    let Some(count) = words.next() else {
+        return list(&rt, alloc, path.as_str());
+    };
+    append_numbered(&rt, alloc, path.as_str(), number(count.as_str()))
 }
