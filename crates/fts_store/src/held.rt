@@ -1,7 +1,7 @@
 //! The files of a store in memory: those that it was given, and over them an entry for each place that a call has named since.
 //! Contracts see what is held at each place (`held_files`). A call takes its memory first: one that finds none changes no file.
 //! Only `MemoryStore` stands on it.
-ghost use Rattle.std.specs.Prelude.{◌≡◌, ◌<◌, ◌∷◌, ◌++◌, [], Some, None, IfOk, OnOk, OnErr, option_map, length, List};
+ghost use Rattle.std.specs.Prelude.{◌≡◌, ◌<◌, ◌∷◌, ◌++◌, [], Some, None, IfOk, OnOk, OnErr, option_map, length}
 ghost use Rattle.std.specs.List.{find, position};
 ghost use Rattle.fts_tables.specs.Places.{is_same_place};
 ghost use Rattle.fts_tables.specs.declared.places.Place.{Place};

@@ -191,7 +191,8 @@ impl Store for MemoryStore {
         ensures cause { CountsFaults (memory_faults self.old) (memory_faults self.new) result }
         ensures there { OnOk result (IsSome ((memory_state self.new).files (place_at at.entry))) }
         ensures appended { IsFaithful (memory_state self.old)
-            → OnOk result ((memory_state self.new).files (place_at at.entry) ≡ Some (bytes_of ((memory_state self.old).files (place_at at.entry)) ++ bytes.now)) }
+            → OnOk result ((memory_state self.new).files (place_at at.entry) ≡
+            Some (bytes_of ((memory_state self.old).files (place_at at.entry)) ++ bytes.now)) }
         ensures others { SameBut (place_at at.entry) (memory_state self.old).files (memory_state self.new).files }
         ensures number { self.new.appends ≡ next_append self.old }
         ensures numbered { Numbered self.old self.new result }
