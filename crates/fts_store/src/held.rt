@@ -1,7 +1,7 @@
 //! The files of a store in memory: those that it was given, and over them an entry for each place that a call has named since.
 //! Contracts see what is held at each place (`held_files`). A call takes its memory first: one that finds none changes no file.
 //! Only `MemoryStore` stands on it.
-ghost use Rattle.std.specs.Prelude.{◌≡◌, ◌<◌, ◌∷◌, ◌++◌, [], Some, None, IfOk, OnOk, OnErr, option_map, length}
+ghost use Rattle.std.specs.Prelude.{◌≡◌, ◌<◌, ◌∷◌, ◌++◌, [], Some, None, IfOk, OnOk, OnErr, option_map, length};
 ghost use Rattle.std.specs.List.{find, position};
 ghost use Rattle.fts_tables.specs.Places.{is_same_place};
 ghost use Rattle.fts_tables.specs.declared.places.Place.{Place};
@@ -188,7 +188,8 @@ impl Held {
 
     /// Appends bytes to the file at a place, which is made where there is none.
     pub fn append(&mut self, at: PlaceRef<'_>, bytes: &[u8]) -> Result<(), StoreFailed>
-        ensures ok { OnOk result (Same (held_files self.new) (with_file (held_files self.old) (place_at at.entry) (Some (bytes_of (held_files self.old (place_at at.entry)) ++ bytes.now)))) }
+        ensures ok { OnOk result (Same (held_files self.new)
+            (with_file (held_files self.old) (place_at at.entry) (Some (bytes_of (held_files self.old (place_at at.entry)) ++ bytes.now)))) }
         ensures err { OnErr result (Same (held_files self.new) (held_files self.old)) }
     {
         let n = own(self.alloc, &self.given, &mut self.made, at)?;
