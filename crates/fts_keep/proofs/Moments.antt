@@ -26,7 +26,8 @@ weakened old new P Q only implies = record {
 }
 
 -- a run that is still, and one after it that leaves what has P
-pub behind_still : (old mid new : DiskState) (P : List ℕ → Type 0) → IsStill old mid → LeavesOnly mid new P → LeavesOnly old new (λ content. old.may_leave content ⊎ P content)
+pub behind_still : (old mid new : DiskState) (P : List ℕ → Type 0) → IsStill old mid → LeavesOnly mid new P
+    → LeavesOnly old new (λ content. old.may_leave content ⊎ P content)
 behind_still old mid new P still only = joined old mid new (λ content. old.may_leave content ⊎ P content)
     (weakened old mid old.may_leave (λ content. old.may_leave content ⊎ P content) still.moments (λ c there. inl there))
     (weakened mid new P (λ content. old.may_leave content ⊎ P content) only (λ c there. inr there))

@@ -45,12 +45,14 @@ no_entries [] is = refl
 no_entries (entry ∷ entries) is = absurd cc
 
 -- where a fault is answered, the bytes are damaged there
-pub fault_damages : (content : List ℕ) (bodies : List (List ℕ)) (offset : ℕ) → StandsOrIsEmpty content bodies → fault_in bodies ≡ Some offset → (content ≢ []) × IsDamaged content offset
+pub fault_damages : (content : List ℕ) (bodies : List (List ℕ)) (offset : ℕ) → StandsOrIsEmpty content bodies → fault_in bodies ≡ Some offset
+    → (content ≢ []) × IsDamaged content offset
 fault_damages content bodies offset (inl none) fault = let no : None ≡ Some offset = sym (ap fault_in none.1) ∙ fault in absurd cc
 fault_damages content bodies offset (inr some) fault = (some.0, inr (inr (record { bodies = bodies; stands = some.1; fault = fault })))
 
 -- an image of the opening list is one since the opening
-image_before : (opening final : List Entry) (entry : Entry) (content : List ℕ) → final ≡ opening ++ entry ∷ [] → IsLegal opening → StandsFor content opening → IsImageSince opening final content
+image_before : (opening final : List Entry) (entry : Entry) (content : List ℕ) → final ≡ opening ++ entry ∷ [] → IsLegal opening → StandsFor content opening
+    → IsImageSince opening final content
 image_before opening final entry content is legal stands = record {
   since = [];
   later = entry ∷ [];
@@ -61,7 +63,8 @@ image_before opening final entry content is legal stands = record {
 }
 
 -- and so is one of that list with the entry
-image_with : (opening final : List Entry) (entry : Entry) (content : List ℕ) → final ≡ opening ++ entry ∷ [] → IsLegal (opening ++ entry ∷ []) → StandsFor content (opening ++ entry ∷ []) → IsImageSince opening final content
+image_with : (opening final : List Entry) (entry : Entry) (content : List ℕ) → final ≡ opening ++ entry ∷ [] → IsLegal (opening ++ entry ∷ [])
+    → StandsFor content (opening ++ entry ∷ []) → IsImageSince opening final content
 image_with opening final entry content is legal stands = record {
   since = [];
   later = entry ∷ [];
@@ -72,7 +75,8 @@ image_with opening final entry content is legal stands = record {
 }
 
 -- what is accepted by the machine is full only where it doesn't fit
-full_by : (fit : Bool) (done : Tables × Answer) (before used : ℕ) → (if fit then Ok done else Err (JournalFull before)) ≡ Err (JournalFull used) → (used ≡ before) × (fit ≡ false)
+full_by : (fit : Bool) (done : Tables × Answer) (before used : ℕ) → (if fit then Ok done else Err (JournalFull before)) ≡ Err (JournalFull used)
+    → (used ≡ before) × (fit ≡ false)
 full_by true done before used is = absurd cc
 full_by false done before used is = (cc, refl)
 
@@ -91,7 +95,8 @@ module _ {D : Type 0} (state : D → DiskState) (faults : D → ℕ) (old new : 
   told_still (Damaged offset) applied = absurd applied
 
 module _ {D : Type 0} (state : D → DiskState) (faults : D → ℕ) (reads : (entry : Entry) → IsProper entry → read_of (spelled entry) ≡ Some entry)
-    (lawful : (disk : D) → IsTold (state disk) → IsLawful (state disk)) (once : (content : List ℕ) → DamageIsOne content) (disk : D) (settings : SettingsData) (now : ℕ) where
+    (lawful : (disk : D) → IsTold (state disk) → IsLawful (state disk)) (once : (content : List ℕ) → DamageIsOne content) (disk : D)
+        (settings : SettingsData) (now : ℕ) where
   -- the Restart
   abbrev restart : Entry
   restart = restart_at now settings
@@ -166,7 +171,8 @@ module _ {D : Type 0} (state : D → DiskState) (faults : D → ℕ) (reads : (e
       opened_list : IsTold (state disk) → Opens (state disk).seen folds.entries
       opened_list told = ⊎_elim
           (λ none. inl (none.0, no_entries folds.entries (sym none.1 ∙ folds.spells (told_journal told))))
-          (λ some. inr (record { stands = subst (Stands (state disk).seen) (folds.spells (told_journal told)) some.1; proper = folds.proper; legal = folds.legal }))
+          (λ some. inr (record { stands = subst (Stands (state disk).seen) (folds.spells (told_journal told))
+              some.1; proper = folds.proper; legal = folds.legal }))
           (opens.own told).list
 
       -- each image of the journal that was opened stands for it
@@ -185,14 +191,17 @@ module _ {D : Type 0} (state : D → DiskState) (faults : D → ℕ) (reads : (e
 
       -- the desk is tied to it
       pub folded_tied : IsTied state desk folded
-      folded_tied = tie state reads desk folded (omega (arith, folds.low, folds.all, leaves.used)) (omega (arith, folds.high, leaves.used)) (folds.all ∙ sym leaves.count)
+      folded_tied = tie state reads desk folded (omega (arith, folds.low, folds.all, leaves.used)) (omega (arith, folds.high, leaves.used))
+          (folds.all ∙ sym leaves.count)
           (folds.entries, record { folded = folds.folded; legal = folds.legal; counted = folds.counted })
           (λ there. record { entries = folds.entries; doubt = None; held = opened_held (sym opens.told ∙ sym leaves.told ∙ there) })
           (λ there content left. let told = sym opens.told ∙ sym leaves.told ∙ there in
           subst (λ d. IsJournalImage folded.bodies d content) (sym (leaves.doubt (told_journal told) ∙ opens.no_doubt told))
-          (subst (Stands content) (sym (leaves.bodies (told_journal told))) ((opens.own told).sound content ((leaves.still (told_journal told)).images content left))))
+          (subst (Stands content) (sym (leaves.bodies (told_journal told)))
+              ((opens.own told).sound content ((leaves.still (told_journal told)).images content left))))
 
-      module _ (next : DeskData) (last : JournalData D) (safe : AppliesSafely state (keep_of state desk folded) (keep_of state next last) restart) (counts : faults folded.disk ≤ faults last.disk) where
+      module _ (next : DeskData) (last : JournalData D) (safe : AppliesSafely state (keep_of state desk folded) (keep_of state next last) restart)
+          (counts : faults folded.disk ≤ faults last.disk) where
         -- the list before the Restart, and no doubt
         before_entries : IsTold (state disk) → (keep_of state desk folded).entries ≡ folds.entries
         before_entries told = seen_entries state reads desk folded folds.entries None (opened_held told) (leaves.told ∙ told_journal told)
@@ -205,22 +214,30 @@ module _ {D : Type 0} (state : D → DiskState) (faults : D → ℕ) (reads : (e
         with_restart = legal_more _ folds.entries restart folds.legal tt
 
         -- an image of the acceptance is one since the opening
-        during_since : (told : IsTold (state disk)) (final : List Entry) → final ≡ restarted folds.entries now settings → (content : List ℕ) → IsImageDuring (keep_of state desk folded) restart content
+        during_since : (told : IsTold (state disk)) (final : List Entry) → final ≡ restarted folds.entries now settings → (content : List ℕ)
+            → IsImageDuring (keep_of state desk folded) restart content
             → IsImageSince folds.entries final content
-        during_since told final is content (inl (inl stands)) = image_before folds.entries final restart content is folds.legal (subst (StandsFor content) (before_entries told) stands)
+        during_since told final is content (inl (inl stands)) = image_before folds.entries final restart content is folds.legal
+            (subst (StandsFor content) (before_entries told) stands)
         during_since told final is content (inl (inr stands)) = image_before folds.entries final restart content is folds.legal
-            (subst (λ l. StandsFor content (with_doubt l None)) (before_entries told) (subst (λ d. StandsFor content (with_doubt (keep_of state desk folded).entries d)) (before_doubt told) stands))
-        during_since told final is content (inr with_it) = image_with folds.entries final restart content is with_restart (subst (λ l. StandsFor content (l ++ restart ∷ [])) (before_entries told) with_it.1)
+            (subst (λ l. StandsFor content (with_doubt l None)) (before_entries told)
+                (subst (λ d. StandsFor content (with_doubt (keep_of state desk folded).entries d)) (before_doubt told) stands))
+        during_since told final is content (inr with_it) = image_with folds.entries final restart content is with_restart
+            (subst (λ l. StandsFor content (l ++ restart ∷ [])) (before_entries told) with_it.1)
 
         -- since the opening each image is one of the list
-        since_opening : (told : IsTold (state disk)) (final : List Entry) → final ≡ restarted folds.entries now settings → LeavesOnly (state journal.disk) (state last.disk) (IsImageSince folds.entries final)
+        since_opening : (told : IsTold (state disk)) (final : List Entry) → final ≡ restarted folds.entries now settings
+            → LeavesOnly (state journal.disk) (state last.disk) (IsImageSince folds.entries final)
         since_opening told final is = joined (state journal.disk) (state folded.disk) (state last.disk) (IsImageSince folds.entries final)
-            (weakened (state journal.disk) (state folded.disk) (state journal.disk).may_leave (IsImageSince folds.entries final) (leaves.still (told_journal told)).moments
+            (weakened (state journal.disk) (state folded.disk) (state journal.disk).may_leave (IsImageSince folds.entries final)
+                (leaves.still (told_journal told)).moments
             (λ content there. image_before folds.entries final restart content is folds.legal (opened_sound told content there)))
-            (weakened (state folded.disk) (state last.disk) (IsImageDuring (keep_of state desk folded) restart) (IsImageSince folds.entries final) (safe (leaves.told ∙ told_journal told)) (during_since told final is))
+            (weakened (state folded.disk) (state last.disk) (IsImageDuring (keep_of state desk folded) restart) (IsImageSince folds.entries final)
+                (safe (leaves.told ∙ told_journal told)) (during_since told final is))
 
         -- the Restart was accepted
-        pub started : (answer : Answer) → Applied state faults (keep_of state desk folded) (keep_of state next last) restart (Ok answer) → IsTied state next last
+        pub started : (answer : Answer) → Applied state faults (keep_of state desk folded) (keep_of state next last) restart (Ok answer)
+            → IsTied state next last
             → Started state faults disk settings now (Ok (keep_of state next last))
         started answer accepts tied = (
           folds.entries,
@@ -264,7 +281,8 @@ module _ {D : Type 0} (state : D → DiskState) (faults : D → ℕ) (reads : (e
                 (λ none. absurd (whole_some (state disk).seen opening sound none.0))
                 (λ own. (once (state disk).seen).list folds.entries opening own sound)
                 (opened_list told) in
-                subst (λ l. LeavesOnly (state disk) (state last.disk) (λ content. (state disk).may_leave content ⊎ IsImageSince l (restarted l now settings) content)) same
+                subst (λ l. LeavesOnly (state disk) (state last.disk)
+                    (λ content. (state disk).may_leave content ⊎ IsImageSince l (restarted l now settings) content)) same
                 (behind_still (state disk) (state journal.disk) (state last.disk) (IsImageSince folds.entries (restarted folds.entries now settings))
                 (quiet_still (state disk) (state journal.disk) ((opens.own told).quiet (whole_some (state disk).seen opening sound)))
                 (since_opening told (restarted folds.entries now settings) refl));
@@ -275,7 +293,8 @@ module _ {D : Type 0} (state : D → DiskState) (faults : D → ℕ) (reads : (e
           },
         )
           where
-            why : (f : KeepFault) → Applied state faults (keep_of state desk folded) (keep_of state next last) restart (Err f) → StartFault state faults disk last.disk settings now f
+            why : (f : KeepFault) → Applied state faults (keep_of state desk folded) (keep_of state next last) restart (Err f)
+                → StartFault state faults disk last.disk settings now f
             why (Damaged offset) a = absurd a
             why DiskFailed a = rose_later (faults disk) (faults folded.disk) (faults last.disk) (omega (arith, opens.counts, leaves.counts)) a.rose
             why Memory a = tt

@@ -28,7 +28,8 @@ pub record OpensJournal {D : Type 0} (state : D → DiskState) (faults : D → �
 
 -- why it wasn't
 abbrev pub OpenFault : {D : Type 0} → (D → DiskState) → (D → ℕ) → D → D → KeepFault → Type 0
-OpenFault state faults disk left (Damaged offset) = IsTold (state disk) → ((state disk).seen ≢ []) × ((IsNotJournal (state disk).seen × (offset ≡ 0)) ⊎ IsCut (state disk).seen offset)
+OpenFault state faults disk left (Damaged offset) = IsTold (state disk)
+    → ((state disk).seen ≢ []) × ((IsNotJournal (state disk).seen × (offset ≡ 0)) ⊎ IsCut (state disk).seen offset)
 OpenFault state faults disk left DiskFailed = Rose (faults disk) (faults left)
 OpenFault state faults disk left Memory = Unit {0}
 OpenFault state faults disk left (JournalFull used) = ⊥

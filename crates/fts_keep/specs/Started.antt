@@ -42,7 +42,8 @@ pub record IsOpened {D : Type 0} (state : D → DiskState) (faults : D → ℕ) 
   pub counts : faults disk ≤ faults opened
 
 -- over a disk that tells its contents: the keep has the disk's own list and a Restart behind it, and since the opening each image is one of that list
-pub record Starts {D : Type 0} (state : D → DiskState) (faults : D → ℕ) (disk : D) (settings : SettingsData) (now : ℕ) (keep : KeepData D) (opening : List Entry) : Type 0 where
+pub record Starts {D : Type 0} (state : D → DiskState) (faults : D → ℕ) (disk : D) (settings : SettingsData) (now : ℕ) (keep : KeepData D)
+    (opening : List Entry) : Type 0 where
   pub opened : D
   pub opens : IsOpened state faults disk opened opening
   pub listed : keep.entries ≡ restarted opening now settings
@@ -51,9 +52,10 @@ pub record Starts {D : Type 0} (state : D → DiskState) (faults : D → ℕ) (d
   pub images : LeavesOnly (state opened) (state keep.disk) (IsImageSince opening keep.entries)
   pub counts : faults opened ≤ faults keep.disk
 
--- A keep was started. Over every disk there is a list that is legal and, with the Restart behind it, makes its tables; and so many bytes were used before that Restart.
--- Over a disk that tells its contents the list is its own.
-pub record StartsOver {D : Type 0} (state : D → DiskState) (faults : D → ℕ) (disk : D) (settings : SettingsData) (now : ℕ) (keep : KeepData D) (opening : List Entry) : Type 0 where
+-- A keep was started. Over every disk there is a list that is legal and, with the Restart behind it, makes its tables; and so many bytes were
+-- used before that Restart. Over a disk that tells its contents the list is its own.
+pub record StartsOver {D : Type 0} (state : D → DiskState) (faults : D → ℕ) (disk : D) (settings : SettingsData) (now : ℕ) (keep : KeepData D)
+    (opening : List Entry) : Type 0 where
   pub legal : IsLegal opening
   pub folded : keep.tables ≡ tables_of (restarted opening now settings)
   pub counted : keep.commands ≡ length opening + 1
@@ -88,7 +90,8 @@ StartFault state faults disk left settings now (Rule refusal) = ⊥
 -- what `start` did
 abbrev pub Started : {D : Type 0} → (D → DiskState) → (D → ℕ) → D → SettingsData → ℕ → Result (KeepData D) (KeepFault × D) → Type 0
 Started state faults disk settings now (Ok keep) = (opening : List Entry) × StartsOver state faults disk settings now keep opening
-Started state faults disk settings now (Err stopped) = StartFault state faults disk stopped.1 settings now stopped.0 × StartsNot state faults disk stopped.1 settings now
+Started state faults disk settings now (Err stopped) =
+    StartFault state faults disk stopped.1 settings now stopped.0 × StartsNot state faults disk stopped.1 settings now
 
 -- A journal was looked at: over every disk the tables are those of a legal list. Over one that tells its contents that list is its own, and a
 -- crash leaves nothing else than before.

@@ -22,7 +22,8 @@ returns-in-Ok-accept-clause-ok g c = started g.D.Disk.state g.D.Disk.faults c.wh
     c.in-Ok-accept.field-0 c.in-Ok-accept.ensures.applied c.accept.ensures.tied
 
 pub returns-in-Err-accept-clause-err : goal.returns-in-Err-accept-clause-err
-returns-in-Err-accept-clause-err g c = subst (λ d. Started g.D.Disk.state g.D.Disk.faults c.args.disk c.args.settings c.args.now (Err (c.in-Err-accept.fault, d))) (sym c.close-in-Err-accept.ensures)
+returns-in-Err-accept-clause-err g c = subst
+    (λ d. Started g.D.Disk.state g.D.Disk.faults c.args.disk c.args.settings c.args.now (Err (c.in-Err-accept.fault, d))) (sym c.close-in-Err-accept.ensures)
     (unstarted g.D.Disk.state g.D.Disk.faults c.what_is_spelled_is_read.ensures.read g.met.D.Disk.lawful c.damage_is_one.ensures
     c.args.disk c.args.settings c.args.now
     c.in-Ok.journal c.fold.new.journal c.in-Ok.ensures.ok c.fold.ensures.leaves c.in-Ok-fold.desk c.in-Ok-fold.ensures.folded
