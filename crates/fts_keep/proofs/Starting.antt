@@ -16,13 +16,13 @@ use Rattle.fts_record.specs.Reading.{read_of}
 use Rattle.fts_desk.specs.DeskData.{DeskData}
 use Rattle.fts_disk.specs.Disk.{DiskState, IsTold, IsLawful, LeavesOnly}
 use Rattle.fts_journal.specs.Format.{Stands, front, used_by}
-use Rattle.fts_journal.specs.Journal.{JournalData, IsSound, IsImageOf as IsJournalImage}
+use Rattle.fts_journal.specs.Journal.{JournalData, IsMaking, IsSound, IsImageOf as IsJournalImage}
 use Rattle.fts_keep.specs.Keeps.{KeepData, HoldsList, IsListOf, IsFold, IsImageOf, IsImageSince, StandsFor, bodies_of, used_of, with_doubt}
 use Rattle.fts_keep.specs.Views.{keep_of, entries_in, IsTied}
 use Rattle.fts_keep.specs.Damage.{IsDamaged, IsWhole, HasFault, DamageIsOne, fault_in}
 use Rattle.fts_keep.specs.Applied.{Applied, AppliesSafely, Accepts, IsImageDuring, applied_to, applied_by, fits}
 use Rattle.fts_keep.specs.Folding.{Folds, LeavesJournal, FoldFault}
-use Rattle.fts_keep.specs.Opening.{OpensJournal, OpensNot, OpenFault, StandsOrIsEmpty}
+use Rattle.fts_keep.specs.Opening.{OpensJournal, OpensNot, Makes, OpenFault, StandsOrIsEmpty}
 use Rattle.fts_keep.specs.Started.{restart_at, restarted, Opens, IsStill, IsOpened, Starts, StartsOver, StartsNot, StartFault, Started, Views, ViewFault, Viewed}
 use Rattle.fts_keep.specs.declared.fault.KeepFault.{KeepFault}
 use Rattle.fts_keep.specs.declared.fault.KeepFault.TheVariants.{Rule, DiskFailed, JournalFull, Damaged, Memory}
@@ -43,6 +43,11 @@ whole_some content entries sound none = none_stands (bodies_of entries) (subst (
 no_entries : (entries : List Entry) → [] ≡ bodies_of entries → entries ≡ []
 no_entries [] is = refl
 no_entries (entry ∷ entries) is = absurd cc
+
+-- an empty disk has no bodies
+empty_bodies : (content : List ℕ) (bodies : List (List ℕ)) → content ≡ [] → StandsOrIsEmpty content bodies → bodies ≡ []
+empty_bodies content bodies empty (inl none) = none.1
+empty_bodies content bodies empty (inr some) = absurd (some.0 empty)
 
 -- where a fault is answered, the bytes are damaged there
 pub fault_damages : (content : List ℕ) (bodies : List (List ℕ)) (offset : ℕ) → StandsOrIsEmpty content bodies → fault_in bodies ≡ Some offset
@@ -102,14 +107,16 @@ module _ {D : Type 0} (state : D → DiskState) (faults : D → ℕ) (reads : (e
   restart = restart_at now settings
 
   -- a journal that wasn't opened
-  pub unopened : (left : D) (fault : KeepFault) → OpensNot state faults disk left fault → Started state faults disk settings now (Err (fault, left))
-  unopened left fault opens = (
+  pub unopened : (left : D) (fault : KeepFault) → Makes (state disk) (state left)
+      → OpensNot state faults disk left fault → Started state faults disk settings now (Err (fault, left))
+  unopened left fault made opens = (
     why fault opens.cause,
     record {
       told = opens.told;
       counts = opens.counts;
       images = λ told opening sound. let still = quiet_still (state disk) (state left) (opens.quiet told (whole_some (state disk).seen opening sound)) in
           weakened (state disk) (state left) (state disk).may_leave _ still.moments (λ content there. inl there);
+      made = λ told empty. weakened (state disk) (state left) (IsMaking (state disk)) _ (made told empty) (λ content there. inl there);
       quiet = λ told offset some damaged. quiet_still (state disk) (state left) (opens.quiet told some);
     },
   )
@@ -121,7 +128,8 @@ module _ {D : Type 0} (state : D → DiskState) (faults : D → ℕ) (reads : (e
       why (JournalFull used) cause = absurd cause
       why (Rule refusal) cause = absurd cause
 
-  module _ (journal folded : JournalData D) (opens : OpensJournal state faults disk journal) (leaves : LeavesJournal state faults journal folded) where
+  module _ (journal folded : JournalData D) (made : Makes (state disk) (state journal.disk))
+      (opens : OpensJournal state faults disk journal) (leaves : LeavesJournal state faults journal folded) where
     -- it tells what the disk tells
     told_journal : IsTold (state disk) → IsTold (state journal.disk)
     told_journal told = opens.told ∙ told
@@ -140,6 +148,12 @@ module _ {D : Type 0} (state : D → DiskState) (faults : D → ℕ) (reads : (e
         counts = omega (arith, opens.counts, leaves.counts);
         images = λ told opening sound. let still = looked_still told (whole_some (state disk).seen opening sound) in
             weakened (state disk) (state folded.disk) (state disk).may_leave _ still.moments (λ content there. inl there);
+        made = λ told empty. joined (state disk) (state journal.disk) (state folded.disk)
+            (λ content. IsMaking (state disk) content ⊎ IsImageSince [] (restarted [] now settings) content)
+            (weakened (state disk) (state journal.disk) (IsMaking (state disk)) _ (made told empty) (λ content there. inl there))
+            (weakened (state journal.disk) (state folded.disk) (state journal.disk).may_leave _ (leaves.still (told_journal told)).moments
+            (λ content there. inr (image_before [] (restarted [] now settings) restart content refl tt
+            (subst (Stands content) (empty_bodies (state disk).seen journal.bodies empty (opens.own told).list) ((opens.own told).sound content there)))));
         quiet = λ told offset some damaged. looked_still told some;
       },
     )
@@ -186,6 +200,7 @@ module _ {D : Type 0} (state : D → DiskState) (faults : D → ℕ) (reads : (e
         stands = opened_sound told (state journal.disk).seen (lawful journal.disk (told_journal told)).image;
         sound = opened_sound told;
         quiet = λ some. (opens.own told).quiet some;
+        made = λ empty. made told empty;
         counts = opens.counts;
       }
 
@@ -286,6 +301,14 @@ module _ {D : Type 0} (state : D → DiskState) (faults : D → ℕ) (reads : (e
                 (behind_still (state disk) (state journal.disk) (state last.disk) (IsImageSince folds.entries (restarted folds.entries now settings))
                 (quiet_still (state disk) (state journal.disk) ((opens.own told).quiet (whole_some (state disk).seen opening sound)))
                 (since_opening told (restarted folds.entries now settings) refl));
+            made = λ told empty.
+                let same : folds.entries ≡ [] = ⊎_elim (λ none. none.1) (λ own. absurd (whole_some (state disk).seen folds.entries own empty)) (opened_list told) in
+                joined (state disk) (state journal.disk) (state last.disk)
+                (λ content. IsMaking (state disk) content ⊎ IsImageSince [] (restarted [] now settings) content)
+                (weakened (state disk) (state journal.disk) (IsMaking (state disk)) _ (made told empty) (λ content there. inl there))
+                (weakened (state journal.disk) (state last.disk) (IsImageSince folds.entries (restarted folds.entries now settings)) _
+                (since_opening told (restarted folds.entries now settings) refl)
+                (λ content there. inr (subst (λ l. IsImageSince l (restarted l now settings) content) same there)));
             quiet = λ told offset some damaged. absurd (⊎_elim
                 (λ none. some none.0)
                 (λ own. (once (state disk).seen).apart offset folds.entries damaged own)

@@ -1,10 +1,10 @@
 -- What opening a journal comes to: it is made on an empty disk, and else loaded.
 use Rattle.std.specs.Prelude.{◌≡◌, ◌≢◌, ◌⊎◌, ℕ, ◌+◌, ◌≤◌, false, None, List, []}
 use Rattle.fts_tables.specs.Counts.{Rose}
-use Rattle.fts_disk.specs.Disk.{DiskState, IsTold}
+use Rattle.fts_disk.specs.Disk.{DiskState, IsTold, LeavesOnly}
 use Rattle.fts_journal.specs.Format.{Stands}
 use Rattle.fts_journal.specs.Loading.{IsQuiet, IsNotJournal, IsCut}
-use Rattle.fts_journal.specs.Journal.{JournalData}
+use Rattle.fts_journal.specs.Journal.{JournalData, IsMaking}
 use Rattle.fts_keep.specs.declared.fault.KeepFault.{KeepFault}
 use Rattle.fts_keep.specs.declared.fault.KeepFault.TheVariants.{Rule, DiskFailed, JournalFull, Damaged, Memory}
 
@@ -17,6 +17,10 @@ pub record OpensBodies (disk opened : DiskState) (bodies : List (List ℕ)) : Ty
   pub list : StandsOrIsEmpty disk.seen bodies
   pub sound : (content : List ℕ) → opened.may_leave content → Stands content bodies
   pub quiet : disk.seen ≢ [] → IsQuiet disk opened
+
+-- on an empty disk that tells its contents: a crash leaves what may be left while a journal is made
+abbrev pub Makes : DiskState → DiskState → Type 0
+Makes disk left = IsTold disk → disk.seen ≡ [] → LeavesOnly disk left (IsMaking disk)
 
 -- a journal was opened
 pub record OpensJournal {D : Type 0} (state : D → DiskState) (faults : D → ℕ) (disk : D) (journal : JournalData D) : Type 0 where
