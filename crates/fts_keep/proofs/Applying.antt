@@ -1,5 +1,5 @@
 -- What an applied command comes to, as callers need it: settings stay in force, the list only grows, and images compose.
-use Rattle.std.proofs.Common.{◌≡◌, refl, ap, sym, ◌∙◌, subst, inl, inr, ℕ, ◌+◌, ◌≤◌, Bool, true, false, if◌then◌else◌, List, [], ◌∷◌, ◌++◌, Option, Some, None, IsSome, Result, Ok, Err, All, arith}
+use Rattle.std.proofs.Common.{◌≡◌, refl, ap, sym, ◌∙◌, subst, inl, inr, ℕ, ◌≤◌, Bool, true, false, if◌then◌else◌, List, [], ◌∷◌, ◌++◌, Option, Some, None, IsSome, Result, Ok, Err}
 use Rattle.std.proofs.lemmas.List.Elements.{All-nil, All-cons}
 use Rattle.fts_tables.specs.Tables.{Tables, empty_tables}
 use Rattle.fts_tables.specs.Step.{Outcomes, step}
@@ -7,11 +7,11 @@ use Rattle.fts_tables.specs.History.{IsAccepted, IsLegal}
 use Rattle.fts_tables.specs.declared.commands.Entry.{Entry}
 use Rattle.fts_tables.specs.declared.commands.Answer.{Answer}
 use Rattle.fts_desk.specs.DeskData.{DeskData}
-use Rattle.fts_disk.specs.Disk.{DiskState, IsTold, LeavesOnly}
+use Rattle.fts_disk.specs.Disk.{DiskState, IsTold}
 use Rattle.fts_journal.specs.Journal.{JournalData}
 use Rattle.fts_keep.specs.Keeps.{KeepData, HoldsList, IsFold, IsImageSince, Grows, KeepsImages, StandsFor, with_doubt}
 use Rattle.fts_keep.specs.Views.{keep_of, entries_in, IsTied, IsKept}
-use Rattle.fts_keep.specs.Applied.{Applied, AppliesSafely, IsImageDuring, applied_to, applied_by, fits}
+use Rattle.fts_keep.specs.Applied.{Applied, AppliesSafely, IsImageDuring, applied_by, fits}
 use Rattle.fts_keep.specs.declared.fault.KeepFault.{KeepFault}
 use Rattle.fts_keep.specs.declared.fault.KeepFault.TheVariants.{Rule, DiskFailed, JournalFull, Damaged, Memory}
 use Rattle.fts_keep.proofs.Lists.{none_more, legal_list, legal_more, accepted_by}

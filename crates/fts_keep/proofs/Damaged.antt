@@ -1,5 +1,5 @@
 -- The bytes of a file are damaged at one place, or whole for one list: by the laws of the journal's format and of the spelling.
-use Rattle.std.proofs.Common.{◌≡◌, refl, ap, sym, ◌∙◌, subst, inl, inr, ◌⊎◌, ℕ, ◌+◌, ◌≤◌, ◌-◌, suc, List, [], ◌∷◌, length, Option, Some, None, Result, Ok, Err, All, arith}
+use Rattle.std.proofs.Common.{◌≡◌, refl, ap, sym, ◌∙◌, inl, inr, ℕ, ◌+◌, ◌≤◌, ◌-◌, suc, List, [], ◌∷◌, length, Option, Some, None, Result, Ok, Err, All, arith}
 use Rattle.std.proofs.lemmas.List.Elements.{All-head, All-tail}
 use Rattle.fts_tables.specs.Tables.{Tables, empty_tables}
 use Rattle.fts_tables.specs.Step.{Outcomes, step}
@@ -9,9 +9,8 @@ use Rattle.fts_record.specs.Spelling.{spelled}
 use Rattle.fts_record.specs.Proper.{IsProper}
 use Rattle.fts_record.specs.Reading.{Read, entry_at, entry_in, ok_of, read_of, whole}
 use Rattle.fts_journal.specs.Once.{StandsForOne, StandsUncut, IsCutOnce, StandsAsJournal, IsCutAsJournal}
-use Rattle.fts_journal.specs.Loading.{IsNotJournal, IsCut}
 use Rattle.fts_keep.specs.Keeps.{bodies_of}
-use Rattle.fts_keep.specs.Damage.{fault_behind, fault_at, fault_from, fault_in, HasFault, IsDamaged, IsWhole, DamageIsOne}
+use Rattle.fts_keep.specs.Damage.{fault_behind, fault_at, fault_from, fault_in, IsDamaged, IsWhole, DamageIsOne}
 use Rattle.fts_keep.specs.Views.{entries_in}
 use Rattle.fts_keep.proofs.Lists.{entries_again}
 

@@ -1,5 +1,5 @@
 -- The exits of an acceptance, each with what the keep is then: refused by a check, a doubt that couldn't be settled, an append that failed, and done.
-use Rattle.std.proofs.Common.{◌≡◌, refl, ap, sym, ◌∙◌, subst, inl, inr, ⊎_elim, ◌⊎◌, ℕ, ◌+◌, ◌*◌, ◌≤◌, ◌<◌, Bool, true, false, List, [], ◌∷◌, ◌++◌, length, Option, Some, None, option_map, option_and_then, if◌then◌else◌, is_some, Result, Ok, Err, IsOk, IfErr, OnOk, OnErr, All, arith}
+use Rattle.std.proofs.Common.{◌≡◌, refl, ap, sym, ◌∙◌, subst, inl, inr, ⊎_elim, ◌⊎◌, ℕ, ◌+◌, ◌≤◌, Bool, true, false, List, [], ◌∷◌, ◌++◌, length, Option, Some, None, option_and_then, if◌then◌else◌, Result, Ok, Err, IsOk, IfErr, OnOk, OnErr, arith}
 use Rattle.std.proofs.lemmas.Bool.{leb-true}
 use Rattle.std.proofs.lemmas.List.{length-append}
 use Rattle.std.proofs.lemmas.List.Elements.{All-push}
@@ -7,7 +7,6 @@ use Rattle.fts_tables.specs.Counts.{Rose}
 use Rattle.fts_tables.specs.Tables.{Tables, empty_tables}
 use Rattle.fts_tables.specs.Step.{Outcomes, step}
 use Rattle.fts_tables.specs.History.{tables_of, IsAccepted, IsLegal}
-use Rattle.fts_tables.specs.declared.limits.TheConstants.{MAX_JOURNAL_BYTES}
 use Rattle.fts_tables.specs.declared.commands.Entry.{Entry}
 use Rattle.fts_tables.specs.declared.commands.Answer.{Answer}
 use Rattle.fts_record.specs.Spelling.{spelled}
@@ -20,14 +19,14 @@ use Rattle.fts_journal.specs.Journal.{JournalData, IsSound, FailsToAppend, Appen
 use Rattle.fts_journal.specs.declared.fault.JournalFault.{JournalFault}
 use Rattle.fts_journal.specs.declared.fault.JournalFault.TheVariants.{DiskFailed as JournalDiskFailed, Full, NotJournal, Cut, Memory as JournalMemory}
 use Rattle.fts_keep.specs.Faults.{fault_of}
-use Rattle.fts_keep.specs.Keeps.{KeepData, HoldsList, IsListOf, IsFold, IsImageOf, StandsFor, bodies_of, used_of, with_doubt}
+use Rattle.fts_keep.specs.Keeps.{KeepData, IsListOf, IsFold, bodies_of, used_of}
 use Rattle.fts_keep.specs.Views.{keep_of, entries_in, IsTied, list_if, option_if}
-use Rattle.fts_keep.specs.Applied.{Applied, AppliesSafely, Accepts, FailsByDisk, LacksMemory, KeepsList, IsImageDuring, Checks, applied_to, applied_by, fits}
+use Rattle.fts_keep.specs.Applied.{Applied, AppliesSafely, KeepsList, IsImageDuring, Checks, applied_to, applied_by, fits}
 use Rattle.fts_keep.specs.declared.fault.KeepFault.{KeepFault}
 use Rattle.fts_keep.specs.declared.fault.KeepFault.TheVariants.{Rule, DiskFailed, JournalFull, Damaged, Memory}
 use Rattle.fts_keep.proofs.Moments.{begun, joined, weakened, rose_later}
 use Rattle.fts_keep.proofs.Lists.{legal_list, legal_more, proper_list, bodies_more, filled_more, image_of, accepted_by, accepted_tables, list_more, spelled_some}
-use Rattle.fts_keep.proofs.Tying.{IsHeld, Holding, list_told, option_told, seen_entries, seen_doubt, holds, tie, held}
+use Rattle.fts_keep.proofs.Tying.{IsHeld, option_told, seen_entries, seen_doubt, tie, held}
 
 -- what a settling did, by its clauses
 pub record Settles {D : Type 0} (state : D → DiskState) (faults : D → ℕ) (old new : JournalData D) (result : Result (Unit {0}) JournalFault) : Type 0 where

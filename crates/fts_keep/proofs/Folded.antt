@@ -1,18 +1,16 @@
 -- The loop over the bodies of a journal: one entry more, a fault, and the end.
-use Rattle.std.proofs.Common.{◌≡◌, refl, ap, sym, ◌∙◌, subst, ℕ, zero, suc, ◌+◌, ◌≤◌, ◌<◌, List, [], ◌∷◌, ◌++◌, length, take, drop, slice_get, Option, Some, None, Result, Ok, Err, IfErr, inl, inr, ◌⊎◌, All, arith, add-one}
+use Rattle.std.proofs.Common.{◌≡◌, refl, ap, sym, ◌∙◌, subst, ℕ, zero, suc, ◌+◌, ◌≤◌, List, [], ◌∷◌, ◌++◌, length, take, drop, slice_get, Option, Some, Result, Ok, Err, IfErr, inl, inr, ◌⊎◌, arith, add-one}
 use Rattle.std.proofs.lemmas.List.{length-append}
 use Rattle.std.proofs.lemmas.List.Elements.{All-nil, All-push}
 use Rattle.std.specs.Result.{IsErrAnd}
 use Rattle.fts_tables.specs.Counts.{Rose}
 use Rattle.fts_tables.specs.Tables.{Tables, empty_tables}
 use Rattle.fts_tables.specs.Step.{Outcomes, step}
-use Rattle.fts_tables.specs.History.{tables_of, tables_after, IsAccepted, IsLegal}
-use Rattle.fts_tables.specs.declared.commands.Entry.{Entry}
+use Rattle.fts_tables.specs.History.{tables_after, IsAccepted}
 use Rattle.fts_tables.specs.declared.commands.Answer.{Answer}
-use Rattle.fts_record.specs.Spelling.{spelled}
 use Rattle.fts_record.specs.Proper.{IsProper}
 use Rattle.fts_record.specs.Reading.{entry_in}
-use Rattle.fts_disk.specs.Disk.{DiskState, IsTold, IsLawful, LeavesOnly}
+use Rattle.fts_disk.specs.Disk.{DiskState, IsTold, IsLawful}
 use Rattle.fts_journal.specs.Journal.{JournalData, Keeps}
 use Rattle.fts_journal.specs.declared.fault.JournalFault.{JournalFault}
 use Rattle.fts_journal.specs.declared.fault.JournalFault.TheVariants.{DiskFailed as JournalDiskFailed, Memory as JournalMemory}
@@ -21,7 +19,7 @@ use Rattle.fts_keep.specs.declared.fault.KeepFault.{KeepFault}
 use Rattle.fts_keep.specs.declared.fault.KeepFault.TheVariants.{Rule, DiskFailed, JournalFull, Damaged, Memory}
 use Rattle.fts_keep.specs.Keeps.{bodies_of}
 use Rattle.fts_keep.specs.Damage.{fault_behind, fault_at, fault_from, fault_in}
-use Rattle.fts_keep.specs.Folding.{Takes, TakesEntry, LeavesJournal, HasFolded, Folds, FoldFault}
+use Rattle.fts_keep.specs.Folding.{Takes, TakesEntry, LeavesJournal, HasFolded, FoldFault}
 use Rattle.fts_keep.proofs.Lists.{tables_from-append, legal_more, bodies_more}
 use Rattle.fts_keep.proofs.Moments.{same_still, more_still, rose_later}
 

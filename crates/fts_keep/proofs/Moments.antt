@@ -1,5 +1,5 @@
 -- What a crash leaves at the moments of calls of a disk: one run of calls after another, and what follows from what is left.
-use Rattle.std.proofs.Common.{inl, inr, ⊎_elim, ℕ, List, ◌≤◌, ◌<◌, ◌⊎◌, arith}
+use Rattle.std.proofs.Common.{inl, inr, ⊎_elim, ℕ, List, ◌≤◌, ◌⊎◌, arith}
 use Rattle.fts_tables.specs.Counts.{Rose}
 use Rattle.fts_disk.specs.Disk.{DiskState, LeavesOnly, IsLawful, Looks}
 use Rattle.fts_journal.specs.Loading.{IsQuiet}

@@ -1,9 +1,8 @@
 -- Settings, once they are in force, stay so: a Restart puts others in their place, and no other command touches them.
-use Rattle.std.proofs.Common.{◌≡◌, refl, sym, subst, ℕ, Bool, true, false, if◌then◌else◌, Option, Some, None, IsSome, rules, arith, option_and_then, max, Result, Ok, Err}
-use Rattle.fts_tables.specs.SettingsData.{SettingsData}
+use Rattle.std.proofs.Common.{◌≡◌, refl, subst, ℕ, Bool, true, false, if◌then◌else◌, Option, Some, None, IsSome, rules, arith, option_and_then, max, Ok, Err}
 use Rattle.fts_tables.specs.JobData.{JobData}
-use Rattle.fts_tables.specs.Tables.{Tables, is_active, job_at, row_at, rows_of_job, number_of_id}
-use Rattle.fts_tables.specs.Step.{Outcomes, step, submit_by, submit_within, cancel_rows, cancel_row, cancel_one, cancel_file, set_priority, claim, report, report_of, on_job}
+use Rattle.fts_tables.specs.Tables.{Tables, job_at, row_at, number_of_id}
+use Rattle.fts_tables.specs.Step.{Outcomes, step, submit_by, cancel_rows, cancel_row, cancel_one, cancel_file, set_priority, claim, report, report_of}
 use Rattle.fts_tables.specs.declared.rows.FileRow.{FileRow}
 use Rattle.fts_tables.specs.declared.rows.JobRow.{JobRow}
 use Rattle.fts_tables.specs.declared.rows.JobKind.{JobKind}

@@ -1,12 +1,10 @@
 -- How a keep begins: the journal that was opened, the fold of its bodies, and the Restart that was accepted or not.
-use Rattle.std.proofs.Common.{◌≡◌, ◌≢◌, refl, ap, sym, ◌∙◌, subst, inl, inr, ⊎_elim, ◌⊎◌, ℕ, ◌+◌, ◌*◌, ◌≤◌, ◌<◌, Bool, true, false, if◌then◌else◌, List, [], ◌∷◌, ◌++◌, length, Option, Some, None, option_map, IsSome, Result, Ok, Err, IsOk, All, arith}
+use Rattle.std.proofs.Common.{◌≡◌, ◌≢◌, refl, ap, sym, ◌∙◌, subst, inl, inr, ⊎_elim, ◌⊎◌, ℕ, ◌≤◌, Bool, true, false, if◌then◌else◌, List, [], ◌∷◌, ◌++◌, length, Some, None, Ok, Err, IsOk, arith}
 use Rattle.std.proofs.lemmas.List.{length-append}
-use Rattle.fts_tables.specs.Counts.{Rose}
 use Rattle.fts_tables.specs.SettingsData.{SettingsData}
 use Rattle.fts_tables.specs.Tables.{Tables}
 use Rattle.fts_tables.specs.Step.{step}
-use Rattle.fts_tables.specs.History.{tables_of, IsLegal}
-use Rattle.fts_tables.specs.declared.limits.TheConstants.{MAX_JOURNAL_BYTES}
+use Rattle.fts_tables.specs.History.{IsLegal}
 use Rattle.fts_tables.specs.declared.commands.Entry.{Entry}
 use Rattle.fts_tables.specs.declared.commands.Answer.{Answer}
 use Rattle.fts_tables.specs.declared.commands.Refusal.{Refusal}
@@ -16,19 +14,19 @@ use Rattle.fts_record.specs.Reading.{read_of}
 use Rattle.fts_desk.specs.DeskData.{DeskData}
 use Rattle.fts_disk.specs.Disk.{DiskState, IsTold, IsLawful, LeavesOnly}
 use Rattle.fts_journal.specs.Format.{Stands, front, used_by}
-use Rattle.fts_journal.specs.Journal.{JournalData, IsMaking, IsSound, IsImageOf as IsJournalImage}
-use Rattle.fts_keep.specs.Keeps.{KeepData, HoldsList, IsListOf, IsFold, IsImageOf, IsImageSince, StandsFor, bodies_of, used_of, with_doubt}
+use Rattle.fts_journal.specs.Journal.{JournalData, IsMaking, IsImageOf as IsJournalImage}
+use Rattle.fts_keep.specs.Keeps.{KeepData, IsImageSince, StandsFor, bodies_of, with_doubt}
 use Rattle.fts_keep.specs.Views.{keep_of, entries_in, IsTied}
-use Rattle.fts_keep.specs.Damage.{IsDamaged, IsWhole, HasFault, DamageIsOne, fault_in}
-use Rattle.fts_keep.specs.Applied.{Applied, AppliesSafely, Accepts, IsImageDuring, applied_to, applied_by, fits}
+use Rattle.fts_keep.specs.Damage.{IsDamaged, IsWhole, DamageIsOne, fault_in}
+use Rattle.fts_keep.specs.Applied.{Applied, AppliesSafely, IsImageDuring, fits}
 use Rattle.fts_keep.specs.Folding.{Folds, LeavesJournal, FoldFault}
 use Rattle.fts_keep.specs.Opening.{OpensJournal, OpensNot, Makes, OpenFault, StandsOrIsEmpty}
-use Rattle.fts_keep.specs.Started.{restart_at, restarted, Opens, IsStill, IsOpened, Starts, StartsOver, StartsNot, StartFault, Started, Views, ViewFault, Viewed}
+use Rattle.fts_keep.specs.Started.{restart_at, restarted, Opens, IsStill, IsOpened, StartFault, Started}
 use Rattle.fts_keep.specs.declared.fault.KeepFault.{KeepFault}
 use Rattle.fts_keep.specs.declared.fault.KeepFault.TheVariants.{Rule, DiskFailed, JournalFull, Damaged, Memory}
-use Rattle.fts_keep.proofs.Moments.{begun, joined, weakened, behind_still, still_still, quiet_still, rose_later, rose_before}
-use Rattle.fts_keep.proofs.Lists.{none_more, legal_more, bodies_more, accepted_tables}
-use Rattle.fts_keep.proofs.Tying.{IsHeld, Holding, list_untold, seen_entries, seen_doubt, tie, held}
+use Rattle.fts_keep.proofs.Moments.{joined, weakened, behind_still, still_still, quiet_still, rose_later}
+use Rattle.fts_keep.proofs.Lists.{none_more, legal_more, accepted_tables}
+use Rattle.fts_keep.proofs.Tying.{IsHeld, list_untold, seen_entries, seen_doubt, tie}
 use Rattle.fts_keep.proofs.Exits.{fits_by}
 
 -- an empty content stands for nothing

@@ -1,6 +1,5 @@
 -- A desk tied to its journal: what that says over a disk that tells its contents, and what it needs.
-use Rattle.std.proofs.Common.{◌≡◌, refl, ap, sym, ◌∙◌, subst, ℕ, ◌+◌, ◌*◌, ◌≤◌, ◌<◌, Bool, true, false, if◌then◌else◌, List, [], ◌∷◌, ◌++◌, length, Option, Some, None, option_map, option_and_then, is_some, All, arith}
-use Rattle.fts_tables.specs.Tables.{Tables}
+use Rattle.std.proofs.Common.{◌≡◌, ap, sym, ◌∙◌, ◌+◌, ◌*◌, ◌≤◌, ◌<◌, Bool, true, false, List, [], length, Option, Some, option_map, option_and_then, is_some, All}
 use Rattle.fts_tables.specs.History.{tables_of, IsLegal}
 use Rattle.fts_tables.specs.declared.limits.TheConstants.{MAX_JOURNAL_BYTES}
 use Rattle.fts_tables.specs.declared.commands.Entry.{Entry}
@@ -9,11 +8,10 @@ use Rattle.fts_record.specs.Proper.{IsProper}
 use Rattle.fts_record.specs.Reading.{read_of}
 use Rattle.fts_desk.specs.DeskData.{DeskData}
 use Rattle.fts_disk.specs.Disk.{DiskState, IsTold}
-use Rattle.fts_journal.specs.Format.{used_by}
 use Rattle.fts_journal.specs.Journal.{JournalData, IsSound}
-use Rattle.fts_keep.specs.Keeps.{KeepData, HoldsList, IsListOf, IsFold, bodies_of, used_of, with_doubt}
+use Rattle.fts_keep.specs.Keeps.{HoldsList, IsListOf, bodies_of, used_of, with_doubt}
 use Rattle.fts_keep.specs.Views.{entries_in, list_if, option_if, keep_of, IsTied}
-use Rattle.fts_keep.proofs.Lists.{entries_again, doubt_again, proper_list, legal_list, image_of}
+use Rattle.fts_keep.proofs.Lists.{entries_again, doubt_again, proper_list, image_of}
 
 -- what is seen where it is told
 pub list_told : {A : Type 0} (told : Bool) (items : List A) → told ≡ true → list_if told items ≡ items

@@ -1,5 +1,5 @@
 -- Three exits go past a call of the journal: an append that failed, and what was done; a settling that failed is found by search.
-use Rattle.std.proofs.Common.{◌≡◌, ◌∙◌, subst, IsOk, IfSome, Ok, Err, ap, sym, arith, length}
+use Rattle.std.proofs.Common.{◌≡◌, ◌∙◌, subst, IsOk, IfSome, Ok, Err, ap, arith, length}
 use Rattle.fts_tables.specs.Step.{step}
 use Rattle.fts_keep.specs.Applied.{applied_to}
 use Rattle.fts_keep.proofs.Lists.{spelled_some}

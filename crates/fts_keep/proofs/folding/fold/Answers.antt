@@ -1,6 +1,5 @@
 -- Each exit of the loop, by the lemmas of `Folded`.
-use Rattle.std.proofs.Common.{◌≡◌, ◌∙◌, refl, ap, sym, subst, ◌+◌, ◌≤◌, slice_get, Some, length, rules, arith}
-use Rattle.fts_disk.specs.Disk.{IsTold}
+use Rattle.std.proofs.Common.{◌≡◌, ◌∙◌, ap, sym, subst, ◌+◌, ◌≤◌, slice_get, Some, length, rules, arith}
 use Rattle.fts_keep.specs.Faults.{fault_of}
 use Rattle.fts_keep.specs.Folding.{HasFolded, FoldFault}
 use Rattle.fts_keep.proofs.Folded.{folded_none, folded_more, leaves_none, leaves_more, read_fault, take_fault, on_err, take_all}

@@ -1,7 +1,3 @@
-use Rattle.fts_keep.proofs.Exits.{done_tied}
-use Rattle.fts_keep.proofs.Folded.{folded_fault}
-use Rattle.fts_keep.proofs.Starting.{unstarted}
-use Rattle.fts_keep.proofs.Settled.{settings_stay}
 use Rattle.fts_keep.proofs.Damaged.{damage_once}
 use Rattle.fts_keep.proofs.laws.damage_is_one.Goals as goal
 
