@@ -300,7 +300,8 @@ module _ {D : Type 0} (state : D → DiskState) (faults : D → ℕ) (reads : (e
                 (quiet_still (state disk) (state journal.disk) ((opens.own told).quiet (whole_some (state disk).seen opening sound)))
                 (since_opening told (restarted folds.entries now settings) refl));
             made = λ told empty.
-                let same : folds.entries ≡ [] = ⊎_elim (λ none. none.1) (λ own. absurd (whole_some (state disk).seen folds.entries own empty)) (opened_list told) in
+                let same : folds.entries ≡ [] = ⊎_elim (λ none. none.1) (λ own. absurd (whole_some (state disk).seen folds.entries own empty))
+                    (opened_list told) in
                 joined (state disk) (state journal.disk) (state last.disk)
                 (λ content. IsMaking (state disk) content ⊎ IsImageSince [] (restarted [] now settings) content)
                 (weakened (state disk) (state journal.disk) (IsMaking (state disk)) _ (made told empty) (λ content there. inl there))

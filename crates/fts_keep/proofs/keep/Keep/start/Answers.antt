@@ -1,4 +1,4 @@
--- The exits of a start that search doesn't find: no journal, bodies that weren't folded, the fold's desk handed on, a Restart that was accepted, and one that wasn't.
+-- The exits of a start: no journal, bodies that weren't folded, the desk of the fold handed on, a Restart that was accepted, and one that was not.
 use Rattle.std.proofs.Common.{sym, subst, Err}
 use Rattle.fts_keep.specs.Started.{Started}
 use Rattle.fts_keep.proofs.Starting.{unopened, unfolded, folded_tied, started, unstarted}
