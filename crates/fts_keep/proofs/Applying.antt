@@ -1,25 +1,23 @@
 -- What an applied command comes to, as callers need it: settings stay in force, the list only grows, and images compose.
-use Rattle.std.proofs.Common.{◌≡◌, refl, ap, sym, ◌∙◌, subst, inl, inr, ℕ, ◌+◌, ◌≤◌, Bool, true, false, if◌then◌else◌, List, [], ◌∷◌, ◌++◌, Option, Some, None, IsSome, Result, Ok, Err, All, arith}
+use Rattle.std.proofs.Common.{◌≡◌, refl, ap, sym, ◌∙◌, subst, inl, inr, ℕ, ◌≤◌, Bool, true, false, if◌then◌else◌, List, [], ◌∷◌, ◌++◌, Option, Some, None, IsSome, Result, Ok, Err}
 use Rattle.std.proofs.lemmas.List.Elements.{All-nil, All-cons}
-use Rattle.fts_tables.specs.SettingsData.{SettingsData}
 use Rattle.fts_tables.specs.Tables.{Tables, empty_tables}
 use Rattle.fts_tables.specs.Step.{Outcomes, step}
 use Rattle.fts_tables.specs.History.{IsAccepted, IsLegal}
 use Rattle.fts_tables.specs.declared.commands.Entry.{Entry}
 use Rattle.fts_tables.specs.declared.commands.Answer.{Answer}
 use Rattle.fts_desk.specs.DeskData.{DeskData}
-use Rattle.fts_disk.specs.Disk.{DiskState, IsTold, LeavesOnly}
+use Rattle.fts_disk.specs.Disk.{DiskState, IsTold}
 use Rattle.fts_journal.specs.Journal.{JournalData}
 use Rattle.fts_keep.specs.Keeps.{KeepData, HoldsList, IsFold, IsImageSince, Grows, KeepsImages, StandsFor, with_doubt}
 use Rattle.fts_keep.specs.Views.{keep_of, entries_in, IsTied, IsKept}
-use Rattle.fts_keep.specs.Applied.{Applied, AppliesSafely, IsImageDuring, applied_to, applied_by, fits}
-use Rattle.fts_keep.specs.Started.{restart_at}
+use Rattle.fts_keep.specs.Applied.{Applied, AppliesSafely, IsImageDuring, applied_by, fits}
 use Rattle.fts_keep.specs.declared.fault.KeepFault.{KeepFault}
 use Rattle.fts_keep.specs.declared.fault.KeepFault.TheVariants.{Rule, DiskFailed, JournalFull, Damaged, Memory}
 use Rattle.fts_keep.proofs.Lists.{none_more, legal_list, legal_more, accepted_by}
 use Rattle.fts_keep.proofs.Moments.{weakened}
 use Rattle.fts_keep.proofs.Tying.{list_untold}
-use Rattle.fts_keep.proofs.Settled.{settings_stay, settings_begin}
+use Rattle.fts_keep.proofs.Settled.{settings_stay}
 
 -- what fits comes to what it is
 fit_of : (fit : Bool) (used : ℕ) (found done : Tables × Answer) → (if fit then Ok found else Err (JournalFull used)) ≡ Ok done → found ≡ done
@@ -33,8 +31,10 @@ step_of used entry (Ok found) done is = ap (λ (d : Tables × Answer). Ok d) (fi
 
 module _ {D : Type 0} (state : D → DiskState) (faults : D → ℕ) (desk next : DeskData) (journal last : JournalData D) (entry : Entry) where
   -- settings that were in force still are
-  settings_in : IsSome desk.tables.settings → (result : Result Answer KeepFault) → Applied state faults (keep_of state desk journal) (keep_of state next last) entry result → IsSome next.tables.settings
-  settings_in some (Ok answer) applied = settings_stay desk.tables next.tables entry.command answer some (step_of journal.used entry (step desk.tables entry.command) (next.tables, answer) applied.done)
+  settings_in : IsSome desk.tables.settings → (result : Result Answer KeepFault)
+      → Applied state faults (keep_of state desk journal) (keep_of state next last) entry result → IsSome next.tables.settings
+  settings_in some (Ok answer) applied = settings_stay desk.tables next.tables entry.command answer some
+      (step_of journal.used entry (step desk.tables entry.command) (next.tables, answer) applied.done)
   settings_in some (Err (Rule refusal)) applied = subst (λ (t : Tables). IsSome t.settings) (sym (ap (λ (k : KeepData D). k.tables) applied.1)) some
   settings_in some (Err (JournalFull used)) applied = subst (λ (t : Tables). IsSome t.settings) (sym (ap (λ (k : KeepData D). k.tables) applied.1)) some
   settings_in some (Err DiskFailed) applied = subst (λ (t : Tables). IsSome t.settings) (sym applied.keeps.tables) some
@@ -42,12 +42,14 @@ module _ {D : Type 0} (state : D → DiskState) (faults : D → ℕ) (desk next 
   settings_in some (Err (Damaged offset)) applied = absurd applied
 
   -- a keep is one still
-  pub kept_after : (result : Result Answer KeepFault) → IsKept state desk journal → Applied state faults (keep_of state desk journal) (keep_of state next last) entry result → IsTied state next last → IsKept state next last
+  pub kept_after : (result : Result Answer KeepFault) → IsKept state desk journal
+      → Applied state faults (keep_of state desk journal) (keep_of state next last) entry result → IsTied state next last → IsKept state next last
   kept_after result kept applied tied = record { settings = settings_in kept.settings result applied; tied = tied }
 
   module _ (counts : faults journal.disk ≤ faults last.disk) where
     -- nothing was added
-    added_none : (keep_of state next last).entries ≡ (keep_of state desk journal).entries → (state last.disk).told ≡ (state journal.disk).told → Grows state faults entry.writer (keep_of state desk journal) (keep_of state next last)
+    added_none : (keep_of state next last).entries ≡ (keep_of state desk journal).entries → (state last.disk).told ≡ (state journal.disk).told
+        → Grows state faults entry.writer (keep_of state desk journal) (keep_of state next last)
     added_none entries told = record {
       added = [];
       appended = entries ∙ sym (none_more (keep_of state desk journal).entries);
@@ -58,7 +60,8 @@ module _ {D : Type 0} (state : D → DiskState) (faults : D → ℕ) (desk next 
 
     -- this entry was added, where the list is told
     added_one : (told : Bool) → told ≡ (state journal.disk).told → (state last.disk).told ≡ (state journal.disk).told
-        → (IsTold (state journal.disk) → (keep_of state next last).entries ≡ (keep_of state desk journal).entries ++ entry ∷ []) → Grows state faults entry.writer (keep_of state desk journal) (keep_of state next last)
+        → (IsTold (state journal.disk) → (keep_of state next last).entries ≡ (keep_of state desk journal).entries ++ entry ∷ [])
+            → Grows state faults entry.writer (keep_of state desk journal) (keep_of state next last)
     added_one true is told listed = record {
       added = entry ∷ [];
       appended = listed (sym is);
@@ -67,10 +70,12 @@ module _ {D : Type 0} (state : D → DiskState) (faults : D → ℕ) (desk next 
       told = told;
     }
     added_one false is told listed = added_none
-        (list_untold (state last.disk).told (entries_in last.bodies) (told ∙ sym is) ∙ sym (list_untold (state journal.disk).told (entries_in journal.bodies) (sym is))) told
+        (list_untold (state last.disk).told (entries_in last.bodies) (told ∙ sym is)
+            ∙ sym (list_untold (state journal.disk).told (entries_in journal.bodies) (sym is))) told
 
     -- the list only grows, by entries of this writer
-    pub grown : (result : Result Answer KeepFault) → Applied state faults (keep_of state desk journal) (keep_of state next last) entry result → Grows state faults entry.writer (keep_of state desk journal) (keep_of state next last)
+    pub grown : (result : Result Answer KeepFault) → Applied state faults (keep_of state desk journal) (keep_of state next last) entry result
+        → Grows state faults entry.writer (keep_of state desk journal) (keep_of state next last)
     grown (Ok answer) applied = added_one (state journal.disk).told refl applied.told (λ told. (applied.listed told).0)
     grown (Err (Rule refusal)) applied = added_none (ap (λ (k : KeepData D). k.entries) applied.1) (ap (λ (k : KeepData D). (state k.disk).told) applied.1)
     grown (Err (JournalFull used)) applied = added_none (ap (λ (k : KeepData D). k.entries) applied.1) (ap (λ (k : KeepData D). (state k.disk).told) applied.1)
@@ -78,25 +83,19 @@ module _ {D : Type 0} (state : D → DiskState) (faults : D → ℕ) (desk next 
     grown (Err Memory) applied = added_none applied.keeps.entries applied.keeps.told
     grown (Err (Damaged offset)) applied = absurd applied
 
--- the keep after a start
-pub kept_first : {D : Type 0} (state : D → DiskState) (faults : D → ℕ) (desk next : DeskData) (journal last : JournalData D) (now : ℕ) (settings : SettingsData) (answer : Answer)
-    → Applied state faults (keep_of state desk journal) (keep_of state next last) (restart_at now settings) (Ok answer) → IsTied state next last → IsKept state next last
-kept_first state faults desk next journal last now settings answer applied tied = record {
-  settings = settings_begin desk.tables next.tables now settings answer
-      (step_of journal.used (restart_at now settings) (step desk.tables (restart_at now settings).command) (next.tables, answer) applied.done);
-  tied = tied;
-}
-
 -- images that are those of a list, with one entry more at most, are so since any opening of that list
-pub images_since : {D : Type 0} (state : D → DiskState) (faults : D → ℕ) (old new : KeepData D) (entry : Entry) (opening since : List Entry) → IsFold state old → IsTold (state old.disk)
+pub images_since : {D : Type 0} (state : D → DiskState) (faults : D → ℕ) (old new : KeepData D) (entry : Entry) (opening since : List Entry)
+    → IsFold state old → IsTold (state old.disk)
     → Grows state faults entry.writer old new → old.entries ≡ opening ++ since → AppliesSafely state old new entry → KeepsImages state opening old new
-images_since state faults old new entry opening since fold told grows is safe = weakened (state old.disk) (state new.disk) (IsImageDuring old entry) (IsImageSince opening new.entries) (safe told) image
+images_since state faults old new entry opening since fold told grows is safe = weakened (state old.disk) (state new.disk) (IsImageDuring old entry)
+    (IsImageSince opening new.entries) (safe told) image
   where
     held : HoldsList (state old.disk) old.entries old.doubt old.tables old.commands old.used old.in_doubt
     held = fold.holds told
 
     -- the list then, with a doubt
-    with : (doubt : Option Entry) (content : List ℕ) → IsLegal (with_doubt old.entries doubt) → StandsFor content (with_doubt old.entries doubt) → IsImageSince opening new.entries content
+    with : (doubt : Option Entry) (content : List ℕ) → IsLegal (with_doubt old.entries doubt) → StandsFor content (with_doubt old.entries doubt)
+        → IsImageSince opening new.entries content
     with doubt content legal stands = record {
       since = since;
       later = grows.added;

@@ -1,5 +1,5 @@
 -- The bytes of a file are damaged at one place, or whole for one list: by the laws of the journal's format and of the spelling.
-use Rattle.std.proofs.Common.{◌≡◌, refl, ap, sym, ◌∙◌, subst, inl, inr, ◌⊎◌, ℕ, ◌+◌, ◌≤◌, ◌-◌, suc, List, [], ◌∷◌, length, Option, Some, None, Result, Ok, Err, All, arith}
+use Rattle.std.proofs.Common.{◌≡◌, refl, ap, sym, ◌∙◌, inl, inr, ℕ, ◌+◌, ◌≤◌, ◌-◌, suc, List, [], ◌∷◌, length, Option, Some, None, Result, Ok, Err, All, arith}
 use Rattle.std.proofs.lemmas.List.Elements.{All-head, All-tail}
 use Rattle.fts_tables.specs.Tables.{Tables, empty_tables}
 use Rattle.fts_tables.specs.Step.{Outcomes, step}
@@ -9,9 +9,8 @@ use Rattle.fts_record.specs.Spelling.{spelled}
 use Rattle.fts_record.specs.Proper.{IsProper}
 use Rattle.fts_record.specs.Reading.{Read, entry_at, entry_in, ok_of, read_of, whole}
 use Rattle.fts_journal.specs.Once.{StandsForOne, StandsUncut, IsCutOnce, StandsAsJournal, IsCutAsJournal}
-use Rattle.fts_journal.specs.Loading.{IsNotJournal, IsCut}
 use Rattle.fts_keep.specs.Keeps.{bodies_of}
-use Rattle.fts_keep.specs.Damage.{fault_behind, fault_at, fault_from, fault_in, HasFault, IsDamaged, IsWhole, DamageIsOne}
+use Rattle.fts_keep.specs.Damage.{fault_behind, fault_at, fault_from, fault_in, IsDamaged, IsWhole, DamageIsOne}
 use Rattle.fts_keep.specs.Views.{entries_in}
 use Rattle.fts_keep.proofs.Lists.{entries_again}
 
@@ -35,13 +34,15 @@ place_inside bytes place is = by (entry_at bytes) is
     by (Ok (entry, byte ∷ rest)) e = let at : length bytes - suc (length rest) ≡ place = cc in omega arith
 
 -- an entry that is accepted leads on
-pub leads_on : (tables : Tables) (gate : ℕ) (came : Outcomes) (later : Tables → Option ℕ) → IsAccepted came → fault_behind gate came later ≡ later (tables_after tables came)
+pub leads_on : (tables : Tables) (gate : ℕ) (came : Outcomes) (later : Tables → Option ℕ) → IsAccepted came
+    → fault_behind gate came later ≡ later (tables_after tables came)
 leads_on tables gate (Ok done) later accepted = refl
 leads_on tables gate (Err refusal) later accepted = absurd accepted
 
 module _ (reads : (entry : Entry) → IsProper entry → read_of (spelled entry) ≡ Some entry) where
   -- the spellings of a legal list have no fault
-  no_fault : (tables : Tables) (gate : ℕ) (entries : List Entry) → All IsProper entries → IsLegalFrom tables entries → fault_from tables gate (bodies_of entries) ≡ None
+  no_fault : (tables : Tables) (gate : ℕ) (entries : List Entry) → All IsProper entries → IsLegalFrom tables entries
+      → fault_from tables gate (bodies_of entries) ≡ None
   no_fault tables gate [] proper legal = refl
   no_fault tables gate (entry ∷ entries) proper legal =
       ap (λ read. fault_at tables gate read (λ next. fault_from next (gate + 5 + length (spelled entry)) (bodies_of entries)))
@@ -49,7 +50,8 @@ module _ (reads : (entry : Entry) → IsProper entry → read_of (spelled entry)
       ∙ leads_on tables gate (step tables entry.command) (λ next. fault_from next (gate + 5 + length (spelled entry)) (bodies_of entries)) legal.0
       ∙ no_fault (tables_after tables (step tables entry.command)) (gate + 5 + length (spelled entry)) entries (All-tail IsProper entry entries proper) legal.1
 
-  module _ (stands_one : StandsForOne) (uncut : StandsUncut) (cut_once : IsCutOnce) (stands_as : StandsAsJournal) (cut_as : IsCutAsJournal) (content : List ℕ) where
+  module _ (stands_one : StandsForOne) (uncut : StandsUncut) (cut_once : IsCutOnce) (stands_as : StandsAsJournal) (cut_as : IsCutAsJournal)
+      (content : List ℕ) where
     one_offset : (one other : ℕ) → IsDamaged content one → IsDamaged content other → one ≡ other
     one_offset one other (inl first) (inl second) = first.1 ∙ sym second.1
     one_offset one other (inl first) (inr (inl cut)) = absurd (cut_as content other first.0 cut)
@@ -60,13 +62,15 @@ module _ (reads : (entry : Entry) → IsProper entry → read_of (spelled entry)
     one_offset one other (inr (inr fault)) (inl second) = absurd (stands_as content fault.bodies second.0 fault.stands)
     one_offset one other (inr (inr fault)) (inr (inl cut)) = absurd (uncut content fault.bodies other fault.stands cut)
     one_offset one other (inr (inr fault)) (inr (inr second)) =
-        let same : Some one ≡ Some other = sym fault.fault ∙ ap fault_in (stands_one content fault.bodies second.bodies fault.stands second.stands) ∙ second.fault in cc
+        let same : Some one ≡ Some other = sym fault.fault ∙ ap fault_in (stands_one content fault.bodies second.bodies fault.stands second.stands)
+            ∙ second.fault in cc
 
     not_both : (offset : ℕ) (entries : List Entry) → IsDamaged content offset → IsWhole content entries → ⊥
     not_both offset entries (inl other) sound = stands_as content (bodies_of entries) other.0 sound.stands
     not_both offset entries (inr (inl cut)) sound = uncut content (bodies_of entries) offset sound.stands cut
     not_both offset entries (inr (inr fault)) sound =
-        let same : Some offset ≡ None = sym fault.fault ∙ ap fault_in (stands_one content fault.bodies (bodies_of entries) fault.stands sound.stands) ∙ no_fault empty_tables 8 entries sound.proper sound.legal in cc
+        let same : Some offset ≡ None = sym fault.fault ∙ ap fault_in (stands_one content fault.bodies (bodies_of entries) fault.stands sound.stands)
+            ∙ no_fault empty_tables 8 entries sound.proper sound.legal in cc
 
     -- both the place and the list are one, and they exclude each other
     pub damage_once : DamageIsOne content
@@ -74,5 +78,6 @@ module _ (reads : (entry : Entry) → IsProper entry → read_of (spelled entry)
       offset = one_offset;
       apart = not_both;
       list = λ one other first second.
-          sym (entries_again reads one first.proper) ∙ ap entries_in (stands_one content (bodies_of one) (bodies_of other) first.stands second.stands) ∙ entries_again reads other second.proper;
+          sym (entries_again reads one first.proper) ∙ ap entries_in (stands_one content (bodies_of one) (bodies_of other) first.stands second.stands)
+              ∙ entries_again reads other second.proper;
     }

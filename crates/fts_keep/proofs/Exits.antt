@@ -1,5 +1,5 @@
 -- The exits of an acceptance, each with what the keep is then: refused by a check, a doubt that couldn't be settled, an append that failed, and done.
-use Rattle.std.proofs.Common.{◌≡◌, refl, ap, sym, ◌∙◌, subst, inl, inr, ⊎_elim, ◌⊎◌, ℕ, ◌+◌, ◌*◌, ◌≤◌, ◌<◌, Bool, true, false, List, [], ◌∷◌, ◌++◌, length, Option, Some, None, option_map, option_and_then, if◌then◌else◌, is_some, Result, Ok, Err, IsOk, IfErr, OnOk, OnErr, All, arith}
+use Rattle.std.proofs.Common.{◌≡◌, refl, ap, sym, ◌∙◌, subst, inl, inr, ⊎_elim, ◌⊎◌, ℕ, ◌+◌, ◌≤◌, Bool, true, false, List, [], ◌∷◌, ◌++◌, length, Option, Some, None, option_and_then, if◌then◌else◌, Result, Ok, Err, IsOk, IfErr, OnOk, OnErr, arith}
 use Rattle.std.proofs.lemmas.Bool.{leb-true}
 use Rattle.std.proofs.lemmas.List.{length-append}
 use Rattle.std.proofs.lemmas.List.Elements.{All-push}
@@ -7,7 +7,6 @@ use Rattle.fts_tables.specs.Counts.{Rose}
 use Rattle.fts_tables.specs.Tables.{Tables, empty_tables}
 use Rattle.fts_tables.specs.Step.{Outcomes, step}
 use Rattle.fts_tables.specs.History.{tables_of, IsAccepted, IsLegal}
-use Rattle.fts_tables.specs.declared.limits.TheConstants.{MAX_JOURNAL_BYTES}
 use Rattle.fts_tables.specs.declared.commands.Entry.{Entry}
 use Rattle.fts_tables.specs.declared.commands.Answer.{Answer}
 use Rattle.fts_record.specs.Spelling.{spelled}
@@ -20,14 +19,14 @@ use Rattle.fts_journal.specs.Journal.{JournalData, IsSound, FailsToAppend, Appen
 use Rattle.fts_journal.specs.declared.fault.JournalFault.{JournalFault}
 use Rattle.fts_journal.specs.declared.fault.JournalFault.TheVariants.{DiskFailed as JournalDiskFailed, Full, NotJournal, Cut, Memory as JournalMemory}
 use Rattle.fts_keep.specs.Faults.{fault_of}
-use Rattle.fts_keep.specs.Keeps.{KeepData, HoldsList, IsListOf, IsFold, IsImageOf, StandsFor, bodies_of, used_of, with_doubt}
+use Rattle.fts_keep.specs.Keeps.{KeepData, IsListOf, IsFold, bodies_of, used_of}
 use Rattle.fts_keep.specs.Views.{keep_of, entries_in, IsTied, list_if, option_if}
-use Rattle.fts_keep.specs.Applied.{Applied, AppliesSafely, Accepts, FailsByDisk, LacksMemory, KeepsList, IsImageDuring, Checks, applied_to, applied_by, fits}
+use Rattle.fts_keep.specs.Applied.{Applied, AppliesSafely, KeepsList, IsImageDuring, Checks, applied_to, applied_by, fits}
 use Rattle.fts_keep.specs.declared.fault.KeepFault.{KeepFault}
 use Rattle.fts_keep.specs.declared.fault.KeepFault.TheVariants.{Rule, DiskFailed, JournalFull, Damaged, Memory}
 use Rattle.fts_keep.proofs.Moments.{begun, joined, weakened, rose_later}
 use Rattle.fts_keep.proofs.Lists.{legal_list, legal_more, proper_list, bodies_more, filled_more, image_of, accepted_by, accepted_tables, list_more, spelled_some}
-use Rattle.fts_keep.proofs.Tying.{IsHeld, Holding, list_told, option_told, seen_entries, seen_doubt, holds, tie, held}
+use Rattle.fts_keep.proofs.Tying.{IsHeld, option_told, seen_entries, seen_doubt, tie, held}
 
 -- what a settling did, by its clauses
 pub record Settles {D : Type 0} (state : D → DiskState) (faults : D → ℕ) (old new : JournalData D) (result : Result (Unit {0}) JournalFault) : Type 0 where
@@ -45,7 +44,8 @@ pub record Settles {D : Type 0} (state : D → DiskState) (faults : D → ℕ) (
   pub images : IsSound (state new.disk) new.bodies new.doubt
 
 -- what an append did, by its clauses
-pub record Appends {D : Type 0} (state : D → DiskState) (faults : D → ℕ) (old new : JournalData D) (body : List ℕ) (result : Result (Unit {0}) JournalFault) : Type 0 where
+pub record Appends {D : Type 0} (state : D → DiskState) (faults : D → ℕ) (old new : JournalData D) (body : List ℕ) (result : Result (Unit {0}) JournalFault)
+    : Type 0 where
   pub told : (state new.disk).told ≡ (state old.disk).told
   pub ok : OnOk result ((new.count ≡ old.count + 1) × (new.used ≡ old.used + 5 + length body) × (new.in_doubt ≡ false))
   pub err : OnErr result ((new.count ≡ old.count) × (new.used ≡ old.used))
@@ -57,7 +57,8 @@ pub record Appends {D : Type 0} (state : D → DiskState) (faults : D → ℕ) (
   pub images : IsSound (state new.disk) new.bodies new.doubt
 
 -- two keeps that see the same are one
-pub same_keep : {D : Type 0} (state : D → DiskState) (desk next : DeskData) (journal other : JournalData D) → next.tables ≡ desk.tables → next.commands ≡ desk.commands → other ≡ journal
+pub same_keep : {D : Type 0} (state : D → DiskState) (desk next : DeskData) (journal other : JournalData D) → next.tables ≡ desk.tables
+    → next.commands ≡ desk.commands → other ≡ journal
     → keep_of state next other ≡ keep_of state desk journal
 same_keep state desk next journal other tables commands same =
     ap (λ t. keep_of state (record { tables = t; commands = next.commands; planned = next.planned }) other) tables
@@ -65,12 +66,14 @@ same_keep state desk next journal other tables commands same =
     ∙ ap (λ j. keep_of state desk j) same
 
 -- what is seen of one list, by two disks of which both tell or none
-same_list : {A : Type 0} (before after : Bool) (items others : List A) → after ≡ before → (before ≡ true → others ≡ items) → list_if after others ≡ list_if before items
+same_list : {A : Type 0} (before after : Bool) (items others : List A) → after ≡ before → (before ≡ true → others ≡ items)
+    → list_if after others ≡ list_if before items
 same_list true after items others is same = ap (λ t. list_if t others) is ∙ same refl
 same_list false after items others is same = ap (λ t. list_if t others) is
 
 -- and of one option
-same_option : {A : Type 0} (before after : Bool) (item other : Option A) → after ≡ before → (before ≡ true → other ≡ item) → option_if after other ≡ option_if before item
+same_option : {A : Type 0} (before after : Bool) (item other : Option A) → after ≡ before → (before ≡ true → other ≡ item)
+    → option_if after other ≡ option_if before item
 same_option true after item other is same = ap (λ t. option_if t other) is ∙ same refl
 same_option false after item other is same = ap (λ t. option_if t other) is
 
@@ -88,7 +91,8 @@ room_by : (used : ℕ) (entry : Entry) (came : Outcomes) → IsOk (applied_by us
 room_by used entry came ok = leb-true (used + 6 + length (spelled entry)) 67108864 (fits_by used entry came ok)
 
 -- and comes to what its step comes to
-came_by : (used : ℕ) (entry : Entry) (came : Outcomes) (done : Tables × Answer) → came ≡ Ok done → IsOk (applied_by used entry came) → applied_by used entry came ≡ Ok done
+came_by : (used : ℕ) (entry : Entry) (came : Outcomes) (done : Tables × Answer) → came ≡ Ok done → IsOk (applied_by used entry came)
+    → applied_by used entry came ≡ Ok done
 came_by used entry came done is ok = ap (applied_by used entry) is ∙ ap (λ b. if b then Ok done else Err (JournalFull used)) (fits_by used entry came ok)
 
 module _ {D : Type 0} (state : D → DiskState) (faults : D → ℕ) (reads : (entry : Entry) → IsProper entry → read_of (spelled entry) ≡ Some entry)
@@ -108,7 +112,8 @@ module _ {D : Type 0} (state : D → DiskState) (faults : D → ℕ) (reads : (e
   }
 
   -- a check that failed
-  pub checked_applied : (T : Type 0) (fault : KeepFault) → Checks {T = T} desk.tables journal.used entry (Err fault) → Applied state faults old (keep_of state next journal) entry (Err fault)
+  pub checked_applied : (T : Type 0) (fault : KeepFault) → Checks {T = T} desk.tables journal.used entry (Err fault)
+      → Applied state faults old (keep_of state next journal) entry (Err fault)
   checked_applied T (Rule refusal) checks = (checks, same_keep state desk next journal journal tables commands refl)
   checked_applied T (JournalFull used) checks = (checks, same_keep state desk next journal journal tables commands refl)
   checked_applied T Memory checks = record {
@@ -121,16 +126,20 @@ module _ {D : Type 0} (state : D → DiskState) (faults : D → ℕ) (reads : (e
 
   -- nothing was written
   pub checked_safe : AppliesSafely state old (keep_of state next journal) entry
-  checked_safe told = begun (state journal.disk) (IsImageDuring old entry) (lawful journal.disk told) (λ content left. inl ((tied.fold.holds told).images content left))
+  checked_safe told = begun (state journal.disk) (IsImageDuring old entry) (lawful journal.disk told)
+      (λ content left. inl ((tied.fold.holds told).images content left))
 
   -- tables and number are still those of a list
   some_list : (mid : JournalData D) → (entries : List Entry) × IsListOf (keep_of state next mid) entries
-  some_list mid = (tied.fold.some.0, record { folded = tables ∙ tied.fold.some.1.folded; legal = tied.fold.some.1.legal; counted = commands ∙ tied.fold.some.1.counted })
+  some_list mid = (tied.fold.some.0,
+      record { folded = tables ∙ tied.fold.some.1.folded; legal = tied.fold.some.1.legal; counted = commands ∙ tied.fold.some.1.counted })
 
   -- list, tables and numbers are as before
-  keeps_list : (mid : JournalData D) → mid.used ≡ journal.used → (state mid.disk).told ≡ (state journal.disk).told → (IsTold (state journal.disk) → mid.bodies ≡ journal.bodies) → KeepsList state old (keep_of state next mid)
+  keeps_list : (mid : JournalData D) → mid.used ≡ journal.used → (state mid.disk).told ≡ (state journal.disk).told
+      → (IsTold (state journal.disk) → mid.bodies ≡ journal.bodies) → KeepsList state old (keep_of state next mid)
   keeps_list mid used told bodies = record {
-    entries = same_list (state journal.disk).told (state mid.disk).told (entries_in journal.bodies) (entries_in mid.bodies) told (λ is. ap entries_in (bodies is));
+    entries = same_list (state journal.disk).told (state mid.disk).told (entries_in journal.bodies) (entries_in mid.bodies) told
+        (λ is. ap entries_in (bodies is));
     tables = tables;
     commands = commands;
     used = used;
@@ -140,7 +149,8 @@ module _ {D : Type 0} (state : D → DiskState) (faults : D → ℕ) (reads : (e
   module _ (checked : IsOk (applied_to desk.tables journal.used entry)) where
     -- the machine accepts it
     accepted : IsTold (state journal.disk) → IsAccepted (step (tables_of old.entries) entry.command)
-    accepted told = subst (λ t. IsAccepted (step t entry.command)) (tied.fold.holds told).folded (accepted_by journal.used entry (step desk.tables entry.command) checked)
+    accepted told = subst (λ t. IsAccepted (step t entry.command)) (tied.fold.holds told).folded
+        (accepted_by journal.used entry (step desk.tables entry.command) checked)
 
     -- the list with it is legal
     longer : IsTold (state journal.disk) → IsLegal (old.entries ++ entry ∷ [])
@@ -164,7 +174,8 @@ module _ {D : Type 0} (state : D → DiskState) (faults : D → ℕ) (reads : (e
             }
 
         pub unsettled_tied : IsTied state next mid
-        unsettled_tied = tie state reads next mid (omega (arith, commands, settles.kept.1, tied.fold.low)) (omega (arith, settles.kept.1, tied.fold.high)) (commands ∙ tied.counted ∙ sym settles.kept.0)
+        unsettled_tied = tie state reads next mid (omega (arith, commands, settles.kept.1, tied.fold.low)) (omega (arith, settles.kept.1, tied.fold.high))
+            (commands ∙ tied.counted ∙ sym settles.kept.0)
             (some_list mid) (λ told. record { entries = old.entries; doubt = old.doubt; held = unsettled_held (sym settles.told ∙ told) }) settles.images
 
         pub unsettled_applied : Applied state faults old (keep_of state next mid) entry (Err (fault_of fault))
@@ -172,27 +183,37 @@ module _ {D : Type 0} (state : D → DiskState) (faults : D → ℕ) (reads : (e
           would = checked;
           rose = settles.cause.1;
           keeps = keeps_list mid settles.kept.1 settles.told settles.bodies;
-          doubt = λ told. inl (same_option (state journal.disk).told (state mid.disk).told (option_and_then read_of journal.doubt) (option_and_then read_of mid.doubt) settles.told (λ is. ap (λ found. option_and_then read_of found) (settles.doubt is)));
+          doubt = λ told. inl (same_option (state journal.disk).told (state mid.disk).told (option_and_then read_of journal.doubt)
+              (option_and_then read_of mid.doubt) settles.told (λ is. ap (λ found. option_and_then read_of found) (settles.doubt is)));
         })
 
       -- at each moment of a settling an image is one of the list, with its doubt
-      pub settled_safe : (result : Result (Unit {0}) JournalFault) → Settles state faults journal mid result → AppliesSafely state old (keep_of state next mid) entry
+      pub settled_safe : (result : Result (Unit {0}) JournalFault) → Settles state faults journal mid result
+          → AppliesSafely state old (keep_of state next mid) entry
       settled_safe result settles told =
           let h = held state reads desk journal tied told in
           weakened (state journal.disk) (state mid.disk) (IsJournalImage journal.bodies journal.doubt) (IsImageDuring old entry) (settles.any_moment told)
-          (λ content there. inl (image_of old.entries old.doubt content (subst (λ d. IsJournalImage (bodies_of old.entries) d content) h.doubts (subst (λ b. IsJournalImage b journal.doubt content) h.bodies there))))
+          (λ content there. inl
+              (image_of old.entries old.doubt content
+              (subst (λ d. IsJournalImage (bodies_of old.entries) d content) h.doubts (subst (λ b. IsJournalImage b journal.doubt content) h.bodies there))))
 
-      module _ (settles : Settles state faults journal mid (Ok tt)) (last : JournalData D) (body : List ℕ) (is_body : body ≡ spelled entry) (proper : IsProper entry) where
+      module _ (settles : Settles state faults journal mid (Ok tt)) (last : JournalData D) (body : List ℕ) (is_body : body ≡ spelled entry)
+          (proper : IsProper entry) where
         -- the bodies are those of the list
         settled_bodies : IsTold (state journal.disk) → mid.bodies ≡ bodies_of old.entries
         settled_bodies told = settles.bodies told ∙ (held state reads desk journal tied told).bodies
 
         -- at each moment of both an image is one of the list with its doubt, or of the list with this entry
-        pub appended_safe : (result : Result (Unit {0}) JournalFault) → Appends state faults mid last body result → AppliesSafely state old (keep_of state next last) entry
-        appended_safe result appends told = joined (state journal.disk) (state mid.disk) (state last.disk) (IsImageDuring old entry) (settled_safe (Ok tt) settles told)
-            (weakened (state mid.disk) (state last.disk) (IsBeforeOrAfter mid.bodies body) (IsImageDuring old entry) (appends.any_moment (settles.told ∙ told)) (λ content there. ⊎_elim
+        pub appended_safe : (result : Result (Unit {0}) JournalFault) → Appends state faults mid last body result
+            → AppliesSafely state old (keep_of state next last) entry
+        appended_safe result appends told = joined (state journal.disk) (state mid.disk) (state last.disk) (IsImageDuring old entry)
+            (settled_safe (Ok tt) settles told)
+            (weakened (state mid.disk) (state last.disk) (IsBeforeOrAfter mid.bodies body) (IsImageDuring old entry)
+                (appends.any_moment (settles.told ∙ told)) (λ content there. ⊎_elim
             (λ before. inl (inl (subst (Stands content) (settled_bodies told) before)))
-            (λ after. inr (checked, subst (Stands content) (ap (λ b. b ++ body ∷ []) (settled_bodies told) ∙ ap (λ x. bodies_of old.entries ++ x ∷ []) is_body ∙ sym (bodies_more old.entries entry)) after))
+            (λ after. inr (checked, subst (Stands content)
+                (ap (λ b. b ++ body ∷ []) (settled_bodies told) ∙ ap (λ x. bodies_of old.entries ++ x ∷ []) is_body ∙ sym (bodies_more old.entries entry))
+                after))
             there))
 
         module _ (fault : JournalFault) (appends : Appends state faults mid last body (Err fault)) where
@@ -229,17 +250,20 @@ module _ {D : Type 0} (state : D → DiskState) (faults : D → ℕ) (reads : (e
               })
 
           pub failed_tied : IsTied state next last
-          failed_tied = tie state reads next last (omega (arith, commands, settles.kept.1, appends.err.1, tied.fold.low)) (omega (arith, settles.kept.1, appends.err.1, tied.fold.high))
+          failed_tied = tie state reads next last (omega (arith, commands, settles.kept.1, appends.err.1, tied.fold.low))
+              (omega (arith, settles.kept.1, appends.err.1, tied.fold.high))
               (commands ∙ tied.counted ∙ sym settles.kept.0 ∙ sym appends.err.0) (some_list last) (λ told. ⊎_elim
               (λ sure. record { entries = old.entries; doubt = None; held = sure })
               (λ unsure. record { entries = old.entries; doubt = Some entry; held = unsure })
               (failed_held (sym settles.told ∙ sym appends.told ∙ told))) appends.images
 
           failed_keeps : KeepsList state old (keep_of state next last)
-          failed_keeps = keeps_list last (appends.err.1 ∙ settles.kept.1) (appends.told ∙ settles.told) (λ told. (appends.failed (settles.told ∙ told)).same ∙ settles.bodies told)
+          failed_keeps = keeps_list last (appends.err.1 ∙ settles.kept.1) (appends.told ∙ settles.told)
+              (λ told. (appends.failed (settles.told ∙ told)).same ∙ settles.bodies told)
 
           -- why, by the fault
-          failed_by : (f : JournalFault) → AppendCause faults mid last (length body) f → Applied state faults old (keep_of state next last) entry (Err (fault_of f))
+          failed_by : (f : JournalFault) → AppendCause faults mid last (length body) f
+              → Applied state faults old (keep_of state next last) entry (Err (fault_of f))
           failed_by JournalDiskFailed cause = record {
             would = checked;
             rose = rose_later (faults journal.disk) (faults mid.disk) (faults last.disk) settles.counts cause;
@@ -249,7 +273,8 @@ module _ {D : Type 0} (state : D → DiskState) (faults : D → ℕ) (reads : (e
                 (λ unsure. inr (seen_doubt state reads next last old.entries (Some entry) unsure (appends.told ∙ settles.told ∙ told)))
                 (failed_held told));
           }
-          failed_by (Full used) cause = absurd (omega (arith, cause.1, settles.kept.1, ap length is_body, room_by journal.used entry (step desk.tables entry.command) checked))
+          failed_by (Full used) cause = absurd
+              (omega (arith, cause.1, settles.kept.1, ap length is_body, room_by journal.used entry (step desk.tables entry.command) checked))
           failed_by JournalMemory cause = record {
             keeps = failed_keeps;
             doubt = λ told. inr (option_told (state last.disk).told (option_and_then read_of last.doubt) (appends.told ∙ settles.told ∙ told)
@@ -262,24 +287,28 @@ module _ {D : Type 0} (state : D → DiskState) (faults : D → ℕ) (reads : (e
           pub failed_applied : Applied state faults old (keep_of state next last) entry (Err (fault_of fault))
           failed_applied = failed_by fault appends.cause
 
-        module _ (appends : Appends state faults mid last body (Ok tt)) (done : DeskData) (answer : Answer) (stepped : step next.tables entry.command ≡ Ok (done.tables, answer)) (more : done.commands ≡ next.commands + 1) where
+        module _ (appends : Appends state faults mid last body (Ok tt)) (done : DeskData) (answer : Answer)
+            (stepped : step next.tables entry.command ≡ Ok (done.tables, answer)) (more : done.commands ≡ next.commands + 1) where
           -- what it comes to
           done_came : applied_to desk.tables journal.used entry ≡ Ok (done.tables, answer)
-          done_came = came_by journal.used entry (step desk.tables entry.command) (done.tables, answer) (subst (λ t. step t entry.command ≡ Ok (done.tables, answer)) tables stepped) checked
+          done_came = came_by journal.used entry (step desk.tables entry.command) (done.tables, answer)
+              (subst (λ t. step t entry.command ≡ Ok (done.tables, answer)) tables stepped) checked
 
           -- the list with the entry is held
           done_held : IsTold (state journal.disk) → IsHeld done last (old.entries ++ entry ∷ []) None
           done_held told =
               let h = held state reads desk journal tied told in
               record {
-                bodies = (appends.appended (settles.told ∙ told)).0 ∙ ap (λ b. b ++ body ∷ []) (settled_bodies told) ∙ ap (λ x. bodies_of old.entries ++ x ∷ []) is_body ∙ sym (bodies_more old.entries entry);
+                bodies = (appends.appended (settles.told ∙ told)).0 ∙ ap (λ b. b ++ body ∷ []) (settled_bodies told)
+                    ∙ ap (λ x. bodies_of old.entries ++ x ∷ []) is_body ∙ sym (bodies_more old.entries entry);
                 doubts = (appends.appended (settles.told ∙ told)).1;
                 folded = accepted_tables old.entries entry desk.tables done.tables journal.used answer h.folded done_came;
                 legal = longer told;
                 proper = All-push IsProper old.entries entry (proper_list old.entries old.doubt h.proper) proper;
                 counted = omega (arith, more, commands, h.counted, length-append old.entries (entry ∷ []));
                 sure = appends.ok.2;
-                fills = appends.ok.1 ∙ ap (λ n. n + 5 + length body) (settles.kept.1 ∙ h.fills) ∙ ap (λ x. used_of old.entries + 5 + length x) is_body ∙ sym (filled_more old.entries entry);
+                fills = appends.ok.1 ∙ ap (λ n. n + 5 + length body) (settles.kept.1 ∙ h.fills) ∙ ap (λ x. used_of old.entries + 5 + length x) is_body
+                    ∙ sym (filled_more old.entries entry);
               }
 
           pub done_applied : Applied state faults old (keep_of state done last) entry (Ok answer)

@@ -1,18 +1,16 @@
 -- The loop over the bodies of a journal: one entry more, a fault, and the end.
-use Rattle.std.proofs.Common.{◌≡◌, refl, ap, sym, ◌∙◌, subst, ℕ, zero, suc, ◌+◌, ◌≤◌, ◌<◌, List, [], ◌∷◌, ◌++◌, length, take, drop, slice_get, Option, Some, None, Result, Ok, Err, IfErr, inl, inr, ◌⊎◌, All, arith, add-one}
+use Rattle.std.proofs.Common.{◌≡◌, refl, ap, sym, ◌∙◌, subst, ℕ, zero, suc, ◌+◌, ◌≤◌, List, [], ◌∷◌, ◌++◌, length, take, drop, slice_get, Option, Some, Result, Ok, Err, IfErr, inl, inr, ◌⊎◌, arith, add-one}
 use Rattle.std.proofs.lemmas.List.{length-append}
 use Rattle.std.proofs.lemmas.List.Elements.{All-nil, All-push}
 use Rattle.std.specs.Result.{IsErrAnd}
 use Rattle.fts_tables.specs.Counts.{Rose}
 use Rattle.fts_tables.specs.Tables.{Tables, empty_tables}
 use Rattle.fts_tables.specs.Step.{Outcomes, step}
-use Rattle.fts_tables.specs.History.{tables_of, tables_after, IsAccepted, IsLegal}
-use Rattle.fts_tables.specs.declared.commands.Entry.{Entry}
+use Rattle.fts_tables.specs.History.{tables_after, IsAccepted}
 use Rattle.fts_tables.specs.declared.commands.Answer.{Answer}
-use Rattle.fts_record.specs.Spelling.{spelled}
 use Rattle.fts_record.specs.Proper.{IsProper}
 use Rattle.fts_record.specs.Reading.{entry_in}
-use Rattle.fts_disk.specs.Disk.{DiskState, IsTold, IsLawful, LeavesOnly}
+use Rattle.fts_disk.specs.Disk.{DiskState, IsTold, IsLawful}
 use Rattle.fts_journal.specs.Journal.{JournalData, Keeps}
 use Rattle.fts_journal.specs.declared.fault.JournalFault.{JournalFault}
 use Rattle.fts_journal.specs.declared.fault.JournalFault.TheVariants.{DiskFailed as JournalDiskFailed, Memory as JournalMemory}
@@ -21,7 +19,7 @@ use Rattle.fts_keep.specs.declared.fault.KeepFault.{KeepFault}
 use Rattle.fts_keep.specs.declared.fault.KeepFault.TheVariants.{Rule, DiskFailed, JournalFull, Damaged, Memory}
 use Rattle.fts_keep.specs.Keeps.{bodies_of}
 use Rattle.fts_keep.specs.Damage.{fault_behind, fault_at, fault_from, fault_in}
-use Rattle.fts_keep.specs.Folding.{Takes, TakesEntry, LeavesJournal, HasFolded, Folds, FoldFault}
+use Rattle.fts_keep.specs.Folding.{Takes, TakesEntry, LeavesJournal, HasFolded, FoldFault}
 use Rattle.fts_keep.proofs.Lists.{tables_from-append, legal_more, bodies_more}
 use Rattle.fts_keep.proofs.Moments.{same_still, more_still, rose_later}
 
@@ -73,11 +71,13 @@ module _ {D : Type 0} (state : D → DiskState) (journal : JournalData D) where
       let done = step_done tables after takes.answer (step tables takes.entry.command) takes.stepped in
       record {
         entries = so_far.entries ++ takes.entry ∷ [];
-        folded = sym done.1 ∙ ap (λ t. tables_after t (step t takes.entry.command)) so_far.folded ∙ sym (tables_from-append empty_tables so_far.entries (takes.entry ∷ []));
+        folded = sym done.1 ∙ ap (λ t. tables_after t (step t takes.entry.command)) so_far.folded
+            ∙ sym (tables_from-append empty_tables so_far.entries (takes.entry ∷ []));
         legal = legal_more empty_tables so_far.entries takes.entry so_far.legal (subst (λ t. IsAccepted (step t takes.entry.command)) so_far.folded done.0);
         counted = omega (arith, so_far.counted, length-append so_far.entries (takes.entry ∷ []));
         proper = All-push IsProper so_far.entries takes.entry so_far.proper takes.proper;
-        spells = λ told. ap (λ k. take k journal.bodies) (add-one n) ∙ take_at_place journal.bodies n body (here told) ∙ ap (λ b. b ++ body ∷ []) (so_far.spells told)
+        spells = λ told. ap (λ k. take k journal.bodies) (add-one n) ∙ take_at_place journal.bodies n body (here told)
+            ∙ ap (λ b. b ++ body ∷ []) (so_far.spells told)
             ∙ ap (λ x. bodies_of so_far.entries ++ x ∷ []) takes.spells ∙ sym (bodies_more so_far.entries takes.entry);
         behind = λ told. so_far.behind told
             ∙ ap (λ rest. fault_from tables gate rest) (drop_at_place journal.bodies n body (here told))
@@ -87,7 +87,8 @@ module _ {D : Type 0} (state : D → DiskState) (journal : JournalData D) where
       }
 
   -- a fault that a body is, whatever follows, is the first of all
-  pub folded_fault : (tables : Tables) (gate n offset : ℕ) (body : List ℕ) → HasFolded state journal tables gate n → ((later : Tables → Option ℕ) → fault_at tables gate (entry_in body) later ≡ Some offset)
+  pub folded_fault : (tables : Tables) (gate n offset : ℕ) (body : List ℕ) → HasFolded state journal tables gate n
+      → ((later : Tables → Option ℕ) → fault_at tables gate (entry_in body) later ≡ Some offset)
       → IsTold (state journal.disk) → slice_get journal.bodies n ≡ Some body → fault_in journal.bodies ≡ Some offset
   folded_fault tables gate n offset body so_far fault told here =
       so_far.behind told
@@ -95,7 +96,8 @@ module _ {D : Type 0} (state : D → DiskState) (journal : JournalData D) where
       ∙ fault (λ next. fault_from next (gate + 5 + length body) (drop (suc n) journal.bodies))
 
 -- nothing was called yet
-pub leaves_none : {D : Type 0} (state : D → DiskState) (faults : D → ℕ) → ((disk : D) → IsTold (state disk) → IsLawful (state disk)) → (journal : JournalData D) → LeavesJournal state faults journal journal
+pub leaves_none : {D : Type 0} (state : D → DiskState) (faults : D → ℕ) → ((disk : D) → IsTold (state disk) → IsLawful (state disk))
+    → (journal : JournalData D) → LeavesJournal state faults journal journal
 leaves_none state faults lawful journal = record {
   count = refl;
   used = refl;
@@ -108,9 +110,12 @@ leaves_none state faults lawful journal = record {
 }
 
 -- one body more was read, or not
-pub leaves_more : {D : Type 0} (state : D → DiskState) (faults : D → ℕ) → ((disk : D) → IsTold (state disk) → IsLawful (state disk)) → (old mid new : JournalData D) → LeavesJournal state faults old mid
-    → (state new.disk).told ≡ (state mid.disk).told → (new.count ≡ mid.count) × (new.used ≡ mid.used) × (new.in_doubt ≡ mid.in_doubt) → faults mid.disk ≤ faults new.disk
-    → (IsTold (state mid.disk) → Keeps (state mid.disk) (state new.disk) mid.bodies new.bodies) → (IsTold (state mid.disk) → new.doubt ≡ mid.doubt) → LeavesJournal state faults old new
+pub leaves_more : {D : Type 0} (state : D → DiskState) (faults : D → ℕ) → ((disk : D) → IsTold (state disk) → IsLawful (state disk))
+    → (old mid new : JournalData D) → LeavesJournal state faults old mid
+    → (state new.disk).told ≡ (state mid.disk).told → (new.count ≡ mid.count) × (new.used ≡ mid.used) × (new.in_doubt ≡ mid.in_doubt)
+        → faults mid.disk ≤ faults new.disk
+    → (IsTold (state mid.disk) → Keeps (state mid.disk) (state new.disk) mid.bodies new.bodies) → (IsTold (state mid.disk) → new.doubt ≡ mid.doubt)
+        → LeavesJournal state faults old new
 leaves_more state faults lawful old mid new so_far told kept counts keeps doubt = record {
   count = kept.0 ∙ so_far.count;
   used = kept.1 ∙ so_far.used;
@@ -119,25 +124,33 @@ leaves_more state faults lawful old mid new so_far told kept counts keeps doubt 
   counts = omega (arith, so_far.counts, counts);
   bodies = λ is. (keeps (so_far.told ∙ is)).same ∙ so_far.bodies is;
   doubt = λ is. doubt (so_far.told ∙ is) ∙ so_far.doubt is;
-  still = λ is. more_still (state old.disk) (state mid.disk) (state new.disk) (so_far.still is) (lawful new.disk (told ∙ so_far.told ∙ is)) (keeps (so_far.told ∙ is)).moments;
+  still = λ is. more_still (state old.disk) (state mid.disk) (state new.disk) (so_far.still is) (lawful new.disk (told ∙ so_far.told ∙ is))
+      (keeps (so_far.told ∙ is)).moments;
 }
 
 -- why a body wasn't read
-pub read_fault : {D : Type 0} (state : D → DiskState) (faults : D → ℕ) (old mid new : JournalData D) → faults old.disk ≤ faults mid.disk → (fault : JournalFault)
-    → (fault ≡ JournalDiskFailed → Rose (faults mid.disk) (faults new.disk)) → (fault ≡ JournalDiskFailed) ⊎ (fault ≡ JournalMemory) → FoldFault state faults old new (fault_of fault)
-read_fault state faults old mid new counts fault rose (inl is) = subst (λ f. FoldFault state faults old new (fault_of f)) (sym is) (rose_later (faults old.disk) (faults mid.disk) (faults new.disk) counts (rose is))
+pub read_fault : {D : Type 0} (state : D → DiskState) (faults : D → ℕ) (old mid new : JournalData D) → faults old.disk ≤ faults mid.disk
+    → (fault : JournalFault)
+    → (fault ≡ JournalDiskFailed → Rose (faults mid.disk) (faults new.disk)) → (fault ≡ JournalDiskFailed) ⊎ (fault ≡ JournalMemory)
+        → FoldFault state faults old new (fault_of fault)
+read_fault state faults old mid new counts fault rose (inl is) = subst (λ f. FoldFault state faults old new (fault_of f)) (sym is)
+    (rose_later (faults old.disk) (faults mid.disk) (faults new.disk) counts (rose is))
 read_fault state faults old mid new counts fault rose (inr is) = subst (λ f. FoldFault state faults old new (fault_of f)) (sym is) tt
 
 -- why a body wasn't taken
-pub take_fault : {D : Type 0} (state : D → DiskState) (faults : D → ℕ) (old new : JournalData D) (tables after : Tables) (gate n : ℕ) (body : List ℕ) → HasFolded state old tables gate n
-    → (IsTold (state old.disk) → slice_get old.bodies n ≡ Some body) → (fault : KeepFault) → Takes tables gate body after (Err fault) → FoldFault state faults old new fault
-take_fault state faults old new tables after gate n body so_far here (Damaged offset) takes = λ told. folded_fault state old tables gate n offset body so_far takes told (here told)
+pub take_fault : {D : Type 0} (state : D → DiskState) (faults : D → ℕ) (old new : JournalData D) (tables after : Tables) (gate n : ℕ) (body : List ℕ)
+    → HasFolded state old tables gate n
+    → (IsTold (state old.disk) → slice_get old.bodies n ≡ Some body) → (fault : KeepFault) → Takes tables gate body after (Err fault)
+        → FoldFault state faults old new fault
+take_fault state faults old new tables after gate n body so_far here (Damaged offset) takes =
+    λ told. folded_fault state old tables gate n offset body so_far takes told (here told)
 take_fault state faults old new tables after gate n body so_far here Memory takes = tt
 take_fault state faults old new tables after gate n body so_far here DiskFailed takes = absurd takes
 take_fault state faults old new tables after gate n body so_far here (JournalFull used) takes = absurd takes
 take_fault state faults old new tables after gate n body so_far here (Rule refusal) takes = absurd takes
 
 -- what holds of a fault holds of the answer that carries it
-pub on_err : {T : Type 0} (result : Result T KeepFault) (fault : KeepFault) (P : KeepFault → Type 0) → IsErrAnd result (λ e. e ≡ fault) → P fault → IfErr result P
+pub on_err : {T : Type 0} (result : Result T KeepFault) (fault : KeepFault) (P : KeepFault → Type 0) → IsErrAnd result (λ e. e ≡ fault) → P fault
+    → IfErr result P
 on_err (Ok value) fault P is p = tt
 on_err (Err error) fault P is p = subst P (sym is) p

@@ -1,3 +1,4 @@
+mod Rows
 pub mod Moments
 pub mod Lists
 pub mod Tying

@@ -1,7 +1,7 @@
 -- Lists of entries: their spellings, what one entry more makes of them, and the bytes that it fills.
-use Rattle.std.proofs.Common.{◌≡◌, refl, ap, sym, ◌∙◌, subst, ℕ, ◌+◌, ◌≤◌, inl, inr, Bool, true, false, if◌then◌else◌, List, [], ◌∷◌, ◌++◌, map, length, Option, Some, None, option_map, option_and_then, Result, Ok, Err, IsOk, All, arith}
+use Rattle.std.proofs.Common.{◌≡◌, refl, ap, sym, ◌∙◌, subst, ℕ, ◌+◌, ◌≤◌, inl, inr, Bool, true, false, if◌then◌else◌, List, [], ◌∷◌, ◌++◌, length, Option, Some, None, option_map, option_and_then, Ok, Err, IsOk, All, arith}
 use Rattle.std.proofs.lemmas.List.{append_assoc, map-append, length-append}
-use Rattle.std.proofs.lemmas.List.Elements.{All-nil, All-cons, All-head, All-tail, All-push}
+use Rattle.std.proofs.lemmas.List.Elements.{All-nil, All-cons, All-head, All-tail}
 use Rattle.std.specs.List.{flat_map}
 use Rattle.fts_tables.specs.Tables.{Tables, empty_tables}
 use Rattle.fts_tables.specs.Step.{Outcomes, step}
@@ -14,13 +14,12 @@ use Rattle.fts_record.specs.Spelling.{spelled, command_bytes, number_bytes}
 use Rattle.fts_record.specs.Proper.{IsProper}
 use Rattle.fts_record.specs.Reading.{read_of}
 use Rattle.fts_disk.specs.Disk.{DiskState}
-use Rattle.fts_journal.specs.Format.{used_by, header, front, block, size_bytes, Stands}
+use Rattle.fts_journal.specs.Format.{used_by, header, block, size_bytes, Stands}
 use Rattle.fts_journal.specs.Journal.{IsImageOf as IsJournalImage}
-use Rattle.fts_keep.specs.Keeps.{KeepData, IsListOf, used_of, used_after, bodies_of, with_doubt, StandsFor, IsImageOf}
+use Rattle.fts_keep.specs.Keeps.{KeepData, IsListOf, used_of, used_after, bodies_of, with_doubt, IsImageOf}
 use Rattle.fts_keep.specs.Views.{entries_in}
 use Rattle.fts_keep.specs.Applied.{Applies, applied_to, applied_by, fits, Accepts}
-use Rattle.fts_keep.specs.declared.fault.KeepFault.{KeepFault}
-use Rattle.fts_keep.specs.declared.fault.KeepFault.TheVariants.{Rule, JournalFull as Full}
+use Rattle.fts_keep.specs.declared.fault.KeepFault.TheVariants.{JournalFull as Full}
 
 -- nothing more
 pub none_more : {A : Type 0} (items : List A) → items ++ [] ≡ items
@@ -57,10 +56,12 @@ proper_list entries None proper = proper
 proper_list entries (Some entry) proper = all_front IsProper entries (entry ∷ []) proper
 
 -- one entry more, which is accepted
-pub legal_more : (tables : Tables) (entries : List Entry) (entry : Entry) → IsLegalFrom tables entries → IsAccepted (step (tables_from tables entries) entry.command)
+pub legal_more : (tables : Tables) (entries : List Entry) (entry : Entry) → IsLegalFrom tables entries
+    → IsAccepted (step (tables_from tables entries) entry.command)
     → IsLegalFrom tables (entries ++ entry ∷ [])
 legal_more tables [] entry legal accepted = (accepted, tt)
-legal_more tables (first ∷ entries) entry legal accepted = (legal.0, legal_more (tables_after tables (step tables first.command)) entries entry legal.1 accepted)
+legal_more tables (first ∷ entries) entry legal accepted =
+    (legal.0, legal_more (tables_after tables (step tables first.command)) entries entry legal.1 accepted)
 
 -- the bodies of one entry more
 pub bodies_more : (entries : List Entry) (entry : Entry) → bodies_of (entries ++ entry ∷ []) ≡ bodies_of entries ++ spelled entry ∷ []
@@ -72,11 +73,13 @@ blocks_more [] body = omega (arith, ap length (none_more (block body)), length-a
   where
     size : (b : List ℕ) → length (size_bytes (length b)) ≡ 4
     size b = refl
-blocks_more (first ∷ bodies) body = omega (arith, blocks_more bodies body, length-append (block first) (flat_map block (bodies ++ body ∷ [])), length-append (block first) (flat_map block bodies))
+blocks_more (first ∷ bodies) body = omega
+    (arith, blocks_more bodies body, length-append (block first) (flat_map block (bodies ++ body ∷ [])), length-append (block first) (flat_map block bodies))
 
 -- the bytes that one body more fills
 pub used_more : (bodies : List (List ℕ)) (body : List ℕ) → used_by (bodies ++ body ∷ []) ≡ used_by bodies + 5 + length body
-used_more bodies body = omega (arith, blocks_more bodies body, length-append header (flat_map block (bodies ++ body ∷ [])), length-append header (flat_map block bodies))
+used_more bodies body = omega
+    (arith, blocks_more bodies body, length-append header (flat_map block (bodies ++ body ∷ [])), length-append header (flat_map block bodies))
 
 -- and one entry more
 pub filled_more : (entries : List Entry) (entry : Entry) → used_of (entries ++ entry ∷ []) ≡ used_of entries + 5 + length (spelled entry)
@@ -114,12 +117,14 @@ module _ (reads : (entry : Entry) → IsProper entry → read_of (spelled entry)
       rw (reads entry (All-head IsProper entry entries proper)) (ap (λ rest. entry ∷ rest) (entries_again entries (All-tail IsProper entry entries proper)))
 
   -- so is that of the entry in doubt
-  pub doubt_again : (entries : List Entry) (doubt : Option Entry) → All IsProper (with_doubt entries doubt) → option_and_then read_of (option_map spelled doubt) ≡ doubt
+  pub doubt_again : (entries : List Entry) (doubt : Option Entry) → All IsProper (with_doubt entries doubt)
+      → option_and_then read_of (option_map spelled doubt) ≡ doubt
   doubt_again entries None proper = refl
   doubt_again entries (Some entry) proper = reads entry (all_last IsProper entries entry proper)
 
 -- an image of the bodies, with the one in doubt, is one of the entries with the doubt
-pub image_of : (entries : List Entry) (doubt : Option Entry) (content : List ℕ) → IsJournalImage (bodies_of entries) (option_map spelled doubt) content → IsImageOf entries doubt content
+pub image_of : (entries : List Entry) (doubt : Option Entry) (content : List ℕ) → IsJournalImage (bodies_of entries) (option_map spelled doubt) content
+    → IsImageOf entries doubt content
 image_of entries None content stands = inl stands
 image_of entries (Some entry) content (inl stands) = inl stands
 image_of entries (Some entry) content (inr stands) = inr (subst (Stands content) (sym (bodies_more entries entry)) stands)
@@ -133,10 +138,13 @@ came_to before (Err fault) = before
 limited : (before tables : Tables) (answer : Answer) (used : ℕ) (entry : Entry) (done : Tables × Answer) (b : Bool) → b ≡ fits used entry
     → applied_by used entry (Ok done) ≡ Ok (tables, answer) → done.0 ≡ tables
 unfolding came_to
-limited before tables answer used entry done true is e = ap (came_to before) (subst (λ x. (if x then Ok done else Err (Full used)) ≡ Ok (tables, answer)) (sym is) e)
-limited before tables answer used entry done false is e = let no = subst (λ x. (if x then Ok done else Err (Full used)) ≡ Ok (tables, answer)) (sym is) e in absurd cc
+limited before tables answer used entry done true is e = ap (came_to before)
+    (subst (λ x. (if x then Ok done else Err (Full used)) ≡ Ok (tables, answer)) (sym is) e)
+limited before tables answer used entry done false is e = let no = subst (λ x. (if x then Ok done else Err (Full used)) ≡ Ok (tables, answer)) (sym is)
+    e in absurd cc
 
-step_left : (before tables : Tables) (answer : Answer) (used : ℕ) (entry : Entry) (came : Outcomes) → applied_by used entry came ≡ Ok (tables, answer) → tables_after before came ≡ tables
+step_left : (before tables : Tables) (answer : Answer) (used : ℕ) (entry : Entry) (came : Outcomes) → applied_by used entry came ≡ Ok (tables, answer)
+    → tables_after before came ≡ tables
 step_left before tables answer used entry (Ok done) e = limited before tables answer used entry done (fits used entry) refl e
 step_left before tables answer used entry (Err refusal) e = absurd cc
 
@@ -159,6 +167,7 @@ pub list_more : {D : Type 0} (state : D → DiskState) (old new : KeepData D) (e
 list_more state old new entries entry answer list done = record {
   folded = accepted_tables entries entry old.tables new.tables old.used answer list.folded done.done;
   legal = legal_more empty_tables entries entry list.legal
-      (subst (λ t. IsAccepted (step t entry.command)) list.folded (accepted_by old.used entry (step old.tables entry.command) (subst (λ came. IsOk came) (sym done.done) refl)));
+      (subst (λ t. IsAccepted (step t entry.command)) list.folded
+          (accepted_by old.used entry (step old.tables entry.command) (subst (λ came. IsOk came) (sym done.done) refl)));
   counted = omega (arith, done.commands, list.counted, length-append entries (entry ∷ []));
 }

@@ -1,9 +1,8 @@
 -- Settings, once they are in force, stay so: a Restart puts others in their place, and no other command touches them.
-use Rattle.std.proofs.Common.{◌≡◌, refl, sym, subst, ℕ, Bool, true, false, if◌then◌else◌, Option, Some, None, IsSome, rules, arith, option_and_then, max, Result, Ok, Err}
-use Rattle.fts_tables.specs.SettingsData.{SettingsData}
+use Rattle.std.proofs.Common.{◌≡◌, refl, subst, ℕ, Bool, true, false, if◌then◌else◌, Option, Some, None, IsSome, rules, arith, option_and_then, max, Ok, Err}
 use Rattle.fts_tables.specs.JobData.{JobData}
-use Rattle.fts_tables.specs.Tables.{Tables, is_active, job_at, row_at, rows_of_job, number_of_id}
-use Rattle.fts_tables.specs.Step.{Outcomes, step, submit_by, submit_within, cancel_rows, cancel_row, cancel_one, cancel_file, set_priority, claim, report, report_of, on_job}
+use Rattle.fts_tables.specs.Tables.{Tables, job_at, row_at, number_of_id}
+use Rattle.fts_tables.specs.Step.{Outcomes, step, submit_by, cancel_rows, cancel_row, cancel_one, cancel_file, set_priority, claim, report, report_of}
 use Rattle.fts_tables.specs.declared.rows.FileRow.{FileRow}
 use Rattle.fts_tables.specs.declared.rows.JobRow.{JobRow}
 use Rattle.fts_tables.specs.declared.rows.JobKind.{JobKind}
@@ -68,7 +67,8 @@ module _ (tables : Tables) (some : IsSome tables.settings) (now : ℕ) where
   of_report None attempt outcome = tt
   of_report (Some row) attempt outcome = of_report_of row attempt outcome (job_at tables.jobs row.job)
 
-  of_job : (found : Option JobRow) (act : JobRow → Outcomes) → ((job : JobRow) → HasSettings (act job)) → HasSettings (elim found [ None ↦ Err NoJob | Some job ↦ act job ])
+  of_job : (found : Option JobRow) (act : JobRow → Outcomes) → ((job : JobRow) → HasSettings (act job))
+      → HasSettings (elim found [ None ↦ Err NoJob | Some job ↦ act job ])
   unfolding HasSettings
   of_job None act each = tt
   of_job (Some job) act each = each job
@@ -78,7 +78,8 @@ of_step : (tables : Tables) → IsSome tables.settings → (command : Command) �
 unfolding HasSettings
 of_step tables some (Restart now settings) = refl
 of_step tables some (Submit now job) = of_submission tables some (max now tables.moment) (option_and_then (number_of_id tables.jobs) job.id) job
-of_step tables some (CancelJob now job) = of_job tables some (max now tables.moment) (job_at tables.jobs job) (cancel_rows tables (max now tables.moment)) (of_rows tables some (max now tables.moment))
+of_step tables some (CancelJob now job) = of_job tables some (max now tables.moment) (job_at tables.jobs job) (cancel_rows tables (max now tables.moment))
+    (of_rows tables some (max now tables.moment))
 of_step tables some (CancelFile now job file) =
     of_job tables some (max now tables.moment) (job_at tables.jobs job) (λ found. cancel_file tables (max now tables.moment) found (row_at tables.rows file))
     (λ found. of_file tables some (max now tables.moment) found (row_at tables.rows file))
@@ -89,11 +90,7 @@ of_step tables some (Claim now word) = of_claim tables some (max now tables.mome
 of_step tables some (Report now file attempt outcome) = of_report tables some (max now tables.moment) (row_at tables.rows file) attempt outcome
 
 -- settings in force stay so
-pub settings_stay : (tables after : Tables) (command : Command) (answer : Answer) → IsSome tables.settings → step tables command ≡ Ok (after, answer) → IsSome after.settings
+pub settings_stay : (tables after : Tables) (command : Command) (answer : Answer) → IsSome tables.settings → step tables command ≡ Ok (after, answer)
+    → IsSome after.settings
 unfolding HasSettings
 settings_stay tables after command answer some is = subst HasSettings is (of_step tables some command)
-
--- and a Restart puts some in force
-pub settings_begin : (tables after : Tables) (now : ℕ) (settings : SettingsData) (answer : Answer) → step tables (Restart now settings) ≡ Ok (after, answer) → IsSome after.settings
-unfolding HasSettings
-settings_begin tables after now settings answer is = subst HasSettings is refl

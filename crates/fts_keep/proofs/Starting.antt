@@ -1,12 +1,10 @@
 -- How a keep begins: the journal that was opened, the fold of its bodies, and the Restart that was accepted or not.
-use Rattle.std.proofs.Common.{◌≡◌, ◌≢◌, refl, ap, sym, ◌∙◌, subst, inl, inr, ⊎_elim, ◌⊎◌, ℕ, ◌+◌, ◌*◌, ◌≤◌, ◌<◌, Bool, true, false, if◌then◌else◌, List, [], ◌∷◌, ◌++◌, length, Option, Some, None, option_map, IsSome, Result, Ok, Err, IsOk, All, arith}
+use Rattle.std.proofs.Common.{◌≡◌, ◌≢◌, refl, ap, sym, ◌∙◌, subst, inl, inr, ⊎_elim, ◌⊎◌, ℕ, ◌≤◌, Bool, true, false, if◌then◌else◌, List, [], ◌∷◌, ◌++◌, length, Some, None, Ok, Err, IsOk, arith}
 use Rattle.std.proofs.lemmas.List.{length-append}
-use Rattle.fts_tables.specs.Counts.{Rose}
 use Rattle.fts_tables.specs.SettingsData.{SettingsData}
 use Rattle.fts_tables.specs.Tables.{Tables}
 use Rattle.fts_tables.specs.Step.{step}
-use Rattle.fts_tables.specs.History.{tables_of, IsLegal}
-use Rattle.fts_tables.specs.declared.limits.TheConstants.{MAX_JOURNAL_BYTES}
+use Rattle.fts_tables.specs.History.{IsLegal}
 use Rattle.fts_tables.specs.declared.commands.Entry.{Entry}
 use Rattle.fts_tables.specs.declared.commands.Answer.{Answer}
 use Rattle.fts_tables.specs.declared.commands.Refusal.{Refusal}
@@ -16,19 +14,19 @@ use Rattle.fts_record.specs.Reading.{read_of}
 use Rattle.fts_desk.specs.DeskData.{DeskData}
 use Rattle.fts_disk.specs.Disk.{DiskState, IsTold, IsLawful, LeavesOnly}
 use Rattle.fts_journal.specs.Format.{Stands, front, used_by}
-use Rattle.fts_journal.specs.Journal.{JournalData, IsSound, IsImageOf as IsJournalImage}
-use Rattle.fts_keep.specs.Keeps.{KeepData, HoldsList, IsListOf, IsFold, IsImageOf, IsImageSince, StandsFor, bodies_of, used_of, with_doubt}
+use Rattle.fts_journal.specs.Journal.{JournalData, IsMaking, IsImageOf as IsJournalImage}
+use Rattle.fts_keep.specs.Keeps.{KeepData, IsImageSince, StandsFor, bodies_of, with_doubt}
 use Rattle.fts_keep.specs.Views.{keep_of, entries_in, IsTied}
-use Rattle.fts_keep.specs.Damage.{IsDamaged, IsWhole, HasFault, DamageIsOne, fault_in}
-use Rattle.fts_keep.specs.Applied.{Applied, AppliesSafely, Accepts, IsImageDuring, applied_to, applied_by, fits}
+use Rattle.fts_keep.specs.Damage.{IsDamaged, IsWhole, DamageIsOne, fault_in}
+use Rattle.fts_keep.specs.Applied.{Applied, AppliesSafely, IsImageDuring, fits}
 use Rattle.fts_keep.specs.Folding.{Folds, LeavesJournal, FoldFault}
-use Rattle.fts_keep.specs.Opening.{OpensJournal, OpensNot, OpenFault, StandsOrIsEmpty}
-use Rattle.fts_keep.specs.Started.{restart_at, restarted, Opens, IsStill, IsOpened, Starts, StartsOver, StartsNot, StartFault, Started, Views, ViewFault, Viewed}
+use Rattle.fts_keep.specs.Opening.{OpensJournal, OpensNot, Makes, OpenFault, StandsOrIsEmpty}
+use Rattle.fts_keep.specs.Started.{restart_at, restarted, Opens, IsStill, IsOpened, StartFault, Started}
 use Rattle.fts_keep.specs.declared.fault.KeepFault.{KeepFault}
 use Rattle.fts_keep.specs.declared.fault.KeepFault.TheVariants.{Rule, DiskFailed, JournalFull, Damaged, Memory}
-use Rattle.fts_keep.proofs.Moments.{begun, joined, weakened, behind_still, still_still, quiet_still, rose_later, rose_before}
-use Rattle.fts_keep.proofs.Lists.{none_more, legal_more, bodies_more, accepted_tables}
-use Rattle.fts_keep.proofs.Tying.{IsHeld, Holding, list_untold, seen_entries, seen_doubt, tie, held}
+use Rattle.fts_keep.proofs.Moments.{joined, weakened, behind_still, still_still, quiet_still, rose_later}
+use Rattle.fts_keep.proofs.Lists.{none_more, legal_more, accepted_tables}
+use Rattle.fts_keep.proofs.Tying.{IsHeld, list_untold, seen_entries, seen_doubt, tie}
 use Rattle.fts_keep.proofs.Exits.{fits_by}
 
 -- an empty content stands for nothing
@@ -44,13 +42,20 @@ no_entries : (entries : List Entry) → [] ≡ bodies_of entries → entries ≡
 no_entries [] is = refl
 no_entries (entry ∷ entries) is = absurd cc
 
+-- an empty disk has no bodies
+empty_bodies : (content : List ℕ) (bodies : List (List ℕ)) → content ≡ [] → StandsOrIsEmpty content bodies → bodies ≡ []
+empty_bodies content bodies empty (inl none) = none.1
+empty_bodies content bodies empty (inr some) = absurd (some.0 empty)
+
 -- where a fault is answered, the bytes are damaged there
-pub fault_damages : (content : List ℕ) (bodies : List (List ℕ)) (offset : ℕ) → StandsOrIsEmpty content bodies → fault_in bodies ≡ Some offset → (content ≢ []) × IsDamaged content offset
+pub fault_damages : (content : List ℕ) (bodies : List (List ℕ)) (offset : ℕ) → StandsOrIsEmpty content bodies → fault_in bodies ≡ Some offset
+    → (content ≢ []) × IsDamaged content offset
 fault_damages content bodies offset (inl none) fault = let no : None ≡ Some offset = sym (ap fault_in none.1) ∙ fault in absurd cc
 fault_damages content bodies offset (inr some) fault = (some.0, inr (inr (record { bodies = bodies; stands = some.1; fault = fault })))
 
 -- an image of the opening list is one since the opening
-image_before : (opening final : List Entry) (entry : Entry) (content : List ℕ) → final ≡ opening ++ entry ∷ [] → IsLegal opening → StandsFor content opening → IsImageSince opening final content
+image_before : (opening final : List Entry) (entry : Entry) (content : List ℕ) → final ≡ opening ++ entry ∷ [] → IsLegal opening → StandsFor content opening
+    → IsImageSince opening final content
 image_before opening final entry content is legal stands = record {
   since = [];
   later = entry ∷ [];
@@ -61,7 +66,8 @@ image_before opening final entry content is legal stands = record {
 }
 
 -- and so is one of that list with the entry
-image_with : (opening final : List Entry) (entry : Entry) (content : List ℕ) → final ≡ opening ++ entry ∷ [] → IsLegal (opening ++ entry ∷ []) → StandsFor content (opening ++ entry ∷ []) → IsImageSince opening final content
+image_with : (opening final : List Entry) (entry : Entry) (content : List ℕ) → final ≡ opening ++ entry ∷ [] → IsLegal (opening ++ entry ∷ [])
+    → StandsFor content (opening ++ entry ∷ []) → IsImageSince opening final content
 image_with opening final entry content is legal stands = record {
   since = [];
   later = entry ∷ [];
@@ -72,7 +78,8 @@ image_with opening final entry content is legal stands = record {
 }
 
 -- what is accepted by the machine is full only where it doesn't fit
-full_by : (fit : Bool) (done : Tables × Answer) (before used : ℕ) → (if fit then Ok done else Err (JournalFull before)) ≡ Err (JournalFull used) → (used ≡ before) × (fit ≡ false)
+full_by : (fit : Bool) (done : Tables × Answer) (before used : ℕ) → (if fit then Ok done else Err (JournalFull before)) ≡ Err (JournalFull used)
+    → (used ≡ before) × (fit ≡ false)
 full_by true done before used is = absurd cc
 full_by false done before used is = (cc, refl)
 
@@ -91,20 +98,23 @@ module _ {D : Type 0} (state : D → DiskState) (faults : D → ℕ) (old new : 
   told_still (Damaged offset) applied = absurd applied
 
 module _ {D : Type 0} (state : D → DiskState) (faults : D → ℕ) (reads : (entry : Entry) → IsProper entry → read_of (spelled entry) ≡ Some entry)
-    (lawful : (disk : D) → IsTold (state disk) → IsLawful (state disk)) (once : (content : List ℕ) → DamageIsOne content) (disk : D) (settings : SettingsData) (now : ℕ) where
+    (lawful : (disk : D) → IsTold (state disk) → IsLawful (state disk)) (once : (content : List ℕ) → DamageIsOne content) (disk : D)
+        (settings : SettingsData) (now : ℕ) where
   -- the Restart
   abbrev restart : Entry
   restart = restart_at now settings
 
   -- a journal that wasn't opened
-  pub unopened : (left : D) (fault : KeepFault) → OpensNot state faults disk left fault → Started state faults disk settings now (Err (fault, left))
-  unopened left fault opens = (
+  pub unopened : (left : D) (fault : KeepFault) → Makes (state disk) (state left)
+      → OpensNot state faults disk left fault → Started state faults disk settings now (Err (fault, left))
+  unopened left fault made opens = (
     why fault opens.cause,
     record {
       told = opens.told;
       counts = opens.counts;
       images = λ told opening sound. let still = quiet_still (state disk) (state left) (opens.quiet told (whole_some (state disk).seen opening sound)) in
           weakened (state disk) (state left) (state disk).may_leave _ still.moments (λ content there. inl there);
+      made = λ told empty. weakened (state disk) (state left) (IsMaking (state disk)) _ (made told empty) (λ content there. inl there);
       quiet = λ told offset some damaged. quiet_still (state disk) (state left) (opens.quiet told some);
     },
   )
@@ -116,7 +126,8 @@ module _ {D : Type 0} (state : D → DiskState) (faults : D → ℕ) (reads : (e
       why (JournalFull used) cause = absurd cause
       why (Rule refusal) cause = absurd cause
 
-  module _ (journal folded : JournalData D) (opens : OpensJournal state faults disk journal) (leaves : LeavesJournal state faults journal folded) where
+  module _ (journal folded : JournalData D) (made : Makes (state disk) (state journal.disk))
+      (opens : OpensJournal state faults disk journal) (leaves : LeavesJournal state faults journal folded) where
     -- it tells what the disk tells
     told_journal : IsTold (state disk) → IsTold (state journal.disk)
     told_journal told = opens.told ∙ told
@@ -135,6 +146,12 @@ module _ {D : Type 0} (state : D → DiskState) (faults : D → ℕ) (reads : (e
         counts = omega (arith, opens.counts, leaves.counts);
         images = λ told opening sound. let still = looked_still told (whole_some (state disk).seen opening sound) in
             weakened (state disk) (state folded.disk) (state disk).may_leave _ still.moments (λ content there. inl there);
+        made = λ told empty. joined (state disk) (state journal.disk) (state folded.disk)
+            (λ content. IsMaking (state disk) content ⊎ IsImageSince [] (restarted [] now settings) content)
+            (weakened (state disk) (state journal.disk) (IsMaking (state disk)) _ (made told empty) (λ content there. inl there))
+            (weakened (state journal.disk) (state folded.disk) (state journal.disk).may_leave _ (leaves.still (told_journal told)).moments
+            (λ content there. inr (image_before [] (restarted [] now settings) restart content refl tt
+            (subst (Stands content) (empty_bodies (state disk).seen journal.bodies empty (opens.own told).list) ((opens.own told).sound content there)))));
         quiet = λ told offset some damaged. looked_still told some;
       },
     )
@@ -166,7 +183,8 @@ module _ {D : Type 0} (state : D → DiskState) (faults : D → ℕ) (reads : (e
       opened_list : IsTold (state disk) → Opens (state disk).seen folds.entries
       opened_list told = ⊎_elim
           (λ none. inl (none.0, no_entries folds.entries (sym none.1 ∙ folds.spells (told_journal told))))
-          (λ some. inr (record { stands = subst (Stands (state disk).seen) (folds.spells (told_journal told)) some.1; proper = folds.proper; legal = folds.legal }))
+          (λ some. inr (record { stands = subst (Stands (state disk).seen) (folds.spells (told_journal told))
+              some.1; proper = folds.proper; legal = folds.legal }))
           (opens.own told).list
 
       -- each image of the journal that was opened stands for it
@@ -180,19 +198,23 @@ module _ {D : Type 0} (state : D → DiskState) (faults : D → ℕ) (reads : (e
         stands = opened_sound told (state journal.disk).seen (lawful journal.disk (told_journal told)).image;
         sound = opened_sound told;
         quiet = λ some. (opens.own told).quiet some;
+        made = λ empty. made told empty;
         counts = opens.counts;
       }
 
       -- the desk is tied to it
       pub folded_tied : IsTied state desk folded
-      folded_tied = tie state reads desk folded (omega (arith, folds.low, folds.all, leaves.used)) (omega (arith, folds.high, leaves.used)) (folds.all ∙ sym leaves.count)
+      folded_tied = tie state reads desk folded (omega (arith, folds.low, folds.all, leaves.used)) (omega (arith, folds.high, leaves.used))
+          (folds.all ∙ sym leaves.count)
           (folds.entries, record { folded = folds.folded; legal = folds.legal; counted = folds.counted })
           (λ there. record { entries = folds.entries; doubt = None; held = opened_held (sym opens.told ∙ sym leaves.told ∙ there) })
           (λ there content left. let told = sym opens.told ∙ sym leaves.told ∙ there in
           subst (λ d. IsJournalImage folded.bodies d content) (sym (leaves.doubt (told_journal told) ∙ opens.no_doubt told))
-          (subst (Stands content) (sym (leaves.bodies (told_journal told))) ((opens.own told).sound content ((leaves.still (told_journal told)).images content left))))
+          (subst (Stands content) (sym (leaves.bodies (told_journal told)))
+              ((opens.own told).sound content ((leaves.still (told_journal told)).images content left))))
 
-      module _ (next : DeskData) (last : JournalData D) (safe : AppliesSafely state (keep_of state desk folded) (keep_of state next last) restart) (counts : faults folded.disk ≤ faults last.disk) where
+      module _ (next : DeskData) (last : JournalData D) (safe : AppliesSafely state (keep_of state desk folded) (keep_of state next last) restart)
+          (counts : faults folded.disk ≤ faults last.disk) where
         -- the list before the Restart, and no doubt
         before_entries : IsTold (state disk) → (keep_of state desk folded).entries ≡ folds.entries
         before_entries told = seen_entries state reads desk folded folds.entries None (opened_held told) (leaves.told ∙ told_journal told)
@@ -205,22 +227,30 @@ module _ {D : Type 0} (state : D → DiskState) (faults : D → ℕ) (reads : (e
         with_restart = legal_more _ folds.entries restart folds.legal tt
 
         -- an image of the acceptance is one since the opening
-        during_since : (told : IsTold (state disk)) (final : List Entry) → final ≡ restarted folds.entries now settings → (content : List ℕ) → IsImageDuring (keep_of state desk folded) restart content
+        during_since : (told : IsTold (state disk)) (final : List Entry) → final ≡ restarted folds.entries now settings → (content : List ℕ)
+            → IsImageDuring (keep_of state desk folded) restart content
             → IsImageSince folds.entries final content
-        during_since told final is content (inl (inl stands)) = image_before folds.entries final restart content is folds.legal (subst (StandsFor content) (before_entries told) stands)
+        during_since told final is content (inl (inl stands)) = image_before folds.entries final restart content is folds.legal
+            (subst (StandsFor content) (before_entries told) stands)
         during_since told final is content (inl (inr stands)) = image_before folds.entries final restart content is folds.legal
-            (subst (λ l. StandsFor content (with_doubt l None)) (before_entries told) (subst (λ d. StandsFor content (with_doubt (keep_of state desk folded).entries d)) (before_doubt told) stands))
-        during_since told final is content (inr with_it) = image_with folds.entries final restart content is with_restart (subst (λ l. StandsFor content (l ++ restart ∷ [])) (before_entries told) with_it.1)
+            (subst (λ l. StandsFor content (with_doubt l None)) (before_entries told)
+                (subst (λ d. StandsFor content (with_doubt (keep_of state desk folded).entries d)) (before_doubt told) stands))
+        during_since told final is content (inr with_it) = image_with folds.entries final restart content is with_restart
+            (subst (λ l. StandsFor content (l ++ restart ∷ [])) (before_entries told) with_it.1)
 
         -- since the opening each image is one of the list
-        since_opening : (told : IsTold (state disk)) (final : List Entry) → final ≡ restarted folds.entries now settings → LeavesOnly (state journal.disk) (state last.disk) (IsImageSince folds.entries final)
+        since_opening : (told : IsTold (state disk)) (final : List Entry) → final ≡ restarted folds.entries now settings
+            → LeavesOnly (state journal.disk) (state last.disk) (IsImageSince folds.entries final)
         since_opening told final is = joined (state journal.disk) (state folded.disk) (state last.disk) (IsImageSince folds.entries final)
-            (weakened (state journal.disk) (state folded.disk) (state journal.disk).may_leave (IsImageSince folds.entries final) (leaves.still (told_journal told)).moments
+            (weakened (state journal.disk) (state folded.disk) (state journal.disk).may_leave (IsImageSince folds.entries final)
+                (leaves.still (told_journal told)).moments
             (λ content there. image_before folds.entries final restart content is folds.legal (opened_sound told content there)))
-            (weakened (state folded.disk) (state last.disk) (IsImageDuring (keep_of state desk folded) restart) (IsImageSince folds.entries final) (safe (leaves.told ∙ told_journal told)) (during_since told final is))
+            (weakened (state folded.disk) (state last.disk) (IsImageDuring (keep_of state desk folded) restart) (IsImageSince folds.entries final)
+                (safe (leaves.told ∙ told_journal told)) (during_since told final is))
 
         -- the Restart was accepted
-        pub started : (answer : Answer) → Applied state faults (keep_of state desk folded) (keep_of state next last) restart (Ok answer) → IsTied state next last
+        pub started : (answer : Answer) → Applied state faults (keep_of state desk folded) (keep_of state next last) restart (Ok answer)
+            → IsTied state next last
             → Started state faults disk settings now (Ok (keep_of state next last))
         started answer accepts tied = (
           folds.entries,
@@ -264,10 +294,20 @@ module _ {D : Type 0} (state : D → DiskState) (faults : D → ℕ) (reads : (e
                 (λ none. absurd (whole_some (state disk).seen opening sound none.0))
                 (λ own. (once (state disk).seen).list folds.entries opening own sound)
                 (opened_list told) in
-                subst (λ l. LeavesOnly (state disk) (state last.disk) (λ content. (state disk).may_leave content ⊎ IsImageSince l (restarted l now settings) content)) same
+                subst (λ l. LeavesOnly (state disk) (state last.disk)
+                    (λ content. (state disk).may_leave content ⊎ IsImageSince l (restarted l now settings) content)) same
                 (behind_still (state disk) (state journal.disk) (state last.disk) (IsImageSince folds.entries (restarted folds.entries now settings))
                 (quiet_still (state disk) (state journal.disk) ((opens.own told).quiet (whole_some (state disk).seen opening sound)))
                 (since_opening told (restarted folds.entries now settings) refl));
+            made = λ told empty.
+                let same : folds.entries ≡ [] = ⊎_elim (λ none. none.1) (λ own. absurd (whole_some (state disk).seen folds.entries own empty))
+                    (opened_list told) in
+                joined (state disk) (state journal.disk) (state last.disk)
+                (λ content. IsMaking (state disk) content ⊎ IsImageSince [] (restarted [] now settings) content)
+                (weakened (state disk) (state journal.disk) (IsMaking (state disk)) _ (made told empty) (λ content there. inl there))
+                (weakened (state journal.disk) (state last.disk) (IsImageSince folds.entries (restarted folds.entries now settings)) _
+                (since_opening told (restarted folds.entries now settings) refl)
+                (λ content there. inr (subst (λ l. IsImageSince l (restarted l now settings) content) same there)));
             quiet = λ told offset some damaged. absurd (⊎_elim
                 (λ none. some none.0)
                 (λ own. (once (state disk).seen).apart offset folds.entries damaged own)
@@ -275,7 +315,8 @@ module _ {D : Type 0} (state : D → DiskState) (faults : D → ℕ) (reads : (e
           },
         )
           where
-            why : (f : KeepFault) → Applied state faults (keep_of state desk folded) (keep_of state next last) restart (Err f) → StartFault state faults disk last.disk settings now f
+            why : (f : KeepFault) → Applied state faults (keep_of state desk folded) (keep_of state next last) restart (Err f)
+                → StartFault state faults disk last.disk settings now f
             why (Damaged offset) a = absurd a
             why DiskFailed a = rose_later (faults disk) (faults folded.disk) (faults last.disk) (omega (arith, opens.counts, leaves.counts)) a.rose
             why Memory a = tt

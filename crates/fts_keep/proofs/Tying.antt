@@ -1,6 +1,5 @@
 -- A desk tied to its journal: what that says over a disk that tells its contents, and what it needs.
-use Rattle.std.proofs.Common.{◌≡◌, refl, ap, sym, ◌∙◌, subst, ℕ, ◌+◌, ◌*◌, ◌≤◌, ◌<◌, Bool, true, false, if◌then◌else◌, List, [], ◌∷◌, ◌++◌, length, Option, Some, None, option_map, option_and_then, is_some, All, arith}
-use Rattle.fts_tables.specs.Tables.{Tables}
+use Rattle.std.proofs.Common.{◌≡◌, ap, sym, ◌∙◌, ◌+◌, ◌*◌, ◌≤◌, ◌<◌, Bool, true, false, List, [], length, Option, Some, option_map, option_and_then, is_some, All}
 use Rattle.fts_tables.specs.History.{tables_of, IsLegal}
 use Rattle.fts_tables.specs.declared.limits.TheConstants.{MAX_JOURNAL_BYTES}
 use Rattle.fts_tables.specs.declared.commands.Entry.{Entry}
@@ -9,11 +8,10 @@ use Rattle.fts_record.specs.Proper.{IsProper}
 use Rattle.fts_record.specs.Reading.{read_of}
 use Rattle.fts_desk.specs.DeskData.{DeskData}
 use Rattle.fts_disk.specs.Disk.{DiskState, IsTold}
-use Rattle.fts_journal.specs.Format.{used_by}
 use Rattle.fts_journal.specs.Journal.{JournalData, IsSound}
-use Rattle.fts_keep.specs.Keeps.{KeepData, HoldsList, IsListOf, IsFold, bodies_of, used_of, with_doubt}
+use Rattle.fts_keep.specs.Keeps.{HoldsList, IsListOf, bodies_of, used_of, with_doubt}
 use Rattle.fts_keep.specs.Views.{entries_in, list_if, option_if, keep_of, IsTied}
-use Rattle.fts_keep.proofs.Lists.{entries_again, doubt_again, proper_list, legal_list, image_of}
+use Rattle.fts_keep.proofs.Lists.{entries_again, doubt_again, proper_list, image_of}
 
 -- what is seen where it is told
 pub list_told : {A : Type 0} (told : Bool) (items : List A) → told ≡ true → list_if told items ≡ items
@@ -44,23 +42,27 @@ pub record Holding {D : Type 0} (desk : DeskData) (journal : JournalData D) : Ty
   pub doubt : Option Entry
   pub held : IsHeld desk journal entries doubt
 
-module _ {D : Type 0} (state : D → DiskState) (reads : (entry : Entry) → IsProper entry → read_of (spelled entry) ≡ Some entry) (desk : DeskData) (journal : JournalData D) where
+module _ {D : Type 0} (state : D → DiskState) (reads : (entry : Entry) → IsProper entry → read_of (spelled entry) ≡ Some entry) (desk : DeskData)
+    (journal : JournalData D) where
   -- the entries that are held are seen
-  pub seen_entries : (entries : List Entry) (doubt : Option Entry) → IsHeld desk journal entries doubt → IsTold (state journal.disk) → (keep_of state desk journal).entries ≡ entries
+  pub seen_entries : (entries : List Entry) (doubt : Option Entry) → IsHeld desk journal entries doubt → IsTold (state journal.disk)
+      → (keep_of state desk journal).entries ≡ entries
   seen_entries entries doubt held told =
       list_told (state journal.disk).told (entries_in journal.bodies) told
       ∙ ap entries_in held.bodies
       ∙ entries_again reads entries (proper_list entries doubt held.proper)
 
   -- and the doubt
-  pub seen_doubt : (entries : List Entry) (doubt : Option Entry) → IsHeld desk journal entries doubt → IsTold (state journal.disk) → (keep_of state desk journal).doubt ≡ doubt
+  pub seen_doubt : (entries : List Entry) (doubt : Option Entry) → IsHeld desk journal entries doubt → IsTold (state journal.disk)
+      → (keep_of state desk journal).doubt ≡ doubt
   seen_doubt entries doubt held told =
       option_told (state journal.disk).told (option_and_then read_of journal.doubt) told
       ∙ ap (λ found. option_and_then read_of found) held.doubts
       ∙ doubt_again reads entries doubt held.proper
 
   -- what is held is held by the keep
-  pub holds : (entries : List Entry) (doubt : Option Entry) → IsHeld desk journal entries doubt → IsSound (state journal.disk) journal.bodies journal.doubt → IsTold (state journal.disk)
+  pub holds : (entries : List Entry) (doubt : Option Entry) → IsHeld desk journal entries doubt → IsSound (state journal.disk) journal.bodies journal.doubt
+      → IsTold (state journal.disk)
       → HoldsList (state journal.disk) entries doubt desk.tables desk.commands journal.used journal.in_doubt
   holds entries doubt held sound told = record {
     folded = held.folded;
@@ -73,7 +75,8 @@ module _ {D : Type 0} (state : D → DiskState) (reads : (entry : Entry) → IsP
   }
 
   -- what ties a desk to its journal
-  pub tie : 8 + 6 * desk.commands ≤ journal.used → journal.used < MAX_JOURNAL_BYTES → desk.commands ≡ journal.count → ((entries : List Entry) × IsListOf (keep_of state desk journal) entries)
+  pub tie : 8 + 6 * desk.commands ≤ journal.used → journal.used < MAX_JOURNAL_BYTES → desk.commands ≡ journal.count
+      → ((entries : List Entry) × IsListOf (keep_of state desk journal) entries)
       → (IsTold (state journal.disk) → Holding desk journal) → IsSound (state journal.disk) journal.bodies journal.doubt → IsTied state desk journal
   tie low high counted some holding sound = record {
     fold = record {
@@ -87,16 +90,19 @@ module _ {D : Type 0} (state : D → DiskState) (reads : (entry : Entry) → IsP
     bodies = λ told. let h = holding told in
         h.held.bodies ∙ ap bodies_of (sym (ap entries_in h.held.bodies ∙ entries_again reads h.entries (proper_list h.entries h.doubt h.held.proper)));
     doubt = λ told. let h = holding told in
-        h.held.doubts ∙ ap (λ found. option_map spelled found) (sym (ap (λ found. option_and_then read_of found) h.held.doubts ∙ doubt_again reads h.entries h.doubt h.held.proper));
+        h.held.doubts ∙ ap (λ found. option_map spelled found)
+            (sym (ap (λ found. option_and_then read_of found) h.held.doubts ∙ doubt_again reads h.entries h.doubt h.held.proper));
   }
 
   -- what a tied desk holds
-  pub held : IsTied state desk journal → IsTold (state journal.disk) → IsHeld desk journal (keep_of state desk journal).entries (keep_of state desk journal).doubt
+  pub held : IsTied state desk journal → IsTold (state journal.disk)
+      → IsHeld desk journal (keep_of state desk journal).entries (keep_of state desk journal).doubt
   held tied told =
       let holding = tied.fold.holds told in
       record {
         bodies = tied.bodies told ∙ ap bodies_of (sym (list_told (state journal.disk).told (entries_in journal.bodies) told));
-        doubts = tied.doubt told ∙ ap (λ found. option_map spelled found) (sym (option_told (state journal.disk).told (option_and_then read_of journal.doubt) told));
+        doubts = tied.doubt told
+            ∙ ap (λ found. option_map spelled found) (sym (option_told (state journal.disk).told (option_and_then read_of journal.doubt) told));
         folded = holding.folded;
         legal = holding.legal;
         proper = holding.proper;

@@ -1,5 +1,5 @@
 -- What folding the bodies of a journal comes to, one body after the other: the list so far, or the first fault.
-use Rattle.std.specs.Prelude.{◌≡◌, ℕ, ◌+◌, ◌*◌, ◌≤◌, ◌<◌, Option, Some, None, List, length, take, drop, Result, Ok, Err, All}
+use Rattle.std.specs.Prelude.{◌≡◌, ℕ, ◌+◌, ◌*◌, ◌≤◌, ◌<◌, Option, Some, List, length, take, drop, Result, Ok, Err, All}
 use Rattle.fts_tables.specs.Counts.{Rose}
 use Rattle.fts_tables.specs.Tables.{Tables}
 use Rattle.fts_tables.specs.Step.{step}
@@ -10,7 +10,7 @@ use Rattle.fts_tables.specs.declared.commands.Answer.{Answer}
 use Rattle.fts_record.specs.Spelling.{spelled}
 use Rattle.fts_record.specs.Proper.{IsProper}
 use Rattle.fts_record.specs.Reading.{entry_in}
-use Rattle.fts_disk.specs.Disk.{DiskState, IsTold, LeavesOnly}
+use Rattle.fts_disk.specs.Disk.{DiskState, IsTold}
 use Rattle.fts_journal.specs.Format.{used_by}
 use Rattle.fts_journal.specs.Journal.{JournalData}
 use Rattle.fts_keep.specs.Keeps.{bodies_of}

@@ -96,3 +96,7 @@ pub record Grows {D : Type 0} (state : D → DiskState) (faults : D → ℕ) (wr
 -- at every moment of a call each image is one of the list, as it was at some time since its opening, with one entry more at most
 abbrev pub KeepsImages : {D : Type 0} → (D → DiskState) → List Entry → KeepData D → KeepData D → Type 0
 KeepsImages state opening old new = LeavesOnly (state old.disk) (state new.disk) (IsImageSince opening new.entries)
+
+-- the same since any opening of the list, so that calls compose
+abbrev pub KeepsImagesSinceAny : {D : Type 0} → (D → DiskState) → KeepData D → KeepData D → Type 0
+KeepsImagesSinceAny state old new = (opening since : List Entry) → old.entries ≡ opening ++ since → IsTold (state old.disk) → KeepsImages state opening old new

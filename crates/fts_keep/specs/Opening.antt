@@ -1,10 +1,10 @@
 -- What opening a journal comes to: it is made on an empty disk, and else loaded.
-use Rattle.std.specs.Prelude.{◌≡◌, ◌≢◌, ◌⊎◌, ℕ, ◌+◌, ◌≤◌, false, None, List, []}
+use Rattle.std.specs.Prelude.{◌≡◌, ◌≢◌, ◌⊎◌, ℕ, ◌≤◌, false, None, List, []}
 use Rattle.fts_tables.specs.Counts.{Rose}
-use Rattle.fts_disk.specs.Disk.{DiskState, IsTold}
+use Rattle.fts_disk.specs.Disk.{DiskState, IsTold, LeavesOnly}
 use Rattle.fts_journal.specs.Format.{Stands}
 use Rattle.fts_journal.specs.Loading.{IsQuiet, IsNotJournal, IsCut}
-use Rattle.fts_journal.specs.Journal.{JournalData}
+use Rattle.fts_journal.specs.Journal.{JournalData, IsMaking}
 use Rattle.fts_keep.specs.declared.fault.KeepFault.{KeepFault}
 use Rattle.fts_keep.specs.declared.fault.KeepFault.TheVariants.{Rule, DiskFailed, JournalFull, Damaged, Memory}
 
@@ -18,6 +18,10 @@ pub record OpensBodies (disk opened : DiskState) (bodies : List (List ℕ)) : Ty
   pub sound : (content : List ℕ) → opened.may_leave content → Stands content bodies
   pub quiet : disk.seen ≢ [] → IsQuiet disk opened
 
+-- on an empty disk that tells its contents: a crash leaves what may be left while a journal is made
+abbrev pub Makes : DiskState → DiskState → Type 0
+Makes disk left = IsTold disk → disk.seen ≡ [] → LeavesOnly disk left (IsMaking disk)
+
 -- a journal was opened
 pub record OpensJournal {D : Type 0} (state : D → DiskState) (faults : D → ℕ) (disk : D) (journal : JournalData D) : Type 0 where
   pub told : (state journal.disk).told ≡ (state disk).told
@@ -28,7 +32,8 @@ pub record OpensJournal {D : Type 0} (state : D → DiskState) (faults : D → �
 
 -- why it wasn't
 abbrev pub OpenFault : {D : Type 0} → (D → DiskState) → (D → ℕ) → D → D → KeepFault → Type 0
-OpenFault state faults disk left (Damaged offset) = IsTold (state disk) → ((state disk).seen ≢ []) × ((IsNotJournal (state disk).seen × (offset ≡ 0)) ⊎ IsCut (state disk).seen offset)
+OpenFault state faults disk left (Damaged offset) = IsTold (state disk)
+    → ((state disk).seen ≢ []) × ((IsNotJournal (state disk).seen × (offset ≡ 0)) ⊎ IsCut (state disk).seen offset)
 OpenFault state faults disk left DiskFailed = Rose (faults disk) (faults left)
 OpenFault state faults disk left Memory = Unit {0}
 OpenFault state faults disk left (JournalFull used) = ⊥

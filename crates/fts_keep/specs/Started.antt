@@ -9,6 +9,7 @@ use Rattle.fts_record.specs.Spelling.{spelled}
 use Rattle.fts_tables.specs.Counts.{Rose}
 use Rattle.fts_disk.specs.Disk.{DiskState, IsTold, LeavesOnly}
 use Rattle.fts_journal.specs.Loading.{IsQuiet}
+use Rattle.fts_journal.specs.Journal.{IsMaking}
 use Rattle.fts_keep.specs.Keeps.{KeepData, HoldsList, StandsFor, used_of, IsImageSince}
 use Rattle.fts_keep.specs.Damage.{IsWhole, IsDamaged}
 use Rattle.fts_keep.specs.Applied.{entry_by, fits}
@@ -32,17 +33,19 @@ pub record IsStill (old new : DiskState) : Type 0 where
   pub images : (content : List ℕ) → new.may_leave content → old.may_leave content
   pub moments : LeavesOnly old new old.may_leave
 
--- The disk as the journal's `create` or `load` left it: each of its images stands for the opening list. Up to there a journal that was loaded
--- is left as it was; of one that is made nothing is said of the moments inside.
+-- The disk as the journal's `create` or `load` left it: each of its images stands for the opening list. Up to then a crash leaves what it
+-- might have left before, with its first nine bytes written or torn while a new journal is made.
 pub record IsOpened {D : Type 0} (state : D → DiskState) (faults : D → ℕ) (disk opened : D) (opening : List Entry) : Type 0 where
   pub list : Opens (state disk).seen opening
   pub stands : StandsFor (state opened).seen opening
   pub sound : (content : List ℕ) → (state opened).may_leave content → StandsFor content opening
   pub quiet : (state disk).seen ≢ [] → IsQuiet (state disk) (state opened)
+  pub made : (state disk).seen ≡ [] → LeavesOnly (state disk) (state opened) (IsMaking (state disk))
   pub counts : faults disk ≤ faults opened
 
 -- over a disk that tells its contents: the keep has the disk's own list and a Restart behind it, and since the opening each image is one of that list
-pub record Starts {D : Type 0} (state : D → DiskState) (faults : D → ℕ) (disk : D) (settings : SettingsData) (now : ℕ) (keep : KeepData D) (opening : List Entry) : Type 0 where
+pub record Starts {D : Type 0} (state : D → DiskState) (faults : D → ℕ) (disk : D) (settings : SettingsData) (now : ℕ) (keep : KeepData D)
+    (opening : List Entry) : Type 0 where
   pub opened : D
   pub opens : IsOpened state faults disk opened opening
   pub listed : keep.entries ≡ restarted opening now settings
@@ -51,9 +54,10 @@ pub record Starts {D : Type 0} (state : D → DiskState) (faults : D → ℕ) (d
   pub images : LeavesOnly (state opened) (state keep.disk) (IsImageSince opening keep.entries)
   pub counts : faults opened ≤ faults keep.disk
 
--- A keep was started. Over every disk there is a list that is legal and, with the Restart behind it, makes its tables; and so many bytes were used before that Restart.
--- Over a disk that tells its contents the list is its own.
-pub record StartsOver {D : Type 0} (state : D → DiskState) (faults : D → ℕ) (disk : D) (settings : SettingsData) (now : ℕ) (keep : KeepData D) (opening : List Entry) : Type 0 where
+-- A keep was started. Over every disk there is a list that is legal and, with the Restart behind it, makes its tables; and so many bytes were
+-- used before that Restart. Over a disk that tells its contents the list is its own.
+pub record StartsOver {D : Type 0} (state : D → DiskState) (faults : D → ℕ) (disk : D) (settings : SettingsData) (now : ℕ) (keep : KeepData D)
+    (opening : List Entry) : Type 0 where
   pub legal : IsLegal opening
   pub folded : keep.tables ≡ tables_of (restarted opening now settings)
   pub counted : keep.commands ≡ length opening + 1
@@ -73,6 +77,9 @@ pub record StartsNot {D : Type 0} (state : D → DiskState) (faults : D → ℕ)
   pub counts : faults disk ≤ faults left
   pub images : IsTold (state disk) → (opening : List Entry) → IsWhole (state disk).seen opening
       → LeavesOnly (state disk) (state left) (λ content. (state disk).may_leave content ⊎ IsImageSince opening (restarted opening now settings) content)
+  -- on an empty disk it stands for nothing, or for the Restart alone
+  pub made : IsTold (state disk) → (state disk).seen ≡ []
+      → LeavesOnly (state disk) (state left) (λ content. IsMaking (state disk) content ⊎ IsImageSince [] (restarted [] now settings) content)
   -- what is damaged is only looked at
   pub quiet : IsTold (state disk) → (offset : ℕ) → (state disk).seen ≢ [] → IsDamaged (state disk).seen offset → IsStill (state disk) (state left)
 
@@ -88,7 +95,8 @@ StartFault state faults disk left settings now (Rule refusal) = ⊥
 -- what `start` did
 abbrev pub Started : {D : Type 0} → (D → DiskState) → (D → ℕ) → D → SettingsData → ℕ → Result (KeepData D) (KeepFault × D) → Type 0
 Started state faults disk settings now (Ok keep) = (opening : List Entry) × StartsOver state faults disk settings now keep opening
-Started state faults disk settings now (Err stopped) = StartFault state faults disk stopped.1 settings now stopped.0 × StartsNot state faults disk stopped.1 settings now
+Started state faults disk settings now (Err stopped) =
+    StartFault state faults disk stopped.1 settings now stopped.0 × StartsNot state faults disk stopped.1 settings now
 
 -- A journal was looked at: over every disk the tables are those of a legal list. Over one that tells its contents that list is its own, and a
 -- crash leaves nothing else than before.

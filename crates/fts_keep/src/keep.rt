@@ -41,10 +41,8 @@ impl<D: Disk> Model for Keep<D> {
 }
 
 impl<D: Disk> Keep<D> {
-    ghost use Rattle.std.specs.Prelude.{◌≡◌, ◌++◌, List, IsSome, IfOk, IfErr, IsTrue, Ok, Err};
-    ghost use Rattle.fts_keep.specs.Keeps.{IsKeep, Grows, KeepsImages};
-    ghost use Rattle.fts_disk.specs.Disk.{IsTold};
-    ghost use Rattle.fts_tables.specs.declared.commands.Entry.{Entry};
+    ghost use Rattle.std.specs.Prelude.{◌≡◌, IsSome, IfOk, IfErr, IsTrue, Ok, Err};
+    ghost use Rattle.fts_keep.specs.Keeps.{IsKeep, Grows, KeepsImagesSinceAny};
 
     /// Makes a journal on an empty disk, or folds the one that is there, and then has a Restart of writer 0 accepted.
     /// `now` is in seconds since 1970. Gives the disk back where it isn't started; `Rule` never comes.
@@ -89,8 +87,8 @@ impl<D: Disk> Keep<D> {
         ensures applied { Applied D.state D.faults self.old self.new (entry_by writer command) result }
         ensures safe { AppliesSafely D.state self.old self.new (entry_by writer command) }
         ensures grows { Grows D.state D.faults writer self.old self.new }
-        // So images compose: since any opening of the list each one is a beginning of it, with one entry more at most.
-        ensures images { (opening since : List Entry) → self.old.entries ≡ opening ++ since → IsTold (D.state self.old.disk) → KeepsImages D.state opening self.old self.new }
+        // Since any opening of the list each image is a beginning of it, with one entry more at most.
+        ensures images { KeepsImagesSinceAny D.state self.old self.new }
     {
         let entry = Entry { writer, command };
         accept(self.alloc, &mut self.desk, &mut self.journal, &entry)

@@ -1,7 +1,7 @@
 //! How a journal is opened: one is made on an empty disk, and any other content is loaded.
 //! Called by `Keep::start` alone; a look never makes a journal.
-ghost use Rattle.std.specs.Prelude.{IfOk, IfErr};
-ghost use Rattle.fts_keep.specs.Opening.{OpensJournal, OpensNot};
+ghost use Rattle.std.specs.Prelude.{IfOk, IfErr, MatchResult};
+ghost use Rattle.fts_keep.specs.Opening.{OpensJournal, OpensNot, Makes};
 
 use crate::KeepFault;
 use fts_disk::{Disk, DiskFailed};
@@ -12,15 +12,19 @@ use std::alloc::Global;
 pub fn open<D: Disk>(alloc: Global, disk: D) -> Result<Journal<D>, (KeepFault, D)>
     ensures ok { IfOk result (OpensJournal D.state D.faults disk) }
     ensures err { IfErr result (λ stopped. OpensNot D.state D.faults disk stopped.1 stopped.0) }
+    // While a new journal is made, a crash leaves what it might have left before, or that with torn first bytes.
+    ensures made { MatchResult result (λ journal. Makes (D.state disk) (D.state journal.disk)) (λ stopped. Makes (D.state disk) (D.state stopped.1)) }
 {
     let mut disk = disk;
-    let opened = match disk.len() {
-        Ok(0) => Journal::create(alloc, disk),
-        Ok(_) => Journal::load(alloc, disk),
-        Err(DiskFailed) => return Err((KeepFault::DiskFailed, disk)),
-    };
-    match opened {
-        Ok(journal) => Ok(journal),
-        Err((fault, disk)) => Err((fault.into(), disk)),
+    match disk.len() {
+        Ok(0) => match Journal::create(alloc, disk) {
+            Ok(journal) => Ok(journal),
+            Err((fault, disk)) => Err((fault.into(), disk)),
+        },
+        Ok(_) => match Journal::load(alloc, disk) {
+            Ok(journal) => Ok(journal),
+            Err((fault, disk)) => Err((fault.into(), disk)),
+        },
+        Err(DiskFailed) => Err((KeepFault::DiskFailed, disk)),
     }
 }

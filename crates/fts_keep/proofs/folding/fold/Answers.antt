@@ -1,6 +1,5 @@
 -- Each exit of the loop, by the lemmas of `Folded`.
-use Rattle.std.proofs.Common.{◌≡◌, ◌∙◌, refl, ap, sym, subst, ◌+◌, ◌≤◌, slice_get, Some, length, rules, arith}
-use Rattle.fts_disk.specs.Disk.{IsTold}
+use Rattle.std.proofs.Common.{◌≡◌, ◌∙◌, ap, sym, subst, ◌+◌, ◌≤◌, slice_get, Some, length, rules, arith}
 use Rattle.fts_keep.specs.Faults.{fault_of}
 use Rattle.fts_keep.specs.Folding.{HasFolded, FoldFault}
 use Rattle.fts_keep.proofs.Folded.{folded_none, folded_more, leaves_none, leaves_more, read_fault, take_fault, on_err, take_all}
@@ -22,41 +21,53 @@ returns-in_err-body-clause-leaves g c = leaves_more g.D.Disk.state g.D.Disk.faul
     c.loop-n.invariant.leaves c.body.ensures.told c.body.ensures.kept c.body.ensures.counts c.body.ensures.keeps c.body.ensures.doubt
 
 pub returns-in_err-body-clause-fault : goal.returns-in_err-body-clause-fault
-returns-in_err-body-clause-fault g c = on_err c.from_residual.result (fault_of c.in_err-body.field-0.0) (FoldFault g.D.Disk.state g.D.Disk.faults c.args.journal.now c.body.new.self)
+returns-in_err-body-clause-fault g c = on_err c.from_residual.result (fault_of c.in_err-body.field-0.0)
+    (FoldFault g.D.Disk.state g.D.Disk.faults c.args.journal.now c.body.new.self)
     c.from_residual.ensures.1
-    (read_fault g.D.Disk.state g.D.Disk.faults c.args.journal.now c.loop-n.journal c.body.new.self c.loop-n.invariant.leaves.counts c.in_err-body.field-0.0 c.in_err-body.ensures.disk_failed c.in_err-body.ensures.others)
+    (read_fault g.D.Disk.state g.D.Disk.faults c.args.journal.now c.loop-n.journal c.body.new.self c.loop-n.invariant.leaves.counts c.in_err-body.field-0.0
+        c.in_err-body.ensures.disk_failed c.in_err-body.ensures.others)
 
 pub take_entry-requires-clause-few : goal.take_entry-requires-clause-few
-take_entry-requires-clause-few g c = omega (arith, c.loop-n.invariant.commands, c.count-n-end.ensures.count, c.loop-n-test.true, c.used.ensures.least, c.used.ensures.most)
+take_entry-requires-clause-few g c = omega
+    (arith, c.loop-n.invariant.commands, c.count-n-end.ensures.count, c.loop-n-test.true, c.used.ensures.least, c.used.ensures.most)
 
 pub take_entry-requires-clause-low : goal.take_entry-requires-clause-low
-take_entry-requires-clause-low g c = omega (arith, c.loop-n.invariant.low, c.count-n-end.ensures.count, c.loop-n-test.true, c.used.ensures.least, c.used.ensures.most)
+take_entry-requires-clause-low g c = omega
+    (arith, c.loop-n.invariant.low, c.count-n-end.ensures.count, c.loop-n-test.true, c.used.ensures.least, c.used.ensures.most)
 
 pub returns-in_err-take_entry-clause-leaves : goal.returns-in_err-take_entry-clause-leaves
 returns-in_err-take_entry-clause-leaves g c = leaves_more g.D.Disk.state g.D.Disk.faults g.met.D.Disk.lawful c.args.journal.now c.loop-n.journal c.body.new.self
     c.loop-n.invariant.leaves c.body.ensures.told c.body.ensures.kept c.body.ensures.counts c.body.ensures.keeps c.body.ensures.doubt
 
 pub returns-in_err-take_entry-clause-fault : goal.returns-in_err-take_entry-clause-fault
-returns-in_err-take_entry-clause-fault g c = on_err c.from_residual-in_err-take_entry.result c.in_err-take_entry.field-0.0 (FoldFault g.D.Disk.state g.D.Disk.faults c.args.journal.now c.body.new.self)
+returns-in_err-take_entry-clause-fault g c = on_err c.from_residual-in_err-take_entry.result c.in_err-take_entry.field-0.0
+    (FoldFault g.D.Disk.state g.D.Disk.faults c.args.journal.now c.body.new.self)
     c.from_residual-in_err-take_entry.ensures.1
-    (take_fault g.D.Disk.state g.D.Disk.faults c.args.journal.now c.body.new.self c.loop-n.desk.tables c.take_entry.new.desk.tables c.loop-n.gate c.loop-n.n c.deref.result.now c.loop-n.invariant.folded
-    (λ told. ap (λ b. slice_get b c.loop-n.n) (sym (c.loop-n.invariant.leaves.bodies told)) ∙ c.in_ok-body.ensures.read (c.loop-n.invariant.leaves.told ∙ told) ∙ ap (λ b. Some b) (sym c.deref.ensures.value))
+    (take_fault g.D.Disk.state g.D.Disk.faults c.args.journal.now c.body.new.self c.loop-n.desk.tables c.take_entry.new.desk.tables c.loop-n.gate c.loop-n.n
+        c.deref.result.now c.loop-n.invariant.folded
+    (λ told. ap (λ b. slice_get b c.loop-n.n) (sym (c.loop-n.invariant.leaves.bodies told))
+        ∙ c.in_ok-body.ensures.read (c.loop-n.invariant.leaves.told ∙ told) ∙ ap (λ b. Some b) (sym c.deref.ensures.value))
     c.in_err-take_entry.field-0.0 c.in_err-take_entry.ensures.takes)
 
 pub overflow_add-gate-in-loop-n : goal.overflow_add-gate-in-loop-n
 overflow_add-gate-in-loop-n g c =
-    let short : c.loop-n.gate + (5 + c.len.result) ≤ 100000000000000 = omega (arith, c.loop-n.invariant.low, c.count-n-end.ensures.count, c.loop-n-test.true, c.used.ensures.least, c.used.ensures.most, c.in_ok-take_entry.ensures.short, c.len.ensures, ap length c.deref.ensures.value) in
+    let short : c.loop-n.gate + (5 + c.len.result) ≤ 100000000000000 = omega
+        (arith, c.loop-n.invariant.low, c.count-n-end.ensures.count, c.loop-n-test.true, c.used.ensures.least, c.used.ensures.most,
+        c.in_ok-take_entry.ensures.short, c.len.ensures, ap length c.deref.ensures.value) in
     search (rules, short)
 
 pub loop-n-preserved : goal.loop-n-preserved
 loop-n-preserved g c =
-    let long : c.loop-n.gate + 5 + length c.deref.result.now ≡ c.loop-n.gate + (5 + c.len.result) = omega (arith, c.len.ensures, ap length c.deref.ensures.value) in
+    let long : c.loop-n.gate + 5 + length c.deref.result.now ≡ c.loop-n.gate + (5 + c.len.result) = omega
+        (arith, c.len.ensures, ap length c.deref.ensures.value) in
     record {
       leaves = leaves_more g.D.Disk.state g.D.Disk.faults g.met.D.Disk.lawful c.args.journal.now c.loop-n.journal c.body.new.self
           c.loop-n.invariant.leaves c.body.ensures.told c.body.ensures.kept c.body.ensures.counts c.body.ensures.keeps c.body.ensures.doubt;
       folded = subst (λ k. HasFolded g.D.Disk.state c.args.journal.now c.take_entry.new.desk.tables k (c.loop-n.n + 1)) long
-          (folded_more g.D.Disk.state c.args.journal.now c.loop-n.desk.tables c.take_entry.new.desk.tables c.loop-n.gate c.loop-n.n c.deref.result.now c.loop-n.invariant.folded c.in_ok-take_entry.ensures.takes
-          (λ told. ap (λ b. slice_get b c.loop-n.n) (sym (c.loop-n.invariant.leaves.bodies told)) ∙ c.in_ok-body.ensures.read (c.loop-n.invariant.leaves.told ∙ told) ∙ ap (λ b. Some b) (sym c.deref.ensures.value)));
+          (folded_more g.D.Disk.state c.args.journal.now c.loop-n.desk.tables c.take_entry.new.desk.tables c.loop-n.gate c.loop-n.n c.deref.result.now
+              c.loop-n.invariant.folded c.in_ok-take_entry.ensures.takes
+          (λ told. ap (λ b. slice_get b c.loop-n.n) (sym (c.loop-n.invariant.leaves.bodies told))
+              ∙ c.in_ok-body.ensures.read (c.loop-n.invariant.leaves.told ∙ told) ∙ ap (λ b. Some b) (sym c.deref.ensures.value)));
       commands = omega (arith, c.in_ok-take_entry.ensures.commands, c.loop-n.invariant.commands);
       low = omega (arith, c.loop-n.invariant.low, c.in_ok-take_entry.ensures.short, long);
     }

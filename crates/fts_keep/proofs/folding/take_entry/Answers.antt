@@ -1,4 +1,4 @@
-use Rattle.std.proofs.Common.{◌≤◌, subst, Err, length, rules, arith}
+use Rattle.std.proofs.Common.{subst, Err, rules}
 use Rattle.fts_record.specs.Answers.{Tells}
 use Rattle.fts_record.specs.Reading.{entry_in}
 use Rattle.fts_keep.proofs.Damaged.{place_inside}

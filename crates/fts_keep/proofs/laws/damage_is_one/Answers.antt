@@ -1,10 +1,7 @@
-use Rattle.fts_keep.proofs.Exits.{done_tied}
-use Rattle.fts_keep.proofs.Folded.{folded_fault}
-use Rattle.fts_keep.proofs.Starting.{unstarted}
-use Rattle.fts_keep.proofs.Settled.{settings_stay}
 use Rattle.fts_keep.proofs.Damaged.{damage_once}
 use Rattle.fts_keep.proofs.laws.damage_is_one.Goals as goal
 
 pub returns : goal.returns
-returns c = damage_once c.what_is_spelled_is_read.ensures.read c.content_stands_for_one.ensures c.content_that_stands_is_not_cut.ensures c.content_is_cut_at_one_offset.ensures
+returns c = damage_once c.what_is_spelled_is_read.ensures.read c.content_stands_for_one.ensures c.content_that_stands_is_not_cut.ensures
+    c.content_is_cut_at_one_offset.ensures
     c.no_journal_stands_or_is_cut.ensures.stands c.no_journal_stands_or_is_cut.ensures.cut
