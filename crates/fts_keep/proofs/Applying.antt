@@ -61,7 +61,7 @@ module _ {D : Type 0} (state : D → DiskState) (faults : D → ℕ) (desk next 
     -- this entry was added, where the list is told
     added_one : (told : Bool) → told ≡ (state journal.disk).told → (state last.disk).told ≡ (state journal.disk).told
         → (IsTold (state journal.disk) → (keep_of state next last).entries ≡ (keep_of state desk journal).entries ++ entry ∷ [])
-            → Grows state faults entry.writer (keep_of state desk journal) (keep_of state next last)
+        → Grows state faults entry.writer (keep_of state desk journal) (keep_of state next last)
     added_one true is told listed = record {
       added = entry ∷ [];
       appended = listed (sym is);
@@ -71,7 +71,7 @@ module _ {D : Type 0} (state : D → DiskState) (faults : D → ℕ) (desk next 
     }
     added_one false is told listed = added_none
         (list_untold (state last.disk).told (entries_in last.bodies) (told ∙ sym is)
-            ∙ sym (list_untold (state journal.disk).told (entries_in journal.bodies) (sym is))) told
+        ∙ sym (list_untold (state journal.disk).told (entries_in journal.bodies) (sym is))) told
 
     -- the list only grows, by entries of this writer
     pub grown : (result : Result Answer KeepFault) → Applied state faults (keep_of state desk journal) (keep_of state next last) entry result

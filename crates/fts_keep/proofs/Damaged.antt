@@ -63,14 +63,14 @@ module _ (reads : (entry : Entry) → IsProper entry → read_of (spelled entry)
     one_offset one other (inr (inr fault)) (inr (inl cut)) = absurd (uncut content fault.bodies other fault.stands cut)
     one_offset one other (inr (inr fault)) (inr (inr second)) =
         let same : Some one ≡ Some other = sym fault.fault ∙ ap fault_in (stands_one content fault.bodies second.bodies fault.stands second.stands)
-            ∙ second.fault in cc
+        ∙ second.fault in cc
 
     not_both : (offset : ℕ) (entries : List Entry) → IsDamaged content offset → IsWhole content entries → ⊥
     not_both offset entries (inl other) sound = stands_as content (bodies_of entries) other.0 sound.stands
     not_both offset entries (inr (inl cut)) sound = uncut content (bodies_of entries) offset sound.stands cut
     not_both offset entries (inr (inr fault)) sound =
         let same : Some offset ≡ None = sym fault.fault ∙ ap fault_in (stands_one content fault.bodies (bodies_of entries) fault.stands sound.stands)
-            ∙ no_fault empty_tables 8 entries sound.proper sound.legal in cc
+        ∙ no_fault empty_tables 8 entries sound.proper sound.legal in cc
 
     -- both the place and the list are one, and they exclude each other
     pub damage_once : DamageIsOne content
@@ -79,5 +79,5 @@ module _ (reads : (entry : Entry) → IsProper entry → read_of (spelled entry)
       apart = not_both;
       list = λ one other first second.
           sym (entries_again reads one first.proper) ∙ ap entries_in (stands_one content (bodies_of one) (bodies_of other) first.stands second.stands)
-              ∙ entries_again reads other second.proper;
+          ∙ entries_again reads other second.proper;
     }

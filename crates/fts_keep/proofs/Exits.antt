@@ -131,8 +131,10 @@ module _ {D : Type 0} (state : D → DiskState) (faults : D → ℕ) (reads : (e
 
   -- tables and number are still those of a list
   some_list : (mid : JournalData D) → (entries : List Entry) × IsListOf (keep_of state next mid) entries
-  some_list mid = (tied.fold.some.0,
-      record { folded = tables ∙ tied.fold.some.1.folded; legal = tied.fold.some.1.legal; counted = commands ∙ tied.fold.some.1.counted })
+  some_list mid = (
+    tied.fold.some.0,
+    record { folded = tables ∙ tied.fold.some.1.folded; legal = tied.fold.some.1.legal; counted = commands ∙ tied.fold.some.1.counted },
+  )
 
   -- list, tables and numbers are as before
   keeps_list : (mid : JournalData D) → mid.used ≡ journal.used → (state mid.disk).told ≡ (state journal.disk).told
@@ -194,8 +196,8 @@ module _ {D : Type 0} (state : D → DiskState) (faults : D → ℕ) (reads : (e
           let h = held state reads desk journal tied told in
           weakened (state journal.disk) (state mid.disk) (IsJournalImage journal.bodies journal.doubt) (IsImageDuring old entry) (settles.any_moment told)
           (λ content there. inl
-              (image_of old.entries old.doubt content
-              (subst (λ d. IsJournalImage (bodies_of old.entries) d content) h.doubts (subst (λ b. IsJournalImage b journal.doubt content) h.bodies there))))
+          (image_of old.entries old.doubt content
+          (subst (λ d. IsJournalImage (bodies_of old.entries) d content) h.doubts (subst (λ b. IsJournalImage b journal.doubt content) h.bodies there))))
 
       module _ (settles : Settles state faults journal mid (Ok tt)) (last : JournalData D) (body : List ℕ) (is_body : body ≡ spelled entry)
           (proper : IsProper entry) where
@@ -209,11 +211,14 @@ module _ {D : Type 0} (state : D → DiskState) (faults : D → ℕ) (reads : (e
         appended_safe result appends told = joined (state journal.disk) (state mid.disk) (state last.disk) (IsImageDuring old entry)
             (settled_safe (Ok tt) settles told)
             (weakened (state mid.disk) (state last.disk) (IsBeforeOrAfter mid.bodies body) (IsImageDuring old entry)
-                (appends.any_moment (settles.told ∙ told)) (λ content there. ⊎_elim
+            (appends.any_moment (settles.told ∙ told)) (λ content there. ⊎_elim
             (λ before. inl (inl (subst (Stands content) (settled_bodies told) before)))
-            (λ after. inr (checked, subst (Stands content)
-                (ap (λ b. b ++ body ∷ []) (settled_bodies told) ∙ ap (λ x. bodies_of old.entries ++ x ∷ []) is_body ∙ sym (bodies_more old.entries entry))
-                after))
+            (λ after. inr (
+              checked,
+              subst (Stands content)
+                  (ap (λ b. b ++ body ∷ []) (settled_bodies told) ∙ ap (λ x. bodies_of old.entries ++ x ∷ []) is_body ∙ sym (bodies_more old.entries entry))
+                  after,
+            ))
             there))
 
         module _ (fault : JournalFault) (appends : Appends state faults mid last body (Err fault)) where

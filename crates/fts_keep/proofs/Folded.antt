@@ -113,9 +113,9 @@ leaves_none state faults lawful journal = record {
 pub leaves_more : {D : Type 0} (state : D → DiskState) (faults : D → ℕ) → ((disk : D) → IsTold (state disk) → IsLawful (state disk))
     → (old mid new : JournalData D) → LeavesJournal state faults old mid
     → (state new.disk).told ≡ (state mid.disk).told → (new.count ≡ mid.count) × (new.used ≡ mid.used) × (new.in_doubt ≡ mid.in_doubt)
-        → faults mid.disk ≤ faults new.disk
+    → faults mid.disk ≤ faults new.disk
     → (IsTold (state mid.disk) → Keeps (state mid.disk) (state new.disk) mid.bodies new.bodies) → (IsTold (state mid.disk) → new.doubt ≡ mid.doubt)
-        → LeavesJournal state faults old new
+    → LeavesJournal state faults old new
 leaves_more state faults lawful old mid new so_far told kept counts keeps doubt = record {
   count = kept.0 ∙ so_far.count;
   used = kept.1 ∙ so_far.used;
@@ -132,7 +132,7 @@ leaves_more state faults lawful old mid new so_far told kept counts keeps doubt 
 pub read_fault : {D : Type 0} (state : D → DiskState) (faults : D → ℕ) (old mid new : JournalData D) → faults old.disk ≤ faults mid.disk
     → (fault : JournalFault)
     → (fault ≡ JournalDiskFailed → Rose (faults mid.disk) (faults new.disk)) → (fault ≡ JournalDiskFailed) ⊎ (fault ≡ JournalMemory)
-        → FoldFault state faults old new (fault_of fault)
+    → FoldFault state faults old new (fault_of fault)
 read_fault state faults old mid new counts fault rose (inl is) = subst (λ f. FoldFault state faults old new (fault_of f)) (sym is)
     (rose_later (faults old.disk) (faults mid.disk) (faults new.disk) counts (rose is))
 read_fault state faults old mid new counts fault rose (inr is) = subst (λ f. FoldFault state faults old new (fault_of f)) (sym is) tt
@@ -141,7 +141,7 @@ read_fault state faults old mid new counts fault rose (inr is) = subst (λ f. Fo
 pub take_fault : {D : Type 0} (state : D → DiskState) (faults : D → ℕ) (old new : JournalData D) (tables after : Tables) (gate n : ℕ) (body : List ℕ)
     → HasFolded state old tables gate n
     → (IsTold (state old.disk) → slice_get old.bodies n ≡ Some body) → (fault : KeepFault) → Takes tables gate body after (Err fault)
-        → FoldFault state faults old new fault
+    → FoldFault state faults old new fault
 take_fault state faults old new tables after gate n body so_far here (Damaged offset) takes =
     λ told. folded_fault state old tables gate n offset body so_far takes told (here told)
 take_fault state faults old new tables after gate n body so_far here Memory takes = tt

@@ -168,6 +168,6 @@ list_more state old new entries entry answer list done = record {
   folded = accepted_tables entries entry old.tables new.tables old.used answer list.folded done.done;
   legal = legal_more empty_tables entries entry list.legal
       (subst (λ t. IsAccepted (step t entry.command)) list.folded
-          (accepted_by old.used entry (step old.tables entry.command) (subst (λ came. IsOk came) (sym done.done) refl)));
+      (accepted_by old.used entry (step old.tables entry.command) (subst (λ came. IsOk came) (sym done.done) refl)));
   counted = omega (arith, done.commands, list.counted, length-append entries (entry ∷ []));
 }

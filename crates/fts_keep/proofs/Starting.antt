@@ -99,7 +99,7 @@ module _ {D : Type 0} (state : D → DiskState) (faults : D → ℕ) (old new : 
 
 module _ {D : Type 0} (state : D → DiskState) (faults : D → ℕ) (reads : (entry : Entry) → IsProper entry → read_of (spelled entry) ≡ Some entry)
     (lawful : (disk : D) → IsTold (state disk) → IsLawful (state disk)) (once : (content : List ℕ) → DamageIsOne content) (disk : D)
-        (settings : SettingsData) (now : ℕ) where
+    (settings : SettingsData) (now : ℕ) where
   -- the Restart
   abbrev restart : Entry
   restart = restart_at now settings
@@ -183,8 +183,12 @@ module _ {D : Type 0} (state : D → DiskState) (faults : D → ℕ) (reads : (e
       opened_list : IsTold (state disk) → Opens (state disk).seen folds.entries
       opened_list told = ⊎_elim
           (λ none. inl (none.0, no_entries folds.entries (sym none.1 ∙ folds.spells (told_journal told))))
-          (λ some. inr (record { stands = subst (Stands (state disk).seen) (folds.spells (told_journal told))
-              some.1; proper = folds.proper; legal = folds.legal }))
+          (λ some. inr (record {
+            stands = subst (Stands (state disk).seen) (folds.spells (told_journal told))
+                some.1;
+            proper = folds.proper;
+            legal = folds.legal;
+          }))
           (opens.own told).list
 
       -- each image of the journal that was opened stands for it
@@ -211,7 +215,7 @@ module _ {D : Type 0} (state : D → DiskState) (faults : D → ℕ) (reads : (e
           (λ there content left. let told = sym opens.told ∙ sym leaves.told ∙ there in
           subst (λ d. IsJournalImage folded.bodies d content) (sym (leaves.doubt (told_journal told) ∙ opens.no_doubt told))
           (subst (Stands content) (sym (leaves.bodies (told_journal told)))
-              ((opens.own told).sound content ((leaves.still (told_journal told)).images content left))))
+          ((opens.own told).sound content ((leaves.still (told_journal told)).images content left))))
 
       module _ (next : DeskData) (last : JournalData D) (safe : AppliesSafely state (keep_of state desk folded) (keep_of state next last) restart)
           (counts : faults folded.disk ≤ faults last.disk) where
@@ -234,7 +238,7 @@ module _ {D : Type 0} (state : D → DiskState) (faults : D → ℕ) (reads : (e
             (subst (StandsFor content) (before_entries told) stands)
         during_since told final is content (inl (inr stands)) = image_before folds.entries final restart content is folds.legal
             (subst (λ l. StandsFor content (with_doubt l None)) (before_entries told)
-                (subst (λ d. StandsFor content (with_doubt (keep_of state desk folded).entries d)) (before_doubt told) stands))
+            (subst (λ d. StandsFor content (with_doubt (keep_of state desk folded).entries d)) (before_doubt told) stands))
         during_since told final is content (inr with_it) = image_with folds.entries final restart content is with_restart
             (subst (λ l. StandsFor content (l ++ restart ∷ [])) (before_entries told) with_it.1)
 
@@ -243,10 +247,10 @@ module _ {D : Type 0} (state : D → DiskState) (faults : D → ℕ) (reads : (e
             → LeavesOnly (state journal.disk) (state last.disk) (IsImageSince folds.entries final)
         since_opening told final is = joined (state journal.disk) (state folded.disk) (state last.disk) (IsImageSince folds.entries final)
             (weakened (state journal.disk) (state folded.disk) (state journal.disk).may_leave (IsImageSince folds.entries final)
-                (leaves.still (told_journal told)).moments
+            (leaves.still (told_journal told)).moments
             (λ content there. image_before folds.entries final restart content is folds.legal (opened_sound told content there)))
             (weakened (state folded.disk) (state last.disk) (IsImageDuring (keep_of state desk folded) restart) (IsImageSince folds.entries final)
-                (safe (leaves.told ∙ told_journal told)) (during_since told final is))
+            (safe (leaves.told ∙ told_journal told)) (during_since told final is))
 
         -- the Restart was accepted
         pub started : (answer : Answer) → Applied state faults (keep_of state desk folded) (keep_of state next last) restart (Ok answer)
@@ -295,13 +299,13 @@ module _ {D : Type 0} (state : D → DiskState) (faults : D → ℕ) (reads : (e
                 (λ own. (once (state disk).seen).list folds.entries opening own sound)
                 (opened_list told) in
                 subst (λ l. LeavesOnly (state disk) (state last.disk)
-                    (λ content. (state disk).may_leave content ⊎ IsImageSince l (restarted l now settings) content)) same
+                (λ content. (state disk).may_leave content ⊎ IsImageSince l (restarted l now settings) content)) same
                 (behind_still (state disk) (state journal.disk) (state last.disk) (IsImageSince folds.entries (restarted folds.entries now settings))
                 (quiet_still (state disk) (state journal.disk) ((opens.own told).quiet (whole_some (state disk).seen opening sound)))
                 (since_opening told (restarted folds.entries now settings) refl));
             made = λ told empty.
                 let same : folds.entries ≡ [] = ⊎_elim (λ none. none.1) (λ own. absurd (whole_some (state disk).seen folds.entries own empty))
-                    (opened_list told) in
+                (opened_list told) in
                 joined (state disk) (state journal.disk) (state last.disk)
                 (λ content. IsMaking (state disk) content ⊎ IsImageSince [] (restarted [] now settings) content)
                 (weakened (state disk) (state journal.disk) (IsMaking (state disk)) _ (made told empty) (λ content there. inl there))

@@ -91,7 +91,7 @@ module _ {D : Type 0} (state : D → DiskState) (reads : (entry : Entry) → IsP
         h.held.bodies ∙ ap bodies_of (sym (ap entries_in h.held.bodies ∙ entries_again reads h.entries (proper_list h.entries h.doubt h.held.proper)));
     doubt = λ told. let h = holding told in
         h.held.doubts ∙ ap (λ found. option_map spelled found)
-            (sym (ap (λ found. option_and_then read_of found) h.held.doubts ∙ doubt_again reads h.entries h.doubt h.held.proper));
+        (sym (ap (λ found. option_and_then read_of found) h.held.doubts ∙ doubt_again reads h.entries h.doubt h.held.proper));
   }
 
   -- what a tied desk holds

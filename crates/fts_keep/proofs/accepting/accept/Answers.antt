@@ -17,15 +17,38 @@ returns-in_err-append-clause-tied g c =
     c.args.journal.now c.args.entry.now
     c.check.ensures.tables c.check.ensures.commands c.requires.tied
     (subst (λ u. IsOk (applied_to c.args.desk.now.tables u c.args.entry.now)) c.used.ensures.used c.in_ok-plan.ensures.checks) c.settle.new.self
-    (record { told = c.in_ok-settle.ensures.told; nothing = c.in_ok-settle.ensures.nothing; kept = c.in_ok-settle.ensures.kept; ok =
-        c.in_ok-settle.ensures.ok; err = c.in_ok-settle.ensures.err; counts = c.in_ok-settle.ensures.counts; cause = c.in_ok-settle.ensures.cause; bodies =
-        c.in_ok-settle.ensures.bodies; settled = c.in_ok-settle.ensures.settled; doubt = c.in_ok-settle.ensures.doubt; any_moment =
-        c.in_ok-settle.ensures.any_moment; images = c.in_ok-settle.ensures.images })
+    (record {
+      told = c.in_ok-settle.ensures.told;
+      nothing = c.in_ok-settle.ensures.nothing;
+      kept = c.in_ok-settle.ensures.kept;
+      ok =
+          c.in_ok-settle.ensures.ok;
+      err = c.in_ok-settle.ensures.err;
+      counts = c.in_ok-settle.ensures.counts;
+      cause = c.in_ok-settle.ensures.cause;
+      bodies =
+          c.in_ok-settle.ensures.bodies;
+      settled = c.in_ok-settle.ensures.settled;
+      doubt = c.in_ok-settle.ensures.doubt;
+      any_moment =
+          c.in_ok-settle.ensures.any_moment;
+      images = c.in_ok-settle.ensures.images;
+    })
     c.append.new.self c.deref.result.now (c.deref.ensures.value ∙ c.in_ok-plan.ensures.body) c.in_ok-plan.ensures.proper
     c.in_err-append.field-0.0
-        (record { told = c.in_err-append.ensures.told; ok = c.in_err-append.ensures.ok; err = c.in_err-append.ensures.err; counts =
-        c.in_err-append.ensures.counts; cause = c.in_err-append.ensures.cause; appended = c.in_err-append.ensures.appended; failed =
-        c.in_err-append.ensures.failed; any_moment = c.in_err-append.ensures.any_moment; images = c.in_err-append.ensures.images })
+    (record {
+      told = c.in_err-append.ensures.told;
+      ok = c.in_err-append.ensures.ok;
+      err = c.in_err-append.ensures.err;
+      counts =
+          c.in_err-append.ensures.counts;
+      cause = c.in_err-append.ensures.cause;
+      appended = c.in_err-append.ensures.appended;
+      failed =
+          c.in_err-append.ensures.failed;
+      any_moment = c.in_err-append.ensures.any_moment;
+      images = c.in_err-append.ensures.images;
+    })
 
 pub returns-in_err-append-clause-safe : goal.returns-in_err-append-clause-safe
 returns-in_err-append-clause-safe g c =
@@ -33,15 +56,38 @@ returns-in_err-append-clause-safe g c =
     c.args.journal.now c.args.entry.now
     c.check.ensures.tables c.check.ensures.commands c.requires.tied
     (subst (λ u. IsOk (applied_to c.args.desk.now.tables u c.args.entry.now)) c.used.ensures.used c.in_ok-plan.ensures.checks) c.settle.new.self
-    (record { told = c.in_ok-settle.ensures.told; nothing = c.in_ok-settle.ensures.nothing; kept = c.in_ok-settle.ensures.kept; ok =
-        c.in_ok-settle.ensures.ok; err = c.in_ok-settle.ensures.err; counts = c.in_ok-settle.ensures.counts; cause = c.in_ok-settle.ensures.cause; bodies =
-        c.in_ok-settle.ensures.bodies; settled = c.in_ok-settle.ensures.settled; doubt = c.in_ok-settle.ensures.doubt; any_moment =
-        c.in_ok-settle.ensures.any_moment; images = c.in_ok-settle.ensures.images })
+    (record {
+      told = c.in_ok-settle.ensures.told;
+      nothing = c.in_ok-settle.ensures.nothing;
+      kept = c.in_ok-settle.ensures.kept;
+      ok =
+          c.in_ok-settle.ensures.ok;
+      err = c.in_ok-settle.ensures.err;
+      counts = c.in_ok-settle.ensures.counts;
+      cause = c.in_ok-settle.ensures.cause;
+      bodies =
+          c.in_ok-settle.ensures.bodies;
+      settled = c.in_ok-settle.ensures.settled;
+      doubt = c.in_ok-settle.ensures.doubt;
+      any_moment =
+          c.in_ok-settle.ensures.any_moment;
+      images = c.in_ok-settle.ensures.images;
+    })
     c.append.new.self c.deref.result.now (c.deref.ensures.value ∙ c.in_ok-plan.ensures.body) c.in_ok-plan.ensures.proper
     (Err c.in_err-append.field-0.0)
-        (record { told = c.in_err-append.ensures.told; ok = c.in_err-append.ensures.ok; err = c.in_err-append.ensures.err; counts =
-        c.in_err-append.ensures.counts; cause = c.in_err-append.ensures.cause; appended = c.in_err-append.ensures.appended; failed =
-        c.in_err-append.ensures.failed; any_moment = c.in_err-append.ensures.any_moment; images = c.in_err-append.ensures.images })
+    (record {
+      told = c.in_err-append.ensures.told;
+      ok = c.in_err-append.ensures.ok;
+      err = c.in_err-append.ensures.err;
+      counts =
+          c.in_err-append.ensures.counts;
+      cause = c.in_err-append.ensures.cause;
+      appended = c.in_err-append.ensures.appended;
+      failed =
+          c.in_err-append.ensures.failed;
+      any_moment = c.in_err-append.ensures.any_moment;
+      images = c.in_err-append.ensures.images;
+    })
 
 pub returns-clause-tied : goal.returns-clause-tied
 returns-clause-tied g c =
@@ -49,17 +95,39 @@ returns-clause-tied g c =
     c.args.entry.now
     c.check.ensures.tables c.check.ensures.commands c.requires.tied
     (subst (λ u. IsOk (applied_to c.args.desk.now.tables u c.args.entry.now)) c.used.ensures.used c.in_ok-plan.ensures.checks) c.settle.new.self
-    (record { told = c.in_ok-settle.ensures.told; nothing = c.in_ok-settle.ensures.nothing; kept = c.in_ok-settle.ensures.kept; ok =
-        c.in_ok-settle.ensures.ok; err = c.in_ok-settle.ensures.err; counts = c.in_ok-settle.ensures.counts; cause = c.in_ok-settle.ensures.cause; bodies =
-        c.in_ok-settle.ensures.bodies; settled = c.in_ok-settle.ensures.settled; doubt = c.in_ok-settle.ensures.doubt; any_moment =
-        c.in_ok-settle.ensures.any_moment; images = c.in_ok-settle.ensures.images })
+    (record {
+      told = c.in_ok-settle.ensures.told;
+      nothing = c.in_ok-settle.ensures.nothing;
+      kept = c.in_ok-settle.ensures.kept;
+      ok =
+          c.in_ok-settle.ensures.ok;
+      err = c.in_ok-settle.ensures.err;
+      counts = c.in_ok-settle.ensures.counts;
+      cause = c.in_ok-settle.ensures.cause;
+      bodies =
+          c.in_ok-settle.ensures.bodies;
+      settled = c.in_ok-settle.ensures.settled;
+      doubt = c.in_ok-settle.ensures.doubt;
+      any_moment =
+          c.in_ok-settle.ensures.any_moment;
+      images = c.in_ok-settle.ensures.images;
+    })
     c.append.new.self c.deref.result.now (c.deref.ensures.value ∙ c.in_ok-plan.ensures.body) c.in_ok-plan.ensures.proper
-    (record { told = c.in_ok-append.ensures.told; ok = c.in_ok-append.ensures.ok; err = c.in_ok-append.ensures.err; counts = c.in_ok-append.ensures.counts;
-        cause = c.in_ok-append.ensures.cause; appended = c.in_ok-append.ensures.appended; failed = c.in_ok-append.ensures.failed; any_moment =
-        c.in_ok-append.ensures.any_moment; images = c.in_ok-append.ensures.images })
+    (record {
+      told = c.in_ok-append.ensures.told;
+      ok = c.in_ok-append.ensures.ok;
+      err = c.in_ok-append.ensures.err;
+      counts = c.in_ok-append.ensures.counts;
+      cause = c.in_ok-append.ensures.cause;
+      appended = c.in_ok-append.ensures.appended;
+      failed = c.in_ok-append.ensures.failed;
+      any_moment =
+          c.in_ok-append.ensures.any_moment;
+      images = c.in_ok-append.ensures.images;
+    })
     c.commit.new.self c.commit.result
     (subst (λ p. IfSome p (λ command. step c.check.new.desk.tables command ≡ Ok (c.commit.new.self.tables, c.commit.result)))
-        c.in_ok-plan.ensures.planned c.commit.ensures.step) c.commit.ensures.commands
+    c.in_ok-plan.ensures.planned c.commit.ensures.step) c.commit.ensures.commands
 
 pub returns-clause-applied : goal.returns-clause-applied
 returns-clause-applied g c =
@@ -67,17 +135,39 @@ returns-clause-applied g c =
     c.args.journal.now c.args.entry.now
     c.check.ensures.tables c.check.ensures.commands c.requires.tied
     (subst (λ u. IsOk (applied_to c.args.desk.now.tables u c.args.entry.now)) c.used.ensures.used c.in_ok-plan.ensures.checks) c.settle.new.self
-    (record { told = c.in_ok-settle.ensures.told; nothing = c.in_ok-settle.ensures.nothing; kept = c.in_ok-settle.ensures.kept; ok =
-        c.in_ok-settle.ensures.ok; err = c.in_ok-settle.ensures.err; counts = c.in_ok-settle.ensures.counts; cause = c.in_ok-settle.ensures.cause; bodies =
-        c.in_ok-settle.ensures.bodies; settled = c.in_ok-settle.ensures.settled; doubt = c.in_ok-settle.ensures.doubt; any_moment =
-        c.in_ok-settle.ensures.any_moment; images = c.in_ok-settle.ensures.images })
+    (record {
+      told = c.in_ok-settle.ensures.told;
+      nothing = c.in_ok-settle.ensures.nothing;
+      kept = c.in_ok-settle.ensures.kept;
+      ok =
+          c.in_ok-settle.ensures.ok;
+      err = c.in_ok-settle.ensures.err;
+      counts = c.in_ok-settle.ensures.counts;
+      cause = c.in_ok-settle.ensures.cause;
+      bodies =
+          c.in_ok-settle.ensures.bodies;
+      settled = c.in_ok-settle.ensures.settled;
+      doubt = c.in_ok-settle.ensures.doubt;
+      any_moment =
+          c.in_ok-settle.ensures.any_moment;
+      images = c.in_ok-settle.ensures.images;
+    })
     c.append.new.self c.deref.result.now (c.deref.ensures.value ∙ c.in_ok-plan.ensures.body) c.in_ok-plan.ensures.proper
-    (record { told = c.in_ok-append.ensures.told; ok = c.in_ok-append.ensures.ok; err = c.in_ok-append.ensures.err; counts = c.in_ok-append.ensures.counts;
-        cause = c.in_ok-append.ensures.cause; appended = c.in_ok-append.ensures.appended; failed = c.in_ok-append.ensures.failed; any_moment =
-        c.in_ok-append.ensures.any_moment; images = c.in_ok-append.ensures.images })
+    (record {
+      told = c.in_ok-append.ensures.told;
+      ok = c.in_ok-append.ensures.ok;
+      err = c.in_ok-append.ensures.err;
+      counts = c.in_ok-append.ensures.counts;
+      cause = c.in_ok-append.ensures.cause;
+      appended = c.in_ok-append.ensures.appended;
+      failed = c.in_ok-append.ensures.failed;
+      any_moment =
+          c.in_ok-append.ensures.any_moment;
+      images = c.in_ok-append.ensures.images;
+    })
     c.commit.new.self c.commit.result
     (subst (λ p. IfSome p (λ command. step c.check.new.desk.tables command ≡ Ok (c.commit.new.self.tables, c.commit.result)))
-        c.in_ok-plan.ensures.planned c.commit.ensures.step) c.commit.ensures.commands
+    c.in_ok-plan.ensures.planned c.commit.ensures.step) c.commit.ensures.commands
 
 pub returns-clause-safe : goal.returns-clause-safe
 returns-clause-safe g c =
@@ -85,14 +175,36 @@ returns-clause-safe g c =
     c.args.entry.now
     c.check.ensures.tables c.check.ensures.commands c.requires.tied
     (subst (λ u. IsOk (applied_to c.args.desk.now.tables u c.args.entry.now)) c.used.ensures.used c.in_ok-plan.ensures.checks) c.settle.new.self
-    (record { told = c.in_ok-settle.ensures.told; nothing = c.in_ok-settle.ensures.nothing; kept = c.in_ok-settle.ensures.kept; ok =
-        c.in_ok-settle.ensures.ok; err = c.in_ok-settle.ensures.err; counts = c.in_ok-settle.ensures.counts; cause = c.in_ok-settle.ensures.cause; bodies =
-        c.in_ok-settle.ensures.bodies; settled = c.in_ok-settle.ensures.settled; doubt = c.in_ok-settle.ensures.doubt; any_moment =
-        c.in_ok-settle.ensures.any_moment; images = c.in_ok-settle.ensures.images })
+    (record {
+      told = c.in_ok-settle.ensures.told;
+      nothing = c.in_ok-settle.ensures.nothing;
+      kept = c.in_ok-settle.ensures.kept;
+      ok =
+          c.in_ok-settle.ensures.ok;
+      err = c.in_ok-settle.ensures.err;
+      counts = c.in_ok-settle.ensures.counts;
+      cause = c.in_ok-settle.ensures.cause;
+      bodies =
+          c.in_ok-settle.ensures.bodies;
+      settled = c.in_ok-settle.ensures.settled;
+      doubt = c.in_ok-settle.ensures.doubt;
+      any_moment =
+          c.in_ok-settle.ensures.any_moment;
+      images = c.in_ok-settle.ensures.images;
+    })
     c.append.new.self c.deref.result.now (c.deref.ensures.value ∙ c.in_ok-plan.ensures.body) c.in_ok-plan.ensures.proper
-    (record { told = c.in_ok-append.ensures.told; ok = c.in_ok-append.ensures.ok; err = c.in_ok-append.ensures.err; counts = c.in_ok-append.ensures.counts;
-        cause = c.in_ok-append.ensures.cause; appended = c.in_ok-append.ensures.appended; failed = c.in_ok-append.ensures.failed; any_moment =
-        c.in_ok-append.ensures.any_moment; images = c.in_ok-append.ensures.images })
+    (record {
+      told = c.in_ok-append.ensures.told;
+      ok = c.in_ok-append.ensures.ok;
+      err = c.in_ok-append.ensures.err;
+      counts = c.in_ok-append.ensures.counts;
+      cause = c.in_ok-append.ensures.cause;
+      appended = c.in_ok-append.ensures.appended;
+      failed = c.in_ok-append.ensures.failed;
+      any_moment =
+          c.in_ok-append.ensures.any_moment;
+      images = c.in_ok-append.ensures.images;
+    })
     c.commit.new.self c.commit.result
     (subst (λ p. IfSome p (λ command. step c.check.new.desk.tables command ≡ Ok (c.commit.new.self.tables, c.commit.result)))
-        c.in_ok-plan.ensures.planned c.commit.ensures.step) c.commit.ensures.commands
+    c.in_ok-plan.ensures.planned c.commit.ensures.step) c.commit.ensures.commands

@@ -25,7 +25,7 @@ returns-in_err-body-clause-fault g c = on_err c.from_residual.result (fault_of c
     (FoldFault g.D.Disk.state g.D.Disk.faults c.args.journal.now c.body.new.self)
     c.from_residual.ensures.1
     (read_fault g.D.Disk.state g.D.Disk.faults c.args.journal.now c.loop-n.journal c.body.new.self c.loop-n.invariant.leaves.counts c.in_err-body.field-0.0
-        c.in_err-body.ensures.disk_failed c.in_err-body.ensures.others)
+    c.in_err-body.ensures.disk_failed c.in_err-body.ensures.others)
 
 pub take_entry-requires-clause-few : goal.take_entry-requires-clause-few
 take_entry-requires-clause-few g c = omega
@@ -44,30 +44,38 @@ returns-in_err-take_entry-clause-fault g c = on_err c.from_residual-in_err-take_
     (FoldFault g.D.Disk.state g.D.Disk.faults c.args.journal.now c.body.new.self)
     c.from_residual-in_err-take_entry.ensures.1
     (take_fault g.D.Disk.state g.D.Disk.faults c.args.journal.now c.body.new.self c.loop-n.desk.tables c.take_entry.new.desk.tables c.loop-n.gate c.loop-n.n
-        c.deref.result.now c.loop-n.invariant.folded
+    c.deref.result.now c.loop-n.invariant.folded
     (λ told. ap (λ b. slice_get b c.loop-n.n) (sym (c.loop-n.invariant.leaves.bodies told))
-        ∙ c.in_ok-body.ensures.read (c.loop-n.invariant.leaves.told ∙ told) ∙ ap (λ b. Some b) (sym c.deref.ensures.value))
+    ∙ c.in_ok-body.ensures.read (c.loop-n.invariant.leaves.told ∙ told) ∙ ap (λ b. Some b) (sym c.deref.ensures.value))
     c.in_err-take_entry.field-0.0 c.in_err-take_entry.ensures.takes)
 
 pub overflow_add-gate-in-loop-n : goal.overflow_add-gate-in-loop-n
 overflow_add-gate-in-loop-n g c =
-    let short : c.loop-n.gate + (5 + c.len.result) ≤ 100000000000000 = omega
-        (arith, c.loop-n.invariant.low, c.count-n-end.ensures.count, c.loop-n-test.true, c.used.ensures.least, c.used.ensures.most,
-        c.in_ok-take_entry.ensures.short, c.len.ensures, ap length c.deref.ensures.value) in
+    let short : c.loop-n.gate + (5 + c.len.result) ≤ 100000000000000 = omega (
+      arith,
+      c.loop-n.invariant.low,
+      c.count-n-end.ensures.count,
+      c.loop-n-test.true,
+      c.used.ensures.least,
+      c.used.ensures.most,
+      c.in_ok-take_entry.ensures.short,
+      c.len.ensures,
+      ap length c.deref.ensures.value,
+    ) in
     search (rules, short)
 
 pub loop-n-preserved : goal.loop-n-preserved
 loop-n-preserved g c =
     let long : c.loop-n.gate + 5 + length c.deref.result.now ≡ c.loop-n.gate + (5 + c.len.result) = omega
-        (arith, c.len.ensures, ap length c.deref.ensures.value) in
+    (arith, c.len.ensures, ap length c.deref.ensures.value) in
     record {
       leaves = leaves_more g.D.Disk.state g.D.Disk.faults g.met.D.Disk.lawful c.args.journal.now c.loop-n.journal c.body.new.self
           c.loop-n.invariant.leaves c.body.ensures.told c.body.ensures.kept c.body.ensures.counts c.body.ensures.keeps c.body.ensures.doubt;
       folded = subst (λ k. HasFolded g.D.Disk.state c.args.journal.now c.take_entry.new.desk.tables k (c.loop-n.n + 1)) long
           (folded_more g.D.Disk.state c.args.journal.now c.loop-n.desk.tables c.take_entry.new.desk.tables c.loop-n.gate c.loop-n.n c.deref.result.now
-              c.loop-n.invariant.folded c.in_ok-take_entry.ensures.takes
+          c.loop-n.invariant.folded c.in_ok-take_entry.ensures.takes
           (λ told. ap (λ b. slice_get b c.loop-n.n) (sym (c.loop-n.invariant.leaves.bodies told))
-              ∙ c.in_ok-body.ensures.read (c.loop-n.invariant.leaves.told ∙ told) ∙ ap (λ b. Some b) (sym c.deref.ensures.value)));
+          ∙ c.in_ok-body.ensures.read (c.loop-n.invariant.leaves.told ∙ told) ∙ ap (λ b. Some b) (sym c.deref.ensures.value)));
       commands = omega (arith, c.in_ok-take_entry.ensures.commands, c.loop-n.invariant.commands);
       low = omega (arith, c.loop-n.invariant.low, c.in_ok-take_entry.ensures.short, long);
     }

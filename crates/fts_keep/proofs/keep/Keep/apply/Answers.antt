@@ -17,15 +17,15 @@ pub returns-clause-grows : goal.returns-clause-grows
 returns-clause-grows g c = subst (λ k. Grows g.D.Disk.state g.D.Disk.faults c.args.writer k (keep_of g.D.Disk.state c.accept.new.desk c.accept.new.journal))
     c.self.view_is
     (grown g.D.Disk.state g.D.Disk.faults c.self.inside.desk c.accept.new.desk c.self.inside.journal c.accept.new.journal
-        (entry_by c.args.writer c.args.command)
+    (entry_by c.args.writer c.args.command)
     c.accept.ensures.counts c.accept.result c.accept.ensures.applied)
 
 pub returns-clause-images : goal.returns-clause-images
 returns-clause-images g c = subst (λ k. (opening since : List Entry) → k.entries ≡ opening ++ since → IsTold (g.D.Disk.state k.disk)
     → KeepsImages g.D.Disk.state opening k (keep_of g.D.Disk.state c.accept.new.desk c.accept.new.journal)) c.self.view_is
     (λ opening since is told. images_since g.D.Disk.state g.D.Disk.faults (keep_of g.D.Disk.state c.self.inside.desk c.self.inside.journal)
-        (keep_of g.D.Disk.state c.accept.new.desk c.accept.new.journal)
+    (keep_of g.D.Disk.state c.accept.new.desk c.accept.new.journal)
     (entry_by c.args.writer c.args.command) opening since c.self.invariant.tied.fold told
     (grown g.D.Disk.state g.D.Disk.faults c.self.inside.desk c.accept.new.desk c.self.inside.journal c.accept.new.journal
-        (entry_by c.args.writer c.args.command)
+    (entry_by c.args.writer c.args.command)
     c.accept.ensures.counts c.accept.result c.accept.ensures.applied) is c.accept.ensures.safe)
