@@ -1,12 +1,12 @@
 //! Settings whose rules aren't looked at yet: the values that a document gives.
 //! Contracts see a draft as the plain record of settings; it becomes `Settings` where it keeps every rule (`rules`).
-ghost use Rattle.std.specs.Prelude.{◌≡◌, ◌++◌, [], ◌∷◌};
+ghost use Rattle.std.specs.Prelude.{◌≡◌, [], ◌∷◌};
 ghost use Rattle.toml.specs.Data.{get};
 ghost use Rattle.toml.specs.View.{view};
 ghost use Rattle.fts_tables.specs.SettingsData.{IsSettings, default_activity};
 ghost use Rattle.fts_tables.specs.FirstFault.{unless};
 ghost use Rattle.fts_config.specs.Faults.{Gives};
-ghost use Rattle.fts_config.specs.Reading.{settings_in, bad_url, weights_in, named_by};
+ghost use Rattle.fts_config.specs.Reading.{settings_in, bad_url, weights_in};
 ghost use Rattle.fts_config.specs.Keys.{name_of};
 
 use crate::reading::{

@@ -1,5 +1,5 @@
 //! That an accepted command keeps the bounds of a desk's lists: the law that the desk calls when it commits.
-ghost use Rattle.std.specs.Prelude.{ℕ, suc, ◌+◌};
+ghost use Rattle.std.specs.Prelude.{ℕ, ◌+◌};
 ghost use Rattle.fts_tables.specs.Tables.{Tables};
 ghost use Rattle.fts_tables.specs.Step.{step};
 ghost use Rattle.fts_tables.specs.History.{IsAccepted, tables_after};

@@ -14,7 +14,7 @@ ghost use Rattle.fts_desk.specs.Standing.{StandTogether};
 ghost use Rattle.fts_desk.specs.Prepared.{IsChecked};
 
 use crate::kept::Kept;
-use crate::lookups::{find_job, find_row, row_place, rows_of_job, rows_stand_together};
+use crate::lookups::{find_job, find_row, rows_of_job, rows_stand_together};
 use fts_states::{CancelStep, after_cancel};
 use fts_tables::laws::found_rows_stand;
 use fts_tables::{Answer, FileRow, FileState, JobKind, JobRow, Reason, Refusal};

@@ -9,6 +9,7 @@ ghost use Rattle.fts_keep.specs.Applied.{Checks};
 
 use crate::KeepFault;
 use fts_desk::{Desk, DeskFault, Plan};
+use fts_journal::{FRONT_BYTES, GATE_BYTES};
 use fts_record::write_entry;
 use fts_tables::Entry;
 use fts_tables::limits::MAX_JOURNAL_BYTES;
@@ -39,7 +40,7 @@ pub fn check(
     };
     let mut body = Vec::new(alloc);
     write_entry(entry, &mut body)?;
-    if used + 6 + body.len() as u64 > MAX_JOURNAL_BYTES {
+    if used + FRONT_BYTES + body.len() as u64 + GATE_BYTES > MAX_JOURNAL_BYTES {
         return Err(KeepFault::JournalFull { used });
     }
     Ok((plan, body))

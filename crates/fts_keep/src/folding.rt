@@ -9,7 +9,7 @@ ghost use Rattle.fts_keep.specs.Folding.{Takes, LeavesJournal, Folds, FoldFault}
 use crate::KeepFault;
 use fts_desk::{Desk, DeskFault};
 use fts_disk::Disk;
-use fts_journal::Journal;
+use fts_journal::{FRONT_BYTES, HEADER_BYTES, Journal};
 use fts_record::laws::spellings_are_bodies;
 use fts_record::{ReadFault, read_entry};
 use std::alloc::Global;
@@ -26,7 +26,7 @@ fn take_entry(alloc: Global, desk: &mut Desk, body: &[u8], gate: u64) -> Result<
     let entry = match read_entry(alloc, body) {
         Ok(entry) => entry,
         Err(ReadFault::BadEntry { at }) => {
-            let offset = gate + 5 + at as u64;
+            let offset = gate + FRONT_BYTES + at as u64;
             return Err(KeepFault::Damaged { offset });
         }
         Err(ReadFault::Memory) => return Err(KeepFault::Memory),
@@ -51,11 +51,11 @@ pub fn fold<D: Disk>(alloc: Global, journal: &mut Journal<D>) -> Result<Desk, Ke
     journal.used();
     let mut desk = Desk::empty(alloc);
     let mut body = Vec::new(alloc);
-    let mut gate = 8;
+    let mut gate = HEADER_BYTES;
     for n in 0..journal.count() {
         journal.body(n, &mut body)?;
         take_entry(alloc, &mut desk, &body, gate)?;
-        gate += 5 + body.len() as u64;
+        gate += FRONT_BYTES + body.len() as u64;
     }
     Ok(desk)
 }

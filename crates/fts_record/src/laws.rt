@@ -1,6 +1,6 @@
 //! The laws of the format, for whoever keeps entries by their spellings.
 //! Each law is a function without parameters that does nothing: its clause speaks of every entry. A crate above cites a law by calling it.
-ghost use Rattle.std.specs.Prelude.{◌≡◌, ◌≤◌, ◌++◌, List, ℕ, Some, Ok, length, map, All};
+ghost use Rattle.std.specs.Prelude.{◌≡◌, ◌≤◌, List, ℕ, Some, Ok, length, map, All};
 ghost use Rattle.std.specs.List.{filter_map};
 ghost use Rattle.fts_tables.specs.declared.limits.TheConstants.{MAX_BODY_BYTES};
 ghost use Rattle.fts_tables.specs.declared.commands.Entry.{Entry};

@@ -3,7 +3,7 @@
 //! Order of a turn: take a ticket, look until the turn is that ticket's, take the value, work, put the value back, pass the turn on.
 //! The value is back before the turn moves, and the turn moves before those who sleep are woken.
 //! For threads that share one value, one pass a thread. Its caller today is `bench_turnstile`. `with_turn` waits; nothing else does.
-ghost use Rattle.std.specs.Prelude.{◌≡◌, ◌≢◌, ℕ, ◌+◌, ◌%◌, ◌<◌, ◌≤◌, ◌++◌, List, [], ◌∷◌, Some, None, IfOk, IfErr};
+ghost use Rattle.std.specs.Prelude.{◌≡◌, ◌≢◌, ◌+◌, ◌%◌, ◌<◌, [], ◌∷◌, Some, None, IfOk, IfErr};
 ghost use Rattle.std.specs.Fn.{FnOnceReturnsAtMut};
 ghost use Rattle.fts_turnstile.specs.History.{Begins, OnlyOthersSince, shown_after, longer_of, items_by, AllNamed, AllGiven, NoneTwice};
 ghost use Rattle.fts_turnstile.specs.Views.{Rests, IsWaiting, IsServed, view_told, own_numbers};
