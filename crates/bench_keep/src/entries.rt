@@ -1,0 +1,40 @@
+//! The entries that are measured: a Restart with two storages, and submissions of one file each, read from their spellings.
+ghost use Rattle.std.specs.Prelude.{IfOk, IsTrue};
+ghost use Rattle.fts_record.specs.Proper.{has_priority};
+
+use anyhow::{Result, bail};
+use fts_record::read_entry;
+use fts_tables::{Command, Entry, Settings};
+use std::alloc::Global;
+
+/// Two storages, of which each link carries two files.
+pub const RESTART: &[u8] =
+    b"\x00\x01\x80\xe2\xcf\xaa\x06\x04demo\x02\x02\x02\x11https://a.example\x05\x05\x11https://b.example\x05\x05\x00\x01\x07default\x01";
+
+/// A plain job of one file, with a digest.
+pub const SUBMIT: &[u8] = b"\x00\x02\x80\xe2\xcf\xaa\x06\x00\x00\x00\x03\x00\x00\x00\x01\
+    \x00\x11https://a.example\x07data/f1\x11https://b.example\x07data/f1\
+    \x81\x01\x01\x90\x01\x50\x98\x3c\xd2\x4f\xb0\xd6\x96\x3f\x7d\x28\xe1\x7f\x72\x07default";
+
+/// The entry that these bytes spell.
+pub fn entry(alloc: Global, bytes: &[u8]) -> Result<Entry>
+    ensures { IfOk result (λ entry. IsTrue (has_priority entry.command)) }
+{
+    match read_entry(alloc, bytes) {
+        Ok(entry) => Ok(entry),
+        Err(_) => bail!("the entry is not read"),
+    }
+}
+
+/// The settings of the Restart.
+pub fn settings(alloc: Global) -> Result<Settings> {
+    match entry(alloc, RESTART)?.command {
+        Command::Restart { now: _, settings } => Ok(settings),
+        Command::Submit { .. }
+        | Command::CancelJob { .. }
+        | Command::CancelFile { .. }
+        | Command::SetPriority { .. }
+        | Command::Claim { .. }
+        | Command::Report { .. } => bail!("the entry is no Restart"),
+    }
+}
