@@ -1,4 +1,6 @@
-//! What no clause says: copies with ample memory and digests that another program gave, failures and noes one by one, and real folders.
+//! What no clause says: copies with ample memory and digests that another program gave, failures and noes one by one, files that change
+//! while they are copied, and real folders.
+use crate::changing::{Change, Changing, WritingWatch};
 use crate::{CopyRoom, CountingWatch, copy_verified};
 use fts_store::{FolderStore, MemoryStore, Store, StoredFile};
 use fts_tables::{
@@ -6,13 +8,21 @@ use fts_tables::{
     Reason,
 };
 use std::alloc::{AllocError, Global};
+use md5::{Digest, Md5};
 use std::fs::{self, File, Files, OpenOptions};
+use std::io::Write;
 use std::test::Fail;
 use std::thread::join;
 
 const EMPTY: [u8; 16] = *b"\xd4\x1d\x8c\xd9\x8f\x00\xb2\x04\xe9\x80\x09\x98\xec\xf8\x42\x7e";
 
 const ABC: [u8; 16] = *b"\x90\x01\x50\x98\x3c\xd2\x4f\xb0\xd6\x96\x3f\x7d\x28\xe1\x7f\x72";
+
+const AB: [u8; 16] = *b"\x18\x7e\xf4\x43\x61\x22\xd1\xcc\x2f\x40\xdc\x2b\x92\xf0\xeb\xa0";
+
+const ABC_PLUS: [u8; 16] = *b"\x2c\xa4\x3d\x97\x24\xdd\x4a\xb5\x6e\x3e\xe7\x1c\xad\x1d\x6c\x42";
+
+const AB_PLUS: [u8; 16] = *b"\xb7\x1a\x12\x24\x21\x99\xbd\x3a\xe7\xc0\x7d\xda\xee\xcd\xfc\x16";
 
 const OTHER: [u8; 16] = *b"\x90\x01\x50\x98\x3c\xd2\x4f\xb0\xd6\x96\x3f\x7d\x28\xe1\x7f\x73";
 
@@ -344,46 +354,194 @@ fn a_file_is_copied_between_real_folders(rt: HostRuntime) -> Result<(), Fail> {
     Ok(())
 }
 
-// Cuts a file and makes it as long as it was, so often.
-fn cut_and_lengthen<R: Files<File = File>>(rt: &R, path: &str) {
-    for _ in 0..100 {
-        if let Ok(file) = OpenOptions::new().write(true).open(rt, path) {
-            let _cut = file.set_len(66_000);
-            let _whole = file.set_len(70_000);
-        }
+// A copy's three files, of which the source holds `abc`.
+fn three_files(alloc: Global, dest: Option<Vec<u8>>) -> Result<Changing, AllocError> {
+    Ok(Changing {
+        alloc,
+        source: Some(b"abc".to_vec(alloc)?),
+        part: None,
+        dest,
+        change: Change::Nothing,
+        changes_at: 0,
+        fails_at: 0,
+        calls: Vec::new(alloc),
+        faults: 0,
+    })
+}
+
+fn verified(size: u64, digest: [u8; 16]) -> Outcome {
+    Outcome::Verified { size, digest }
+}
+
+fn bytes_of(file: &Option<Vec<u8>>) -> &[u8] {
+    match file {
+        Some(bytes) => bytes.as_slice(),
+        None => b"none",
     }
 }
 
-// How many of some copies said that they were verified, and left a destination of another length.
-fn wrong_lengths<E: Store>(store: &mut E, room: &mut CopyRoom, row: &FileRow) -> u32 {
-    let mut wrong: u32 = 0;
-    for _ in 0..3 {
-        if let (Outcome::Verified { size, .. }, _) = copied(store, room, row, true, u64::MAX) {
-            if store.size(dest()) != Ok(Some(size)) {
-                wrong = wrong.saturating_add(1);
-            }
+// The calls, a letter each: the source's size, the destination's, the part made, a read and an append, two reads, two at the ends, the move.
+const ALL_CALLS: &[u8] = b"SDcsaspspm";
+
+#[test]
+fn a_source_that_changes_during_a_copy(rt: HostRuntime) -> Result<(), Fail> {
+    let alloc = rt.alloc();
+    let mut room = CopyRoom::new(alloc)?;
+    let row = row(alloc, 0, None)?;
+    // what changes, before the calls of which numbers, the end, the calls that were made, what is at the destination then
+    for (change, first, last, want, calls, held) in [
+        (Change::Nothing, 1, 1, verified(3, ABC), ALL_CALLS, b"abc".as_slice()),
+        (Change::Cut, 1, 1, verified(2, AB), ALL_CALLS, b"ab".as_slice()),
+        (Change::Cut, 2, 4, Outcome::SourceSize { seen: 2 }, b"SDcssa".as_slice(), b"none".as_slice()),
+        (Change::Cut, 5, 6, Outcome::ReadBackDiffers { at: 2 }, b"SDcsassp".as_slice(), b"none".as_slice()),
+        (Change::Cut, 7, 10, verified(3, ABC), ALL_CALLS, b"abc".as_slice()),
+        (Change::Grown, 1, 1, verified(4, ABC_PLUS), ALL_CALLS, b"abc+".as_slice()),
+        (Change::Grown, 2, 8, Outcome::ReadBackDiffers { at: 3 }, b"SDcsaspsp".as_slice(), b"none".as_slice()),
+        (Change::Grown, 9, 10, verified(3, ABC), ALL_CALLS, b"abc".as_slice()),
+        (Change::Replaced, 1, 4, verified(3, AB_PLUS), ALL_CALLS, b"ab+".as_slice()),
+        (Change::Replaced, 5, 6, Outcome::ReadBackDiffers { at: 2 }, b"SDcsasp".as_slice(), b"none".as_slice()),
+        (Change::Replaced, 7, 10, verified(3, ABC), ALL_CALLS, b"abc".as_slice()),
+        (Change::Gone, 1, 1, Outcome::SourceMissing, b"S".as_slice(), b"none".as_slice()),
+        (Change::Gone, 2, 4, Outcome::StoreFailed, b"SDcs".as_slice(), b"none".as_slice()),
+        (Change::Gone, 5, 6, Outcome::StoreFailed, b"SDcsas".as_slice(), b"none".as_slice()),
+        (Change::Gone, 7, 8, Outcome::StoreFailed, b"SDcsasps".as_slice(), b"none".as_slice()),
+        (Change::Gone, 9, 10, verified(3, ABC), ALL_CALLS, b"abc".as_slice()),
+        (Change::Appears, 1, 2, Outcome::DestinationExists, b"SD".as_slice(), b"other".as_slice()),
+    ] {
+        for call in first..=last {
+            let mut store = three_files(alloc, None)?;
+            store.change = change;
+            store.changes_at = call;
+            let (outcome, _) = copied(&mut store, &mut room, &row, false, u64::MAX);
+            assert_eq!(rt; outcome, want, "{change:?} before call {call}");
+            assert_eq!(rt; store.calls.as_slice(), calls, "{change:?} before call {call}");
+            assert_eq!(rt; bytes_of(&store.dest), held, "{change:?} before call {call}");
         }
     }
-    wrong
+    Ok(())
 }
 
 #[test]
-fn a_source_that_another_thread_cuts_is_never_verified_short(rt: HostRuntime) -> Result<(), Fail> {
+fn the_earlier_of_a_failure_and_a_no_ends_a_copy(rt: HostRuntime) -> Result<(), Fail> {
+    let alloc = rt.alloc();
+    let mut room = CopyRoom::new(alloc)?;
+    let row = row(alloc, 0, None)?;
+    // the watch is asked before these calls of the nine; the last stands for never
+    for (yeses, stops_before) in [(0, 3), (1, 5), (2, 9), (3, 10)] {
+        for fails_at in 1..=10 {
+            let mut store = three_files(alloc, Some(b"old".to_vec(alloc)?))?;
+            store.fails_at = fails_at;
+            let (want, calls, held) = if fails_at < stops_before {
+                (Outcome::StoreFailed, fails_at, b"old".as_slice())
+            } else if yeses < 3 {
+                (Outcome::Stopped, stops_before - 1, b"old".as_slice())
+            } else {
+                (verified(3, ABC), 9, b"abc".as_slice())
+            };
+            let (outcome, _) = copied(&mut store, &mut room, &row, true, yeses);
+            assert_eq!(rt; outcome, want, "{yeses} yeses, call {fails_at} fails");
+            assert_eq!(rt;
+                store.calls.as_slice(),
+                &b"Scsaspspm"[..calls],
+                "{yeses} yeses, call {fails_at} fails"
+            );
+            assert_eq!(rt; bytes_of(&store.dest), held, "{yeses} yeses, call {fails_at} fails");
+        }
+    }
+    Ok(())
+}
+
+#[test]
+fn a_real_file_that_changes_during_a_copy(rt: HostRuntime) -> Result<(), Fail> {
+    let alloc = rt.alloc();
+    let root = "grid-of-a-change";
+    let source = "grid-of-a-change/https:,,a.example/data/f1";
+    let held = "grid-of-a-change/https:,,b.example/store/f1";
+    let _old = fs::remove_dir_all(&rt, root);
+    fs::create_dir_all(&rt, "grid-of-a-change/https:,,a.example/data")?;
+    fs::create_dir_all(&rt, "grid-of-a-change/https:,,b.example/store")?;
+    let mut room = CopyRoom::new(alloc)?;
+    let row = row(alloc, 0, None)?;
+    let mut store = FolderStore::new(rt, alloc, String::from_str(alloc, root)?);
+    // the file that is written anew before the first piece is read, with these bytes; the end, and what is at the destination then
+    for (case, path, bytes, want, there) in [
+        ("nothing changes", source, "abc", verified(3, ABC), "abc"),
+        ("the source is cut", source, "ab", Outcome::SourceSize { seen: 2 }, ""),
+        ("it is lengthened", source, "abc+", Outcome::ReadBackDiffers { at: 3 }, ""),
+        ("it is replaced", source, "ab+", verified(3, AB_PLUS), "ab+"),
+        ("a destination appears", held, "other", Outcome::StoreFailed, "other"),
+    ] {
+        let _old = fs::remove_file(&rt, held);
+        fs::write(&rt, source, "abc")?;
+        let mut watch = WritingWatch {
+            rt: &rt,
+            path,
+            bytes,
+            askings: 0,
+        };
+        room.load(&row, false);
+        assert_eq!(rt; copy_verified(&mut store, &mut room, &mut watch), want, "{case}");
+        assert_eq!(rt; fs::exists(&rt, held)?, !there.is_empty(), "{case}");
+        if !there.is_empty() {
+            assert_eq!(rt; fs::read(&rt, held)?.as_slice(), there.as_bytes(), "{case}");
+        }
+    }
+    fs::remove_dir_all(&rt, root)?;
+    Ok(())
+}
+
+// Cuts a file, makes it as long as it was, writes other bytes into it and makes it longer, so often.
+fn cut_and_lengthen<R: Files<File = File>>(rt: &R, path: &str) {
+    for _ in 0..100 {
+        if let Ok(mut file) = OpenOptions::new().write(true).open(rt, path) {
+            let _cut = file.set_len(66_000);
+            let _whole = file.set_len(70_000);
+            let _other = file.write_all(b"other bytes at its start");
+            let _longer = file.set_len(80_000);
+        }
+    }
+}
+
+// Whether a file holds what this end of a copy says.
+fn is_as_said<R: Files<File = File>>(rt: &R, outcome: Outcome, path: &str) -> bool {
+    let Outcome::Verified { size, digest } = outcome else {
+        return true;
+    };
+    match fs::read(rt, path) {
+        Ok(bytes) => {
+            let mut hasher = Md5::new();
+            hasher.update(bytes.as_slice());
+            bytes.len() as u64 == size && hasher.finalize() == digest
+        }
+        Err(_) => false,
+    }
+}
+
+#[test]
+fn a_source_that_another_thread_changes_is_never_verified_as_another(
+    rt: HostRuntime,
+) -> Result<(), Fail> {
     let alloc = rt.alloc();
     let root = "grid-of-a-cut";
     let source = "grid-of-a-cut/https:,,a.example/data/f1";
+    let held = "grid-of-a-cut/https:,,b.example/store/f1";
     let _old = fs::remove_dir_all(&rt, root);
     let mut room = CopyRoom::new(alloc)?;
     let row = row(alloc, 0, None)?;
     let mut store = FolderStore::new(rt, alloc, String::from_str(alloc, root)?);
     fs::create_dir_all(&rt, "grid-of-a-cut/https:,,a.example/data")?;
     fs::write(&rt, source, pattern(alloc, 70_000)?.as_slice())?;
-    let (wrong, _) = join(
-        &rt,
-        || wrong_lengths(&mut store, &mut room, &row),
-        || cut_and_lengthen(&rt, source),
-    );
-    assert_eq!(rt; wrong, 0);
+    for _ in 0..5 {
+        let ((outcome, _), _) = join(
+            &rt,
+            || copied(&mut store, &mut room, &row, true, u64::MAX),
+            || cut_and_lengthen(&rt, source),
+        );
+        assert!(rt; is_as_said(&rt, outcome, held), "{outcome:?}");
+    }
+    // nobody changes it now
+    let (outcome, _) = copied(&mut store, &mut room, &row, true, u64::MAX);
+    assert!(rt; outcome != Outcome::StoreFailed && is_as_said(&rt, outcome, held), "{outcome:?}");
     fs::remove_dir_all(&rt, root)?;
     Ok(())
 }

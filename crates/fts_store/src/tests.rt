@@ -73,6 +73,30 @@ fn listed_calls_fail_and_listed_appends_lose_a_byte(rt: HostRuntime) -> Result<(
 }
 
 #[test]
+fn calls_that_no_number_lists_are_done(rt: HostRuntime) -> Result<(), Fail> {
+    let alloc = rt.alloc();
+    // so that each call has each number up to 20 once
+    for looks in 0..5 {
+        let mut store = MemoryStore::new(alloc, given(alloc)?, Vec::new(alloc), Vec::new(alloc));
+        for look in 0..looks {
+            assert_eq!(rt; store.size(at("data/f1")), Ok(Some(3)), "look {look}");
+        }
+        for round in 1..=4 {
+            assert_eq!(rt; store.create(at("part")), Ok(()), "{looks} {round}");
+            assert_eq!(rt; store.append(at("part"), b"ab"), Ok(()), "{looks} {round}");
+            assert_eq!(rt;
+                store.rename(at("part"), at("file")),
+                Ok(()),
+                "{looks} {round}"
+            );
+            assert_eq!(rt; store.remove(at("other")), Ok(()), "{looks} {round}");
+            assert_eq!(rt; store.size(at("file")), Ok(Some(2)), "{looks} {round}");
+        }
+    }
+    Ok(())
+}
+
+#[test]
 fn a_folder_keeps_what_is_moved_into_it(rt: HostRuntime) -> Result<(), Fail> {
     let alloc = rt.alloc();
     let root = "grid-of-a-move";
