@@ -7,8 +7,8 @@ use fts_tables::{
     EndpointName, FileRow, FileState, Items, Label, Memory, Outcome, PathKey, Place, PlaceRef,
     Reason,
 };
-use std::alloc::{AllocError, Global};
 use md5::{Digest, Md5};
+use std::alloc::{Alloc, AllocError, Global};
 use std::fs::{self, File, Files, OpenOptions};
 use std::io::Write;
 use std::test::Fail;
@@ -390,23 +390,142 @@ fn a_source_that_changes_during_a_copy(rt: HostRuntime) -> Result<(), Fail> {
     let row = row(alloc, 0, None)?;
     // what changes, before the calls of which numbers, the end, the calls that were made, what is at the destination then
     for (change, first, last, want, calls, held) in [
-        (Change::Nothing, 1, 1, verified(3, ABC), ALL_CALLS, b"abc".as_slice()),
-        (Change::Cut, 1, 1, verified(2, AB), ALL_CALLS, b"ab".as_slice()),
-        (Change::Cut, 2, 4, Outcome::SourceSize { seen: 2 }, b"SDcssa".as_slice(), b"none".as_slice()),
-        (Change::Cut, 5, 6, Outcome::ReadBackDiffers { at: 2 }, b"SDcsassp".as_slice(), b"none".as_slice()),
-        (Change::Cut, 7, 10, verified(3, ABC), ALL_CALLS, b"abc".as_slice()),
-        (Change::Grown, 1, 1, verified(4, ABC_PLUS), ALL_CALLS, b"abc+".as_slice()),
-        (Change::Grown, 2, 8, Outcome::ReadBackDiffers { at: 3 }, b"SDcsaspsp".as_slice(), b"none".as_slice()),
-        (Change::Grown, 9, 10, verified(3, ABC), ALL_CALLS, b"abc".as_slice()),
-        (Change::Replaced, 1, 4, verified(3, AB_PLUS), ALL_CALLS, b"ab+".as_slice()),
-        (Change::Replaced, 5, 6, Outcome::ReadBackDiffers { at: 2 }, b"SDcsasp".as_slice(), b"none".as_slice()),
-        (Change::Replaced, 7, 10, verified(3, ABC), ALL_CALLS, b"abc".as_slice()),
-        (Change::Gone, 1, 1, Outcome::SourceMissing, b"S".as_slice(), b"none".as_slice()),
-        (Change::Gone, 2, 4, Outcome::StoreFailed, b"SDcs".as_slice(), b"none".as_slice()),
-        (Change::Gone, 5, 6, Outcome::StoreFailed, b"SDcsas".as_slice(), b"none".as_slice()),
-        (Change::Gone, 7, 8, Outcome::StoreFailed, b"SDcsasps".as_slice(), b"none".as_slice()),
-        (Change::Gone, 9, 10, verified(3, ABC), ALL_CALLS, b"abc".as_slice()),
-        (Change::Appears, 1, 2, Outcome::DestinationExists, b"SD".as_slice(), b"other".as_slice()),
+        (
+            Change::Nothing,
+            1,
+            1,
+            verified(3, ABC),
+            ALL_CALLS,
+            b"abc".as_slice(),
+        ),
+        (
+            Change::Cut,
+            1,
+            1,
+            verified(2, AB),
+            ALL_CALLS,
+            b"ab".as_slice(),
+        ),
+        (
+            Change::Cut,
+            2,
+            4,
+            Outcome::SourceSize { seen: 2 },
+            b"SDcssa".as_slice(),
+            b"none".as_slice(),
+        ),
+        (
+            Change::Cut,
+            5,
+            6,
+            Outcome::ReadBackDiffers { at: 2 },
+            b"SDcsassp".as_slice(),
+            b"none".as_slice(),
+        ),
+        (
+            Change::Cut,
+            7,
+            10,
+            verified(3, ABC),
+            ALL_CALLS,
+            b"abc".as_slice(),
+        ),
+        (
+            Change::Grown,
+            1,
+            1,
+            verified(4, ABC_PLUS),
+            ALL_CALLS,
+            b"abc+".as_slice(),
+        ),
+        (
+            Change::Grown,
+            2,
+            8,
+            Outcome::ReadBackDiffers { at: 3 },
+            b"SDcsaspsp".as_slice(),
+            b"none".as_slice(),
+        ),
+        (
+            Change::Grown,
+            9,
+            10,
+            verified(3, ABC),
+            ALL_CALLS,
+            b"abc".as_slice(),
+        ),
+        (
+            Change::Replaced,
+            1,
+            4,
+            verified(3, AB_PLUS),
+            ALL_CALLS,
+            b"ab+".as_slice(),
+        ),
+        (
+            Change::Replaced,
+            5,
+            6,
+            Outcome::ReadBackDiffers { at: 2 },
+            b"SDcsasp".as_slice(),
+            b"none".as_slice(),
+        ),
+        (
+            Change::Replaced,
+            7,
+            10,
+            verified(3, ABC),
+            ALL_CALLS,
+            b"abc".as_slice(),
+        ),
+        (
+            Change::Gone,
+            1,
+            1,
+            Outcome::SourceMissing,
+            b"S".as_slice(),
+            b"none".as_slice(),
+        ),
+        (
+            Change::Gone,
+            2,
+            4,
+            Outcome::StoreFailed,
+            b"SDcs".as_slice(),
+            b"none".as_slice(),
+        ),
+        (
+            Change::Gone,
+            5,
+            6,
+            Outcome::StoreFailed,
+            b"SDcsas".as_slice(),
+            b"none".as_slice(),
+        ),
+        (
+            Change::Gone,
+            7,
+            8,
+            Outcome::StoreFailed,
+            b"SDcsasps".as_slice(),
+            b"none".as_slice(),
+        ),
+        (
+            Change::Gone,
+            9,
+            10,
+            verified(3, ABC),
+            ALL_CALLS,
+            b"abc".as_slice(),
+        ),
+        (
+            Change::Appears,
+            1,
+            2,
+            Outcome::DestinationExists,
+            b"SD".as_slice(),
+            b"other".as_slice(),
+        ),
     ] {
         for call in first..=last {
             let mut store = three_files(alloc, None)?;
@@ -414,8 +533,16 @@ fn a_source_that_changes_during_a_copy(rt: HostRuntime) -> Result<(), Fail> {
             store.changes_at = call;
             let (outcome, _) = copied(&mut store, &mut room, &row, false, u64::MAX);
             assert_eq!(rt; outcome, want, "{change:?} before call {call}");
-            assert_eq!(rt; store.calls.as_slice(), calls, "{change:?} before call {call}");
-            assert_eq!(rt; bytes_of(&store.dest), held, "{change:?} before call {call}");
+            assert_eq!(rt;
+                store.calls.as_slice(),
+                calls,
+                "{change:?} before call {call}"
+            );
+            assert_eq!(rt;
+                bytes_of(&store.dest),
+                held,
+                "{change:?} before call {call}"
+            );
         }
     }
     Ok(())
@@ -445,7 +572,11 @@ fn the_earlier_of_a_failure_and_a_no_ends_a_copy(rt: HostRuntime) -> Result<(), 
                 &b"Scsaspspm"[..calls],
                 "{yeses} yeses, call {fails_at} fails"
             );
-            assert_eq!(rt; bytes_of(&store.dest), held, "{yeses} yeses, call {fails_at} fails");
+            assert_eq!(rt;
+                bytes_of(&store.dest),
+                held,
+                "{yeses} yeses, call {fails_at} fails"
+            );
         }
     }
     Ok(())
@@ -466,10 +597,28 @@ fn a_real_file_that_changes_during_a_copy(rt: HostRuntime) -> Result<(), Fail> {
     // the file that is written anew before the first piece is read, with these bytes; the end, and what is at the destination then
     for (case, path, bytes, want, there) in [
         ("nothing changes", source, "abc", verified(3, ABC), "abc"),
-        ("the source is cut", source, "ab", Outcome::SourceSize { seen: 2 }, ""),
-        ("it is lengthened", source, "abc+", Outcome::ReadBackDiffers { at: 3 }, ""),
+        (
+            "the source is cut",
+            source,
+            "ab",
+            Outcome::SourceSize { seen: 2 },
+            "",
+        ),
+        (
+            "it is lengthened",
+            source,
+            "abc+",
+            Outcome::ReadBackDiffers { at: 3 },
+            "",
+        ),
         ("it is replaced", source, "ab+", verified(3, AB_PLUS), "ab+"),
-        ("a destination appears", held, "other", Outcome::StoreFailed, "other"),
+        (
+            "a destination appears",
+            held,
+            "other",
+            Outcome::StoreFailed,
+            "other",
+        ),
     ] {
         let _old = fs::remove_file(&rt, held);
         fs::write(&rt, source, "abc")?;
@@ -480,7 +629,11 @@ fn a_real_file_that_changes_during_a_copy(rt: HostRuntime) -> Result<(), Fail> {
             askings: 0,
         };
         room.load(&row, false);
-        assert_eq!(rt; copy_verified(&mut store, &mut room, &mut watch), want, "{case}");
+        assert_eq!(rt;
+            copy_verified(&mut store, &mut room, &mut watch),
+            want,
+            "{case}"
+        );
         assert_eq!(rt; fs::exists(&rt, held)?, !there.is_empty(), "{case}");
         if !there.is_empty() {
             assert_eq!(rt; fs::read(&rt, held)?.as_slice(), there.as_bytes(), "{case}");
@@ -503,7 +656,7 @@ fn cut_and_lengthen<R: Files<File = File>>(rt: &R, path: &str) {
 }
 
 // Whether a file holds what this end of a copy says.
-fn is_as_said<R: Files<File = File>>(rt: &R, outcome: Outcome, path: &str) -> bool {
+fn is_as_said<R: Files<File = File> + Alloc>(rt: &R, outcome: Outcome, path: &str) -> bool {
     let Outcome::Verified { size, digest } = outcome else {
         return true;
     };
@@ -541,7 +694,10 @@ fn a_source_that_another_thread_changes_is_never_verified_as_another(
     }
     // nobody changes it now
     let (outcome, _) = copied(&mut store, &mut room, &row, true, u64::MAX);
-    assert!(rt; outcome != Outcome::StoreFailed && is_as_said(&rt, outcome, held), "{outcome:?}");
+    assert!(rt;
+        outcome != Outcome::StoreFailed && is_as_said(&rt, outcome, held),
+        "{outcome:?}"
+    );
     fs::remove_dir_all(&rt, root)?;
     Ok(())
 }
