@@ -1,6 +1,6 @@
 //! What no clause says: copies with ample memory and digests that another program gave, failures and noes one by one, files that change
 //! while they are copied, and real folders.
-use crate::changing::{Change, Changing, WritingWatch};
+use crate::changing::{Changing, WritingWatch};
 use crate::{CopyRoom, CountingWatch, copy_verified};
 use fts_store::{FolderStore, MemoryStore, Store, StoredFile};
 use fts_tables::{
@@ -355,273 +355,230 @@ fn a_file_is_copied_between_real_folders(rt: HostRuntime) -> Result<(), Fail> {
 }
 
 // A copy's three files, of which the source holds `abc`.
-fn three_files(alloc: Global, dest: Option<Vec<u8>>) -> Result<Changing, AllocError> {
-    Ok(Changing {
-        alloc,
-        source: Some(b"abc".to_vec(alloc)?),
-        part: None,
-        dest,
-        change: Change::Nothing,
+fn three_files(alloc: Global, dest: Vec<u8>) -> Changing {
+    Changing {
+        source: Some(b"abc"),
+        later: None,
         changes_at: 0,
         fails_at: 0,
+        part: Vec::new(alloc),
+        dest,
         calls: Vec::new(alloc),
         faults: 0,
-    })
+    }
 }
 
 fn verified(size: u64, digest: [u8; 16]) -> Outcome {
     Outcome::Verified { size, digest }
 }
 
-fn bytes_of(file: &Option<Vec<u8>>) -> &[u8] {
-    match file {
-        Some(bytes) => bytes.as_slice(),
-        None => b"none",
-    }
-}
-
 // The calls, a letter each: the source's size, the destination's, the part made, a read and an append, two reads, two at the ends, the move.
 const ALL_CALLS: &[u8] = b"SDcsaspspm";
 
-#[test]
-fn a_source_that_changes_during_a_copy(rt: HostRuntime) -> Result<(), Fail> {
-    let alloc = rt.alloc();
+// What the source is from the call of each number on, from the first up to the one before `end`; how a copy ends, its calls, what it leaves.
+#[derive(Clone, Copy)]
+struct Expected {
+    later: Option<&'static [u8]>,
+    first: usize,
+    end: usize,
+    want: Outcome,
+    calls: &'static [u8],
+    held: &'static [u8],
+}
+
+// Whether a copy of a source that changes before the call of this number ends as is expected.
+fn ends_so(
+    alloc: Global,
+    room: &mut CopyRoom,
+    file: &FileRow,
+    expected: &Expected,
+    call: usize,
+) -> bool {
+    let mut store = three_files(alloc, Vec::new(alloc));
+    store.later = expected.later;
+    store.changes_at = call;
+    let (outcome, _) = copied(&mut store, room, file, false, u64::MAX);
+    outcome == expected.want
+        && store.calls.as_slice() == expected.calls
+        && store.dest.as_slice() == expected.held
+}
+
+fn file_row(alloc: Global) -> Result<FileRow, Memory> {
+    row(alloc, 0, None)
+}
+
+// The number of the first call at which it doesn't; 0 where it does at each.
+fn wrong_call(alloc: Global, expected: &Expected) -> Result<usize, Memory> {
     let mut room = CopyRoom::new(alloc)?;
-    let row = row(alloc, 0, None)?;
-    // what changes, before the calls of which numbers, the end, the calls that were made, what is at the destination then
-    for (change, first, last, want, calls, held) in [
-        (
-            Change::Nothing,
-            1,
-            1,
-            verified(3, ABC),
-            ALL_CALLS,
-            b"abc".as_slice(),
-        ),
-        (
-            Change::Cut,
-            1,
-            1,
-            verified(2, AB),
-            ALL_CALLS,
-            b"ab".as_slice(),
-        ),
-        (
-            Change::Cut,
-            2,
-            4,
-            Outcome::SourceSize { seen: 2 },
-            b"SDcssa".as_slice(),
-            b"none".as_slice(),
-        ),
-        (
-            Change::Cut,
-            5,
-            6,
-            Outcome::ReadBackDiffers { at: 2 },
-            b"SDcsassp".as_slice(),
-            b"none".as_slice(),
-        ),
-        (
-            Change::Cut,
-            7,
-            10,
-            verified(3, ABC),
-            ALL_CALLS,
-            b"abc".as_slice(),
-        ),
-        (
-            Change::Grown,
-            1,
-            1,
-            verified(4, ABC_PLUS),
-            ALL_CALLS,
-            b"abc+".as_slice(),
-        ),
-        (
-            Change::Grown,
-            2,
-            8,
-            Outcome::ReadBackDiffers { at: 3 },
-            b"SDcsaspsp".as_slice(),
-            b"none".as_slice(),
-        ),
-        (
-            Change::Grown,
-            9,
-            10,
-            verified(3, ABC),
-            ALL_CALLS,
-            b"abc".as_slice(),
-        ),
-        (
-            Change::Replaced,
-            1,
-            4,
-            verified(3, AB_PLUS),
-            ALL_CALLS,
-            b"ab+".as_slice(),
-        ),
-        (
-            Change::Replaced,
-            5,
-            6,
-            Outcome::ReadBackDiffers { at: 2 },
-            b"SDcsasp".as_slice(),
-            b"none".as_slice(),
-        ),
-        (
-            Change::Replaced,
-            7,
-            10,
-            verified(3, ABC),
-            ALL_CALLS,
-            b"abc".as_slice(),
-        ),
-        (
-            Change::Gone,
-            1,
-            1,
-            Outcome::SourceMissing,
-            b"S".as_slice(),
-            b"none".as_slice(),
-        ),
-        (
-            Change::Gone,
-            2,
-            4,
-            Outcome::StoreFailed,
-            b"SDcs".as_slice(),
-            b"none".as_slice(),
-        ),
-        (
-            Change::Gone,
-            5,
-            6,
-            Outcome::StoreFailed,
-            b"SDcsas".as_slice(),
-            b"none".as_slice(),
-        ),
-        (
-            Change::Gone,
-            7,
-            8,
-            Outcome::StoreFailed,
-            b"SDcsasps".as_slice(),
-            b"none".as_slice(),
-        ),
-        (
-            Change::Gone,
-            9,
-            10,
-            verified(3, ABC),
-            ALL_CALLS,
-            b"abc".as_slice(),
-        ),
-        (
-            Change::Appears,
-            1,
-            2,
-            Outcome::DestinationExists,
-            b"SD".as_slice(),
-            b"other".as_slice(),
-        ),
-    ] {
-        for call in first..=last {
-            let mut store = three_files(alloc, None)?;
-            store.change = change;
-            store.changes_at = call;
-            let (outcome, _) = copied(&mut store, &mut room, &row, false, u64::MAX);
-            assert_eq!(rt; outcome, want, "{change:?} before call {call}");
-            assert_eq!(rt;
-                store.calls.as_slice(),
-                calls,
-                "{change:?} before call {call}"
-            );
-            assert_eq!(rt;
-                bytes_of(&store.dest),
-                held,
-                "{change:?} before call {call}"
-            );
+    let file = file_row(alloc)?;
+    for call in expected.first..expected.end {
+        if !ends_so(alloc, &mut room, &file, expected, call) {
+            return Ok(call);
         }
     }
+    Ok(0)
+}
+
+fn is_verified(later: &'static [u8], first: usize, end: usize, held: &'static [u8]) -> Expected {
+    Expected {
+        later: Some(later),
+        first,
+        end,
+        want: verified(held.len() as u64, ABC),
+        calls: ALL_CALLS,
+        held,
+    }
+}
+
+fn ends(later: Option<&'static [u8]>, first: usize, end: usize, calls: &'static [u8]) -> Expected {
+    Expected {
+        later,
+        first,
+        end,
+        want: Outcome::StoreFailed,
+        calls,
+        held: b"",
+    }
+}
+
+#[test]
+fn a_source_that_changes_during_a_copy_that_is_verified(rt: HostRuntime) -> Result<(), Fail> {
+    for (digest, expected) in [
+        (ABC, is_verified(b"abc", 1, 2, b"abc")),
+        (AB, is_verified(b"ab", 1, 2, b"ab")),
+        (ABC, is_verified(b"ab", 7, 11, b"abc")),
+        (ABC_PLUS, is_verified(b"abc+", 1, 2, b"abc+")),
+        (ABC, is_verified(b"abc+", 9, 11, b"abc")),
+        (AB_PLUS, is_verified(b"ab+", 1, 5, b"ab+")),
+        (ABC, is_verified(b"ab+", 7, 11, b"abc")),
+    ] {
+        let want = verified(expected.held.len() as u64, digest);
+        let expected = Expected { want, ..expected };
+        assert_eq!(rt; wrong_call(rt.alloc(), &expected)?, 0, "{want:?}");
+    }
     Ok(())
+}
+
+#[test]
+fn a_source_that_changes_during_a_copy_that_is_not(rt: HostRuntime) -> Result<(), Fail> {
+    for (want, expected) in [
+        (
+            Outcome::SourceSize { seen: 2 },
+            ends(Some(b"ab"), 2, 5, b"SDcssa"),
+        ),
+        (
+            Outcome::ReadBackDiffers { at: 2 },
+            ends(Some(b"ab"), 5, 7, b"SDcsassp"),
+        ),
+        (
+            Outcome::ReadBackDiffers { at: 3 },
+            ends(Some(b"abc+"), 2, 9, b"SDcsaspsp"),
+        ),
+        (
+            Outcome::ReadBackDiffers { at: 2 },
+            ends(Some(b"ab+"), 5, 7, b"SDcsasp"),
+        ),
+        (Outcome::SourceMissing, ends(None, 1, 2, b"S")),
+        (Outcome::StoreFailed, ends(None, 2, 5, b"SDcs")),
+        (Outcome::StoreFailed, ends(None, 5, 7, b"SDcsas")),
+        (Outcome::StoreFailed, ends(None, 7, 9, b"SDcsasps")),
+    ] {
+        let expected = Expected { want, ..expected };
+        assert_eq!(rt; wrong_call(rt.alloc(), &expected)?, 0, "{want:?}");
+    }
+    Ok(())
+}
+
+// A watch that says no before this call of the nine, and how often it says yes before; and the call that fails.
+#[derive(Clone, Copy)]
+struct Ending {
+    yeses: u64,
+    stops_before: usize,
+    fails_at: usize,
+}
+
+// Whether the earlier of the two ends a copy over a destination that may be replaced, which is then as it was.
+fn earlier_ends(
+    alloc: Global,
+    room: &mut CopyRoom,
+    file: &FileRow,
+    ending: &Ending,
+) -> Result<bool, AllocError> {
+    let mut store = three_files(alloc, b"old".to_vec(alloc)?);
+    store.fails_at = ending.fails_at;
+    let (want, calls) = if ending.fails_at < ending.stops_before {
+        (Outcome::StoreFailed, ending.fails_at)
+    } else {
+        (Outcome::Stopped, ending.stops_before.saturating_sub(1))
+    };
+    let (outcome, _) = copied(&mut store, room, file, true, ending.yeses);
+    let made = b"Scsaspspm".get(..calls);
+    Ok(
+        outcome == want
+            && made == Some(store.calls.as_slice())
+            && store.dest.as_slice() == b"old".as_slice(),
+    )
+}
+
+// The number of the first call that fails and doesn't end a copy as it should; 0 where each does.
+fn wrong_failure(alloc: Global, yeses: u64, stops_before: usize) -> Result<usize, Memory> {
+    let mut room = CopyRoom::new(alloc)?;
+    let file = file_row(alloc)?;
+    for fails_at in 1..10_usize {
+        let ending = Ending {
+            yeses,
+            stops_before,
+            fails_at,
+        };
+        if !earlier_ends(alloc, &mut room, &file, &ending)? {
+            return Ok(fails_at);
+        }
+    }
+    Ok(0)
 }
 
 #[test]
 fn the_earlier_of_a_failure_and_a_no_ends_a_copy(rt: HostRuntime) -> Result<(), Fail> {
-    let alloc = rt.alloc();
-    let mut room = CopyRoom::new(alloc)?;
-    let row = row(alloc, 0, None)?;
-    // the watch is asked before these calls of the nine; the last stands for never
+    // before which of the nine calls the watch is asked; the last stands for never
     for (yeses, stops_before) in [(0, 3), (1, 5), (2, 9), (3, 10)] {
-        for fails_at in 1..=10 {
-            let mut store = three_files(alloc, Some(b"old".to_vec(alloc)?))?;
-            store.fails_at = fails_at;
-            let (want, calls, held) = if fails_at < stops_before {
-                (Outcome::StoreFailed, fails_at, b"old".as_slice())
-            } else if yeses < 3 {
-                (Outcome::Stopped, stops_before - 1, b"old".as_slice())
-            } else {
-                (verified(3, ABC), 9, b"abc".as_slice())
-            };
-            let (outcome, _) = copied(&mut store, &mut room, &row, true, yeses);
-            assert_eq!(rt; outcome, want, "{yeses} yeses, call {fails_at} fails");
-            assert_eq!(rt;
-                store.calls.as_slice(),
-                &b"Scsaspspm"[..calls],
-                "{yeses} yeses, call {fails_at} fails"
-            );
-            assert_eq!(rt;
-                bytes_of(&store.dest),
-                held,
-                "{yeses} yeses, call {fails_at} fails"
-            );
-        }
+        assert_eq!(rt;
+            wrong_failure(rt.alloc(), yeses, stops_before)?,
+            0,
+            "{yeses} yeses"
+        );
     }
     Ok(())
 }
+
+const CHANGED_SOURCE: &str = "grid-of-a-change/https:,,a.example/data/f1";
+
+const CHANGED_DEST: &str = "grid-of-a-change/https:,,b.example/store/f1";
 
 #[test]
 fn a_real_file_that_changes_during_a_copy(rt: HostRuntime) -> Result<(), Fail> {
     let alloc = rt.alloc();
     let root = "grid-of-a-change";
-    let source = "grid-of-a-change/https:,,a.example/data/f1";
-    let held = "grid-of-a-change/https:,,b.example/store/f1";
     let _old = fs::remove_dir_all(&rt, root);
     fs::create_dir_all(&rt, "grid-of-a-change/https:,,a.example/data")?;
     fs::create_dir_all(&rt, "grid-of-a-change/https:,,b.example/store")?;
     let mut room = CopyRoom::new(alloc)?;
-    let row = row(alloc, 0, None)?;
+    let row = file_row(alloc)?;
     let mut store = FolderStore::new(rt, alloc, String::from_str(alloc, root)?);
     // the file that is written anew before the first piece is read, with these bytes; the end, and what is at the destination then
-    for (case, path, bytes, want, there) in [
-        ("nothing changes", source, "abc", verified(3, ABC), "abc"),
+    for (path, bytes, want, there) in [
+        (CHANGED_SOURCE, "abc", verified(3, ABC), "abc"),
+        (CHANGED_SOURCE, "ab", Outcome::SourceSize { seen: 2 }, ""),
         (
-            "the source is cut",
-            source,
-            "ab",
-            Outcome::SourceSize { seen: 2 },
-            "",
-        ),
-        (
-            "it is lengthened",
-            source,
+            CHANGED_SOURCE,
             "abc+",
             Outcome::ReadBackDiffers { at: 3 },
             "",
         ),
-        ("it is replaced", source, "ab+", verified(3, AB_PLUS), "ab+"),
-        (
-            "a destination appears",
-            held,
-            "other",
-            Outcome::StoreFailed,
-            "other",
-        ),
+        (CHANGED_SOURCE, "ab+", verified(3, AB_PLUS), "ab+"),
+        (CHANGED_DEST, "other", Outcome::StoreFailed, "other"),
     ] {
-        let _old = fs::remove_file(&rt, held);
-        fs::write(&rt, source, "abc")?;
+        let _old = fs::remove_file(&rt, CHANGED_DEST);
+        fs::write(&rt, CHANGED_SOURCE, "abc")?;
         let mut watch = WritingWatch {
             rt: &rt,
             path,
@@ -632,12 +589,13 @@ fn a_real_file_that_changes_during_a_copy(rt: HostRuntime) -> Result<(), Fail> {
         assert_eq!(rt;
             copy_verified(&mut store, &mut room, &mut watch),
             want,
-            "{case}"
+            "{bytes}"
         );
-        assert_eq!(rt; fs::exists(&rt, held)?, !there.is_empty(), "{case}");
-        if !there.is_empty() {
-            assert_eq!(rt; fs::read(&rt, held)?.as_slice(), there.as_bytes(), "{case}");
-        }
+        let held = match fs::read(&rt, CHANGED_DEST) {
+            Ok(held) => held,
+            Err(_) => Vec::new(alloc),
+        };
+        assert_eq!(rt; held.as_slice(), there.as_bytes(), "{bytes}");
     }
     fs::remove_dir_all(&rt, root)?;
     Ok(())
@@ -684,7 +642,7 @@ fn a_source_that_another_thread_changes_is_never_verified_as_another(
     let mut store = FolderStore::new(rt, alloc, String::from_str(alloc, root)?);
     fs::create_dir_all(&rt, "grid-of-a-cut/https:,,a.example/data")?;
     fs::write(&rt, source, pattern(alloc, 70_000)?.as_slice())?;
-    for _ in 0..5 {
+    for _ in 0..5_u32 {
         let ((outcome, _), _) = join(
             &rt,
             || copied(&mut store, &mut room, &row, true, u64::MAX),
