@@ -1,7 +1,7 @@
 //! A store and a watch for tests of one copy whose files change while it runs.
 //! `Changing` holds a source, a part and a destination in memory. Before the call of a number the source changes, and the call of another may fail.
 //! It notes a letter for each call that was made of it, and tells nothing of its files, as real ones don't. `WritingWatch` changes a real file.
-ghost use Rattle.std.specs.Prelude.{◌≡◌, ◌≤◌, length, IfOk};
+ghost use Rattle.std.specs.Prelude.{◌≡◌, ◌≤◌, length, IsErr};
 ghost use Rattle.fts_tables.specs.Counts.{CountsFaults};
 
 use crate::Watch;
@@ -48,7 +48,8 @@ fn read(bytes: &[u8], offset: u64, into: &mut [u8]) -> usize
 }
 
 fn failed<T>(faults: &mut u64) -> Result<T, StoreFailed>
-    ensures { CountsFaults faults.old faults.new result }
+    ensures err { IsErr result }
+    ensures cause { CountsFaults faults.old faults.new result }
 {
     *faults = faults.saturating_add(1);
     Err(StoreFailed)
