@@ -1,5 +1,6 @@
 // The steps of a verified copy, by hand, for bench/copy.sh: the same looks, reads, writes and syncs, with no name kept in memory but the paths.
 // copy_peer ROOT SET COUNT FOLDERS copies SET/fN, or SET/dM/fN where FOLDERS is more than 1 (M is N modulo FOLDERS), as bench_copy does.
+#include <errno.h>
 #include <fcntl.h>
 #include <stdint.h>
 #include <stdio.h>
@@ -103,20 +104,47 @@ static int copy(const char *from, const char *part, const char *to, const char *
     return done;
 }
 
+// Makes the name of a folder stable: the folder above is synced.
+static int sync_above(const char *folder) {
+    char above[8192];
+    snprintf(above, sizeof above, "%s", folder);
+    char *end = strrchr(above, '/');
+    if (!end) return 0;
+    *end = 0;
+    int open_above = open(above, O_RDONLY | O_CLOEXEC);
+    int done = open_above >= 0 && !fsync(open_above);
+    close(open_above);
+    return done;
+}
+
+// Makes a folder and those above it, each of which is synced once.
+static int make_folder(const char *path) {
+    char folder[8192];
+    snprintf(folder, sizeof folder, "%s", path);
+    for (char *end = folder + 1;; end++) {
+        if (*end && *end != '/') continue;
+        char was = *end;
+        *end = 0;
+        if (!mkdir(folder, 0777)) { if (!sync_above(folder)) return 0; }
+        else if (errno != EEXIST) return 0;
+        *end = was;
+        if (!was) return 1;
+    }
+}
+
 int main(int count, char **words) {
     if (count < 5) return 2;
-    char from[4096], part[4096], to[4096], folder[4096], set[1024];
+    static char from[8192], part[8192], to[8192], folder[8192], set[1024];
     int files = atoi(words[3]), folders = atoi(words[4]), verified = 0;
     snprintf(folder, sizeof folder, "%s/https:,,b.example/.fts", words[1]);
-    snprintf(part, sizeof part, "mkdir -p '%s'", folder);
-    if (system(part)) return 1;
+    if (!make_folder(folder)) return 1;
     for (int n = 0; n < files; n++) {
         if (folders > 1) snprintf(set, sizeof set, "%s/d%d", words[2], n % folders); else snprintf(set, sizeof set, "%s", words[2]);
         snprintf(from, sizeof from, "%s/https:,,a.example/%s/f%d", words[1], set, n);
         snprintf(folder, sizeof folder, "%s/https:,,b.example/%s", words[1], set);
-        snprintf(to, sizeof to, "%s/f%d", folder, n);
-        if (n < folders) { snprintf(part, sizeof part, "mkdir -p '%s'", folder); if (system(part)) return 1; }
+        snprintf(to, sizeof to, "%s/https:,,b.example/%s/f%d", words[1], set, n);
         snprintf(part, sizeof part, "%s/https:,,b.example/.fts/part-%d", words[1], n);
+        if (n < folders && !make_folder(folder)) return 1;
         verified += copy(from, part, to, folder);
     }
     printf("verified %d\n", verified);

@@ -1,7 +1,7 @@
 //! Copies files as the service does, for `bench/copy.sh`.
 //! `bench_copy ROOT SET COUNT FOLDERS` copies `SET/f0` up to `SET/f(COUNT - 1)` of `https://a.example` below ROOT to `https://b.example`, each by way
 //! of its part, and prints how many were verified. Where FOLDERS is more than 1, file n lies in `SET/dM`, M being n modulo FOLDERS.
-//! Without arguments it does nothing.
+//! What is at a destination is replaced; with a fifth word, `keep`, it is kept, and its file isn't copied. Without words it does nothing.
 #![tactic(auto)]
 
 use fts_copy::{CopyRoom, CountingWatch, copy_verified};
@@ -52,9 +52,14 @@ fn row(alloc: Global, id: u32, path: &str) -> Result<Option<FileRow>, Memory> {
     }
 }
 
-fn is_verified<E: Store>(store: &mut E, room: &mut CopyRoom, row: &FileRow) -> bool {
+fn is_verified<E: Store>(
+    store: &mut E,
+    room: &mut CopyRoom,
+    row: &FileRow,
+    overwrite: bool,
+) -> bool {
     let mut watch = CountingWatch::new(u64::MAX);
-    room.load(row, true);
+    room.load(row, overwrite);
     match copy_verified(store, room, &mut watch) {
         Outcome::Verified { .. } => true,
         _ => false,
@@ -77,13 +82,14 @@ fn copy_set<E: Store>(
     set: &str,
     count: u32,
     folders: u32,
+    overwrite: bool,
 ) -> io::Result<u32> {
     let mut room = CopyRoom::new(alloc).map_err(no_memory)?;
     let mut verified: u32 = 0;
     for file in 0..count {
         let path = path_of(alloc, set, file, folders)?;
         if let Some(row) = row(alloc, file, path.as_str()).map_err(no_memory)? {
-            if is_verified(store, &mut room, &row) {
+            if is_verified(store, &mut room, &row, overwrite) {
                 verified = verified.saturating_add(1);
             }
         }
@@ -105,8 +111,9 @@ fn main(rt: HostRuntime) -> io::Result<()> {
     let (Ok(count), Ok(folders)) = (count.parse::<u32>(), folders.parse::<u32>()) else {
         return Err(io::Error::from(io::ErrorKind::InvalidInput));
     };
+    let overwrite = args.next().is_none();
     let mut store = FolderStore::new(rt, alloc, root);
-    let verified = copy_set(alloc, &mut store, set.as_str(), count, folders)?;
+    let verified = copy_set(alloc, &mut store, set.as_str(), count, folders, overwrite)?;
     println!(rt; "verified {verified}")?;
     Ok(())
 }

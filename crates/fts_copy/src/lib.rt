@@ -3,6 +3,8 @@
 //! wanted. What a copy is, and what each of its ends leaves, is `specs/Copy.antt`.
 #![tactic(auto)]
 
+#[cfg(test)]
+mod changing;
 mod copy;
 mod differences;
 mod order;

@@ -2,8 +2,18 @@
 ghost use Rattle.std.specs.Prelude.{◌≡◌, ◌<◌, ◌≤◌, ◌*◌, ◌-◌, min};
 ghost use Rattle.fts_copy.specs.Watch.{pieces};
 
+use crate::order::Loaded;
+
 /// The bytes of a piece, but for a file's last one, which may be shorter.
 pub const PIECE_BYTES: u64 = 65_536;
+
+/// A piece of the file of an order: where it begins, and how many bytes are wanted of it.
+#[derive(Clone, Copy)]
+pub struct Piece<'a> {
+    pub order: &'a Loaded,
+    pub offset: u64,
+    pub wanted: usize,
+}
 
 /// The number of pieces of a file of this size, in bytes.
 pub fn pieces(size: u64) -> u64

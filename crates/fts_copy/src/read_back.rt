@@ -9,7 +9,7 @@ ghost use Rattle.fts_copy.specs.Watch.{Counted, Watched, pieces};
 use crate::Watch;
 use crate::differences::first_difference;
 use crate::order::Loaded;
-use crate::pieces::{PIECE_BYTES, piece_len, piece_start, pieces};
+use crate::pieces::{PIECE_BYTES, Piece, piece_len, piece_start, pieces};
 use crate::reading::{fill, is_longer};
 use fts_store::Store;
 use fts_tables::Outcome;
@@ -18,21 +18,19 @@ use md5::{Digest, Md5};
 // Compares a piece of the part with that of the source, and puts it into the digest. Gives how many bytes the part had there.
 fn match_piece<E: Store, V: Watch>(
     store: &mut E,
-    order: &Loaded,
+    piece: Piece<'_>,
     first: &mut [u8],
     second: &mut [u8],
-    wanted: usize,
     watch: &mut V,
     hasher: &mut Md5,
-    offset: u64,
 ) -> Result<usize, Outcome>
-    requires first { wanted ≤ length first.old }
-    requires second { wanted ≤ length second.old }
-    requires end { offset + wanted < 18446744073709551616 }
+    requires first { piece.wanted ≤ length first.old }
+    requires second { piece.wanted ≤ length second.old }
+    requires end { piece.offset + piece.wanted < 18446744073709551616 }
     ensures same { E.state store.new ≡ E.state store.old }
-    ensures matches { MatchesPiece order.now (E.state store.old) hasher.old hasher.new offset wanted result }
+    ensures matches { MatchesPiece piece.entry.order.now (E.state store.old) hasher.old hasher.new piece.entry.offset piece.entry.wanted result }
     ensures hashed { IfOk result (λ count. (message : List ℕ) → Holds hasher.old message → Holds hasher.new (message ++ take count second.new)) }
-    ensures script { (next : List ℕ → Script) → LeadsTo (matches_piece order.now offset wanted next)
+    ensures script { (next : List ℕ → Script) → LeadsTo (matches_piece piece.entry.order.now piece.entry.offset piece.entry.wanted next)
         (log_of (E.calls store.old) (V.answers watch.old)) (goes_on (λ count. next (take count second.new)) result)
         (log_of (E.calls store.new) (V.answers watch.new)) }
     ensures counted { Counted (E.faults store.old) (E.faults store.new) result }
@@ -41,16 +39,28 @@ fn match_piece<E: Store, V: Watch>(
     if !watch.wanted() {
         return Err(Outcome::Stopped);
     }
-    let Ok(held) = fill(store, order.source(), offset, first, wanted) else {
+    let Ok(held) = fill(
+        store,
+        piece.order.source(),
+        piece.offset,
+        first,
+        piece.wanted,
+    ) else {
         return Err(Outcome::StoreFailed);
     };
-    let Ok(kept) = fill(store, order.part(), offset, second, wanted) else {
+    let Ok(kept) = fill(
+        store,
+        piece.order.part(),
+        piece.offset,
+        second,
+        piece.wanted,
+    ) else {
         return Err(Outcome::StoreFailed);
     };
     hasher.update(&second[..kept]);
     match first_difference(&first[..held], &second[..kept]) {
         Some(at) => Err(Outcome::ReadBackDiffers {
-            at: offset + at as u64,
+            at: piece.offset + at as u64,
         }),
         None => Ok(kept),
     }
@@ -78,16 +88,12 @@ fn match_pieces<E: Store, V: Watch>(
     for piece in 0..pieces(size) {
         let offset = piece_start(piece, size);
         let wanted = piece_len(offset, size);
-        match_piece(
-            store,
+        let sought = Piece {
             order,
-            first,
-            second,
-            wanted,
-            watch,
-            &mut hasher,
             offset,
-        )?;
+            wanted,
+        };
+        match_piece(store, sought, first, second, watch, &mut hasher)?;
     }
     Ok(hasher.finalize())
 }

@@ -10,7 +10,7 @@ ghost use Rattle.fts_copy.specs.Watch.{Counted, Watched, pieces};
 
 use crate::Watch;
 use crate::order::Loaded;
-use crate::pieces::{PIECE_BYTES, piece_len, piece_start, pieces};
+use crate::pieces::{PIECE_BYTES, Piece, piece_len, piece_start, pieces};
 use crate::reading::fill;
 use fts_store::Store;
 use fts_tables::Outcome;
@@ -19,21 +19,20 @@ use md5::{Digest, Md5};
 // Puts a piece behind the part and into the digest. Gives how many bytes the source had there.
 fn put_piece<E: Store, V: Watch>(
     store: &mut E,
-    order: &Loaded,
+    piece: Piece<'_>,
     buffer: &mut [u8],
-    wanted: usize,
     watch: &mut V,
     hasher: &mut Md5,
-    offset: u64,
 ) -> Result<usize, Outcome>
-    requires fits { wanted ≤ length buffer.old }
-    requires end { offset + wanted < 18446744073709551616 }
+    requires fits { piece.wanted ≤ length buffer.old }
+    requires end { piece.offset + piece.wanted < 18446744073709551616 }
     ensures stays { Stays (E.state store.old) (E.state store.new) }
-    ensures within { IfOk result (λ count. count ≤ wanted) }
-    ensures puts { IsTold (E.state store.old) → PutsPiece order.now (E.state store.old) (E.state store.new) hasher.old hasher.new offset wanted result }
+    ensures within { IfOk result (λ count. count ≤ piece.entry.wanted) }
+    ensures puts { IsTold (E.state store.old) →
+        PutsPiece piece.entry.order.now (E.state store.old) (E.state store.new) hasher.old hasher.new piece.entry.offset piece.entry.wanted result }
     ensures broken { IsBroken result }
     ensures hashed { IfOk result (λ count. (message : List ℕ) → Holds hasher.old message → Holds hasher.new (message ++ take count buffer.new)) }
-    ensures script { (next : List ℕ → Script) → LeadsTo (writes_piece order.now offset wanted next)
+    ensures script { (next : List ℕ → Script) → LeadsTo (writes_piece piece.entry.order.now piece.entry.offset piece.entry.wanted next)
         (log_of (E.calls store.old) (V.answers watch.old)) (goes_on (λ count. next (take count buffer.new)) result)
         (log_of (E.calls store.new) (V.answers watch.new)) }
     ensures counted { Counted (E.faults store.old) (E.faults store.new) result }
@@ -42,10 +41,16 @@ fn put_piece<E: Store, V: Watch>(
     if !watch.wanted() {
         return Err(Outcome::Stopped);
     }
-    let Ok(count) = fill(store, order.source(), offset, buffer, wanted) else {
+    let Ok(count) = fill(
+        store,
+        piece.order.source(),
+        piece.offset,
+        buffer,
+        piece.wanted,
+    ) else {
         return Err(Outcome::StoreFailed);
     };
-    let Ok(()) = store.append(order.part(), &buffer[..count]) else {
+    let Ok(()) = store.append(piece.order.part(), &buffer[..count]) else {
         return Err(Outcome::StoreFailed);
     };
     hasher.update(&buffer[..count]);
@@ -74,7 +79,12 @@ fn put_pieces<E: Store, V: Watch>(
     for piece in 0..pieces(size) {
         let offset = piece_start(piece, size);
         let wanted = piece_len(offset, size);
-        let count = put_piece(store, order, buffer, wanted, watch, &mut hasher, offset)?;
+        let sought = Piece {
+            order,
+            offset,
+            wanted,
+        };
+        let count = put_piece(store, sought, buffer, watch, &mut hasher)?;
         if count < wanted {
             return Err(Outcome::SourceSize {
                 seen: offset + count as u64,

@@ -1,5 +1,5 @@
 -- What a map of files in memory holds: the files that it was given, and over them those that were made since.
-use Rattle.std.specs.Prelude.{◌≡◌, ℕ, Bool, Option, Some, None, option_map, List, Vec, string_bytes}
+use Rattle.std.specs.Prelude.{◌≡◌, ℕ, Bool, Option, Some, None, IsSome, option_map, List, Vec, string_bytes}
 use Rattle.std.specs.List.{find, position}
 use Rattle.std.specs.declared.alloc.Global.{Global}
 use Rattle.fts_tables.specs.declared.places.Place.{Place}
@@ -44,3 +44,7 @@ held_files held = files_over held.given held.made.items
 -- the n-th entry is the first one for this place
 abbrev pub IsEntryOf : List Entry → ℕ → Place → Type 0
 IsEntryOf made n place = position (is_entry_at place) made ≡ Some n
+
+-- a call has named this place before
+abbrev pub IsNamed : Held → Place → Type 0
+IsNamed held place = IsSome (position (is_entry_at place) held.made.items)

@@ -136,7 +136,7 @@ fn is_stable(stable: &[String], folder: &str) -> bool {
     stable.iter().any(|known| known.as_str() == folder)
 }
 
-// The folder is there. Where it wasn't, no folder is known to be stable any more.
+// The folder is there. Where only its own name was missing, that one isn't known to be stable any more; where one above it was, none is.
 fn open_folder<R: Files<File = File>>(
     rt: &R,
     stable: &mut Vec<String>,
@@ -144,8 +144,13 @@ fn open_folder<R: Files<File = File>>(
 ) -> io::Result<File> {
     match File::open(rt, folder) {
         Err(error) if error.kind() == io::ErrorKind::NotFound => {
-            stable.clear();
-            fs::create_dir_all(rt, folder)?;
+            match fs::create_dir(rt, folder) {
+                Ok(()) => stable.retain(|known| known.as_str() != folder),
+                Err(_) => {
+                    stable.clear();
+                    fs::create_dir_all(rt, folder)?;
+                }
+            }
             File::open(rt, folder)
         }
         answer => answer,
@@ -172,15 +177,19 @@ fn open_above<R: Files<File = File>>(
     Ok(())
 }
 
-// The folder's name, and those above it, are stable from now on.
-fn remember(alloc: Global, stable: &mut Vec<String>, folder: &str) -> io::Result<()> {
-    if is_stable(stable, folder) {
-        return Ok(());
+// The folder's name is stable from now on, and so is each above it, up to the root's own.
+fn remember(alloc: Global, root: &str, stable: &mut Vec<String>, folder: &str) -> io::Result<()> {
+    let mut below = folder;
+    for _ in 0..folder.len() {
+        if below.len() < root.len() || is_stable(stable, below) {
+            break;
+        }
+        if stable.len() >= MAX_STABLE_FOLDERS {
+            stable.clear();
+        }
+        stable.push(String::from_str(alloc, below)?)?;
+        below = folder_of(below);
     }
-    if stable.len() >= MAX_STABLE_FOLDERS {
-        stable.clear();
-    }
-    stable.push(String::from_str(alloc, folder)?)?;
     Ok(())
 }
 
@@ -393,7 +402,7 @@ impl<R: Files<File = File>> FolderStore<R> {
             fs::rename(&self.rt, old.as_str(), new.as_str())?;
         }
         sync_all(&folders)?;
-        remember(self.alloc, &mut self.stable, folder)
+        remember(self.alloc, self.root.as_str(), &mut self.stable, folder)
     }
 
     fn erase(&mut self, at: PlaceRef<'_>) -> io::Result<()>

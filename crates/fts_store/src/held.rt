@@ -1,7 +1,7 @@
 //! The files of a store in memory: those that it was given, and over them an entry for each place that a call has named since.
 //! Contracts see what is held at each place (`held_files`). A call takes its memory first: one that finds none changes no file.
 //! Only `MemoryStore` stands on it.
-ghost use Rattle.std.specs.Prelude.{◌≡◌, ◌<◌, ◌∷◌, ◌++◌, [], Some, None, IfOk, OnOk, OnErr, option_map, length};
+ghost use Rattle.std.specs.Prelude.{◌≡◌, ◌<◌, ◌∷◌, ◌++◌, [], Some, None, IsSome, IsOk, IfOk, OnOk, OnErr, option_map, length};
 ghost use Rattle.std.specs.List.{find, position};
 ghost use Rattle.fts_tables.specs.Places.{is_same_place};
 ghost use Rattle.fts_tables.specs.declared.places.Place.{Place};
@@ -120,6 +120,7 @@ fn own(
     ensures entry { IfOk result (λ n. IsEntryOf made.new.items n (place_at at.entry)) }
     ensures stay { (place : Place) (n : _) → IsEntryOf made.old.items n place → IsEntryOf made.new.items n place }
     ensures same { Same (files_over files.now made.new.items) (files_over files.now made.old.items) }
+    ensures named { IsSome (position (is_entry_at (place_at at.entry)) made.old.items) → IsOk result }
 {
     match entry_of(made, at) {
         Some(n) => Ok(n),
@@ -151,9 +152,9 @@ fn grow(alloc: Global, file: &mut Option<Vec<u8>>, bytes: &[u8]) -> Result<(), S
 }
 
 impl Held {
-    ghost use Rattle.std.specs.Prelude.{◌≡◌, ◌++◌, [], Some, None, OnOk, OnErr, option_map};
+    ghost use Rattle.std.specs.Prelude.{◌≡◌, ◌++◌, [], Some, None, IsOk, OnOk, OnErr, option_map};
     ghost use Rattle.fts_store.specs.Store.{Same, place_at, bytes_of, with_file, with_move};
-    ghost use Rattle.fts_store.specs.Held.{held_files, kept_file};
+    ghost use Rattle.fts_store.specs.Held.{held_files, kept_file, IsNamed};
 
     /// The bytes of the file at a place, where there is one.
     pub fn file(&self, at: PlaceRef<'_>) -> Option<&[u8]>
@@ -172,6 +173,7 @@ impl Held {
     pub fn put(&mut self, at: PlaceRef<'_>, file: Option<Vec<u8>>) -> Result<(), StoreFailed>
         ensures ok { OnOk result (Same (held_files self.new) (with_file (held_files self.old) (place_at at.entry) (kept_file file))) }
         ensures err { OnErr result (Same (held_files self.new) (held_files self.old)) }
+        ensures named { IsNamed self.old (place_at at.entry) → IsOk result }
     {
         let n = own(self.alloc, &self.given, &mut self.made, at)?;
         exchange(&mut self.made, n, file);
@@ -182,6 +184,7 @@ impl Held {
     pub fn create(&mut self, at: PlaceRef<'_>) -> Result<(), StoreFailed>
         ensures ok { OnOk result (Same (held_files self.new) (with_file (held_files self.old) (place_at at.entry) (Some []))) }
         ensures err { OnErr result (Same (held_files self.new) (held_files self.old)) }
+        ensures named { IsNamed self.old (place_at at.entry) → IsOk result }
     {
         self.put(at, Some(Vec::new(self.alloc)))
     }
@@ -203,6 +206,7 @@ impl Held {
     pub fn rename(&mut self, from: PlaceRef<'_>, to: PlaceRef<'_>) -> Result<(), StoreFailed>
         ensures ok { OnOk result (Same (held_files self.new) (with_move (held_files self.old) (place_at from.entry) (place_at to.entry))) }
         ensures err { OnErr result (Same (held_files self.new) (held_files self.old)) }
+        ensures named { IsNamed self.old (place_at from.entry) → IsNamed self.old (place_at to.entry) → IsOk result }
     {
         let source = own(self.alloc, &self.given, &mut self.made, from)?;
         let target = own(self.alloc, &self.given, &mut self.made, to)?;

@@ -135,6 +135,7 @@ impl Store for MemoryStore {
     ghost use Rattle.std.specs.Prelude.{◌≡◌, ◌≤◌, ◌++◌, [], length, Some, None, IsSome, IfOk, OnOk, OnErr};
     ghost use Rattle.fts_tables.specs.Counts.{CountsFaults};
     ghost use Rattle.fts_store.specs.Store.{IsFaithful, Stays, Reads, Same, SameBut, place_at, bytes_of, size_of, with_file, with_move};
+    ghost use Rattle.fts_store.specs.Held.{IsNamed};
     ghost use Rattle.fts_store.specs.Memory.{memory_state, memory_faults, FailsOnlyListed, Numbered, kept_bytes, next_append};
 
     ghost state = { memory_state };
@@ -177,6 +178,7 @@ impl Store for MemoryStore {
         ensures failed { OnErr result (Same (memory_state self.new).files (memory_state self.old).files) }
         ensures cause { CountsFaults (memory_faults self.old) (memory_faults self.new) result }
         ensures numbered { Numbered self.old self.new result }
+        ensures only { IsNamed self.old.held (place_at at.entry) → FailsOnlyListed self.old result }
     {
         self.begin()?;
         let answer = self.held.create(at);
@@ -209,6 +211,7 @@ impl Store for MemoryStore {
         ensures failed { OnErr result (Same (memory_state self.new).files (memory_state self.old).files) }
         ensures cause { CountsFaults (memory_faults self.old) (memory_faults self.new) result }
         ensures numbered { Numbered self.old self.new result }
+        ensures only { IsNamed self.old.held (place_at from.entry) → IsNamed self.old.held (place_at to.entry) → FailsOnlyListed self.old result }
     {
         self.begin()?;
         let answer = self.held.rename(from, to);
@@ -221,6 +224,7 @@ impl Store for MemoryStore {
         ensures failed { OnErr result (Same (memory_state self.new).files (memory_state self.old).files) }
         ensures cause { CountsFaults (memory_faults self.old) (memory_faults self.new) result }
         ensures numbered { Numbered self.old self.new result }
+        ensures only { IsNamed self.old.held (place_at at.entry) → FailsOnlyListed self.old result }
     {
         self.begin()?;
         let answer = self.held.put(at, None);

@@ -72,6 +72,41 @@ fn listed_calls_fail_and_listed_appends_lose_a_byte(rt: HostRuntime) -> Result<(
     Ok(())
 }
 
+// Whether each of five calls is done.
+fn is_round_done(store: &mut MemoryStore) -> bool {
+    store.create(at("part")).is_ok()
+        && store.append(at("part"), b"ab").is_ok()
+        && store.rename(at("part"), at("file")).is_ok()
+        && store.remove(at("other")).is_ok()
+        && store.size(at("file")) == Ok(Some(2))
+}
+
+// Whether so many rounds are done after so many looks.
+fn are_rounds_done(store: &mut MemoryStore, looks: u32, rounds: u32) -> bool {
+    for _ in 0..looks {
+        if store.size(at("data/f1")) != Ok(Some(3)) {
+            return false;
+        }
+    }
+    for _ in 0..rounds {
+        if !is_round_done(store) {
+            return false;
+        }
+    }
+    true
+}
+
+#[test]
+fn calls_that_no_number_lists_are_done(rt: HostRuntime) -> Result<(), Fail> {
+    let alloc = rt.alloc();
+    // so that each call has each number up to 20 once
+    for looks in [0, 1, 2, 3, 4] {
+        let mut store = MemoryStore::new(alloc, given(alloc)?, Vec::new(alloc), Vec::new(alloc));
+        assert!(rt; are_rounds_done(&mut store, looks, 4), "{looks} looks");
+    }
+    Ok(())
+}
+
 #[test]
 fn a_folder_keeps_what_is_moved_into_it(rt: HostRuntime) -> Result<(), Fail> {
     let alloc = rt.alloc();
