@@ -132,8 +132,11 @@ module _ {S : Type 0} (Answers : S → RequestData → Reply → S → Type 0) (
       middle = here;
       answered = so_far.served;
       unwritten = answers;
-      ends = (refl, subst (AreCutShort held output2) (responses_with room reply)
-          (cut_more held output output2 (responses_of so_far.exchanges) (response_after n reply) e so_far.written sent));
+      ends = (
+        refl,
+        subst (AreCutShort held output2) (responses_with room reply)
+            (cut_more held output output2 (responses_of so_far.exchanges) (response_after n reply) e so_far.written sent),
+      );
     }
 
     -- an end behind the requests that were answered

@@ -44,11 +44,7 @@ pub fn answer<D: Disk>(
 }
 
 /// The job of a body under the settings in force.
-fn read_document<D: Disk>(
-    alloc: Global,
-    keep: &Keep<D>,
-    body: &[u8],
-) -> Result<NewJob, DocFault>
+fn read_document<D: Disk>(alloc: Global, keep: &Keep<D>, body: &[u8]) -> Result<NewJob, DocFault>
     ensures document { (result ≡ document_of keep.now.tables body.now) ⊎ (result ≡ Err DocFault.Memory) }
     ensures kept { IsKeep D.state keep.now }
 {
@@ -59,13 +55,7 @@ fn read_document<D: Disk>(
 }
 
 /// Answers the submission of a job.
-fn submit<D: Disk>(
-    alloc: Global,
-    keep: &mut Keep<D>,
-    writer: u32,
-    now: u64,
-    job: NewJob,
-) -> Reply
+fn submit<D: Disk>(alloc: Global, keep: &mut Keep<D>, writer: u32, now: u64, job: NewJob) -> Reply
     ensures says { Says D.state D.faults keep.old keep.new (said_to keep.old.tables keep.old.used writer now (Ok job)) result }
     ensures grows { Grows D.state D.faults writer keep.old keep.new }
     ensures images { KeepsImagesSinceAny D.state keep.old keep.new }

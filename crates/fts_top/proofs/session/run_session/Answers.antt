@@ -88,11 +88,11 @@ loop-done-preserved g c =
     c.request.ensures c.answer-reply.ensures.answers in
     record {
       so_far = one_more g.D.Disk.state g.D.Disk.faults c.args.keep.now (g.C.Clock.moments c.args.clock.now) c.args.room.now.kept
-    (reading_of (g.S.Source.left c.args.input.now) (g.S.Source.reads c.args.input.now)) (g.K.Sink.held c.args.output.now)
+          (reading_of (g.S.Source.left c.args.input.now) (g.S.Source.reads c.args.input.now)) (g.K.Sink.held c.args.output.now)
           c.loop-done.keep (g.C.Clock.moments c.loop-done.clock) c.loop-done.done c.loop-done.room.kept
-    (reading_of (g.S.Source.left c.loop-done.input) (g.S.Source.reads c.loop-done.input)) (g.K.Sink.held c.loop-done.output) c.loop-done.invariant.so_far
+          (reading_of (g.S.Source.left c.loop-done.input) (g.S.Source.reads c.loop-done.input)) (g.K.Sink.held c.loop-done.output) c.loop-done.invariant.so_far
           c.answer-reply.new.keep input (g.K.Sink.held c.write_response.new.sink) (g.C.Clock.moments c.now-now.new.self) c.load.new.self c.now-now.result c.answer-reply.result
-    load c.now-now.ensures answered c.answer-reply.ensures.grows c.answer-reply.ensures.images c.answer-reply.ensures.doubt
+          load c.now-now.ensures answered c.answer-reply.ensures.grows c.answer-reply.ensures.images c.answer-reply.ensures.doubt
           c.in-Ok.ensures.sent;
       input = omega (arith, c.loop-done.invariant.input, c.load.ensures.faults);
       output = omega (arith, c.loop-done.invariant.output, c.write_response.ensures.cause.keeps);
