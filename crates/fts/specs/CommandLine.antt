@@ -1,14 +1,24 @@
--- Which words of a command line are the command's, by the stand that it names, and which status the process ends with.
-use Rattle.std.specs.Prelude.{ℕ, if◌then◌else◌, List, [], ◌∷◌, codes, bytes_eq, string_bytes, String, Result, Ok, Err}
+-- Which stand a command line names, which of its words are the command's, and which status the process ends with.
+use Rattle.std.specs.Prelude.{ℕ, List, [], ◌∷◌, codes, string_bytes, String, Result, Ok, Err}
 use Rattle.std.specs.declared.alloc.Global.{Global}
 use Rattle.fts_tables.specs.declared.names.Memory.{Memory}
-use Rattle.fts_top.specs.declared.top.Ending.{Ending}
+use Rattle.fts_top.specs.declared.tally.Ending.{Ending}
 
--- the words behind the program's name and the stand `-`; of another stand, and where there is none, no words
+-- the stand in memory
+abbrev pub in_memory : List ℕ
+in_memory = codes "-"
+
+-- the word behind the program's name; where there is none, the stand in memory
+abbrev pub stand_of : List (String Global) → List ℕ
+stand_of [] = in_memory
+stand_of (program ∷ []) = in_memory
+stand_of (program ∷ stand ∷ words) = string_bytes stand
+
+-- the words behind the stand
 abbrev pub words_of : List (String Global) → List (String Global)
 words_of [] = []
 words_of (program ∷ []) = []
-words_of (program ∷ stand ∷ words) = if bytes_eq (string_bytes stand) (codes "-") then words else []
+words_of (program ∷ stand ∷ words) = words
 
 -- the status of the process: that of its run, and 1 where there was no memory to begin one
 abbrev pub exit_status_of : Result Ending Memory → ℕ

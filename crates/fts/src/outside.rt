@@ -1,6 +1,13 @@
-//! The real clock, as the service sees one. It tells no moments, and never fails.
-//! The streams are `StdSource` and `StdSink` of the wire, over the system's own.
+//! The real clock and the settings' text of a folder, as the service sees them. They tell nothing; the clock never fails.
+//! The streams are `StdSource` and `StdSink` of the wire, over the system's own, and the disk is `FileDisk`.
+ghost use Rattle.std.specs.Prelude.{◌≡◌, ◌≤◌, length, None, IfOk, IsErr};
+ghost use Rattle.fts_tables.specs.Counts.{CountsFaults};
+ghost use Rattle.fts_wire.specs.Outside.{Reads, raised};
+
 use fts_tables::Clock;
+use fts_wire::{Source, SourceFailed};
+use std::fs::{File, Files};
+use std::io::Read;
 use std::rt::Clock as SystemTimes;
 use std::time::{SystemTime, UNIX_EPOCH};
 
@@ -33,4 +40,56 @@ impl<R: SystemTimes> Clock for SystemClock<R> {
     }
 
     fn rest(&mut self) {}
+}
+
+/// The text of a file. One that could not be opened fails at each read.
+#[derive(Drop)]
+pub struct FileSource {
+    file: Option<File>,
+    reads: u64,
+    faults: u64,
+}
+
+impl FileSource {
+    /// The text of the file at a path.
+    pub fn open<R: Files<File = File>>(rt: &R, path: &str) -> FileSource {
+        FileSource {
+            file: File::open(rt, path).ok(),
+            reads: 0,
+            faults: 0,
+        }
+    }
+}
+
+impl Source for FileSource {
+    ghost use Rattle.std.specs.Prelude.{None};
+
+    ghost left = { λ _. None };
+
+    ghost faults = { λ s. s.faults };
+
+    ghost reads = { λ s. s.reads };
+
+    ghost beside = { λ _. record { bytes = None; faults = 0 } };
+
+    fn read(&mut self, into: &mut [u8]) -> Result<usize, SourceFailed>
+        ensures bound { IfOk result (λ n. n ≤ length into.new) }
+        ensures read { Reads None None into.new result }
+        ensures counted { self.new.reads ≡ raised self.old.reads 1 }
+        ensures cause { CountsFaults self.old.faults self.new.faults result }
+        ensures shut { self.old.file ≡ None → IsErr result }
+    {
+        self.reads = self.reads.saturating_add(1);
+        let taken = match &mut self.file {
+            Some(file) => file.read(into).ok(),
+            None => None,
+        };
+        match taken {
+            Some(n) => Ok(n),
+            None => {
+                self.faults = self.faults.saturating_add(1);
+                Err(SourceFailed)
+            }
+        }
+    }
 }

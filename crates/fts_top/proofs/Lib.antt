@@ -1,6 +1,9 @@
 mod Submits
 pub mod Phrases
+pub mod Keeping
+pub mod Saying
 mod Growth
 pub mod Turns
+pub mod Serving
 mod Started
 mod Settled

@@ -1,16 +1,20 @@
--- Each answer is one that a response can be written of: its status has a phrase, and it is no refusal of a method.
-use Rattle.std.proofs.Common.{inl, inr, refl, ℕ, List, Result, Ok, Err, sym, subst}
+-- Each answer is one that a response can be written of: its status has a phrase, and it is no refusal of a method. None says that it isn't built.
+use Rattle.std.proofs.Common.{inl, inr, refl, ◌≢◌, ℕ, Bool, true, false, if◌then◌else◌, Result, Ok, Err, sym, subst}
 use Rattle.std.specs.Prelude.{IsTrue}
 use Rattle.fts_tables.specs.JobData.{JobData}
 use Rattle.fts_tables.specs.Tables.{Tables}
-use Rattle.fts_tables.specs.Step.{Outcomes, step}
-use Rattle.fts_tables.specs.declared.commands.Command.TheVariants.{Submit}
+use Rattle.fts_tables.specs.declared.commands.Entry.{Entry}
 use Rattle.fts_tables.specs.declared.commands.Refusal.{Refusal}
 use Rattle.fts_tables.specs.declared.commands.Refusal.TheVariants.{NoJob, NoFile, Duplicate, JobsFull, RowsFull, Idle, Stale, Unchanged}
+use Rattle.fts_disk.specs.Disk.{DiskState}
+use Rattle.fts_keep.specs.Keeps.{KeepData}
+use Rattle.fts_keep.specs.Applied.{Applies, applied_to}
+use Rattle.fts_keep.specs.declared.fault.KeepFault.TheVariants.{Rule, DiskFailed, JournalFull, Damaged, Memory}
 use Rattle.fts_wire.specs.Response.{has_phrase, has_methods}
+use Rattle.fts_wire.specs.RequestData.{RequestData}
 use Rattle.fts_wire.specs.declared.response.Reply.{Reply}
 use Rattle.fts_jobdoc.specs.declared.fault.DocFault.{DocFault}
-use Rattle.fts_top.specs.Replies.{reply_to_refusal, reply_by, id_of_new, reply_to_document, document_of, no_memory, not_built, IsOrNoMemory, Answers}
+use Rattle.fts_top.specs.Replies.{reply_to_refusal, id_of_new, document_of, no_memory, not_built, disk_failed, submission, IsOrNoMemory, Way, AsDefined, WithoutMemory, WithoutDisk, Said, said, said_by, said_to, said_so, Answers}
 
 -- a response can be written of a reply
 pub record CanBeSent (reply : Reply) : Type 0 where
@@ -29,29 +33,39 @@ sent_refusal id (Stale s n) = record { phrase = refl; methods = refl }
 sent_refusal id (Unchanged n) = record { phrase = refl; methods = refl }
 
 -- of the reply to what comes of a submission
-sent_by : (id : ℕ) (outcome : Outcomes) → CanBeSent (reply_by id outcome)
-sent_by id (Ok done) = record { phrase = refl; methods = refl }
-sent_by id (Err refusal) = sent_refusal id refusal
+sent_by : (id : ℕ) (entry : Entry) (came : Applies) → CanBeSent (said_by id entry came).reply
+sent_by id entry (Ok done) = record { phrase = refl; methods = refl }
+sent_by id entry (Err (Rule refusal)) = sent_refusal id refusal
+sent_by id entry (Err (JournalFull used)) = record { phrase = refl; methods = refl }
+sent_by id entry (Err DiskFailed) = record { phrase = refl; methods = refl }
+sent_by id entry (Err Memory) = record { phrase = refl; methods = refl }
+sent_by id entry (Err (Damaged offset)) = record { phrase = refl; methods = refl }
 
 -- of the reply to a document
-sent_to : (tables : Tables) (now : ℕ) (document : Result JobData DocFault) → CanBeSent (reply_to_document tables now document)
-sent_to tables now (Err fault) = record { phrase = refl; methods = refl }
-sent_to tables now (Ok job) = sent_by (id_of_new tables job) (step tables (Submit now job))
+sent_to : (tables : Tables) (used writer now : ℕ) (document : Result JobData DocFault) → CanBeSent (said_to tables used writer now document).reply
+sent_to tables used writer now (Err fault) = record { phrase = refl; methods = refl }
+sent_to tables used writer now (Ok job) =
+    sent_by (id_of_new tables job) (submission writer now job) (applied_to tables used (submission writer now job))
 
--- of want of memory
+-- of what is said, in whichever way
+sent_so : (tables : Tables) (used writer now : ℕ) (document : Result JobData DocFault) (way : Way) → CanBeSent (said_so way (said_to tables used writer now document)).reply
+sent_so tables used writer now document AsDefined = sent_to tables used writer now document
+sent_so tables used writer now document WithoutMemory = record { phrase = refl; methods = refl }
+sent_so tables used writer now document WithoutDisk = record { phrase = refl; methods = refl }
+
+-- of an answer
+pub sent_of_answer : {D : Type 0} (state : D → DiskState) (faults : D → ℕ) (old new : KeepData D) (writer : ℕ) (request : RequestData) (now : ℕ) (reply : Reply)
+    → Answers state faults old new writer request now reply → CanBeSent reply
+sent_of_answer state faults old new writer request now reply answers =
+    subst CanBeSent (sym answers.replies) (sent_so old.tables old.used writer now (document_of old.tables request.body) answers.way)
+
+-- of what is not built
 sent_no_memory : CanBeSent no_memory
 sent_no_memory = record { phrase = refl; methods = refl }
 
--- of what is not built
 sent_not_built : CanBeSent not_built
 sent_not_built = record { phrase = refl; methods = refl }
 
--- of an answer
-pub sent_of_answer : (tables : Tables) (now : ℕ) (body : List ℕ) (reply : Reply) (after : Tables) → Answers tables now body reply after → CanBeSent reply
-sent_of_answer tables now body reply after (inl h) = subst CanBeSent (sym h.0) sent_no_memory
-sent_of_answer tables now body reply after (inr h) = subst CanBeSent (sym h.0) (sent_to tables now (document_of tables body))
-
--- of what is not built
 pub sent_of_refusal : (reply : Reply) → IsOrNoMemory reply not_built → CanBeSent reply
 sent_of_refusal reply (inl h) = subst CanBeSent (sym h) sent_not_built
 sent_of_refusal reply (inr h) = subst CanBeSent (sym h) sent_no_memory

@@ -9,9 +9,9 @@ use Rattle.fts_wire.specs.declared.whole_input.ReadAllFault.TheVariants.{TooLong
 use Rattle.fts_config.specs.Settings.{settings_of}
 use Rattle.fts_config.specs.declared.fault.SettingsFault.{SettingsFault}
 use Rattle.fts_config.specs.declared.fault.SettingsFault.TheVariants.{TooLong, Memory}
-use Rattle.fts_top.specs.Run.{AreRead, IsBroken, IsStop, EndsBy}
+use Rattle.fts_top.specs.Runs.{AreRead, IsBroken, HasNoSettings, EndsBy}
 use Rattle.fts_top.specs.declared.ends.RunEnd.{RunEnd}
-use Rattle.fts_top.specs.declared.ends.RunEnd.TheVariants.{NoMemory, NoCommand, SettingsUnread, SettingsRule, Session as SessionRan}
+use Rattle.fts_top.specs.declared.ends.RunEnd.TheVariants.{NoMemory, NoCommand, SettingsUnread, SettingsRule, DiskFailed, Damaged, JournalFull, Session}
 
 -- a text that is too long
 too_long : (text : List ℕ) → MAX_SETTINGS_BYTES < length text → settings_of text ≡ Err TooLong
@@ -25,12 +25,12 @@ too_long_left (Some text) None h = absurd h
 too_long_left (Some text) (Some rest) h = too_long text h.0
 
 -- a fault that the text has stops the run
-pub stops_by : (text : Option (List ℕ)) (fault : SettingsFault) (end : RunEnd) → (fault ≢ Memory → IfSome text (λ bytes. settings_of bytes ≡ Err fault)) → EndsBy fault end → IsStop text end
-stops_by text fault end told (inl h) = subst (IsStop text) (sym h.1) tt
-stops_by text fault end told (inr h) = subst (IsStop text) (sym h.1) (record { fault = fault; number = refl; told = told h.0 })
+pub stops_by : (text : Option (List ℕ)) (fault : SettingsFault) (end : RunEnd) → (fault ≢ Memory → IfSome text (λ bytes. settings_of bytes ≡ Err fault)) → EndsBy fault end → HasNoSettings text end
+stops_by text fault end told (inl h) = subst (HasNoSettings text) (sym h.1) tt
+stops_by text fault end told (inr h) = subst (HasNoSettings text) (sym h.1) (record { fault = fault; real = h.0; number = refl; told = told h.0 })
 
 -- too many bytes stop the run
-pub stops_too_long : (left after : Option (List ℕ)) (end : RunEnd) → IsRefused MAX_SETTINGS_BYTES left after TooManyBytes → EndsBy TooLong end → IsStop left end
+pub stops_too_long : (left after : Option (List ℕ)) (end : RunEnd) → IsRefused MAX_SETTINGS_BYTES left after TooManyBytes → EndsBy TooLong end → HasNoSettings left end
 stops_too_long left after end h by = stops_by left TooLong end (λ other. too_long_left left after h) by
 
 -- what was read is what the text gives, or memory was wanting
@@ -46,14 +46,17 @@ read_left (Some text) (Some rest) bytes settings all e = subst (λ (xs : List �
 
 -- and so is a rule that they break
 broken_left : (left after : Option (List ℕ)) (bytes : List ℕ) (rule : ℕ) → IsAll MAX_SETTINGS_BYTES left after bytes → IsBroken (Some bytes) rule → IsBroken left rule
-broken_left None after bytes rule all h = record { fault = h.fault; number = h.number; told = tt }
+broken_left None after bytes rule all h = record { fault = h.fault; real = h.real; number = h.number; told = tt }
 broken_left (Some text) None bytes rule all h = absurd all
-broken_left (Some text) (Some rest) bytes rule all h = record { fault = h.fault; number = h.number; told = subst (λ (xs : List ℕ). settings_of xs ≡ Err h.fault) all.0 h.told }
+broken_left (Some text) (Some rest) bytes rule all h = record { fault = h.fault; real = h.real; number = h.number; told = subst (λ (xs : List ℕ). settings_of xs ≡ Err h.fault) all.0 h.told }
 
 -- the end that the bytes make is one that the text makes
-pub stop_left : (left after : Option (List ℕ)) (bytes : List ℕ) (end : RunEnd) → IsAll MAX_SETTINGS_BYTES left after bytes → IsStop (Some bytes) end → IsStop left end
+pub stop_left : (left after : Option (List ℕ)) (bytes : List ℕ) (end : RunEnd) → IsAll MAX_SETTINGS_BYTES left after bytes → HasNoSettings (Some bytes) end → HasNoSettings left end
 stop_left left after bytes NoMemory all h = tt
-stop_left left after bytes NoCommand all h = tt
 stop_left left after bytes SettingsUnread all h = tt
 stop_left left after bytes (SettingsRule rule) all h = broken_left left after bytes rule all h
-stop_left left after bytes (SessionRan end) all h = absurd h
+stop_left left after bytes NoCommand all h = absurd h
+stop_left left after bytes DiskFailed all h = absurd h
+stop_left left after bytes (Damaged offset) all h = absurd h
+stop_left left after bytes (JournalFull used) all h = absurd h
+stop_left left after bytes (Session end) all h = absurd h

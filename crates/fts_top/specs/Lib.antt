@@ -1,4 +1,9 @@
 pub mod Replies
-pub mod Session
-pub mod Run
+pub mod Connections
+pub mod Walks
+pub mod Tallies
+pub mod Sessions
+pub mod Words
+pub mod Ends
 pub mod Notes
+pub mod Runs

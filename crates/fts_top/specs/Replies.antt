@@ -1,18 +1,24 @@
--- What a request is answered over tables, and the entry that it adds to their list. Bodies are JSON, compact, with keys in byte order.
-use Rattle.std.specs.Prelude.{◌≡◌, ◌⊎◌, ℕ, List, [], ◌∷◌, ◌++◌, codes, decimal, unwrap_or, Result, Ok, Err}
+-- What a request is answered over tables, and the entry that it adds to their list: today each request is a submission.
+-- The checks come in this order: the document's rules, then what the machine refuses, then the journal's limit.
+-- Bodies are JSON, compact, with keys in byte order.
+use Rattle.std.specs.Prelude.{◌≡◌, ◌≢◌, ◌⊎◌, ℕ, List, [], ◌∷◌, ◌++◌, codes, decimal, unwrap_or, Option, None, Result, Ok, Err}
 use Rattle.std.specs.Int.{to_be_bytes, w128}
 use Rattle.uuid.specs.Text.{hyphenated_text, lower}
 use Rattle.fts_tables.specs.SettingsData.{SettingsData}
 use Rattle.fts_tables.specs.JobData.{JobData}
 use Rattle.fts_tables.specs.Tables.{Tables}
 use Rattle.fts_tables.specs.Moves.{job_of_new}
-use Rattle.fts_tables.specs.Step.{Outcomes, step}
+use Rattle.fts_tables.specs.Counts.{Rose}
 use Rattle.fts_tables.specs.History.{tables_from}
 use Rattle.fts_tables.specs.declared.commands.Entry.{Entry}
-use Rattle.fts_tables.specs.declared.commands.Command.{Command}
 use Rattle.fts_tables.specs.declared.commands.Command.TheVariants.{Submit}
 use Rattle.fts_tables.specs.declared.commands.Refusal.{Refusal}
 use Rattle.fts_tables.specs.declared.commands.Refusal.TheVariants.{NoJob, NoFile, Duplicate, JobsFull, RowsFull, Idle, Stale, Unchanged}
+use Rattle.fts_disk.specs.Disk.{DiskState, IsTold}
+use Rattle.fts_keep.specs.Keeps.{KeepData, used_after}
+use Rattle.fts_keep.specs.Applied.{Applies, applied_to, entry_by}
+use Rattle.fts_keep.specs.declared.fault.KeepFault.TheVariants.{Rule, DiskFailed, JournalFull, Damaged, Memory}
+use Rattle.fts_wire.specs.RequestData.{RequestData}
 use Rattle.fts_wire.specs.declared.response.Allow.TheVariants.{None as NoAllow}
 use Rattle.fts_wire.specs.declared.response.Reply.{Reply}
 use Rattle.fts_jobdoc.specs.Faults.{rule_of, message_of}
@@ -64,6 +70,14 @@ jobs_full = refusal_of (codes "jobs full") 37 507
 abbrev pub rows_full : Reply
 rows_full = refusal_of (codes "rows full") 36 507
 
+-- the command would not fit the journal
+abbrev pub journal_full : Reply
+journal_full = refusal_of (codes "journal full") 38 507
+
+-- a call of the disk failed
+abbrev pub disk_failed : Reply
+disk_failed = refusal_of (codes "disk failed") 35 503
+
 -- want of memory: no body
 abbrev pub no_memory : Reply
 no_memory = record { status = 500; allow = NoAllow; body = [] }
@@ -90,29 +104,9 @@ RefusesSubmission Idle = ⊥
 RefusesSubmission (Stale state attempt) = ⊥
 RefusesSubmission (Unchanged job) = ⊥
 
--- the reply to what comes of a submission for a job of this id
-abbrev pub reply_by : ℕ → Outcomes → Reply
-reply_by id (Ok done) = accepted id
-reply_by id (Err refusal) = reply_to_refusal id refusal
-
 -- the id that the machine gives a new job: the one that it asks for, or the standard one of the next number
 abbrev pub id_of_new : Tables → JobData → ℕ
 id_of_new tables job = (job_of_new tables tables.moment job).id
-
--- the entry of a command, where the machine accepts it
-abbrev pub entries_by : Outcomes → Command → List Entry
-entries_by (Ok done) command = record { writer = 0; command = command } ∷ []
-entries_by (Err refusal) command = []
-
--- the reply to a document that was read, over tables at a moment
-abbrev pub reply_to_document : Tables → ℕ → Result JobData DocFault → Reply
-reply_to_document tables now (Err fault) = bad_document fault
-reply_to_document tables now (Ok job) = reply_by (id_of_new tables job) (step tables (Submit now job))
-
--- the entry that a document adds, where it is a submission that the machine accepts
-abbrev pub entries_of_document : Tables → ℕ → Result JobData DocFault → List Entry
-entries_of_document tables now (Err fault) = []
-entries_of_document tables now (Ok job) = entries_by (step tables (Submit now job)) (Submit now job)
 
 -- settings that list nothing; they stand for those of tables that were never restarted
 abbrev pub no_settings : SettingsData
@@ -126,24 +120,82 @@ settings_in tables = unwrap_or tables.settings no_settings
 abbrev pub document_of : Tables → List ℕ → Result JobData DocFault
 document_of tables body = job_of body (settings_in tables)
 
--- the reply to a request with this body, over tables at a moment
-abbrev pub reply_to : Tables → ℕ → List ℕ → Reply
-reply_to tables now body = reply_to_document tables now (document_of tables body)
+-- what is said to a request: the reply, and the entry that it adds, one at most
+pub record Said : Type 0 where
+  pub reply : Reply
+  pub added : List Entry
 
--- the entry that a request adds
-abbrev pub entries_of : Tables → ℕ → List ℕ → List Entry
-entries_of tables now body = entries_of_document tables now (document_of tables body)
+-- a reply that adds nothing
+abbrev pub said_only : Reply → Said
+said_only reply = record { reply = reply; added = [] }
+
+-- what is said to a submission for a job of this id, by what its entry came to
+abbrev pub said_by : ℕ → Entry → Applies → Said
+said_by id entry (Ok done) = record { reply = accepted id; added = entry ∷ [] }
+said_by id entry (Err (Rule refusal)) = said_only (reply_to_refusal id refusal)
+said_by id entry (Err (JournalFull used)) = said_only journal_full
+said_by id entry (Err DiskFailed) = said_only disk_failed
+said_by id entry (Err Memory) = said_only no_memory
+-- a command never finds a journal damaged
+said_by id entry (Err (Damaged offset)) = said_only no_memory
+
+-- the entry of a submission
+abbrev pub submission : ℕ → ℕ → JobData → Entry
+submission writer now job = entry_by writer (Submit now job)
+
+-- what is said to a document that was read
+abbrev pub said_to : Tables → ℕ → ℕ → ℕ → Result JobData DocFault → Said
+said_to tables used writer now (Err fault) = said_only (bad_document fault)
+said_to tables used writer now (Ok job) =
+    said_by (id_of_new tables job) (submission writer now job) (applied_to tables used (submission writer now job))
+
+-- what is said to a request over tables, with so many bytes of the journal used
+abbrev pub said : Tables → ℕ → ℕ → RequestData → ℕ → Said
+said tables used writer request now = said_to tables used writer now (document_of tables request.body)
+
+-- how an answer came about: as it is defined, or there was no memory, or the disk failed
+pub data Way : Type 0 where
+  AsDefined : Way
+  WithoutMemory : Way
+  WithoutDisk : Way
+
+-- what is said then
+abbrev pub said_so : Way → Said → Said
+said_so AsDefined said = said
+said_so WithoutMemory said = said_only no_memory
+said_so WithoutDisk said = said_only disk_failed
+
+-- the disk's count rose where the disk is the cause
+abbrev pub CausedBy : Way → ℕ → ℕ → Type 0
+CausedBy AsDefined old new = Unit {0}
+CausedBy WithoutMemory old new = Unit {0}
+CausedBy WithoutDisk old new = Rose old new
+
+-- the disk is the cause only where the reply would have come with an entry
+abbrev pub IsInsteadOf : Way → Said → Type 0
+IsInsteadOf AsDefined said = Unit {0}
+IsInsteadOf WithoutMemory said = Unit {0}
+IsInsteadOf WithoutDisk said = said.added ≢ []
+
+-- what saying this did to a keep
+pub record Says {D : Type 0} (state : D → DiskState) (faults : D → ℕ) (old new : KeepData D) (said : Said) (reply : Reply) : Type 0 where
+  pub way : Way
+  pub cause : CausedBy way (faults old.disk) (faults new.disk)
+  pub instead : IsInsteadOf way said
+  pub replies : reply ≡ (said_so way said).reply
+  pub tables : new.tables ≡ tables_from old.tables (said_so way said).added
+  pub used : new.used ≡ used_after old.used (said_so way said).added
+  pub listed : IsTold (state old.disk) → new.entries ≡ old.entries ++ (said_so way said).added
+
+-- what answering a request did to a keep
+abbrev pub Answers : {D : Type 0} → (D → DiskState) → (D → ℕ) → KeepData D → KeepData D → ℕ → RequestData → ℕ → Reply → Type 0
+Answers state faults old new writer request now reply = Says state faults old new (said old.tables old.used writer request now) reply
+
+-- an entry is in doubt only where it was before, or where the disk's count rose
+abbrev pub DoubtHasCause : {D : Type 0} → (D → DiskState) → (D → ℕ) → KeepData D → KeepData D → Type 0
+DoubtHasCause state faults old new =
+    IsTold (state old.disk) → (new.doubt ≡ None) ⊎ ((new.doubt ≡ old.doubt) ⊎ Rose (faults old.disk) (faults new.disk))
 
 -- this reply, or want of memory in its place
 abbrev pub IsOrNoMemory : Reply → Reply → Type 0
 IsOrNoMemory reply expected = (reply ≡ expected) ⊎ (reply ≡ no_memory)
-
--- what answering a document did: its reply and its entry, or want of memory and nothing
-abbrev pub AnswersDocument : Tables → ℕ → Result JobData DocFault → Reply → Tables → Type 0
-AnswersDocument tables now document reply after =
-    ((reply ≡ no_memory) × (after ≡ tables))
-    ⊎ ((reply ≡ reply_to_document tables now document) × (after ≡ tables_from tables (entries_of_document tables now document)))
-
--- the same of a request with this body
-abbrev pub Answers : Tables → ℕ → List ℕ → Reply → Tables → Type 0
-Answers tables now body reply after = AnswersDocument tables now (document_of tables body) reply after

@@ -1,16 +1,19 @@
-//! How a session and a run end. Each end has its exit status (`specs/Run.antt`) and the line that it notes (`specs/Notes.antt`).
+//! How a connection and a run end. Each end has its exit status (`specs/Ends.antt`) and the line that it notes (`specs/Notes.antt`).
 ghost use Rattle.std.specs.Prelude.{◌≡◌};
-ghost use Rattle.fts_top.specs.Run.{session_status_of, status_of};
+ghost use Rattle.fts_top.specs.Ends.{line_status, status_of};
+ghost use Rattle.fts_top.specs.Runs.{start_end};
 
-/// How a session ended.
+use fts_keep::KeepFault;
+
+/// How a connection ended.
 #[derive(Clone, Copy, Debug, PartialEq, Eq)]
-pub enum SessionEnd {
+pub enum LineEnd {
     /// The input ended between requests.
     Closed,
+    /// What came was refused with this status.
+    Refused { status: u16 },
     /// The input ended inside a request.
     EndsInside,
-    /// What came is no request that can be answered. It was refused.
-    Refused,
     /// As many requests were answered as a connection may have.
     Many,
     /// A read failed.
@@ -30,22 +33,28 @@ pub enum RunEnd {
     SettingsUnread,
     /// The settings break the rule of this number.
     SettingsRule { rule: u32 },
-    /// Requests were answered, until the session ended so.
-    Session { end: SessionEnd },
+    /// The disk failed at the opening.
+    DiskFailed,
+    /// The journal is damaged at this offset, in bytes.
+    Damaged { offset: u64 },
+    /// The Restart didn't fit the journal behind so many bytes.
+    JournalFull { used: u64 },
+    /// Requests were answered, until the connection ended so.
+    Session { end: LineEnd },
 }
 
-impl SessionEnd {
+impl LineEnd {
     /// The exit status.
     fn status(self) -> u8
-        ensures { result ≡ session_status_of self }
+        ensures { result ≡ line_status self }
     {
         match self {
-            SessionEnd::Closed => 0,
-            SessionEnd::SourceFailed => 5,
-            SessionEnd::SinkFailed => 6,
-            SessionEnd::EndsInside => 10,
-            SessionEnd::Refused => 12,
-            SessionEnd::Many => 14,
+            LineEnd::Closed => 0,
+            LineEnd::SourceFailed => 5,
+            LineEnd::SinkFailed => 6,
+            LineEnd::EndsInside => 10,
+            LineEnd::Refused { status: _ } => 12,
+            LineEnd::Many => 14,
         }
     }
 }
@@ -59,8 +68,23 @@ impl RunEnd {
             RunEnd::NoMemory => 1,
             RunEnd::NoCommand => 2,
             RunEnd::SettingsRule { rule: _ } => 3,
+            RunEnd::DiskFailed => 4,
+            RunEnd::Damaged { offset: _ } => 7,
             RunEnd::SettingsUnread => 8,
+            RunEnd::JournalFull { used: _ } => 11,
             RunEnd::Session { end } => end.status(),
+        }
+    }
+
+    /// How a run ends whose keep could not be started, for this fault.
+    pub fn of_start(fault: KeepFault) -> RunEnd
+        ensures { result ≡ start_end fault }
+    {
+        match fault {
+            KeepFault::DiskFailed => RunEnd::DiskFailed,
+            KeepFault::Damaged { offset } => RunEnd::Damaged { offset },
+            KeepFault::JournalFull { used } => RunEnd::JournalFull { used },
+            KeepFault::Rule(_) | KeepFault::Memory => RunEnd::NoMemory,
         }
     }
 }

@@ -2,9 +2,9 @@
 ghost use Rattle.std.specs.Prelude.{◌≡◌};
 ghost use Rattle.fts_tables.specs.Counts.{CountsFaults};
 ghost use Rattle.fts_wire.specs.Response.{Sends};
-ghost use Rattle.fts_top.specs.Notes.{session_note_of, rule_note_of, note_of, IsNoted};
+ghost use Rattle.fts_top.specs.Notes.{line_note_of, note_of, note_with, IsNoted};
 
-use crate::ends::{RunEnd, SessionEnd};
+use crate::ends::{LineEnd, RunEnd};
 use fts_wire::{Sink, SinkFailed, send_all, send_parts};
 use itoa::Buffer;
 
@@ -24,38 +24,40 @@ fn send_note<N: Sink>(notes: &mut N, end: RunEnd) -> Result<(), SinkFailed>
         RunEnd::NoMemory => send_all(notes, "fts: no memory\n".as_bytes()),
         RunEnd::NoCommand => send_all(notes, "fts: not a command\n".as_bytes()),
         RunEnd::SettingsUnread => send_all(notes, "fts: settings could not be read\n".as_bytes()),
-        RunEnd::SettingsRule { rule } => send_rule(notes, rule),
-        RunEnd::Session { end } => send_all(notes, session_note(end).as_bytes()),
+        RunEnd::SettingsRule { rule } => send_number(notes, "fts: settings rule ", rule as u64),
+        RunEnd::DiskFailed => send_all(notes, "fts: disk failed\n".as_bytes()),
+        RunEnd::Damaged { offset } => send_number(notes, "fts: journal damaged at ", offset),
+        RunEnd::JournalFull { used } => send_number(notes, "fts: journal full at ", used),
+        RunEnd::Session { end } => send_line_note(notes, end),
     }
 }
 
-/// The line of a session's end.
-fn session_note(end: SessionEnd) -> &'static str
-    ensures { result.now ≡ session_note_of end }
+/// Sends the line of a connection's end.
+fn send_line_note<N: Sink>(notes: &mut N, end: LineEnd) -> Result<(), SinkFailed>
+    ensures sent { Sends (N.held notes.old) (N.held notes.new) (line_note_of end) result }
+    ensures cause { CountsFaults (N.faults notes.old) (N.faults notes.new) result }
 {
     match end {
-        SessionEnd::Closed => "",
-        SessionEnd::SourceFailed => "fts: input failed\n",
-        SessionEnd::SinkFailed => "fts: output failed\n",
-        SessionEnd::EndsInside => "fts: input ended inside a request\n",
-        SessionEnd::Refused => "fts: request refused with 501\n",
-        SessionEnd::Many => "fts: too many requests\n",
+        LineEnd::Closed => send_all(notes, "".as_bytes()),
+        LineEnd::SourceFailed => send_all(notes, "fts: input failed\n".as_bytes()),
+        LineEnd::SinkFailed => send_all(notes, "fts: output failed\n".as_bytes()),
+        LineEnd::EndsInside => send_all(notes, "fts: input ended inside a request\n".as_bytes()),
+        LineEnd::Refused { status } => {
+            send_number(notes, "fts: request refused with ", status as u64)
+        }
+        LineEnd::Many => send_all(notes, "fts: too many requests\n".as_bytes()),
     }
 }
 
-/// Sends the line of a broken rule of the settings.
-fn send_rule<N: Sink>(notes: &mut N, rule: u32) -> Result<(), SinkFailed>
-    ensures sent { Sends (N.held notes.old) (N.held notes.new) (rule_note_of rule) result }
+/// Sends a line with a number at its end.
+fn send_number<N: Sink>(notes: &mut N, text: &str, number: u64) -> Result<(), SinkFailed>
+    ensures sent { Sends (N.held notes.old) (N.held notes.new) (note_with text.now number) result }
     ensures cause { CountsFaults (N.faults notes.old) (N.faults notes.new) result }
 {
     let mut buffer = Buffer::new();
-    let digits = buffer.format(rule);
+    let digits = buffer.format(number);
     send_parts(
         notes,
-        &[
-            "fts: settings rule ".as_bytes(),
-            digits.as_bytes(),
-            "\n".as_bytes(),
-        ],
+        &[text.as_bytes(), digits.as_bytes(), "\n".as_bytes()],
     )
 }

@@ -2,7 +2,8 @@
 //! A text that is too long breaks a rule as any other; only a failed read leaves the settings unread.
 ghost use Rattle.std.specs.Prelude.{◌≡◌, ◌≢◌, Some, IfOk, IfErr};
 ghost use Rattle.fts_tables.specs.Counts.{Rose};
-ghost use Rattle.fts_top.specs.Run.{status_of, AreRead, IsStop, EndsBy};
+ghost use Rattle.fts_top.specs.Ends.{status_of};
+ghost use Rattle.fts_top.specs.Runs.{AreRead, HasNoSettings, EndsBy};
 
 use crate::ends::RunEnd;
 use fts_config::{SettingsFault, read_settings};
@@ -14,7 +15,7 @@ use std::alloc::Global;
 /// The settings that a source's text gives, or how the run ends: a read failed, the text breaks a rule, or there is no memory.
 pub fn load_settings<F: Source>(alloc: Global, source: &mut F) -> Result<Settings, RunEnd>
     ensures read { IfOk result (AreRead (F.left source.old)) }
-    ensures stopped { IfErr result (IsStop (F.left source.old)) }
+    ensures stopped { IfErr result (HasNoSettings (F.left source.old)) }
     ensures words { IfErr result (λ end. status_of end ≢ 2) }
     ensures unread { IfErr result (λ end. status_of end ≡ 8 → Rose (F.faults source.old) (F.faults source.new)) }
 {
@@ -29,7 +30,7 @@ pub fn load_settings<F: Source>(alloc: Global, source: &mut F) -> Result<Setting
 /// The settings that a text gives, or how the run ends.
 fn settings_in(alloc: Global, text: &[u8]) -> Result<Settings, RunEnd>
     ensures read { IfOk result (AreRead (Some text.now)) }
-    ensures stopped { IfErr result (IsStop (Some text.now)) }
+    ensures stopped { IfErr result (HasNoSettings (Some text.now)) }
     ensures words { IfErr result (λ end. status_of end ≢ 2) }
     ensures unread { IfErr result (λ end. status_of end ≢ 8) }
 {

@@ -8,11 +8,17 @@ use fts_wire::{Allow, Reply, statuses};
 use std::alloc::Global;
 use uuid::Uuid;
 
+/// The rule that the disk does its calls.
+pub const DISK_FAILED: u32 = 35;
+
 /// The rule that there may be so many rows.
 pub const ROWS_FULL: u32 = 36;
 
 /// The rule that there may be so many jobs.
 pub const JOBS_FULL: u32 = 37;
+
+/// The rule that a command fits the journal.
+pub const JOURNAL_FULL: u32 = 38;
 
 /// The rule that what is asked for is built.
 pub const NOT_BUILT: u32 = 40;

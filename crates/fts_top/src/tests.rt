@@ -1,10 +1,11 @@
 //! What no clause says: that runs succeed with ample memory, that the definitions mean what a client sends and reads, in which order reads,
-//! writes and looks at the clock come, and what is seen where a read, a write or a note fails. Requests and responses are written out; the first
-//! row has those of `examples/two-submissions.http` and `.reply.http`, byte for byte. The id of the client's own id is Python's, by `uuid.uuid5`
-//! twice.
-ghost use Rattle.std.specs.Prelude.{◌≡◌, ◌≤◌, ◌≢◌, [], length, IfOk};
+//! writes and looks at the clock come, and what is seen where a read, a write, a note or a call of the disk fails. Requests and responses are
+//! written out; the first row has those of `examples/two-submissions.http` and `.reply.http`, byte for byte. The id of the client's own id is
+//! Python's, by `uuid.uuid5` twice.
+ghost use Rattle.std.specs.Prelude.{◌≡◌, ◌≤◌, ◌≢◌, [], length, IfOk, IsSome};
 
 use crate::{Ending, Outside, run};
+use fts_disk::{Disk, MemoryDisk};
 use fts_tables::{Clock, ListClock};
 use fts_wire::{MemorySink, MemorySource, Sink, SinkFailed, Source, SourceFailed};
 use std::alloc::Global;
@@ -226,7 +227,7 @@ fn source_of(
 }
 
 /// What a run over memory meets.
-type Meets = Outside<MemorySource, Pieces, MemorySink, MemorySink, ListClock>;
+type Meets = Outside<MemorySource, Pieces, MemorySink, MemorySink, MemoryDisk, ListClock>;
 
 /// An outside with these settings and this input, in which a read of the settings, a write and a note with these numbers fail.
 fn outside_under(
@@ -235,28 +236,35 @@ fn outside_under(
     input: Pieces,
     write: u64,
     note: u64,
-) -> Result<Meets, Fail> {
+) -> Result<Meets, Fail>
+    ensures { IfOk result (λ outside. IsSome outside.disk) }
+{
     let text = Vec::from_slice(alloc, settings.0.as_bytes())?;
     Ok(Outside {
         settings: MemorySource::new(text, vec![in alloc; settings.1; 1]?),
         input,
         output: MemorySink::new(alloc, vec![in alloc; write; 1]?),
         notes: MemorySink::new(alloc, vec![in alloc; note; 1]?),
+        disk: Some(MemoryDisk::new(alloc, Vec::new(alloc))),
         clock: ListClock::new(vec![in alloc; 1_700_000_000; 1]?),
     })
 }
 
 /// An outside under the stand's settings.
-fn outside_with(alloc: Global, input: Pieces, write: u64, note: u64) -> Result<Meets, Fail> {
+fn outside_with(alloc: Global, input: Pieces, write: u64, note: u64) -> Result<Meets, Fail>
+    ensures { IfOk result (λ outside. IsSome outside.disk) }
+{
     outside_under(alloc, (STAND, 0), input, write, note)
 }
 
 /// A run of these words.
-fn run_words<F: Source, S: Source, K: Sink, N: Sink, C: Clock>(
+fn run_words<F: Source, S: Source, K: Sink, N: Sink, D: Disk, C: Clock>(
     alloc: Global,
     words: &[&str],
-    outside: &mut Outside<F, S, K, N, C>,
-) -> Result<Ending, Fail> {
+    outside: &mut Outside<F, S, K, N, D, C>,
+) -> Result<Ending, Fail>
+    requires { IsSome outside.old.disk }
+{
     let mut owned = Vec::new(alloc);
     for word in words {
         owned.push(String::from_str(alloc, word)?)?;
@@ -340,6 +348,168 @@ fn a_request_whose_response_could_not_be_written_is_the_last_one(
         assert_eq!(rt; ending.status, 6, "write {write}");
         assert_eq!(rt; ending.tally.waiting, waiting, "write {write}");
     }
+    Ok(())
+}
+
+/// What a session over a disk wrote and noted, how it ended, and the disk that it left.
+#[derive(Drop)]
+struct Session {
+    output: MemorySink,
+    notes: MemorySink,
+    ending: Ending,
+    disk: MemoryDisk,
+}
+
+/// A session of these requests over a disk, under the stand's settings.
+fn session_over(alloc: Global, disk: MemoryDisk, requests: &str) -> Result<Session, Fail> {
+    let text = Vec::from_slice(alloc, STAND.as_bytes())?;
+    let input = Vec::from_slice(alloc, requests.as_bytes())?;
+    let mut outside = Outside {
+        settings: MemorySource::new(text, Vec::new(alloc)),
+        input: MemorySource::new(input, Vec::new(alloc)),
+        output: MemorySink::new(alloc, Vec::new(alloc)),
+        notes: MemorySink::new(alloc, Vec::new(alloc)),
+        disk: Some(disk),
+        clock: ListClock::new(vec![in alloc; 1_700_000_000; 1]?),
+    };
+    let ending = run_words(alloc, &["session"], &mut outside)?;
+    let Outside {
+        settings: _,
+        input: _,
+        output,
+        notes,
+        disk,
+        clock: _,
+    } = outside;
+    match disk {
+        Some(disk) => Ok(Session {
+            output,
+            notes,
+            ending,
+            disk,
+        }),
+        None => Err(Fail::new("no disk came back")),
+    }
+}
+
+/// What a disk holds at its end, where each byte that isn't stable became this one.
+fn left_by(disk: &MemoryDisk, byte: u8) -> Result<Vec<u8>, Fail> {
+    Ok(disk.after_stop(disk.calls(), byte)?)
+}
+
+/// How many rows wait on the disk of these bytes, by a session of no requests.
+fn waiting_on(alloc: Global, bytes: Vec<u8>) -> Result<u32, Fail> {
+    let disk = MemoryDisk::holding(alloc, bytes, Vec::new(alloc));
+    let session = session_over(alloc, disk, "")?;
+    if session.ending.status != 0 {
+        return Err(Fail::new("what was left is no journal"));
+    }
+    Ok(session.ending.tally.waiting)
+}
+
+const FAILED: &str =
+    "HTTP/1.1 503 Service Unavailable\r\nContent-Type: application/json\r\nContent-Length: 48\r\n\r\n{\"message\":\"disk failed\",\"rule\":35,\"status\":503}";
+
+const FIRST: &str =
+    "HTTP/1.1 200 OK\r\nContent-Type: application/json\r\nContent-Length: 49\r\n\r\n{\"job_id\":\"00000000-0000-4000-8000-000000000001\"}";
+
+/// A journal of one Restart of the stand's settings at 1,700,000,000, by the format of journals and entries.
+const RESTARTED: &[u8] =
+    b"FTS3JRN1\x01\x42\0\0\0\x00\x01\x80\xe2\xcf\xaa\x06\x04demo\x02\x02\x02\x11https://a.example\x14\x14\x11https://b.example\x14\x14\x00\x01\x07default\x01\x00";
+
+// With no failure the calls of the disk are 1 to 7 for the start, 8 to 11 for the first submission, and 12 to 15 for the second.
+#[test]
+fn a_call_of_the_disk_that_fails_is_answered_and_loses_nothing(
+    rt: HostRuntime,
+) -> Result<(), Fail> {
+    let alloc = rt.alloc();
+    for call in 1..=15 {
+        for last in [call, 40] {
+            let mut fail = Vec::new(alloc);
+            for number in call..=last {
+                fail.push(number)?;
+            }
+            let disk = MemoryDisk::new(alloc, fail);
+            let session = session_over(alloc, disk, ROWS[0].input)?;
+            let replies: &[&str] = match (call, call == last) {
+                (1..=7, _) => &[],
+                (8..=11, true) => &[FAILED, FIRST],
+                (8..=11, false) => &[FAILED, FAILED],
+                _ => &[FIRST, FAILED],
+            };
+            let mut written = Vec::new(alloc);
+            let mut accepted = 0;
+            for reply in replies {
+                written.extend_from_slice(reply.as_bytes())?;
+                if *reply == FIRST {
+                    accepted = 1;
+                }
+            }
+            assert_eq!(rt;
+                session.output.bytes(),
+                written.as_slice(),
+                "{call} to {last}"
+            );
+            let (status, note) = if call <= 7 {
+                (4, "fts: disk failed\n")
+            } else {
+                (0, "")
+            };
+            assert_eq!(rt; session.ending.status, status, "{call} to {last}");
+            assert_eq!(rt; session.notes.bytes(), note.as_bytes(), "{call} to {last}");
+            assert_eq!(rt; session.ending.tally.waiting, accepted, "{call} to {last}");
+            // The first three calls make the journal.
+            let bytes: &[u8] = if call > 3 { &[0, 1] } else { &[] };
+            for byte in bytes {
+                let found = waiting_on(alloc, left_by(&session.disk, *byte)?)?;
+                let doubt = u32::from(call > 7 && replies.ends_with(&[FAILED]));
+                assert!(rt;
+                    found >= accepted && found <= accepted + doubt,
+                    "{call} to {last}, the rest {byte}"
+                );
+            }
+        }
+    }
+    Ok(())
+}
+
+#[test]
+fn a_session_goes_on_where_the_last_one_ended(rt: HostRuntime) -> Result<(), Fail> {
+    let alloc = rt.alloc();
+    let disk = MemoryDisk::new(alloc, Vec::new(alloc));
+    let first = session_over(alloc, disk, ROWS[0].input)?;
+    assert_eq!(rt; first.output.bytes(), ROWS[0].output.as_bytes());
+    let second = session_over(alloc, first.disk, ROWS[14].input)?;
+    assert_eq!(rt;
+        second.output.bytes(),
+        b"HTTP/1.1 200 OK\r\nContent-Type: application/json\r\nContent-Length: 49\r\n\r\n{\"job_id\":\"00000000-0000-4000-8000-000000000003\"}".as_slice()
+    );
+    assert_eq!(rt; (second.ending.status, second.ending.tally.waiting), (0, 3));
+    Ok(())
+}
+
+#[test]
+fn an_empty_input_leaves_one_restart(rt: HostRuntime) -> Result<(), Fail> {
+    let alloc = rt.alloc();
+    let session = session_over(alloc, MemoryDisk::new(alloc, Vec::new(alloc)), "")?;
+    assert_eq!(rt; session.ending.status, 0);
+    assert_eq!(rt; left_by(&session.disk, 7)?.as_slice(), RESTARTED);
+    Ok(())
+}
+
+#[test]
+fn a_damaged_journal_stops_the_run_and_stays(rt: HostRuntime) -> Result<(), Fail> {
+    let alloc = rt.alloc();
+    let bytes = b"FTS3JRN1\x01\x08\0\0\0\x03\x03\x80\xe2\xcf\xaa\x06\x01\x07";
+    let disk = MemoryDisk::holding(alloc, bytes.to_vec(alloc)?, Vec::new(alloc));
+    let session = session_over(alloc, disk, ROWS[0].input)?;
+    assert_eq!(rt; session.ending.status, 7);
+    assert_eq!(rt;
+        session.notes.bytes(),
+        b"fts: journal damaged at 8\n".as_slice()
+    );
+    assert_eq!(rt; session.output.bytes(), b"".as_slice());
+    assert_eq!(rt; left_by(&session.disk, 0)?.as_slice(), bytes.as_slice());
     Ok(())
 }
 
@@ -549,6 +719,7 @@ fn a_request_is_read_then_timed_then_answered_before_the_next_is_read(
             written: &written,
         },
         notes: MemorySink::new(rt.alloc(), Vec::new(rt.alloc())),
+        disk: Some(MemoryDisk::new(rt.alloc(), Vec::new(rt.alloc()))),
         clock: NotingClock {
             reads_seen: &reads_seen,
             noted: Vec::new(rt.alloc()),

@@ -1,6 +1,6 @@
 //! Which lists of words are accepted: today the one word `session`.
 ghost use Rattle.std.specs.Prelude.{◌≡◌};
-ghost use Rattle.fts_top.specs.Run.{is_session};
+ghost use Rattle.fts_top.specs.Words.{is_session};
 
 /// Whether the words are the command `session`.
 pub fn is_session_command(words: &[String]) -> bool

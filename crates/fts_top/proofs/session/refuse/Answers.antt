@@ -1,11 +1,11 @@
 -- A refusal, written or cut short.
 use Rattle.std.proofs.Common.{sym, ap}
+use Rattle.std.specs.Prelude.{true, false}
 use Rattle.fts_wire.specs.Response.{response_of}
-use Rattle.fts_top.specs.Session.{end_by}
+use Rattle.fts_top.specs.Connections.{end_by}
 use Rattle.fts_top.proofs.Phrases.{sent_of_refusal}
 use Rattle.fts_top.proofs.Turns.{refusal_of_reply}
 use Rattle.fts_top.proofs.session.refuse.Goals as goal
-use Rattle.std.specs.Prelude.{true, false}
 
 pub write_response-requires : goal.write_response-requires
 write_response-requires g c =

@@ -1,18 +1,22 @@
--- A session behind its Restart.
-use Rattle.std.proofs.Common.{[], ◌∷◌, subst}
+-- A session over a keep that was started, and a keep that could not be.
+use Rattle.std.proofs.Common.{subst, ◌∙◌}
 use Rattle.fts_tables.specs.SettingsData.{IsSettings}
-use Rattle.fts_top.specs.Session.{one_thread}
-use Rattle.fts_top.specs.Run.{restart_at}
-use Rattle.fts_top.proofs.Started.{ran}
+use Rattle.fts_top.specs.Connections.{reading_of}
+use Rattle.fts_top.proofs.Started.{ran, stopped}
 use Rattle.fts_top.proofs.top.serve_under.Goals as goal
 
+pub returns-in-Ok-start-clause-run : goal.returns-in-Ok-start-clause-run
+returns-in-Ok-start-clause-run g c = λ text read.
+    let started = c.in-Ok-start.ensures.ok in
+    ran g.D.Disk.state g.D.Disk.faults c.args.settings c.now-now.result c.in-Ok-start.keep started.0 c.args.disk c.serve.result.disk started.1
+    (g.C.Clock.moments c.now-now.new.self) (g.C.Clock.moments c.serve.new.clock) c.in-Ok.room.kept
+    (reading_of (g.S.Source.left c.args.input.now) (g.S.Source.reads c.args.input.now)) (reading_of (g.S.Source.left c.serve.new.input) (g.S.Source.reads c.serve.new.input))
+    (g.K.Sink.held c.args.output.now) (g.K.Sink.held c.serve.new.output) c.serve.result.end c.serve.result.tally c.serve.ensures.serves
+    text (g.C.Clock.moments c.args.clock.now) (subst IsSettings c.settings.view_is c.settings.invariant) read c.now-now.ensures c.in-Ok.ensures
+
 pub returns-clause-run : goal.returns-clause-run
-returns-clause-run g c =
-    let restarted = c.in-Ok-restarted_desk.ensures.desk in
-    let before = one_thread (g.S.Source.left c.args.input.now) (g.S.Source.reads c.args.input.now) (g.K.Sink.held c.args.output.now) (g.C.Clock.moments c.args.clock.now) in
-    let input = c.run_session-end.new.input in
-    let after = one_thread (g.S.Source.left input) (g.S.Source.reads input) (g.K.Sink.held c.run_session-end.new.output) (g.C.Clock.moments c.run_session-end.new.clock) in
-    λ text read.
-    ran c.args.settings text c.make_tally.result c.in-Ok.room.kept before after (g.C.Clock.moments c.restarted_desk.new.clock) restarted.0 c.run_session-end.result
-    c.run_session-end.new.desk.tables (subst IsSettings c.settings.view_is c.settings.invariant) read c.in-Ok.ensures restarted.1.0
-    (c.run_session-end.ensures.session (restart_at restarted.0 c.args.settings ∷ []) restarted.1.1) c.make_tally.ensures
+returns-clause-run g c = λ text read.
+    stopped g.D.Disk.state g.D.Disk.faults text (g.C.Clock.moments c.args.clock.now) (g.C.Clock.moments c.now-now.new.self) c.args.disk c.in-Err.disk c.stop-in-Err.result.disk
+    (reading_of (g.S.Source.left c.args.input.now) (g.S.Source.reads c.args.input.now)) (g.K.Sink.held c.args.output.now) c.args.settings c.now-now.result c.in-Err.fault
+    c.stop-in-Err.result.end c.stop-in-Err.result.tally (subst IsSettings c.settings.view_is c.settings.invariant) read c.now-now.ensures c.in-Err.ensures.err
+    (c.stop-in-Err.ensures.end ∙ c.of_start.ensures) c.stop-in-Err.ensures.tally c.stop-in-Err.ensures.disk

@@ -1,0 +1,171 @@
+-- What a run of the program is: how it begins, what it answers and does, what it leaves, and how it may stop before its first request.
+-- What it answers and does is so over every disk, over some list that is legal; images, and that the list is the disk's own, are so over a disk
+-- that tells its contents.
+use Rattle.std.specs.Prelude.{◌≡◌, ◌≢◌, ◌⊎◌, ℕ, List, [], ◌++◌, Option, Some, None, IfSome, Ok, Err}
+use Rattle.fts_tables.specs.Coming.{Coming, Gives}
+use Rattle.fts_tables.specs.Counts.{Rose}
+use Rattle.fts_tables.specs.SettingsData.{SettingsData, IsSettings}
+use Rattle.fts_tables.specs.History.{tables_of, IsLegal}
+use Rattle.fts_tables.specs.declared.commands.Entry.{Entry}
+use Rattle.fts_config.specs.Faults.{rule_of}
+use Rattle.fts_config.specs.Settings.{settings_of}
+use Rattle.fts_config.specs.declared.fault.SettingsFault.{SettingsFault}
+use Rattle.fts_config.specs.declared.fault.SettingsFault.TheVariants.{Memory as SettingsMemory}
+use Rattle.fts_disk.specs.Disk.{DiskState, IsTold, LeavesOnly}
+use Rattle.fts_keep.specs.Keeps.{KeepData, IsKeep, with_doubt, IsImageOf, IsImageSince}
+use Rattle.fts_keep.specs.Started.{restarted, StartsOver, StartFault, StartsNot}
+use Rattle.fts_keep.specs.declared.fault.KeepFault.{KeepFault}
+use Rattle.fts_keep.specs.declared.fault.KeepFault.TheVariants as faults_of_keep
+use Rattle.fts_top.specs.Connections.{Reading}
+use Rattle.fts_top.specs.Sessions.{IsSession, MakesSession}
+use Rattle.fts_top.specs.Walks.{Walk}
+use Rattle.fts_top.specs.Tallies.{tally_of, no_tally}
+use Rattle.fts_top.specs.declared.ends.LineEnd.{LineEnd}
+use Rattle.fts_top.specs.declared.ends.RunEnd.{RunEnd}
+use Rattle.fts_top.specs.declared.ends.RunEnd.TheVariants.{NoMemory, NoCommand, SettingsUnread, SettingsRule, DiskFailed, Damaged, JournalFull, Session}
+use Rattle.fts_top.specs.declared.tally.Tally.{Tally}
+
+-- what one thread meets: its disk, its input, the bytes that its output holds, and the moments to come, where they are told
+pub record OneThread (D : Type 0) : Type 0 where
+  pub disk : D
+  pub input : Reading
+  pub output : Option (List ℕ)
+  pub moments : Option Coming
+
+-- the same by its parts
+abbrev pub one_thread : {D : Type 0} → D → Option (List ℕ) → ℕ → Option (List ℕ) → Option Coming → OneThread D
+one_thread disk left reads output moments =
+    record { disk = disk; input = record { left = left; reads = reads }; output = output; moments = moments }
+
+-- a disk is there before and after, and this is so of the two
+abbrev pub OverDisks : {D : Type 0} → Option D → Option D → (D → D → Type 0) → Type 0
+OverDisks None left P = Unit {0}
+OverDisks (Some disk) None P = ⊥
+OverDisks (Some disk) (Some left) P = P disk left
+
+-- these are the settings of the text, where it is told
+abbrev pub AreRead : Option (List ℕ) → SettingsData → Type 0
+AreRead text settings = IfSome text (λ bytes. settings_of bytes ≡ Ok settings)
+
+-- the rule of this number is broken: by the text, where it is told
+pub record IsBroken (text : Option (List ℕ)) (rule : ℕ) : Type 0 where
+  pub fault : SettingsFault
+  pub real : fault ≢ SettingsMemory
+  pub number : rule ≡ rule_of fault
+  pub told : IfSome text (λ bytes. settings_of bytes ≡ Err fault)
+
+-- a run ends so by a fault of its settings: want of memory, or else a rule, by its number
+abbrev pub EndsBy : SettingsFault → RunEnd → Type 0
+EndsBy fault end = ((fault ≡ SettingsMemory) × (end ≡ NoMemory)) ⊎ ((fault ≢ SettingsMemory) × (end ≡ SettingsRule (rule_of fault)))
+
+-- how a run may end that has no settings
+abbrev pub HasNoSettings : Option (List ℕ) → RunEnd → Type 0
+HasNoSettings text NoMemory = Unit {0}
+HasNoSettings text SettingsUnread = Unit {0}
+HasNoSettings text (SettingsRule rule) = IsBroken text rule
+HasNoSettings text NoCommand = ⊥
+HasNoSettings text DiskFailed = ⊥
+HasNoSettings text (Damaged offset) = ⊥
+HasNoSettings text (JournalFull used) = ⊥
+HasNoSettings text (Session end) = ⊥
+
+-- how a run ends that could not start its keep, for this fault
+abbrev pub start_end : KeepFault → RunEnd
+start_end faults_of_keep.DiskFailed = DiskFailed
+start_end (faults_of_keep.Damaged offset) = Damaged offset
+start_end (faults_of_keep.JournalFull used) = JournalFull used
+start_end faults_of_keep.Memory = NoMemory
+-- a start is never refused by a rule
+start_end (faults_of_keep.Rule refusal) = NoMemory
+
+-- what a list leaves of the disk: since the journal was opened or made each image is one of the list, as it was at some time, with one entry
+-- more at most; and at the end each is one of the list itself, with one doubt at most, and with none where no call of the disk failed
+pub record LeavesList {D : Type 0} (state : D → DiskState) (faults : D → ℕ) (opened disk : D) (opening final : List Entry) : Type 0 where
+  pub since : LeavesOnly (state opened) (state disk) (IsImageSince opening final)
+  pub doubt : Option Entry
+  pub legal : IsLegal (with_doubt final doubt)
+  pub images : (content : List ℕ) → (state disk).may_leave content → IsImageOf final doubt content
+  pub cause : (doubt ≡ None) ⊎ Rose (faults opened) (faults disk)
+
+-- nothing was started: the disk is as it was, and no moment was taken
+pub record StopsBefore {D : Type 0} (moments later : Option Coming) (disk left : D) : Type 0 where
+  pub disk_is : left ≡ disk
+  pub moments_are : later ≡ moments
+
+module _ {D : Type 0} (state : D → DiskState) (faults : D → ℕ) where
+  -- a keep was not started, for this fault
+  pub record StartsWith (text : Option (List ℕ)) (moments later : Option Coming) (disk left : D) (fault : KeepFault) : Type 0 where
+    pub settings : SettingsData
+    pub kept : IsSettings settings
+    pub read : AreRead text settings
+    pub now : ℕ
+    pub moment : Gives moments later now
+    pub cause : StartFault state faults disk left settings now fault
+    pub leaves : StartsNot state faults disk left settings now
+
+  -- how a run may stop before its first request
+  abbrev pub IsStop : Option (List ℕ) → Option Coming → Option Coming → D → D → RunEnd → Type 0
+  IsStop text moments later disk left NoCommand = StopsBefore moments later disk left
+  IsStop text moments later disk left SettingsUnread = StopsBefore moments later disk left
+  IsStop text moments later disk left (SettingsRule rule) = IsBroken text rule × StopsBefore moments later disk left
+  IsStop text moments later disk left DiskFailed = StartsWith text moments later disk left faults_of_keep.DiskFailed
+  IsStop text moments later disk left (Damaged offset) = StartsWith text moments later disk left (faults_of_keep.Damaged offset)
+  IsStop text moments later disk left (JournalFull used) = StartsWith text moments later disk left (faults_of_keep.JournalFull used)
+  IsStop text moments later disk left NoMemory = StopsBefore moments later disk left ⊎ StartsWith text moments later disk left faults_of_keep.Memory
+  IsStop text moments later disk left (Session end) = ⊥
+
+  -- a run stopped before its first request: it did not read its input, and wrote no response
+  pub record StopsEarly (text : Option (List ℕ)) (before after : OneThread D) (end : RunEnd) (tally : Tally) : Type 0 where
+    pub stop : IsStop text before.moments after.moments before.disk after.disk end
+    pub counted : tally ≡ no_tally
+    pub untaken : after.input ≡ before.input
+    pub unwritten : after.output ≡ before.output
+
+  -- where a session begins: behind the Restart, with nothing kept
+  abbrev pub begun_with : List Entry → ℕ → ℕ → Option Coming → Walk
+  begun_with entries used count moments = record { entries = entries; used = used; faults = count; kept = None; moments = moments; words = None }
+
+  -- a session ran from its Restart on, over the list that was there at the opening
+  pub record RanOver (before after : OneThread D) (settings : SettingsData) (now : ℕ) (moments : Option Coming) (keep : KeepData D)
+      (opening : List Entry) (end : RunEnd) (tally : Tally) : Type 0 where
+    pub final : Walk
+    pub session_end : LineEnd
+    pub session : IsSession [] (begun_with (restarted opening now settings) keep.used (faults keep.disk) moments) final
+        before.input after.input before.output after.output session_end
+    pub ended : end ≡ Session session_end
+    pub moments_left : after.moments ≡ final.moments
+    pub faults_left : faults after.disk ≡ final.faults
+    pub since : List Entry
+    pub grown : final.entries ≡ restarted opening now settings ++ since
+    pub legal : IsLegal final.entries
+    pub counted : tally ≡ tally_of since (tables_of final.entries)
+
+  -- a run came to its session: under the settings of the text, which is told or not
+  pub record RunsSession (text : Option (List ℕ)) (before after : OneThread D) (end : RunEnd) (tally : Tally) : Type 0 where
+    pub settings : SettingsData
+    pub kept : IsSettings settings
+    pub read : AreRead text settings
+    pub now : ℕ
+    pub moments : Option Coming
+    pub moment : Gives before.moments moments now
+    pub keep : KeepData D
+    pub opening : List Entry
+    pub starts : StartsOver state faults before.disk settings now keep opening
+    pub ran : RanOver before after settings now moments keep opening end tally
+    pub tells : (state after.disk).told ≡ (state before.disk).told
+    pub leaves : (told : IsTold (state before.disk)) → LeavesList state faults (starts.own told).opened after.disk opening ran.final.entries
+
+  -- requests were answered over a keep, which was closed then: it left this disk
+  pub record ServesKeep (keep : KeepData D) (left : D) (moments later : Option Coming) (kept : List ℕ) (input after : Reading)
+      (held now : Option (List ℕ)) (end : RunEnd) (tally : Tally) : Type 0 where
+    pub session_end : LineEnd
+    pub ended : end ≡ Session session_end
+    pub last : KeepData D
+    pub closed : left ≡ last.disk
+    pub session : MakesSession state faults keep last moments later kept input after held now session_end
+    pub sound : IsKeep state last
+    pub counted : tally ≡ tally_of [] last.tables
+
+  -- what a run did that ended so: it stopped before its first request, or ran a session
+  abbrev pub IsSessionRun : RunEnd → Tally → Option (List ℕ) → OneThread D → OneThread D → Type 0
+  IsSessionRun end tally text before after = StopsEarly text before after end tally ⊎ RunsSession text before after end tally
