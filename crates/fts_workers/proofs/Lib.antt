@@ -1,0 +1,4 @@
+pub mod Numbered
+pub mod Attempts
+pub mod OutFiles
+pub mod Copied

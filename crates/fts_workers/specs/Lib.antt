@@ -1,0 +1,6 @@
+pub mod Benches
+pub mod BenchRoom
+pub mod Copies
+pub mod FirstFile
+pub mod Wanted
+pub mod Rounds
