@@ -2,3 +2,8 @@ pub mod Numbered
 pub mod Attempts
 pub mod OutFiles
 pub mod Copied
+pub mod Accepted
+pub mod Stayed
+pub mod Reported
+pub mod Claimed
+pub mod Parts

@@ -4,3 +4,5 @@ pub mod Copies
 pub mod FirstFile
 pub mod Wanted
 pub mod Rounds
+pub mod Steps
+pub mod Stops
