@@ -25,7 +25,7 @@ use Rattle.fts_keep.specs.declared.fault.KeepFault.TheVariants.{Rule}
 use Rattle.fts_workers.specs.Benches.{BenchData, attempt_of, calm_end, held_as, kept_of}
 use Rattle.fts_workers.specs.Copies.{copies_from, copies_kept}
 use Rattle.fts_workers.specs.Rounds.{Walk, Claims, FindsNone, ClaimStops, FillsUp, IsWorkedOver, StopsBy, Tries, applied_at}
-use Rattle.fts_workers.specs.Stops.{EndsBy}
+use Rattle.fts_workers.specs.Stops.{EndsBy, NamesHeld}
 use Rattle.fts_workers.specs.Steps.{Stand, stand, walk_of, Walks, MakesNoCopy, Fills, FillsOn}
 use Rattle.fts_workers.specs.declared.held.Held.{Held}
 use Rattle.fts_workers.specs.declared.ends.RoundEnd.{RoundEnd}
@@ -68,15 +68,6 @@ pub claim_idle : (tables : Tables) (now : ℕ) (found : Option FileRow) (refusal
 claim_idle tables now None refusal is = refl
 claim_idle tables now (Some row) refusal is = absurd cc
 
--- the file that a claim's answer names
-abbrev pub held_by : Answer → Held → Type 0
-held_by (Claimed file attempt) held = held ≡ record { file = file; attempt = attempt; outcome = None }
-held_by (Restarted released) held = ⊥
-held_by (Submitted job id) held = ⊥
-held_by (Cancelled job) held = ⊥
-held_by (PrioritySet job) held = ⊥
-held_by (Reported file state) held = ⊥
-
 module _ {D : Type 0} (state : D → DiskState) (faults : D → ℕ) (formed : (entries : List Entry) → IsLegal entries → AreWellFormed (tables_of entries))
     (stands : (tables : Tables) (now word : ℕ) (row : FileRow) → AreWellFormed tables → pick tables now word ≡ Some row
       → (1 ≤ row.id) × (slice_get tables.rows (row.id - 1) ≡ Some row))
@@ -106,7 +97,7 @@ module _ {D : Type 0} (state : D → DiskState) (faults : D → ℕ) (formed : (
       → bench.places - length (out_of_list entries) ≡ suc (bench.places - suc (length (out_of_list entries)))
   one_free entries over = omega (arith, length_at entries over, free)
 
-  module _ (answer : Answer) (done : Accepts state old new the_claim answer) (held : Held) (is_held : held_by answer held) where
+  module _ (answer : Answer) (done : Accepts state old new the_claim answer) (held : Held) (is_held : NamesHeld answer held) where
     -- the bench with the file behind the others
     abbrev longer : BenchData
     longer = record bench { held = bench.held ++ held ∷ [] }
@@ -120,7 +111,7 @@ module _ {D : Type 0} (state : D → DiskState) (faults : D → ℕ) (formed : (
 
     -- so this is held
     held_is : held ≡ record { file = picked_at.row.id; attempt = picked_at.row.attempt + 1; outcome = None }
-    held_is = subst (λ a. held_by a held) picked_at.answer_is is_held
+    held_is = subst (λ a. NamesHeld a held) picked_at.answer_is is_held
 
     -- the step over a list
     step_at : (entries : List Entry) → IsWorkedOver old bench entries

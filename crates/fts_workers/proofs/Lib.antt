@@ -7,3 +7,4 @@ pub mod Stayed
 pub mod Reported
 pub mod Claimed
 pub mod Parts
+pub mod FirstCopied

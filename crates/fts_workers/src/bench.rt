@@ -1,11 +1,11 @@
 //! The bench of one thread: the files that it has claimed, and the room in which it copies one of them at a time.
 //! Keeps: no more files than places, and room for them all, so that holding one more takes no memory (`IsBench`).
 //! What it holds is tied to the tables by each round (`IsWorkedOver` of `specs/Rounds.antt`), and not by the bench itself.
-ghost use Rattle.std.specs.Prelude.{◌≡◌, ◌≤◌, ◌<◌, [], ◌∷◌, ◌++◌, List, length, IfOk};
+ghost use Rattle.std.specs.Prelude.{◌≡◌, ◌≤◌, ◌<◌, [], ◌∷◌, ◌++◌, List, length, IfOk, IsTrue, ◌↔◌};
 ghost use Rattle.fts_tables.specs.Tables.{AreWellFormed};
 
-use crate::Held;
 use crate::copying::{copy_loaded, load_order};
+use crate::{Held, RoundEnd};
 use fts_copy::CopyRoom;
 use fts_desk::Desk;
 use fts_store::Store;
@@ -35,6 +35,7 @@ impl Model for Bench {
 
 impl Bench {
     ghost use Rattle.fts_workers.specs.declared.held.Held.{Held};
+    ghost use Rattle.fts_workers.specs.Benches.{KeepsOne, calm_end};
     ghost use Rattle.fts_workers.specs.FirstFile.{HasFirst, CopiesFirst};
 
     /// A bench that holds nothing, with so many places, from 1 to 16.
@@ -57,16 +58,19 @@ impl Bench {
         &self.held
     }
 
-    /// Copies the first file that it holds, and keeps how that ended.
+    /// Copies the first file that it holds, where no outcome of it is kept, and keeps how that ended.
     pub(crate) fn copy_first<E: Store>(&mut self, desk: &Desk, store: &mut E)
         requires formed { AreWellFormed desk.now.tables }
         requires first { HasFirst desk.now.tables self.old.held }
+        requires kept { KeepsOne self.old.held }
         ensures copied { (first : Held) (others : List Held) → self.old.held ≡ first ∷ others
             → CopiesFirst E.state E.calls E.faults desk.now.tables first others self.old self.new store.old store.new }
     {
-        load_order(&mut self.room, desk, self.held[0].file);
-        let outcome = copy_loaded(store, &mut self.room);
-        self.held[0].outcome = Some(outcome);
+        if self.held[0].outcome.is_none() {
+            load_order(&mut self.room, desk, self.held[0].file);
+            let outcome = copy_loaded(store, &mut self.room);
+            self.held[0].outcome = Some(outcome);
+        }
     }
 
     /// Holds the first file no longer.
@@ -75,6 +79,23 @@ impl Bench {
         ensures dropped { (first : Held) (others : List Held) → self.old.held ≡ first ∷ others → self.new ≡ record self.old { held = others } }
     {
         self.held.remove(0);
+    }
+
+    /// How a round ends that met no fault.
+    pub(crate) fn calm_end(&self) -> RoundEnd
+        ensures { result ≡ calm_end (length self.now.held) }
+    {
+        match self.held.len() {
+            0 => RoundEnd::Clear,
+            held => RoundEnd::Busy { held: held as u32 },
+        }
+    }
+
+    /// Whether it holds as many files as it has places.
+    pub(crate) fn is_full(&self) -> bool
+        ensures full { IsTrue result ↔ (self.now.places ≤ length self.now.held) }
+    {
+        self.held.len() >= self.places as usize
     }
 
     /// Holds one file more, behind the others. It takes no memory.

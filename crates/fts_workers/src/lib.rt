@@ -9,6 +9,7 @@ mod ends;
 mod gate;
 mod hand;
 mod held;
+mod round;
 mod watch;
 
 pub use bench::Bench;

@@ -1,0 +1,127 @@
+//! A round of one thread: each file that is held is copied and reported, in order of the claims; then others are claimed, until no row is eligible
+//! or the bench is full. The first command that answers neither Ok nor Idle ends it.
+//! Keeps: the bench holds the files that are out, over whatever list the tables are of (`IsWorkedOver`). An outcome that couldn't be reported stays
+//! on the bench, and the next round reports it without another copy.
+//! Its parts say 'whatever is still done from here was done from the beginning' (`specs/Steps.antt`), so that loops join them.
+//! Called by the session after each request, and until nothing is held.
+ghost use Rattle.std.specs.Prelude.{◌≡◌, ◌+◌, ◌≤◌, ◌<◌, ℕ, [], List, Option, None, length, IsTrue, IfOk, OnOk};
+ghost use Rattle.fts_tables.specs.Coming.{Coming};
+ghost use Rattle.fts_tables.specs.declared.commands.Entry.{Entry};
+ghost use Rattle.fts_workers.specs.Benches.{KeepsOne, kept_of};
+ghost use Rattle.fts_workers.specs.FirstFile.{IsFirstCopied};
+ghost use Rattle.fts_workers.specs.Rounds.{IsWorkedOver};
+ghost use Rattle.fts_workers.specs.Steps.{stand, MakesNoCopy, MakesCopies, WorksOn, Fills, FillsOn, KeepsOn};
+ghost use Rattle.fts_workers.specs.Stops.{IsStop, EndsBy, IsClaimed, NamesHeld};
+
+use crate::{Bench, Held, RoundEnd};
+use fts_disk::Disk;
+use fts_keep::{Keep, KeepFault};
+use fts_store::Store;
+use fts_tables::laws::{
+    claimed_files_were_in, files_out_are_the_active_rows, picked_rows_stand, tables_are_well_formed,
+};
+use fts_tables::{Answer, Clock, Command, Words};
+
+// How a fault of the keep ends a round.
+fn end_by(fault: KeepFault) -> RoundEnd
+    requires { IsStop fault }
+    ensures { EndsBy fault result }
+{
+    match fault {
+        KeepFault::DiskFailed => RoundEnd::DiskFailed,
+        KeepFault::JournalFull { used } => RoundEnd::JournalFull { used },
+        KeepFault::Memory => RoundEnd::Memory,
+        KeepFault::Rule(_) | KeepFault::Damaged { offset: _ } => unreachable!(),
+    }
+}
+
+// The file that a claim took.
+fn held_of(answer: Answer) -> Held
+    requires { IsClaimed answer }
+    ensures { NamesHeld answer result }
+{
+    match answer {
+        Answer::Claimed { file, attempt } => Held {
+            file,
+            attempt,
+            outcome: None,
+        },
+        Answer::Restarted { released: _ }
+        | Answer::Submitted { job: _, id: _ }
+        | Answer::Cancelled { job: _ }
+        | Answer::PrioritySet { job: _ }
+        | Answer::Reported { file: _, state: _ } => unreachable!(),
+    }
+}
+
+// Reports the first file, whose outcome is kept. At `Ok` it is held no longer.
+fn report_first<D: Disk, C: Clock>(
+    keep: &mut Keep<D>,
+    bench: &mut Bench,
+    clock: &mut C,
+) -> Result<(), RoundEnd>
+    requires order { (entries : List Entry) × IsWorkedOver keep.old bench.old entries }
+    requires copied { IsFirstCopied bench.old.held }
+    ensures part { (words : Option Coming) (workers : ℕ) → MakesNoCopy D.state D.faults (WorksOn workers result)
+        (stand keep.old bench.old (C.moments clock.old) words) (stand keep.new bench.new (C.moments clock.new) words) }
+    ensures kept { KeepsOne bench.new.held }
+    ensures places { bench.new.places ≡ bench.old.places }
+    ensures shorter { OnOk result (length bench.new.held + 1 ≡ length bench.old.held) }
+    ensures keeps { KeepsOn D.state D.faults keep.old keep.new }
+{
+    tables_are_well_formed();
+    files_out_are_the_active_rows();
+    let first = bench.held()[0];
+    let Some(outcome) = first.outcome else {
+        unreachable!()
+    };
+    let now = clock.now();
+    let report = Command::Report {
+        now,
+        file: first.file,
+        attempt: first.attempt,
+        outcome,
+    };
+    match keep.apply(0, report) {
+        Ok(_) => {
+            bench.drop_first();
+            Ok(())
+        }
+        Err(fault) => Err(end_by(fault)),
+    }
+}
+
+// Tries a claim, and holds the file that it takes. False where no row is eligible.
+fn claim_next<D: Disk, C: Clock, W: Words>(
+    keep: &mut Keep<D>,
+    bench: &mut Bench,
+    clock: &mut C,
+    words: &mut W,
+) -> Result<bool, RoundEnd>
+    requires order { (entries : List Entry) × IsWorkedOver keep.old bench.old entries }
+    requires none { kept_of bench.old.held ≡ None }
+    requires free { length bench.old.held < bench.old.places }
+    ensures part { MakesNoCopy D.state D.faults (FillsOn bench.old.places result)
+        (stand keep.old bench.old (C.moments clock.old) (W.words words.old)) (stand keep.new bench.new (C.moments clock.new) (W.words words.new)) }
+    ensures none { kept_of bench.new.held ≡ None }
+    ensures places { bench.new.places ≡ bench.old.places }
+    ensures longer { IfOk result (λ more. IsTrue more → length bench.new.held ≡ length bench.old.held + 1) }
+    ensures keeps { KeepsOn D.state D.faults keep.old keep.new }
+{
+    tables_are_well_formed();
+    picked_rows_stand();
+    claimed_files_were_in();
+    let now = clock.now();
+    let word = words.next();
+    match keep.apply(0, Command::Claim { now, word }) {
+        Ok(answer) => {
+            bench.hold(held_of(answer));
+            Ok(true)
+        }
+        Err(KeepFault::Rule(_)) => Ok(false),
+        Err(KeepFault::DiskFailed) => Err(RoundEnd::DiskFailed),
+        Err(KeepFault::JournalFull { used }) => Err(RoundEnd::JournalFull { used }),
+        Err(KeepFault::Memory) => Err(RoundEnd::Memory),
+        Err(KeepFault::Damaged { offset: _ }) => unreachable!(),
+    }
+}
