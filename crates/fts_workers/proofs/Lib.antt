@@ -8,3 +8,4 @@ pub mod Reported
 pub mod Claimed
 pub mod Parts
 pub mod FirstCopied
+pub mod Ended

@@ -102,7 +102,7 @@ report_steps tables now file attempt outcome r =
 module _ (formed : (entries : List Entry) → IsLegal entries → AreWellFormed (tables_of entries))
     (outs : (entries : List Entry) → IsLegal entries → AreTheActive (out_of_list entries) (tables_of entries).rows) where
   -- the first file that is out has an ACTIVE row, and a job
-  first_reportable : (entries : List Entry) → IsLegal entries → (kept : Option Outcome) (first : Held) (others : List Held)
+  pub first_reportable : (entries : List Entry) → IsLegal entries → (kept : Option Outcome) (first : Held) (others : List Held)
       → IsFirstOut entries kept first others → IsReportable (tables_of entries) first.file first.attempt
   first_reportable entries legal kept first others out =
       let tables = tables_of entries in

@@ -66,6 +66,7 @@ fn report_first<D: Disk, C: Clock>(
         (stand keep.old bench.old (C.moments clock.old) words) (stand keep.new bench.new (C.moments clock.new) words) }
     ensures kept { KeepsOne bench.new.held }
     ensures places { bench.new.places ≡ bench.old.places }
+    ensures few { length bench.new.held ≤ bench.new.places }
     ensures shorter { OnOk result (length bench.new.held + 1 ≡ length bench.old.held) }
     ensures keeps { KeepsOn D.state D.faults keep.old keep.new }
 {
@@ -105,6 +106,7 @@ fn claim_next<D: Disk, C: Clock, W: Words>(
         (stand keep.old bench.old (C.moments clock.old) (W.words words.old)) (stand keep.new bench.new (C.moments clock.new) (W.words words.new)) }
     ensures none { kept_of bench.new.held ≡ None }
     ensures places { bench.new.places ≡ bench.old.places }
+    ensures few { length bench.new.held ≤ bench.new.places }
     ensures longer { IfOk result (λ more. IsTrue more → length bench.new.held ≡ length bench.old.held + 1) }
     ensures keeps { KeepsOn D.state D.faults keep.old keep.new }
 {
@@ -124,4 +126,87 @@ fn claim_next<D: Disk, C: Clock, W: Words>(
         Err(KeepFault::Memory) => Err(RoundEnd::Memory),
         Err(KeepFault::Damaged { offset: _ }) => unreachable!(),
     }
+}
+
+// No call at all keeps the keep as every part of a round does.
+fn stays<D: Disk>(keep: &Keep<D>)
+    ensures { KeepsOn D.state D.faults keep.now keep.now }
+{
+    let _desk = keep.desk();
+}
+
+// Copies the first file, where no outcome of it is kept, and reports it. At `Ok` it is held no longer.
+fn work_first<D: Disk, E: Store, C: Clock>(
+    keep: &mut Keep<D>,
+    bench: &mut Bench,
+    store: &mut E,
+    clock: &mut C,
+) -> Result<(), RoundEnd>
+    requires order { (entries : List Entry) × IsWorkedOver keep.old bench.old entries }
+    requires kept { KeepsOne bench.old.held }
+    requires some { 1 ≤ length bench.old.held }
+    ensures part { (words : Option Coming) (workers : ℕ) → MakesCopies D.state D.faults E.state E.calls E.faults (WorksOn workers result)
+        (stand keep.old bench.old (C.moments clock.old) words) (stand keep.new bench.new (C.moments clock.new) words) store.old store.new }
+    ensures kept { KeepsOne bench.new.held }
+    ensures places { bench.new.places ≡ bench.old.places }
+    ensures few { length bench.new.held ≤ bench.new.places }
+    ensures shorter { OnOk result (length bench.new.held + 1 ≡ length bench.old.held) }
+    ensures keeps { KeepsOn D.state D.faults keep.old keep.new }
+{
+    tables_are_well_formed();
+    files_out_are_the_active_rows();
+    bench.copy_first(keep.desk(), store);
+    report_first(keep, bench, clock)
+}
+
+// Works off the files that are held, in order of their claims, up to the first that can't be reported.
+fn work_off<D: Disk, E: Store, C: Clock>(
+    keep: &mut Keep<D>,
+    bench: &mut Bench,
+    store: &mut E,
+    clock: &mut C,
+) -> Result<(), RoundEnd>
+    requires order { (entries : List Entry) × IsWorkedOver keep.old bench.old entries }
+    requires kept { KeepsOne bench.old.held }
+    ensures part { (words : Option Coming) (workers : ℕ) → MakesCopies D.state D.faults E.state E.calls E.faults (WorksOn workers result)
+        (stand keep.old bench.old (C.moments clock.old) words) (stand keep.new bench.new (C.moments clock.new) words) store.old store.new }
+    ensures kept { KeepsOne bench.new.held }
+    ensures places { bench.new.places ≡ bench.old.places }
+    ensures few { length bench.new.held ≤ bench.new.places }
+    ensures none { OnOk result (bench.new.held ≡ []) }
+    ensures keeps { KeepsOn D.state D.faults keep.old keep.new }
+{
+    stays(keep);
+    while !bench.held().is_empty() {
+        work_first(keep, bench, store, clock)?;
+    }
+    Ok(())
+}
+
+// Claims, until no row is eligible or the bench is full.
+fn fill_up<D: Disk, C: Clock, W: Words>(
+    keep: &mut Keep<D>,
+    bench: &mut Bench,
+    clock: &mut C,
+    words: &mut W,
+) -> RoundEnd
+    requires order { (entries : List Entry) × IsWorkedOver keep.old bench.old entries }
+    requires none { kept_of bench.old.held ≡ None }
+    requires few { length bench.old.held ≤ bench.old.places }
+    ensures part { MakesNoCopy D.state D.faults (Fills bench.old.places result)
+        (stand keep.old bench.old (C.moments clock.old) (W.words words.old)) (stand keep.new bench.new (C.moments clock.new) (W.words words.new)) }
+    ensures none { kept_of bench.new.held ≡ None }
+    ensures places { bench.new.places ≡ bench.old.places }
+    ensures few { length bench.new.held ≤ bench.new.places }
+    ensures keeps { KeepsOn D.state D.faults keep.old keep.new }
+{
+    stays(keep);
+    while !bench.is_full() {
+        match claim_next(keep, bench, clock, words) {
+            Ok(true) => {}
+            Ok(false) => return bench.calm_end(),
+            Err(end) => return end,
+        }
+    }
+    bench.calm_end()
 }
