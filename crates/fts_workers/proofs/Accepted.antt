@@ -1,18 +1,18 @@
 -- What a command's answer makes of the list that a keep is of, and of the images since an opening.
-use Rattle.std.proofs.Common.{◌≡◌, refl, ap, sym, ◌∙◌, subst, inl, inr, ⊎_elim, ℕ, ◌+◌, ◌≤◌, Bool, true, false, List, [], ◌∷◌, ◌++◌, length, Option, Some, None, All, Result, Ok, Err, IsOk, arith}
-use Rattle.std.specs.Prelude.{◌⊎◌, if◌then◌else◌}
+use Rattle.std.proofs.Common.{◌≡◌, refl, ap, sym, ◌∙◌, subst, inl, inr, ⊎_elim, ℕ, Bool, true, false, List, [], ◌∷◌, ◌++◌, Option, Some, None, Ok, Err, arith}
+use Rattle.std.specs.Prelude.{if◌then◌else◌}
 use Rattle.std.proofs.lemmas.List.{append_assoc, length-append}
 use Rattle.std.proofs.lemmas.List.Elements.{All-nil, All-append}
 use Rattle.fts_tables.specs.Counts.{Rose}
 use Rattle.fts_tables.specs.Tables.{Tables, empty_tables}
 use Rattle.fts_tables.specs.Step.{Outcomes, step}
-use Rattle.fts_tables.specs.History.{tables_of, tables_from, tables_after, IsAccepted, IsLegalFrom, IsLegal}
+use Rattle.fts_tables.specs.History.{tables_from, tables_after, IsAccepted, IsLegalFrom, IsLegal}
 use Rattle.fts_tables.specs.declared.commands.Entry.{Entry}
 use Rattle.fts_tables.specs.declared.commands.Answer.{Answer}
 use Rattle.fts_tables.specs.declared.commands.Refusal.{Refusal}
 use Rattle.fts_disk.specs.Disk.{DiskState, IsTold, IsLawful, LeavesOnly}
-use Rattle.fts_keep.specs.Keeps.{KeepData, IsKeep, IsListOf, IsImageOf, IsImageSince, Grows, KeepsImagesSinceAny, StandsFor, with_doubt}
-use Rattle.fts_keep.specs.Applied.{Applied, Accepts, KeepsList, Applies, applied_to, applied_by, fits}
+use Rattle.fts_keep.specs.Keeps.{KeepData, IsKeep, IsListOf, IsImageOf, IsImageSince, StandsFor, with_doubt}
+use Rattle.fts_keep.specs.Applied.{Applied, Accepts, KeepsList, applied_to, applied_by, fits}
 use Rattle.fts_keep.specs.declared.fault.KeepFault.{KeepFault}
 use Rattle.fts_keep.specs.declared.fault.KeepFault.TheVariants.{Rule, DiskFailed, JournalFull as Full, Damaged, Memory}
 use Rattle.fts_workers.specs.Rounds.{StopsBy}

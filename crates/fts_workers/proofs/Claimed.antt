@@ -1,5 +1,5 @@
 -- A claim of a round: the file that it takes wasn't out, and stands behind the others on the bench; or no row was eligible; or it stopped.
-use Rattle.std.proofs.Common.{◌≡◌, ◌≢◌, refl, ap, sym, ◌∙◌, subst, inl, inr, ℕ, zero, suc, ◌+◌, ◌-◌, ◌<◌, ◌≤◌, Bool, true, false, List, [], ◌∷◌, ◌++◌, length, max, Option, Some, None, Result, Ok, Err, IsOk, arith}
+use Rattle.std.proofs.Common.{◌≡◌, ◌≢◌, refl, ap, sym, ◌∙◌, subst, inl, inr, ℕ, suc, ◌+◌, ◌-◌, ◌<◌, ◌≤◌, true, false, List, [], ◌∷◌, ◌++◌, length, max, Option, Some, None, Ok, Err, IsOk, arith}
 use Rattle.std.specs.Prelude.{count_by, slice_get, ◌==◌}
 use Rattle.std.proofs.lemmas.List.{length-append}
 use Rattle.fts_tables.specs.Counts.{Rose}
@@ -8,25 +8,24 @@ use Rattle.fts_tables.specs.Tables.{Tables, empty_tables, AreWellFormed, row_at}
 use Rattle.fts_tables.specs.Choice.{pick}
 use Rattle.fts_tables.specs.Moves.{change_row, claimed}
 use Rattle.fts_tables.specs.Step.{Outcomes, step, claim, with_rows}
-use Rattle.fts_tables.specs.History.{tables_of, tables_after, out_of_list, out_step, claimed_file, claimed_by, without, IsLegal}
+use Rattle.fts_tables.specs.History.{tables_of, tables_after, out_of_list, out_step, claimed_file, IsLegal}
 use Rattle.fts_tables.specs.declared.rows.FileRow.{FileRow}
 use Rattle.fts_tables.specs.declared.commands.Entry.{Entry}
 use Rattle.fts_tables.specs.declared.commands.Answer.{Answer}
-use Rattle.fts_tables.specs.declared.commands.Answer.TheVariants.{Restarted, Submitted, Cancelled, PrioritySet, Claimed, Reported}
+use Rattle.fts_tables.specs.declared.commands.Answer.TheVariants.{Claimed}
 use Rattle.fts_tables.specs.declared.commands.Refusal.{Refusal}
 use Rattle.fts_tables.specs.declared.commands.Refusal.TheVariants.{Idle}
 use Rattle.fts_tables.specs.declared.commands.Command.TheVariants.{Claim}
-use Rattle.fts_record.specs.Spelling.{spelled}
 use Rattle.fts_disk.specs.Disk.{DiskState}
 use Rattle.fts_keep.specs.Keeps.{KeepData}
-use Rattle.fts_keep.specs.Applied.{Applied, Accepts, KeepsList, applied_to, applied_by, entry_by}
+use Rattle.fts_keep.specs.Applied.{Applied, Accepts, applied_to, applied_by, entry_by}
 use Rattle.fts_keep.specs.declared.fault.KeepFault.{KeepFault}
 use Rattle.fts_keep.specs.declared.fault.KeepFault.TheVariants.{Rule}
 use Rattle.fts_workers.specs.Benches.{BenchData, attempt_of, calm_end, held_as, kept_of}
-use Rattle.fts_workers.specs.Copies.{copies_from, copies_kept}
-use Rattle.fts_workers.specs.Rounds.{Walk, Claims, FindsNone, ClaimStops, FillsUp, IsWorkedOver, StopsBy, Tries, applied_at}
+use Rattle.fts_workers.specs.Copies.{copies_kept}
+use Rattle.fts_workers.specs.Rounds.{Claims, FillsUp, IsWorkedOver, StopsBy, applied_at}
 use Rattle.fts_workers.specs.Stops.{EndsBy, NamesHeld}
-use Rattle.fts_workers.specs.Steps.{Stand, stand, walk_of, Walks, MakesNoCopy, Fills, FillsOn}
+use Rattle.fts_workers.specs.Steps.{Stand, stand, walk_of, Walks, MakesNoCopy, FillsOn}
 use Rattle.fts_workers.specs.declared.held.Held.{Held}
 use Rattle.fts_workers.specs.declared.ends.RoundEnd.{RoundEnd}
 use Rattle.fts_workers.proofs.Accepted.{refused_of, stepped, stops_by, tables_more, list_more, fault_keeps}
@@ -70,9 +69,9 @@ claim_idle tables now (Some row) refusal is = absurd cc
 
 module _ {D : Type 0} (state : D → DiskState) (faults : D → ℕ) (formed : (entries : List Entry) → IsLegal entries → AreWellFormed (tables_of entries))
     (stands : (tables : Tables) (now word : ℕ) (row : FileRow) → AreWellFormed tables → pick tables now word ≡ Some row
-      → (1 ≤ row.id) × (slice_get tables.rows (row.id - 1) ≡ Some row))
+    → (1 ≤ row.id) × (slice_get tables.rows (row.id - 1) ≡ Some row))
     (was_in : (entries : List Entry) (now word file : ℕ) → IsLegal entries → claimed_file (step (tables_of entries) (Claim now word)) ≡ Some file
-      → count_by (λ other. other == file) (out_of_list entries) ≡ 0)
+    → count_by (λ other. other == file) (out_of_list entries) ≡ 0)
     (old new : KeepData D) (bench : BenchData) (none : kept_of bench.held ≡ None) (free : length bench.held < bench.places)
     (moments later words words_later : Option Coming) (now word : ℕ) (moment : Gives moments later now) (drawn : Gives words words_later word)
     (counts : faults old.disk ≤ faults new.disk) where
@@ -247,7 +246,7 @@ module _ {D : Type 0} (state : D → DiskState) (faults : D → ℕ) (formed : (
       let keeps = fault_keeps state faults old new the_claim (Rule refusal) applied in
       let now_then = max now old.tables.moment in
       let idle = claim_idle old.tables now_then (pick old.tables now_then word) refusal
-          (refused_of old.used the_claim (step old.tables the_claim.command) refusal applied.0) in
+      (refused_of old.used the_claim (step old.tables the_claim.command) refusal applied.0) in
       stays state faults (FillsOn bench.places (Ok false)) old new bench moments later words words_later keeps (λ entries over.
       subst (λ n. FillsUp n (walk_of faults entries before) (calm_end (length (out_of_list (entries ++ [])))) (walk_of faults (entries ++ []) still))
       (sym (one_free entries over))

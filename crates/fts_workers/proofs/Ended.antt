@@ -1,14 +1,10 @@
 -- What the end of a round says: why it stopped, and what is held then.
-use Rattle.std.proofs.Common.{◌≡◌, ◌≢◌, refl, ap, sym, ◌∙◌, subst, inl, inr, ⊎_elim, ℕ, zero, suc, ◌+◌, ◌-◌, ◌<◌, ◌≤◌, List, [], ◌∷◌, ◌++◌, length, Option, Some, None, Err, arith}
-use Rattle.std.specs.Prelude.{◌⊎◌}
+use Rattle.std.proofs.Common.{◌≡◌, ◌≢◌, refl, ap, sym, ◌∙◌, inl, inr, ℕ, zero, suc, ◌-◌, ◌≤◌, List, [], ◌∷◌, length, arith}
 use Rattle.fts_tables.specs.Counts.{Rose}
 use Rattle.fts_tables.specs.Step.{step}
 use Rattle.fts_tables.specs.History.{tables_of, out_of_list}
-use Rattle.fts_tables.specs.declared.commands.Entry.{Entry}
-use Rattle.fts_keep.specs.Applied.{applied_to}
-use Rattle.fts_keep.specs.declared.fault.KeepFault.TheVariants.{JournalFull as Full}
-use Rattle.fts_workers.specs.Benches.{EndsHolding, calm_end, held_as, kept_of}
-use Rattle.fts_workers.specs.Rounds.{Walk, FillsUp, WorksOff, IsRound, IsFullAt, applied_at}
+use Rattle.fts_workers.specs.Benches.{EndsHolding, calm_end}
+use Rattle.fts_workers.specs.Rounds.{Walk, FillsUp, WorksOff, IsRound, IsFullAt, report_in}
 use Rattle.fts_workers.specs.declared.held.Held.{Held}
 use Rattle.fts_workers.specs.declared.ends.RoundEnd.{RoundEnd}
 use Rattle.fts_workers.specs.declared.ends.RoundEnd.TheVariants.{Clear, Busy, DiskFailed, JournalFull, Memory}
@@ -55,7 +51,9 @@ fills_full (suc free) used walk after (inr (inr stops)) =
 works_full : (workers : ℕ) (files : List ℕ) (used : ℕ) (walk after : Walk) → WorksOff workers files walk (JournalFull used) after → used ≡ after.used
 works_full workers [] used walk after filled = fills_full (workers - length (out_of_list walk.entries)) used walk after filled
 works_full workers (file ∷ files) used walk after (inl reported) = works_full workers files used reported.0 after reported.1.1
-works_full workers (file ∷ files) used walk after (inr stops) = full_of walk.used used _ (step (tables_of walk.entries) _) stops.stops ∙ sym stops.none.filled
+works_full workers (file ∷ files) used walk after (inr stops) =
+    let report = report_in walk.entries stops.now file stops.outcome in
+    full_of walk.used used report (step (tables_of walk.entries) report.command) stops.stops ∙ sym stops.none.filled
 
 pub round_full : (workers : ℕ) (end : RoundEnd) (walk after : Walk) → IsRound workers walk end after → IsFullAt after.used end
 round_full workers Clear walk after round = tt

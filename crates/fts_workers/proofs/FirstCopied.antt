@@ -1,5 +1,5 @@
 -- The first file that is held, once its outcome is kept: how a copy and its report are one step of a round.
-use Rattle.std.proofs.Common.{◌≡◌, refl, ap, sym, ◌∙◌, subst, inl, inr, ℕ, zero, suc, ◌+◌, ◌≤◌, Bool, true, false, List, [], ◌∷◌, ◌++◌, map, length, get_or, Option, Some, None, IsSome, Result, Ok, Err, arith}
+use Rattle.std.proofs.Common.{◌≡◌, refl, ap, sym, ◌∙◌, subst, inl, inr, ℕ, ◌≤◌, true, false, List, [], ◌∷◌, ◌++◌, length, get_or, Option, Some, None, IsSome, Result, Ok, Err, arith}
 use Rattle.std.specs.Prelude.{is_some}
 use Rattle.std.specs.Option.{option_map_or}
 use Rattle.fts_tables.specs.Coming.{Coming}
@@ -13,7 +13,7 @@ use Rattle.fts_store.specs.Calls.{Call}
 use Rattle.fts_store.specs.Store.{StoreState}
 use Rattle.fts_keep.specs.Keeps.{KeepData}
 use Rattle.fts_workers.specs.Benches.{BenchData, attempt_of, KeepsNoStop, KeepsOne, held_as, held_over, is_stopped, kept_of}
-use Rattle.fts_workers.specs.Copies.{Copy, AreCopied, copies_from, copies_kept, copies_of_file}
+use Rattle.fts_workers.specs.Copies.{Copy, AreCopied, copies_kept, copies_of_file}
 use Rattle.fts_workers.specs.FirstFile.{CopiesFirst, HasFirst, IsFirstCopied, copies_unless}
 use Rattle.fts_workers.specs.Rounds.{Walk, IsOutcome, IsRound, IsWorkedOver, Reports, ReportStops, WorksOff}
 use Rattle.fts_workers.specs.Steps.{Stand, stand, walk_of, MakesNoCopy, MakesCopies, WorksOn, kept_at}

@@ -9,3 +9,5 @@ pub mod Claimed
 pub mod Parts
 pub mod FirstCopied
 pub mod Ended
+pub mod Looping
+pub mod Rounded

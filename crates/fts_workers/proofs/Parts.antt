@@ -1,17 +1,14 @@
 -- Parts of a round, one behind the other.
-use Rattle.std.proofs.Common.{◌≡◌, refl, ap, sym, ◌∙◌, subst, inl, inr, ℕ, zero, suc, ◌+◌, ◌-◌, ◌≤◌, Bool, true, false, List, [], ◌∷◌, ◌++◌, length, Option, Some, None, Result, Ok, Err, arith}
+use Rattle.std.proofs.Common.{◌≡◌, refl, ap, sym, ◌∙◌, subst, ℕ, zero, suc, ◌-◌, ◌≤◌, Bool, true, false, List, [], ◌∷◌, ◌++◌, length, Option, Result, Ok, Err, arith}
 use Rattle.std.proofs.lemmas.List.{append_assoc}
-use Rattle.fts_tables.specs.Coming.{Coming}
-use Rattle.fts_tables.specs.Tables.{Tables}
 use Rattle.fts_tables.specs.History.{tables_of, tables_from, out_of_list}
 use Rattle.fts_tables.specs.declared.commands.Entry.{Entry}
-use Rattle.fts_disk.specs.Disk.{DiskState, IsTold}
+use Rattle.fts_disk.specs.Disk.{DiskState}
 use Rattle.fts_store.specs.Calls.{Call}
 use Rattle.fts_store.specs.Store.{StoreState}
-use Rattle.fts_keep.specs.Keeps.{KeepData}
-use Rattle.fts_workers.specs.Benches.{BenchData, calm_end, held_as, kept_of}
-use Rattle.fts_workers.specs.Copies.{Copy, FollowsReports, copies_from, copies_kept}
-use Rattle.fts_workers.specs.Rounds.{Walk, IsRound, FillsUp, WorksOff, IsWorkedOver}
+use Rattle.fts_workers.specs.Benches.{calm_end, kept_of}
+use Rattle.fts_workers.specs.Copies.{FollowsReports, copies_from}
+use Rattle.fts_workers.specs.Rounds.{Walk, IsRound, FillsUp, WorksOff}
 use Rattle.fts_workers.specs.Steps.{Stand, walk_of, IsOver, Walks, MakesNoCopy, MakesCopies, WorksOn, Fills, FillsOn, kept_at}
 use Rattle.fts_workers.specs.declared.ends.RoundEnd.{RoundEnd}
 use Rattle.fts_workers.proofs.Copied.{none_more, tables_from-append, copies_from-append, follows_more}
@@ -20,7 +17,7 @@ use Rattle.fts_workers.proofs.OutFiles.{length-held_as}
 module _ {D : Type 0} (state : D → DiskState) (faults : D → ℕ) where
   module _ (First Second Both : Walk → Walk → Type 0) (one two three : Stand D)
       (joins : (walk after : Walk) (entries : List Entry) → IsOver two entries → First walk (walk_of faults entries two)
-        → Second (walk_of faults entries two) after → Both walk after) where
+      → Second (walk_of faults entries two) after → Both walk after) where
     -- two parts
     pub walks_then : Walks state faults First one two → Walks state faults Second two three → Walks state faults Both one three
     walks_then first second = record {

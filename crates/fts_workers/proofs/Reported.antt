@@ -1,6 +1,6 @@
 -- The report of the first file that is held: why it is never refused, and what its answer leaves.
-use Rattle.std.proofs.Common.{◌≡◌, refl, ap, sym, ◌∙◌, subst, inl, inr, ⊎_elim, ℕ, zero, suc, ◌+◌, ◌≤◌, Bool, true, false, cond, List, [], ◌∷◌, ◌++◌, length, max, Option, Some, None, IsSome, Result, Ok, Err, IsOk, arith, eq-eqb}
-use Rattle.std.specs.Prelude.{◌⊎◌, ◌==◌, ◌&&◌, count_by}
+use Rattle.std.proofs.Common.{◌≡◌, refl, ap, sym, ◌∙◌, subst, inl, inr, ℕ, ◌+◌, ◌≤◌, Bool, true, false, cond, List, [], ◌∷◌, ◌++◌, length, max, Option, Some, None, Ok, Err, IsOk, arith, eq-eqb}
+use Rattle.std.specs.Prelude.{◌==◌, ◌&&◌}
 use Rattle.std.specs.Option.{option_map_or}
 use Rattle.std.proofs.lemmas.List.Sums.{sum_by-cons}
 use Rattle.fts_tables.specs.Counts.{Rose}
@@ -21,24 +21,22 @@ use Rattle.fts_tables.specs.declared.commands.Refusal.{Refusal}
 use Rattle.fts_tables.specs.declared.commands.Refusal.TheVariants.{Stale}
 use Rattle.fts_tables.specs.declared.commands.Command.TheVariants.{Report}
 use Rattle.fts_disk.specs.Disk.{DiskState}
-use Rattle.fts_keep.specs.Keeps.{KeepData, IsListOf}
+use Rattle.fts_keep.specs.Keeps.{KeepData}
 use Rattle.fts_keep.specs.Applied.{Applied, Accepts, KeepsList, applied_to, entry_by}
 use Rattle.fts_keep.specs.declared.fault.KeepFault.{KeepFault}
 use Rattle.fts_keep.specs.declared.fault.KeepFault.TheVariants.{Rule, DiskFailed as KeepDiskFailed, JournalFull as Full, Damaged, Memory as KeepMemory}
 use Rattle.fts_workers.specs.Benches.{BenchData, attempt_of, held_as, held_over, is_stopped, kept_of}
 use Rattle.fts_workers.specs.Copies.{copies_of_file, copies_kept}
-use Rattle.fts_workers.specs.FirstFile.{HasFirst}
-use Rattle.fts_workers.specs.Rounds.{Walk, Adds, AddsNone, StopsBy, IsOutcome, Reports, ReportStops, WorksOff, IsRound, IsWorkedOver, applied_at, report_in}
+use Rattle.fts_workers.specs.Rounds.{StopsBy, IsOutcome, Reports, WorksOff, IsWorkedOver, applied_at, report_in}
 use Rattle.fts_workers.specs.Stops.{IsStop, EndsBy}
 use Rattle.fts_workers.specs.Steps.{Stand, stand, walk_of, Walks, MakesNoCopy, WorksOn}
 use Rattle.fts_workers.specs.declared.held.Held.{Held}
 use Rattle.fts_workers.specs.declared.ends.RoundEnd.{RoundEnd}
-use Rattle.fts_workers.specs.declared.ends.RoundEnd.TheVariants.{DiskFailed, JournalFull, Memory}
-use Rattle.fts_workers.proofs.Accepted.{step_of, refused_of, stepped, stops_by, tables_more, list_more, list_same, fault_keeps}
+use Rattle.fts_workers.proofs.Accepted.{refused_of, stops_by, tables_more, list_more, fault_keeps}
 use Rattle.fts_workers.proofs.Attempts.{report_attempts}
 use Rattle.fts_workers.proofs.Copied.{none_more, tables_from-append, copies_kept-none}
 use Rattle.fts_workers.proofs.Stayed.{stays}
-use Rattle.fts_workers.proofs.Numbered.{IsActiveAt, active_found, row_at-id, job_stands}
+use Rattle.fts_workers.proofs.Numbered.{active_found, row_at-id, job_stands}
 use Rattle.fts_workers.proofs.OutFiles.{times, out_of_list-last, without-first, held_as-same}
 
 -- the first file that is held, by the files that are out
@@ -92,12 +90,12 @@ report_steps tables now file attempt outcome r =
     ap (λ found. report tables moment found attempt outcome) r.at
     ∙ ap (λ found. report_of tables moment r.row attempt outcome found) r.found
     ∙ ap (λ (passes : Bool). cond {A = Outcomes} passes
-      (Ok (
-        with_rows tables moment (rows_reported tables moment file attempt outcome r),
-        Reported r.row.id (reported r.job moment outcome r.row).state,
-      ))
-      (Err (Stale r.row.state r.row.attempt)))
-      (ap (λ active. active && (r.row.attempt == attempt)) r.active ∙ eq-eqb r.row.attempt attempt r.attempt_is)
+    (Ok (
+      with_rows tables moment (rows_reported tables moment file attempt outcome r),
+      Reported r.row.id (reported r.job moment outcome r.row).state,
+    ))
+    (Err (Stale r.row.state r.row.attempt)))
+    (ap (λ active. active && (r.row.attempt == attempt)) r.active ∙ eq-eqb r.row.attempt attempt r.attempt_is)
 
 module _ (formed : (entries : List Entry) → IsLegal entries → AreWellFormed (tables_of entries))
     (outs : (entries : List Entry) → IsLegal entries → AreTheActive (out_of_list entries) (tables_of entries).rows) where
@@ -111,7 +109,7 @@ module _ (formed : (entries : List Entry) → IsLegal entries → AreWellFormed 
       let among : 1 ≤ times first.file (first.file ∷ out.files) = omega (arith, head, one) in
       let counted = (outs entries legal).counts (λ other. other == first.file) in
       let found = active_found 1 tables.rows first.file (formed entries legal).rows
-          (subst (λ n. 1 ≤ n) counted (subst (λ all. 1 ≤ times first.file all) (sym out.out) among)) in
+      (subst (λ n. 1 ≤ n) counted (subst (λ all. 1 ≤ times first.file all) (sym out.out) among)) in
       let job = job_stands tables first.file found.row (formed entries legal) found.at in
       record {
         row = found.row;
@@ -170,7 +168,7 @@ module _ {D : Type 0} (state : D → DiskState) (faults : D → ℕ) (formed : (
   report_accepted entries over refusal is =
       let r = reportable_at entries over in
       let no = sym is ∙ ap (λ t. step t the_report.command) over.list.folded
-          ∙ report_steps (tables_of entries) now first.file first.attempt outcome r in
+      ∙ report_steps (tables_of entries) now first.file first.attempt outcome r in
       absurd cc
 
   module _ (answer : Answer) (done : Accepts state old new the_report answer) where
@@ -202,7 +200,7 @@ module _ {D : Type 0} (state : D → DiskState) (faults : D → ℕ) (formed : (
         (tables_from-append empty_tables entries (the_report ∷ [])
         ∙ ap (tables_after (tables_of entries)) (report_steps (tables_of entries) now first.file first.attempt outcome r))
         ∙ report_attempts r.job (reported r.job (max now (tables_of entries).moment) outcome r.row) (max now (tables_of entries).moment) outcome r.row.id
-          (tables_of entries).rows file
+        (tables_of entries).rows file
 
     -- keep and bench are over the list with it
     over_after : (entries : List Entry) → IsWorkedOver old bench entries → IsWorkedOver new left (entries ++ the_report ∷ [])
@@ -261,7 +259,7 @@ module _ {D : Type 0} (state : D → DiskState) (faults : D → ℕ) (formed : (
         let out = out_at entries over in
         let none : copies_kept new.tables others ≡ [] = ap (copies_kept new.tables) out.rest ∙ copies_kept-none new.tables (tables_of entries) out.files in
         let none_before : copies_kept old.tables others ≡ [] = ap (copies_kept old.tables) out.rest
-            ∙ copies_kept-none old.tables (tables_of entries) out.files in
+        ∙ copies_kept-none old.tables (tables_of entries) out.files in
         record {
           walks = reported_walks;
           balance = ap (copies_kept old.tables) held

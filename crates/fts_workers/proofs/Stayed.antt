@@ -1,5 +1,5 @@
 -- A command that added nothing: keep and bench are over the list that they were over.
-use Rattle.std.proofs.Common.{◌≡◌, refl, ap, sym, ◌∙◌, subst, ℕ, List, [], ◌++◌, Option}
+use Rattle.std.proofs.Common.{ap, sym, ◌∙◌, subst, ℕ, List, [], ◌++◌, Option}
 use Rattle.fts_tables.specs.Coming.{Coming}
 use Rattle.fts_tables.specs.declared.commands.Entry.{Entry}
 use Rattle.fts_disk.specs.Disk.{DiskState}
@@ -7,7 +7,7 @@ use Rattle.fts_keep.specs.Keeps.{KeepData}
 use Rattle.fts_keep.specs.Applied.{KeepsList}
 use Rattle.fts_workers.specs.Benches.{BenchData}
 use Rattle.fts_workers.specs.Copies.{copies_kept}
-use Rattle.fts_workers.specs.Rounds.{Walk, AddsNone, IsWorkedOver}
+use Rattle.fts_workers.specs.Rounds.{Walk, IsWorkedOver}
 use Rattle.fts_workers.specs.Steps.{stand, walk_of, MakesNoCopy}
 use Rattle.fts_workers.proofs.Accepted.{list_same}
 use Rattle.fts_workers.proofs.Copied.{none_more}

@@ -72,7 +72,11 @@ FillsOn workers (Ok true) walk now = (end : RoundEnd) (after : Walk) → Fills w
 FillsOn workers (Ok false) walk after = Fills workers (calm_end (length (out_of_list after.entries))) walk after
 FillsOn workers (Err end) walk after = Fills workers end walk after
 
--- what every part keeps: the list only grows, by entries of writer 0; each image is one of it; and the bench has its places
+-- a whole round
+abbrev pub RoundsTo : ℕ → RoundEnd → Walk → Walk → Type 0
+RoundsTo workers end walk after = IsRound workers walk end after
+
+-- what every part keeps: the list only grows, by entries of writer 0, and each image is one of it
 pub record KeepsOn {D : Type 0} (state : D → DiskState) (faults : D → ℕ) (old new : KeepData D) : Type 0 where
   pub grows : Grows state faults 0 old new
   pub images : KeepsImagesSinceAny state old new

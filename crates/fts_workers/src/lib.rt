@@ -9,7 +9,7 @@ mod ends;
 mod gate;
 mod hand;
 mod held;
-mod round;
+mod rounds;
 mod watch;
 
 pub use bench::Bench;
@@ -17,3 +17,4 @@ pub use ends::RoundEnd;
 pub use gate::{Gate, NoGate};
 pub use hand::Hand;
 pub use held::Held;
+pub use rounds::round;

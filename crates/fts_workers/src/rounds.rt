@@ -7,10 +7,13 @@
 ghost use Rattle.std.specs.Prelude.{◌≡◌, ◌+◌, ◌≤◌, ◌<◌, ℕ, [], List, Option, None, length, IsTrue, IfOk, OnOk};
 ghost use Rattle.fts_tables.specs.Coming.{Coming};
 ghost use Rattle.fts_tables.specs.declared.commands.Entry.{Entry};
-ghost use Rattle.fts_workers.specs.Benches.{KeepsOne, kept_of};
+ghost use Rattle.fts_tables.specs.Counts.{Rose};
+ghost use Rattle.fts_store.specs.Store.{Stays};
+ghost use Rattle.fts_keep.specs.Keeps.{Grows, KeepsImagesSinceAny};
+ghost use Rattle.fts_workers.specs.Benches.{EndsHolding, HoldsActive, KeepsOne, kept_of};
 ghost use Rattle.fts_workers.specs.FirstFile.{IsFirstCopied};
-ghost use Rattle.fts_workers.specs.Rounds.{IsWorkedOver};
-ghost use Rattle.fts_workers.specs.Steps.{stand, MakesNoCopy, MakesCopies, WorksOn, Fills, FillsOn, KeepsOn};
+ghost use Rattle.fts_workers.specs.Rounds.{IsFullAt, IsWorkedOver, MakesRound};
+ghost use Rattle.fts_workers.specs.Steps.{stand, MakesNoCopy, MakesCopies, WorksOn, Fills, FillsOn, KeepsOn, RoundsTo};
 ghost use Rattle.fts_workers.specs.Stops.{IsStop, EndsBy, IsClaimed, NamesHeld};
 
 use crate::{Bench, Held, RoundEnd};
@@ -18,7 +21,8 @@ use fts_disk::Disk;
 use fts_keep::{Keep, KeepFault};
 use fts_store::Store;
 use fts_tables::laws::{
-    claimed_files_were_in, files_out_are_the_active_rows, picked_rows_stand, tables_are_well_formed,
+    active_rows_have_known_ends, claimed_files_were_in, files_out_are_the_active_rows,
+    picked_rows_stand, tables_are_well_formed,
 };
 use fts_tables::{Answer, Clock, Command, Words};
 
@@ -209,4 +213,66 @@ fn fill_up<D: Disk, C: Clock, W: Words>(
         }
     }
     bench.calm_end()
+}
+
+// Works off what is held, and where that met no fault, claims.
+fn work_round<D: Disk, E: Store, C: Clock, W: Words>(
+    keep: &mut Keep<D>,
+    bench: &mut Bench,
+    store: &mut E,
+    clock: &mut C,
+    words: &mut W,
+) -> RoundEnd
+    requires order { (entries : List Entry) × IsWorkedOver keep.old bench.old entries }
+    requires kept { KeepsOne bench.old.held }
+    ensures part { MakesCopies D.state D.faults E.state E.calls E.faults (RoundsTo bench.old.places result)
+        (stand keep.old bench.old (C.moments clock.old) (W.words words.old)) (stand keep.new bench.new (C.moments clock.new) (W.words words.new))
+        store.old store.new }
+    ensures kept { KeepsOne bench.new.held }
+    ensures places { bench.new.places ≡ bench.old.places }
+    ensures few { length bench.new.held ≤ bench.new.places }
+    ensures keeps { KeepsOn D.state D.faults keep.old keep.new }
+{
+    match work_off(keep, bench, store, clock) {
+        Ok(()) => fill_up(keep, bench, clock, words),
+        Err(end) => end,
+    }
+}
+
+/// One round. Each file that is held is copied, where no outcome of it is kept, and reported by writer 0, in order of the claims; then others are
+/// claimed, until no row is eligible or the bench is full. Each command that is tried takes the clock's next moment, and each claim the next word.
+/// The bench holds the files that are out, over some list that the keep's tables are of. No report is `Stale`, and none says `Stopped`.
+/// `Clear` and `Busy` say that no fault was met, and what is held then. A fault ends the round at once, and the next round goes on from there:
+/// `DiskFailed` only where the disk counted a failure in this round, `JournalFull` exactly by the limit, and `Memory` freely. An outcome that
+/// couldn't be reported is kept, and reported first then.
+pub fn round<D: Disk, E: Store, C: Clock, W: Words>(
+    keep: &mut Keep<D>,
+    bench: &mut Bench,
+    store: &mut E,
+    clock: &mut C,
+    words: &mut W,
+) -> RoundEnd
+    requires order { (entries : List Entry) × IsWorkedOver keep.old bench.old entries }
+    requires kept { KeepsOne bench.old.held }
+
+    // Over every disk it is a round over whatever list the tables and the bench are of.
+    ensures round { MakesRound D.state D.faults E.state E.calls E.faults keep.old keep.new bench.old bench.new store.old store.new
+        (C.moments clock.old) (C.moments clock.new) (W.words words.old) (W.words words.new) result }
+    ensures active { HoldsActive keep.new.tables bench.new }
+    ensures places { bench.new.places ≡ bench.old.places }
+
+    // What its end says.
+    ensures end { EndsHolding bench.new.held result }
+    ensures disk_failed { result ≡ RoundEnd.DiskFailed → Rose (D.faults keep.old.disk) (D.faults keep.new.disk) }
+    ensures journal_full { IsFullAt keep.new.used result }
+
+    // What stays of the store, the list and its images.
+    ensures stays { Stays (E.state store.old) (E.state store.new) }
+    ensures no_fewer_faults { E.faults store.old ≤ E.faults store.new }
+    ensures grows { Grows D.state D.faults 0 keep.old keep.new }
+    ensures images { KeepsImagesSinceAny D.state keep.old keep.new }
+{
+    files_out_are_the_active_rows();
+    active_rows_have_known_ends();
+    work_round(keep, bench, store, clock, words)
 }

@@ -3,7 +3,7 @@ use Rattle.std.proofs.Common.{◌≡◌, sym, ◌∙◌, subst, ◌+◌, length,
 use Rattle.fts_tables.specs.Tables.{AreWellFormed}
 use Rattle.fts_workers.specs.FirstFile.{HasFirst, CopiesFirst}
 use Rattle.fts_workers.proofs.FirstCopied.{first_there, front_of, mid_copied, mid_length, mid_places, over_mid, worked_part}
-use Rattle.fts_workers.proofs.round.work_first.Goals as goal
+use Rattle.fts_workers.proofs.rounds.work_first.Goals as goal
 
 pub copy_first-requires-clause-formed : goal.copy_first-requires-clause-formed
 copy_first-requires-clause-formed g c =
@@ -22,9 +22,11 @@ report_first-requires-clause-order g c =
     let front = front_of c.args.bench.now.held c.requires.some in
     let copies = c.copy_first.ensures.copied front.first front.others front.is in
     let counted = subst (λ t. CopiesFirst g.E.Store.state g.E.Store.calls g.E.Store.faults t front.first front.others c.args.bench.now
-    c.copy_first.new.self c.args.store.now c.copy_first.new.store) c.desk.ensures.tables copies in
-    (c.requires.order.0, over_mid g.D.Disk.state g.D.Disk.faults g.E.Store.state g.E.Store.calls g.E.Store.faults c.args.keep.now c.args.keep.now c.args.bench.now c.copy_first.new.self c.args.bench.now
-    front.first front.others c.args.store.now c.copy_first.new.store front.is counted c.requires.order.0 c.requires.order.1)
+    c.copy_first.new.self c.args.store.now c.copy_first.new.store) c.desk.ensures.tables copies in (
+      c.requires.order.0,
+      over_mid g.D.Disk.state g.D.Disk.faults g.E.Store.state g.E.Store.calls g.E.Store.faults c.args.keep.now c.args.keep.now c.args.bench.now c.copy_first.new.self c.args.bench.now
+          front.first front.others c.args.store.now c.copy_first.new.store front.is counted c.requires.order.0 c.requires.order.1,
+    )
 
 pub report_first-requires-clause-copied : goal.report_first-requires-clause-copied
 report_first-requires-clause-copied g c =

@@ -1,5 +1,5 @@
 -- A claim: accepted, idle, or stopped.
-use Rattle.std.proofs.Common.{refl, sym, subst, ◌∷◌, [], ◌++◌, true, Ok, Err}
+use Rattle.std.proofs.Common.{refl, sym, subst, true, Ok, Err}
 use Rattle.fts_tables.specs.declared.commands.Command.TheVariants.{Claim}
 use Rattle.fts_keep.specs.Applied.{Applied, entry_by}
 use Rattle.fts_keep.specs.declared.fault.KeepFault.TheVariants.{DiskFailed, JournalFull, Memory}
@@ -7,7 +7,7 @@ use Rattle.fts_workers.specs.Benches.{BenchData}
 use Rattle.fts_workers.specs.Steps.{MakesNoCopy, FillsOn, stand}
 use Rattle.fts_workers.specs.declared.ends.RoundEnd.TheVariants.{DiskFailed as EndsByDisk, JournalFull as EndsByLimit, Memory as EndsByMemory}
 use Rattle.fts_workers.proofs.Claimed.{claimed_part, claim_found_none, claim_stops}
-use Rattle.fts_workers.proofs.round.claim_next.Goals as goal
+use Rattle.fts_workers.proofs.rounds.claim_next.Goals as goal
 
 pub returns-in-Ok-clause-part : goal.returns-in-Ok-clause-part
 returns-in-Ok-clause-part g c =

@@ -1,11 +1,11 @@
 -- The report of the first file: accepted, or stopped with its outcome kept.
-use Rattle.std.proofs.Common.{◌≡◌, ap, sym, ◌∙◌, subst, get_or, None, Ok}
+use Rattle.std.proofs.Common.{sym, subst, get_or, None, Ok}
 use Rattle.fts_workers.specs.Benches.{BenchData, KeepsOne}
 use Rattle.fts_workers.specs.Steps.{MakesNoCopy, WorksOn, stand}
 use Rattle.fts_workers.specs.declared.held.Held.{Held}
 use Rattle.fts_workers.proofs.FirstCopied.{head_of, copied_keeps, others_keep}
 use Rattle.fts_workers.proofs.Reported.{reported_part, report_stops, report_stop}
-use Rattle.fts_workers.proofs.round.report_first.Goals as goal
+use Rattle.fts_workers.proofs.rounds.report_first.Goals as goal
 
 pub end_by-requires : goal.end_by-requires
 end_by-requires g c =
