@@ -1,6 +1,6 @@
 //! The rows. A row is a sentence, settings, a job document, the numbers of the store's failing calls and of its appends that lose a byte, and a
 //! script: a line is a command or a question, ` = `, and its answer, as written by hand.
-ghost use Rattle.std.specs.Prelude.{OnOk, IfOk};
+ghost use Rattle.std.specs.Prelude.{◌≡◌, OnOk};
 ghost use Rattle.fts_rounds_trial.specs.Ready.{IsReady};
 
 use crate::Bed;
@@ -19,27 +19,38 @@ const ABC: [u8; 16] = [
     0x90, 0x01, 0x50, 0x98, 0x3c, 0xd2, 0x4f, 0xb0, 0xd6, 0x96, 0x3f, 0x7d, 0x28, 0xe1, 0x7f, 0x72,
 ];
 
-const TWO: &str = "[[storage]]\nurl = \"https://a.example\"\n[[storage]]\nurl = \"https://b.example\"\n";
+const TWO: &str =
+    "[[storage]]\nurl = \"https://a.example\"\n[[storage]]\nurl = \"https://b.example\"\n";
 
-const THREE: &str = "[[storage]]\nurl = \"https://a.example\"\n[[storage]]\nurl = \"https://b.example\"\n[[storage]]\nurl = \"https://c.example\"\ninbound_max_active = 1\n";
+const THREE: &str =
+    "[[storage]]\nurl = \"https://a.example\"\n[[storage]]\nurl = \"https://b.example\"\n[[storage]]\nurl = \"https://c.example\"\ninbound_max_active = 1\n";
 
-const FIVE: &str = "{\"files\":[{\"sources\":[\"https://a.example/f1\"],\"destinations\":[\"https://b.example/f1\"]},{\"sources\":[\"https://a.example/f2\"],\"destinations\":[\"https://b.example/f2\"]},{\"sources\":[\"https://a.example/f3\"],\"destinations\":[\"https://b.example/f3\"]},{\"sources\":[\"https://a.example/f4\"],\"destinations\":[\"https://b.example/f4\"]},{\"sources\":[\"https://a.example/f5\"],\"destinations\":[\"https://b.example/f5\"]}]}";
+const FIVE: &str =
+    "{\"files\":[{\"sources\":[\"https://a.example/f1\"],\"destinations\":[\"https://b.example/f1\"]},{\"sources\":[\"https://a.example/f2\"],\"destinations\":[\"https://b.example/f2\"]},{\"sources\":[\"https://a.example/f3\"],\"destinations\":[\"https://b.example/f3\"]},{\"sources\":[\"https://a.example/f4\"],\"destinations\":[\"https://b.example/f4\"]},{\"sources\":[\"https://a.example/f5\"],\"destinations\":[\"https://b.example/f5\"]}]}";
 
-const THREE_FILES: &str = "{\"files\":[{\"sources\":[\"https://a.example/f1\"],\"destinations\":[\"https://b.example/f1\"]},{\"sources\":[\"https://a.example/f2\"],\"destinations\":[\"https://b.example/f2\"]},{\"sources\":[\"https://a.example/f3\"],\"destinations\":[\"https://b.example/f3\"]}]}";
+const THREE_FILES: &str =
+    "{\"files\":[{\"sources\":[\"https://a.example/f1\"],\"destinations\":[\"https://b.example/f1\"]},{\"sources\":[\"https://a.example/f2\"],\"destinations\":[\"https://b.example/f2\"]},{\"sources\":[\"https://a.example/f3\"],\"destinations\":[\"https://b.example/f3\"]}]}";
 
-const INTO_THIRD: &str = "{\"files\":[{\"sources\":[\"https://b.example/there\"],\"destinations\":[\"https://c.example/f1\"]},{\"sources\":[\"https://a.example/f2\"],\"destinations\":[\"https://c.example/f2\"]}]}";
+const INTO_THIRD: &str =
+    "{\"files\":[{\"sources\":[\"https://b.example/there\"],\"destinations\":[\"https://c.example/f1\"]},{\"sources\":[\"https://a.example/f2\"],\"destinations\":[\"https://c.example/f2\"]}]}";
 
-const SOURCES: &str = "{\"files\":[{\"sources\":[\"https://a.example/none\",\"https://a.example/f1\",\"https://a.example/f2\"],\"destinations\":[\"https://b.example/f1\"],\"selection_strategy\":\"orderly\"}]}";
+const SOURCES: &str =
+    "{\"files\":[{\"sources\":[\"https://a.example/none\",\"https://a.example/f1\",\"https://a.example/f2\"],\"destinations\":[\"https://b.example/f1\"],\"selection_strategy\":\"orderly\"}]}";
 
-const HOPS: &str = "{\"files\":[{\"sources\":[\"https://a.example/f1\"],\"destinations\":[\"https://b.example/f1\"]},{\"sources\":[\"https://b.example/f1\"],\"destinations\":[\"https://b.example/there\"]},{\"sources\":[\"https://b.example/there\"],\"destinations\":[\"https://a.example/g1\"]}],\"params\":{\"multihop\":true}}";
+const HOPS: &str =
+    "{\"files\":[{\"sources\":[\"https://a.example/f1\"],\"destinations\":[\"https://b.example/f1\"]},{\"sources\":[\"https://b.example/f1\"],\"destinations\":[\"https://b.example/there\"]},{\"sources\":[\"https://b.example/there\"],\"destinations\":[\"https://a.example/g1\"]}],\"params\":{\"multihop\":true}}";
 
-const EMPTY: &str = "{\"files\":[{\"sources\":[\"https://a.example/empty\"],\"destinations\":[\"https://b.example/f1\"],\"checksum\":\"MD5:d41d8cd98f00b204e9800998ecf8427e\"}],\"params\":{\"verify_checksum\":true}}";
+const EMPTY: &str =
+    "{\"files\":[{\"sources\":[\"https://a.example/empty\"],\"destinations\":[\"https://b.example/f1\"],\"checksum\":\"MD5:d41d8cd98f00b204e9800998ecf8427e\"}],\"params\":{\"verify_checksum\":true}}";
 
-const WRONG: &str = "{\"files\":[{\"sources\":[\"https://a.example/f1\"],\"destinations\":[\"https://b.example/f1\"],\"checksum\":\"MD5:900150983cd24fb0d6963f7d28e17f73\"}],\"params\":{\"verify_checksum\":true,\"retry\":3}}";
+const WRONG: &str =
+    "{\"files\":[{\"sources\":[\"https://a.example/f1\"],\"destinations\":[\"https://b.example/f1\"],\"checksum\":\"MD5:900150983cd24fb0d6963f7d28e17f73\"}],\"params\":{\"verify_checksum\":true,\"retry\":3}}";
 
-const RETRIED: &str = "{\"files\":[{\"sources\":[\"https://a.example/f1\"],\"destinations\":[\"https://b.example/f1\"]}],\"params\":{\"retry\":1,\"retry_delay\":60}}";
+const RETRIED: &str =
+    "{\"files\":[{\"sources\":[\"https://a.example/f1\"],\"destinations\":[\"https://b.example/f1\"]}],\"params\":{\"retry\":1,\"retry_delay\":60}}";
 
-const ONE: &str = "{\"files\":[{\"sources\":[\"https://a.example/f1\"],\"destinations\":[\"https://b.example/f1\"]}]}";
+const ONE: &str =
+    "{\"files\":[{\"sources\":[\"https://a.example/f1\"],\"destinations\":[\"https://b.example/f1\"]}]}";
 
 /// What a row has.
 struct Row {
@@ -167,8 +178,11 @@ fn store(alloc: Global, fail: &[u32], drop: &[u32]) -> Result<MemoryStore, Memor
         ("https://a.example", "empty", b""),
         ("https://b.example", "there", b"abc"),
     ] {
-        if let Some(file) = file(alloc, endpoint, path, bytes)? {
-            files.push(file)?;
+        let Some(file) = file(alloc, endpoint, path, bytes)? else {
+            return Err(Memory);
+        };
+        if files.push(file).is_err() {
+            return Err(Memory);
         }
     }
     let fail = fail.to_vec(alloc)?;
@@ -241,7 +255,13 @@ fn states(bed: &Bed) -> Result<String, AllocError> {
 
 /// Why the row of an id is as it is.
 fn reason(bed: &Bed, id: u64) -> Result<String, AllocError> {
-    match bed.keep.desk().rows().iter().find(|row| u64::from(row.id) == id) {
+    match bed
+        .keep
+        .desk()
+        .rows()
+        .iter()
+        .find(|row| u64::from(row.id) == id)
+    {
         None => String::from_str(bed.alloc, "no row"),
         Some(row) => match row.reason {
             Reason::None => String::from_str(bed.alloc, "none"),
@@ -253,7 +273,13 @@ fn reason(bed: &Bed, id: u64) -> Result<String, AllocError> {
 
 /// At which attempt the row of an id is, and until when it waits.
 fn waits(bed: &Bed, id: u64) -> Result<String, AllocError> {
-    match bed.keep.desk().rows().iter().find(|row| u64::from(row.id) == id) {
+    match bed
+        .keep
+        .desk()
+        .rows()
+        .iter()
+        .find(|row| u64::from(row.id) == id)
+    {
         None => String::from_str(bed.alloc, "no row"),
         Some(row) => {
             format!(in bed.alloc; "attempt {} not before {}", row.attempt, row.not_before)
@@ -304,7 +330,9 @@ fn play(rt: &impl Abort, alloc: Global, row: &Row) -> Result<(), Memory> {
     let store = store(alloc, row.fail, row.drop)?;
     let limit = row.limit;
     let settings = row.settings;
-    let text = format!(in alloc; "vo = \"demo\"\nworkers = 4\ndefault_max_active = {limit}\n{settings}")?;
+    let text = format!(in alloc;
+        "vo = \"demo\"\nworkers = 4\ndefault_max_active = {limit}\n{settings}"
+    )?;
     let mut bed = Bed::new(alloc, text.as_str(), 4, store)?;
     bed.submit(0, row.document)?;
     for line in row.script.lines() {

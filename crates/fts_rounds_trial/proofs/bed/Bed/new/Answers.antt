@@ -12,7 +12,7 @@ returns c =
       order = (
         restarted opening 0 _,
         c.benches_stay_over_lists.ensures.started c.in-Ok-start.keep c.in_ok-bench.bench opening 0 _ starts.legal starts.folded starts.counted
-        c.in_ok-bench.ensures.held,
+            c.in_ok-bench.ensures.held,
       );
       kept = subst KeepsOne (sym c.in_ok-bench.ensures.held) tt;
     }

@@ -11,7 +11,7 @@ returns-in-Ok c =
       order = (
         order.0 ++ entry ∷ [],
         c.benches_stay_over_lists.ensures.accepted c.args.self.now.keep c.apply.new.self c.args.self.now.bench entry c.in-Ok.field-0 order.0
-        c.requires.request c.in-Ok.ensures.applied order.1,
+            c.requires.request c.in-Ok.ensures.applied order.1,
       );
       kept = c.requires.ready.kept;
     }
