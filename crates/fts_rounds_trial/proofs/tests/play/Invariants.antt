@@ -3,4 +3,4 @@ use Rattle.fts_rounds_trial.specs.Ready.{IsReady}
 use Rattle.fts_rounds_trial.proofs.tests.play.Given as goal
 
 abbrev pub invariant-loop-line : goal.invariant-loop-line
-invariant-loop-line l = IsReady l.bed.keep l.bed.bench
+invariant-loop-line g l = IsReady l.bed.keep l.bed.bench

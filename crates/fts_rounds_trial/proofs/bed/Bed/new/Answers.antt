@@ -1,5 +1,5 @@
 -- An empty bench is over what a start leaves.
-use Rattle.std.proofs.Common.{◌≡◌, sym, subst, []}
+use Rattle.std.proofs.Common.{sym, subst}
 use Rattle.fts_workers.specs.Benches.{KeepsOne}
 use Rattle.fts_keep.specs.Started.{restarted}
 use Rattle.fts_rounds_trial.proofs.bed.Bed.new.Goals as goal
