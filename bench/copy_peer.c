@@ -1,5 +1,7 @@
 // The steps of a verified copy, by hand, for bench/copy.sh: the same looks, reads, writes and syncs, with no name kept in memory but the paths.
 // copy_peer ROOT SET COUNT FOLDERS copies SET/fN, or SET/dM/fN where FOLDERS is more than 1 (M is N modulo FOLDERS), as bench_copy does.
+// copy_peer ROOT SET COUNT FOLDERS JOURNAL appends a record of 12 bytes before each copy and one of 40 behind it, as a session's claim and report:
+// each by a write of what stands behind the gate, a sync, a write of the gate and a sync, over zeros that were written ahead.
 #include <errno.h>
 #include <fcntl.h>
 #include <stdint.h>
@@ -132,12 +134,31 @@ static int make_folder(const char *path) {
     }
 }
 
+static int journal = -1;
+static off_t used = 8;
+
+static int begin_journal(const char *path) {
+    static unsigned char zeros[1 << 20];
+    journal = open(path, O_RDWR | O_CREAT | O_TRUNC | O_CLOEXEC, 0666);
+    return journal >= 0 && pwrite(journal, zeros, sizeof zeros, 0) == sizeof zeros && !fsync(journal);
+}
+
+// Appends a record of so many bytes, where there is a journal.
+static int append(size_t size) {
+    static const unsigned char record[64] = {1}, gate = 1;
+    if (journal < 0) return 1;
+    int done = pwrite(journal, record, size + 5, used + 1) == (ssize_t)size + 5 && !fdatasync(journal)
+        && pwrite(journal, &gate, 1, used) == 1 && !fdatasync(journal);
+    used += size + 5;
+    return done;
+}
+
 int main(int count, char **words) {
     if (count < 5) return 2;
     static char from[8192], part[8192], to[8192], folder[8192], set[1024];
     int files = atoi(words[3]), folders = atoi(words[4]), verified = 0;
     snprintf(folder, sizeof folder, "%s/https:,,b.example/.fts", words[1]);
-    if (!make_folder(folder)) return 1;
+    if (!make_folder(folder) || (count > 5 && !begin_journal(words[5]))) return 1;
     for (int n = 0; n < files; n++) {
         if (folders > 1) snprintf(set, sizeof set, "%s/d%d", words[2], n % folders); else snprintf(set, sizeof set, "%s", words[2]);
         snprintf(from, sizeof from, "%s/https:,,a.example/%s/f%d", words[1], set, n);
@@ -145,7 +166,9 @@ int main(int count, char **words) {
         snprintf(to, sizeof to, "%s/https:,,b.example/%s/f%d", words[1], set, n);
         snprintf(part, sizeof part, "%s/https:,,b.example/.fts/part-%d", words[1], n);
         if (n < folders && !make_folder(folder)) return 1;
+        if (!append(12)) return 1;
         verified += copy(from, part, to, folder);
+        if (!append(40)) return 1;
     }
     printf("verified %d\n", verified);
     return 0;
