@@ -1,5 +1,5 @@
 //! Submissions that a keep accepts on a real file, beside the same bytes by the same calls on a plain file, in turns of a batch.
-use crate::entries::{SUBMIT, entry, settings};
+use crate::entries::{SUBMIT, started, submission};
 use anyhow::{Result, bail};
 use fts_disk::FileDisk;
 use fts_keep::Keep;
@@ -14,31 +14,43 @@ const FLOOR_PATH: &str = "bench.floor";
 /// Each side makes so many calls before the other goes on.
 const BATCH: u32 = 50;
 
-const MOMENT: u64 = 1_700_000_000;
+/// The bytes of an entry behind its gate, with its length and the next gate.
+const PIECE_BYTES: usize = SUBMIT.len() + 5;
+
+/// Has one submission accepted.
+fn submit(rt: &HostRuntime, keep: &mut Keep<FileDisk>) -> Result<()> {
+    let command = submission(rt.alloc())?;
+    if keep.apply(0, command).is_err() {
+        bail!("a submission was not accepted");
+    }
+    Ok(())
+}
 
 /// The time of a batch of submissions.
 fn keep_batch(rt: &HostRuntime, keep: &mut Keep<FileDisk>) -> Result<Duration> {
     let start = Instant::now(rt)?;
     for _ in 0..BATCH {
-        let submit = entry(rt.alloc(), SUBMIT)?;
-        if keep.apply(0, submit.command).is_err() {
-            bail!("a submission was not accepted");
-        }
+        submit(rt, keep)?;
     }
     Ok(start.elapsed(rt)?)
 }
 
-/// The time of a batch of the same calls on a plain file: what stands behind a gate, and the gate, each made stable.
+/// Writes a piece behind a gate, and the gate, each made stable.
+fn write_piece(file: &File, at: u64) -> Result<()> {
+    file.write_all_at(&[0; PIECE_BYTES], at.wrapping_add(1))?;
+    file.sync_data()?;
+    file.write_all_at(&[1], at)?;
+    file.sync_data()?;
+    Ok(())
+}
+
+/// The time of a batch of the same calls on a plain file.
 fn floor_batch(rt: &HostRuntime, file: &File, end: u64) -> Result<Duration> {
     let start = Instant::now(rt)?;
-    let piece = [0; SUBMIT.len() + 5];
     let mut at = end;
     for _ in 0..BATCH {
-        file.write_all_at(&piece, at.wrapping_add(1))?;
-        file.sync_data()?;
-        file.write_all_at(&[1], at)?;
-        file.sync_data()?;
-        at = at.wrapping_add(SUBMIT.len() as u64 + 5);
+        write_piece(file, at)?;
+        at = at.wrapping_add(PIECE_BYTES as u64);
     }
     Ok(start.elapsed(rt)?)
 }
@@ -49,28 +61,61 @@ fn rate(calls: u32, time: Duration) -> u64 {
     u64::from(calls).saturating_mul(1_000_000) / micros.max(1)
 }
 
-/// Prints how many submissions a second are accepted, and how many the calls alone would allow.
-pub fn measure(rt: &HostRuntime, count: u32) -> Result<()> {
-    let alloc = rt.alloc();
-    let _old = fs::remove_file(rt, KEEP_PATH);
-    let settings = settings(alloc)?;
-    let Ok(mut keep) = Keep::start(alloc, FileDisk::open(rt, KEEP_PATH), settings, MOMENT) else {
-        bail!("the keep is not started");
+/// What each side took.
+#[derive(Clone, Copy)]
+struct Times {
+    keep: Duration,
+    floor: Duration,
+}
+
+/// The times of so many calls of each side, in turns.
+fn take_turns(
+    rt: &HostRuntime,
+    keep: &mut Keep<FileDisk>,
+    file: &File,
+    count: u32,
+) -> Result<Times> {
+    let mut times = Times {
+        keep: Duration::ZERO,
+        floor: Duration::ZERO,
     };
-    let floor = OpenOptions::new()
+    for batch in 0..count / BATCH {
+        let end = u64::from(batch).wrapping_mul(u64::from(BATCH) * PIECE_BYTES as u64);
+        times.floor = times.floor.saturating_add(floor_batch(rt, file, end)?);
+        times.keep = times.keep.saturating_add(keep_batch(rt, keep)?);
+    }
+    Ok(times)
+}
+
+/// A new file for the plain side.
+fn floor_file(rt: &HostRuntime) -> Result<File> {
+    let file = OpenOptions::new()
         .write(true)
         .create(true)
         .truncate(true)
         .open(rt, FLOOR_PATH)?;
-    let (mut keep_time, mut floor_time) = (Duration::ZERO, Duration::ZERO);
-    for batch in 0..count / BATCH {
-        let end = u64::from(batch).wrapping_mul(u64::from(BATCH) * (SUBMIT.len() as u64 + 5));
-        floor_time = floor_time.saturating_add(floor_batch(rt, &floor, end)?);
-        keep_time = keep_time.saturating_add(keep_batch(rt, &mut keep)?);
-    }
-    let (ours, least) = (rate(count, keep_time), rate(count, floor_time));
+    Ok(file)
+}
+
+/// The times of both sides, on new files.
+fn time_both(rt: &HostRuntime, count: u32) -> Result<Times> {
+    let _old = fs::remove_file(rt, KEEP_PATH);
+    let file = floor_file(rt)?;
+    let mut keep = started(rt, KEEP_PATH)?;
+    take_turns(rt, &mut keep, &file, count)
+}
+
+/// Prints one line.
+fn print(rt: &HostRuntime, ours: u64, least: u64) -> Result<()> {
     let percent = ours.saturating_mul(100) / least.max(1);
     println!(rt; "submissions a second: keep {ours}, floor {least}, {percent} % of the floor")?;
+    Ok(())
+}
+
+/// Prints how many submissions a second are accepted, and how many the calls alone would allow.
+pub fn measure(rt: &HostRuntime, count: u32) -> Result<()> {
+    let times = time_both(rt, count)?;
+    print(rt, rate(count, times.keep), rate(count, times.floor))?;
     fs::remove_file(rt, KEEP_PATH)?;
     fs::remove_file(rt, FLOOR_PATH)?;
     Ok(())
