@@ -144,6 +144,15 @@ image_longer opening final more longer content is image = record {
   stands = image.stands;
 }
 
+-- the front of a legal list is legal
+pub legal_front : (tables : Tables) (entries more : List Entry) → IsLegalFrom tables (entries ++ more) → IsLegalFrom tables entries
+legal_front tables [] more legal = tt
+legal_front tables (entry ∷ entries) more legal = (legal.0, legal_front (tables_after tables (step tables entry.command)) entries more legal.1)
+
+legal_list : (entries : List Entry) (doubt : Option Entry) → IsLegal (with_doubt entries doubt) → IsLegal entries
+legal_list entries None legal = legal
+legal_list entries (Some entry) legal = legal_front empty_tables entries (entry ∷ []) legal
+
 module _ {D : Type 0} (state : D → DiskState) (faults : D → ℕ) where
   -- calls, and calls behind them
   pub keeps_more : (old mid new : KeepData D) → KeepsOn state faults old mid → KeepsOn state faults mid new → KeepsOn state faults old new
@@ -161,15 +170,6 @@ module _ {D : Type 0} (state : D → DiskState) (faults : D → ℕ) where
         (two.images opening (since ++ one.grows.added)
         (one.grows.appended ∙ ap (λ l. l ++ one.grows.added) is ∙ append_assoc opening since one.grows.added) (one.grows.told ∙ told));
   }
-
-  -- the front of a legal list is legal
-  legal_front : (tables : Tables) (entries more : List Entry) → IsLegalFrom tables (entries ++ more) → IsLegalFrom tables entries
-  legal_front tables [] more legal = tt
-  legal_front tables (entry ∷ entries) more legal = (legal.0, legal_front (tables_after tables (step tables entry.command)) entries more legal.1)
-
-  legal_list : (entries : List Entry) (doubt : Option Entry) → IsLegal (with_doubt entries doubt) → IsLegal entries
-  legal_list entries None legal = legal
-  legal_list entries (Some entry) legal = legal_front empty_tables entries (entry ∷ []) legal
 
   -- no call at all
   pub keeps_none : (keep : KeepData D) → (IsTold (state keep.disk) → IsLawful (state keep.disk)) → IsKeep state keep → KeepsOn state faults keep keep

@@ -23,11 +23,11 @@ pub record IsSameAttempt (before after : FileRow) : Type 0 where
   pub attempt : after.attempt ≡ before.attempt
 
 -- a row as it was
-same_attempt : (row : FileRow) → IsSameAttempt row row
+pub same_attempt : (row : FileRow) → IsSameAttempt row row
 same_attempt row = record { id = refl; attempt = refl }
 
 -- one of two
-either_attempt : (first : Bool) (row one other : FileRow) → IsSameAttempt row one → IsSameAttempt row other → IsSameAttempt row (cond first one other)
+pub either_attempt : (first : Bool) (row one other : FileRow) → IsSameAttempt row one → IsSameAttempt row other → IsSameAttempt row (cond first one other)
 either_attempt true row one other ok_one ok_other = ok_one
 either_attempt false row one other ok_one ok_other = ok_other
 
@@ -36,7 +36,7 @@ of_found : Option FileRow → ℕ
 of_found found = option_map_or (λ (row : FileRow). row.attempt) found 0
 
 -- rows that were all changed, each at its attempt
-attempts_map : (change : FileRow → FileRow) → ((row : FileRow) → IsSameAttempt row (change row)) → (rows : List FileRow) (file : ℕ)
+pub attempts_map : (change : FileRow → FileRow) → ((row : FileRow) → IsSameAttempt row (change row)) → (rows : List FileRow) (file : ℕ)
     → attempt_among (map change rows) file ≡ attempt_among rows file
 attempts_map change same [] file = refl
 attempts_map change same (row ∷ rows) file =
@@ -50,7 +50,7 @@ attempts_map change same (row ∷ rows) file =
     by_head behind false = behind
 
 -- one row was changed at its attempt
-attempts_one : (id : ℕ) (change : FileRow → FileRow) → ((row : FileRow) → IsSameAttempt row (change row)) → (rows : List FileRow) (file : ℕ)
+pub attempts_one : (id : ℕ) (change : FileRow → FileRow) → ((row : FileRow) → IsSameAttempt row (change row)) → (rows : List FileRow) (file : ℕ)
     → attempt_among (change_row id change rows) file ≡ attempt_among rows file
 attempts_one id change same rows file =
     attempts_map (λ row. cond (row.id == id) (change row) row) (λ row. either_attempt (row.id == id) row (change row) row (same row) (same_attempt row)) rows file

@@ -11,3 +11,4 @@ pub mod FirstCopied
 pub mod Ended
 pub mod Looping
 pub mod Rounded
+pub mod Requested

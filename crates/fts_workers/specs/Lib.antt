@@ -6,3 +6,4 @@ pub mod FirstFile
 pub mod Wanted
 pub mod Steps
 pub mod Stops
+pub mod Requests

@@ -9,6 +9,7 @@ mod ends;
 mod gate;
 mod hand;
 mod held;
+mod laws;
 mod rounds;
 mod watch;
 
@@ -17,4 +18,5 @@ pub use ends::RoundEnd;
 pub use gate::{Gate, NoGate};
 pub use hand::Hand;
 pub use held::Held;
+pub use laws::requests_leave_the_bench;
 pub use rounds::round;
