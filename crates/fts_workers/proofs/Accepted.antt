@@ -50,7 +50,7 @@ full_of used full entry (Err refusal) is = absurd cc
 full_of used full entry (Ok found) is = limit_of (fits used entry) used full found is
 
 -- one entry more, which is accepted
-legal_more : (tables : Tables) (entries : List Entry) (entry : Entry) → IsLegalFrom tables entries
+pub legal_more : (tables : Tables) (entries : List Entry) (entry : Entry) → IsLegalFrom tables entries
     → IsAccepted (step (tables_from tables entries) entry.command)
     → IsLegalFrom tables (entries ++ entry ∷ [])
 legal_more tables [] entry legal accepted = (accepted, tt)

@@ -21,11 +21,19 @@ use Rattle.fts_tables.specs.declared.commands.Refusal.TheVariants.{NoJob, Unchan
 use Rattle.fts_tables.specs.declared.commands.Answer.TheVariants.{Cancelled}
 use Rattle.fts_tables.specs.declared.commands.Command.{Command}
 use Rattle.fts_tables.specs.declared.commands.Command.TheVariants.{Restart, Submit, CancelJob, CancelFile, SetPriority, Claim, Report}
-use Rattle.fts_workers.specs.Benches.{attempt_of, held_as, held_over}
+use Rattle.fts_workers.specs.Benches.{BenchData, attempt_of, held_as, held_over, kept_of}
 use Rattle.fts_copy.specs.Copy.{Order}
+use Rattle.fts_disk.specs.Disk.{DiskState}
+use Rattle.fts_tables.specs.SettingsData.{SettingsData}
+use Rattle.fts_tables.specs.declared.commands.Answer.{Answer}
+use Rattle.fts_keep.specs.Keeps.{KeepData}
+use Rattle.fts_keep.specs.Applied.{Accepts, KeepsList}
+use Rattle.fts_keep.specs.Started.{restart_at, restarted}
+use Rattle.fts_workers.specs.Rounds.{IsWorkedOver}
+use Rattle.std.proofs.lemmas.List.{length-append}
 use Rattle.fts_workers.specs.Copies.{Copy, copies_kept, copies_of_file, order_in}
 use Rattle.fts_workers.specs.Requests.{IsOfRequest}
-use Rattle.fts_workers.proofs.Accepted.{legal_front}
+use Rattle.fts_workers.proofs.Accepted.{legal_front, legal_more, list_more, list_same}
 use Rattle.fts_workers.proofs.Attempts.{IsSameAttempt, attempt_among, attempts_map, attempts_one, either_attempt, same_attempt}
 use Rattle.fts_workers.proofs.Copied.{copies_kept-none, tables_from-append}
 use Rattle.fts_workers.proofs.Numbered.{IsActiveAt, active_found, row_at-id}
@@ -190,3 +198,32 @@ module _ (formed : (entries : List Entry) → IsLegal entries → AreWellFormed 
             ∙ ap (λ rest. copies_of_file (tables_of entries) file outcome ++ rest)
             (copies_kept-none (tables_of (entries ++ entry ∷ [])) (tables_of entries) files
             ∙ sym (copies_kept-none (tables_of entries) (tables_of entries) files))
+
+-- whatever list keep and bench are over, they are over it with an accepted command of a request
+pub over_accepted : {D : Type 0} (formed : (entries : List Entry) → IsLegal entries → AreWellFormed (tables_of entries))
+    (outs : (entries : List Entry) → IsLegal entries → AreTheActive (out_of_list entries) (tables_of entries).rows) (state : D → DiskState)
+    (old new : KeepData D) (bench : BenchData) (entry : Entry) (answer : Answer) (entries : List Entry) → IsOfRequest entry.command
+    → Accepts state old new entry answer → IsWorkedOver old bench entries → IsWorkedOver new bench (entries ++ entry ∷ [])
+over_accepted formed outs state old new bench entry answer entries of done over =
+    let list = list_more state old new entry answer done entries over.list in
+    record { list = list; held = over.held ∙ sym (held_still formed outs entries entry (kept_of bench.held) list.legal of) }
+
+-- and over the same list where nothing was accepted
+pub over_same : {D : Type 0} (state : D → DiskState) (old new : KeepData D) (bench : BenchData) (entries : List Entry) → KeepsList state old new
+    → IsWorkedOver old bench entries → IsWorkedOver new bench entries
+over_same state old new bench entries keeps over = record { list = list_same state old new entries keeps over.list; held = over.held }
+
+-- an empty bench is over what a start leaves
+pub over_started : {D : Type 0} (keep : KeepData D) (bench : BenchData) (opening : List Entry) (now : ℕ) (settings : SettingsData) → IsLegal opening
+    → keep.tables ≡ tables_of (restarted opening now settings) → keep.commands ≡ length opening + 1 → bench.held ≡ []
+    → IsWorkedOver keep bench (restarted opening now settings)
+over_started keep bench opening now settings legal folded counted none =
+    let entry = restart_at now settings in
+    record {
+      list = record {
+        folded = folded;
+        legal = legal_more empty_tables opening entry legal tt;
+        counted = omega (arith, counted, length-append opening (entry ∷ []));
+      };
+      held = none ∙ sym (ap (held_as (tables_of (restarted opening now settings)) (kept_of bench.held)) (out_of_list-last opening entry));
+    }

@@ -18,5 +18,5 @@ pub use ends::RoundEnd;
 pub use gate::{Gate, NoGate};
 pub use hand::Hand;
 pub use held::Held;
-pub use laws::requests_leave_the_bench;
+pub use laws::{benches_stay_over_lists, requests_leave_the_bench};
 pub use rounds::round;
