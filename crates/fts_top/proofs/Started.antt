@@ -19,7 +19,7 @@ use Rattle.fts_workers.specs.Copies.{Copy, copies_from, copies_kept, FollowsRepo
 use Rattle.fts_workers.specs.Rounds.{Walk, IsWorkedOver}
 use Rattle.fts_workers.specs.declared.held.Held.{Held}
 use Rattle.fts_top.specs.Connections.{Reading}
-use Rattle.fts_top.specs.Tallies.{tally_of, tally_with, no_tally}
+use Rattle.fts_top.specs.Tallies.{claims_in, tally_of, tally_with, no_tally}
 use Rattle.fts_top.specs.Sessions.{IsSession, ThreadData, IsOver, IsReady, walk_of, kept_at, thread}
 use Rattle.fts_top.specs.Runs.{OneThread, one_thread, begun_with, AreRead, HasNoSettings, IsStop, StartsWith, StopsBefore, LeavesList, ServesKeep, RanOver, RunsSession, IsSessionRun, start_end}
 use Rattle.fts_top.specs.declared.ends.RunEnd.{RunEnd}
@@ -188,6 +188,10 @@ module _ {D E : Type 0} (state : D → DiskState) (faults : D → ℕ) (store_st
           counts = omega (arith, own.counts, extends.counts, ap faults serves.closed);
         }
 
+    -- the claims of the run
+    claims_are : serves.last.claims ≡ claims_in since
+    claims_are = omega (arith, serves.session.counted)
+
     -- the run from its beginning
     pub ran : (text : Option (List ℕ)) (before : Option Coming) → IsSettings settings → AreRead text settings → Gives before moments now → kept ≡ []
         → IsSessionRun state faults store_state store_calls store_faults end tally text (one_thread disk store input held before words)
@@ -215,7 +219,7 @@ module _ {D E : Type 0} (state : D → DiskState) (faults : D → ℕ) (store_st
         legal = final_over.list.legal;
         store = store_follows;
         counted = serves.counted ∙ ap (λ t. tally_with serves.last.claims t) final_over.list.folded
-            ∙ ap (λ n. tally_with n (tables_of final_list)) serves.session.counted;
+            ∙ ap (λ n. tally_with n (tables_of final_list)) claims_are;
       };
       tells = ap (λ (d : D). (state d).told) serves.closed ∙ serves.session.extends.told ∙ starts.told;
       leaves = left_list;
