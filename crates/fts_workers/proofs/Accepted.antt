@@ -174,7 +174,13 @@ module _ {D : Type 0} (state : D → DiskState) (faults : D → ℕ) where
   -- no call at all
   pub keeps_none : (keep : KeepData D) → (IsTold (state keep.disk) → IsLawful (state keep.disk)) → IsKeep state keep → KeepsOn state faults keep keep
   keeps_none keep lawful kept = record {
-    grows = record { added = []; appended = sym (none_more keep.entries); by = All-nil (λ (entry : Entry). entry.writer ≡ 0); counts = omega arith; told = refl };
+    grows = record {
+      added = [];
+      appended = sym (none_more keep.entries);
+      by = All-nil (λ (entry : Entry). entry.writer ≡ 0);
+      counts = omega arith;
+      told = refl;
+    };
     images = λ opening since is told.
         let image = image_now opening since is told in
         record {

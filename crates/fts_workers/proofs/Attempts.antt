@@ -53,12 +53,14 @@ attempts_map change same (row ∷ rows) file =
 pub attempts_one : (id : ℕ) (change : FileRow → FileRow) → ((row : FileRow) → IsSameAttempt row (change row)) → (rows : List FileRow) (file : ℕ)
     → attempt_among (change_row id change rows) file ≡ attempt_among rows file
 attempts_one id change same rows file =
-    attempts_map (λ row. cond (row.id == id) (change row) row) (λ row. either_attempt (row.id == id) row (change row) row (same row) (same_attempt row)) rows file
+    attempts_map (λ row. cond (row.id == id) (change row) row) (λ row. either_attempt (row.id == id) row (change row) row (same row)
+    (same_attempt row)) rows file
 
 -- a failed copy leaves the attempt
 failure_attempt : (job : JobRow) (now : ℕ) (outcome : Outcome) (row : FileRow) → IsSameAttempt row (reported_failure job now outcome row)
 failure_attempt job now outcome row =
-    either_attempt (is_retryable outcome && nat_lt row.retries job.retry) row _ _ (record { id = refl; attempt = refl }) (record { id = refl; attempt = refl })
+    either_attempt (is_retryable outcome && nat_lt row.retries job.retry) row _ _ (record { id = refl; attempt = refl })
+    (record { id = refl; attempt = refl })
 
 -- so does every end of one
 ended_attempt : (job : JobRow) (now : ℕ) (outcome : Outcome) (row : FileRow) → IsSameAttempt row (reported_without_cancel job now outcome row)
@@ -97,7 +99,8 @@ finish_attempts Multihop job row rows file = by_last (nat_lt (row.id + 1) (job.f
     by_last true = woken_attempts (row.id + 1) rows file
     by_last false = refl
 
-failed_attempts : (kind : JobKind) (job : JobRow) (rows : List FileRow) (file : ℕ) → attempt_among (followed_failure kind job rows) file ≡ attempt_among rows file
+failed_attempts : (kind : JobKind) (job : JobRow) (rows : List FileRow) (file : ℕ)
+    → attempt_among (followed_failure kind job rows) file ≡ attempt_among rows file
 failed_attempts Replica job rows file = chosen_attempts (next_alternative job.strategy rows (rows_of_job rows job.number)) rows file
 failed_attempts Plain job rows file = refl
 failed_attempts Multihop job rows file = refl
@@ -147,7 +150,8 @@ pub claim_own : (id : ℕ) (rows : List FileRow) (found : FileRow) → row_at ro
 claim_own id [] found at = absurd cc
 claim_own id (row ∷ rows) found at = by_head (claim_own id rows found) (row.id == id) refl at
   where
-    by_head : (row_at rows id ≡ Some found → attempt_among (change_row id claimed rows) id ≡ found.attempt + 1) → (answer : Bool) → (row.id == id) ≡ answer → cond answer (Some row) (row_at rows id) ≡ Some found
+    by_head : (row_at rows id ≡ Some found → attempt_among (change_row id claimed rows) id ≡ found.attempt + 1) → (answer : Bool)
+        → (row.id == id) ≡ answer → cond answer (Some row) (row_at rows id) ≡ Some found
         → attempt_among (cond answer (claimed row) row ∷ change_row id claimed rows) id ≡ found.attempt + 1
     by_head behind true is at_head =
         let here : row ≡ found = cc in

@@ -151,7 +151,12 @@ module _ {D : Type 0} (state : D → DiskState) (faults : D → ℕ) (formed : (
     attempts_after : (entries : List Entry) → IsWorkedOver old bench entries → (file : ℕ) → 1 ≤ times file (out_of_list entries)
         → attempt_of (tables_of (entries ++ the_claim ∷ [])) file ≡ attempt_of (tables_of entries) file
     attempts_after entries over file among =
-        let other : file ≢ picked_at.row.id = λ same. absurd (omega (arith, was_out entries over, subst (λ f. 1 ≤ times f (out_of_list entries)) same among)) in
+        let other : file ≢ picked_at.row.id = λ same. absurd (omega (
+          arith,
+          was_out entries over,
+          subst (λ f. 1 ≤ times f
+              (out_of_list entries)) same among,
+        )) in
         ap (λ t. attempt_of t file) (tables_at entries over)
         ∙ claim_others picked_at.row.id old.tables.rows file other
         ∙ ap (λ t. attempt_of t file) over.list.folded
@@ -176,14 +181,16 @@ module _ {D : Type 0} (state : D → DiskState) (faults : D → ℕ) (formed : (
           list = list_more state old new the_claim answer done entries over.list;
           held = ap (λ files. files ++ held ∷ []) (over.held ∙ ap (λ k. held_as (tables_of entries) k (out_of_list entries)) none)
               ∙ ap (λ files. files ++ held ∷ []) (held_as-same (tables_of entries) behind None (out_of_list entries) (attempts_after entries over))
-              ∙ ap (λ h. held_as behind None (out_of_list entries) ++ h ∷ []) (held_is ∙ ap (λ attempt. record { file = picked_at.row.id; attempt = attempt; outcome = None }) (sym (attempt_after entries over)))
+              ∙ ap (λ h. held_as behind None (out_of_list entries) ++ h ∷ []) (held_is
+              ∙ ap (λ attempt. record { file = picked_at.row.id; attempt = attempt; outcome = None }) (sym (attempt_after entries over)))
               ∙ sym (held_as-more behind (out_of_list entries) picked_at.row.id)
               ∙ ap (λ files. held_as behind None files) (sym (out_after entries over))
               ∙ ap (λ k. held_as behind k (out_of_list (entries ++ the_claim ∷ []))) (sym (kept_still bench.held none));
         }
 
     -- the claim was tried, and accepted
-    claims : (entries : List Entry) → IsWorkedOver old bench entries → Claims (walk_of faults entries before) (walk_of faults (entries ++ the_claim ∷ []) after)
+    claims : (entries : List Entry) → IsWorkedOver old bench entries
+        → Claims (walk_of faults entries before) (walk_of faults (entries ++ the_claim ∷ []) after)
     claims entries over = record {
       entry = the_claim;
       tried = record { now = now; moment = moment; word = word; drawn = drawn; is = refl; kept = kept_still bench.held none ∙ sym none };

@@ -222,7 +222,8 @@ module _ {D E : Type 0} (state : D → DiskState) (faults : D → ℕ) (store_st
             → (option_map_or first_copies kept [] ++ copies_kept old.tables others) ++ copies_unless kept (first_copies copies.outcome)
             ≡ first_copies copies.outcome ++ copies_kept old.tables others
         by None ended none =
-            ap (λ rest. rest ++ first_copies copies.outcome) none ∙ sym (none_more (first_copies copies.outcome)) ∙ ap (λ rest. first_copies copies.outcome ++ rest) (sym none)
+            ap (λ rest. rest ++ first_copies copies.outcome) none ∙ sym (none_more (first_copies copies.outcome))
+            ∙ ap (λ rest. first_copies copies.outcome ++ rest) (sym none)
         by (Some outcome) ended none =
             none_more (first_copies outcome ++ copies_kept old.tables others) ∙ ap (λ o. first_copies o ++ copies_kept old.tables others) (sym ended.0)
 

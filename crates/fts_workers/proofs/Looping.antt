@@ -50,7 +50,8 @@ module _ {D E : Type 0} (state : D → DiskState) (faults : D → ℕ) (store_st
         → MakesCopies state faults store_state calls store_faults (WorksOn workers result) one three store after
     worked_more workers result one two three store between after first second =
         copies_then state faults (WorksOn workers (Ok tt)) (WorksOn workers result) (WorksOn workers result) one two three
-        (λ walk last entries over. works_then workers result walk (walk_of faults entries two) last) store_state calls store_faults store between after first second
+        (λ walk last entries over. works_then workers result walk
+        (walk_of faults entries two) last) store_state calls store_faults store between after first second
 
 module _ {D : Type 0} (state : D → DiskState) (faults : D → ℕ) where
   -- before the first claim nothing was done

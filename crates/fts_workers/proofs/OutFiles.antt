@@ -90,7 +90,8 @@ held_as-same tables after kept (file ∷ files) same =
 pub held_as-more : (tables : Tables) (files : List ℕ) (file : ℕ)
     → held_as tables None (files ++ file ∷ []) ≡ held_as tables None files ++ record { file = file; attempt = attempt_of tables file; outcome = None } ∷ []
 held_as-more tables [] file = refl
-held_as-more tables (first ∷ files) file = ap (λ rest. (record { file = first; attempt = attempt_of tables first; outcome = None } ∷ rest)) (held_as-more tables files file)
+held_as-more tables (first ∷ files) file =
+    ap (λ rest. (record { file = first; attempt = attempt_of tables first; outcome = None } ∷ rest)) (held_as-more tables files file)
 
 -- what is kept is what is kept
 pub kept-held_as : (tables : Tables) (kept : Option Outcome) (file : ℕ) (files : List ℕ) → kept_of (held_as tables kept (file ∷ files)) ≡ kept

@@ -184,7 +184,8 @@ module _ {D : Type 0} (state : D → DiskState) (faults : D → ℕ) (formed : (
     out_after entries over =
         let r = reportable_at entries over in
         let out = out_at entries over in
-        let once : times first.file (first.file ∷ out.files) ≤ 1 = subst (λ all. times first.file all ≤ 1) out.out ((outs entries over.list.legal).once first.file) in
+        let once : times first.file (first.file ∷ out.files) ≤ 1 = subst (λ all. times first.file all ≤ 1) out.out
+        ((outs entries over.list.legal).once first.file) in
         out_of_list-last entries the_report
         ∙ ap (λ came. out_step (out_of_list entries) came) (report_steps (tables_of entries) now first.file first.attempt outcome r)
         ∙ ap (λ id. without id (out_of_list entries)) (row_at-id (tables_of entries).rows first.file r.row r.at)
@@ -244,7 +245,11 @@ module _ {D : Type 0} (state : D → DiskState) (faults : D → ℕ) (formed : (
           subst (λ files. WorksOff workers files (walk_of faults entries before) end last) (sym out.out)
           (inl (
             walk_of faults (entries ++ the_report ∷ []) after,
-            (reports entries over, subst (λ files. WorksOff workers files (walk_of faults (entries ++ the_report ∷ []) after) end last) (out_after entries over) rest),
+            (
+              reports entries over,
+              subst (λ files. WorksOff workers files (walk_of faults (entries ++ the_report ∷ []) after) end last)
+                  (out_after entries over) rest,
+            ),
           ));
       over = over_after;
       tables = tables_more state old new the_report answer done;
@@ -277,7 +282,8 @@ module _ {D : Type 0} (state : D → DiskState) (faults : D → ℕ) (formed : (
     pub report_stops : MakesNoCopy state faults (WorksOn workers (Err end)) before (stand new bench later words)
     report_stops = stays state faults (WorksOn workers (Err end)) old new bench moments later words words keeps (λ entries over.
         let out = out_at entries over in
-        subst (λ files. WorksOff workers files (walk_of faults entries before) end (walk_of faults (entries ++ []) (stand new bench later words))) (sym out.out)
+        subst (λ files. WorksOff workers files (walk_of faults entries before) end (walk_of faults (entries ++ []) (stand new bench later words)))
+        (sym out.out)
         (inr (record {
           outcome = outcome;
           ended = outcome_at;

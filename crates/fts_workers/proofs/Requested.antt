@@ -164,7 +164,8 @@ module _ (formed : (entries : List Entry) → IsLegal entries → AreWellFormed 
 
     -- the copy of a file that is out is still asked for the same
     file_still : (entries : List Entry) (entry : Entry) → IsLegal (entries ++ entry ∷ []) → IsOfRequest entry.command → (file : ℕ) (outcome : Outcome)
-        → 1 ≤ times file (out_of_list entries) → copies_of_file (tables_of (entries ++ entry ∷ [])) file outcome ≡ copies_of_file (tables_of entries) file outcome
+        → 1 ≤ times file (out_of_list entries) → copies_of_file (tables_of (entries ++ entry ∷ [])) file outcome
+        ≡ copies_of_file (tables_of entries) file outcome
     unfolding order_from
     file_still entries entry legal of file outcome among =
         let before = tables_of entries in

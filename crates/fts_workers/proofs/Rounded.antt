@@ -28,7 +28,8 @@ use Rattle.fts_workers.proofs.Parts.{copies_none, copies_then, out-held, round_f
 pub none_keeps : (entries : List Entry) (held : List Held) → held ≡ held_as (tables_of entries) (kept_of held) (out_of_list entries) → kept_of held ≡ None
     → KeepsOne held
 none_keeps entries held over none =
-    subst KeepsOne (sym (over ∙ ap (λ k. held_as (tables_of entries) k (out_of_list entries)) none)) (all_keeps (tables_of entries) None (out_of_list entries) tt)
+    subst KeepsOne (sym (over ∙ ap (λ k. held_as (tables_of entries) k (out_of_list entries)) none)) (all_keeps (tables_of entries) None
+    (out_of_list entries) tt)
 
 -- what is held over a list are the ACTIVE files
 pub active_over : {D : Type 0} (outs : (entries : List Entry) → IsLegal entries → AreTheActive (out_of_list entries) (tables_of entries).rows)

@@ -3,6 +3,7 @@ use fts_store::Store;
 use fts_tables::{Clock, Words};
 
 /// A store, a clock and a source of words.
+#[derive(Drop)]
 pub struct Hand<E: Store, C: Clock, W: Words> {
     pub store: E,
     pub clock: C,

@@ -30,8 +30,10 @@ loop-keep-preserved g c =
       few = step.few;
       part = filled_more g.D.Disk.state g.D.Disk.faults c.args.bench.now.places before mid after so_far.part
           (subst (λ n. MakesNoCopy g.D.Disk.state g.D.Disk.faults (FillsOn n (Ok true)) mid after) so_far.places
-          (subst (λ more. MakesNoCopy g.D.Disk.state g.D.Disk.faults (FillsOn c.loop-keep.bench.places (Ok more)) mid after) c.in-Ok-true.field-0-test step.part));
-      keeps = keeps_more g.D.Disk.state g.D.Disk.faults c.args.keep.now c.loop-keep.keep c.claim_next.new.keep c.loop-keep.invariant.keeps c.claim_next.ensures.keeps;
+          (subst (λ more. MakesNoCopy g.D.Disk.state g.D.Disk.faults (FillsOn c.loop-keep.bench.places
+          (Ok more)) mid after) c.in-Ok-true.field-0-test step.part));
+      keeps = keeps_more g.D.Disk.state g.D.Disk.faults c.args.keep.now c.loop-keep.keep c.claim_next.new.keep c.loop-keep.invariant.keeps
+          c.claim_next.ensures.keeps;
     }
 
 pub returns-in-Ok-false-clause-part : goal.returns-in-Ok-false-clause-part
@@ -47,7 +49,9 @@ returns-in-Ok-false-clause-part g c =
     (subst (λ more. MakesNoCopy g.D.Disk.state g.D.Disk.faults (FillsOn c.loop-keep.bench.places (Ok more)) mid after) c.in-Ok-false.field-0-test step.part)))
 
 pub returns-in-Ok-false-clause-keeps : goal.returns-in-Ok-false-clause-keeps
-returns-in-Ok-false-clause-keeps g c = keeps_more g.D.Disk.state g.D.Disk.faults c.args.keep.now c.loop-keep.keep c.claim_next.new.keep c.loop-keep.invariant.keeps c.claim_next.ensures.keeps
+returns-in-Ok-false-clause-keeps g c =
+    keeps_more g.D.Disk.state g.D.Disk.faults c.args.keep.now c.loop-keep.keep c.claim_next.new.keep
+    c.loop-keep.invariant.keeps c.claim_next.ensures.keeps
 
 pub returns-in-Err-clause-part : goal.returns-in-Err-clause-part
 returns-in-Err-clause-part g c =
@@ -59,7 +63,9 @@ returns-in-Err-clause-part g c =
     (subst (λ n. MakesNoCopy g.D.Disk.state g.D.Disk.faults (FillsOn n (Err c.in-Err.end)) mid after) so_far.places c.in-Err.ensures.part)
 
 pub returns-in-Err-clause-keeps : goal.returns-in-Err-clause-keeps
-returns-in-Err-clause-keeps g c = keeps_more g.D.Disk.state g.D.Disk.faults c.args.keep.now c.loop-keep.keep c.claim_next.new.keep c.loop-keep.invariant.keeps c.claim_next.ensures.keeps
+returns-in-Err-clause-keeps g c =
+    keeps_more g.D.Disk.state g.D.Disk.faults c.args.keep.now c.loop-keep.keep c.claim_next.new.keep
+    c.loop-keep.invariant.keeps c.claim_next.ensures.keeps
 
 pub returns-clause-part : goal.returns-clause-part
 returns-clause-part g c =

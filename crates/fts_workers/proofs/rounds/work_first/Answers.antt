@@ -24,7 +24,8 @@ report_first-requires-clause-order g c =
     let counted = subst (λ t. CopiesFirst g.E.Store.state g.E.Store.calls g.E.Store.faults t front.first front.others c.args.bench.now
     c.copy_first.new.self c.args.store.now c.copy_first.new.store) c.desk.ensures.tables copies in (
       c.requires.order.0,
-      over_mid g.D.Disk.state g.D.Disk.faults g.E.Store.state g.E.Store.calls g.E.Store.faults c.args.keep.now c.args.keep.now c.args.bench.now c.copy_first.new.self c.args.bench.now
+      over_mid g.D.Disk.state g.D.Disk.faults g.E.Store.state g.E.Store.calls g.E.Store.faults c.args.keep.now c.args.keep.now c.args.bench.now
+          c.copy_first.new.self c.args.bench.now
           front.first front.others c.args.store.now c.copy_first.new.store front.is counted c.requires.order.0 c.requires.order.1,
     )
 
@@ -34,7 +35,8 @@ report_first-requires-clause-copied g c =
     let copies = c.copy_first.ensures.copied front.first front.others front.is in
     let counted = subst (λ t. CopiesFirst g.E.Store.state g.E.Store.calls g.E.Store.faults t front.first front.others c.args.bench.now
     c.copy_first.new.self c.args.store.now c.copy_first.new.store) c.desk.ensures.tables copies in
-    mid_copied g.D.Disk.state g.D.Disk.faults g.E.Store.state g.E.Store.calls g.E.Store.faults c.args.keep.now c.args.keep.now c.args.bench.now c.copy_first.new.self c.args.bench.now
+    mid_copied g.D.Disk.state g.D.Disk.faults g.E.Store.state g.E.Store.calls g.E.Store.faults c.args.keep.now c.args.keep.now c.args.bench.now
+    c.copy_first.new.self c.args.bench.now
     front.first front.others c.args.store.now c.copy_first.new.store front.is counted
 
 pub returns-clause-part : goal.returns-clause-part
@@ -43,9 +45,11 @@ returns-clause-part g c = λ words workers.
     let copies = c.copy_first.ensures.copied front.first front.others front.is in
     let counted = subst (λ t. CopiesFirst g.E.Store.state g.E.Store.calls g.E.Store.faults t front.first front.others c.args.bench.now
     c.copy_first.new.self c.args.store.now c.copy_first.new.store) c.desk.ensures.tables copies in
-    worked_part g.D.Disk.state g.D.Disk.faults g.E.Store.state g.E.Store.calls g.E.Store.faults c.args.keep.now c.report_first.new.keep c.args.bench.now c.copy_first.new.self c.report_first.new.bench
+    worked_part g.D.Disk.state g.D.Disk.faults g.E.Store.state g.E.Store.calls g.E.Store.faults c.args.keep.now c.report_first.new.keep c.args.bench.now
+    c.copy_first.new.self c.report_first.new.bench
     front.first front.others c.args.store.now c.copy_first.new.store front.is counted
-    (g.C.Clock.moments c.args.clock.now) (g.C.Clock.moments c.report_first.new.clock) words workers c.report_first.result c.requires.order.0 c.requires.order.1
+    (g.C.Clock.moments c.args.clock.now) (g.C.Clock.moments c.report_first.new.clock) words workers c.report_first.result c.requires.order.0
+    c.requires.order.1
     (c.report_first.ensures.part words workers)
 
 pub returns-clause-places : goal.returns-clause-places
@@ -54,7 +58,8 @@ returns-clause-places g c =
     let copies = c.copy_first.ensures.copied front.first front.others front.is in
     let counted = subst (λ t. CopiesFirst g.E.Store.state g.E.Store.calls g.E.Store.faults t front.first front.others c.args.bench.now
     c.copy_first.new.self c.args.store.now c.copy_first.new.store) c.desk.ensures.tables copies in
-    c.report_first.ensures.places ∙ mid_places g.D.Disk.state g.D.Disk.faults g.E.Store.state g.E.Store.calls g.E.Store.faults c.args.keep.now c.args.keep.now c.args.bench.now c.copy_first.new.self c.args.bench.now
+    c.report_first.ensures.places ∙ mid_places g.D.Disk.state g.D.Disk.faults g.E.Store.state g.E.Store.calls g.E.Store.faults c.args.keep.now
+    c.args.keep.now c.args.bench.now c.copy_first.new.self c.args.bench.now
     front.first front.others c.args.store.now c.copy_first.new.store front.is counted
 
 pub returns-clause-shorter : goal.returns-clause-shorter
@@ -63,6 +68,8 @@ returns-clause-shorter g c =
     let copies = c.copy_first.ensures.copied front.first front.others front.is in
     let counted = subst (λ t. CopiesFirst g.E.Store.state g.E.Store.calls g.E.Store.faults t front.first front.others c.args.bench.now
     c.copy_first.new.self c.args.store.now c.copy_first.new.store) c.desk.ensures.tables copies in
-    subst (λ n. OnOk c.report_first.result (length c.report_first.new.bench.held + 1 ≡ n)) (mid_length g.D.Disk.state g.D.Disk.faults g.E.Store.state g.E.Store.calls g.E.Store.faults c.args.keep.now c.args.keep.now c.args.bench.now c.copy_first.new.self c.args.bench.now
+    subst (λ n. OnOk c.report_first.result (length c.report_first.new.bench.held + 1 ≡ n))
+    (mid_length g.D.Disk.state g.D.Disk.faults g.E.Store.state g.E.Store.calls g.E.Store.faults c.args.keep.now c.args.keep.now c.args.bench.now
+    c.copy_first.new.self c.args.bench.now
     front.first front.others c.args.store.now c.copy_first.new.store front.is counted)
     c.report_first.ensures.shorter
