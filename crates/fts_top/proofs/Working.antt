@@ -50,6 +50,7 @@ claims_few entries = few entries
     one : (b : Bool) → cond {A = ℕ} b 1 0 ≤ 1
     one true = omega arith
     one false = omega arith
+
     few : (list : List Entry) → claims_in list ≤ length list
     few [] = omega arith
     few (entry ∷ list) =

@@ -29,6 +29,7 @@ use std::alloc::Global;
 
 /// What a run meets: the text of its settings, its input, its output, where it notes how it ended, the disk of its journal, the clock, and hands,
 /// of which one thread uses the first one's store and words.
+#[derive(Drop)]
 pub struct Outside<F, S, K, N, D, E: Store, C: Clock, W: Words> {
     pub settings: F,
     pub input: S,
@@ -196,7 +197,9 @@ fn serve_under<S: Source, K: Sink, D: Disk, E: Store, C: Clock, W: Words>(
                 bench,
                 claims: 0,
             };
-            serve(alloc, working, &mut room, input, output, clock, store, draws)
+            serve(
+                alloc, working, &mut room, input, output, clock, store, draws,
+            )
         }
         Err((fault, disk)) => stop(RunEnd::of_start(fault), disk),
     }
@@ -224,7 +227,16 @@ fn serve<S: Source, K: Sink, D: Disk, E: Store, C: Clock, W: Words>(
     ensures disk { status_of result.end ≡ 4 → Rose (D.faults working.keep.disk) (D.faults result.disk) }
     ensures others { (status_of result.end ≢ 2) × (status_of result.end ≢ 8) }
 {
-    let end = run_session(alloc, &mut working, room, input, output, clock, store, draws);
+    let end = run_session(
+        alloc,
+        &mut working,
+        room,
+        input,
+        output,
+        clock,
+        store,
+        draws,
+    );
     let Working {
         keep,
         bench: _,

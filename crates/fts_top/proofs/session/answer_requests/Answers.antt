@@ -123,16 +123,16 @@ loop-done-preserved g c =
     let law : LeavesBench = record { held = c.requests_leave_the_bench.ensures.held; copies = c.requests_leave_the_bench.ensures.copies } in
     record {
       so_far = one_more g.D.Disk.state g.D.Disk.faults g.E.Store.state g.E.Store.calls g.E.Store.faults c.args.working.now.bench.places c.args.room.now.kept
-    (reading_of (g.S.Source.left c.args.input.now) (g.S.Source.reads c.args.input.now)) (g.K.Sink.held c.args.output.now)
-    (thread c.args.working.now.keep c.args.working.now.bench c.args.working.now.claims c.args.store.now (g.C.Clock.moments c.args.clock.now) (g.W.Words.words c.args.words.now))
+          (reading_of (g.S.Source.left c.args.input.now) (g.S.Source.reads c.args.input.now)) (g.K.Sink.held c.args.output.now)
+          (thread c.args.working.now.keep c.args.working.now.bench c.args.working.now.claims c.args.store.now (g.C.Clock.moments c.args.clock.now) (g.W.Words.words c.args.words.now))
           c.loop-done.done c.loop-done.room.kept (reading_of (g.S.Source.left c.loop-done.input) (g.S.Source.reads c.loop-done.input)) (g.K.Sink.held c.loop-done.output)
-    (thread c.loop-done.working.keep c.loop-done.working.bench c.loop-done.working.claims c.loop-done.store (g.C.Clock.moments c.loop-done.clock) (g.W.Words.words c.loop-done.words))
-    c.loop-done.invariant.so_far
+          (thread c.loop-done.working.keep c.loop-done.working.bench c.loop-done.working.claims c.loop-done.store (g.C.Clock.moments c.loop-done.clock) (g.W.Words.words c.loop-done.words))
+          c.loop-done.invariant.so_far
           law c.answer-reply.new.keep input (g.K.Sink.held c.write_response.new.sink) (g.C.Clock.moments c.now-now.new.self) c.load.new.self c.now-now.result c.answer-reply.result
-    load c.now-now.ensures answered c.answer-reply.ensures.grows c.answer-reply.ensures.images
+          load c.now-now.ensures answered c.answer-reply.ensures.grows c.answer-reply.ensures.images
           c.make_round.result
           (thread c.make_round.new.working.keep c.make_round.new.working.bench c.make_round.new.working.claims c.make_round.new.store (g.C.Clock.moments c.make_round.new.clock)
-    (g.W.Words.words c.make_round.new.words))
+          (g.W.Words.words c.make_round.new.words))
           c.loop-done.invariant.so_far.places c.in-Ok.ensures.sent c.make_round.ensures.works;
       input = omega (arith, c.loop-done.invariant.input, c.load.ensures.faults);
       output = omega (arith, c.loop-done.invariant.output, c.write_response.ensures.cause.keeps);
