@@ -1,11 +1,11 @@
 -- What is said to a submission, by each answer of its keep, and what that adds.
-use Rattle.std.proofs.Common.{◌≡◌, inl, inr, ⊎_elim, refl, ap, sym, ◌∙◌, subst, ℕ, ◌≤◌, Bool, true, false, if◌then◌else◌, List, [], ◌∷◌, ◌++◌, Option, Some, None, Result, Ok, Err, IsOk, arith}
+use Rattle.std.proofs.Common.{◌≡◌, ◌⊎◌, inl, inr, ⊎_elim, refl, ap, sym, ◌∙◌, subst, ℕ, ◌≤◌, Bool, true, false, if◌then◌else◌, List, [], ◌∷◌, ◌++◌, Option, Some, None, Result, Ok, Err, IsOk, arith}
 use Rattle.std.proofs.lemmas.List.Elements.{All-nil}
 use Rattle.fts_tables.specs.Counts.{Rose}
 use Rattle.fts_tables.specs.Tables.{Tables}
 use Rattle.fts_tables.specs.JobData.{JobData}
 use Rattle.fts_tables.specs.Step.{Outcomes, step}
-use Rattle.fts_tables.specs.History.{tables_after, tables_from, IsAccepted, IsLegalFrom}
+use Rattle.fts_tables.specs.History.{tables_after, tables_from, IsAccepted}
 use Rattle.fts_tables.specs.declared.commands.Entry.{Entry}
 use Rattle.fts_tables.specs.declared.commands.Answer.{Answer}
 use Rattle.fts_tables.specs.declared.commands.Command.TheVariants.{Submit}
@@ -19,7 +19,7 @@ use Rattle.fts_jobdoc.specs.declared.fault.DocFault.{DocFault}
 use Rattle.fts_wire.specs.RequestData.{RequestData}
 use Rattle.fts_wire.specs.declared.response.Allow.TheVariants.{None as NoAllow}
 use Rattle.fts_wire.specs.declared.response.Reply.{Reply}
-use Rattle.fts_top.specs.Tallies.{claims_in}
+use Rattle.fts_workers.specs.Requests.{IsOfRequest}
 use Rattle.fts_top.specs.Replies.{accepted_body, reply_to_refusal, journal_full, disk_failed, no_memory, document_of, id_of_new, IsOrNoMemory, Said, said, said_by, said_to, said_so, submission, Way, AsDefined, WithoutMemory, WithoutDisk, Says, Answers, DoubtHasCause}
 use Rattle.fts_top.proofs.Keeping.{none_more}
 
@@ -69,6 +69,7 @@ module _ {D : Type 0} (state : D → DiskState) (faults : D → ℕ) where
     instead = tt;
     replies = same;
     tables = ap (λ l. tables_from keep.tables l) (sym none);
+    commands = rw none (omega arith);
     used = rw none refl;
     listed = λ told. sym (none_more keep.entries) ∙ ap (λ l. keep.entries ++ l) (sym none);
   }
@@ -78,6 +79,7 @@ module _ {D : Type 0} (state : D → DiskState) (faults : D → ℕ) where
     instead = tt;
     replies = lacks;
     tables = refl;
+    commands = omega arith;
     used = refl;
     listed = λ told. sym (none_more keep.entries);
   }
@@ -90,6 +92,7 @@ module _ {D : Type 0} (state : D → DiskState) (faults : D → ℕ) where
     instead = tt;
     replies = lacks;
     tables = keeps.tables;
+    commands = omega (arith, keeps.commands);
     used = keeps.used;
     listed = λ told. keeps.entries ∙ sym (none_more old.entries);
   }
@@ -114,6 +117,7 @@ module _ {D : Type 0} (state : D → DiskState) (faults : D → ℕ) where
           replies = ap (λ (b : List ℕ). record { status = 200; allow = NoAllow; body = b }) is_body ∙ sym (ap (λ (s : Said). s.reply) same);
           tables = sym (step_left old.tables new.tables answer old.used (submission writer now job) (step old.tables (Submit now job)) done.done)
               ∙ sym (ap (λ (s : Said). tables_from old.tables s.added) same);
+          commands = rw same done.commands;
           used = rw same done.used;
           listed = λ told. (done.listed told).0 ∙ sym (ap (λ (s : Said). old.entries ++ s.added) same);
         }
@@ -141,6 +145,7 @@ module _ {D : Type 0} (state : D → DiskState) (faults : D → ℕ) where
       instead = some_added (id_of_new old.tables job) (submission writer now job) (applied_to old.tables old.used (submission writer now job)) done.would;
       replies = replied;
       tables = done.keeps.tables;
+      commands = omega (arith, done.keeps.commands);
       used = done.keeps.used;
       listed = λ told. done.keeps.entries ∙ sym (none_more old.entries);
     }
@@ -172,30 +177,26 @@ module _ {D : Type 0} (state : D → DiskState) (faults : D → ℕ) where
   pub doubt_none : (keep : KeepData D) → DoubtHasCause state faults keep keep
   doubt_none keep = λ told. inr (inl refl)
 
--- what is said adds entries that are accepted where they stand, and no claim
-pub record AddsWell (tables : Tables) (added : List Entry) : Type 0 where
-  pub legal : IsLegalFrom tables added
-  pub claims : claims_in added ≡ 0
-
-adds_nothing : (tables : Tables) → AddsWell tables []
-adds_nothing tables = record { legal = tt; claims = refl }
+-- what is said adds nothing, or one entry of a request that is accepted where it stands
+abbrev pub AddsWell : Tables → List Entry → Type 0
+AddsWell tables added = (added ≡ []) ⊎ ((entry : Entry) × ((added ≡ entry ∷ []) × (IsAccepted (step tables entry.command) × IsOfRequest entry.command)))
 
 fit_added : (tables : Tables) (id used writer now : ℕ) (job : JobData) (done : Tables × Answer) (fit : Bool) → step tables (Submit now job) ≡ Ok done
     → AddsWell tables (said_by id (submission writer now job) (if fit then Ok done else Err (JournalFull used))).added
-fit_added tables id used writer now job done true is = record { legal = (subst IsAccepted (sym is) tt, tt); claims = refl }
-fit_added tables id used writer now job done false is = adds_nothing tables
+fit_added tables id used writer now job done true is = inr (submission writer now job, (refl, (subst IsAccepted (sym is) tt, tt)))
+fit_added tables id used writer now job done false is = inl refl
 
 came_added : (tables : Tables) (id used writer now : ℕ) (job : JobData) (came : Outcomes) → step tables (Submit now job) ≡ came
     → AddsWell tables (said_by id (submission writer now job) (applied_by used (submission writer now job) came)).added
 came_added tables id used writer now job (Ok done) is = fit_added tables id used writer now job done (fits used (submission writer now job)) is
-came_added tables id used writer now job (Err refusal) is = adds_nothing tables
+came_added tables id used writer now job (Err refusal) is = inl refl
 
 document_added : (tables : Tables) (used writer now : ℕ) (document : Result JobData DocFault) → AddsWell tables (said_to tables used writer now document).added
-document_added tables used writer now (Err fault) = adds_nothing tables
+document_added tables used writer now (Err fault) = inl refl
 document_added tables used writer now (Ok job) = came_added tables (id_of_new tables job) used writer now job (step tables (Submit now job)) refl
 
 -- so does what is said to a request
 pub said_well : (tables : Tables) (used writer : ℕ) (request : RequestData) (now : ℕ) (way : Way) → AddsWell tables (said_so way (said tables used writer request now)).added
 said_well tables used writer request now AsDefined = document_added tables used writer now (document_of tables request.body)
-said_well tables used writer request now WithoutMemory = adds_nothing tables
-said_well tables used writer request now WithoutDisk = adds_nothing tables
+said_well tables used writer request now WithoutMemory = inl refl
+said_well tables used writer request now WithoutDisk = inl refl

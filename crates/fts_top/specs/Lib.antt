@@ -1,6 +1,5 @@
 pub mod Replies
 pub mod Connections
-pub mod Walks
 pub mod Tallies
 pub mod Sessions
 pub mod Words
