@@ -1,9 +1,10 @@
-pub mod Fronts
-pub mod Bounds
-pub mod Stable
+pub mod Cuts
+pub mod Ends
+pub mod Feeds
+pub mod Grammar
 pub mod Lengths
 pub mod Pieces
-pub mod Next
 pub mod Sent
-pub mod Worked
+pub mod Values
 pub mod WholeInput
+pub mod Worked
