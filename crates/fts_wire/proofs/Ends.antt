@@ -91,6 +91,7 @@ passed_end bytes size n count end p l empty size_is lines_is =
       head = behind_by bytes size n count p l ∙ ap (λ t. behind_lines p.done (cond t (Some (line ∷ [])) (option_map (λ ls. line ∷ ls) rest))) empty;
       own = bytes_more bytes size n p.done p.own p.within l.within ∙ ap (λ m. take m bytes) (sym size_is);
       within = omega (arith, p.within, l.within, length-drop size bytes, size_is);
+      some = omega (arith, l.some, size_is);
       count = omega (arith, p.count_is, lines_is, length-append p.done (line ∷ []));
     }
 

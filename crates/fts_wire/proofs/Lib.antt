@@ -3,8 +3,10 @@ pub mod Ends
 pub mod Feeds
 pub mod Grammar
 pub mod Lengths
+pub mod Parts
 pub mod Pieces
 pub mod Sent
+pub mod Sights
 pub mod Values
 pub mod WholeInput
 pub mod Worked

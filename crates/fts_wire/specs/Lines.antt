@@ -21,6 +21,7 @@ pub record EndsAt (bytes : List ℕ) (end : HeadEnd) : Type 0 where
   pub head : head_lines (lines_of bytes) ≡ Some lines
   pub own : concat lines ≡ take end.size bytes
   pub within : end.size ≤ length bytes
+  pub some : 0 < end.size
   pub count : length lines ≡ end.lines
 
 -- where the head ends that begins bytes, where its empty line is there

@@ -1,6 +1,6 @@
 -- What parsing a head's own bytes gives.
-use Rattle.std.specs.Prelude.{◌≡◌, ℕ, ◌≤◌, false, List, length, take, map, All, Option, Some, None, IsUtf8}
-use Rattle.std.specs.List.{slice_index}
+use Rattle.std.specs.Prelude.{◌≡◌, ℕ, ◌≤◌, List, length, take, map, All, Option, Some, None, IsUtf8}
+use Rattle.std.specs.List.{concat}
 use Rattle.httparse.specs.Pieces.{Stops, is_newline}
 use Rattle.httparse.specs.Grammar.{RequestHead}
 use Rattle.httparse.specs.Spans.{span_bytes, header_bytes, name_and_value, IsWithin, IsHeaderWithin}
@@ -8,9 +8,10 @@ use Rattle.httparse.specs.declared.spans.HeaderSpan.{HeaderSpan}
 use Rattle.httparse.specs.declared.spans.RequestSpans.{RequestSpans}
 use Rattle.fts_wire.specs.Head.{lines_of, head_of}
 
--- bytes that begin with another byte than CR and LF, and have at most 64 lines between the first and the last
+-- lines that begin with another byte than CR and LF, of which at most 64 stand between the first and the last
 pub record BeginsHead (own : List ℕ) : Type 0 where
   pub first : Stops is_newline own
+  pub lines : concat (lines_of own) ≡ own
   pub few : length (lines_of own) ≤ 66
 
 -- the places of a head's parts

@@ -86,7 +86,8 @@ fn parse_head(own: &[u8], headers: &mut [HeaderSpan]) -> Option<RequestSpans>
                 None
             }
         }
-        _ => None,
+        Ok(Status::Partial) => None,
+        Err(_) => None,
     }
 }
 
