@@ -1,12 +1,15 @@
+pub mod Bounds
 pub mod Cuts
 pub mod Ends
 pub mod Feeds
 pub mod Grammar
 pub mod Lengths
+pub mod Next
 pub mod Parts
 pub mod Pieces
 pub mod Sent
 pub mod Sights
+pub mod Stable
 pub mod Values
 pub mod WholeInput
 pub mod Worked
