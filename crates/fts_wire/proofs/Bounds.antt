@@ -1,6 +1,6 @@
 -- Bytes that are less than a request are few, and a request is no longer than a buffer.
 use Rattle.std.proofs.Common.{◌≡◌, ℕ, ◌+◌, min, ◌<◌, ◌≤◌, Bool, true, false, cond, List, [], ◌∷◌, length, take, drop, map, Option, Some, None, Result, Ok, Err, refl, ap, ◌∙◌, arith, subst, sym, length-drop, length-take, length-append, ⊎_elim}
-use Rattle.std.specs.Prelude.{◌==◌, nat_lt, nat_le, codes}
+use Rattle.std.specs.Prelude.{◌==◌, nat_lt, nat_le, codes, is_some}
 use Rattle.std.specs.List.{concat}
 use Rattle.std.specs.Str.Parse.{digits_value}
 use Rattle.std.proofs.lemmas.Bool.{cond_both, leb-true, leb-false, cases_lt, eq-eqb, false≢true}
@@ -11,6 +11,7 @@ use Rattle.httparse.specs.Grammar.{RequestHead}
 use Rattle.httparse.specs.Pieces.{is_newline}
 use Rattle.httparse.specs.Spans.{name_and_value}
 use Rattle.fts_wire.specs.Head.{lines_of, head_lines, head_of}
+use Rattle.fts_wire.specs.Faults.{status_of}
 use Rattle.fts_wire.specs.Fields.{NameValue, is_length, length_of, body_length, values_of, is_chunked, says_close}
 use Rattle.fts_wire.specs.RequestData.{HeadData}
 use Rattle.fts_wire.specs.Look.{Sight, Short, Refused, Headed, blanks, sight_body, sight_fields, sight_head, sight_lines, sight_by, sight_in, sight_of}
@@ -19,44 +20,48 @@ use Rattle.fts_wire.specs.declared.fault.WireFault.{WireFault}
 use Rattle.fts_wire.specs.declared.fault.WireFault.TheVariants.{BadLength, BodyTooLarge, Chunked, HeadTooLarge}
 use Rattle.fts_wire.proofs.Feeds.{lines_front, head_is}
 
--- what is seen in n bytes says of n
+-- a fault that has a response
+abbrev pub IsAnswered : WireFault → Type 0
+IsAnswered fault = is_some (status_of fault) ≡ true
+
+-- what is seen in n bytes says of n; what is refused has a response
 abbrev pub Fits : ℕ → Sight → Type 0
 Fits n Short = Unit {0}
-Fits n (Refused fault) = Unit {0}
+Fits n (Refused fault) = IsAnswered fault
 Fits n (Headed head) = (head.before + head.size ≤ n) × (head.body ≤ 1048576)
 
 abbrev BodyFits : Result ℕ WireFault → Type 0
 BodyFits (Ok body) = body ≤ 1048576
-BodyFits (Err fault) = Unit {0}
+BodyFits (Err fault) = IsAnswered fault
 
 length_fits : (value : List ℕ) → BodyFits (length_of value)
 length_fits value =
     let n = digits_value 10 value in
     cond_both (is_length value) (cond (nat_le n 1048576) (Ok n) (Err BodyTooLarge)) (Err BadLength) BodyFits
-    (λ _. cond_both (nat_le n 1048576) (Ok n) (Err BodyTooLarge) BodyFits (λ e. leb-true n 1048576 e) (λ _. tt)) (λ _. tt)
+    (λ _. cond_both (nat_le n 1048576) (Ok n) (Err BodyTooLarge) BodyFits (λ e. leb-true n 1048576 e) (λ _. refl)) (λ _. refl)
 
 body_fits : (values : List (List ℕ)) → BodyFits (body_length values)
 body_fits [] = omega arith
 body_fits (value ∷ []) = length_fits value
-body_fits (value ∷ second ∷ more) = tt
+body_fits (value ∷ second ∷ more) = refl
 
 sight_body_fits : (r : Result ℕ WireFault) (n before size : ℕ) (method target : List ℕ) (close : Bool) → BodyFits r → before + size ≤ n
     → Fits n (sight_body r before size method target close)
 sight_body_fits (Ok body) n before size method target close small within = (within, small)
-sight_body_fits (Err fault) n before size method target close small within = tt
+sight_body_fits (Err fault) n before size method target close small within = small
 
 fields_fit : (n before size : ℕ) (method target : List ℕ) (minor : ℕ) (fields : List NameValue) → before + size ≤ n → Fits n (sight_fields before size method target minor fields)
 fields_fit n before size method target minor fields within =
     let values = values_of (codes "content-length") fields in
-    cond_both (is_chunked fields) (Refused Chunked) (sight_body (body_length values) before size method target (says_close minor fields)) (Fits n) (λ _. tt)
+    cond_both (is_chunked fields) (Refused Chunked) (sight_body (body_length values) before size method target (says_close minor fields)) (Fits n) (λ _. refl)
     (λ _. sight_body_fits (body_length values) n before size method target (says_close minor fields) (body_fits values) within)
 
 head_fits : (o : Option RequestHead) (n before size : ℕ) → before + size ≤ n → Fits n (sight_head before size o)
-head_fits None n before size within = tt
+head_fits None n before size within = refl
 head_fits (Some h) n before size within = fields_fit n before size h.method h.target h.minor (map name_and_value h.fields) within
 
 lines_fit : (n before : ℕ) (lines : List (List ℕ)) → before + length (concat lines) ≤ n → Fits n (sight_lines before lines)
-lines_fit n before lines within = cond_both (nat_lt 66 (length lines)) (Refused HeadTooLarge) (sight_head before (length (concat lines)) (head_of lines)) (Fits n) (λ _. tt)
+lines_fit n before lines within = cond_both (nat_lt 66 (length lines)) (Refused HeadTooLarge) (sight_head before (length (concat lines)) (head_of lines)) (Fits n) (λ _. refl)
     (λ _. head_fits (head_of lines) n before (length (concat lines)) within)
 
 -- a head's lines are no longer than the bytes
@@ -71,10 +76,14 @@ in_fits : (bytes : List ℕ) → Fits (length bytes) (sight_in bytes)
 in_fits bytes = by (head_lines (lines_of (drop (blanks bytes) bytes))) refl
   where
     by : (o : Option (List (List ℕ))) → head_lines (lines_of (drop (blanks bytes) bytes)) ≡ o → Fits (length bytes) (sight_by (blanks bytes) (length bytes) o)
-    by None e = cond_both (length bytes == 16384) (Refused HeadTooLarge) Short (Fits (length bytes)) (λ _. tt) (λ _. tt)
+    by None e = cond_both (length bytes == 16384) (Refused HeadTooLarge) Short (Fits (length bytes)) (λ _. refl) (λ _. tt)
     by (Some lines) e =
         lines_fit (length bytes) (blanks bytes) lines
         (omega (arith, lines_within (drop (blanks bytes) bytes) lines e, length-drop (blanks bytes) bytes, prefix_len-le-length is_newline bytes))
+
+-- what is refused has a response
+pub refused_answered : (bytes : List ℕ) (fault : WireFault) → sight_of bytes ≡ Refused fault → IsAnswered fault
+refused_answered bytes fault e = subst (Fits (length (take 16384 bytes))) e (in_fits (take 16384 bytes))
 
 -- the head that is seen in bytes stands in them, within its limit, and its body is within its own
 pub head_few : (bytes : List ℕ) (head : HeadData) → sight_of bytes ≡ Headed head → (head.before + head.size ≤ min 16384 (length bytes)) × (head.body ≤ 1048576)

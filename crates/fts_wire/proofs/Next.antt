@@ -1,8 +1,8 @@
 -- What stands in the bytes that were taken is what comes next of all that there is.
 use Rattle.std.proofs.Common.{◌≡◌, ◌≢◌, ℕ, suc, ◌+◌, ◌<◌, ◌≤◌, Bool, true, false, cond, List, [], ◌∷◌, ◌++◌, length, take, drop, Option, Some, None, Result, Ok, Err, refl, ap, sym, ◌∙◌, arith, subst, append-nil, append_assoc, length-append, length-drop}
-use Rattle.std.specs.Prelude.{nat_le, ◌&&◌, IfSome}
+use Rattle.std.specs.Prelude.{nat_le, ◌&&◌, ◌==◌, IfSome, MatchBool, is_some}
 use Rattle.std.specs.List.{concat, list_all}
-use Rattle.std.proofs.lemmas.Bool.{cond_both, cond-true, cond-false, le-leb, lt-leb, and_parts, false_from_ne_true}
+use Rattle.std.proofs.lemmas.Bool.{cond_both, cond-true, cond-false, le-leb, lt-leb, and_parts, false_from_ne_true, false≢true, true≢false, eqb-true, eqb-false}
 use Rattle.std.proofs.lemmas.List.{drop-append-le, take-append-le}
 use Rattle.httparse.specs.Pieces.{is_newline}
 use Rattle.fts_wire.specs.declared.fault.WireFault.{WireFault}
@@ -14,6 +14,7 @@ use Rattle.fts_wire.specs.RoomData.{RoomData}
 use Rattle.fts_wire.specs.Room.{request_at, taken_by}
 use Rattle.fts_wire.specs.Requests.{Next, next_of, next_by, at_end, asks, request_size, is_open, IsShort, Closed, EndsInside, Refuses, Asks}
 use Rattle.fts_wire.specs.Taken.{pending, IsNext, IsUsedUp, LooksLike, Takes, StandsIn, reads_without, IsTaken, IsKnown}
+use Rattle.fts_wire.proofs.Bounds.{IsAnswered, refused_answered}
 use Rattle.fts_wire.proofs.Stable.{Stays, StaysNext, sight_more, next_more}
 
 -- a request that stands in bytes stands in them with more behind
@@ -121,10 +122,35 @@ pub taken_asked : (kept : List ℕ) (before after : Option (List ℕ)) (old new 
 taken_asked kept before after old new bytes head t at within = record { bytes = bytes; takes = t; stands = whole bytes head at within }
 
 -- what the end of the input is behind bytes in which no head has ended
-pub clean_end : (bytes : List ℕ) → sight_of bytes ≡ Short → blanks bytes ≡ length bytes → next_of bytes ≡ Closed
-clean_end bytes short all =
-    ap (λ s. next_by s bytes) short ∙ cond-true (list_all is_newline bytes) Closed EndsInside (all_blank bytes all)
+pub no_head_end : (bytes : List ℕ) (found : Option Head) (n : ℕ) → IsKnown bytes found → is_some found ≡ false → n ≡ blanks bytes
+    → MatchBool (n == length bytes) (next_of bytes ≡ Closed) (next_of bytes ≡ EndsInside)
+no_head_end bytes (Some head) n known none count = absurd (true≢false none)
+no_head_end bytes None n short none count = by (n == length bytes) refl
+  where
+    next : next_of bytes ≡ at_end bytes
+    next = ap (λ s. next_by s bytes) short
 
-pub end_inside : (bytes : List ℕ) → sight_of bytes ≡ Short → blanks bytes ≢ length bytes → next_of bytes ≡ EndsInside
-end_inside bytes short some =
-    ap (λ s. next_by s bytes) short ∙ cond-false (list_all is_newline bytes) Closed EndsInside (false_from_ne_true (list_all is_newline bytes) (λ e. some (blank_all bytes e)))
+    by : (t : Bool) → n == length bytes ≡ t → MatchBool t (next_of bytes ≡ Closed) (next_of bytes ≡ EndsInside)
+    by true e = next ∙ cond-true (list_all is_newline bytes) Closed EndsInside (all_blank bytes (sym count ∙ eqb-true n (length bytes) e))
+    by false e = next ∙ cond-false (list_all is_newline bytes) Closed EndsInside
+        (false_from_ne_true (list_all is_newline bytes) (λ all. eqb-false n (length bytes) e (count ∙ blank_all bytes all)))
+
+-- bytes that a look refuses are refused
+refused_looks : (bytes : List ℕ) (left : Option (List ℕ)) (old new : ℕ) (fault : WireFault) → sight_of bytes ≡ Refused fault → IsAnswered fault
+    → LooksLike bytes left old new (Err fault)
+refused_looks bytes left old new EndsInsideFault e answered = absurd (false≢true answered)
+refused_looks bytes left old new SourceFailed e answered = absurd (false≢true answered)
+refused_looks bytes left old new fault e answered = ap (λ s. next_by s bytes) e
+
+refused_reads : (fault : WireFault) → IsAnswered fault → reads_without (Err fault) ≡ 0
+refused_reads EndsInsideFault answered = absurd (false≢true answered)
+refused_reads SourceFailed answered = absurd (false≢true answered)
+refused_reads fault answered = refl
+
+pub looks_refused : (bytes : List ℕ) (left : Option (List ℕ)) (old new : ℕ) (fault : WireFault) → sight_of bytes ≡ Refused fault → LooksLike bytes left old new (Err fault)
+looks_refused bytes left old new fault e = refused_looks bytes left old new fault e (refused_answered bytes fault e)
+
+pub takes_refused : (kept : List ℕ) (before : Option (List ℕ)) (bytes : List ℕ) (after : Option (List ℕ)) (old new : ℕ) (fault : WireFault) → sight_of bytes ≡ Refused fault
+    → Takes kept before bytes after old new 0 → Takes kept before bytes after old new (reads_without (Err fault))
+takes_refused kept before bytes after old new fault e t =
+    subst (Takes kept before bytes after old new) (sym (refused_reads fault (refused_answered bytes fault e))) t
