@@ -1,5 +1,5 @@
 -- Bytes that are less than a request are few, and a request is no longer than a buffer.
-use Rattle.std.proofs.Common.{◌≡◌, ℕ, ◌+◌, min, ◌<◌, ◌≤◌, Bool, true, false, cond, List, [], ◌∷◌, length, take, drop, map, Option, Some, None, Result, Ok, Err, refl, ap, ◌∙◌, arith, subst, sym, length-drop, length-take, length-append, ⊎_elim}
+use Rattle.std.proofs.Common.{◌≡◌, ℕ, ◌+◌, min, ◌<◌, ◌≤◌, Bool, true, false, cond, List, [], ◌∷◌, length, take, drop, map, Option, Some, None, Result, Ok, Err, refl, ap, arith, subst, sym, length-drop, length-take, length-append, ⊎_elim}
 use Rattle.std.specs.Prelude.{◌==◌, nat_lt, nat_le, codes, is_some}
 use Rattle.std.specs.List.{concat}
 use Rattle.std.specs.Str.Parse.{digits_value}
@@ -15,7 +15,7 @@ use Rattle.fts_wire.specs.Faults.{status_of}
 use Rattle.fts_wire.specs.Fields.{NameValue, is_length, length_of, body_length, values_of, is_chunked, says_close}
 use Rattle.fts_wire.specs.RequestData.{HeadData}
 use Rattle.fts_wire.specs.Look.{Sight, Short, Refused, Headed, blanks, sight_body, sight_fields, sight_head, sight_lines, sight_by, sight_in, sight_of}
-use Rattle.fts_wire.specs.Requests.{next_of, next_by, IsShort, is_open, request_size, asks, EndsInside}
+use Rattle.fts_wire.specs.Requests.{next_by, IsShort, is_open, request_size, asks, EndsInside}
 use Rattle.fts_wire.specs.declared.fault.WireFault.{WireFault}
 use Rattle.fts_wire.specs.declared.fault.WireFault.TheVariants.{BadLength, BodyTooLarge, Chunked, HeadTooLarge}
 use Rattle.fts_wire.proofs.Feeds.{lines_front, head_is}

@@ -1,8 +1,8 @@
 -- Looking for the end of a head, a line at a time.
 use Rattle.std.proofs.Common.{◌≡◌, ℕ, ◌+◌, ◌<◌, ◌≤◌, Bool, true, false, cond, List, [], ◌∷◌, ◌++◌, length, take, drop, get_or, Option, Some, None, refl, ap, sym, ◌∙◌, arith, subst, append_assoc, append-nil, length-append, length-drop, take-add, ◌-◌}
-use Rattle.std.specs.Prelude.{option_map, All, slice_range}
+use Rattle.std.specs.Prelude.{option_map, slice_range}
 use Rattle.std.specs.List.{concat}
-use Rattle.std.proofs.lemmas.List.{take_rest, get_or-take, take_more, take-append-drop, drop-drop, take-append-le, length-take-le, drop_more, nil_from_length}
+use Rattle.std.proofs.lemmas.List.{take_rest, get_or-take, take_more, take-append-drop, drop-drop, length-take-le, drop_more}
 use Rattle.std.proofs.lemmas.List.Folds.{concat-append}
 use Rattle.std.proofs.lemmas.List.Elements.{All-from_get_or}
 use Rattle.fts_wire.specs.Head.{lines_of, is_empty_line, head_lines}

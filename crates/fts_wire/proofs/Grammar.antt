@@ -1,15 +1,15 @@
 -- A head that lines are read as is the one that the grammar has for their bytes.
-use Rattle.std.proofs.Common.{◌≡◌, ℕ, zero, suc, ◌+◌, ◌<◌, ◌≤◌, Bool, true, false, cond, List, [], ◌∷◌, ◌++◌, length, take, map, Option, Some, None, refl, ap, sym, ◌∙◌, arith, subst, append_assoc, append-nil}
-use Rattle.std.specs.Prelude.{◌==◌, ◌&&◌, ◌||◌, not, nat_lt, All, codes, bytes_eq, IsUtf8, filter}
+use Rattle.std.proofs.Common.{◌≡◌, ℕ, zero, suc, ◌+◌, ◌≤◌, Bool, true, false, cond, List, [], ◌∷◌, ◌++◌, length, take, map, Some, None, refl, ap, sym, ◌∙◌, arith, subst, append_assoc, append-nil}
+use Rattle.std.specs.Prelude.{◌==◌, ◌&&◌, ◌||◌, not, nat_lt, All, codes, bytes_eq, filter}
 use Rattle.std.specs.List.{concat, flat_map, list_any, list_all, before_first, after_first}
 use Rattle.std.specs.Str.{is_utf8}
-use Rattle.std.proofs.lemmas.Bool.{cond-true, cond-false, cond_both, and_from, and_left, and_parts, or_from, or_parts, lt-ltb, ltb-true, true≢false, ne_eqb, false≢true}
-use Rattle.std.proofs.lemmas.List.Elements.{All-head, All-tail, All-append, All-cons, All-nil, filter-append, All-from_get_or}
-use Rattle.std.proofs.lemmas.List.Folds.{concat-append, list_any-append, list_any_none}
+use Rattle.std.proofs.lemmas.Bool.{cond_both, and_from, and_left, and_parts, or_from, or_parts, lt-ltb, ltb-true, true≢false}
+use Rattle.std.proofs.lemmas.List.Elements.{All-head, All-tail, All-append, All-cons, All-nil}
+use Rattle.std.proofs.lemmas.List.Folds.{list_any-append, list_any_none}
 use Rattle.std.proofs.lemmas.List.Sums.{list_all-from_AllPass, AllPass-from_list_all}
 use Rattle.std.proofs.lemmas.Slice.Eq.{bytes_eq-Decides}
 use Rattle.std.proofs.lemmas.Str.{IsUtf8-from_is_utf8, is_utf8-from_IsUtf8}
-use Rattle.httparse.specs.Grammar.{LineEnd, crlf, lf, print_end, print_blank, print_version, is_token, is_token_byte, is_uri_byte, is_value_byte, AllPass, IsToken, Field, IsField, print_field, print_section, RequestHead, IsRequestHead, print_request, ReadsRequest}
+use Rattle.httparse.specs.Grammar.{LineEnd, crlf, lf, print_end, print_blank, print_version, is_token, is_token_byte, is_uri_byte, is_value_byte, IsToken, Field, IsField, print_field, print_section, RequestHead, IsRequestHead, print_request, ReadsRequest}
 use Rattle.httparse.specs.Pieces.{is_newline, Stops}
 use Rattle.httparse.proofs.GrammarLemmas.{print_request-append, cons-append}
 use Rattle.fts_wire.specs.Head.{lines_of, is_empty_line, is_space, is_colon, is_return, text_of, end_of, field_of, minor_of, request_of, is_field, is_request, head_if, head_of}

@@ -3,6 +3,7 @@ pub mod Cuts
 pub mod Ends
 pub mod Feeds
 pub mod Grammar
+pub mod Kept
 pub mod Lengths
 pub mod Next
 pub mod Parts

@@ -1,5 +1,5 @@
 -- What stands in the bytes that were taken is what comes next of all that there is.
-use Rattle.std.proofs.Common.{◌≡◌, ◌≢◌, ℕ, suc, ◌+◌, ◌<◌, ◌≤◌, Bool, true, false, cond, List, [], ◌∷◌, ◌++◌, length, take, drop, Option, Some, None, Result, Ok, Err, refl, ap, sym, ◌∙◌, arith, subst, append-nil, append_assoc, length-append, length-drop}
+use Rattle.std.proofs.Common.{◌≡◌, ℕ, suc, ◌+◌, ◌<◌, ◌≤◌, Bool, true, false, cond, List, [], ◌∷◌, ◌++◌, length, take, drop, Option, Some, None, Result, Ok, Err, refl, ap, sym, ◌∙◌, arith, subst, append-nil, append_assoc, length-append, length-drop}
 use Rattle.std.specs.Prelude.{nat_le, ◌&&◌, ◌==◌, IfSome, MatchBool, is_some}
 use Rattle.std.specs.List.{concat, list_all}
 use Rattle.std.proofs.lemmas.Bool.{cond_both, cond-true, cond-false, le-leb, lt-leb, and_parts, false_from_ne_true, false≢true, true≢false, eqb-true, eqb-false}
@@ -9,10 +9,10 @@ use Rattle.fts_wire.specs.declared.fault.WireFault.{WireFault}
 use Rattle.fts_wire.specs.declared.fault.WireFault.TheVariants.{EndsInside as EndsInsideFault, SourceFailed}
 use Rattle.fts_wire.specs.declared.look.Head.{Head}
 use Rattle.fts_wire.specs.RequestData.{RequestData}
-use Rattle.fts_wire.specs.Look.{Short, Refused, Headed, blanks, sight_of, head_at, head_in, head_bytes, IsSpanned, StandsAt}
+use Rattle.fts_wire.specs.Look.{Refused, Headed, blanks, sight_of, head_at, head_in, head_bytes, IsSpanned, StandsAt}
 use Rattle.fts_wire.specs.RoomData.{RoomData}
 use Rattle.fts_wire.specs.Room.{request_at, taken_by}
-use Rattle.fts_wire.specs.Requests.{Next, next_of, next_by, at_end, asks, request_size, is_open, IsShort, Closed, EndsInside, Refuses, Asks}
+use Rattle.fts_wire.specs.Requests.{next_of, next_by, at_end, asks, is_open, IsShort, Closed, EndsInside, Refuses, Asks}
 use Rattle.fts_wire.specs.Taken.{pending, IsNext, IsUsedUp, LooksLike, Takes, StandsIn, reads_without, IsTaken, IsKnown}
 use Rattle.fts_wire.proofs.Bounds.{IsAnswered, refused_answered}
 use Rattle.fts_wire.proofs.Stable.{Stays, StaysNext, sight_more, next_more}

@@ -1,13 +1,13 @@
 -- What the parser answers is what is read of a head's lines.
-use Rattle.std.proofs.Common.{◌≡◌, ◌≢◌, ℕ, ◌+◌, ◌<◌, ◌≤◌, true, List, [], ◌++◌, length, take, drop, get_or, Option, Some, None, Result, Ok, Err, refl, ap, sym, ◌∙◌, arith, subst, append-nil, ⊎_elim}
-use Rattle.std.specs.Prelude.{All, IsUtf8, IsAscii, ◌==◌}
+use Rattle.std.proofs.Common.{◌≡◌, ◌≢◌, ℕ, ◌<◌, true, List, [], length, take, drop, get_or, Option, Some, None, Result, Ok, Err, refl, ap, sym, ◌∙◌, arith, subst, append-nil, ⊎_elim}
+use Rattle.std.specs.Prelude.{All, IsUtf8, IsAscii}
 use Rattle.std.proofs.lemmas.Bool.Decides.{nat_tests}
 use Rattle.std.proofs.lemmas.List.{drop_all, get_or_past}
 use Rattle.std.proofs.lemmas.Bool.{cases_lt}
 use Rattle.std.proofs.lemmas.Str.{IsUtf8-from_ascii}
-use Rattle.httparse.specs.Grammar.{AllPass, IsToken, is_token_byte, RequestHead, ReadsRequest, print_request}
+use Rattle.httparse.specs.Grammar.{IsToken, is_token_byte, RequestHead, ReadsRequest, print_request}
 use Rattle.httparse.specs.Outcome.{IsCompleteAnd}
-use Rattle.httparse.specs.Spans.{span_bytes, IsWithin, IsHeaderWithin, IsRequestOf, IsRequestAt, IsRequestWithin, FindsRequest}
+use Rattle.httparse.specs.Spans.{IsWithin, IsHeaderWithin, IsRequestOf, IsRequestAt, IsRequestWithin, FindsRequest}
 use Rattle.httparse.specs.declared.Error.{Error}
 use Rattle.httparse.specs.declared.Status.{Status}
 use Rattle.httparse.specs.declared.Status.TheVariants.{Complete, Partial}

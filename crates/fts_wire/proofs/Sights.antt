@@ -1,19 +1,17 @@
 -- A look at the front of bytes says what they are the beginning of.
-use Rattle.std.proofs.Common.{◌≡◌, ◌≢◌, ℕ, zero, suc, ◌+◌, ◌-◌, min, ◌<◌, ◌≤◌, true, false, cond, List, [], ◌∷◌, ◌++◌, length, take, drop, get_or, Option, Some, None, refl, ap, sym, ◌∙◌, arith, subst, length-drop, length-take}
+use Rattle.std.proofs.Common.{◌≡◌, ◌≢◌, ℕ, zero, suc, ◌+◌, ◌-◌, min, ◌<◌, ◌≤◌, false, List, ◌∷◌, length, take, drop, get_or, None, ap, sym, ◌∙◌, arith, subst, length-drop, length-take}
 use Rattle.std.specs.Prelude.{◌==◌, nat_lt, slice_range}
-use Rattle.std.specs.List.{concat, prefix_len}
+use Rattle.std.specs.List.{concat}
 use Rattle.std.proofs.lemmas.Bool.{cond-true, cond-false, lt-ltb, le-ltb, eq-eqb, ne_eqb}
 use Rattle.std.proofs.lemmas.List.{take_min, take-take, drop-take, take_rest, drop_more, length-take-le}
-use Rattle.std.proofs.lemmas.List.Sums.{prefix_len_stops, prefix_len-le-length}
+use Rattle.std.proofs.lemmas.List.Sums.{prefix_len_stops}
 use Rattle.httparse.specs.Pieces.{is_newline, Stops}
 use Rattle.fts_wire.specs.Head.{lines_of, head_lines, head_of}
 use Rattle.fts_wire.specs.Lines.{EndsAt}
 use Rattle.fts_wire.specs.Parsed.{BeginsHead}
-use Rattle.fts_wire.specs.RequestData.{HeadData}
-use Rattle.fts_wire.specs.Look.{Sight, Short, Refused, Headed, blanks, sight_head, sight_lines, sight_by, sight_of, sight_in, head_bytes, head_in, head_at, IsSpanned, StandsAt, Sees, IsFoundIn, SeesIn}
+use Rattle.fts_wire.specs.Look.{Short, Refused, Headed, blanks, sight_head, sight_by, sight_of, sight_in, head_bytes, head_in, IsSpanned, Sees, SeesIn}
 use Rattle.fts_wire.specs.declared.fault.WireFault.TheVariants.{HeadTooLarge}
 use Rattle.fts_wire.specs.declared.lines.HeadEnd.{HeadEnd}
-use Rattle.fts_wire.specs.declared.look.Head.{Head}
 use Rattle.fts_wire.specs.declared.look.Look.{Look}
 use Rattle.fts_wire.specs.declared.look.Look.TheVariants.{Short as LookShort, Refused as LookRefused, Found}
 use Rattle.fts_wire.proofs.Feeds.{head_back}

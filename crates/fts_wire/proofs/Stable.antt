@@ -1,5 +1,5 @@
 -- What is not less than a head stays what it is, whatever comes behind it.
-use Rattle.std.proofs.Common.{◌≡◌, ℕ, ◌+◌, ◌-◌, ◌<◌, ◌≤◌, Bool, true, false, cond, List, [], ◌∷◌, ◌++◌, length, take, drop, Option, Some, None, refl, ap, sym, ◌∙◌, arith, subst, length-drop, length-append, ⊎_elim}
+use Rattle.std.proofs.Common.{◌≡◌, ℕ, ◌+◌, ◌-◌, ◌<◌, ◌≤◌, List, ◌++◌, length, take, drop, Option, Some, None, refl, ap, sym, ◌∙◌, arith, subst, length-drop, length-append, ⊎_elim}
 use Rattle.std.specs.Prelude.{◌==◌, nat_le}
 use Rattle.std.specs.List.{list_all}
 use Rattle.std.proofs.lemmas.Bool.{cond_both, cond-false, cond-true, cases_lt, ne_eqb, le-leb, leb-true}
@@ -9,10 +9,9 @@ use Rattle.std.proofs.lemmas.List.Sums.{prefix_len-le-length}
 use Rattle.std.proofs.Math.Seq.{take-append-add}
 use Rattle.httparse.specs.Pieces.{is_newline}
 use Rattle.fts_wire.specs.Head.{lines_of, head_lines}
-use Rattle.fts_wire.specs.RequestData.{HeadData, RequestData, asked}
+use Rattle.fts_wire.specs.RequestData.{HeadData, asked}
 use Rattle.fts_wire.specs.Look.{Sight, Short, Refused, Headed, blanks, sight_lines, sight_by, sight_in, sight_of}
-use Rattle.fts_wire.specs.Requests.{Next, Closed, EndsInside, Refuses, Asks, next_by, next_of, asks, at_end, request_size}
-use Rattle.fts_wire.specs.declared.fault.WireFault.{WireFault}
+use Rattle.fts_wire.specs.Requests.{Next, Closed, EndsInside, Refuses, Asks, next_by, next_of, asks, request_size}
 use Rattle.fts_wire.specs.declared.fault.WireFault.TheVariants.{HeadTooLarge}
 use Rattle.fts_wire.proofs.Feeds.{head_more}
 

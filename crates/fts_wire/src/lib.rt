@@ -15,6 +15,8 @@ mod request;
 mod response;
 mod standard;
 pub mod statuses;
+#[cfg(test)]
+mod tests;
 mod whole_input;
 
 pub use fault::WireFault;

@@ -1,10 +1,9 @@
 -- A field of the name with the word settles the answer.
 use Rattle.std.proofs.Common.{arith, sym, ◌∙◌, ap}
-use Rattle.std.specs.Prelude.{codes, ◌==◌, ◌||◌}
-use Rattle.std.specs.List.{list_any}
+use Rattle.std.specs.Prelude.{codes, ◌==◌}
 use Rattle.std.proofs.lemmas.Bool.{or_right}
 use Rattle.httparse.specs.Spans.{header_bytes}
-use Rattle.fts_wire.specs.Fields.{is_named, is_close, values_of}
+use Rattle.fts_wire.specs.Fields.{is_close}
 use Rattle.fts_wire.proofs.Values.{value_here, no_header}
 use Rattle.fts_wire.proofs.fields.ends_connection.Goals as goal
 

@@ -1,8 +1,6 @@
 -- A line more is passed, or is the empty one.
-use Rattle.std.proofs.Common.{arith, true, false, refl, ap, subst, drop, ℕ, List}
-use Rattle.std.proofs.lemmas.List.{take_rest}
-use Rattle.fts_wire.specs.Head.{lines_of}
-use Rattle.fts_wire.proofs.Ends.{passed_none, passed_more, passed_end, passed_all, line_in, line_is}
+use Rattle.std.proofs.Common.{arith, true, false, refl}
+use Rattle.fts_wire.proofs.Ends.{passed_more, passed_end, line_in, line_is}
 use Rattle.fts_wire.proofs.lines.find_head_end.Goals as goal
 
 pub overflow_add-lines : goal.overflow_add-lines

@@ -1,4 +1,4 @@
-use Rattle.std.proofs.Common.{ℕ, ◌-◌, length}
+use Rattle.std.proofs.Common.{◌-◌, length}
 use Rattle.fts_wire.proofs.Ends.{Passed}
 use Rattle.fts_wire.proofs.lines.find_head_end.Given as goal
 

@@ -1,9 +1,9 @@
 -- Each answer is what is seen in the front of the bytes.
-use Rattle.std.proofs.Common.{◌≡◌, ℕ, List, subst, ap, sym, ◌∙◌, refl, arith, take, drop, length}
+use Rattle.std.proofs.Common.{subst, ap, sym, ◌∙◌, take}
 use Rattle.fts_wire.specs.Head.{lines_of, head_lines}
 use Rattle.fts_wire.specs.Lines.{EndsAt}
 use Rattle.fts_wire.specs.Parsed.{BeginsHead}
-use Rattle.fts_wire.proofs.Sights.{IsFront, front_is, rest_is, sees_too_large, sees_short, sees_many, begins, sees_own}
+use Rattle.fts_wire.proofs.Sights.{front_is, rest_is, sees_too_large, sees_short, sees_many, begins, sees_own}
 use Rattle.fts_wire.proofs.look.look_at.Goals as goal
 
 pub returns-then-end : goal.returns-then-end

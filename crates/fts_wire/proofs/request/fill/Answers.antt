@@ -1,12 +1,12 @@
 -- A piece more is read only behind less than a request, and what was found stays.
-use Rattle.std.proofs.Common.{◌≡◌, ◌<◌, ◌+◌, ℕ, List, length, ap, sym, ◌∙◌, arith, subst, length-append}
+use Rattle.std.proofs.Common.{◌<◌, ℕ, List, length, ap, sym, ◌∙◌, arith, subst, length-append}
 use Rattle.std.specs.Prelude.{IfSome}
-use Rattle.fts_wire.specs.Look.{sight_of, Refused, StandsAt}
+use Rattle.fts_wire.specs.Look.{sight_of, StandsAt}
 use Rattle.fts_wire.specs.Requests.{IsShort, next_of}
 use Rattle.fts_wire.specs.Taken.{IsKnown}
 use Rattle.fts_wire.proofs.Bounds.{short_bound}
 use Rattle.fts_wire.proofs.Next.{known_short, known_more, looks_refused, takes_refused}
-use Rattle.fts_wire.proofs.Pieces.{takes_more, takes_end, takes_failed, same_bytes, used_up}
+use Rattle.fts_wire.proofs.Pieces.{takes_more, takes_end, used_up}
 use Rattle.fts_wire.proofs.WholeInput.{rose_since}
 use Rattle.fts_wire.specs.declared.outside.SourceFailed.{SourceFailed}
 use Rattle.fts_wire.proofs.request.fill.Goals as goal
