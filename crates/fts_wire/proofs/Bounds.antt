@@ -50,7 +50,8 @@ sight_body_fits : (r : Result ℕ WireFault) (n before size : ℕ) (method targe
 sight_body_fits (Ok body) n before size method target close small within = (within, small)
 sight_body_fits (Err fault) n before size method target close small within = small
 
-fields_fit : (n before size : ℕ) (method target : List ℕ) (minor : ℕ) (fields : List NameValue) → before + size ≤ n → Fits n (sight_fields before size method target minor fields)
+fields_fit : (n before size : ℕ) (method target : List ℕ) (minor : ℕ) (fields : List NameValue) → before + size ≤ n
+    → Fits n (sight_fields before size method target minor fields)
 fields_fit n before size method target minor fields within =
     let values = values_of (codes "content-length") fields in
     cond_both (is_chunked fields) (Refused Chunked) (sight_body (body_length values) before size method target (says_close minor fields)) (Fits n) (λ _. refl)
@@ -61,7 +62,8 @@ head_fits None n before size within = refl
 head_fits (Some h) n before size within = fields_fit n before size h.method h.target h.minor (map name_and_value h.fields) within
 
 lines_fit : (n before : ℕ) (lines : List (List ℕ)) → before + length (concat lines) ≤ n → Fits n (sight_lines before lines)
-lines_fit n before lines within = cond_both (nat_lt 66 (length lines)) (Refused HeadTooLarge) (sight_head before (length (concat lines)) (head_of lines)) (Fits n) (λ _. refl)
+lines_fit n before lines within = cond_both (nat_lt 66 (length lines)) (Refused HeadTooLarge) (sight_head before (length (concat lines))
+    (head_of lines)) (Fits n) (λ _. refl)
     (λ _. head_fits (head_of lines) n before (length (concat lines)) within)
 
 -- a head's lines are no longer than the bytes
@@ -69,8 +71,14 @@ lines_within : (bytes : List ℕ) (lines : List (List ℕ)) → head_lines (line
 lines_within bytes lines e =
     let h = head_is (lines_of bytes) lines e in
     let front = lines_front bytes in
-    omega (arith, ap length front.1, length-append (concat (lines_of bytes)) front.0, ap (λ ls. length (concat ls)) h.parts, ap length (concat-append lines h.rest),
-    length-append (concat lines) (concat h.rest))
+    omega (
+      arith,
+      ap length front.1,
+      length-append (concat (lines_of bytes)) front.0,
+      ap (λ ls. length (concat ls)) h.parts,
+      ap length (concat-append lines h.rest),
+      length-append (concat lines) (concat h.rest),
+    )
 
 in_fits : (bytes : List ℕ) → Fits (length bytes) (sight_in bytes)
 in_fits bytes = by (head_lines (lines_of (drop (blanks bytes) bytes))) refl
@@ -95,14 +103,17 @@ IsShortSight Short = Unit {0}
 IsShortSight (Refused fault) = ⊥
 IsShortSight (Headed head) = ⊥
 
-body_not_short : (r : Result ℕ WireFault) (before size : ℕ) (method target : List ℕ) (close : Bool) → IsShortSight (sight_body r before size method target close) → ⊥
+body_not_short : (r : Result ℕ WireFault) (before size : ℕ) (method target : List ℕ) (close : Bool)
+    → IsShortSight (sight_body r before size method target close) → ⊥
 body_not_short (Ok body) before size method target close s = s
 body_not_short (Err fault) before size method target close s = s
 
-fields_not_short : (before size : ℕ) (method target : List ℕ) (minor : ℕ) (fields : List NameValue) → IsShortSight (sight_fields before size method target minor fields) → ⊥
+fields_not_short : (before size : ℕ) (method target : List ℕ) (minor : ℕ) (fields : List NameValue)
+    → IsShortSight (sight_fields before size method target minor fields) → ⊥
 fields_not_short before size method target minor fields =
     let values = values_of (codes "content-length") fields in
-    cond_both (is_chunked fields) (Refused Chunked) (sight_body (body_length values) before size method target (says_close minor fields)) (λ s. IsShortSight s → ⊥) (λ _ s. s)
+    cond_both (is_chunked fields) (Refused Chunked) (sight_body (body_length values) before size method target (says_close minor fields))
+    (λ s. IsShortSight s → ⊥) (λ _ s. s)
     (λ _. body_not_short (body_length values) before size method target (says_close minor fields))
 
 head_not_short : (o : Option RequestHead) (before size : ℕ) → IsShortSight (sight_head before size o) → ⊥

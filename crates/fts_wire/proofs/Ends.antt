@@ -12,12 +12,14 @@ use Rattle.fts_wire.proofs.Cuts.{NoneOf}
 use Rattle.fts_wire.proofs.Feeds.{is_feed, lines_line, lines_none}
 
 -- so many bytes of which none is a line feed, and then one
-pub line_at : (bytes : List ℕ) (i : ℕ) → i < length bytes → ((k : ℕ) → k < i → is_feed (get_or bytes k 0) ≡ false) → get_or bytes i 0 ≡ 10 → IsLineAt bytes (i + 1)
+pub line_at : (bytes : List ℕ) (i : ℕ) → i < length bytes → ((k : ℕ) → k < i → is_feed (get_or bytes k 0) ≡ false) → get_or bytes i 0 ≡ 10
+    → IsLineAt bytes (i + 1)
 line_at bytes i h none feed =
     let text = take i bytes in
     let rest = drop (i + 1) bytes in
     let long : length text ≡ i = length-take-le i bytes (omega arith) in
-    let no : NoneOf is_feed text = All-from_get_or (λ b. is_feed b ≡ false) text 0 (λ k m. subst (λ b. is_feed b ≡ false) (sym (get_or-take i bytes k 0 (omega (arith, long, m)))) (none k (omega (arith, long, m)))) in
+    let no : NoneOf is_feed text = All-from_get_or (λ b. is_feed b ≡ false) text 0 (λ k m. subst (λ b. is_feed b ≡ false) (sym
+    (get_or-take i bytes k 0 (omega (arith, long, m)))) (none k (omega (arith, long, m)))) in
     let cut : bytes ≡ text ++ 10 ∷ rest =
     sym (take-append-drop i bytes) ∙ ap (λ xs. text ++ xs) (drop_more bytes i 0 h) ∙ ap (λ b. text ++ b ∷ rest) feed in
     let line : text ++ 10 ∷ [] ≡ take (i + 1) bytes = ap (λ b. text ++ b ∷ []) (sym feed) ∙ sym (take_more bytes i 0 h) in record {
@@ -50,7 +52,8 @@ nil_behind (Some lines) = refl
 pub passed_none : (bytes : List ℕ) → Passed bytes 0 0
 passed_none bytes = record { done = []; head = nil_behind (head_lines (lines_of bytes)); own = refl; within = omega arith; count_is = refl; few = omega arith }
 
-push_behind : (done : List (List ℕ)) (line : List ℕ) (o : Option (List (List ℕ))) → behind_lines done (option_map (λ ls. line ∷ ls) o) ≡ behind_lines (done ++ line ∷ []) o
+push_behind : (done : List (List ℕ)) (line : List ℕ) (o : Option (List (List ℕ)))
+    → behind_lines done (option_map (λ ls. line ∷ ls) o) ≡ behind_lines (done ++ line ∷ []) o
 push_behind done line None = refl
 push_behind done line (Some lines) = ap Some (sym (append_assoc done (line ∷ []) lines))
 
@@ -67,7 +70,8 @@ behind_by bytes size n count p l =
     p.head ∙ ap (λ ls. behind_lines p.done (head_lines ls)) (l.lines ∙ ap (λ xs. take n (drop size bytes) ∷ lines_of xs) (drop-drop n size bytes))
 
 -- a line that is not empty
-pub passed_more : (bytes : List ℕ) (size n count : ℕ) → Passed bytes size count → IsLineAt (drop size bytes) n → is_empty_line (take n (drop size bytes)) ≡ false
+pub passed_more : (bytes : List ℕ) (size n count : ℕ) → Passed bytes size count → IsLineAt (drop size bytes) n
+    → is_empty_line (take n (drop size bytes)) ≡ false
     → Passed bytes (size + n) (count + 1)
 passed_more bytes size n count p l full =
     let line = take n (drop size bytes) in
@@ -82,7 +86,8 @@ passed_more bytes size n count p l full =
     }
 
 -- the empty line
-pub passed_end : (bytes : List ℕ) (size n count : ℕ) (end : HeadEnd) → Passed bytes size count → IsLineAt (drop size bytes) n → is_empty_line (take n (drop size bytes)) ≡ true
+pub passed_end : (bytes : List ℕ) (size n count : ℕ) (end : HeadEnd) → Passed bytes size count → IsLineAt (drop size bytes) n
+    → is_empty_line (take n (drop size bytes)) ≡ true
     → end.size ≡ size + n → end.lines ≡ count + 1 → EndsAt bytes end
 passed_end bytes size n count end p l empty size_is lines_is =
     let line = take n (drop size bytes) in
@@ -103,7 +108,8 @@ passed_all bytes size count p none = p.head ∙ ap (λ ls. behind_lines p.done (
 pub line_in : (bytes : List ℕ) (size n : ℕ) → IsLineAt (slice_range bytes size (length bytes)) n → IsLineAt (drop size bytes) n
 line_in bytes size n l = subst (λ xs. IsLineAt xs n) (take_rest bytes size) l
 
-pub line_is : (bytes : List ℕ) (size n : ℕ) (t : Bool) → t ≡ is_empty_line (slice_range bytes size (size + n)) → (e : Bool) → t ≡ e → is_empty_line (take n (drop size bytes)) ≡ e
+pub line_is : (bytes : List ℕ) (size n : ℕ) (t : Bool) → t ≡ is_empty_line (slice_range bytes size (size + n)) → (e : Bool) → t ≡ e
+    → is_empty_line (take n (drop size bytes)) ≡ e
 line_is bytes size n t is e same =
     let few : n ≡ size + n - size = omega arith in
     ap (λ m. is_empty_line (take m (drop size bytes))) few ∙ sym is ∙ same

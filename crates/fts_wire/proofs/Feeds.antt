@@ -72,7 +72,8 @@ onto_first_more b [] more = (onto_first_line b more, refl)
 onto_first_more b (line ∷ lines) more = (more, refl)
 
 onto_more_if : (t : Bool) (b : ℕ) (lines more : List (List ℕ))
-    → (more' : List (List ℕ)) × (cond t ((b ∷ []) ∷ (lines ++ more)) (onto_first_line b (lines ++ more)) ≡ cond t ((b ∷ []) ∷ lines) (onto_first_line b lines) ++ more')
+    → (more' : List (List ℕ)) × (cond t ((b ∷ []) ∷ (lines ++ more)) (onto_first_line b (lines ++ more)) ≡ cond t ((b ∷ []) ∷ lines)
+    (onto_first_line b lines) ++ more')
 onto_more_if true b lines more = (more, refl)
 onto_more_if false b lines more = onto_first_more b lines more
 
@@ -107,20 +108,27 @@ pub record IsHeadOf (lines head : List (List ℕ)) : Type 0 where
   pub again : (more : List (List ℕ)) → head_lines (head ++ more) ≡ Some head
 
 head_here : (line : List ℕ) (lines : List (List ℕ)) → is_empty_line line ≡ true → IsHeadOf (line ∷ lines) (line ∷ [])
-head_here line lines e = record { rest = lines; parts = refl; again = λ more. ap (λ t. cond t (Some (line ∷ [])) (option_map (λ ls. line ∷ ls) (head_lines more))) e }
+head_here line lines e = record {
+  rest = lines;
+  parts = refl;
+  again = λ more. ap (λ t. cond t (Some (line ∷ [])) (option_map (λ ls. line ∷ ls)
+      (head_lines more))) e;
+}
 
 head_further : (line : List ℕ) (lines head : List (List ℕ)) → is_empty_line line ≡ false → IsHeadOf lines head → IsHeadOf (line ∷ lines) (line ∷ head)
 head_further line lines head e h = record {
   rest = h.rest;
   parts = ap (λ ls. line ∷ ls) h.parts;
-  again = λ more. ap (λ t. cond t (Some (line ∷ [])) (option_map (λ ls. line ∷ ls) (head_lines (head ++ more)))) e ∙ ap (option_map (λ ls. line ∷ ls)) (h.again more);
+  again = λ more. ap (λ t. cond t (Some (line ∷ [])) (option_map (λ ls. line ∷ ls) (head_lines (head ++ more)))) e
+      ∙ ap (option_map (λ ls. line ∷ ls)) (h.again more);
 }
 
 abbrev HeadOf : List (List ℕ) → Option (List (List ℕ)) → Type 0
 HeadOf lines None = Unit {0}
 HeadOf lines (Some head) = IsHeadOf lines head
 
-head_of_more : (line : List ℕ) (lines : List (List ℕ)) (o : Option (List (List ℕ))) → is_empty_line line ≡ false → HeadOf lines o → HeadOf (line ∷ lines) (option_map (λ ls. line ∷ ls) o)
+head_of_more : (line : List ℕ) (lines : List (List ℕ)) (o : Option (List (List ℕ))) → is_empty_line line ≡ false → HeadOf lines o
+    → HeadOf (line ∷ lines) (option_map (λ ls. line ∷ ls) o)
 head_of_more line lines None e h = tt
 head_of_more line lines (Some head) e h = head_further line lines head e h
 

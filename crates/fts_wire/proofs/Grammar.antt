@@ -131,7 +131,8 @@ others_fields [] lf all = refl
 others_fields (f ∷ fields) last all =
     let here = All-head IsField f fields all in
     let lines = other_lines fields last in
-    ap (λ t. map field_of (cond (not t) (print_field f ∷ filter (λ line. not (is_empty_line line)) lines) (filter (λ line. not (is_empty_line line)) lines))) (field_not_empty f here)
+    ap (λ t. map field_of (cond (not t) (print_field f ∷ filter (λ line. not (is_empty_line line)) lines) (filter (λ line. not
+    (is_empty_line line)) lines))) (field_not_empty f here)
     ∙ ap (λ g. g ∷ map field_of (filter (λ line. not (is_empty_line line)) lines)) (field_back f here)
     ∙ ap (λ fs. f ∷ fs) (others_fields fields last (All-tail IsField f fields all))
 
@@ -141,7 +142,8 @@ others_last [] crlf all = refl
 others_last [] lf all = refl
 others_last (f ∷ fields) last all =
     let lines = other_lines fields last in
-    ap (λ t. end_of (concat (cond t (print_field f ∷ filter is_empty_line lines) (filter is_empty_line lines)))) (field_not_empty f (All-head IsField f fields all))
+    ap (λ t. end_of (concat (cond t (print_field f ∷ filter is_empty_line lines) (filter is_empty_line lines)))) (field_not_empty f
+    (All-head IsField f fields all))
     ∙ others_last fields last (All-tail IsField f fields all)
 
 -- the first line: its text, and its end
@@ -158,7 +160,8 @@ minor_back (suc zero) crlf few = refl
 minor_back (suc zero) lf few = refl
 minor_back (suc (suc n)) e few = absurd (omega (arith, few))
 
-version_none : (p : ℕ → Bool) (minor : ℕ) → minor ≤ 1 → list_any p (print_version 0) ≡ false → list_any p (print_version 1) ≡ false → list_any p (print_version minor) ≡ false
+version_none : (p : ℕ → Bool) (minor : ℕ) → minor ≤ 1 → list_any p (print_version 0) ≡ false → list_any p (print_version 1) ≡ false
+    → list_any p (print_version minor) ≡ false
 version_none p zero few zero_none one_none = zero_none
 version_none p (suc zero) few zero_none one_none = one_none
 version_none p (suc (suc n)) few zero_none one_none = absurd (omega (arith, few))
@@ -180,7 +183,8 @@ first_cut h = regroup h.method h.target (print_version h.minor) (print_end h.lin
     regroup : (a b c e : List ℕ) → a ++ 32 ∷ (b ++ 32 ∷ (c ++ e)) ≡ (a ++ 32 ∷ (b ++ 32 ∷ c)) ++ e
     regroup a b c e = simp (append_assoc, cons-append) refl
 
-first_none : (p : ℕ → Bool) (h : RequestHead) → NoneOf p h.method → p 32 ≡ false → NoneOf p h.target → NoneOf p (print_version h.minor) → NoneOf p (first_text h)
+first_none : (p : ℕ → Bool) (h : RequestHead) → NoneOf p h.method → p 32 ≡ false → NoneOf p h.target → NoneOf p (print_version h.minor)
+    → NoneOf p (first_text h)
 first_none p h method space target version =
     none_join p h.method 32 (h.target ++ 32 ∷ print_version h.minor) method space (none_join p h.target 32 (print_version h.minor) target space version)
 
@@ -206,7 +210,8 @@ request_back h x blank =
     let target : before_first is_space (after_first is_space (first_line h)) ≡ h.target =
     ap (before_first is_space) behind ∙ before_at is_space h.target 32 version no_space_2 refl in
     let minor : minor_of (after_first is_space (after_first is_space (first_line h))) ≡ h.minor =
-    ap (λ xs. minor_of (after_first is_space xs)) behind ∙ ap minor_of (after_at is_space h.target 32 version no_space_2 refl) ∙ minor_back h.minor h.line_end x.minor in
+    ap (λ xs. minor_of (after_first is_space xs)) behind ∙ ap minor_of (after_at is_space h.target 32 version no_space_2 refl)
+    ∙ minor_back h.minor h.line_end x.minor in
     let line_end = first_end h x in
     let fields = others_fields h.fields h.last x.fields in
     let last = others_last h.fields h.last x.fields in
@@ -231,7 +236,8 @@ field_passes : (f : Field) → IsField f → is_field f ≡ true
 field_passes f x = and_from (is_token f.name) (list_all is_value_byte f.raw) (token_passes f.name x.name) (list_all-from_AllPass is_value_byte f.raw x.raw)
   where
     token_passes : (name : List ℕ) → IsToken name → is_token name ≡ true
-    token_passes name t = and_from (nat_lt 0 (length name)) (list_all is_token_byte name) (lt-ltb 0 (length name) t.0) (list_all-from_AllPass is_token_byte name t.1)
+    token_passes name t = and_from (nat_lt 0 (length name)) (list_all is_token_byte name) (lt-ltb 0 (length name) t.0)
+        (list_all-from_AllPass is_token_byte name t.1)
 
 fields_pass : (fields : List Field) → All IsField fields → list_all is_field fields ≡ true
 fields_pass [] all = refl
@@ -246,7 +252,8 @@ request_passes h x =
     let text = and_from (is_utf8 h.target) (list_all is_field h.fields) (is_utf8-from_IsUtf8 h.target x.target_text) (fields_pass h.fields x.fields) in
     let rest = and_from (list_all is_uri_byte h.target) (is_utf8 h.target && list_all is_field h.fields) uri text in
     and_from (is_token h.method) (nat_lt 0 (length h.target) && (list_all is_uri_byte h.target && (is_utf8 h.target && list_all is_field h.fields))) token
-    (and_from (nat_lt 0 (length h.target)) (list_all is_uri_byte h.target && (is_utf8 h.target && list_all is_field h.fields)) (lt-ltb 0 (length h.target) x.target.0) rest)
+    (and_from (nat_lt 0 (length h.target)) (list_all is_uri_byte h.target && (is_utf8 h.target && list_all is_field h.fields)) (lt-ltb 0
+    (length h.target) x.target.0) rest)
 
 -- bytes that begin with another byte than CR and LF have no blank lines
 no_blank : (h : RequestHead) (bytes : List ℕ) → Stops is_newline bytes → bytes ≡ print_request h → h.blank ≡ []

@@ -22,7 +22,8 @@ same_body bytes head =
 
 pub same_request : (bytes kept : List ℕ) (head : Head) → kept ≡ take (taken_by head) bytes → request_at kept head ≡ request_at bytes head
 same_request bytes kept head e =
-    ap (λ xs. request_at xs head) e ∙ ap (λ own. asked (head_in own head) (take head.body (drop (head.before + head.size) (take (taken_by head) bytes)))) (same_head bytes head)
+    ap (λ xs. request_at xs head) e
+    ∙ ap (λ own. asked (head_in own head) (take head.body (drop (head.before + head.size) (take (taken_by head) bytes)))) (same_head bytes head)
     ∙ ap (asked (head_in (head_bytes bytes head) head)) (same_body bytes head)
 
 pub none_behind : (bytes kept : List ℕ) (n : ℕ) → kept ≡ take n bytes → drop n kept ≡ []

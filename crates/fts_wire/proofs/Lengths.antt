@@ -52,5 +52,6 @@ not_length value i h out =
     ]) in
     let fails : all_ascii_digits value ≡ false = all_digits value ∙ list_all_at is_ascii_digit value i 0 h none in
     let no : is_length value ≡ false =
-    and_right (nat_le 1 (length value)) (nat_le (length value) 19 && all_ascii_digits value) (and_right (nat_le (length value) 19) (all_ascii_digits value) fails) in
+    and_right (nat_le 1 (length value)) (nat_le (length value) 19 && all_ascii_digits value) (and_right (nat_le (length value) 19)
+    (all_ascii_digits value) fails) in
     sym (ap (λ t. cond t (cond (nat_le (digits_value 10 value) 1048576) (Ok (digits_value 10 value)) (Err BodyTooLarge)) (Err BadLength)) no)

@@ -18,7 +18,8 @@ use Rattle.fts_wire.proofs.Bounds.{IsAnswered, refused_answered}
 use Rattle.fts_wire.proofs.Stable.{Stays, StaysNext, sight_more, next_more}
 
 -- a request that stands in bytes stands in them with more behind
-pub request_more : (bytes more rest : List ℕ) (request : RequestData) → next_of bytes ≡ Asks request rest → next_of (bytes ++ more) ≡ Asks request (rest ++ more)
+pub request_more : (bytes more rest : List ℕ) (request : RequestData) → next_of bytes ≡ Asks request rest
+    → next_of (bytes ++ more) ≡ Asks request (rest ++ more)
 request_more bytes more rest request e = subst (λ n. StaysNext n more (next_of (bytes ++ more))) e (next_more bytes more)
 
 -- bytes that are refused are refused with more behind
@@ -50,7 +51,8 @@ next_from_taken kept (Some left) (Some rest) old new room result t =
     (sym (all_bytes kept left t.bytes rest old new (reads_without result) t.takes)) (stands_next t.bytes rest room result t.stands)
 
 -- a whole request
-whole : (bytes : List ℕ) (head : Head) → StandsAt bytes head → taken_by head ≤ length bytes → next_of bytes ≡ Asks (request_at bytes head) (drop (taken_by head) bytes)
+whole : (bytes : List ℕ) (head : Head) → StandsAt bytes head → taken_by head ≤ length bytes
+    → next_of bytes ≡ Asks (request_at bytes head) (drop (taken_by head) bytes)
 whole bytes head at within =
     ap (λ s. next_by s bytes) at.sight
     ∙ cond-true (nat_le (taken_by head) (length bytes)) (asks (head_at bytes head) bytes) EndsInside (le-leb (taken_by head) (length bytes) within)
@@ -147,10 +149,12 @@ refused_reads EndsInsideFault answered = absurd (false≢true answered)
 refused_reads SourceFailed answered = absurd (false≢true answered)
 refused_reads fault answered = refl
 
-pub looks_refused : (bytes : List ℕ) (left : Option (List ℕ)) (old new : ℕ) (fault : WireFault) → sight_of bytes ≡ Refused fault → LooksLike bytes left old new (Err fault)
+pub looks_refused : (bytes : List ℕ) (left : Option (List ℕ)) (old new : ℕ) (fault : WireFault) → sight_of bytes ≡ Refused fault
+    → LooksLike bytes left old new (Err fault)
 looks_refused bytes left old new fault e = refused_looks bytes left old new fault e (refused_answered bytes fault e)
 
-pub takes_refused : (kept : List ℕ) (before : Option (List ℕ)) (bytes : List ℕ) (after : Option (List ℕ)) (old new : ℕ) (fault : WireFault) → sight_of bytes ≡ Refused fault
+pub takes_refused : (kept : List ℕ) (before : Option (List ℕ)) (bytes : List ℕ) (after : Option (List ℕ)) (old new : ℕ) (fault : WireFault)
+    → sight_of bytes ≡ Refused fault
     → Takes kept before bytes after old new 0 → Takes kept before bytes after old new (reads_without (Err fault))
 takes_refused kept before bytes after old new fault e t =
     subst (Takes kept before bytes after old new) (sym (refused_reads fault (refused_answered bytes fault e))) t

@@ -30,7 +30,8 @@ token_text xs t = IsUtf8-from_ascii xs (λ i. ascii_at i)
         (λ past. subst (λ b. b < 128) (sym (get_or_past xs i 0 past)) (omega arith)) (cases_lt i (length xs))
 
 -- a head that the parser found, whole
-pub parts_of : (own : List ℕ) (headers : List HeaderSpan) (r : RequestSpans) → BeginsHead own → IsRequestOf own headers r → IsRequestWithin own headers r → r.len ≡ length own
+pub parts_of : (own : List ℕ) (headers : List HeaderSpan) (r : RequestSpans) → BeginsHead own → IsRequestOf own headers r
+    → IsRequestWithin own headers r → r.len ≡ length own
     → ArePartsOf own headers r
 parts_of own headers r begins of within whole =
     let h = of.0 in

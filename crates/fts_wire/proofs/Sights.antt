@@ -31,7 +31,8 @@ front_is bytes n before min_is before_is = record {
 pub rest_is : (few : List ℕ) (before : ℕ) → slice_range few before (length few) ≡ drop before few
 rest_is few before = take_rest few before
 
-sight_is : (bytes few : List ℕ) (before : ℕ) → IsFront bytes few before → sight_of bytes ≡ sight_by before (length few) (head_lines (lines_of (drop before few)))
+sight_is : (bytes few : List ℕ) (before : ℕ) → IsFront bytes few before
+    → sight_of bytes ≡ sight_by before (length few) (head_lines (lines_of (drop before few)))
 sight_is bytes few before f =
     ap sight_in (sym f.few_is) ∙ ap (λ n. sight_by n (length few) (head_lines (lines_of (drop n few)))) (sym f.before_is)
 
@@ -90,7 +91,8 @@ own_sight bytes few before end f ends many own is =
     ∙ ap (λ xs. sight_head before (length xs) (head_of ends.lines)) (ends.own ∙ sym is) ∙ ap (λ ls. sight_head before (length own) (head_of ls)) lines
 
 -- a part of the front is a part of the bytes
-front_part : (bytes few : List ℕ) (before size : ℕ) → few ≡ take 16384 bytes → before + size ≤ length few → take size (drop before few) ≡ take size (drop before bytes)
+front_part : (bytes few : List ℕ) (before size : ℕ) → few ≡ take 16384 bytes → before + size ≤ length few
+    → take size (drop before few) ≡ take size (drop before bytes)
 front_part bytes few before size is within =
     let long : length few ≡ min 16384 (length bytes) = ap length is ∙ length-take 16384 bytes in
     let m = 16384 - before in

@@ -32,8 +32,10 @@ lines_stay : (bytes more : List ℕ) (lines : List (List ℕ)) → head_lines (l
 lines_stay bytes more lines e =
     let n = blanks bytes in
     let within : n ≤ length bytes = prefix_len-le-length is_newline bytes in
-    let inside : n < length bytes = ⊎_elim (λ h. h) (λ past. absurd (none_is_some (ap (λ xs. head_lines (lines_of xs)) (sym (drop_all n bytes past)) ∙ e))) (cases_lt n (length bytes)) in (
-      prefix_len-append is_newline bytes more ∙ cond-false (n == length bytes) (length bytes + blanks more) n (ne_eqb n (length bytes) (λ same. omega (arith, same, inside))),
+    let inside : n < length bytes = ⊎_elim (λ h. h) (λ past. absurd (none_is_some (ap (λ xs. head_lines (lines_of xs)) (sym
+    (drop_all n bytes past)) ∙ e))) (cases_lt n (length bytes)) in (
+      prefix_len-append is_newline bytes more
+          ∙ cond-false (n == length bytes) (length bytes + blanks more) n (ne_eqb n (length bytes) (λ same. omega (arith, same, inside))),
       ap (λ xs. head_lines (lines_of xs)) (drop-append-le n bytes more within) ∙ head_more (drop n bytes) more lines e,
     )
   where
@@ -43,7 +45,8 @@ lines_stay bytes more lines e =
 in_more : (bytes more : List ℕ) → length bytes < 16384 → Stays (sight_in bytes) (sight_in (bytes ++ more))
 in_more bytes more few = by (head_lines (lines_of (drop (blanks bytes) bytes))) refl
   where
-    by : (o : Option (List (List ℕ))) → head_lines (lines_of (drop (blanks bytes) bytes)) ≡ o → Stays (sight_by (blanks bytes) (length bytes) o) (sight_in (bytes ++ more))
+    by : (o : Option (List (List ℕ))) → head_lines (lines_of (drop (blanks bytes) bytes)) ≡ o
+        → Stays (sight_by (blanks bytes) (length bytes) o) (sight_in (bytes ++ more))
     by None e = subst (λ s. Stays s (sight_in (bytes ++ more)))
         (sym (cond-false (length bytes == 16384) (Refused HeadTooLarge) Short (ne_eqb (length bytes) 16384 (λ same. omega (arith, same, few))))) tt
     by (Some lines) e =
@@ -79,7 +82,8 @@ asks_more : (head : HeadData) (bytes more : List ℕ) → request_size head ≤ 
 asks_more head bytes more within =
     let n = head.before + head.size in
     ap (λ xs. Asks (asked head (take head.body xs)) (drop (request_size head) (bytes ++ more))) (drop-append-le n bytes more (omega (arith, within)))
-    ∙ ap (λ xs. Asks (asked head xs) (drop (request_size head) (bytes ++ more))) (take-append-le head.body (drop n bytes) more (omega (arith, within, length-drop n bytes)))
+    ∙ ap (λ xs. Asks (asked head xs) (drop (request_size head) (bytes ++ more))) (take-append-le head.body (drop n bytes) more (omega
+    (arith, within, length-drop n bytes)))
     ∙ ap (Asks (asked head (take head.body (drop n bytes)))) (drop-append-le (request_size head) bytes more within)
 
 headed_more : (head : HeadData) (bytes more : List ℕ) → StaysNext (next_by (Headed head) bytes) more (next_by (Headed head) (bytes ++ more))

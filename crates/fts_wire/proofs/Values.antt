@@ -21,7 +21,8 @@ abbrev pub IsOnly : List ℕ → List (List ℕ) → Option Span → Type 0
 IsOnly head values None = values ≡ []
 IsOnly head values (Some span) = IsOneValue head values span
 
-pub any_here : (p : NameValue → Bool) (f : HeaderSpan → NameValue) (hs : List HeaderSpan) (i : ℕ) (d : HeaderSpan) → i < length hs → p (f (get_or hs i d)) ≡ true
+pub any_here : (p : NameValue → Bool) (f : HeaderSpan → NameValue) (hs : List HeaderSpan) (i : ℕ) (d : HeaderSpan) → i < length hs
+    → p (f (get_or hs i d)) ≡ true
     → list_any p (map f hs) ≡ true
 any_here p f hs i d h e =
     list_any_at p (map f hs) i (f d) (omega (arith, length-map hs f)) (ap p (get_or-map f hs i d (f d) h) ∙ e)
@@ -51,14 +52,16 @@ values_more : (name : List ℕ) (f : HeaderSpan → NameValue) (hs : List Header
 values_more name f hs i d h = ap (values_of name) (map_more f hs i d h) ∙ values_append name (map f (take i hs)) (f (get_or hs i d) ∷ [])
 
 -- a field of another name
-pub values_past : (name : List ℕ) (f : HeaderSpan → NameValue) (hs : List HeaderSpan) (i : ℕ) (d : HeaderSpan) → i < length hs → is_named name (f (get_or hs i d)) ≡ false
+pub values_past : (name : List ℕ) (f : HeaderSpan → NameValue) (hs : List HeaderSpan) (i : ℕ) (d : HeaderSpan) → i < length hs
+    → is_named name (f (get_or hs i d)) ≡ false
     → values_of name (map f (take (i + 1) hs)) ≡ values_of name (map f (take i hs))
 values_past name f hs i d h e =
     values_more name f hs i d h ∙ ap (λ xs. values_of name (map f (take i hs)) ++ xs) (values_no name (f (get_or hs i d)) [] e)
     ∙ append-nil (values_of name (map f (take i hs)))
 
 -- the first field of the name
-pub values_first : (name : List ℕ) (f : HeaderSpan → NameValue) (hs : List HeaderSpan) (i : ℕ) (d : HeaderSpan) → i < length hs → is_named name (f (get_or hs i d)) ≡ true
+pub values_first : (name : List ℕ) (f : HeaderSpan → NameValue) (hs : List HeaderSpan) (i : ℕ) (d : HeaderSpan) → i < length hs
+    → is_named name (f (get_or hs i d)) ≡ true
     → values_of name (map f (take i hs)) ≡ [] → values_of name (map f (take (i + 1) hs)) ≡ (f (get_or hs i d)).1 ∷ []
 values_first name f hs i d h e none =
     values_more name f hs i d h ∙ ap (λ xs. xs ++ values_of name (f (get_or hs i d) ∷ [])) none ∙ values_yes name (f (get_or hs i d)) [] e
@@ -100,7 +103,8 @@ abbrev pub no_header : HeaderSpan
 no_header = record { name = record { start = 0; end = 0 }; value = record { start = 0; end = 0 } }
 
 -- what is found with a field of the name, where one value was found at most
-pub only_first : (name head : List ℕ) (hs : List HeaderSpan) (i : ℕ) (found : Option Span) → i < length hs → is_named name (header_bytes head (get_or hs i no_header)) ≡ true
+pub only_first : (name head : List ℕ) (hs : List HeaderSpan) (i : ℕ) (found : Option Span) → i < length hs
+    → is_named name (header_bytes head (get_or hs i no_header)) ≡ true
     → IsWithin (length head) (get_or hs i no_header).value → is_some found ≡ false
     → IsOnly head (values_of name (map (header_bytes head) (take i hs))) found
     → IsOnly head (values_of name (map (header_bytes head) (take (i + 1) hs))) (Some (get_or hs i no_header).value)
@@ -108,7 +112,8 @@ only_first name head hs i None h e within none only = record { within = within; 
 only_first name head hs i (Some span) h e within none only = absurd (true≢false none)
 
 -- a second field of the name
-pub only_twice : (name head : List ℕ) (hs : List HeaderSpan) (i : ℕ) (found : Option Span) → i < length hs → is_named name (header_bytes head (get_or hs i no_header)) ≡ true
+pub only_twice : (name head : List ℕ) (hs : List HeaderSpan) (i : ℕ) (found : Option Span) → i < length hs
+    → is_named name (header_bytes head (get_or hs i no_header)) ≡ true
     → is_some found ≡ true → IsOnly head (values_of name (map (header_bytes head) (take i hs))) found
     → Err BadLength ≡ body_length (values_of name (map (header_bytes head) hs))
 only_twice name head hs i None h e some only = absurd (true≢false (sym some))

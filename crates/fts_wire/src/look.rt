@@ -92,12 +92,7 @@ fn parse_head(own: &[u8], headers: &mut [HeaderSpan]) -> Option<RequestSpans>
 }
 
 /// What a head with these parts asks for.
-fn look_at_fields(
-    own: &[u8],
-    before: usize,
-    spans: RequestSpans,
-    headers: &[HeaderSpan],
-) -> Look
+fn look_at_fields(own: &[u8], before: usize, spans: RequestSpans, headers: &[HeaderSpan]) -> Look
     requires method { IsWithin (length own.now) spans.method }
     requires target { IsWithin (length own.now) spans.path }
     requires method_text { IsUtf8 (span_bytes own.now spans.method) }

@@ -4,8 +4,9 @@ ghost use Rattle.std.specs.Prelude.{◌≡◌, IfOk, IsTrue};
 ghost use Rattle.fts_wire.specs.Response.{has_phrase, has_methods};
 
 use crate::{
-    Allow, MemoryLine, MemorySink, MemorySource, ReadAllFault, Reply, Request, Room, Sink, SinkFailed,
-    Source, SourceFailed, StdSink, StdSource, WireFault, next_request, read_all, write_response,
+    Allow, MemoryLine, MemorySink, MemorySource, ReadAllFault, Reply, Request, Room, Sink,
+    SinkFailed, Source, SourceFailed, StdSink, StdSource, WireFault, next_request, read_all,
+    write_response,
 };
 use fts_tables::Items;
 use std::collections::VecDeque;
@@ -121,17 +122,30 @@ fn requests_are_the_same_however_they_are_cut(rt: HostRuntime) -> Result<(), Fai
         ("\r\n\n\r", "end"),
         ("\r\nG", "inside"),
         ("\r\n\n\rGET / HTTP/1.1\r\n\r\n", "GET / ;end"),
-        ("POST /jobs HTTP/1.1\r\nContent-Length: 1\r\n\r\n[\r\nPOST /jobs HTTP/1.1\r\nContent-Length: 02\r\n\r\n{}", "POST /jobs [;POST /jobs {};end"),
-        ("PUT /jobs HTTP/1.1\r\nAccept: */*\r\nContent-Length: 2\r\nHost: a\r\n\r\n{}", "PUT /jobs {};end"),
+        (
+            "POST /jobs HTTP/1.1\r\nContent-Length: 1\r\n\r\n[\r\nPOST /jobs HTTP/1.1\r\nContent-Length: 02\r\n\r\n{}",
+            "POST /jobs [;POST /jobs {};end",
+        ),
+        (
+            "PUT /jobs HTTP/1.1\r\nAccept: */*\r\nContent-Length: 2\r\nHost: a\r\n\r\n{}",
+            "PUT /jobs {};end",
+        ),
         ("GET / HTTP/1.1\nHost: a\n\n", "GET / ;end"),
-        ("POST / HTTP/1.1\r\nHost:\ncoNTent-LENgth:\t 1 \t\r\n\nx", "POST / x;end"),
+        (
+            "POST / HTTP/1.1\r\nHost:\ncoNTent-LENgth:\t 1 \t\r\n\nx",
+            "POST / x;end",
+        ),
         ("GET /é?limit=1?2 HTTP/1.1\r\n\r\n", "GET /é|limit=1?2 ;end"),
         ("OPTIONS *? HTTP/1.1\r\n\r\n", "OPTIONS *| ;end"),
         ("POST / HT", "inside"),
         ("GET / HTTP/1.1\r\nHost: a\r\n\r", "inside"),
         ("\0\n\0", "inside"),
     ] {
-        assert_eq!(rt; first_bad_cut(&rt, input.as_bytes(), want)?, None, "{input}");
+        assert_eq!(rt;
+            first_bad_cut(&rt, input.as_bytes(), want)?,
+            None,
+            "{input}"
+        );
     }
     Ok(())
 }
@@ -157,10 +171,18 @@ fn heads_outside_the_grammar_are_refused(rt: HostRuntime) -> Result<(), Fail> {
         "GET /\x7f HTTP/1.1\r\n\r\n",
         "\0\n\n",
     ] {
-        assert_eq!(rt; first_bad_cut(&rt, input.as_bytes(), "bad head")?, None, "{input}");
+        assert_eq!(rt;
+            first_bad_cut(&rt, input.as_bytes(), "bad head")?,
+            None,
+            "{input}"
+        );
     }
     let no_text = b"GET /\xff HTTP/1.1\r\n\r\n";
-    assert_eq!(rt; first_bad_cut(&rt, no_text, "bad head")?, None, "a target that is no text");
+    assert_eq!(rt;
+        first_bad_cut(&rt, no_text, "bad head")?,
+        None,
+        "a target that is no text"
+    );
     Ok(())
 }
 
@@ -178,11 +200,21 @@ fn fields_say_the_length_and_the_end(rt: HostRuntime) -> Result<(), Fail> {
         ("Content-Length: 1048577", "body too large"),
         ("Content-Length: 1048576", "inside"),
         ("Content-Length: 1\r\nConnection: Close", "POST / x.end"),
-        ("Content-Length: 1\r\nConnection: te\r\nCONNECTION: close", "POST / x.end"),
-        ("Content-Length: 1\r\nConnection: keep-alive", "POST / x;end"),
+        (
+            "Content-Length: 1\r\nConnection: te\r\nCONNECTION: close",
+            "POST / x.end",
+        ),
+        (
+            "Content-Length: 1\r\nConnection: keep-alive",
+            "POST / x;end",
+        ),
     ] {
         let input = repeated(&rt, "POST / HTTP/1.1\r\n", fields, 1, "\r\n\r\nx")?;
-        assert_eq!(rt; first_bad_cut(&rt, input.as_slice(), want)?, None, "{fields}");
+        assert_eq!(rt;
+            first_bad_cut(&rt, input.as_slice(), want)?,
+            None,
+            "{fields}"
+        );
     }
     let old = b"GET / HTTP/1.0\r\nConnection: keep-alive\r\n\r\n";
     assert_eq!(rt; first_bad_cut(&rt, old, "GET / .end")?, None, "version 1.0");
@@ -193,19 +225,50 @@ fn fields_say_the_length_and_the_end(rt: HostRuntime) -> Result<(), Fail> {
 #[test]
 fn heads_of_clients_are_read(rt: HostRuntime) -> Result<(), Fail> {
     for (input, want) in [
-        ("GET /jobs HTTP/1.1\r\nHost: localhost:8446\r\nUser-Agent: curl/8.5.0\r\nAccept: */*\r\n\r\n", "GET /jobs ;end"),
-        ("POST /jobs HTTP/1.1\r\nHost: 127.0.0.1:8446\r\nUser-Agent: curl/8.5.0\r\nAccept: */*\r\nContent-Type: application/json\r\nContent-Length: 2\r\n\r\n{}", "POST /jobs {};end"),
-        ("POST /jobs?limit=5 HTTP/1.1\r\nHost: localhost:8446\r\nAccept-Encoding: identity\r\nContent-Length: 2\r\nContent-Type: application/json\r\n\r\n{}", "POST /jobs|limit=5 {};end"),
-        ("PUT /jobs HTTP/1.1\r\nHost: localhost:8446\r\nUser-Agent: Go-http-client/1.1\r\nContent-Length: 2\r\nContent-Type: application/json\r\nAccept-Encoding: gzip\r\nConnection: close\r\n\r\n{}", "PUT /jobs {}.end"),
-        ("GET /jobs HTTP/1.1\r\nHost: localhost:8446\r\nUser-Agent: Mozilla/5.0 (X11; Linux x86_64; rv:128.0) Gecko/20100101 Firefox/128.0\r\nAccept: text/html,application/xhtml+xml,application/xml;q=0.9,*/*;q=0.8\r\nAccept-Language: en-US,en;q=0.5\r\nAccept-Encoding: gzip, deflate, br, zstd\r\nDNT: 1\r\nConnection: keep-alive\r\nUpgrade-Insecure-Requests: 1\r\nSec-Fetch-Dest: document\r\nSec-Fetch-Mode: navigate\r\nSec-Fetch-Site: none\r\nPriority: u=0, i\r\n\r\n", "GET /jobs ;end"),
+        (
+            "GET /jobs HTTP/1.1\r\nHost: localhost:8446\r\nUser-Agent: curl/8.5.0\r\nAccept: */*\r\n\r\n",
+            "GET /jobs ;end",
+        ),
+        (
+            "POST /jobs HTTP/1.1\r\nHost: 127.0.0.1:8446\r\nUser-Agent: curl/8.5.0\r\nAccept: */*\r\n\
+             Content-Type: application/json\r\nContent-Length: 2\r\n\r\n{}",
+            "POST /jobs {};end",
+        ),
+        (
+            "POST /jobs?limit=5 HTTP/1.1\r\nHost: localhost:8446\r\nAccept-Encoding: identity\r\nContent-Length: 2\r\nContent-Type: application/json\r\n\r\n{}",
+            "POST /jobs|limit=5 {};end",
+        ),
+        (
+            "PUT /jobs HTTP/1.1\r\nHost: localhost:8446\r\nUser-Agent: Go-http-client/1.1\r\nContent-Length: 2\r\n\
+             Content-Type: application/json\r\nAccept-Encoding: gzip\r\nConnection: close\r\n\r\n{}",
+            "PUT /jobs {}.end",
+        ),
+        (
+            "GET /jobs HTTP/1.1\r\nHost: localhost:8446\r\n\
+             User-Agent: Mozilla/5.0 (X11; Linux x86_64; rv:128.0) Gecko/20100101 Firefox/128.0\r\n\
+             Accept: text/html,application/xhtml+xml,application/xml;q=0.9,*/*;q=0.8\r\nAccept-Language: en-US,en;q=0.5\r\n\
+             Accept-Encoding: gzip, deflate, br, zstd\r\nDNT: 1\r\nConnection: keep-alive\r\nUpgrade-Insecure-Requests: 1\r\n\
+             Sec-Fetch-Dest: document\r\nSec-Fetch-Mode: navigate\r\nSec-Fetch-Site: none\r\nPriority: u=0, i\r\n\r\n",
+            "GET /jobs ;end",
+        ),
     ] {
-        assert_eq!(rt; first_bad_cut(&rt, input.as_bytes(), want)?, None, "{input}");
+        assert_eq!(rt;
+            first_bad_cut(&rt, input.as_bytes(), want)?,
+            None,
+            "{input}"
+        );
     }
     Ok(())
 }
 
 /// So many times a text, between two others.
-fn repeated(rt: &HostRuntime, front: &str, text: &str, count: usize, back: &str) -> Result<Vec<u8>, Fail> {
+fn repeated(
+    rt: &HostRuntime,
+    front: &str,
+    text: &str,
+    count: usize,
+    back: &str,
+) -> Result<Vec<u8>, Fail> {
     let mut bytes = Vec::from_slice(rt.alloc(), front.as_bytes())?;
     for _ in 0..count {
         bytes.extend_from_slice(text.as_bytes())?;
@@ -218,18 +281,46 @@ fn repeated(rt: &HostRuntime, front: &str, text: &str, count: usize, back: &str)
 fn heads_have_a_greatest_size(rt: HostRuntime) -> Result<(), Fail> {
     for (front, text, count, back, want) in [
         ("GET / HTTP/1.1\r\n", "A: b\r\n", 64, "\r\n", "GET / ;end"),
-        ("GET / HTTP/1.1\r\n", "A: b\r\n", 65, "\r\n", "head too large"),
+        (
+            "GET / HTTP/1.1\r\n",
+            "A: b\r\n",
+            65,
+            "\r\n",
+            "head too large",
+        ),
         ("GET / HTTP/1.1\r\n", "A: b\r\n", 65, "", "inside"),
         ("GET\n", "A\n", 65, "\n", "head too large"),
-        ("GET / HTTP/1.1\r\nA: ", "a", 16_361, "\r\n\r\n", "GET / ;end"),
-        ("GET / HTTP/1.1\r\nA: ", "a", 16_362, "\r\n\r\n", "head too large"),
+        (
+            "GET / HTTP/1.1\r\nA: ",
+            "a",
+            16_361,
+            "\r\n\r\n",
+            "GET / ;end",
+        ),
+        (
+            "GET / HTTP/1.1\r\nA: ",
+            "a",
+            16_362,
+            "\r\n\r\n",
+            "head too large",
+        ),
         ("", "\r\n", 8_183, "GET / HTTP/1.1\r\n\r\n", "GET / ;end"),
-        ("\n", "\r\n", 8_183, "GET / HTTP/1.1\r\n\r\n", "head too large"),
+        (
+            "\n",
+            "\r\n",
+            8_183,
+            "GET / HTTP/1.1\r\n\r\n",
+            "head too large",
+        ),
         ("", "\r\n", 8_192, "", "head too large"),
         ("\r", "\r\n", 8_191, "", "end"),
     ] {
         let input = repeated(&rt, front, text, count, back)?;
-        assert_eq!(rt; first_bad_cut(&rt, input.as_slice(), want)?, None, "{front} and {count} times {text}");
+        assert_eq!(rt;
+            first_bad_cut(&rt, input.as_slice(), want)?,
+            None,
+            "{front} and {count} times {text}"
+        );
     }
     Ok(())
 }

@@ -24,5 +24,6 @@ loop-header-preserved c =
           (c.requires.within i no_header (omega arith)).1 (sym w.is_some.ensures ∙ w.if-is_some.false) c.loop-header.invariant)
       | else-is_named w ↦ subst (IsOnly head values) (sym w.found-is)
           (subst (λ vs. IsOnly head vs c.loop-header.found)
-          (sym (values_past (codes "content-length") (header_bytes head) headers i no_header (omega arith) (sym c.is_named.ensures ∙ w.if-is_named.false))) c.loop-header.invariant)
+          (sym (values_past (codes "content-length") (header_bytes head) headers i no_header (omega arith) (sym c.is_named.ensures
+          ∙ w.if-is_named.false))) c.loop-header.invariant)
     ]

@@ -21,7 +21,10 @@ look_at_head-requires c =
     let before = c.count_blanks-before.result in
     let front = front_is bytes c.min.result before c.min.ensures c.count_blanks-before.ensures.count in
     let ends = subst (λ xs. EndsAt xs c.in-Some.end) (rest_is few before) c.in-Some.ensures in
-    record { head = subst (λ xs. BeginsHead (take c.in-Some.end.size xs)) (sym (rest_is few before)) (begins bytes few before c.in-Some.end front ends c.if-end.false) }
+    record {
+      head = subst (λ xs. BeginsHead (take c.in-Some.end.size xs)) (sym (rest_is few before))
+          (begins bytes few before c.in-Some.end front ends c.if-end.false);
+    }
 
 pub returns-then-few-eq-MAX_HEAD_BYTES : goal.returns-then-few-eq-MAX_HEAD_BYTES
 returns-then-few-eq-MAX_HEAD_BYTES c =
@@ -46,4 +49,5 @@ returns-else-end c =
     let before = c.count_blanks-before.result in
     let front = front_is bytes c.min.result before c.min.ensures c.count_blanks-before.ensures.count in
     let ends = subst (λ xs. EndsAt xs c.in-Some.end) (rest_is few before) c.in-Some.ensures in
-    sees_own bytes few before c.in-Some.end front ends c.if-end.false _ (ap (take c.in-Some.end.size) (rest_is few before)) c.look_at_head.result c.look_at_head.ensures
+    sees_own bytes few before c.in-Some.end front ends c.if-end.false _ (ap (take c.in-Some.end.size)
+    (rest_is few before)) c.look_at_head.result c.look_at_head.ensures

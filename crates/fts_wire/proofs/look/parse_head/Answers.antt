@@ -7,7 +7,8 @@ use Rattle.fts_wire.proofs.look.parse_head.Goals as goal
 pub returns-then-spans-own : goal.returns-then-spans-own
 returns-then-spans-own c =
     parts_of c.args.own.now c.parse_request.new.headers c.in-Ok-Complete.spans c.requires.head
-    (rw c.in-Ok-Complete.field-0-is at c.in-Ok-Complete.ensures.complete) (rw c.in-Ok-Complete.field-0-is at c.in-Ok-Complete.ensures.within) c.if-spans-own.true
+    (rw c.in-Ok-Complete.field-0-is at c.in-Ok-Complete.ensures.complete)
+    (rw c.in-Ok-Complete.field-0-is at c.in-Ok-Complete.ensures.within) c.if-spans-own.true
 
 pub returns-else-spans-own : goal.returns-else-spans-own
 returns-else-spans-own c =

@@ -33,7 +33,8 @@ returns-in-Err-clause-look g c =
 
 pub returns-then-is_clean_end-clause-takes : goal.returns-then-is_clean_end-clause-takes
 returns-then-is_clean_end-clause-takes g c =
-    takes_end c.args.buffer.now _ _ _ c.reading.buffer c.read_from.new.self c.in-Ok.n _ _ _ c.reading.invariant.takes c.in-Ok.ensures.piece c.if-n-eq0.true c.read_from.ensures.counted
+    takes_end c.args.buffer.now _ _ _ c.reading.buffer c.read_from.new.self c.in-Ok.n _ _ _ c.reading.invariant.takes c.in-Ok.ensures.piece
+    c.if-n-eq0.true c.read_from.ensures.counted
 
 pub returns-then-is_clean_end-clause-look : goal.returns-then-is_clean_end-clause-look
 returns-then-is_clean_end-clause-look g c = (
@@ -43,7 +44,8 @@ returns-then-is_clean_end-clause-look g c = (
 
 pub returns-else-is_clean_end-clause-takes : goal.returns-else-is_clean_end-clause-takes
 returns-else-is_clean_end-clause-takes g c =
-    takes_end c.args.buffer.now _ _ _ c.reading.buffer c.read_from.new.self c.in-Ok.n _ _ _ c.reading.invariant.takes c.in-Ok.ensures.piece c.if-n-eq0.true c.read_from.ensures.counted
+    takes_end c.args.buffer.now _ _ _ c.reading.buffer c.read_from.new.self c.in-Ok.n _ _ _ c.reading.invariant.takes c.in-Ok.ensures.piece
+    c.if-n-eq0.true c.read_from.ensures.counted
 
 pub returns-else-is_clean_end-clause-look : goal.returns-else-is_clean_end-clause-look
 returns-else-is_clean_end-clause-look g c = (
@@ -67,9 +69,11 @@ reading-preserved g c =
     let inv = c.reading.invariant in
     record {
       takes = takes_more c.args.buffer.now (g.S.Source.left c.args.source.now) (g.S.Source.left c.reading.source) (g.S.Source.left c.read_from.new.source)
-          c.reading.buffer c.read_from.new.self c.in-Ok.n (g.S.Source.reads c.args.source.now) (g.S.Source.reads c.reading.source) (g.S.Source.reads c.read_from.new.source)
+          c.reading.buffer c.read_from.new.self c.in-Ok.n (g.S.Source.reads c.args.source.now) (g.S.Source.reads c.reading.source)
+          (g.S.Source.reads c.read_from.new.source)
           inv.takes short piece some c.read_from.ensures.counted;
-      known = subst (λ (bytes : List ℕ). IfSome c.in-More.found (StandsAt bytes)) (sym piece.appended) (known_more c.reading.buffer piece.piece c.in-More.found known);
+      known = subst (λ (bytes : List ℕ). IfSome c.in-More.found (StandsAt bytes)) (sym piece.appended)
+          (known_more c.reading.buffer piece.piece c.in-More.found known);
       faults = omega (arith, inv.faults, c.read_from.ensures.cause.keeps);
       beside = c.read_from.ensures.beside ∙ inv.beside;
     }

@@ -8,7 +8,8 @@ use Rattle.fts_wire.proofs.request.Room.clear.Goals as goal
 
 pub invariant_of-self : goal.invariant_of-self
 invariant_of-self c =
-    let cut : c.keep.new.self ≡ take (taken_by c.self.inside.head) c.self.inside.buffer = c.keep.ensures ∙ ap (λ (n : ℕ). take n c.self.inside.buffer) c.taken.ensures in
+    let cut : c.keep.new.self ≡ take (taken_by c.self.inside.head) c.self.inside.buffer = c.keep.ensures
+    ∙ ap (λ (n : ℕ). take n c.self.inside.buffer) c.taken.ensures in
     still_whole c.self.inside.buffer c.keep.new.self c.self.inside.head cut c.self.invariant
 
 pub returns : goal.returns
