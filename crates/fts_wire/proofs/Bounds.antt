@@ -98,7 +98,7 @@ pub head_few : (bytes : List ℕ) (head : HeadData) → sight_of bytes ≡ Heade
 head_few bytes head e = subst (λ n. (head.before + head.size ≤ n) × (head.body ≤ 1048576)) (length-take 16384 bytes)
     (subst (Fits (length (take 16384 bytes))) e (in_fits (take 16384 bytes)))
 
-abbrev IsShortSight : Sight → Type 0
+abbrev pub IsShortSight : Sight → Type 0
 IsShortSight Short = Unit {0}
 IsShortSight (Refused fault) = ⊥
 IsShortSight (Headed head) = ⊥

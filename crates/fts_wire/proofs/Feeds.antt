@@ -35,6 +35,11 @@ lines_none (b ∷ text) none =
     ap (onto_lines b) (lines_none text (All-tail (λ x. is_feed x ≡ false) b text none))
     ∙ cond-false (b == 10) ((b ∷ []) ∷ []) [] (All-head (λ x. is_feed x ≡ false) b text none)
 
+-- bytes without a line feed end no line
+pub lines_same : (bytes more : List ℕ) → NoneOf is_feed more → lines_of (bytes ++ more) ≡ lines_of bytes
+lines_same [] more none = lines_none more none
+lines_same (b ∷ bytes) more none = ap (onto_lines b) (lines_same bytes more none)
+
 -- lines, written one after another, are those lines
 pub lines_back : (lines : List (List ℕ)) (rest : List ℕ) → AreLines lines → lines_of (concat lines ++ rest) ≡ lines ++ lines_of rest
 lines_back [] rest are = refl

@@ -167,7 +167,7 @@ version_none p (suc zero) few zero_none one_none = one_none
 version_none p (suc (suc n)) few zero_none one_none = absurd (omega (arith, few))
 
 -- a list that has no such byte, by the test
-none_from_any : (p : ℕ → Bool) (xs : List ℕ) → list_any p xs ≡ false → NoneOf p xs
+pub none_from_any : (p : ℕ → Bool) (xs : List ℕ) → list_any p xs ≡ false → NoneOf p xs
 none_from_any p [] e = All-nil (λ x. p x ≡ false)
 none_from_any p (b ∷ xs) e =
     let parts = or_parts (p b) (list_any p xs) e in

@@ -4,6 +4,7 @@ pub mod Ends
 pub mod Feeds
 pub mod Grammar
 pub mod Kept
+pub mod Known
 pub mod Lengths
 pub mod Next
 pub mod Parts

@@ -1,6 +1,6 @@
 -- What looking for the end of a head finds.
-use Rattle.std.specs.Prelude.{◌≡◌, ℕ, ◌<◌, ◌≤◌, List, [], ◌∷◌, length, take, drop, Option, Some, None}
-use Rattle.std.specs.List.{concat}
+use Rattle.std.specs.Prelude.{◌≡◌, ℕ, ◌-◌, ◌<◌, ◌≤◌, false, ◌==◌, List, [], ◌∷◌, length, take, drop, Option, Some, None}
+use Rattle.std.specs.List.{concat, list_any}
 use Rattle.fts_wire.specs.Head.{lines_of, head_lines}
 use Rattle.fts_wire.specs.declared.lines.HeadEnd.{HeadEnd}
 
@@ -28,3 +28,8 @@ pub record EndsAt (bytes : List ℕ) (end : HeadEnd) : Type 0 where
 abbrev pub IsHeadEnd : List ℕ → Option HeadEnd → Type 0
 IsHeadEnd bytes None = head_lines (lines_of bytes) ≡ None
 IsHeadEnd bytes (Some end) = EndsAt bytes end
+
+-- no line ends in the last bytes, so many, and all are fewer than a head may have
+pub record EndsNoLine (bytes : List ℕ) (last : ℕ) : Type 0 where
+  pub few : length bytes < 16384
+  pub none : list_any (λ b. b == 10) (drop (length bytes - last) bytes) ≡ false

@@ -3,13 +3,14 @@
 //! taken alone, and each read of a call is made only while they are less than a request (clause `taken`).
 //! Order of a load: the last request's bytes are given up; then look, and read a piece, until the look is no longer short.
 //! Called by fts_top. Format: docs/DEFINITIONS.md, "HTTP".
-ghost use Rattle.std.specs.Prelude.{◌≡◌, ◌≤◌, [], Err, IfOk, IfSome, IsUtf8, List, MatchBool, ℕ, length, option_copied, ⊤};
+ghost use Rattle.std.specs.Prelude.{◌≡◌, ◌≤◌, [], Err, None, IfOk, IfSome, IsUtf8, List, MatchBool, ℕ, length, true, option_copied, ⊤};
 ghost use Rattle.std.specs.Borrow.{sem, follows_so};
 ghost use mathlib.Core.Option.{none};
 ghost use Rattle.fts_tables.specs.Counts.{Rose};
 ghost use Rattle.httparse.specs.Spans.{span_bytes, IsWithin};
 ghost use Rattle.fts_wire.specs.RequestData.{path_of, query_of};
-ghost use Rattle.fts_wire.specs.Look.{StandsAt, IsSpanned, head_bytes};
+ghost use Rattle.fts_wire.specs.Lines.{EndsNoLine};
+ghost use Rattle.fts_wire.specs.Look.{Short, StandsAt, IsSpanned, head_bytes, sight_of};
 ghost use Rattle.fts_wire.specs.Requests.{next_of, Closed, EndsInside};
 ghost use Rattle.fts_wire.specs.Taken.{pending, loads, reads_without, LooksLike, IsNext, IsTaken, IsStep, IsKnown, Takes};
 ghost use Rattle.fts_wire.specs.Room.{taken_by};
@@ -22,6 +23,7 @@ use crate::lines::count_blanks;
 use crate::look::{Head, Look, look_at};
 use crate::{Source, SourceFailed, WireFault};
 use fts_tables::Memory;
+use fts_tables::limits::MAX_HEAD_BYTES;
 use httparse::spans::Span;
 use std::alloc::Global;
 use std::marker::Model;
@@ -175,7 +177,8 @@ fn split_target(target: &str) -> (&str, Option<&str>)
     }
 }
 
-/// Reads until a request stands whole in the bytes, and gives its head. A head that was found is not looked for again.
+/// Reads until a request stands whole in the bytes, and gives its head. It looks again only behind a piece in which a line ends,
+/// and not for a head that was found.
 fn fill<S: Source>(source: &mut S, buffer: &mut Buffer) -> Result<Option<Head>, WireFault>
     ensures takes { Takes buffer.old (S.left source.old) buffer.new (S.left source.new)
         (S.reads source.old) (S.reads source.new) (reads_without (loads result)) }
@@ -184,8 +187,9 @@ fn fill<S: Source>(source: &mut S, buffer: &mut Buffer) -> Result<Option<Head>, 
     ensures beside { S.beside source.new ≡ S.beside source.old }
 {
     let mut found: Option<Head> = None;
+    let mut is_known = false;
     'reading: loop {
-        found = match look_further(buffer.as_slice(), found) {
+        found = match look_further(buffer.as_slice(), found, is_known) {
             Step::Whole(head) => return Ok(Some(head)),
             Step::Refused(fault) => return Err(fault),
             Step::More(found) => found,
@@ -201,6 +205,7 @@ fn fill<S: Source>(source: &mut S, buffer: &mut Buffer) -> Result<Option<Head>, 
                 Err(WireFault::EndsInside)
             };
         }
+        is_known = ends_no_line(buffer.as_slice(), n, found);
     }
 }
 
@@ -212,11 +217,15 @@ enum Step {
     More(Option<Head>),
 }
 
-/// How far these bytes have come, in which a head may have been found.
-fn look_further(bytes: &[u8], found: Option<Head>) -> Step
-    requires known { IfSome found (StandsAt bytes.now) }
+/// How far these bytes have come, in which a head may have been found, or which may be known to be less than one.
+fn look_further(bytes: &[u8], found: Option<Head>, is_known: bool) -> Step
+    requires found { IfSome found (StandsAt bytes.now) }
+    requires known { is_known ≡ true → sight_of bytes.now ≡ Short }
     ensures { IsStep bytes.now result }
 {
+    if is_known {
+        return Step::More(None);
+    }
     match found {
         Some(head) => step_behind(bytes, head),
         None => match look_at(bytes) {
@@ -225,6 +234,16 @@ fn look_further(bytes: &[u8], found: Option<Head>) -> Step
             Look::Found(head) => step_behind(bytes, head),
         },
     }
+}
+
+/// Whether no head was found, no line ends in the last bytes, so many, and all are fewer than a head may have.
+/// Then they are less than a head, as they were without the last ones.
+fn ends_no_line(bytes: &[u8], last: usize, found: Option<Head>) -> bool
+    requires within { last ≤ length bytes.now }
+    ensures none { result ≡ true → found ≡ None }
+    ensures line { result ≡ true → EndsNoLine bytes.now last }
+{
+    found.is_none() && bytes.len() < MAX_HEAD_BYTES && !bytes[bytes.len() - last..].contains(&b'\n')
 }
 
 /// How far these bytes have come, in which a head was found.

@@ -1,6 +1,9 @@
 -- A piece more is read only behind less than a request, and what was found stays.
 use Rattle.std.proofs.Common.{◌<◌, ℕ, List, length, ap, sym, ◌∙◌, arith, subst, length-append}
-use Rattle.std.specs.Prelude.{IfSome}
+use Rattle.std.specs.Prelude.{IfSome, Option}
+use Rattle.fts_wire.specs.Lines.{EndsNoLine}
+use Rattle.fts_wire.specs.declared.look.Head.{Head}
+use Rattle.fts_wire.proofs.Known.{still_short}
 use Rattle.fts_wire.specs.Look.{sight_of, StandsAt}
 use Rattle.fts_wire.specs.Requests.{IsShort, next_of}
 use Rattle.fts_wire.specs.Taken.{IsKnown}
@@ -72,8 +75,11 @@ reading-preserved g c =
           c.reading.buffer c.read_from.new.self c.in-Ok.n (g.S.Source.reads c.args.source.now) (g.S.Source.reads c.reading.source)
           (g.S.Source.reads c.read_from.new.source)
           inv.takes short piece some c.read_from.ensures.counted;
-      known = subst (λ (bytes : List ℕ). IfSome c.in-More.found (StandsAt bytes)) (sym piece.appended)
+      found = subst (λ (bytes : List ℕ). IfSome c.in-More.found (StandsAt bytes)) (sym piece.appended)
           (known_more c.reading.buffer piece.piece c.in-More.found known);
+      known = λ is. still_short c.reading.buffer c.read_from.new.self piece.piece c.in-Ok.n
+          (subst (λ (found : Option Head). IsKnown c.reading.buffer found) (c.ends_no_line-is_known.ensures.none is) known) piece.appended piece.count
+          (subst (λ (bytes : List ℕ). EndsNoLine bytes c.in-Ok.n) c.as_slice-in-reading.ensures (c.ends_no_line-is_known.ensures.line is));
       faults = omega (arith, inv.faults, c.read_from.ensures.cause.keeps);
       beside = c.read_from.ensures.beside ∙ inv.beside;
     }
