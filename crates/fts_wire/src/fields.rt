@@ -1,10 +1,9 @@
 //! What a server reads of a head's fields: a coding, the length of the body, and whether the connection ends.
 //! Names of fields are compared without case, and so is the word `close`.
 //! Called by `look`. Format: RFC 9112, sections 6 and 9.6.
-ghost use Rattle.std.specs.Prelude.{◌≡◌, ◌<◌, ◌≤◌, length, map, All, MatchOption};
-ghost use Rattle.httparse.specs.Spans.{header_bytes, IsHeaderWithin, span_bytes};
+ghost use Rattle.std.specs.Prelude.{◌≡◌, length, map, All, codes};
+ghost use Rattle.httparse.specs.Spans.{header_bytes, IsHeaderWithin};
 ghost use Rattle.fts_wire.specs.Fields.{is_chunked, values_of, body_length, length_of, says_close, is_named, is_close};
-ghost use Rattle.std.specs.Prelude.{codes};
 
 use crate::WireFault;
 use fts_tables::limits::MAX_CONTENT_BYTES;

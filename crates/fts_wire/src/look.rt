@@ -2,9 +2,8 @@
 //! A look reads the bytes at hand alone and takes none away, so it can be repeated when more have come. It takes no memory.
 //! Order of a look: the end of the head, its grammar, its coding, and then its length.
 //! Called by `request`. Format: HTTP/1.1 (RFC 9112, sections 2 to 6), and the grammar of `httparse`.
-ghost use Rattle.std.specs.Prelude.{◌≡◌, ◌+◌, ◌≤◌, length, map, All, take, IfSome};
+ghost use Rattle.std.specs.Prelude.{◌≡◌, length, map, All, IsUtf8};
 ghost use Rattle.httparse.specs.Spans.{header_bytes, span_bytes, IsHeaderWithin, IsWithin};
-ghost use Rattle.std.specs.Prelude.{IsUtf8};
 ghost use Rattle.fts_wire.specs.Head.{lines_of, head_of};
 ghost use Rattle.fts_wire.specs.Look.{sight_head, sight_fields, Sees, SeesIn};
 ghost use Rattle.fts_wire.specs.Parsed.{IsParsed, BeginsHead};
@@ -15,6 +14,9 @@ use crate::lines::{count_blanks, find_head_end};
 use fts_tables::limits::{MAX_HEAD_BYTES, MAX_HEADER_LINES};
 use httparse::Status;
 use httparse::spans::{EMPTY_HEADER_SPAN, HeaderSpan, RequestSpans, Span, parse_request};
+
+/// At most this many lines of a head: the first, the fields, and the empty one.
+const MAX_LINES: usize = MAX_HEADER_LINES + 2;
 
 /// A whole head, as it stands in bytes: behind `before` bytes of CR and LF, `size` bytes long, with a body of `body` bytes behind it.
 /// Method and target are places in the head's own bytes.
@@ -52,7 +54,7 @@ pub fn look_at(bytes: &[u8]) -> Look
             }
         }
         Some(end) => {
-            if end.lines > MAX_HEADER_LINES + 2 {
+            if end.lines > MAX_LINES {
                 return Look::Refused(WireFault::HeadTooLarge);
             }
             look_at_head(&rest[..end.size], before)
