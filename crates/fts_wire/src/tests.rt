@@ -92,18 +92,15 @@ fn note_parts(rt: &HostRuntime, parts: &[&[u8]]) -> Result<Vec<u8>, Fail> {
 }
 
 /// The first place at which cutting the input in two gives other notes than these; one past its end stands for reading it byte by byte.
-/// Input of more than 1,000 bytes is cut at about as many places, and not read byte by byte.
+/// Input of more than 1,000 bytes is not read byte by byte.
 fn first_bad_cut(rt: &HostRuntime, input: &[u8], want: &str) -> Result<Option<usize>, Fail> {
-    let step = 1 + input.len() / 1000;
     for cut in 0..=input.len() {
-        if cut % step == 0 {
-            let notes = note_parts(rt, &[&input[..cut], &input[cut..]])?;
-            if notes.as_slice() != want.as_bytes() {
-                return Ok(Some(cut));
-            }
+        let notes = note_parts(rt, &[&input[..cut], &input[cut..]])?;
+        if notes.as_slice() != want.as_bytes() {
+            return Ok(Some(cut));
         }
     }
-    if step > 1 {
+    if input.len() > 1000 {
         return Ok(None);
     }
     let mut single = Vec::new(rt.alloc());
