@@ -1,7 +1,7 @@
 //! Requests, one after another, from a source.
 //! Keeps: what is kept followed by what the source has left loses exactly the request (`load`, clause `next`); what was found stands in the bytes
 //! taken alone, and each read of a call is made only while they are less than a request (clause `taken`).
-//! Order of a load: the last request's bytes are given up; then look, and read a piece, until the look is no longer short.
+//! Order of a load: the last request's bytes are given up; then look, and read a piece, until the look is no longer short and its body is there.
 //! Called by fts_top. Format: docs/DEFINITIONS.md, "HTTP".
 ghost use Rattle.std.specs.Prelude.{◌≡◌, ◌≤◌, [], Err, None, IfOk, IfSome, IsUtf8, List, MatchBool, ℕ, length, true, option_copied, ⊤};
 ghost use Rattle.std.specs.Borrow.{sem, follows_so};
@@ -95,7 +95,8 @@ impl Room {
         }
     }
 
-    /// Loads the next request. `Ok(false)` where the input ended before another byte.
+    /// Loads the next request. `Ok(false)` where the input ended with no byte but CR and LF left, which are then taken away.
+    /// A fault is that of the bytes that stand first, or `SourceFailed`, where a read failed; then all bytes are kept.
     /// It takes no memory, and reads nothing past the piece in which the request ends.
     pub fn load<S: Source>(&mut self, source: &mut S) -> Result<bool, WireFault>
         ensures next { IsNext (pending self.old.kept (S.left source.old)) (pending self.new.kept (S.left source.new)) self.new result }
@@ -266,7 +267,8 @@ fn is_clean_end(bytes: &[u8], found: Option<Head>) -> bool
     found.is_none() && count_blanks(bytes) == bytes.len()
 }
 
-/// The next request, where there is one: `None` where the input ended before another byte.
+/// The next request, where there is one: `None` where the input ended with no byte but CR and LF left.
+/// The faults are those of `Room::load`.
 /// The bytes of the request that the room lent before are given up.
 pub fn next_request<'a, S: Source>(
     room: &'a mut Room,
