@@ -20,7 +20,7 @@ use Rattle.fts_wire.specs.RequestData.{RequestData}
 use Rattle.fts_wire.specs.declared.response.Allow.TheVariants.{None as NoAllow}
 use Rattle.fts_wire.specs.declared.response.Reply.{Reply}
 use Rattle.fts_top.specs.Tallies.{claims_in}
-use Rattle.fts_top.specs.Replies.{accepted_body, reply_to_refusal, journal_full, disk_failed, no_memory, document_of, id_of_new, IsOrNoMemory, Said, said, said_by, said_to, said_so, submission, Way, AsDefined, WithoutMemory, WithoutDisk, Says, Answers, DoubtHasCause}
+use Rattle.fts_top.specs.Replies.{accepted_body, reply_to_refusal, journal_full, disk_failed, no_memory, document_of, id_of_new, IsOrNoMemory, Said, said, said_only, said_by, said_to, said_so, is_submission_of, not_built, submission, Way, AsDefined, WithoutMemory, WithoutDisk, Says, Answers, DoubtHasCause}
 use Rattle.fts_top.proofs.Keeping.{none_more}
 
 -- the tables that came of an entry
@@ -194,8 +194,13 @@ document_added : (tables : Tables) (used writer now : ℕ) (document : Result Jo
 document_added tables used writer now (Err fault) = adds_nothing tables
 document_added tables used writer now (Ok job) = came_added tables (id_of_new tables job) used writer now job (step tables (Submit now job)) refl
 
+request_added : (tables : Tables) (used writer now : ℕ) (document : Result JobData DocFault) (test : Bool)
+    → AddsWell tables (if test then said_to tables used writer now document else said_only not_built).added
+request_added tables used writer now document true = document_added tables used writer now document
+request_added tables used writer now document false = adds_nothing tables
+
 -- so does what is said to a request
 pub said_well : (tables : Tables) (used writer : ℕ) (request : RequestData) (now : ℕ) (way : Way) → AddsWell tables (said_so way (said tables used writer request now)).added
-said_well tables used writer request now AsDefined = document_added tables used writer now (document_of tables request.body)
+said_well tables used writer request now AsDefined = request_added tables used writer now (document_of tables request.body) (is_submission_of request)
 said_well tables used writer request now WithoutMemory = adds_nothing tables
 said_well tables used writer request now WithoutDisk = adds_nothing tables

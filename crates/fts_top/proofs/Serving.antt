@@ -11,19 +11,20 @@ use Rattle.fts_keep.specs.Keeps.{KeepData, IsKeep, Grows, KeepsImagesSinceAny, u
 use Rattle.fts_wire.specs.RoomData.{RoomData}
 use Rattle.fts_wire.specs.RequestData.{RequestData}
 use Rattle.fts_wire.specs.Response.{Sends}
-use Rattle.fts_wire.specs.declared.request.WireFault.TheVariants.{NotBuilt, EndsInside, SourceFailed}
+use Rattle.fts_wire.specs.declared.fault.WireFault.{WireFault}
+use Rattle.fts_wire.specs.declared.fault.WireFault.TheVariants.{EndsInside, SourceFailed}
 use Rattle.fts_wire.specs.declared.outside.SinkFailed.{SinkFailed}
 use Rattle.fts_wire.specs.declared.response.Reply.{Reply}
 use Rattle.fts_top.specs.Replies.{Answers, DoubtHasCause, said, said_so, IsInsteadOf}
 use Rattle.fts_top.specs.Tallies.{claims_in, is_claim}
 use Rattle.fts_top.specs.Walks.{walk_at}
-use Rattle.fts_top.specs.Connections.{Reading, Loads, IsRefused, response_after, IsConnection}
+use Rattle.fts_top.specs.Connections.{Reading, Loads, IsRefused, response_to, IsConnection}
 use Rattle.fts_top.specs.Sessions.{AnswersNext, NothingFollows, IsSession, Extends, MakesSession}
 use Rattle.fts_top.specs.declared.ends.LineEnd.{LineEnd}
 use Rattle.fts_top.specs.declared.ends.LineEnd.TheVariants as line_ends
 use Rattle.fts_top.proofs.Keeping.{none_more, tables_from-append, extends_none, extends_more}
 use Rattle.fts_top.proofs.Saying.{said_well}
-use Rattle.fts_top.proofs.Turns.{InProgress, begun, turn, cut, closed, ended_inside, read_failed, many, refused}
+use Rattle.fts_top.proofs.Turns.{InProgress, begun, turn, cut, closed, closed_by, ended_inside, read_failed, many, refused}
 
 -- claims of one list and of another one
 claims_more : (first second : List Entry) → claims_in first ≡ 0 → claims_in second ≡ 0 → claims_in (first ++ second) ≡ 0
@@ -104,12 +105,12 @@ module _ {D : Type 0} (state : D → DiskState) (faults : D → ℕ) (old : Keep
         read_failed AnswersNext NothingFollows kept (walk_at faults entries old moments) input held n behind now output (walk_at faults (entries ++ so_far.added) keep later)
         (so_far.progress entries folded) input2 room few load)
 
-    pub ends_refused : (input2 : Reading) (output2 : Option (List ℕ)) (room : RoomData) (end : LineEnd) → n < MAX_REQUESTS
-        → Loads behind now input2 room (Err NotBuilt) → IsRefused output output2 end
+    pub ends_refused : (input2 : Reading) (output2 : Option (List ℕ)) (room : RoomData) (fault : WireFault) (end : LineEnd) → n < MAX_REQUESTS
+        → Loads behind now input2 room (Err fault) → IsRefused output output2 fault end
         → MakesSession state faults old keep moments later kept input input2 held output2 end
-    ends_refused input2 output2 room end few load is = ends_over end input2 output2 (λ entries folded.
+    ends_refused input2 output2 room fault end few load is = ends_over end input2 output2 (λ entries folded.
         refused AnswersNext NothingFollows kept (walk_at faults entries old moments) input held n behind now output (walk_at faults (entries ++ so_far.added) keep later)
-        (so_far.progress entries folded) input2 output2 room end few load is)
+        (so_far.progress entries folded) input2 output2 room fault end few load is)
 
     pub ends_by_many : n ≡ MAX_REQUESTS → MakesSession state faults old keep moments later kept input now held output line_ends.Many
     ends_by_many all = ends_over line_ends.Many now output (λ entries folded.
@@ -145,17 +146,32 @@ module _ {D : Type 0} (state : D → DiskState) (faults : D → ℕ) (old : Keep
           (entries ++ so_far.added) (entries ++ longer) (folded_so_far entries folded)
           (sym (append_assoc entries so_far.added (added_by state faults keep new room.request moment reply answers)))
 
-      pub one_more : Sends {E = SinkFailed} output output2 (response_after n reply) (Ok tt) → SoFar new coming (n + 1) room.kept input2 output2
-      one_more sent = record {
+      -- its response
+      abbrev pub response : List ℕ
+      response = response_to n (record { request = room.request; reply = reply })
+
+      pub one_more : Sends {E = SinkFailed} output output2 response (Ok tt) → room.request.close ≡ false → SoFar new coming (n + 1) room.kept input2 output2
+      one_more sent goes = record {
         added = longer;
         extends = extends_longer;
         claims = no_claims;
         progress = λ entries folded. turn AnswersNext NothingFollows kept (walk_at faults entries old moments) input held n behind now output
             (walk_at faults (entries ++ so_far.added) keep later) (so_far.progress entries folded) input2 output2 room reply
-            (walk_at faults (entries ++ longer) new coming) (walk_at faults (entries ++ longer) new coming) load (answered_over entries folded) refl sent;
+            (walk_at faults (entries ++ longer) new coming) (walk_at faults (entries ++ longer) new coming) load (answered_over entries folded) refl sent goes;
       }
 
-      pub ends_cut : (e : SinkFailed) → n < MAX_REQUESTS → Sends output output2 (response_after n reply) (Err e)
+      pub ends_by_close : n < MAX_REQUESTS → Sends {E = SinkFailed} output output2 response (Ok tt) → room.request.close ≡ true
+          → MakesSession state faults old new moments coming kept input input2 held output2 line_ends.Closed
+      ends_by_close few sent closes = record {
+        added = longer;
+        extends = extends_longer;
+        claims = no_claims;
+        session = λ entries folded. closed_by AnswersNext NothingFollows kept (walk_at faults entries old moments) input held n behind now output
+            (walk_at faults (entries ++ so_far.added) keep later) (so_far.progress entries folded) input2 output2 room reply
+            (walk_at faults (entries ++ longer) new coming) (walk_at faults (entries ++ longer) new coming) few load (answered_over entries folded) refl sent closes;
+      }
+
+      pub ends_cut : (e : SinkFailed) → n < MAX_REQUESTS → Sends output output2 response (Err e)
           → MakesSession state faults old new moments coming kept input input2 held output2 line_ends.SinkFailed
       ends_cut e few sent = record {
         added = longer;

@@ -1,7 +1,7 @@
 -- What a request is answered over tables, and the entry that it adds to their list: today each request is a submission.
 -- The checks come in this order: the document's rules, then what the machine refuses, then the journal's limit.
 -- Bodies are JSON, compact, with keys in byte order.
-use Rattle.std.specs.Prelude.{◌≡◌, ◌≢◌, ◌⊎◌, ℕ, List, [], ◌∷◌, ◌++◌, codes, decimal, unwrap_or, Option, None, Result, Ok, Err}
+use Rattle.std.specs.Prelude.{◌≡◌, ◌≢◌, ◌⊎◌, ℕ, Bool, ◌&&◌, ◌||◌, if◌then◌else◌, bytes_eq, List, [], ◌∷◌, ◌++◌, codes, decimal, unwrap_or, Option, None, Result, Ok, Err}
 use Rattle.std.specs.Int.{to_be_bytes, w128}
 use Rattle.uuid.specs.Text.{hyphenated_text, lower}
 use Rattle.fts_tables.specs.SettingsData.{SettingsData}
@@ -149,9 +149,14 @@ said_to tables used writer now (Err fault) = said_only (bad_document fault)
 said_to tables used writer now (Ok job) =
     said_by (id_of_new tables job) (submission writer now job) (applied_to tables used (submission writer now job))
 
--- what is said to a request over tables, with so many bytes of the journal used
+-- whether a request is a submission
+abbrev pub is_submission_of : RequestData → Bool
+is_submission_of request = bytes_eq request.path (codes "/jobs") && (bytes_eq request.method (codes "POST") || bytes_eq request.method (codes "PUT"))
+
+-- what is said to a request over tables, with so many bytes of the journal used; nothing but submissions is built
 abbrev pub said : Tables → ℕ → ℕ → RequestData → ℕ → Said
-said tables used writer request now = said_to tables used writer now (document_of tables request.body)
+said tables used writer request now =
+    if is_submission_of request then said_to tables used writer now (document_of tables request.body) else said_only not_built
 
 -- how an answer came about: as it is defined, or there was no memory, or the disk failed
 pub data Way : Type 0 where

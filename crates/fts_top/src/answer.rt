@@ -1,15 +1,15 @@
 //! The answer to one request over a keep: its reply, and the entry that it adds, one at most.
 //! Order: the body is read under the settings in force, the reply's body is made, and only then the submission is applied. So no reply of 500
 //! follows an accepted submission, and one of 503 stands only where the disk's count rose (`Answers`). Called by the session.
-ghost use Rattle.std.specs.Prelude.{◌≡◌, ◌≢◌, ◌⊎◌, IsTrue};
+ghost use Rattle.std.specs.Prelude.{◌≡◌, ◌⊎◌, IsTrue};
 ghost use Rattle.fts_wire.specs.Answered.{request_data};
 ghost use Rattle.fts_wire.specs.Response.{has_phrase, has_methods};
 ghost use Rattle.fts_keep.specs.Keeps.{IsKeep, Grows, KeepsImagesSinceAny};
-ghost use Rattle.fts_top.specs.Replies.{Answers, Says, DoubtHasCause, IsOrNoMemory, RefusesSubmission, document_of, id_of_new, accepted_body, reply_to_refusal, refusal_of, said_to};
+ghost use Rattle.fts_top.specs.Replies.{Answers, Says, DoubtHasCause, IsOrNoMemory, RefusesSubmission, document_of, id_of_new, accepted_body, reply_to_refusal, refusal_of, said_to, is_submission_of};
 
 use crate::reply::{
-    DISK_FAILED, JOBS_FULL, JOURNAL_FULL, ROWS_FULL, duplicate_reply, make_accepted_body,
-    no_memory_reply, refusal_reply,
+    DISK_FAILED, JOBS_FULL, JOURNAL_FULL, NOT_BUILT, ROWS_FULL, duplicate_reply,
+    make_accepted_body, no_memory_reply, refusal_reply,
 };
 use fts_desk::{Desk, standard_id};
 use fts_disk::Disk;
@@ -19,7 +19,7 @@ use fts_tables::{Command, Items, Memory, NewJob, Refusal};
 use fts_wire::{Allow, Reply, Request, statuses};
 use std::alloc::Global;
 
-/// Answers a request at a moment, in seconds since 1970, as this writer. Whatever a request asks for is built.
+/// Answers a request at a moment, in seconds since 1970, as this writer. What is no submission is not built.
 pub fn answer<D: Disk>(
     alloc: Global,
     keep: &mut Keep<D>,
@@ -34,13 +34,24 @@ pub fn answer<D: Disk>(
     ensures doubt { DoubtHasCause D.state D.faults keep.old keep.new }
     ensures phrase { IsTrue (has_phrase result.status) }
     ensures methods { IsTrue (has_methods result.status result.allow) }
-    ensures built { result.status ≢ 501 }
 {
+    // Each image of a keep's disk is one of its list.
+    keep.desk();
+    if !is_submission(request) {
+        return refusal_reply(alloc, "not built", NOT_BUILT, statuses::NOT_IMPLEMENTED);
+    }
     match read_document(alloc, keep, request.body) {
         Ok(job) => submit(alloc, keep, writer, now, job),
         Err(DocFault::Memory) => no_memory_reply(alloc),
         Err(fault) => refusal_reply(alloc, fault.message(), fault.rule(), statuses::BAD_REQUEST),
     }
+}
+
+/// Whether a request is a submission.
+fn is_submission(request: &Request<'_>) -> bool
+    ensures { result ≡ is_submission_of (request_data request.now) }
+{
+    request.path == "/jobs" && (request.method == "POST" || request.method == "PUT")
 }
 
 /// The job of a body under the settings in force.
@@ -60,7 +71,6 @@ fn submit<D: Disk>(alloc: Global, keep: &mut Keep<D>, writer: u32, now: u64, job
     ensures grows { Grows D.state D.faults writer keep.old keep.new }
     ensures images { KeepsImagesSinceAny D.state keep.old keep.new }
     ensures doubt { DoubtHasCause D.state D.faults keep.old keep.new }
-    ensures built { result.status ≢ 501 }
 {
     let id = id_for(keep.desk(), &job);
     match make_accepted_body(alloc, id) {
@@ -85,7 +95,6 @@ fn apply_submission<D: Disk>(
     ensures grows { Grows D.state D.faults writer keep.old keep.new }
     ensures images { KeepsImagesSinceAny D.state keep.old keep.new }
     ensures doubt { DoubtHasCause D.state D.faults keep.old keep.new }
-    ensures built { result.status ≢ 501 }
 {
     match keep.apply(writer, Command::Submit { now, job }) {
         Ok(_) => Reply {

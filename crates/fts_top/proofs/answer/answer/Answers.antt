@@ -4,6 +4,9 @@ use Rattle.fts_top.proofs.Keeping.{images_none}
 use Rattle.fts_top.proofs.Saying.{said_none, grows_none, doubt_none}
 use Rattle.fts_top.proofs.answer.answer.Goals as goal
 
+pub returns-then-not-is_submission-clause-images : goal.returns-then-not-is_submission-clause-images
+returns-then-not-is_submission-clause-images g c = images_none g.D.Disk.state g.D.Disk.faults c.args.keep.now c.desk.ensures.kept (g.met.D.Disk.lawful c.args.keep.now.disk)
+
 pub returns-in-Err-Memory-clause-images : goal.returns-in-Err-Memory-clause-images
 returns-in-Err-Memory-clause-images g c = images_none g.D.Disk.state g.D.Disk.faults c.args.keep.now c.read_document.ensures.kept (g.met.D.Disk.lawful c.args.keep.now.disk)
 
