@@ -1,0 +1,5 @@
+pub mod Json
+pub mod Objects
+pub mod Routes
+pub mod Found
+pub mod Values
