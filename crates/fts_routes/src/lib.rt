@@ -5,6 +5,9 @@
 //! Called by fts_top. Nothing here knows of sockets, or of where a request ends. Format: docs/DEFINITIONS.md, "HTTP".
 #![tactic(auto)]
 
+mod named;
 mod objects;
+mod queries;
+mod replies;
 mod routes;
 mod texts;
