@@ -1,2 +1,4 @@
 pub mod Segments
 pub mod Numbered
+pub mod Listed
+pub mod Changed

@@ -5,3 +5,6 @@ pub mod Queries
 pub mod Routes
 pub mod Found
 pub mod Refusals
+pub mod Replies
+pub mod Changes
+pub mod Planned

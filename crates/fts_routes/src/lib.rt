@@ -5,8 +5,11 @@
 //! Called by fts_top. Nothing here knows of sockets, or of where a request ends. Format: docs/DEFINITIONS.md, "HTTP".
 #![tactic(auto)]
 
+mod changes;
+mod looks;
 mod named;
 mod objects;
+mod planned;
 mod queries;
 mod replies;
 mod routes;

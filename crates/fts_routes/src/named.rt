@@ -13,7 +13,7 @@ use fts_tables::{FileRow, JobRow, JobState, Settings};
 use uuid::Uuid;
 
 /// A law: the tables of a desk have the machine's form.
-fn standing(desk: &Desk)
+pub fn standing(desk: &Desk)
     ensures { IsStanding desk.now.tables }
 {
     let _commands = desk.commands();

@@ -2,7 +2,7 @@
 //! A job and a file are shown with the fields that a command may change given beside the row, so that the reply to a command is made before
 //! the command is done.
 //! Called by `looks` and `changes`.
-ghost use Rattle.std.specs.Prelude.{◌≡◌, IfOk, OnOk, map, false};
+ghost use Rattle.std.specs.Prelude.{◌≡◌, refl, IfOk, OnOk, map, false};
 ghost use Rattle.serde_json.specs.Data.{Data, boolean, string, put};
 ghost use Rattle.serde_json.specs.View.{view, members_view};
 ghost use Rattle.serde_json.specs.Written.{has_float};
@@ -177,10 +177,15 @@ pub trait Shown {
     /// The value that shows it.
     fn value(&self, alloc: Global) -> Result<Value, Memory>
         ensures { IfOk result (λ value. view value ≡ shown self.now) };
+
+    /// No float is in that value.
+    ghost no_float: { (x : Self) → has_float (shown x) ≡ false };
 }
 
 impl Shown for LinkRule {
     ghost shown = { link_object };
+
+    ghost no_float = { λ _. refl };
 
     fn value(&self, alloc: Global) -> Result<Value, Memory> {
         let value = json!(in alloc; {
@@ -196,6 +201,8 @@ impl Shown for LinkRule {
 impl Shown for Endpoint {
     ghost shown = { endpoint_object };
 
+    ghost no_float = { λ _. refl };
+
     fn value(&self, alloc: Global) -> Result<Value, Memory> {
         let value = json!(in alloc; {
             "inbound_max_active": self.inbound,
@@ -209,6 +216,8 @@ impl Shown for Endpoint {
 impl Shown for Weight {
     ghost shown = { weight_object };
 
+    ghost no_float = { λ _. refl };
+
     fn value(&self, alloc: Global) -> Result<Value, Memory> {
         let value = json!(in alloc; {"activity": self.name.as_str(), "weight": self.weight})?;
         Ok(value)
@@ -217,6 +226,8 @@ impl Shown for Weight {
 
 impl Shown for FileRow {
     ghost shown = { file_object };
+
+    ghost no_float = { λ _. refl };
 
     fn value(&self, alloc: Global) -> Result<Value, Memory> {
         file_value(alloc, self, CancelStep::Stays)

@@ -1,7 +1,8 @@
 //! The query of a look at the jobs (`application/x-www-form-urlencoded`, URL Standard): of pairs with one name the first counts, others are
 //! passed over. `specs/Queries.antt` says which states and limits are read.
 //! Called by `looks`, which asks for the states before the limit.
-ghost use Rattle.std.specs.Prelude.{◌≡◌, ◌≤◌, IfOk, IfSome, is_ok, option_map};
+ghost use Rattle.std.specs.Prelude.{◌≡◌, ◌≤◌, [], IfOk, IfSome, is_ok, option_map, unwrap_or};
+ghost use Rattle.std.specs.Option.{option_copied};
 ghost use Rattle.std.specs.Result.{result_ok};
 ghost use Rattle.std.specs.Cow.{cow_str_bytes};
 ghost use Rattle.std.specs.List.{list_all};
@@ -39,8 +40,38 @@ pub fn first_value<'q>(
     Ok(None)
 }
 
+/// The bytes of a query, and none where there is no query.
+pub fn bytes_of(query: Option<&str>) -> &[u8]
+    ensures { result.now ≡ unwrap_or (option_copied query.entry) [] }
+{
+    match query {
+        None => &[],
+        Some(text) => text.as_bytes(),
+    }
+}
+
+/// A value that was found, lent as a text.
+pub fn lent<'t>(value: &'t Option<CowStr<'_>>) -> Option<&'t str>
+    ensures { option_copied result ≡ option_map cow_str_bytes value.now }
+{
+    match value {
+        None => None,
+        Some(text) => Some(text.as_str()),
+    }
+}
+
+/// Whether what is asked for are states of jobs, where some are asked for.
+pub fn are_known(states: Option<&str>) -> bool
+    ensures { result ≡ is_ok (states_in (option_copied states.entry)) }
+{
+    match states {
+        None => true,
+        Some(text) => are_states(text),
+    }
+}
+
 /// Whether these are states of jobs, joined by commas.
-pub fn are_states(text: &str) -> bool
+fn are_states(text: &str) -> bool
     ensures { result ≡ list_all (is_one_of job_states) (between_commas text.now) }
 {
     text.as_bytes()
@@ -80,7 +111,7 @@ fn is_among(text: &str, word: &str) -> bool
 
 /// How many jobs are asked for, at most. `None` exactly where the text asks for no such number.
 pub fn limit_of(text: Option<&str>) -> Option<u64>
-    ensures { result ≡ result_ok (limit_in (option_map (λ text. text.now) text.entry)) }
+    ensures { result ≡ result_ok (limit_in (option_copied text.entry)) }
 {
     match text {
         None => Some(DEFAULT_LIMIT),
