@@ -1,8 +1,8 @@
 -- In a list that is numbered from 1 an item stands at the place before its number, and is found by it.
-use Rattle.std.proofs.Common.{◌≡◌, ℕ, zero, suc, ◌+◌, ◌-◌, ◌<◌, ◌≤◌, Bool, true, false, cond, List, [], ◌∷◌, Option, Some, None, Bor, refl, sym, ◌∙◌, ap, arith}
+use Rattle.std.proofs.Common.{◌≡◌, ℕ, zero, suc, ◌+◌, ◌-◌, ◌<◌, ◌≤◌, Bool, true, false, cond, List, [], ◌∷◌, length, get_or, Option, Some, None, Bor, refl, sym, ◌∙◌, ap, arith}
 use Rattle.std.specs.Prelude.{◌==◌, find, slice_get, option_map, IfSome}
 use Rattle.std.proofs.lemmas.Bool.{eqb-true, eqb-false}
-use Rattle.std.proofs.lemmas.Option.{same_Some, none-some}
+use Rattle.std.proofs.lemmas.Option.{same_Some, none-some, slice_get-get_or}
 use Rattle.fts_tables.specs.Tables.{AreNumberedFrom, number_of_id, job_at}
 use Rattle.fts_tables.specs.declared.rows.JobRow.{JobRow}
 
@@ -35,6 +35,19 @@ module _ {Item : Type 0} (number_of : Item → ℕ) where
           → cond answer (Some item) (find (λ item. number_of item == number) items) ≡ slice_get items place
       by_head behind true same = absurd (omega (arith, eqb-true (number_of item) number same, numbered.0))
       by_head behind false other = behind
+
+  -- an item's number is as far above the first as its place
+  number-at : (start : ℕ) (items : List Item) (place : ℕ) (other : Item) → AreNumberedFrom number_of start items → place < length items
+      → number_of (get_or items place other) ≡ start + place
+  number-at start [] place other numbered inside = absurd (omega arith)
+  number-at start (item ∷ items) zero other numbered inside = omega (arith, numbered.0)
+  number-at start (item ∷ items) (suc place) other numbered inside = omega (arith, number-at (suc start) items place other numbered.1 (omega arith))
+
+  -- an item is found by its own number
+  pub own-number : (items : List Item) (place : ℕ) (other : Item) → AreNumberedFrom number_of 1 items → place < length items
+      → find (λ item. number_of item == number_of (get_or items place other)) items ≡ Some (get_or items place other)
+  own-number items place other numbered inside =
+      found-at 1 items (number_of (get_or items place other)) place numbered (number-at 1 items place other numbered inside) ∙ slice_get-get_or items place other inside
 
   -- what is found by any test has a number from the first on
   pub found-above : (test : Item → Bool) (start : ℕ) (items : List Item) (found : Item) → AreNumberedFrom number_of start items

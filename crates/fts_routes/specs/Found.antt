@@ -27,9 +27,9 @@ names_behind None = []
 names_behind (Some rest) = segments rest.now
 
 -- the states that count, where a query's text asks for some
-abbrev pub states_asked : Option (Bor (List ℕ)) → List (List ℕ)
+abbrev pub states_asked : Option (List ℕ) → List (List ℕ)
 states_asked None = job_states
-states_asked (Some text) = between_commas text.now
+states_asked (Some text) = between_commas text
 
 -- a job's object, where the job is in one of these states
 abbrev pub shown_if_asked : Tables → List (List ℕ) → JobRow → Option Data

@@ -5,12 +5,16 @@
 //! Called by fts_top. Nothing here knows of sockets, or of where a request ends. Format: docs/DEFINITIONS.md, "HTTP".
 #![tactic(auto)]
 
+mod answers;
 mod changes;
 mod looks;
 mod named;
 mod objects;
+mod plan;
 mod planned;
 mod queries;
 mod replies;
 mod routes;
 mod texts;
+
+pub use answers::answer;

@@ -1,8 +1,9 @@
 //! Looks: what is shown of the tables, which stay as they are.
 //! A job and its files are looked up and not searched for; a list of jobs is walked up to its limit.
-//! Called by `answer`.
+//! Called by `answers`.
 ghost use Rattle.std.specs.Prelude.{◌≡◌, ◌++◌, Some, IfOk, OnOk, IsSome, map, false, option_map};
 ghost use Rattle.std.specs.Option.{option_copied, option_to_list};
+ghost use Rattle.std.specs.Cow.{cow_str_bytes};
 ghost use Rattle.serde_json.specs.Data.{Data};
 ghost use Rattle.serde_json.specs.View.{view};
 ghost use Rattle.serde_json.specs.Written.{has_float};
@@ -16,13 +17,14 @@ ghost use Rattle.fts_routes.specs.Replies.{Replies, jobs_plan};
 
 use crate::named::{settings_of, standing, state_of};
 use crate::objects::{Shown, array_value, job_value};
-use crate::queries::{are_known, bytes_of, first_value, is_asked, lent, limit_of};
+use crate::queries::{are_known, bytes_of, first_value, is_asked, limit_of};
 use crate::replies::{bad_limit, bad_states, shows};
 use fts_desk::Desk;
 use fts_tables::{JobRow, Memory};
 use fts_wire::Reply;
 use serde_json::Value;
 use std::alloc::Global;
+use std::borrow::CowStr;
 
 /// A look at a job.
 pub fn look_at_job(alloc: Global, desk: &Desk, job: &JobRow) -> Result<Reply, Memory>
@@ -60,18 +62,18 @@ pub fn look_at_jobs(alloc: Global, desk: &Desk, query: Option<&str>) -> Result<R
     let query = bytes_of(query);
     let states = first_value(alloc, query, "state_in")?;
     let limit = first_value(alloc, query, "limit")?;
-    look_at_states(alloc, desk, lent(&states), lent(&limit))
+    look_at_states(alloc, desk, &states, &limit)
 }
 
 /// A look at jobs in these states, up to this limit, or the refusal of one of them: of the states first.
 fn look_at_states(
     alloc: Global,
     desk: &Desk,
-    states: Option<&str>,
-    limit: Option<&str>,
+    states: &Option<CowStr<'_>>,
+    limit: &Option<CowStr<'_>>,
 ) -> Result<Reply, Memory>
     requires settings { IsSome desk.now.tables.settings }
-    ensures { IfOk result (λ reply. jobs_plan desk.now.tables (both (states_in (option_copied states.entry)) (limit_in (option_copied limit.entry))) ≡ Replies reply) }
+    ensures { IfOk result (λ reply. jobs_plan desk.now.tables (both (states_in (option_map cow_str_bytes states.now)) (limit_in (option_map cow_str_bytes limit.now))) ≡ Replies reply) }
 {
     if !are_known(states) {
         return bad_states(alloc);
@@ -86,11 +88,11 @@ fn look_at_states(
 fn list_jobs(
     alloc: Global,
     desk: &Desk,
-    states: Option<&str>,
+    states: &Option<CowStr<'_>>,
     limit: u64,
 ) -> Result<Reply, Memory>
     requires settings { IsSome desk.now.tables.settings }
-    ensures { IfOk result (λ reply. reply ≡ shows (array_of (job_object desk.now.tables) (jobs_asked desk.now.tables (states_asked states.entry) limit))) }
+    ensures { IfOk result (λ reply. reply ≡ shows (array_of (job_object desk.now.tables) (jobs_asked desk.now.tables (states_asked (option_map cow_str_bytes states.now)) limit))) }
 {
     let value = value_of_jobs(alloc, desk, states, limit)?;
     shows(alloc, &value)
@@ -99,16 +101,16 @@ fn list_jobs(
 fn value_of_jobs(
     alloc: Global,
     desk: &Desk,
-    states: Option<&str>,
+    states: &Option<CowStr<'_>>,
     limit: u64,
 ) -> Result<Value, Memory>
     requires settings { IsSome desk.now.tables.settings }
-    ensures { IfOk result (λ value. view value ≡ array_of (job_object desk.now.tables) (jobs_asked desk.now.tables (states_asked states.entry) limit)) }
+    ensures { IfOk result (λ value. view value ≡ array_of (job_object desk.now.tables) (jobs_asked desk.now.tables (states_asked (option_map cow_str_bytes states.now)) limit)) }
 {
     standing(desk);
     let mut list = Vec::new(alloc);
     for job in desk.jobs() {
-        if list.len() as u64 >= limit {
+        if list.as_slice().len() as u64 >= limit {
             break;
         }
         let value = value_if_asked(alloc, desk, states, job)?;
@@ -134,12 +136,12 @@ fn add(list: &mut Vec<Value>, value: Option<Value>) -> Result<(), Memory>
 fn value_if_asked(
     alloc: Global,
     desk: &Desk,
-    states: Option<&str>,
+    states: &Option<CowStr<'_>>,
     job: &JobRow,
 ) -> Result<Option<Value>, Memory>
     requires settings { IsSome desk.now.tables.settings }
     requires number { job_at desk.now.tables.jobs job.now.number ≡ Some job.now }
-    ensures { IfOk result (λ value. option_map view value ≡ shown_if_asked desk.now.tables (states_asked states.entry) job.now) }
+    ensures { IfOk result (λ value. option_map view value ≡ shown_if_asked desk.now.tables (states_asked (option_map cow_str_bytes states.now)) job.now) }
 {
     if is_asked(states, state_of(desk, job)) {
         let value = value_of_job(alloc, desk, job)?;

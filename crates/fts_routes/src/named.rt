@@ -1,6 +1,6 @@
 //! The job and the file that a path names, by the desk's own look-ups: an id is found by the desk, a number is a place plus 1.
 //! That a number is a place plus 1 rests on the form of the tables (`IsStanding`).
-//! Called by `answer`.
+//! Called by `answers`.
 ghost use Rattle.std.specs.Prelude.{◌≡◌, Some, IfSome, IsSome, option_map};
 ghost use Rattle.fts_tables.specs.Tables.{job_at, row_at};
 ghost use Rattle.fts_tables.specs.Laws.{IsStanding};

@@ -50,23 +50,13 @@ pub fn bytes_of(query: Option<&str>) -> &[u8]
     }
 }
 
-/// A value that was found, lent as a text.
-pub fn lent<'t>(value: &'t Option<CowStr<'_>>) -> Option<&'t str>
-    ensures { option_copied result ≡ option_map cow_str_bytes value.now }
-{
-    match value {
-        None => None,
-        Some(text) => Some(text.as_str()),
-    }
-}
-
 /// Whether what is asked for are states of jobs, where some are asked for.
-pub fn are_known(states: Option<&str>) -> bool
-    ensures { result ≡ is_ok (states_in (option_copied states.entry)) }
+pub fn are_known(states: &Option<CowStr<'_>>) -> bool
+    ensures { result ≡ is_ok (states_in (option_map cow_str_bytes states.now)) }
 {
     match states {
         None => true,
-        Some(text) => are_states(text),
+        Some(text) => are_states(text.as_str()),
     }
 }
 
@@ -91,12 +81,12 @@ fn is_job_state(word: &[u8]) -> bool
 }
 
 /// Whether a state is asked for. Where nothing is asked for, each is.
-pub fn is_asked(states: Option<&str>, state: JobState) -> bool
-    ensures { result ≡ is_one_of (states_asked states.entry) (job_state_text state) }
+pub fn is_asked(states: &Option<CowStr<'_>>, state: JobState) -> bool
+    ensures { result ≡ is_one_of (states_asked (option_map cow_str_bytes states.now)) (job_state_text state) }
 {
     match states {
         None => true,
-        Some(text) => is_among(text, job_state_text(state)),
+        Some(text) => is_among(text.as_str(), job_state_text(state)),
     }
 }
 
@@ -110,12 +100,12 @@ fn is_among(text: &str, word: &str) -> bool
 }
 
 /// How many jobs are asked for, at most. `None` exactly where the text asks for no such number.
-pub fn limit_of(text: Option<&str>) -> Option<u64>
-    ensures { result ≡ result_ok (limit_in (option_copied text.entry)) }
+pub fn limit_of(text: &Option<CowStr<'_>>) -> Option<u64>
+    ensures { result ≡ result_ok (limit_in (option_map cow_str_bytes text.now)) }
 {
     match text {
         None => Some(DEFAULT_LIMIT),
-        Some(text) => match number_in(text, 4) {
+        Some(text) => match number_in(text.as_str(), 4) {
             Some(limit) if 1 <= limit && limit <= MAX_LIMIT => Some(limit),
             _ => None,
         },
