@@ -15,6 +15,8 @@ mod planned;
 mod queries;
 mod replies;
 mod routes;
+#[cfg(test)]
+mod tests;
 mod texts;
 
 pub use answers::answer;
