@@ -1,5 +1,5 @@
 -- What a command leaves of a job and of a file, by the rows before it.
-use Rattle.std.proofs.Common.{◌≡◌, ℕ, zero, suc, Bool, true, false, List, [], ◌∷◌, map, Option, Some, None, refl, sym, ◌∙◌, ap, subst, arith, true≢false}
+use Rattle.std.proofs.Common.{◌≡◌, ℕ, Bool, true, false, List, [], ◌∷◌, map, Option, Some, None, refl, sym, ◌∙◌, ap, subst, true≢false}
 use Rattle.std.specs.Prelude.{◌==◌, ◌&&◌, ◌||◌, not, if◌then◌else◌, find, option_map, unwrap_or, Ok, Err, filter}
 use Rattle.std.specs.Option.{option_map_or}
 use Rattle.std.specs.List.{list_any}
@@ -169,7 +169,7 @@ rows-cancelled (row ∷ rows) number = by_head (rows-cancelled rows number) (row
     by_head : rows_of_job (map (λ (row : FileRow). if row.job == number then cancelled row else row) rows) number ≡ map cancelled (rows_of_job rows number)
         → (own : Bool) → (row.job == number) ≡ own
         → rows_of_job ((if own then cancelled row else row) ∷ map (λ (row : FileRow). if row.job == number then cancelled row else row) rows) number
-            ≡ map cancelled (if own then row ∷ rows_of_job rows number else rows_of_job rows number)
+        ≡ map cancelled (if own then row ∷ rows_of_job rows number else rows_of_job rows number)
     by_head behind true is = rw (job-kept row, is, behind) refl
     by_head behind false is = rw (is, behind) refl
 
@@ -184,14 +184,21 @@ cancelled-state kind rows unsettled = by_active (list_any (λ (row : FileRow). i
   where
     live : list_any (λ (row : FileRow). is_live row.state) rows ≡ true
     live = not-false (list_any (λ (row : FileRow). is_live row.state) rows) unsettled
+
     by_active : (active : Bool) → list_any (λ (row : FileRow). is_active row.state) rows ≡ active
         → state_of_job kind (map cancelled rows) ≡ (if active then JobActive else JobCanceled)
-    by_active true is = rw (live-after rows, is,
-        any-where (λ (row : FileRow). is_active row.state) (λ (row : FileRow). is_active row.state || is_settled row.state) cancelled
-        (λ row running. rw (state-after row) (begun-by row.state running)) rows is) refl
-    by_active false is = rw (live-after rows, is,
-        any-but (λ (row : FileRow). is_live row.state) (λ (row : FileRow). is_active row.state) (λ (row : FileRow). is_canceled row.state) cancelled
-        (λ row waits idle. rw (state-after row) (canceled-by row.state waits idle)) rows live is) refl
+    by_active true is = rw (
+      live-after rows,
+      is,
+      any-where (λ (row : FileRow). is_active row.state) (λ (row : FileRow). is_active row.state || is_settled row.state) cancelled
+          (λ row running. rw (state-after row) (begun-by row.state running)) rows is,
+    ) refl
+    by_active false is = rw (
+      live-after rows,
+      is,
+      any-but (λ (row : FileRow). is_live row.state) (λ (row : FileRow). is_active row.state) (λ (row : FileRow). is_canceled row.state) cancelled
+          (λ row waits idle. rw (state-after row) (canceled-by row.state waits idle)) rows live is,
+    ) refl
 
 -- the state of a job that isn't settled, and in which nothing can be cancelled: its files run
 fixed-state : (kind : JobKind) (rows : List FileRow) → is_settled_job rows ≡ false → list_any is_cancellable rows ≡ false
@@ -200,9 +207,11 @@ fixed-state kind rows unsettled fixed = rw (unsettled, begun, active) refl
   where
     live : list_any (λ (row : FileRow). is_live row.state) rows ≡ true
     live = not-false (list_any (λ (row : FileRow). is_live row.state) rows) unsettled
+
     active : list_any (λ (row : FileRow). is_active row.state) rows ≡ true
     active = rw itself at (any-but (λ (row : FileRow). is_live row.state) is_cancellable (λ (row : FileRow). is_active row.state) (λ (row : FileRow). row)
         (λ row waits not. active-by row.state row.cancel_asked waits not) rows live fixed)
+
     begun : list_any (λ (row : FileRow). is_active row.state || is_settled row.state) rows ≡ true
     begun = rw itself at (any-where (λ (row : FileRow). is_active row.state) (λ (row : FileRow). is_active row.state || is_settled row.state) (λ (row : FileRow). row)
         (λ row running. begun-itself row.state running) rows active)
@@ -225,14 +234,16 @@ job-cancelled tables now job state reply there state_is reply_is =
   where
     by-settled : (settled : Bool) → is_settled_job (rows_of_job tables.rows job.number) ≡ settled
         → state_once_cancelled state (rows_of_job tables.rows job.number)
-            ≡ (if settled then state else (if list_any (λ (row : FileRow). is_active row.state) (rows_of_job tables.rows job.number) then JobActive else JobCanceled))
+        ≡ (if settled then state else (if list_any (λ (row : FileRow). is_active row.state) (rows_of_job tables.rows job.number) then JobActive else JobCanceled))
     by-settled settled is = ap (λ (settled : Bool). if settled then state
         else (if list_any (λ (row : FileRow). is_active row.state) (rows_of_job tables.rows job.number) then JobActive else JobCanceled)) is
+
     -- tables in which the job is there, in the state that is shown
     shown : (after : Tables) → job_at after.jobs job.number ≡ Some job → after.settings ≡ tables.settings
         → state_once_cancelled state (rows_of_job tables.rows job.number) ≡ state_in after job → reply ≡ shows (job_shown job.number after)
     shown after found same is = reply_is ∙ ap shows (same-state (settings_in tables).vo job _ (state_in after job) is
         ∙ (ap (λ (settings : Option SettingsData). job_in_state (unwrap_or settings no_settings).vo (state_in after job) job) (sym same) ∙ shown-job after job found))
+
     by_tests : (settled some : Bool) → is_settled_job (rows_of_job tables.rows job.number) ≡ settled
         → list_any is_cancellable (rows_of_job tables.rows job.number) ≡ some
         → ShowsOutcome (job_shown job.number) tables reply (if not settled && some
@@ -263,7 +274,7 @@ find-mapped number_of change kept (item ∷ items) number =
   where
     by_head : find (λ item. number_of item == number) (map change items) ≡ option_map change (find (λ item. number_of item == number) items)
         → (own : Bool) → (if own then Some (change item) else find (λ item. number_of item == number) (map change items))
-            ≡ option_map change (if own then Some item else find (λ item. number_of item == number) items)
+        ≡ option_map change (if own then Some item else find (λ item. number_of item == number) items)
     by_head behind true = refl
     by_head behind false = behind
 
@@ -276,7 +287,7 @@ prioritized-there : (jobs : List JobRow) (job : JobRow) (priority : ℕ) → job
     → job_at (map (λ (other : JobRow). if other.number == job.number then with_priority priority other else other) jobs) job.number ≡ Some (with_priority priority job)
 prioritized-there jobs job priority there =
     find-mapped (λ (other : JobRow). other.number) (λ (other : JobRow). if other.number == job.number then with_priority priority other else other)
-        (λ other. number-kept-by priority other (other.number == job.number)) jobs job.number
+    (λ other. number-kept-by priority other (other.number == job.number)) jobs job.number
     ∙ (ap (option_map (λ (other : JobRow). if other.number == job.number then with_priority priority other else other)) there
     ∙ ap (λ (own : Bool). Some (if own then with_priority priority job else job)) (eq-eqb job.number job.number refl))
 
@@ -288,8 +299,9 @@ job-prioritized tables now job priority reply there reply_is = by_tests (is_sett
   where
     by-settled : (settled : Bool) → is_settled_job (rows_of_job tables.rows job.number) ≡ settled
         → job_in_state (settings_in tables).vo (state_in tables job) (with_priority (priority_once_set job.priority priority (rows_of_job tables.rows job.number)) job)
-            ≡ job_in_state (settings_in tables).vo (state_in tables job) (with_priority (if settled then job.priority else priority) job)
+        ≡ job_in_state (settings_in tables).vo (state_in tables job) (with_priority (if settled then job.priority else priority) job)
     by-settled settled is = ap (λ (settled : Bool). job_in_state (settings_in tables).vo (state_in tables job) (with_priority (if settled then job.priority else priority) job)) is
+
     by_tests : (settled : Bool) → is_settled_job (rows_of_job tables.rows job.number) ≡ settled
         → ShowsOutcome (job_shown job.number) tables reply (if settled then Err (Unchanged job.number) else Ok (
           record tables { moment = now; jobs = map (λ (other : JobRow). if other.number == job.number then with_priority priority other else other) tables.jobs },
@@ -315,7 +327,7 @@ cancelled-there : (test : FileRow → Bool) (rows : List FileRow) (row : FileRow
     → row_at (map (λ (other : FileRow). if test other then cancelled other else other) rows) row.id ≡ Some (cancelled row)
 cancelled-there test rows row there passes =
     find-mapped (λ (other : FileRow). other.id) (λ (other : FileRow). if test other then cancelled other else other)
-        (λ other. id-kept-where other (test other)) rows row.id
+    (λ other. id-kept-where other (test other)) rows row.id
     ∙ (ap (option_map (λ (other : FileRow). if test other then cancelled other else other)) there
     ∙ ap (λ (own : Bool). Some (if own then cancelled row else row)) passes)
 
@@ -357,6 +369,7 @@ file-with-job tables now job row reply there own reply_is =
     by-settled : (settled : Bool) → is_settled_job (rows_of_job tables.rows job.number) ≡ settled
         → file_object (if is_settled_job (rows_of_job tables.rows job.number) then row else cancelled row) ≡ file_object (if settled then row else cancelled row)
     by-settled settled is = ap (λ (settled : Bool). file_object (if settled then row else cancelled row)) is
+
     by_tests : (settled some : Bool) → is_settled_job (rows_of_job tables.rows job.number) ≡ settled
         → list_any is_cancellable (rows_of_job tables.rows job.number) ≡ some
         → ShowsOutcome (file_shown row.id) tables reply (if not settled && some

@@ -1,5 +1,5 @@
 -- What an answer comes to: by what its command came to, and by what was planned.
-use Rattle.std.proofs.Common.{◌≡◌, ◌≢◌, ◌⊎◌, ℕ, Bool, true, false, List, [], ◌∷◌, ◌++◌, Result, Ok, Err, refl, sym, ◌∙◌, ap, subst, append-nil}
+use Rattle.std.proofs.Common.{◌≡◌, ◌≢◌, ℕ, Bool, true, false, [], Result, Ok, Err, refl, sym, ◌∙◌, ap, subst, append-nil}
 use Rattle.std.specs.Prelude.{IfOk, IfErr, IsOk, IsTrue, if◌then◌else◌}
 use Rattle.serde_json.specs.Data.{Data}
 use Rattle.fts_tables.specs.Tables.{Tables}
@@ -14,9 +14,9 @@ use Rattle.fts_wire.specs.RequestData.{RequestData}
 use Rattle.fts_wire.specs.declared.response.Reply.{Reply}
 use Rattle.fts_keep.specs.Keeps.{KeepData}
 use Rattle.fts_keep.specs.Applied.{Applies, applied_by, applied_to, entry_by, fits, FailsByDisk}
-use Rattle.fts_keep.specs.declared.fault.KeepFault.TheVariants.{Rule, DiskFailed, JournalFull, Damaged, Memory as NoMemory}
+use Rattle.fts_keep.specs.declared.fault.KeepFault.TheVariants.{Rule, JournalFull}
 use Rattle.fts_routes.specs.Refusals.{disk_failed, journal_full, no_memory}
-use Rattle.fts_routes.specs.Replies.{Plan, Replies, Tries, Said, said_only, said_by, said_to, said, said_so, reply_to_refusal, AsDefined, WithoutMemory, WithoutDisk, Answers}
+use Rattle.fts_routes.specs.Replies.{Plan, Replies, Tries, Said, said_only, said_by, said_to, said, reply_to_refusal, AsDefined, WithoutMemory, WithoutDisk, Answers}
 use Rattle.fts_routes.specs.Planned.{Comes, IsPlanned, ShowsOutcome, ShowsUnchanged}
 use Rattle.fts_routes.specs.declared.planned.Planned.TheVariants.{Replies as PlannedReply, Tries as PlannedCommand}
 

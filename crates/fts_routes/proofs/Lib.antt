@@ -6,3 +6,5 @@ pub mod Priorities
 pub mod Coming
 pub mod Sendable
 pub mod Still
+pub mod Told
+pub mod Rows

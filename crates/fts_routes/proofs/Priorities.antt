@@ -1,6 +1,6 @@
 -- A priority that a document asks for, where it breaks no rule, is one.
-use Rattle.std.proofs.Common.{◌≡◌, ◌⊎◌, inl, inr, ℕ, Bool, true, false, List, [], ◌∷◌, Option, Some, None, Ok, Err, refl, sym, ◌∙◌, ap, true≢false}
-use Rattle.std.specs.Prelude.{not, if◌then◌else◌, IsTrue, codes, unwrap_or}
+use Rattle.std.proofs.Common.{◌≡◌, ◌⊎◌, inl, inr, ℕ, Bool, true, false, List, [], ◌∷◌, Option, Some, None, Ok, Err, refl, true≢false}
+use Rattle.std.specs.Prelude.{not, IsTrue, codes, unwrap_or}
 use Rattle.std.specs.Option.{option_map_or}
 use Rattle.serde_json.specs.Data.{Data}
 use Rattle.fts_tables.specs.SettingsData.{is_within}
@@ -10,8 +10,7 @@ use Rattle.fts_tables.specs.declared.limits.TheConstants.{MIN_PRIORITY, MAX_PRIO
 use Rattle.fts_jobdoc.specs.Json.{value_of, param, natural_of, natural_or, is_natural_within}
 use Rattle.fts_jobdoc.specs.Fields.{is_no_object, has_wrong_params, lacks_priority, priority_in}
 use Rattle.fts_jobdoc.specs.Documents.{priority_of, priority_given, priority_rules, of_value}
-use Rattle.fts_jobdoc.specs.declared.fault.DocFault.{DocFault}
-use Rattle.fts_jobdoc.specs.declared.fault.DocFault.TheVariants.{NotJson, NotObject, ParamsNotObject, BadPriority, Memory}
+use Rattle.fts_jobdoc.specs.declared.fault.DocFault.TheVariants.{NotObject, ParamsNotObject, BadPriority, Memory}
 
 -- a whole number that is there and within its range
 within-range : (found : Option ℕ) → not (option_map_or (is_within MIN_PRIORITY MAX_PRIORITY) found false) ≡ false → IsTrue (is_priority (unwrap_or found 3))

@@ -1,5 +1,5 @@
 -- Paths that are cut at their first slash.
-use Rattle.std.proofs.Common.{◌≡◌, ℕ, suc, ◌+◌, ◌<◌, ◌||◌, Bool, true, false, cond, List, [], ◌∷◌, length, Option, Some, None, Bor, refl, sym, ◌∙◌, ap, arith, lit<}
+use Rattle.std.proofs.Common.{◌≡◌, ℕ, suc, ◌+◌, Bool, true, false, cond, List, [], ◌∷◌, length, Option, Some, None, Bor, refl, ap, arith, lit<}
 use Rattle.std.specs.Prelude.{◌==◌, not}
 use Rattle.std.specs.List.{position_or_len, slice_split, onto_first}
 use Rattle.std.proofs.lemmas.List.Splits.{slice_split_first}
@@ -11,7 +11,7 @@ slice_split-missing : {X : Type 0} (test : X → Bool) (xs : List X) → positio
 slice_split-missing test [] missing = refl
 slice_split-missing test (x ∷ xs) missing =
     elim (test x) as (λ b. cond (not b) (1 + position_or_len test xs) 0 ≡ suc (length xs)
-        → cond b ([] ∷ slice_split test xs) (onto_first x (slice_split test xs)) ≡ (x ∷ xs) ∷ []) [
+    → cond b ([] ∷ slice_split test xs) (onto_first x (slice_split test xs)) ≡ (x ∷ xs) ∷ []) [
       | true ↦ λ early. absurd (omega arith)
       | false ↦ λ later. ap (onto_first x) (slice_split-missing test xs (omega arith))
     ] missing

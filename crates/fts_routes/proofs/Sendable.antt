@@ -1,9 +1,9 @@
 -- Each reply can be written: its status has a phrase, and a refusal of a method names others.
-use Rattle.std.proofs.Common.{◌≡◌, ℕ, Bool, true, false, List, Option, Some, None, Result, Ok, Err, refl, sym, ◌∙◌, ap, subst}
+use Rattle.std.proofs.Common.{ℕ, Bool, true, false, List, Option, Some, None, Result, Ok, Err, refl, sym, subst}
 use Rattle.std.specs.Prelude.{if◌then◌else◌, codes, ◌||◌}
 use Rattle.std.specs.Option.{option_map_or}
 use Rattle.serde_json.specs.Data.{Data}
-use Rattle.fts_tables.specs.Tables.{Tables, rows_of_job}
+use Rattle.fts_tables.specs.Tables.{Tables}
 use Rattle.fts_tables.specs.declared.commands.Entry.{Entry}
 use Rattle.fts_tables.specs.declared.commands.Refusal.{Refusal}
 use Rattle.fts_tables.specs.declared.commands.Refusal.TheVariants.{NoJob, NoFile, Duplicate, JobsFull, RowsFull, Idle, Stale, Unchanged}
@@ -14,15 +14,14 @@ use Rattle.fts_jobdoc.specs.declared.fault.DocFault.{DocFault}
 use Rattle.fts_disk.specs.Disk.{DiskState}
 use Rattle.fts_wire.specs.RequestData.{RequestData}
 use Rattle.fts_wire.specs.declared.response.Reply.{Reply}
-use Rattle.fts_wire.specs.declared.response.Allow.TheVariants.{Get as AllowGet}
 use Rattle.fts_keep.specs.Keeps.{KeepData}
 use Rattle.fts_keep.specs.Applied.{Applies, applied_to, entry_by}
 use Rattle.fts_keep.specs.declared.fault.KeepFault.TheVariants.{Rule, DiskFailed, JournalFull, Damaged, Memory}
 use Rattle.fts_routes.specs.Objects.{settings_in, link_object, endpoint_object, weight_object}
 use Rattle.fts_routes.specs.Queries.{QueryFault, BadStates, BadLimit, asked_in}
 use Rattle.fts_routes.specs.Routes.{Route, Jobs, Job, Files, File, Links, Endpoints, Shares, route_of, job_named, file_named}
-use Rattle.fts_routes.specs.Refusals.{shows, no_route}
-use Rattle.fts_routes.specs.Replies.{Plan, Replies, Tries, if_job, if_file, if_read, jobs_plan, submission, has_method, plan_on_jobs, plan_on_job, plan_on_files, plan_on_file, look_at_settings, look_at_job, look_at_files, cancellation, prioritization, file_cancellation, plan_on, plan_of, Said, Way, AsDefined, WithoutMemory, WithoutDisk, said_so, said_by, said_to, said, reply_to_refusal, Answers}
+use Rattle.fts_routes.specs.Refusals.{no_route}
+use Rattle.fts_routes.specs.Replies.{Plan, Replies, Tries, if_job, if_file, if_read, jobs_plan, submission, has_method, look_at_settings, look_at_job, look_at_files, cancellation, prioritization, file_cancellation, plan_on, plan_of, Said, Way, AsDefined, WithoutMemory, WithoutDisk, said_so, said_by, said_to, said, reply_to_refusal, Answers}
 use Rattle.fts_routes.specs.Planned.{IsSendable}
 
 -- of a plan, its reply where it has one

@@ -1,10 +1,10 @@
 -- A keep that nothing is done to keeps its images.
-use Rattle.std.proofs.Common.{◌≡◌, ◌⊎◌, inl, inr, ℕ, List, [], ◌∷◌, ◌++◌, Option, Some, None, refl, sym, ◌∙◌, ap, subst, append-nil, arith}
+use Rattle.std.proofs.Common.{◌≡◌, inl, inr, ℕ, List, [], ◌∷◌, ◌++◌, Option, Some, None, sym, ◌∙◌, subst, append-nil, arith}
 use Rattle.fts_tables.specs.Tables.{Tables, empty_tables}
 use Rattle.fts_tables.specs.Step.{step}
 use Rattle.fts_tables.specs.History.{IsLegal, IsLegalFrom, tables_after}
 use Rattle.fts_tables.specs.declared.commands.Entry.{Entry}
-use Rattle.fts_disk.specs.Disk.{DiskState, IsTold, IsLawful, LeavesOnly}
+use Rattle.fts_disk.specs.Disk.{DiskState, IsTold, IsLawful}
 use Rattle.fts_keep.specs.Keeps.{KeepData, IsKeep, IsImageOf, IsImageSince, KeepsImagesSinceAny, StandsFor, with_doubt}
 
 -- the beginning of a legal list is legal
@@ -42,6 +42,6 @@ pub still : {D : Type 0} (state : D → DiskState) → ((disk : D) → IsTold (s
 still state lawful keep kept opening since parts told = record {
   later = omega arith;
   each = λ content left. since-opening opening since keep.entries keep.doubt content parts (kept.fold.holds told).legal
-    ((kept.fold.holds told).images content ((lawful keep.disk told).only_now content left));
+      ((kept.fold.holds told).images content ((lawful keep.disk told).only_now content left));
   before = λ moment content le left. inl left;
 }

@@ -67,7 +67,10 @@ fn try_command<D: Disk>(
 {
     match keep.apply(writer, command) {
         Ok(_) => reply,
-        Err(KeepFault::Rule(refusal)) => or_no_memory(alloc, refused(alloc, keep.desk(), refusal, reply)),
+        Err(KeepFault::Rule(refusal)) => or_no_memory(
+            alloc,
+            refused(alloc, keep.desk(), refusal, reply),
+        ),
         Err(KeepFault::DiskFailed) => or_no_memory(alloc, disk_failed(alloc)),
         Err(KeepFault::JournalFull { used: _ }) => or_no_memory(alloc, journal_full(alloc)),
         Err(KeepFault::Memory) => no_memory(alloc),
@@ -87,12 +90,7 @@ fn or_no_memory(alloc: Global, made: Result<Reply, Memory>) -> Reply
 }
 
 /// The reply to a command that the machine refuses; `unchanged` is that to one that would change nothing.
-fn refused(
-    alloc: Global,
-    desk: &Desk,
-    refusal: Refusal,
-    unchanged: Reply,
-) -> Result<Reply, Memory>
+fn refused(alloc: Global, desk: &Desk, refusal: Refusal, unchanged: Reply) -> Result<Reply, Memory>
     ensures { IfOk result (λ reply. (shown : Tables → Data) → ShowsUnchanged shown desk.now.tables unchanged refusal
         → reply ≡ reply_to_refusal desk.now.tables shown refusal) }
 {

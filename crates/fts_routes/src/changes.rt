@@ -26,12 +26,7 @@ use fts_wire::Reply;
 use std::alloc::Global;
 
 /// A submission, with the reply that has the new job's id.
-pub fn plan_submission(
-    alloc: Global,
-    desk: &Desk,
-    now: u64,
-    job: NewJob,
-) -> Result<Planned, Memory>
+pub fn plan_submission(alloc: Global, desk: &Desk, now: u64, job: NewJob) -> Result<Planned, Memory>
     ensures { IfOk result (λ planned. IsPlanned desk.now.tables planned (submission desk.now.tables now job)) }
 {
     let reply = accepted(alloc, id_of_new(desk, &job))?;

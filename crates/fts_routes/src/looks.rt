@@ -43,7 +43,13 @@ fn value_of_job(alloc: Global, desk: &Desk, job: &JobRow) -> Result<Value, Memor
     ensures { IfOk result (λ value. view value ≡ job_object desk.now.tables job.now) }
 {
     let state = state_of(desk, job);
-    job_value(alloc, job, state, job.priority, settings_of(desk).vo.as_str())
+    job_value(
+        alloc,
+        job,
+        state,
+        job.priority,
+        settings_of(desk).vo.as_str(),
+    )
 }
 
 /// A look at a list, item by item.

@@ -62,7 +62,11 @@ pub fn file_named<'d>(desk: &'d Desk, job: &JobRow, text: &str) -> Option<&'d Fi
 {
     let number = number_in(text, 10)?;
     let row = row_of_number(desk, number)?;
-    if row.job == job.number { Some(row) } else { None }
+    if row.job == job.number {
+        Some(row)
+    } else {
+        None
+    }
 }
 
 /// The row of an id.

@@ -142,7 +142,12 @@ fn value_with_texts(
 }
 
 /// Puts a text under a key.
-fn put_text(alloc: Global, map: &mut Map<String, Value>, key: &str, text: &str) -> Result<(), Memory>
+fn put_text(
+    alloc: Global,
+    map: &mut Map<String, Value>,
+    key: &str,
+    text: &str,
+) -> Result<(), Memory>
     ensures { OnOk result (members_view map.new.entries ≡ put key.now (string text.now) (members_view map.old.entries)) }
 {
     let value = json!(in alloc; text)?;
@@ -151,7 +156,12 @@ fn put_text(alloc: Global, map: &mut Map<String, Value>, key: &str, text: &str) 
 }
 
 /// Puts a number under a key.
-fn put_number(alloc: Global, map: &mut Map<String, Value>, key: &str, number: u64) -> Result<(), Memory>
+fn put_number(
+    alloc: Global,
+    map: &mut Map<String, Value>,
+    key: &str,
+    number: u64,
+) -> Result<(), Memory>
     ensures { OnOk result (members_view map.new.entries ≡ put key.now (whole_number number) (members_view map.old.entries)) }
 {
     let value = json!(in alloc; number)?;
@@ -160,7 +170,12 @@ fn put_number(alloc: Global, map: &mut Map<String, Value>, key: &str, number: u6
 }
 
 /// Puts a flag under a key.
-fn put_flag(alloc: Global, map: &mut Map<String, Value>, key: &str, flag: bool) -> Result<(), Memory>
+fn put_flag(
+    alloc: Global,
+    map: &mut Map<String, Value>,
+    key: &str,
+    flag: bool,
+) -> Result<(), Memory>
     ensures { OnOk result (members_view map.new.entries ≡ put key.now (boolean flag) (members_view map.old.entries)) }
 {
     let value = json!(in alloc; flag)?;
@@ -172,7 +187,6 @@ fn put_flag(alloc: Global, map: &mut Map<String, Value>, key: &str, flag: bool) 
 pub trait Shown {
     /// The value that shows it.
     ghost shown: { Self → Data };
-
 
     /// The value that shows it.
     fn value(&self, alloc: Global) -> Result<Value, Memory>

@@ -27,12 +27,7 @@ use fts_wire::{Allow, Request};
 use std::alloc::Global;
 
 /// What a request comes to, before anything changes.
-pub fn plan(
-    alloc: Global,
-    desk: &Desk,
-    request: &Request<'_>,
-    now: u64,
-) -> Result<Planned, Memory>
+pub fn plan(alloc: Global, desk: &Desk, request: &Request<'_>, now: u64) -> Result<Planned, Memory>
     requires settings { IsSome desk.now.tables.settings }
     ensures { IfOk result (λ planned. IsPlanned desk.now.tables planned (plan_of desk.now.tables now (request_data request.now))) }
 {
@@ -62,9 +57,7 @@ fn plan_on(
         Route::Files { id } => plan_on_files(alloc, desk, request, id),
         Route::File { id, file } => plan_on_file(alloc, desk, request, now, id, file),
         Route::Links => plan_on_list(alloc, request, settings_of(desk).links.as_slice()),
-        Route::Endpoints => {
-            plan_on_list(alloc, request, settings_of(desk).endpoints.as_slice())
-        }
+        Route::Endpoints => { plan_on_list(alloc, request, settings_of(desk).endpoints.as_slice()) }
         Route::Shares => plan_on_list(alloc, request, settings_of(desk).weights.as_slice()),
     }
 }
@@ -90,12 +83,7 @@ fn plan_on_jobs(
 }
 
 /// A submission, by its document.
-fn plan_document(
-    alloc: Global,
-    desk: &Desk,
-    body: &[u8],
-    now: u64,
-) -> Result<Planned, Memory>
+fn plan_document(alloc: Global, desk: &Desk, body: &[u8], now: u64) -> Result<Planned, Memory>
     requires settings { IsSome desk.now.tables.settings }
     ensures { IfOk result (λ planned. IsPlanned desk.now.tables planned (if_read (job_of body.now (settings_in desk.now.tables)) (submission desk.now.tables now))) }
 {
@@ -151,13 +139,7 @@ fn plan_delete(alloc: Global, desk: &Desk, now: u64, id: &str) -> Result<Planned
 }
 
 /// Another priority for the job that a text names.
-fn plan_post(
-    alloc: Global,
-    desk: &Desk,
-    body: &[u8],
-    now: u64,
-    id: &str,
-) -> Result<Planned, Memory>
+fn plan_post(alloc: Global, desk: &Desk, body: &[u8], now: u64, id: &str) -> Result<Planned, Memory>
     requires settings { IsSome desk.now.tables.settings }
     ensures { IfOk result (λ planned. IsPlanned desk.now.tables planned
         (if_job (job_named desk.now.tables id.now) (λ job. if_read (priority_of body.now) (prioritization now job)))) }

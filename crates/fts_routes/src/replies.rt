@@ -172,26 +172,46 @@ fn duplicate_value(alloc: Global, id: u128) -> Result<Value, Memory>
 pub fn disk_failed(alloc: Global) -> Result<Reply, Memory>
     ensures { IfOk result (λ reply. reply ≡ disk_failed) }
 {
-    refusal(alloc, "disk failed", DISK_FAILED, statuses::SERVICE_UNAVAILABLE)
+    refusal(
+        alloc,
+        "disk failed",
+        DISK_FAILED,
+        statuses::SERVICE_UNAVAILABLE,
+    )
 }
 
 /// There would be too many rows.
 pub fn rows_full(alloc: Global) -> Result<Reply, Memory>
     ensures { IfOk result (λ reply. reply ≡ rows_full) }
 {
-    refusal(alloc, "rows full", ROWS_FULL, statuses::INSUFFICIENT_STORAGE)
+    refusal(
+        alloc,
+        "rows full",
+        ROWS_FULL,
+        statuses::INSUFFICIENT_STORAGE,
+    )
 }
 
 /// There would be too many jobs.
 pub fn jobs_full(alloc: Global) -> Result<Reply, Memory>
     ensures { IfOk result (λ reply. reply ≡ jobs_full) }
 {
-    refusal(alloc, "jobs full", JOBS_FULL, statuses::INSUFFICIENT_STORAGE)
+    refusal(
+        alloc,
+        "jobs full",
+        JOBS_FULL,
+        statuses::INSUFFICIENT_STORAGE,
+    )
 }
 
 /// The journal would have too many bytes.
 pub fn journal_full(alloc: Global) -> Result<Reply, Memory>
     ensures { IfOk result (λ reply. reply ≡ journal_full) }
 {
-    refusal(alloc, "journal full", JOURNAL_FULL, statuses::INSUFFICIENT_STORAGE)
+    refusal(
+        alloc,
+        "journal full",
+        JOURNAL_FULL,
+        statuses::INSUFFICIENT_STORAGE,
+    )
 }

@@ -1,5 +1,5 @@
 -- What was planned, and what came of it.
-use Rattle.std.proofs.Common.{◌≡◌, ap, sym, subst, ◌∙◌}
+use Rattle.std.proofs.Common.{subst}
 use Rattle.fts_tables.specs.Tables.{Tables}
 use Rattle.fts_wire.specs.Answered.{request_data}
 use Rattle.fts_routes.specs.Replies.{plan_of}
@@ -13,7 +13,7 @@ use Rattle.fts_routes.proofs.answers.answer.Goals as goal
 pub try_command-requires : goal.try_command-requires
 try_command-requires g c = record {
   priority = planned-priority c.desk.result.now.tables (plan_of c.desk.result.now.tables c.args.now (request_data c.args.request.now)) c.in-Ok-Tries.command c.in-Ok-Tries.reply
-    (rw c.in-Ok-Tries.field-0-is at c.in-Ok-Tries.ensures);
+      (rw c.in-Ok-Tries.field-0-is at c.in-Ok-Tries.ensures);
 }
 
 pub returns-in-Ok-Replies-clause-answers : goal.returns-in-Ok-Replies-clause-answers

@@ -1,5 +1,5 @@
 -- The reply shows the file as the cancellation leaves it.
-use Rattle.std.proofs.Common.{ap, sym, ◌∙◌, refl, max, List}
+use Rattle.std.proofs.Common.{ap, ◌∙◌, refl, max, List}
 use Rattle.fts_tables.specs.Tables.{row_at}
 use Rattle.fts_tables.specs.Step.{Outcomes, cancel_file}
 use Rattle.fts_tables.specs.declared.rows.FileRow.{FileRow}
@@ -15,10 +15,10 @@ pub returns : goal.returns
 returns c = record {
   same = refl;
   outcome = on-job c.args.desk.now.tables c.args.job.now
-    (λ (found : JobRow). cancel_file c.args.desk.now.tables (max c.args.now c.args.desk.now.tables.moment) found (row_at c.args.desk.now.tables.rows c.args.row.now.id))
-    (λ (outcome : Outcomes). ShowsOutcome (file_shown c.args.row.now.id) c.args.desk.now.tables c.in_ok-reply.reply outcome) c.requires.number
-    (file-cancelled c.args.desk.now.tables (max c.args.now c.args.desk.now.tables.moment) c.args.job.now c.args.row.now c.in_ok-reply.reply c.requires.id c.requires.own
-    (c.in_ok-reply.ensures ∙ ap (λ (row : FileRow). shows (file_object row))
-    (c.cancel_step-step.ensures ∙ ap (λ (rows : List FileRow). file_once_cancelled c.args.job.now.kind rows c.args.row.now) c.job_rows.ensures.rows)));
+      (λ (found : JobRow). cancel_file c.args.desk.now.tables (max c.args.now c.args.desk.now.tables.moment) found (row_at c.args.desk.now.tables.rows c.args.row.now.id))
+      (λ (outcome : Outcomes). ShowsOutcome (file_shown c.args.row.now.id) c.args.desk.now.tables c.in_ok-reply.reply outcome) c.requires.number
+      (file-cancelled c.args.desk.now.tables (max c.args.now c.args.desk.now.tables.moment) c.args.job.now c.args.row.now c.in_ok-reply.reply c.requires.id c.requires.own
+      (c.in_ok-reply.ensures ∙ ap (λ (row : FileRow). shows (file_object row))
+      (c.cancel_step-step.ensures ∙ ap (λ (rows : List FileRow). file_once_cancelled c.args.job.now.kind rows c.args.row.now) c.job_rows.ensures.rows)));
   in_range = refl;
 }

@@ -12,6 +12,6 @@ pub returns : goal.returns
 returns c = record {
   same = refl;
   outcome = shown-anyway (accepted_object (id_of_new c.args.desk.now.tables c.args.job)) c.args.desk.now.tables c.in_ok-reply.reply
-    (c.in_ok-reply.ensures ∙ ap (λ (id : ℕ). shows (accepted_object id)) c.id_of_new.ensures) (step c.args.desk.now.tables (Submit c.args.now c.args.job));
+      (c.in_ok-reply.ensures ∙ ap (λ (id : ℕ). shows (accepted_object id)) c.id_of_new.ensures) (step c.args.desk.now.tables (Submit c.args.now c.args.job));
   in_range = refl;
 }

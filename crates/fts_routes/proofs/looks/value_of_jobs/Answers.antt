@@ -1,6 +1,5 @@
 -- The walk over the jobs, up to the limit.
-use Rattle.std.proofs.Common.{◌≡◌, ℕ, ◌-◌, List, [], length, take, drop, refl, sym, ap, ◌∙◌, rules, arith}
-use Rattle.std.proofs.lemmas.Grind.{common_steps}
+use Rattle.std.proofs.Common.{◌-◌, List, length, drop, ap, ◌∙◌, arith}
 use Rattle.std.specs.Prelude.{filter, option_map}
 use Rattle.std.specs.Cow.{cow_str_bytes}
 use Rattle.serde_json.specs.Data.{Data, array}
@@ -34,9 +33,9 @@ returns c = view-Array c.loop-job.list ∙ ap (λ (values : List Data). array (i
     c.args.limit c.args.desk.now.tables.jobs c.loop-job.job-index c.loop-job.list.items
     (elim c.loop-job-test.branch [
       | else-loop-job-test w ↦ nothing-past (λ (job : JobRow). is_one_of (states_asked (option_map cow_str_bytes c.args.states.now)) (job_state_text (state_in c.args.desk.now.tables job)))
-        (c.args.limit - length c.loop-job.list.items) c.args.desk.now.tables.jobs c.loop-job.job-index (omega (arith, w.loop-job-test.false, ap length c.jobs-job-items.ensures.jobs))
+          (c.args.limit - length c.loop-job.list.items) c.args.desk.now.tables.jobs c.loop-job.job-index (omega (arith, w.loop-job-test.false, ap length c.jobs-job-items.ensures.jobs))
       | then-loop-job-test+then-as_slice-limit w ↦ nothing-over c.args.limit (length c.loop-job.list.items)
-        (filter (λ (job : JobRow). is_one_of (states_asked (option_map cow_str_bytes c.args.states.now)) (job_state_text (state_in c.args.desk.now.tables job)))
-        (drop c.loop-job.job-index c.args.desk.now.tables.jobs)) (omega (arith, w.if-as_slice-limit.true, ap length w.as_slice.ensures.value))
+          (filter (λ (job : JobRow). is_one_of (states_asked (option_map cow_str_bytes c.args.states.now)) (job_state_text (state_in c.args.desk.now.tables job)))
+          (drop c.loop-job.job-index c.args.desk.now.tables.jobs)) (omega (arith, w.if-as_slice-limit.true, ap length w.as_slice.ensures.value))
     ])
     c.loop-job.invariant)

@@ -1,9 +1,8 @@
 -- A text that is no UUID spells no id.
-use Rattle.std.proofs.Common.{◌≡◌, ℕ, Bool, List, Option, Some, None, refl, rules, arith, ap, sym, true, false, true≢false}
+use Rattle.std.proofs.Common.{◌≡◌, ℕ, Bool, List, Option, Some, None, refl, sym, true, false, true≢false}
 use Rattle.std.specs.Prelude.{◌==◌, length, option_map, if◌then◌else◌}
 use Rattle.std.specs.Int.{from_be_bytes, w128}
 use Rattle.uuid.specs.Text.{parsed}
-use Rattle.fts_routes.specs.Routes.{id_in}
 use Rattle.fts_routes.proofs.named.id_in.Goals as goal
 
 -- nothing is spelled where nothing is parsed

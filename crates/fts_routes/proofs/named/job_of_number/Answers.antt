@@ -1,5 +1,5 @@
 -- A job stands at the place before its number.
-use Rattle.std.proofs.Common.{◌≡◌, ◌-◌, arith, rules, ◌∙◌, sym}
+use Rattle.std.proofs.Common.{◌≡◌, ◌-◌, arith, sym}
 use Rattle.std.specs.Prelude.{slice_get}
 use Rattle.std.proofs.lemmas.Grind.{common_steps}
 use Rattle.std.proofs.lemmas.Option.{gets}

@@ -1,5 +1,5 @@
 -- Digits alone are read as their number, which is below 10 to their count.
-use Rattle.std.proofs.Common.{◌≡◌, ℕ, ◌≤◌, ◌<◌, ◌^◌, true, false, List, length, Option, Some, Ok, refl, ap, ◌∙◌, sym, rules, arith, lit<}
+use Rattle.std.proofs.Common.{◌≡◌, ℕ, ◌≤◌, ◌<◌, ◌^◌, true, List, length, Some, Ok, ◌∙◌, sym, rules, arith}
 use Rattle.std.specs.List.{list_all}
 use Rattle.std.specs.Str.Parse.{digits_value}
 use Rattle.std.proofs.lemmas.Bool.{eqb-false}

@@ -1,5 +1,5 @@
 -- Behind a file's name nothing comes.
-use Rattle.std.proofs.Common.{refl, sym}
+use Rattle.std.proofs.Common.{refl}
 use Rattle.fts_routes.proofs.Segments.{segments-some}
 use Rattle.fts_routes.proofs.routes.find_file.Goals as goal
 
