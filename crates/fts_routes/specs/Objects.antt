@@ -131,7 +131,8 @@ file_in_state row state cancel_asked checksum dest digest reason source = object
 
 -- the file object
 abbrev pub file_object : FileRow → Data
-file_object row = file_in_state row row.state row.cancel_asked (checksum_text row.wanted) (surl_text row.dest) (seen_digest_text row) (reason_text row.reason) (surl_text row.source)
+file_object row = file_in_state row row.state row.cancel_asked
+    (checksum_text row.wanted) (surl_text row.dest) (seen_digest_text row) (reason_text row.reason) (surl_text row.source)
 
 -- the object of an accepted submission
 abbrev pub accepted_object : ℕ → Data

@@ -211,7 +211,8 @@ IsInsteadOf WithoutMemory said = Unit {0}
 IsInsteadOf WithoutDisk said = said.added ≢ []
 
 -- what answering a request did to a keep
-pub record Answers {D : Type 0} (state : D → DiskState) (faults : D → ℕ) (old new : KeepData D) (writer : ℕ) (request : RequestData) (now : ℕ) (reply : Reply) : Type 0 where
+pub record Answers {D : Type 0} (state : D → DiskState) (faults : D → ℕ) (old new : KeepData D)
+    (writer : ℕ) (request : RequestData) (now : ℕ) (reply : Reply) : Type 0 where
   pub way : Way
   pub cause : CausedBy way (faults old.disk) (faults new.disk)
   pub instead : IsInsteadOf way (said old.tables old.used writer request now)

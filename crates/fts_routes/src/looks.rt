@@ -79,7 +79,8 @@ fn look_at_states(
     limit: &Option<CowStr<'_>>,
 ) -> Result<Reply, Memory>
     requires settings { IsSome desk.now.tables.settings }
-    ensures { IfOk result (λ reply. jobs_plan desk.now.tables (both (states_in (option_map cow_str_bytes states.now)) (limit_in (option_map cow_str_bytes limit.now))) ≡ Replies reply) }
+    ensures { IfOk result (λ reply. jobs_plan desk.now.tables
+        (both (states_in (option_map cow_str_bytes states.now)) (limit_in (option_map cow_str_bytes limit.now))) ≡ Replies reply) }
 {
     if !are_known(states) {
         return bad_states(alloc);
@@ -98,7 +99,8 @@ fn list_jobs(
     limit: u64,
 ) -> Result<Reply, Memory>
     requires settings { IsSome desk.now.tables.settings }
-    ensures { IfOk result (λ reply. reply ≡ shows (array_of (job_object desk.now.tables) (jobs_asked desk.now.tables (states_asked (option_map cow_str_bytes states.now)) limit))) }
+    ensures { IfOk result (λ reply. reply ≡ shows (array_of (job_object desk.now.tables)
+        (jobs_asked desk.now.tables (states_asked (option_map cow_str_bytes states.now)) limit))) }
 {
     let value = value_of_jobs(alloc, desk, states, limit)?;
     shows(alloc, &value)
@@ -111,7 +113,8 @@ fn value_of_jobs(
     limit: u64,
 ) -> Result<Value, Memory>
     requires settings { IsSome desk.now.tables.settings }
-    ensures { IfOk result (λ value. view value ≡ array_of (job_object desk.now.tables) (jobs_asked desk.now.tables (states_asked (option_map cow_str_bytes states.now)) limit)) }
+    ensures { IfOk result (λ value. view value ≡ array_of (job_object desk.now.tables)
+        (jobs_asked desk.now.tables (states_asked (option_map cow_str_bytes states.now)) limit)) }
 {
     standing(desk);
     let mut list = Vec::new(alloc);

@@ -9,7 +9,8 @@ ghost use Rattle.fts_routes.specs.Objects.{settings_in};
 ghost use Rattle.fts_routes.specs.Routes.{job_named, file_named};
 ghost use Rattle.fts_routes.specs.Found.{route_data};
 ghost use Rattle.fts_routes.specs.Refusals.{bad_document, no_job, no_method};
-ghost use Rattle.fts_routes.specs.Replies.{plan_of, plan_on, plan_on_jobs, plan_on_job, plan_on_files, plan_on_file, look_at_settings, look_at_job, look_at_files, submission, cancellation, prioritization, file_cancellation, if_read, if_job, if_file};
+ghost use Rattle.fts_routes.specs.Replies.{plan_of, plan_on, plan_on_jobs, plan_on_job, plan_on_files, plan_on_file, look_at_settings};
+ghost use Rattle.fts_routes.specs.Replies.{look_at_job, look_at_files, submission, cancellation, prioritization, file_cancellation, if_read, if_job, if_file};
 ghost use Rattle.fts_routes.specs.Planned.{IsPlanned};
 ghost use Rattle.fts_routes.specs.declared.planned.Planned.TheVariants.{Replies as PlannedReply};
 
@@ -85,7 +86,8 @@ fn plan_on_jobs(
 /// A submission, by its document.
 fn plan_document(alloc: Global, desk: &Desk, body: &[u8], now: u64) -> Result<Planned, Memory>
     requires settings { IsSome desk.now.tables.settings }
-    ensures { IfOk result (λ planned. IsPlanned desk.now.tables planned (if_read (job_of body.now (settings_in desk.now.tables)) (submission desk.now.tables now))) }
+    ensures { IfOk result (λ planned. IsPlanned desk.now.tables planned
+        (if_read (job_of body.now (settings_in desk.now.tables)) (submission desk.now.tables now))) }
 {
     match read_job(alloc, body, settings_of(desk)) {
         Ok(job) => plan_submission(alloc, desk, now, job),
@@ -240,7 +242,8 @@ fn plan_file(
     file: &str,
 ) -> Result<Planned, Memory>
     requires number { job_at desk.now.tables.jobs job.now.number ≡ Some job.now }
-    ensures { IfOk result (λ planned. IsPlanned desk.now.tables planned (if_file (file_named desk.now.tables job.now file.now) (file_cancellation now job.now))) }
+    ensures { IfOk result (λ planned. IsPlanned desk.now.tables planned
+        (if_file (file_named desk.now.tables job.now file.now) (file_cancellation now job.now))) }
 {
     match file_named(desk, job, file) {
         None => {

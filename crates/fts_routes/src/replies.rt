@@ -5,7 +5,8 @@ ghost use Rattle.std.specs.Prelude.{◌≡◌, IfOk, false};
 ghost use Rattle.serde_json.specs.View.{view};
 ghost use Rattle.serde_json.specs.Written.{has_float};
 ghost use Rattle.fts_routes.specs.Json.{object_of};
-ghost use Rattle.fts_routes.specs.Refusals.{refusal_members, refusal_of, reply_of, shows, bad_document, bad_query, no_route, no_job, no_file, no_method, duplicate, disk_failed, rows_full, jobs_full, journal_full, no_memory, duplicate_members};
+ghost use Rattle.fts_routes.specs.Refusals.{refusal_members, refusal_of, reply_of, shows, bad_document, bad_query, no_route, no_job, no_file};
+ghost use Rattle.fts_routes.specs.Refusals.{no_method, duplicate, disk_failed, rows_full, jobs_full, journal_full, no_memory, duplicate_members};
 ghost use Rattle.fts_routes.specs.Queries.{BadStates as TheBadStates, BadLimit as TheBadLimit};
 
 use crate::objects::body_of;

@@ -4,7 +4,8 @@
 ghost use Rattle.std.specs.Prelude.{◌≡◌, ◌++◌, IfOk, decimal};
 ghost use Rattle.std.specs.String.{string_bytes};
 ghost use Rattle.fts_routes.specs.Json.{id_text, digest_text};
-ghost use Rattle.fts_routes.specs.Objects.{file_state_text, job_state_text, kind_text, outcome_text, reason_text, surl_text, checksum_text, seen_digest_text_of};
+ghost use Rattle.fts_routes.specs.Objects.{file_state_text, job_state_text, kind_text, outcome_text, reason_text};
+ghost use Rattle.fts_routes.specs.Objects.{surl_text, checksum_text, seen_digest_text_of};
 
 use fts_tables::{FileState, JobKind, JobState, Memory, Outcome, Place, Reason};
 use std::alloc::Global;
