@@ -2,7 +2,7 @@
 //! Order of checks: the route, its method, the job, the file, the document's or the query's rules; so far nothing changes (`plan`). Then the
 //! command is tried, with the reply at hand that shows what it leaves (`try_command`).
 //! Called by fts_top. A reply of 503 stands only where the disk's count of faults rose in the call, one of 500 where there was no memory.
-ghost use Rattle.std.specs.Prelude.{◌≡◌, Some, IfOk, IfErr, IsSome, IsTrue};
+ghost use Rattle.std.specs.Prelude.{◌≡◌, Some, IfOk, IfErr, IsTrue};
 ghost use Rattle.serde_json.specs.Data.{Data};
 ghost use Rattle.fts_tables.specs.Tables.{Tables};
 ghost use Rattle.fts_record.specs.Proper.{has_priority};
@@ -10,8 +10,8 @@ ghost use Rattle.fts_keep.specs.Keeps.{Grows, KeepsImagesSinceAny};
 ghost use Rattle.fts_wire.specs.Answered.{request_data};
 ghost use Rattle.fts_wire.specs.Response.{has_phrase, has_methods};
 ghost use Rattle.fts_tables.specs.Step.{step};
-ghost use Rattle.fts_routes.specs.Replies.{Answers, Tries, said_to, plan_of};
-ghost use Rattle.fts_routes.specs.Planned.{Comes, IsPlanned, ShowsOutcome, ShowsUnchanged};
+ghost use Rattle.fts_routes.specs.Replies.{Answers, Tries, said_to};
+ghost use Rattle.fts_routes.specs.Planned.{Comes, ShowsOutcome, ShowsUnchanged};
 ghost use Rattle.fts_routes.specs.Replies.{reply_to_refusal, id_of_job};
 ghost use Rattle.fts_routes.specs.Refusals.{no_memory as lacking};
 

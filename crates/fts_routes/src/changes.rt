@@ -6,7 +6,7 @@ ghost use Rattle.std.specs.Prelude.{◌≡◌, Some, IfOk, IsSome, IsTrue};
 ghost use Rattle.fts_tables.specs.JobData.{is_priority};
 ghost use Rattle.fts_tables.specs.Step.{with_priority};
 ghost use Rattle.std.specs.List.{list_any};
-ghost use Rattle.fts_tables.specs.Tables.{job_at, row_at, rows_of_job, is_live, is_active};
+ghost use Rattle.fts_tables.specs.Tables.{job_at, row_at, is_live, is_active};
 ghost use Rattle.fts_tables.specs.Moves.{is_settled_job};
 ghost use Rattle.fts_states.specs.Afters.{with_cancel};
 ghost use Rattle.fts_routes.specs.Objects.{settings_in, job_in_state, accepted_object, file_object};

@@ -1,15 +1,13 @@
 //! Looks: what is shown of the tables, which stay as they are.
 //! A job and its files are looked up and not searched for; a list of jobs is walked up to its limit.
 //! Called by `answers`.
-ghost use Rattle.std.specs.Prelude.{◌≡◌, ◌++◌, Some, IfOk, OnOk, IsSome, map, false, option_map};
+ghost use Rattle.std.specs.Prelude.{◌≡◌, ◌++◌, Some, IfOk, OnOk, IsSome, option_map};
 ghost use Rattle.std.specs.Option.{option_copied, option_to_list};
 ghost use Rattle.std.specs.Cow.{cow_str_bytes};
-ghost use Rattle.serde_json.specs.Data.{Data};
 ghost use Rattle.serde_json.specs.View.{view};
-ghost use Rattle.serde_json.specs.Written.{has_float};
-ghost use Rattle.fts_tables.specs.Tables.{job_at, rows_of_job};
+ghost use Rattle.fts_tables.specs.Tables.{job_at};
 ghost use Rattle.fts_routes.specs.Json.{array_of};
-ghost use Rattle.fts_routes.specs.Objects.{job_object, file_object, link_object, endpoint_object, weight_object, settings_in};
+ghost use Rattle.fts_routes.specs.Objects.{job_object};
 ghost use Rattle.fts_routes.specs.Queries.{jobs_asked, asked_in, both, states_in, limit_in};
 ghost use Rattle.fts_routes.specs.Refusals.{shows};
 ghost use Rattle.fts_routes.specs.Found.{states_asked, shown_if_asked};

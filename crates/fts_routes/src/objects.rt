@@ -8,7 +8,7 @@ ghost use Rattle.serde_json.specs.View.{view, members_view};
 ghost use Rattle.serde_json.specs.Written.{has_float};
 ghost use Rattle.fts_tables.specs.Step.{with_priority};
 ghost use Rattle.fts_states.specs.Afters.{with_cancel};
-ghost use Rattle.fts_routes.specs.Json.{array_of, body_of, object_of, whole_number};
+ghost use Rattle.fts_routes.specs.Json.{array_of, body_of, whole_number};
 ghost use Rattle.fts_routes.specs.Values.{file_with_texts};
 ghost use Rattle.fts_routes.specs.Objects.{job_in_state, file_object, link_object, endpoint_object, weight_object, accepted_object};
 
