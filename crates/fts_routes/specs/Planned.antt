@@ -1,5 +1,5 @@
 -- What is made of a plan before a command is applied: the reply, or the command with the reply that shows what it will leave.
-use Rattle.std.specs.Prelude.{◌≡◌, ℕ, ◌++◌, IsTrue, Ok, Err}
+use Rattle.std.specs.Prelude.{◌≡◌, ℕ, ◌+◌, ◌++◌, length, IsTrue, Ok, Err}
 use Rattle.serde_json.specs.Data.{Data}
 use Rattle.fts_tables.specs.Tables.{Tables}
 use Rattle.fts_tables.specs.Step.{Outcomes, step}
@@ -58,5 +58,6 @@ pub record Comes {D : Type 0} (state : D → DiskState) (faults : D → ℕ) (ol
   pub instead : IsInsteadOf way said
   pub replies : reply ≡ (said_so way said).reply
   pub tables : new.tables ≡ tables_from old.tables (said_so way said).added
+  pub commands : new.commands ≡ old.commands + length (said_so way said).added
   pub used : new.used ≡ used_after old.used (said_so way said).added
   pub listed : IsTold (state old.disk) → new.entries ≡ old.entries ++ (said_so way said).added

@@ -1,5 +1,5 @@
 -- The replies that refuse, each with its message, the number of its rule, and its status.
-use Rattle.std.specs.Prelude.{ℕ, List, [], ◌∷◌, codes}
+use Rattle.std.specs.Prelude.{◌≡◌, ◌⊎◌, ℕ, List, [], ◌∷◌, codes}
 use Rattle.serde_json.specs.Data.{Data, string}
 use Rattle.fts_wire.specs.declared.response.Allow.{Allow}
 use Rattle.fts_wire.specs.declared.response.Allow.TheVariants.{None as NoAllow}
@@ -78,3 +78,7 @@ journal_full = refusal_of (codes "journal full") 38 507
 -- want of memory: no body
 abbrev pub no_memory : Reply
 no_memory = record { status = 500; allow = NoAllow; body = [] }
+
+-- this reply, or want of memory in its place
+abbrev pub IsOrNoMemory : Reply → Reply → Type 0
+IsOrNoMemory reply wanted = (reply ≡ wanted) ⊎ (reply ≡ no_memory)

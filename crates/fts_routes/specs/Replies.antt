@@ -1,6 +1,6 @@
 -- What a request is answered over a list, at a moment, and the entry that it adds. The checks come in this order: the route, its method,
 -- the job, the file, the document's or the query's rules, and then what the machine and the journal refuse.
-use Rattle.std.specs.Prelude.{◌≡◌, ◌≢◌, ℕ, ◌||◌, Bool, if◌then◌else◌, List, [], ◌∷◌, ◌++◌, Option, Some, None, bytes_eq, codes, Result, Ok, Err}
+use Rattle.std.specs.Prelude.{◌≡◌, ◌≢◌, ◌⊎◌, ℕ, ◌+◌, ◌||◌, Bool, if◌then◌else◌, List, [], ◌∷◌, ◌++◌, length, Option, Some, None, bytes_eq, codes, Result, Ok, Err}
 use Rattle.std.specs.Option.{option_map_or}
 use Rattle.serde_json.specs.Data.{Data}
 use Rattle.fts_tables.specs.Tables.{Tables, job_at, rows_of_job}
@@ -218,5 +218,11 @@ pub record Answers {D : Type 0} (state : D → DiskState) (faults : D → ℕ) (
   pub instead : IsInsteadOf way (said old.tables old.used writer request now)
   pub replies : reply ≡ (said_so way (said old.tables old.used writer request now)).reply
   pub tables : new.tables ≡ tables_from old.tables (said_so way (said old.tables old.used writer request now)).added
+  pub commands : new.commands ≡ old.commands + length (said_so way (said old.tables old.used writer request now)).added
   pub used : new.used ≡ used_after old.used (said_so way (said old.tables old.used writer request now)).added
   pub listed : IsTold (state old.disk) → new.entries ≡ old.entries ++ (said_so way (said old.tables old.used writer request now)).added
+
+-- an entry is in doubt only where it was before, or where the disk's count rose
+abbrev pub DoubtHasCause : {D : Type 0} → (D → DiskState) → (D → ℕ) → KeepData D → KeepData D → Type 0
+DoubtHasCause state faults old new =
+    IsTold (state old.disk) → (new.doubt ≡ None) ⊎ ((new.doubt ≡ old.doubt) ⊎ Rose (faults old.disk) (faults new.disk))

@@ -2,7 +2,7 @@
 //! Order of checks: the route, its method, the job, the file, the document's or the query's rules; so far nothing changes (`plan`). Then the
 //! command is tried, with the reply at hand that shows what it leaves (`try_command`).
 //! Called by fts_top. A reply of 503 stands only where the disk's count of faults rose in the call, one of 500 where there was no memory.
-ghost use Rattle.std.specs.Prelude.{◌≡◌, Some, IfOk, IfErr, IsTrue};
+ghost use Rattle.std.specs.Prelude.{◌≡◌, Some, IfOk, IsTrue};
 ghost use Rattle.serde_json.specs.Data.{Data};
 ghost use Rattle.fts_tables.specs.Tables.{Tables};
 ghost use Rattle.fts_record.specs.Proper.{has_priority};
@@ -10,16 +10,16 @@ ghost use Rattle.fts_keep.specs.Keeps.{Grows, KeepsImagesSinceAny};
 ghost use Rattle.fts_wire.specs.Answered.{request_data};
 ghost use Rattle.fts_wire.specs.Response.{has_phrase, has_methods};
 ghost use Rattle.fts_tables.specs.Step.{step};
-ghost use Rattle.fts_routes.specs.Replies.{Answers, Tries, said_to};
+ghost use Rattle.fts_routes.specs.Replies.{Answers, DoubtHasCause, Tries, said_to};
 ghost use Rattle.fts_routes.specs.Planned.{Comes, ShowsOutcome, ShowsUnchanged};
 ghost use Rattle.fts_routes.specs.Replies.{reply_to_refusal, id_of_job};
-ghost use Rattle.fts_routes.specs.Refusals.{no_memory as lacking};
 
 use crate::named::job_of_number;
 use crate::plan::plan;
 use crate::planned::Planned;
 use crate::replies::{
-    disk_failed, duplicate, jobs_full, journal_full, no_file, no_job, no_memory, rows_full,
+    disk_failed, duplicate, jobs_full, journal_full, no_file, no_job, no_memory, or_no_memory,
+    rows_full,
 };
 use fts_desk::Desk;
 use fts_disk::Disk;
@@ -41,6 +41,7 @@ pub fn answer<D: Disk>(
     ensures grows { Grows D.state D.faults writer keep.old keep.new }
     // Since any opening of the list each image is a beginning of it, with one entry more at most.
     ensures images { KeepsImagesSinceAny D.state keep.old keep.new }
+    ensures doubt { DoubtHasCause D.state D.faults keep.old keep.new }
     ensures phrase { IsTrue (has_phrase result.status) }
     ensures methods { IsTrue (has_methods result.status result.allow) }
 {
@@ -64,6 +65,7 @@ fn try_command<D: Disk>(
         → Comes D.state D.faults keep.old keep.new (said_to keep.old.tables keep.old.used writer (Tries command shown)) result }
     ensures grows { Grows D.state D.faults writer keep.old keep.new }
     ensures images { KeepsImagesSinceAny D.state keep.old keep.new }
+    ensures doubt { DoubtHasCause D.state D.faults keep.old keep.new }
 {
     match keep.apply(writer, command) {
         Ok(_) => reply,
@@ -75,17 +77,6 @@ fn try_command<D: Disk>(
         Err(KeepFault::JournalFull { used: _ }) => or_no_memory(alloc, journal_full(alloc)),
         Err(KeepFault::Memory) => no_memory(alloc),
         Err(KeepFault::Damaged { offset: _ }) => unreachable!(),
-    }
-}
-
-/// A reply that was made, or the one for want of memory.
-fn or_no_memory(alloc: Global, made: Result<Reply, Memory>) -> Reply
-    ensures ok { IfOk made (λ reply. result ≡ reply) }
-    ensures err { IfErr made (λ e. result ≡ lacking) }
-{
-    match made {
-        Ok(reply) => reply,
-        Err(Memory) => no_memory(alloc),
     }
 }
 

@@ -20,3 +20,4 @@ mod tests;
 mod texts;
 
 pub use answers::answer;
+pub use replies::refusal_reply;

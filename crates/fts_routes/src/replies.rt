@@ -1,12 +1,12 @@
 //! Replies with their bodies (JSON, RFC 8259, as `serde_json` writes it: compact, keys in byte order). Each refusal has its message, the number
 //! of its rule and its status (`specs/Refusals.antt`). Want of memory is handed to the caller; its reply takes none.
-//! Called by `looks`, `changes` and `answer`.
-ghost use Rattle.std.specs.Prelude.{◌≡◌, IfOk, false};
+//! Called by `looks`, `changes` and `answer`; `refusal_reply` by fts_top too.
+ghost use Rattle.std.specs.Prelude.{◌≡◌, IfOk, IfErr, false};
 ghost use Rattle.serde_json.specs.View.{view};
 ghost use Rattle.serde_json.specs.Written.{has_float};
 ghost use Rattle.fts_routes.specs.Json.{object_of};
 ghost use Rattle.fts_routes.specs.Refusals.{refusal_members, refusal_of, reply_of, shows, bad_document, bad_query, no_route, no_job, no_file};
-ghost use Rattle.fts_routes.specs.Refusals.{no_method, duplicate, disk_failed, rows_full, jobs_full, journal_full, no_memory, duplicate_members};
+ghost use Rattle.fts_routes.specs.Refusals.{no_method, duplicate, disk_failed, rows_full, jobs_full, journal_full, no_memory, duplicate_members, IsOrNoMemory};
 ghost use Rattle.fts_routes.specs.Queries.{BadStates as TheBadStates, BadLimit as TheBadLimit};
 
 use crate::objects::body_of;
@@ -59,6 +59,24 @@ pub fn no_memory(alloc: Global) -> Reply
         allow: Allow::None,
         body: Items::new(alloc),
     }
+}
+
+/// A reply that was made, or the one for want of memory.
+pub fn or_no_memory(alloc: Global, made: Result<Reply, Memory>) -> Reply
+    ensures ok { IfOk made (λ reply. result ≡ reply) }
+    ensures err { IfErr made (λ e. result ≡ no_memory) }
+{
+    match made {
+        Ok(reply) => reply,
+        Err(Memory) => no_memory(alloc),
+    }
+}
+
+/// A refusal with its message, the number of the rule that was broken, and its status; 500 without a body where there is no memory for it.
+pub fn refusal_reply(alloc: Global, message: &str, rule: u32, status: u16) -> Reply
+    ensures { IsOrNoMemory result (refusal_of message.now rule status) }
+{
+    or_no_memory(alloc, refusal(alloc, message, rule, status))
 }
 
 /// The reply that shows a value.
