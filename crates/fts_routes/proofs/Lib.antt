@@ -5,6 +5,7 @@ pub mod Changed
 pub mod Priorities
 pub mod Coming
 pub mod Sendable
+pub mod Adding
 pub mod Still
 pub mod Told
 pub mod Rows
