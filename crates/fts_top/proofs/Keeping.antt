@@ -7,7 +7,7 @@ use Rattle.fts_tables.specs.History.{tables_from, tables_after, IsLegalFrom, IsL
 use Rattle.fts_tables.specs.declared.commands.Entry.{Entry}
 use Rattle.fts_disk.specs.Disk.{DiskState, IsTold, LeavesOnly, IsLawful}
 use Rattle.fts_keep.specs.Keeps.{KeepData, IsKeep, IsImageOf, IsImageSince, KeepsImagesSinceAny, with_doubt}
-use Rattle.fts_top.specs.Replies.{DoubtHasCause}
+use Rattle.fts_routes.specs.Replies.{DoubtHasCause}
 use Rattle.fts_top.specs.Sessions.{Extends}
 
 -- nothing more

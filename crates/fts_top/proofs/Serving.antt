@@ -15,7 +15,7 @@ use Rattle.fts_wire.specs.declared.fault.WireFault.{WireFault}
 use Rattle.fts_wire.specs.declared.fault.WireFault.TheVariants.{EndsInside, SourceFailed}
 use Rattle.fts_wire.specs.declared.outside.SinkFailed.{SinkFailed}
 use Rattle.fts_wire.specs.declared.response.Reply.{Reply}
-use Rattle.fts_top.specs.Replies.{Answers, DoubtHasCause, said, said_so, IsInsteadOf}
+use Rattle.fts_routes.specs.Replies.{Answers, DoubtHasCause, said, said_so, IsInsteadOf}
 use Rattle.fts_top.specs.Tallies.{claims_in, is_claim}
 use Rattle.fts_top.specs.Walks.{walk_at}
 use Rattle.fts_top.specs.Connections.{Reading, Loads, IsRefused, response_to, IsConnection}

@@ -12,7 +12,7 @@ use Rattle.fts_wire.specs.declared.fault.WireFault.{WireFault}
 use Rattle.fts_wire.specs.declared.fault.WireFault.TheVariants.{EndsInside, SourceFailed}
 use Rattle.fts_wire.specs.declared.outside.SinkFailed.{SinkFailed}
 use Rattle.fts_wire.specs.declared.response.Reply.{Reply}
-use Rattle.fts_top.specs.Replies.{refusal_of, IsOrNoMemory}
+use Rattle.fts_routes.specs.Refusals.{refusal_of, IsOrNoMemory}
 use Rattle.fts_top.specs.Connections.{Reading, Exchange, requests_of, responses_of, response_to, AreRequestsIn, Loads, AreLoaded, GoOn, TriesOneMore, AreWritten, AreCutShort, IsRefusal, end_by, IsRefused, Ends, AreServed, IsConnection}
 use Rattle.fts_top.specs.declared.ends.LineEnd.{LineEnd}
 use Rattle.fts_top.specs.declared.ends.LineEnd.TheVariants as line_ends

@@ -14,7 +14,7 @@ use Rattle.fts_wire.specs.declared.outside.SinkFailed.{SinkFailed}
 use Rattle.fts_wire.specs.declared.fault.WireFault.{WireFault}
 use Rattle.fts_wire.specs.declared.fault.WireFault.TheVariants.{EndsInside, SourceFailed}
 use Rattle.fts_wire.specs.declared.response.Reply.{Reply}
-use Rattle.fts_top.specs.Replies.{no_memory, refusal_of}
+use Rattle.fts_routes.specs.Refusals.{no_memory, refusal_of}
 use Rattle.fts_top.specs.declared.ends.LineEnd.{LineEnd}
 use Rattle.fts_top.specs.declared.ends.LineEnd.TheVariants as line_ends
 

@@ -1,4 +1,3 @@
-pub mod Replies
 pub mod Connections
 pub mod Walks
 pub mod Tallies

@@ -8,7 +8,7 @@ use Rattle.fts_disk.specs.Disk.{DiskState, IsTold}
 use Rattle.fts_wire.specs.RequestData.{RequestData}
 use Rattle.fts_wire.specs.declared.response.Reply.{Reply}
 use Rattle.fts_keep.specs.Keeps.{KeepData, KeepsImagesSinceAny, used_after}
-use Rattle.fts_top.specs.Replies.{Way, Said, said, said_so, CausedBy, IsInsteadOf, DoubtHasCause}
+use Rattle.fts_routes.specs.Replies.{Way, Said, said, said_so, CausedBy, IsInsteadOf, DoubtHasCause}
 use Rattle.fts_top.specs.Walks.{Walk, walk_at}
 use Rattle.fts_top.specs.Tallies.{claims_in}
 use Rattle.fts_top.specs.Connections.{Reading, IsConnection}

@@ -4,11 +4,9 @@
 //! Order of a run: words, settings, memory, the keep with its Restart, requests, note. The one route is private here.
 #![tactic(auto)]
 
-mod answer;
 mod ends;
 mod notes;
 mod reading;
-mod reply;
 mod session;
 mod tally;
 #[cfg(test)]

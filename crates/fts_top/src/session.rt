@@ -11,11 +11,10 @@ ghost use Rattle.fts_wire.specs.Response.{has_phrase, has_methods, Sends};
 ghost use Rattle.fts_top.specs.Connections.{IsRefused, reading_of, response_to};
 ghost use Rattle.fts_top.specs.Sessions.{MakesSession};
 
-use crate::answer::answer;
 use crate::ends::LineEnd;
-use crate::reply::refusal_reply;
 use fts_disk::Disk;
 use fts_keep::Keep;
+use fts_routes::{answer, refusal_reply};
 use fts_tables::Clock;
 use fts_tables::limits::MAX_REQUESTS;
 use fts_wire::{Reply, Request, Room, Sink, SinkFailed, Source, WireFault, write_response};

@@ -3,7 +3,7 @@ use Rattle.std.proofs.Common.{◌∙◌, ℕ, List, true, false, Ok, Err, ap, sy
 use Rattle.fts_wire.specs.RequestData.{RequestData}
 use Rattle.fts_wire.specs.Response.{Sends}
 use Rattle.fts_wire.specs.declared.fault.WireFault.TheVariants.{EndsInside, SourceFailed}
-use Rattle.fts_top.specs.Replies.{Answers}
+use Rattle.fts_routes.specs.Replies.{Answers}
 use Rattle.fts_top.specs.Connections.{Reading, reading_of, Loads, response_to}
 use Rattle.fts_top.proofs.Serving.{nothing_yet, ends_closed, ends_inside, ends_by_read, ends_refused, ends_by_many, one_more, ends_by_close, ends_cut}
 use Rattle.fts_top.proofs.Turns.{refused_not_read}
