@@ -1,10 +1,11 @@
 //! The program `fts STAND COMMAND`: it makes the real outside, calls `run`, and ends with its status.
-//! The stand `-` has its settings and its journal in memory. Any other one is a folder with `fts.toml` and `fts.journal`, which is made where it is
-//! absent and locked against other services. Where a word is no UTF-8, `run` gets an empty list of words, which is no command, over the stand `-`.
+//! The stand `-` has its settings, its journal and its stores in memory. Any other one is a folder with `fts.toml`, `fts.journal`, which is made
+//! where it is absent and locked against other services, and `grid`, in which files are copied. Where a word is no UTF-8, `run` gets an empty list
+//! of words, which is no command, over the stand `-`.
 //! Which word is the stand stands in `specs/CommandLine.antt`.
 #![tactic(auto)]
 
-ghost use Rattle.std.specs.Prelude.{◌≡◌};
+ghost use Rattle.std.specs.Prelude.{◌≡◌, length, IfOk};
 ghost use Rattle.fts.specs.CommandLine.{stand_of, words_of, exit_status_of};
 
 mod outside;
@@ -12,16 +13,21 @@ mod outside;
 mod tests;
 
 use fts_disk::{Disk, FileDisk, MemoryDisk};
-use fts_tables::Memory;
+use fts_store::{FolderStore, MemoryStore, Store, StoredFile};
+use fts_tables::{Clock, EndpointName, Items, Memory, PathKey, Place};
 use fts_top::{Ending, Outside, run};
 use fts_wire::{MemorySource, Source, StdSink, StdSource};
-use outside::{FileSource, SystemClock};
+use fts_workers::Hand;
+use outside::{FileSource, PcgWords, SystemClock};
 use std::process::ExitCode;
 use std::{env, io};
 
 /// The settings of the stand `-`.
 const STAND_SETTINGS: &str =
     "vo = \"demo\"\nworkers = 2\n[[storage]]\nurl = \"https://a.example\"\n[[storage]]\nurl = \"https://b.example\"\n";
+
+/// How many hands a run has.
+const HANDS: usize = 16;
 
 /// The words of the command line, with the program's name first; none where one of them is no UTF-8.
 fn command_line(rt: &HostRuntime) -> Result<Vec<String>, Memory> {
@@ -69,13 +75,45 @@ fn exit_status(ended: Result<Ending, Memory>) -> u8
     }
 }
 
-/// Runs the command over these settings and this disk, and the system's streams and clock.
-fn run_over<F: Source + Drop, D: Disk + Drop>(
+/// What one thread of the program has in hand.
+type RealHand<'a, E> = Hand<E, SystemClock<&'a HostRuntime>, PcgWords>;
+
+/// The hands over these stores, each with the system's clock, and with words of the start's moment on the stream of its place.
+fn hands_over<'a, E: Store + Drop>(
+    rt: &'a HostRuntime,
+    stores: Vec<E>,
+) -> Result<Vec<RealHand<'a, E>>, Memory>
+    ensures { IfOk result (λ hands. length hands.items ≡ 16) }
+{
+    let moment = SystemClock::new(rt).now();
+    let mut hands = Vec::new(rt.alloc());
+    let mut place = 0;
+    for store in stores {
+        let hand = Hand {
+            store,
+            clock: SystemClock::new(rt),
+            words: PcgWords::new(moment, place),
+        };
+        if hands.push(hand).is_err() {
+            return Err(Memory);
+        }
+        place = u64::saturating_add(place, 1);
+    }
+    if hands.len() == HANDS {
+        Ok(hands)
+    } else {
+        Err(Memory)
+    }
+}
+
+/// Runs the command over these settings, this disk and these hands, and the system's streams and clock.
+fn run_over<F: Source + Drop, D: Disk + Drop, E: Store + Drop>(
     rt: &HostRuntime,
     words: &[String],
     settings: F,
     disk: D,
-) -> Ending {
+    stores: Vec<E>,
+) -> Result<Ending, Memory> {
     let mut outside = Outside {
         settings,
         input: StdSource::new(rt.stdin()),
@@ -83,8 +121,28 @@ fn run_over<F: Source + Drop, D: Disk + Drop>(
         notes: StdSink::new(rt.stderr()),
         disk: Some(disk),
         clock: SystemClock::new(rt),
+        hands: hands_over(rt, stores)?,
     };
-    run(rt.alloc(), words, &mut outside)
+    Ok(run(rt.alloc(), words, &mut outside))
+}
+
+/// A store in memory that holds `abc` at `https://a.example/data/f1`.
+fn stand_store(rt: &HostRuntime) -> Result<MemoryStore, Memory> {
+    let alloc = rt.alloc();
+    let mut files = Vec::new(alloc);
+    let endpoint = EndpointName::read(alloc, "https://a.example")?;
+    let path = PathKey::read(alloc, "data/f1")?;
+    if let (Some(endpoint), Some(path)) = (endpoint, path) {
+        let file = StoredFile {
+            place: Place { endpoint, path },
+            bytes: Items::from_vec(b"abc".to_vec(alloc)?),
+        };
+        if files.push(file).is_err() {
+            return Err(Memory);
+        }
+    }
+    let files = Items::from_vec(files);
+    Ok(MemoryStore::new(alloc, files, Vec::new(alloc), Vec::new(alloc)))
 }
 
 /// Runs the command in memory, with the stand's settings.
@@ -93,16 +151,30 @@ fn run_in_memory(rt: &HostRuntime, words: &[String]) -> Result<Ending, Memory> {
     let text = Vec::from_slice(alloc, STAND_SETTINGS.as_bytes())?;
     let settings = MemorySource::new(text, Vec::new(alloc));
     let disk = MemoryDisk::new(alloc, Vec::new(alloc));
-    Ok(run_over(rt, words, settings, disk))
+    let mut stores = Vec::new(alloc);
+    for _ in 0..HANDS {
+        if stores.push(stand_store(rt)?).is_err() {
+            return Err(Memory);
+        }
+    }
+    run_over(rt, words, settings, disk, stores)
 }
 
 /// Runs the command in a folder.
 fn run_in_folder(rt: &HostRuntime, folder: &str, words: &[String]) -> Result<Ending, Memory> {
-    let settings = format!(in rt.alloc(); "{folder}/fts.toml")?;
-    let journal = format!(in rt.alloc(); "{folder}/fts.journal")?;
+    let alloc = rt.alloc();
+    let settings = format!(in alloc; "{folder}/fts.toml")?;
+    let journal = format!(in alloc; "{folder}/fts.journal")?;
+    let mut stores = Vec::new(alloc);
+    for _ in 0..HANDS {
+        let grid = format!(in alloc; "{folder}/grid")?;
+        if stores.push(FolderStore::new(rt, alloc, grid)).is_err() {
+            return Err(Memory);
+        }
+    }
     let settings = FileSource::open(rt, settings.as_str());
     let disk = FileDisk::open(rt, journal.as_str());
-    Ok(run_over(rt, words, settings, disk))
+    run_over(rt, words, settings, disk, stores)
 }
 
 /// Makes the outside of the stand that the command line names, and runs the command in it.

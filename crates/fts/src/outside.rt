@@ -1,15 +1,21 @@
-//! The real clock and the settings' text of a folder, as the service sees them. They tell nothing; the clock never fails.
-//! The streams are `StdSource` and `StdSink` of the wire, over the system's own, and the disk is `FileDisk`.
+//! The real clock, the real words and the settings' text of a folder, as the service sees them. They tell nothing; clock and words never fail.
+//! The streams are `StdSource` and `StdSink` of the wire, over the system's own, the disk is `FileDisk`, and the stores are `FolderStore`.
 ghost use Rattle.std.specs.Prelude.{◌≡◌, ◌≤◌, length, None, IfOk, IsErr};
 ghost use Rattle.fts_tables.specs.Counts.{CountsFaults};
 ghost use Rattle.fts_wire.specs.Outside.{Reads, raised};
 
-use fts_tables::Clock;
+use fts_tables::{Clock, Words};
 use fts_wire::{Source, SourceFailed};
+use rand_pcg::Lcg64Xsh32;
+use rand_pcg::rand_core::Rng;
 use std::fs::{File, Files};
 use std::io::Read;
 use std::rt::Clock as SystemTimes;
-use std::time::{SystemTime, UNIX_EPOCH};
+use std::thread;
+use std::time::{Duration, SystemTime, UNIX_EPOCH};
+
+/// How long a rest is, in milliseconds.
+const REST_MILLIS: u64 = 100;
 
 /// The time of the system in whole seconds since 1970, and 0 where it can't be had.
 #[derive(Drop)]
@@ -39,7 +45,34 @@ impl<R: SystemTimes> Clock for SystemClock<R> {
         }
     }
 
-    fn rest(&mut self) {}
+    fn rest(&mut self) {
+        thread::sleep(&self.rt, Duration::from_millis(REST_MILLIS));
+    }
+}
+
+/// Words of the generator PCG XSH RR 64/32.
+#[derive(Drop)]
+pub struct PcgWords {
+    random: Lcg64Xsh32,
+}
+
+impl PcgWords {
+    /// The words of a state, a moment in seconds since 1970, on a stream, the place of a hand.
+    pub fn new(moment: u64, place: u64) -> PcgWords {
+        PcgWords {
+            random: Lcg64Xsh32::new(moment, place),
+        }
+    }
+}
+
+impl Words for PcgWords {
+    ghost use Rattle.std.specs.Prelude.{None};
+
+    ghost words = { λ _. None };
+
+    fn next(&mut self) -> u64 {
+        self.random.next_u64()
+    }
 }
 
 /// The text of a file. One that could not be opened fails at each read.

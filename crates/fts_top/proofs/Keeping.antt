@@ -7,7 +7,6 @@ use Rattle.fts_tables.specs.History.{tables_from, tables_after, IsLegalFrom, IsL
 use Rattle.fts_tables.specs.declared.commands.Entry.{Entry}
 use Rattle.fts_disk.specs.Disk.{DiskState, IsTold, LeavesOnly, IsLawful}
 use Rattle.fts_keep.specs.Keeps.{KeepData, IsKeep, IsImageOf, IsImageSince, KeepsImagesSinceAny, with_doubt}
-use Rattle.fts_routes.specs.Replies.{DoubtHasCause}
 use Rattle.fts_top.specs.Sessions.{Extends}
 
 -- nothing more
@@ -36,12 +35,9 @@ legal_list : (entries : List Entry) (doubt : Option Entry) → IsLegal (with_dou
 legal_list entries None legal = legal
 legal_list entries (Some entry) legal = legal_front empty_tables entries (entry ∷ []) legal
 
--- a count that rose later rose, and one that rose before
+-- a count that rose later rose
 pub rose_later : (old mid new : ℕ) → old ≤ mid → Rose mid new → Rose old new
 rose_later old mid new keeps rose = ⊎_elim (λ more. inl (omega arith)) (λ most. inr most) rose
-
-rose_before : (old mid new : ℕ) → mid ≤ new → Rose old mid → Rose old new
-rose_before old mid new keeps rose = ⊎_elim (λ more. inl (omega arith)) (λ most. inr (omega arith)) rose
 
 -- before the first call of a disk
 begun : (disk : DiskState) (P : List ℕ → Type 0) → IsLawful disk → ((content : List ℕ) → disk.may_leave content → P content) → LeavesOnly disk disk P
@@ -110,27 +106,14 @@ module _ {D : Type 0} (state : D → DiskState) (faults : D → ℕ) where
       (λ c image. subst (λ l. IsImageSince opening l c) (sym (two (tells ∙ told))) (since_more opening mid.entries second c image)))
       (behind opening (since ++ first) (one told ∙ ap (λ l. l ++ first) is ∙ append_assoc opening since first) (tells ∙ told))
 
-  -- a doubt behind two calls
-  doubted : (old mid new : KeepData D) → faults old.disk ≤ faults mid.disk → faults mid.disk ≤ faults new.disk
-      → (mid.doubt ≡ None) ⊎ ((mid.doubt ≡ old.doubt) ⊎ Rose (faults old.disk) (faults mid.disk))
-      → (new.doubt ≡ None) ⊎ ((new.doubt ≡ mid.doubt) ⊎ Rose (faults mid.disk) (faults new.disk))
-      → (new.doubt ≡ None) ⊎ ((new.doubt ≡ old.doubt) ⊎ Rose (faults old.disk) (faults new.disk))
-  doubted old mid new low high before (inl none) = inl none
-  doubted old mid new low high before (inr (inr rose)) = inr (inr (rose_later (faults old.disk) (faults mid.disk) (faults new.disk) low rose))
-  doubted old mid new low high (inl none) (inr (inl same)) = inl (same ∙ none)
-  doubted old mid new low high (inr (inl as_old)) (inr (inl same)) = inr (inl (same ∙ as_old))
-  doubted old mid new low high (inr (inr rose)) (inr (inl same)) = inr (inr (rose_before (faults old.disk) (faults mid.disk) (faults new.disk) high rose))
-
   -- nothing was added
   pub extends_none : (keep : KeepData D) → IsKeep state keep → (IsTold (state keep.disk) → IsLawful (state keep.disk)) → Extends state faults keep keep []
   extends_none keep kept lawful = record {
     tables = refl;
-    legal = tt;
     listed = λ told. sym (none_more keep.entries);
     told = refl;
     counts = omega arith;
     images = images_none keep kept lawful;
-    doubt = λ told. inr (inl refl);
   }
 
   -- entries were added, and then others
@@ -138,10 +121,8 @@ module _ {D : Type 0} (state : D → DiskState) (faults : D → ℕ) where
       → Extends state faults old new (first ++ second)
   extends_more old mid new first second before behind = record {
     tables = behind.tables ∙ ap (λ t. tables_from t second) before.tables ∙ sym (tables_from-append old.tables first second);
-    legal = legal_behind old.tables first second before.legal (subst (λ t. IsLegalFrom t second) before.tables behind.legal);
     listed = λ told. behind.listed (before.told ∙ told) ∙ ap (λ l. l ++ second) (before.listed told) ∙ append_assoc old.entries first second;
     told = behind.told ∙ before.told;
     counts = omega (arith, before.counts, behind.counts);
     images = images_more old mid new first second before.told before.listed behind.listed before.images behind.images;
-    doubt = λ told. doubted old mid new before.counts behind.counts (before.doubt told) (behind.doubt (before.told ∙ told));
   }

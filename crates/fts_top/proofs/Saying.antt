@@ -1,40 +1,34 @@
--- What is said to a request adds nothing, or one entry that is accepted where it stands and is no claim.
-use Rattle.std.proofs.Common.{◌≡◌, inl, inr, refl, sym, subst, ℕ, List, [], ◌∷◌, Bool, false, cond, ap}
+-- What is said to a request adds nothing, or one entry of a request that is accepted where it stands.
+use Rattle.std.proofs.Common.{◌≡◌, ◌⊎◌, inl, inr, ℕ, List, [], ◌∷◌}
 use Rattle.fts_tables.specs.Tables.{Tables}
-use Rattle.fts_tables.specs.History.{IsLegalFrom}
+use Rattle.fts_tables.specs.Step.{step}
+use Rattle.fts_tables.specs.History.{IsAccepted}
 use Rattle.fts_tables.specs.declared.commands.Command.{Command}
 use Rattle.fts_tables.specs.declared.commands.Command.TheVariants.{Restart, Submit, CancelJob, CancelFile, SetPriority, Claim, Report}
 use Rattle.fts_tables.specs.declared.commands.Entry.{Entry}
 use Rattle.fts_wire.specs.RequestData.{RequestData}
+use Rattle.fts_workers.specs.Requests.{IsOfRequest}
 use Rattle.fts_routes.specs.Replies.{Way, said, said_so}
 use Rattle.fts_routes.proofs.Sendable.{IsAsked}
-use Rattle.fts_routes.proofs.Adding.{AddsWell as AddsOne, adds_well}
-use Rattle.fts_top.specs.Tallies.{is_claim, claims_in}
+use Rattle.fts_routes.proofs.Adding.{AddsWell as AddsAsked, adds_well}
 
--- entries that are accepted where they stand, and no claim among them
-pub record AddsWell (tables : Tables) (added : List Entry) : Type 0 where
-  pub legal : IsLegalFrom tables added
-  pub claims : claims_in added ≡ 0
+-- what is said adds nothing, or one entry of a request that is accepted where it stands
+abbrev pub AddsWell : Tables → List Entry → Type 0
+AddsWell tables added = (added ≡ []) ⊎ ((entry : Entry) × ((added ≡ entry ∷ []) × (IsAccepted (step tables entry.command) × IsOfRequest entry.command)))
 
--- what a request may ask for is no claim
-asks_no_claim : (command : Command) → IsAsked command → is_claim command ≡ false
-asks_no_claim (Restart now settings) asked = absurd asked
-asks_no_claim (Submit now job) asked = refl
-asks_no_claim (CancelJob now job) asked = refl
-asks_no_claim (CancelFile now job file) asked = refl
-asks_no_claim (SetPriority now job priority) asked = refl
-asks_no_claim (Claim now word) asked = absurd asked
-asks_no_claim (Report now file attempt outcome) asked = absurd asked
+-- what a request may ask for is a command of requests
+is_of_request : (command : Command) → IsAsked command → IsOfRequest command
+is_of_request (Restart now settings) asked = asked
+is_of_request (Submit now job) asked = tt
+is_of_request (CancelJob now job) asked = tt
+is_of_request (CancelFile now job file) asked = tt
+is_of_request (SetPriority now job priority) asked = tt
+is_of_request (Claim now word) asked = asked
+is_of_request (Report now file attempt outcome) asked = asked
 
-none_claimed : (entry : Entry) → is_claim entry.command ≡ false → claims_in (entry ∷ []) ≡ 0
-none_claimed entry is = rw is refl
-
-adds : (tables : Tables) (added : List Entry) → AddsOne tables added → AddsWell tables added
-adds tables added (inl none) = subst (AddsWell tables) (sym none) (record { legal = tt; claims = refl })
-adds tables added (inr one) = subst (AddsWell tables) (sym one.1.0) (record {
-  legal = (one.1.1.0, tt);
-  claims = none_claimed one.0 (asks_no_claim one.0.command one.1.1.1);
-})
+adds : (tables : Tables) (added : List Entry) → AddsAsked tables added → AddsWell tables added
+adds tables added (inl none) = inl none
+adds tables added (inr one) = inr (one.0, (one.1.0, (one.1.1.0, is_of_request one.0.command one.1.1.1)))
 
 -- whatever is said to a request
 pub said_well : (tables : Tables) (used writer : ℕ) (request : RequestData) (now : ℕ) (way : Way)

@@ -1,13 +1,16 @@
--- A session over a keep, request by request: the keep has their entries more, and whatever list its tables were of, the connection goes on over it.
-use Rattle.std.proofs.Common.{◌≡◌, ℕ, ◌+◌, ◌<◌, ◌≤◌, true, false, List, [], ◌∷◌, ◌++◌, Option, Result, Ok, Err, refl, ap, sym, ◌∙◌, subst, cond, arith, append_assoc}
-use Rattle.std.proofs.lemmas.List.Sums.{sum_by-append}
+-- A connection's loop over a keep and a bench, request by request, and the last rounds.
+use Rattle.std.proofs.Common.{◌≡◌, ◌⊎◌, inl, inr, ⊎_elim, ℕ, zero, suc, ◌+◌, ◌-◌, ◌<◌, ◌≤◌, true, false, Bool, List, [], ◌∷◌, ◌++◌, length, Option, Result, Ok, Err, refl, ap, sym, ◌∙◌, subst, arith}
 use Rattle.fts_tables.specs.Coming.{Coming, Gives}
-use Rattle.fts_tables.specs.Tables.{empty_tables}
-use Rattle.fts_tables.specs.History.{tables_of, tables_from}
+use Rattle.fts_tables.specs.History.{out_of_list}
 use Rattle.fts_tables.specs.declared.limits.TheConstants.{MAX_REQUESTS}
-use Rattle.fts_tables.specs.declared.commands.Entry.{Entry}
 use Rattle.fts_disk.specs.Disk.{DiskState, IsTold, IsLawful}
-use Rattle.fts_keep.specs.Keeps.{KeepData, IsKeep, Grows, KeepsImagesSinceAny, used_after}
+use Rattle.fts_store.specs.Calls.{Call}
+use Rattle.fts_store.specs.Store.{StoreState}
+use Rattle.fts_keep.specs.Keeps.{KeepData, IsKeep, Grows, KeepsImagesSinceAny}
+use Rattle.fts_workers.specs.Benches.{BenchData, calm_end}
+use Rattle.fts_workers.specs.Rounds.{Walk, WorksOff, FillsUp, IsRound}
+use Rattle.fts_workers.specs.declared.ends.RoundEnd.{RoundEnd}
+use Rattle.fts_workers.specs.declared.ends.RoundEnd.TheVariants.{Clear, Busy, DiskFailed, JournalFull, Memory}
 use Rattle.fts_wire.specs.RoomData.{RoomData}
 use Rattle.fts_wire.specs.RequestData.{RequestData}
 use Rattle.fts_wire.specs.Response.{Sends}
@@ -15,169 +18,191 @@ use Rattle.fts_wire.specs.declared.fault.WireFault.{WireFault}
 use Rattle.fts_wire.specs.declared.fault.WireFault.TheVariants.{EndsInside, SourceFailed}
 use Rattle.fts_wire.specs.declared.outside.SinkFailed.{SinkFailed}
 use Rattle.fts_wire.specs.declared.response.Reply.{Reply}
-use Rattle.fts_routes.specs.Replies.{Answers, DoubtHasCause, said, said_so, IsInsteadOf}
-use Rattle.fts_top.specs.Tallies.{claims_in, is_claim}
-use Rattle.fts_top.specs.Walks.{walk_at}
+use Rattle.fts_routes.specs.Replies.{Answers}
 use Rattle.fts_top.specs.Connections.{Reading, Loads, IsRefused, response_to, IsConnection}
-use Rattle.fts_top.specs.Sessions.{AnswersNext, NothingFollows, IsSession, Extends, MakesSession}
+use Rattle.fts_top.specs.Sessions.{AnswersNext, FollowedByRound, AreLastRounds, LastRounds, IsSession, ThreadData, IsReady, Works, walk_of}
 use Rattle.fts_top.specs.declared.ends.LineEnd.{LineEnd}
 use Rattle.fts_top.specs.declared.ends.LineEnd.TheVariants as line_ends
-use Rattle.fts_top.proofs.Keeping.{none_more, tables_from-append, extends_none, extends_more}
-use Rattle.fts_top.proofs.Saying.{said_well}
+use Rattle.fts_top.specs.declared.ends.SessionEnd.{SessionEnd}
+use Rattle.fts_top.proofs.Working.{LeavesBench, works_none, works_as, works_more, works_answer}
 use Rattle.fts_top.proofs.Turns.{InProgress, begun, turn, cut, closed, closed_by, ended_inside, read_failed, many, refused}
 
--- claims of one list and of another one
-claims_more : (first second : List Entry) → claims_in first ≡ 0 → claims_in second ≡ 0 → claims_in (first ++ second) ≡ 0
-claims_more first second none no_more =
-    let count : claims_in (first ++ second) ≡ claims_in first + claims_in second = sum_by-append (λ (entry : Entry). cond (is_claim entry.command) 1 0) first second in
-    omega (arith, count, none, no_more)
+-- whatever last rounds are made from here were made from the beginning
+abbrev pub RoundsOn : ℕ → Walk → Walk → Type 0
+RoundsOn workers old now = (end : RoundEnd) (after : Walk) → LastRounds workers end now after → LastRounds workers end old after
 
--- what a request adds that was answered so
-abbrev added_by : {D : Type 0} (state : D → DiskState) (faults : D → ℕ) (old new : KeepData D) (request : RequestData) (now : ℕ) (reply : Reply)
-    → Answers state faults old new 0 request now reply → List Entry
-added_by state faults old new request now reply answers = (said_so answers.way (said old.tables old.used 0 request now)).added
+-- one busy round more
+pub busy_more : (workers held : ℕ) (old now next : Walk) → RoundsOn workers old now → IsRound workers now (Busy held) next → RoundsOn workers old next
+busy_more workers held old now next so_far round = λ end after rest. so_far end after (suc rest.0, (next, (held, (round, rest.1))))
 
--- a request that was answered over a keep is answered over any list that its tables are of
-answers_next : {D : Type 0} (state : D → DiskState) (faults : D → ℕ) (old new : KeepData D) (moments later : Option Coming) (request : RequestData) (now : ℕ) (reply : Reply)
-    (answers : Answers state faults old new 0 request now reply) → faults old.disk ≤ faults new.disk → Gives moments later now
-    → (entries longer : List Entry) → old.tables ≡ tables_of entries → longer ≡ entries ++ added_by state faults old new request now reply answers
-    → AnswersNext (walk_at faults entries old moments) request reply (walk_at faults longer new later)
-answers_next state faults old new moments later request now reply answers counts tick entries longer folded is = record {
-  now = now;
-  moment = tick;
-  words = refl;
-  kept = refl;
-  way = answers.way;
-  cause = answers.cause;
-  instead = subst (λ t. IsInsteadOf answers.way (said t old.used 0 request now)) folded answers.instead;
-  counts = counts;
-  replies = answers.replies ∙ ap (λ t. (said_so answers.way (said t old.used 0 request now)).reply) folded;
-  listed = is ∙ ap (λ t. entries ++ (said_so answers.way (said t old.used 0 request now)).added) folded;
-  filled = answers.used ∙ ap (λ t. used_after old.used (said_so answers.way (said t old.used 0 request now)).added) folded;
-}
+-- the last one
+pub last_one : (workers : ℕ) (end : RoundEnd) (old now after : Walk) → ((held : ℕ) → end ≡ Busy held → ⊥) → RoundsOn workers old now → IsRound workers now end after → LastRounds workers end old after
+last_one workers end old now after calm so_far round = so_far end after (zero, (round, calm))
 
-module _ {D : Type 0} (state : D → DiskState) (faults : D → ℕ) (old : KeepData D) (moments : Option Coming) (kept : List ℕ) (input : Reading) (held : Option (List ℕ)) where
-  -- so many requests were answered
-  pub record SoFar (keep : KeepData D) (later : Option Coming) (n : ℕ) (behind : List ℕ) (now : Reading) (output : Option (List ℕ)) : Type 0 where
-    pub added : List Entry
-    pub extends : Extends state faults old keep added
-    pub claims : claims_in added ≡ 0
-    pub progress : (entries : List Entry) → old.tables ≡ tables_of entries
-        → InProgress AnswersNext NothingFollows kept (walk_at faults entries old moments) input held n behind now output (walk_at faults (entries ++ added) keep later)
+-- claims, and a whole round, use no less of the journal
+fills_keep : (free : ℕ) (walk : Walk) (end : RoundEnd) (after : Walk) → FillsUp free walk end after → walk.used ≤ after.used
+fills_keep zero walk end after filled = omega (arith, ap (λ (w : Walk). w.used) filled.0)
+fills_keep (suc free) walk end after (inl claimed) = omega (arith, claimed.1.0.adds.filled, fills_keep free claimed.0 end after claimed.1.1)
+fills_keep (suc free) walk end after (inr (inl none)) = omega (arith, none.0.none.filled)
+fills_keep (suc free) walk end after (inr (inr stops)) = omega (arith, stops.none.filled)
 
-  -- none was yet
-  pub nothing_yet : IsKeep state old → (IsTold (state old.disk) → IsLawful (state old.disk)) → SoFar old moments 0 kept input held
-  nothing_yet sound lawful = record {
-    added = [];
-    extends = extends_none state faults old sound lawful;
-    claims = refl;
-    progress = λ entries folded. begun AnswersNext NothingFollows kept (walk_at faults entries old moments) input held
-        (walk_at faults (entries ++ []) old moments) (ap (λ (l : List Entry). walk_at faults l old moments) (none_more entries));
-  }
+works_keep : (workers : ℕ) (files : List ℕ) (walk : Walk) (end : RoundEnd) (after : Walk) → WorksOff workers files walk end after → walk.used ≤ after.used
+works_keep workers [] walk end after filled = fills_keep (workers - length (out_of_list walk.entries)) walk end after filled
+works_keep workers (file ∷ files) walk end after (inl reported) = omega (arith, reported.1.0.adds.filled, works_keep workers files reported.0 end after reported.1.1)
+works_keep workers (file ∷ files) walk end after (inr stops) = omega (arith, stops.none.filled)
 
-  module _ (keep : KeepData D) (later : Option Coming) (n : ℕ) (behind : List ℕ) (now : Reading) (output : Option (List ℕ)) (so_far : SoFar keep later n behind now output) where
-    -- the tables over a list, as far as it goes
-    folded_so_far : (entries : List Entry) → old.tables ≡ tables_of entries → keep.tables ≡ tables_of (entries ++ so_far.added)
-    folded_so_far entries folded = so_far.extends.tables ∙ ap (λ t. tables_from t so_far.added) folded ∙ sym (tables_from-append empty_tables entries so_far.added)
+-- no files are no busy round
+none_busy : (held : ℕ) (files : List ℕ) → [] ≡ files → Busy held ≡ calm_end (length files) → ⊥
+none_busy held [] none e = cc
+none_busy held (file ∷ files) none e = cc
 
-    -- an end over what was answered
-    ends_over : (end : LineEnd) (input2 : Reading) (output2 : Option (List ℕ))
-        → ((entries : List Entry) → old.tables ≡ tables_of entries
-        → IsSession kept (walk_at faults entries old moments) (walk_at faults (entries ++ so_far.added) keep later) input input2 held output2 end)
-        → MakesSession state faults old keep moments later kept input input2 held output2 end
-    ends_over end input2 output2 session = record { added = so_far.added; extends = so_far.extends; claims = so_far.claims; session = session }
+fills_more : (free held : ℕ) (walk after : Walk) → [] ≡ out_of_list walk.entries → FillsUp free walk (Busy held) after → walk.used < after.used
+fills_more zero held walk after none filled = absurd (none_busy held (out_of_list walk.entries) none filled.1)
+fills_more (suc free) held walk after none (inl claimed) = omega (arith, claimed.1.0.adds.filled, fills_keep free claimed.0 (Busy held) after claimed.1.1)
+fills_more (suc free) held walk after none (inr (inl idle)) = absurd (none_busy held (out_of_list walk.entries) none idle.1)
+fills_more (suc free) held walk after none (inr (inr stops)) = absurd stops.stops
 
-    pub ends_closed : (input2 : Reading) (room : RoomData) → n < MAX_REQUESTS → Loads behind now input2 room (Ok false)
-        → MakesSession state faults old keep moments later kept input input2 held output line_ends.Closed
-    ends_closed input2 room few load = ends_over line_ends.Closed input2 output (λ entries folded.
-        closed AnswersNext NothingFollows kept (walk_at faults entries old moments) input held n behind now output (walk_at faults (entries ++ so_far.added) keep later)
-        (so_far.progress entries folded) input2 room few load)
+works_busy : (workers held : ℕ) (files : List ℕ) (walk after : Walk) → files ≡ out_of_list walk.entries → WorksOff workers files walk (Busy held) after → walk.used < after.used
+works_busy workers held [] walk after is filled = fills_more (workers - length (out_of_list walk.entries)) held walk after is filled
+works_busy workers held (file ∷ files) walk after is (inl reported) =
+    omega (arith, reported.1.0.adds.filled, works_keep workers files reported.0 (Busy held) after reported.1.1)
+works_busy workers held (file ∷ files) walk after is (inr stops) = absurd stops.stops
 
-    pub ends_inside : (input2 : Reading) (room : RoomData) → n < MAX_REQUESTS → Loads behind now input2 room (Err EndsInside)
-        → MakesSession state faults old keep moments later kept input input2 held output line_ends.EndsInside
-    ends_inside input2 room few load = ends_over line_ends.EndsInside input2 output (λ entries folded.
-        ended_inside AnswersNext NothingFollows kept (walk_at faults entries old moments) input held n behind now output (walk_at faults (entries ++ so_far.added) keep later)
-        (so_far.progress entries folded) input2 room few load)
+-- a busy round uses more
+pub busy_uses : (workers held : ℕ) (walk after : Walk) → IsRound workers walk (Busy held) after → walk.used < after.used
+busy_uses workers held walk after round = works_busy workers held (out_of_list walk.entries) walk after refl round
 
-    pub ends_by_read : (input2 : Reading) (room : RoomData) → n < MAX_REQUESTS → Loads behind now input2 room (Err SourceFailed)
-        → MakesSession state faults old keep moments later kept input input2 held output line_ends.SourceFailed
-    ends_by_read input2 room few load = ends_over line_ends.SourceFailed input2 output (λ entries folded.
-        read_failed AnswersNext NothingFollows kept (walk_at faults entries old moments) input held n behind now output (walk_at faults (entries ++ so_far.added) keep later)
-        (so_far.progress entries folded) input2 room few load)
+module _ {D E : Type 0} (state : D → DiskState) (faults : D → ℕ) (store_state : E → StoreState) (store_calls : E → Option (List Call)) (store_faults : E → ℕ)
+    (workers : ℕ) (kept : List ℕ) (input : Reading) (held : Option (List ℕ)) (old : ThreadData D E) where
+  -- so many requests were answered, and a round was made behind each
+  abbrev pub SoFar : ℕ → List ℕ → Reading → Option (List ℕ) → ThreadData D E → Type 0
+  SoFar n behind now output here = Works state faults store_state store_calls store_faults
+      (λ start at. InProgress AnswersNext (FollowedByRound workers) kept start input held n behind now output at) old here
+
+  -- a connection that ended so
+  abbrev pub Ended : LineEnd → Reading → Option (List ℕ) → ThreadData D E → Type 0
+  Ended end left output here = Works state faults store_state store_calls store_faults
+      (λ before after. IsConnection AnswersNext (FollowedByRound workers) kept before after input left held output end) old here
+
+  -- none was answered yet
+  pub nothing_yet : IsReady old → IsKeep state old.keep → (IsTold (state old.keep.disk) → IsLawful (state old.keep.disk)) → SoFar 0 kept input held old
+  nothing_yet ready sound lawful = works_none state faults store_state store_calls store_faults
+      (λ start at. InProgress AnswersNext (FollowedByRound workers) kept start input held 0 kept input held at) old ready sound lawful
+      (λ walk. begun AnswersNext (FollowedByRound workers) kept walk input held walk refl)
+
+  module _ (n : ℕ) (behind : List ℕ) (now : Reading) (output : Option (List ℕ)) (here : ThreadData D E) (so_far : SoFar n behind now output here) where
+    -- the connection ends with what was answered
+    ends_over : (end : LineEnd) (left : Reading) (output2 : Option (List ℕ))
+        → ((start at : Walk) → InProgress AnswersNext (FollowedByRound workers) kept start input held n behind now output at
+        → IsConnection AnswersNext (FollowedByRound workers) kept start at input left held output2 end)
+        → Ended end left output2 here
+    ends_over end left output2 implies = works_as state faults store_state store_calls store_faults
+        (λ start at. InProgress AnswersNext (FollowedByRound workers) kept start input held n behind now output at)
+        (λ before after. IsConnection AnswersNext (FollowedByRound workers) kept before after input left held output2 end) old here implies so_far
+
+    pub ends_closed : (input2 : Reading) (room : RoomData) → n < MAX_REQUESTS → Loads behind now input2 room (Ok false) → Ended line_ends.Closed input2 output here
+    ends_closed input2 room few load = ends_over line_ends.Closed input2 output
+        (λ start at done. closed AnswersNext (FollowedByRound workers) kept start input held n behind now output at done input2 room few load)
+
+    pub ends_inside : (input2 : Reading) (room : RoomData) → n < MAX_REQUESTS → Loads behind now input2 room (Err EndsInside) → Ended line_ends.EndsInside input2 output here
+    ends_inside input2 room few load = ends_over line_ends.EndsInside input2 output
+        (λ start at done. ended_inside AnswersNext (FollowedByRound workers) kept start input held n behind now output at done input2 room few load)
+
+    pub ends_by_read : (input2 : Reading) (room : RoomData) → n < MAX_REQUESTS → Loads behind now input2 room (Err SourceFailed) → Ended line_ends.SourceFailed input2 output here
+    ends_by_read input2 room few load = ends_over line_ends.SourceFailed input2 output
+        (λ start at done. read_failed AnswersNext (FollowedByRound workers) kept start input held n behind now output at done input2 room few load)
 
     pub ends_refused : (input2 : Reading) (output2 : Option (List ℕ)) (room : RoomData) (fault : WireFault) (end : LineEnd) → n < MAX_REQUESTS
-        → Loads behind now input2 room (Err fault) → IsRefused output output2 fault end
-        → MakesSession state faults old keep moments later kept input input2 held output2 end
-    ends_refused input2 output2 room fault end few load is = ends_over end input2 output2 (λ entries folded.
-        refused AnswersNext NothingFollows kept (walk_at faults entries old moments) input held n behind now output (walk_at faults (entries ++ so_far.added) keep later)
-        (so_far.progress entries folded) input2 output2 room fault end few load is)
+        → Loads behind now input2 room (Err fault) → IsRefused output output2 fault end → Ended end input2 output2 here
+    ends_refused input2 output2 room fault end few load is = ends_over end input2 output2
+        (λ start at done. refused AnswersNext (FollowedByRound workers) kept start input held n behind now output at done input2 output2 room fault end few load is)
 
-    pub ends_by_many : n ≡ MAX_REQUESTS → MakesSession state faults old keep moments later kept input now held output line_ends.Many
-    ends_by_many all = ends_over line_ends.Many now output (λ entries folded.
-        many AnswersNext NothingFollows kept (walk_at faults entries old moments) input held n behind now output (walk_at faults (entries ++ so_far.added) keep later)
-        (so_far.progress entries folded) all)
+    pub ends_by_many : n ≡ MAX_REQUESTS → Ended line_ends.Many now output here
+    ends_by_many all = ends_over line_ends.Many now output
+        (λ start at done. many AnswersNext (FollowedByRound workers) kept start input held n behind now output at done all)
 
-    module _ (new : KeepData D) (input2 : Reading) (output2 : Option (List ℕ)) (coming : Option Coming) (room : RoomData) (moment : ℕ) (reply : Reply)
-        (load : Loads behind now input2 room (Ok true)) (tick : Gives later coming moment) (answers : Answers state faults keep new 0 room.request moment reply)
-        (grows : Grows state faults 0 keep new) (images : KeepsImagesSinceAny state keep new) (doubt : DoubtHasCause state faults keep new) where
-      -- what was added with it
-      abbrev longer : List Entry
-      longer = so_far.added ++ added_by state faults keep new room.request moment reply answers
+    module _ (law : LeavesBench) (new : KeepData D) (input2 : Reading) (output2 : Option (List ℕ)) (coming : Option Coming) (room : RoomData) (moment : ℕ) (reply : Reply)
+        (load : Loads behind now input2 room (Ok true)) (tick : Gives here.moments coming moment)
+        (answers : Answers state faults here.keep new 0 room.request moment reply) (grows : Grows state faults 0 here.keep new) (images : KeepsImagesSinceAny state here.keep new) where
+      -- where the thread stands once the request was answered
+      abbrev pub answered : ThreadData D E
+      answered = record here { keep = new; moments = coming }
 
-      -- one request more over a keep
-      extends_longer : Extends state faults old new longer
-      extends_longer = extends_more state faults old keep new so_far.added (added_by state faults keep new room.request moment reply answers) so_far.extends (record {
-        tables = answers.tables;
-        legal = (said_well keep.tables keep.used 0 room.request moment answers.way).legal;
-        listed = answers.listed;
-        told = grows.told;
-        counts = grows.counts;
-        images = images;
-        doubt = doubt;
-      })
+      -- the request, answered over whatever list
+      one_answer : Works state faults store_state store_calls store_faults (λ before after. AnswersNext before room.request reply after) here answered
+      one_answer = works_answer state faults store_state store_calls store_faults law here.keep new here.bench here.claims here.store here.moments coming here.words room.request moment reply
+          so_far.ready answers grows images tick
 
-      no_claims : claims_in longer ≡ 0
-      no_claims = claims_more so_far.added (added_by state faults keep new room.request moment reply answers) so_far.claims
-          (said_well keep.tables keep.used 0 room.request moment answers.way).claims
+      -- what was answered, and this request behind it
+      abbrev WithOne : Walk → Walk → Type 0
+      WithOne start after = (at : Walk) × (InProgress AnswersNext (FollowedByRound workers) kept start input held n behind now output at × AnswersNext at room.request reply after)
 
-      answered_over : (entries : List Entry) → old.tables ≡ tables_of entries
-          → AnswersNext (walk_at faults (entries ++ so_far.added) keep later) room.request reply (walk_at faults (entries ++ longer) new coming)
-      answered_over entries folded = answers_next state faults keep new later coming room.request moment reply answers grows.counts tick
-          (entries ++ so_far.added) (entries ++ longer) (folded_so_far entries folded)
-          (sym (append_assoc entries so_far.added (added_by state faults keep new room.request moment reply answers)))
+      with_one : Works state faults store_state store_calls store_faults WithOne old answered
+      with_one = works_more state faults store_state store_calls store_faults
+          (λ start at. InProgress AnswersNext (FollowedByRound workers) kept start input held n behind now output at)
+          (λ before after. AnswersNext before room.request reply after) WithOne old here answered (λ start at after done next. (at, (done, next))) so_far one_answer
+
+      pub is_ready : IsReady answered
+      is_ready = one_answer.ready
 
       -- its response
       abbrev pub response : List ℕ
       response = response_to n (record { request = room.request; reply = reply })
 
-      pub one_more : Sends {E = SinkFailed} output output2 response (Ok tt) → room.request.close ≡ false → SoFar new coming (n + 1) room.kept input2 output2
-      one_more sent goes = record {
-        added = longer;
-        extends = extends_longer;
-        claims = no_claims;
-        progress = λ entries folded. turn AnswersNext NothingFollows kept (walk_at faults entries old moments) input held n behind now output
-            (walk_at faults (entries ++ so_far.added) keep later) (so_far.progress entries folded) input2 output2 room reply
-            (walk_at faults (entries ++ longer) new coming) (walk_at faults (entries ++ longer) new coming) load (answered_over entries folded) refl sent goes;
-      }
+      -- its response was written, and a round was made; the connection goes on
+      pub one_more : (end : RoundEnd) (next : ThreadData D E) → here.bench.places ≡ workers → Sends {E = SinkFailed} output output2 response (Ok tt)
+          → Works state faults store_state store_calls store_faults (λ before after. IsRound here.bench.places before end after) answered next
+          → room.request.close ≡ false → SoFar (n + 1) room.kept input2 output2 next
+      one_more end next places sent round goes = works_more state faults store_state store_calls store_faults WithOne (λ before after. IsRound here.bench.places before end after)
+          (λ start at. InProgress AnswersNext (FollowedByRound workers) kept start input held (n + 1) room.kept input2 output2 at) old answered next
+          (λ start mid after done made. turn AnswersNext (FollowedByRound workers) kept start input held n behind now output done.0 done.1.0 input2 output2 room reply mid after
+          load done.1.1 (end, subst (λ (w : ℕ). IsRound w mid end after) places made) sent goes) with_one round
 
-      pub ends_by_close : n < MAX_REQUESTS → Sends {E = SinkFailed} output output2 response (Ok tt) → room.request.close ≡ true
-          → MakesSession state faults old new moments coming kept input input2 held output2 line_ends.Closed
-      ends_by_close few sent closes = record {
-        added = longer;
-        extends = extends_longer;
-        claims = no_claims;
-        session = λ entries folded. closed_by AnswersNext NothingFollows kept (walk_at faults entries old moments) input held n behind now output
-            (walk_at faults (entries ++ so_far.added) keep later) (so_far.progress entries folded) input2 output2 room reply
-            (walk_at faults (entries ++ longer) new coming) (walk_at faults (entries ++ longer) new coming) few load (answered_over entries folded) refl sent closes;
-      }
+      -- its response was written, and a round was made; it says close
+      pub ends_by_close : (end : RoundEnd) (next : ThreadData D E) → n < MAX_REQUESTS → here.bench.places ≡ workers → Sends {E = SinkFailed} output output2 response (Ok tt)
+          → Works state faults store_state store_calls store_faults (λ before after. IsRound here.bench.places before end after) answered next
+          → room.request.close ≡ true → Ended line_ends.Closed input2 output2 next
+      ends_by_close end next few places sent round closes = works_more state faults store_state store_calls store_faults WithOne (λ before after. IsRound here.bench.places before end after)
+          (λ before after. IsConnection AnswersNext (FollowedByRound workers) kept before after input input2 held output2 line_ends.Closed) old answered next
+          (λ start mid after done made. closed_by AnswersNext (FollowedByRound workers) kept start input held n behind now output done.0 done.1.0 input2 output2 room reply mid after
+          few load done.1.1 (end, subst (λ (w : ℕ). IsRound w mid end after) places made) sent closes) with_one round
 
-      pub ends_cut : (e : SinkFailed) → n < MAX_REQUESTS → Sends output output2 response (Err e)
-          → MakesSession state faults old new moments coming kept input input2 held output2 line_ends.SinkFailed
-      ends_cut e few sent = record {
-        added = longer;
-        extends = extends_longer;
-        claims = no_claims;
-        session = λ entries folded. cut AnswersNext NothingFollows kept (walk_at faults entries old moments) input held n behind now output
-            (walk_at faults (entries ++ so_far.added) keep later) (so_far.progress entries folded) input2 output2 room reply
-            (walk_at faults (entries ++ longer) new coming) e few load (answered_over entries folded) sent;
-      }
+      -- its response was cut short
+      pub ends_cut : (e : SinkFailed) → n < MAX_REQUESTS → Sends output output2 response (Err e) → Ended line_ends.SinkFailed input2 output2 answered
+      ends_cut e few sent = works_as state faults store_state store_calls store_faults WithOne
+          (λ before after. IsConnection AnswersNext (FollowedByRound workers) kept before after input input2 held output2 line_ends.SinkFailed) old answered
+          (λ start after done. cut AnswersNext (FollowedByRound workers) kept start input held n behind now output done.0 done.1.0 input2 output2 room reply after e few
+          load done.1.1 sent) with_one
+
+  -- a connection and the last rounds behind it are a session
+  pub session_of : (line : LineEnd) (last : RoundEnd) (mid new : ThreadData D E) (left : Reading) (output : Option (List ℕ)) → mid.bench.places ≡ workers
+      → Ended line left output mid → Works state faults store_state store_calls store_faults (LastRounds mid.bench.places last) mid new
+      → Works state faults store_state store_calls store_faults (IsSession kept workers input left held output (record { line = line; last = last })) old new
+  session_of line last mid new left output places ended rounds = works_more state faults store_state store_calls store_faults
+      (λ before after. IsConnection AnswersNext (FollowedByRound workers) kept before after input left held output line) (LastRounds mid.bench.places last)
+      (IsSession kept workers input left held output (record { line = line; last = last })) old mid new
+      (λ before between after one two. record { between = between; connection = one; rounds = subst (λ (w : ℕ). LastRounds w last between after) places two })
+      ended rounds
+
+module _ {D E : Type 0} (state : D → DiskState) (faults : D → ℕ) (store_state : E → StoreState) (store_calls : E → Option (List Call)) (store_faults : E → ℕ)
+    (workers : ℕ) (old here next : ThreadData D E) (places : here.bench.places ≡ workers) (so_far : Works state faults store_state store_calls store_faults (RoundsOn workers) old here) where
+  -- a busy round more
+  pub rounds_more : (busy : ℕ) → Works state faults store_state store_calls store_faults (λ before after. IsRound here.bench.places before (Busy busy) after) here next
+      → Works state faults store_state store_calls store_faults (RoundsOn workers) old next
+  rounds_more busy round = works_more state faults store_state store_calls store_faults (RoundsOn workers) (λ before after. IsRound here.bench.places before (Busy busy) after)
+      (RoundsOn workers) old here next
+      (λ before between after one two. busy_more workers busy before between after one (subst (λ (w : ℕ). IsRound w between (Busy busy) after) places two)) so_far round
+
+  -- the last one
+  pub rounds_end : (end : RoundEnd) → ((busy : ℕ) → end ≡ Busy busy → ⊥)
+      → Works state faults store_state store_calls store_faults (λ before after. IsRound here.bench.places before end after) here next
+      → Works state faults store_state store_calls store_faults (LastRounds workers end) old next
+  rounds_end end calm round = works_more state faults store_state store_calls store_faults (RoundsOn workers) (λ before after. IsRound here.bench.places before end after)
+      (LastRounds workers end) old here next
+      (λ before between after one two. last_one workers end before between after calm one (subst (λ (w : ℕ). IsRound w between end after) places two)) so_far round
+
+  -- a busy round uses more of the journal
+  pub round_uses : (busy : ℕ) → Works state faults store_state store_calls store_faults (λ before after. IsRound here.bench.places before (Busy busy) after) here next
+      → here.keep.used < next.keep.used
+  round_uses busy round = busy_uses here.bench.places busy (walk_of faults so_far.ready.over.0 here) (walk_of faults (so_far.ready.over.0 ++ round.added) next)
+      (round.goes so_far.ready.over.0 so_far.ready.over.1)

@@ -1,29 +1,68 @@
 -- A run that started its keep and served it, and one that did not start it.
-use Rattle.std.proofs.Common.{◌≡◌, ◌⊎◌, inl, inr, ℕ, List, [], ◌∷◌, ◌++◌, Option, None, refl, ap, sym, ◌∙◌, subst}
+use Rattle.std.proofs.Common.{◌≡◌, ◌⊎◌, inl, inr, ℕ, ◌+◌, true, List, [], ◌∷◌, ◌++◌, length, Option, None, refl, ap, sym, ◌∙◌, subst, arith, length-append}
 use Rattle.fts_tables.specs.Coming.{Coming, Gives}
-use Rattle.fts_tables.specs.Counts.{Rose}
 use Rattle.fts_tables.specs.SettingsData.{SettingsData, IsSettings}
 use Rattle.fts_tables.specs.Tables.{Tables, empty_tables}
-use Rattle.fts_tables.specs.History.{tables_of, tables_from, IsLegal, IsLegalFrom}
+use Rattle.fts_tables.specs.Step.{step}
+use Rattle.fts_tables.specs.History.{tables_of, tables_from, tables_after, out_step, out_from, out_of_list, IsLegal}
 use Rattle.fts_tables.specs.declared.commands.Entry.{Entry}
+use Rattle.fts_tables.specs.declared.rows.Outcome.{Outcome}
 use Rattle.fts_disk.specs.Disk.{DiskState, IsTold, LeavesOnly}
-use Rattle.fts_keep.specs.Keeps.{KeepData, HoldsList, IsImageOf, IsImageSince, with_doubt}
-use Rattle.fts_keep.specs.Started.{restart_at, restarted, StartsOver, Starts, StartFault, StartsNot}
+use Rattle.fts_store.specs.Calls.{Call}
+use Rattle.fts_store.specs.Store.{StoreState}
+use Rattle.fts_keep.specs.Keeps.{KeepData, IsImageOf, IsImageSince, with_doubt}
+use Rattle.fts_keep.specs.Started.{restart_at, restarted, StartsOver, StartFault, StartsNot}
 use Rattle.fts_keep.specs.declared.fault.KeepFault.{KeepFault}
 use Rattle.fts_keep.specs.declared.fault.KeepFault.TheVariants as faults_of_keep
+use Rattle.fts_workers.specs.Benches.{BenchData, held_as, held_over, kept_of, KeepsOne}
+use Rattle.fts_workers.specs.Copies.{Copy, copies_from, copies_kept, FollowsReports}
+use Rattle.fts_workers.specs.Rounds.{Walk, IsWorkedOver}
+use Rattle.fts_workers.specs.declared.held.Held.{Held}
 use Rattle.fts_top.specs.Connections.{Reading}
-use Rattle.fts_top.specs.Walks.{walk_at}
-use Rattle.fts_top.specs.Tallies.{tally_of, tally_with, no_tally}
-use Rattle.fts_top.specs.Sessions.{IsSession}
-use Rattle.fts_top.specs.Runs.{OneThread, AreRead, HasNoSettings, IsStop, StartsWith, StopsBefore, LeavesList, ServesKeep, RanOver, RunsSession, IsSessionRun, start_end}
+use Rattle.fts_top.specs.Tallies.{claims_in, tally_of, tally_with, no_tally}
+use Rattle.fts_top.specs.Sessions.{IsSession, ThreadData, IsOver, IsReady, walk_of, kept_at, thread}
+use Rattle.fts_top.specs.Runs.{OneThread, one_thread, begun_with, AreRead, HasNoSettings, IsStop, StartsWith, StopsBefore, LeavesList, ServesKeep, RanOver, RunsSession, IsSessionRun, start_end}
 use Rattle.fts_top.specs.declared.ends.RunEnd.{RunEnd}
 use Rattle.fts_top.specs.declared.ends.RunEnd.TheVariants.{NoMemory, NoCommand, SettingsUnread, SettingsRule, DiskFailed, Damaged, JournalFull, Session}
 use Rattle.fts_top.specs.declared.tally.Tally.{Tally}
-use Rattle.fts_top.proofs.Keeping.{tables_from-append, legal_behind, joined, weakened, since_more, rose_later}
+use Rattle.fts_top.proofs.Keeping.{legal_behind, joined, weakened, since_more}
 
 -- how a list with a Restart behind it is legal
 restarted_legal : (opening : List Entry) (now : ℕ) (settings : SettingsData) → IsLegal opening → IsLegal (restarted opening now settings)
 restarted_legal opening now settings legal = legal_behind empty_tables opening (restart_at now settings ∷ []) legal (tt, tt)
+
+-- the files that are out behind one entry more
+out_from-last : (tables : Tables) (files : List ℕ) (entries : List Entry) (entry : Entry)
+    → out_from tables files (entries ++ entry ∷ []) ≡ out_step (out_from tables files entries) (step (tables_from tables entries) entry.command)
+out_from-last tables files [] entry = refl
+out_from-last tables files (first ∷ entries) entry =
+    out_from-last (tables_after tables (step tables first.command)) (out_step files (step tables first.command)) entries entry
+
+-- behind a Restart none is
+none_out : (opening : List Entry) (now : ℕ) (settings : SettingsData) → out_of_list (restarted opening now settings) ≡ []
+none_out opening now settings = out_from-last empty_tables [] opening (restart_at now settings)
+
+-- an empty bench is over a list that was restarted
+started_over : {D : Type 0} (keep : KeepData D) (bench : BenchData) (opening : List Entry) (now : ℕ) (settings : SettingsData) → IsLegal opening
+    → keep.tables ≡ tables_of (restarted opening now settings) → keep.commands ≡ length opening + 1 → bench.held ≡ [] → IsWorkedOver keep bench (restarted opening now settings)
+started_over keep bench opening now settings legal folded counted empty = record {
+  list = record {
+    folded = folded;
+    legal = restarted_legal opening now settings legal;
+    counted = omega (arith, counted, length-append opening (restart_at now settings ∷ []));
+  };
+  held = empty ∙ sym (ap (λ files. held_as (tables_of (restarted opening now settings)) (kept_of bench.held) files) (none_out opening now settings));
+}
+
+-- so a thread that has claimed nothing is ready
+pub started_ready : {D E : Type 0} (state : D → DiskState) (faults : D → ℕ) (disk : D) (settings : SettingsData) (now : ℕ) (keep : KeepData D) (bench : BenchData)
+    (store : E) (moments words : Option Coming) (opening : List Entry) → StartsOver state faults disk settings now keep opening → bench.held ≡ []
+    → IsReady (thread keep bench 0 store moments words)
+started_ready state faults disk settings now keep bench store moments words opening starts empty = record {
+  over = (restarted opening now settings, started_over keep bench opening now settings starts.legal starts.folded starts.counted empty);
+  kept = subst KeepsOne (sym empty) tt;
+  few = omega arith;
+}
 
 module _ {D : Type 0} (state : D → DiskState) (faults : D → ℕ) where
   -- a run with no settings stopped before anything was started
@@ -46,86 +85,117 @@ module _ {D : Type 0} (state : D → DiskState) (faults : D → ℕ) where
   unstarted text moments later disk left faults_of_keep.Memory h = inr h
   unstarted text moments later disk left (faults_of_keep.Rule refusal) h = absurd h.cause
 
+module _ {D E : Type 0} (state : D → DiskState) (faults : D → ℕ) (store_state : E → StoreState) (store_calls : E → Option (List Call)) (store_faults : E → ℕ) where
   -- a run that has no settings
-  pub stopped_unset : (text : Option (List ℕ)) (moments : Option Coming) (disk closed : D) (input : Reading) (output : Option (List ℕ)) (found end : RunEnd) (tally : Tally)
+  pub stopped_unset : (text : Option (List ℕ)) (moments words : Option Coming) (disk closed : D) (store : E) (input : Reading) (output : Option (List ℕ)) (found end : RunEnd) (tally : Tally)
       → HasNoSettings text found → end ≡ found → tally ≡ no_tally → closed ≡ disk
-      → IsSessionRun state faults end tally text (record { disk = disk; input = input; output = output; moments = moments })
-      (record { disk = closed; input = input; output = output; moments = moments })
-  stopped_unset text moments disk closed input output found end tally unset ended counted same = inl (record {
+      → IsSessionRun state faults store_state store_calls store_faults end tally text (one_thread disk store input output moments words) (one_thread closed store input output moments words)
+  stopped_unset text moments words disk closed store input output found end tally unset ended counted same = inl (record {
     stop = subst (λ (e : RunEnd). IsStop state faults text moments moments disk closed e) (sym ended)
-        (subst (λ (d : D). IsStop state faults text moments moments disk d found) (sym same) (unsettled text moments disk found unset));
+        (subst (λ (d : D). IsStop state faults text moments moments disk d found) (sym same) (unsettled state faults text moments disk found unset));
     counted = counted;
     untaken = refl;
     unwritten = refl;
+    store = refl;
+    words = refl;
   })
 
   -- a run whose keep could not be started
-  pub stopped : (text : Option (List ℕ)) (before later : Option Coming) (disk left closed : D) (input : Reading) (output : Option (List ℕ)) (settings : SettingsData) (now : ℕ)
+  pub stopped : (text : Option (List ℕ)) (before later words : Option Coming) (disk left closed : D) (store : E) (input : Reading) (output : Option (List ℕ)) (settings : SettingsData) (now : ℕ)
       (fault : KeepFault) (end : RunEnd) (tally : Tally) → IsSettings settings → AreRead text settings → Gives before later now
       → StartFault state faults disk left settings now fault × StartsNot state faults disk left settings now
       → end ≡ start_end fault → tally ≡ no_tally → closed ≡ left
-      → IsSessionRun state faults end tally text (record { disk = disk; input = input; output = output; moments = before })
-      (record { disk = closed; input = input; output = output; moments = later })
-  stopped text before later disk left closed input output settings now fault end tally valid read tick started ended counted same = inl (record {
+      → IsSessionRun state faults store_state store_calls store_faults end tally text (one_thread disk store input output before words) (one_thread closed store input output later words)
+  stopped text before later words disk left closed store input output settings now fault end tally valid read tick started ended counted same = inl (record {
     stop = subst (λ (e : RunEnd). IsStop state faults text before later disk closed e) (sym ended)
         (subst (λ (d : D). IsStop state faults text before later disk d (start_end fault)) (sym same)
-        (unstarted text before later disk left fault (record { settings = settings; kept = valid; read = read; now = now; moment = tick; cause = started.0; leaves = started.1 })));
+        (unstarted state faults text before later disk left fault
+        (record { settings = settings; kept = valid; read = read; now = now; moment = tick; cause = started.0; leaves = started.1 })));
     counted = counted;
     untaken = refl;
     unwritten = refl;
+    store = refl;
+    words = refl;
   })
 
   module _ (settings : SettingsData) (now : ℕ) (keep : KeepData D) (opening : List Entry) (disk left : D) (starts : StartsOver state faults disk settings now keep opening)
-      (moments later : Option Coming) (kept : List ℕ) (input after : Reading) (held output : Option (List ℕ)) (end : RunEnd) (tally : Tally)
-      (serves : ServesKeep state faults keep left moments later kept input after held output end tally) where
-    -- the list at the end
+      (bench : BenchData) (empty : bench.held ≡ []) (places : bench.places ≡ settings.workers) (store store_now : E)
+      (moments later words words_later : Option Coming) (kept : List ℕ) (input after : Reading) (held output : Option (List ℕ)) (end : RunEnd) (tally : Tally)
+      (serves : ServesKeep state faults store_state store_calls store_faults (thread keep bench 0 store moments words) bench.places left store_now later words_later
+      kept input after held output end tally) where
+    -- what was added, and the list at the end
+    abbrev since : List Entry
+    since = serves.session.added
+
     abbrev final_list : List Entry
-    final_list = restarted opening now settings ++ serves.session.added
+    final_list = restarted opening now settings ++ since
 
-    -- its tables are those of the keep
-    final_tables : serves.last.tables ≡ tables_of final_list
-    final_tables = serves.session.extends.tables ∙ ap (λ t. tables_from t serves.session.added) starts.folded
-        ∙ sym (tables_from-append empty_tables (restarted opening now settings) serves.session.added)
+    -- the bench was over the list, and is over it
+    begun_over : IsWorkedOver keep bench (restarted opening now settings)
+    begun_over = started_over keep bench opening now settings starts.legal starts.folded starts.counted empty
 
-    final_legal : IsLegal final_list
-    final_legal = legal_behind empty_tables (restarted opening now settings) serves.session.added (restarted_legal opening now settings starts.legal)
-        (subst (λ t. IsLegalFrom t serves.session.added) starts.folded serves.session.extends.legal)
+    final_over : IsOver serves.last final_list
+    final_over = serves.session.over (restarted opening now settings) begun_over
 
-    -- a doubt at the end has a cause
-    doubt_cause : (own : Starts state faults disk settings now keep opening)
-        → (serves.last.doubt ≡ None) ⊎ ((serves.last.doubt ≡ keep.doubt) ⊎ Rose (faults keep.disk) (faults serves.last.disk))
-        → (serves.last.doubt ≡ None) ⊎ Rose (faults own.opened) (faults left)
-    doubt_cause own (inl none) = inl none
-    doubt_cause own (inr (inl same)) = inl (same ∙ own.no_doubt)
-    doubt_cause own (inr (inr rose)) = inr (subst (λ (d : D). Rose (faults own.opened) (faults d)) (sym serves.closed)
-        (rose_later (faults own.opened) (faults keep.disk) (faults serves.last.disk) own.counts rose))
+    -- the session began with nothing kept
+    session_is : kept ≡ [] → IsSession [] settings.workers input after held output serves.session_end
+        (begun_with (restarted opening now settings) keep.used (faults keep.disk) moments words) (walk_of faults final_list serves.last)
+    session_is none =
+        let ran = serves.session.goes (restarted opening now settings) begun_over in
+        subst (λ (k : Option Outcome). IsSession [] settings.workers input after held output serves.session_end
+        (record { entries = restarted opening now settings; used = keep.used; faults = faults keep.disk; kept = k; moments = moments; words = words })
+        (walk_of faults final_list serves.last)) (ap kept_of empty)
+        (subst (λ (w : ℕ). IsSession [] w input after held output serves.session_end (walk_of faults (restarted opening now settings) (thread keep bench 0 store moments words))
+        (walk_of faults final_list serves.last)) places
+        (subst (λ (k : List ℕ). IsSession k bench.places input after held output serves.session_end
+        (walk_of faults (restarted opening now settings) (thread keep bench 0 store moments words)) (walk_of faults final_list serves.last)) none ran))
+
+    -- the store follows from the reports of the run
+    store_follows : FollowsReports store_state store_calls store_faults [] (copies_from (λ writer. true) (tables_of (restarted opening now settings)) since)
+        (copies_kept (tables_of final_list) (held_over final_list (kept_of serves.last.bench.held))) store store_now
+    store_follows =
+        let follows = serves.session.follows in
+        let begun = ap (λ (l : List Held). copies_kept keep.tables l) empty in
+        let ended = ap (λ t. copies_kept t serves.last.bench.held) final_over.list.folded ∙ ap (λ (l : List Held). copies_kept (tables_of final_list) l) final_over.held in
+        subst (λ (s : E). FollowsReports store_state store_calls store_faults [] (copies_from (λ writer. true) (tables_of (restarted opening now settings)) since)
+        (copies_kept (tables_of final_list) (held_over final_list (kept_of serves.last.bench.held))) store s) (sym serves.store_is)
+        (subst (λ (l : List Copy). FollowsReports store_state store_calls store_faults [] (copies_from (λ writer. true) (tables_of (restarted opening now settings)) since)
+        l store serves.last.store) ended
+        (subst (λ t. FollowsReports store_state store_calls store_faults [] (copies_from (λ writer. true) t since) (kept_at serves.last) store serves.last.store) starts.folded
+        (subst (λ (l : List Copy). FollowsReports store_state store_calls store_faults l (copies_from (λ writer. true) keep.tables since) (kept_at serves.last) store serves.last.store)
+        begun follows)))
 
     -- what a told disk is left with
     left_list : (told : IsTold (state disk)) → LeavesList state faults (starts.own told).opened left opening final_list
     left_list told =
         let own = starts.own told in
         let told_keep = starts.told ∙ told in
-        let told_last = serves.session.extends.told ∙ told_keep in
-        let listed : serves.last.entries ≡ final_list = serves.session.extends.listed told_keep ∙ ap (λ l. l ++ serves.session.added) own.listed in
+        let extends = serves.session.extends in
+        let told_last = extends.told ∙ told_keep in
+        let listed : serves.last.keep.entries ≡ final_list = extends.listed told_keep ∙ ap (λ l. l ++ since) own.listed in
         let holds = serves.sound.fold.holds told_last in
-        let early = weakened (state own.opened) (state keep.disk) (IsImageSince opening keep.entries) (IsImageSince opening serves.last.entries) own.images
-        (λ c image. subst (λ l. IsImageSince opening l c) (sym (serves.session.extends.listed told_keep)) (since_more opening keep.entries serves.session.added c image)) in
-        let all = joined (state own.opened) (state keep.disk) (state serves.last.disk) (IsImageSince opening serves.last.entries) early
-        (serves.session.extends.images opening (restart_at now settings ∷ []) own.listed told_keep) in
+        let early = weakened (state own.opened) (state keep.disk) (IsImageSince opening keep.entries) (IsImageSince opening serves.last.keep.entries) own.images
+        (λ c image. subst (λ l. IsImageSince opening l c) (sym (extends.listed told_keep)) (since_more opening keep.entries since c image)) in
+        let all = joined (state own.opened) (state keep.disk) (state serves.last.keep.disk) (IsImageSince opening serves.last.keep.entries) early
+        (extends.images opening (restart_at now settings ∷ []) own.listed told_keep) in
         record {
           since = subst (λ (d : D). LeavesOnly (state own.opened) (state d) (IsImageSince opening final_list)) (sym serves.closed)
-              (subst (λ l. LeavesOnly (state own.opened) (state serves.last.disk) (IsImageSince opening l)) listed all);
-          doubt = serves.last.doubt;
-          legal = subst (λ l. IsLegal (with_doubt l serves.last.doubt)) listed holds.legal;
-          images = λ c leave. subst (λ l. IsImageOf l serves.last.doubt c) listed
+              (subst (λ l. LeavesOnly (state own.opened) (state serves.last.keep.disk) (IsImageSince opening l)) listed all);
+          doubt = serves.last.keep.doubt;
+          legal = subst (λ l. IsLegal (with_doubt l serves.last.keep.doubt)) listed holds.legal;
+          images = λ c leave. subst (λ l. IsImageOf l serves.last.keep.doubt c) listed
               (holds.images c (subst (λ (d : D). (state d).may_leave c) serves.closed leave));
-          cause = doubt_cause own (serves.session.extends.doubt told_keep);
+          counts = omega (arith, own.counts, extends.counts, ap faults serves.closed);
         }
+
+    -- the claims of the run
+    claims_are : serves.last.claims ≡ claims_in since
+    claims_are = omega (arith, serves.session.counted)
 
     -- the run from its beginning
     pub ran : (text : Option (List ℕ)) (before : Option Coming) → IsSettings settings → AreRead text settings → Gives before moments now → kept ≡ []
-        → IsSessionRun state faults end tally text (record { disk = disk; input = input; output = held; moments = before })
-        (record { disk = left; input = after; output = output; moments = later })
+        → IsSessionRun state faults store_state store_calls store_faults end tally text (one_thread disk store input held before words)
+        (one_thread left store_now after output later words_later)
     ran text before valid read tick none = inr (record {
       settings = settings;
       kept = valid;
@@ -137,17 +207,19 @@ module _ {D : Type 0} (state : D → DiskState) (faults : D → ℕ) where
       opening = opening;
       starts = starts;
       ran = record {
-        final = walk_at faults final_list serves.last later;
+        final = walk_of faults final_list serves.last;
         session_end = serves.session_end;
-        session = subst (λ (k : List ℕ). IsSession k (walk_at faults (restarted opening now settings) keep moments) (walk_at faults final_list serves.last later)
-            input after held output serves.session_end) none (serves.session.session (restarted opening now settings) starts.folded);
+        session = session_is none;
         ended = serves.ended;
-        moments_left = refl;
+        moments_left = serves.moments_are;
+        words_left = serves.words_are;
         faults_left = ap faults serves.closed;
-        since = serves.session.added;
+        since = since;
         grown = refl;
-        legal = final_legal;
-        counted = serves.counted ∙ ap (λ t. tally_of [] t) final_tables ∙ ap (λ n. tally_with n (tables_of final_list)) (sym serves.session.claims);
+        legal = final_over.list.legal;
+        store = store_follows;
+        counted = serves.counted ∙ ap (λ t. tally_with serves.last.claims t) final_over.list.folded
+            ∙ ap (λ n. tally_with n (tables_of final_list)) claims_are;
       };
       tells = ap (λ (d : D). (state d).told) serves.closed ∙ serves.session.extends.told ∙ starts.told;
       leaves = left_list;

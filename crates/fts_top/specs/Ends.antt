@@ -1,18 +1,33 @@
--- The exit status of each end of a run.
-use Rattle.std.specs.Prelude.{ℕ}
+-- The exit status of each end of a run. That of a connection which didn't end well goes before that of the last round.
+use Rattle.std.specs.Prelude.{ℕ, Option, Some, None, unwrap_or}
+use Rattle.fts_workers.specs.declared.ends.RoundEnd.{RoundEnd}
+use Rattle.fts_workers.specs.declared.ends.RoundEnd.TheVariants as round_ends
+use Rattle.fts_top.specs.declared.ends.SessionEnd.{SessionEnd}
 use Rattle.fts_top.specs.declared.ends.LineEnd.{LineEnd}
 use Rattle.fts_top.specs.declared.ends.LineEnd.TheVariants as line_ends
 use Rattle.fts_top.specs.declared.ends.RunEnd.{RunEnd}
 use Rattle.fts_top.specs.declared.ends.RunEnd.TheVariants.{NoMemory, NoCommand, SettingsUnread, SettingsRule, DiskFailed, Damaged, JournalFull, Session}
 
--- the status of a connection
-abbrev pub line_status : LineEnd → ℕ
-line_status line_ends.Closed = 0
-line_status line_ends.SourceFailed = 5
-line_status line_ends.SinkFailed = 6
-line_status line_ends.EndsInside = 10
-line_status (line_ends.Refused status) = 12
-line_status line_ends.Many = 14
+-- the status of a connection that didn't end well
+abbrev pub line_status : LineEnd → Option ℕ
+line_status line_ends.Closed = None
+line_status line_ends.SourceFailed = Some 5
+line_status line_ends.SinkFailed = Some 6
+line_status line_ends.EndsInside = Some 10
+line_status (line_ends.Refused status) = Some 12
+line_status line_ends.Many = Some 14
+
+-- the status of the last round; a busy one is never the last
+abbrev pub round_status : RoundEnd → ℕ
+round_status round_ends.Clear = 0
+round_status (round_ends.Busy held) = 0
+round_status round_ends.DiskFailed = 4
+round_status (round_ends.JournalFull used) = 11
+round_status round_ends.Memory = 1
+
+-- the status of a session: its connection's where that didn't end well, else its last round's
+abbrev pub session_status : SessionEnd → ℕ
+session_status end = unwrap_or (line_status end.line) (round_status end.last)
 
 -- the exit status of a run
 abbrev pub status_of : RunEnd → ℕ
@@ -23,4 +38,4 @@ status_of DiskFailed = 4
 status_of (Damaged offset) = 7
 status_of SettingsUnread = 8
 status_of (JournalFull used) = 11
-status_of (Session end) = line_status end
+status_of (Session end) = session_status end

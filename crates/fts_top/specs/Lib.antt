@@ -1,5 +1,4 @@
 pub mod Connections
-pub mod Walks
 pub mod Tallies
 pub mod Sessions
 pub mod Words

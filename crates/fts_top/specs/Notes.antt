@@ -3,6 +3,8 @@ use Rattle.std.specs.Prelude.{ℕ, List, [], ◌++◌, codes, decimal, Option, R
 use Rattle.fts_tables.specs.Counts.{CountsFaults}
 use Rattle.fts_wire.specs.Response.{Sends}
 use Rattle.fts_wire.specs.declared.outside.SinkFailed.{SinkFailed}
+use Rattle.fts_workers.specs.declared.ends.RoundEnd.{RoundEnd}
+use Rattle.fts_workers.specs.declared.ends.RoundEnd.TheVariants as round_ends
 use Rattle.fts_top.specs.declared.ends.LineEnd.{LineEnd}
 use Rattle.fts_top.specs.declared.ends.LineEnd.TheVariants as line_ends
 use Rattle.fts_top.specs.declared.ends.RunEnd.{RunEnd}
@@ -12,14 +14,22 @@ use Rattle.fts_top.specs.declared.ends.RunEnd.TheVariants.{NoMemory, NoCommand, 
 abbrev pub note_with : List ℕ → ℕ → List ℕ
 note_with text number = text ++ (decimal number ++ codes "\n")
 
--- the line of a connection's end; one that ends well writes none
-abbrev pub line_note_of : LineEnd → List ℕ
-line_note_of line_ends.Closed = []
-line_note_of line_ends.SourceFailed = codes "fts: input failed\n"
-line_note_of line_ends.SinkFailed = codes "fts: output failed\n"
-line_note_of line_ends.EndsInside = codes "fts: input ended inside a request\n"
-line_note_of (line_ends.Refused status) = note_with (codes "fts: request refused with ") status
-line_note_of line_ends.Many = codes "fts: too many requests\n"
+-- the line of a last round
+abbrev pub round_note_of : RoundEnd → List ℕ
+round_note_of round_ends.Clear = []
+round_note_of (round_ends.Busy held) = []
+round_note_of round_ends.DiskFailed = codes "fts: disk failed\n"
+round_note_of (round_ends.JournalFull used) = note_with (codes "fts: journal full at ") used
+round_note_of round_ends.Memory = codes "fts: no memory\n"
+
+-- the line of a session: its connection's where that didn't end well, else its last round's
+abbrev pub session_note_of : LineEnd → RoundEnd → List ℕ
+session_note_of line_ends.Closed last = round_note_of last
+session_note_of line_ends.SourceFailed last = codes "fts: input failed\n"
+session_note_of line_ends.SinkFailed last = codes "fts: output failed\n"
+session_note_of line_ends.EndsInside last = codes "fts: input ended inside a request\n"
+session_note_of (line_ends.Refused status) last = note_with (codes "fts: request refused with ") status
+session_note_of line_ends.Many last = codes "fts: too many requests\n"
 
 -- the line of a run's end
 abbrev pub note_of : RunEnd → List ℕ
@@ -30,7 +40,7 @@ note_of DiskFailed = codes "fts: disk failed\n"
 note_of (Damaged offset) = note_with (codes "fts: journal damaged at ") offset
 note_of SettingsUnread = codes "fts: settings could not be read\n"
 note_of (JournalFull used) = note_with (codes "fts: journal full at ") used
-note_of (Session end) = line_note_of end
+note_of (Session end) = session_note_of end.line end.last
 
 -- a text was written to a sink: all of it or, where its count of faults rose, a part
 pub record IsNoted (before after : Option (List ℕ)) (old new : ℕ) (text : List ℕ) : Type 0 where

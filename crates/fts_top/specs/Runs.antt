@@ -1,7 +1,7 @@
 -- What a run of the program is: how it begins, what it answers and does, what it leaves, and how it may stop before its first request.
 -- What it answers and does is so over every disk, over some list that is legal; images, and that the list is the disk's own, are so over a disk
 -- that tells its contents.
-use Rattle.std.specs.Prelude.{◌≡◌, ◌≢◌, ◌⊎◌, ℕ, List, [], ◌++◌, Option, Some, None, IfSome, Ok, Err}
+use Rattle.std.specs.Prelude.{◌≡◌, ◌≢◌, ◌⊎◌, ℕ, ◌≤◌, true, List, [], ◌∷◌, ◌++◌, Option, Some, None, IfSome, Ok, Err}
 use Rattle.fts_tables.specs.Coming.{Coming, Gives}
 use Rattle.fts_tables.specs.Counts.{Rose}
 use Rattle.fts_tables.specs.SettingsData.{SettingsData, IsSettings}
@@ -17,25 +17,37 @@ use Rattle.fts_keep.specs.Started.{restarted, StartsOver, StartFault, StartsNot}
 use Rattle.fts_keep.specs.declared.fault.KeepFault.{KeepFault}
 use Rattle.fts_keep.specs.declared.fault.KeepFault.TheVariants as faults_of_keep
 use Rattle.fts_top.specs.Connections.{Reading}
-use Rattle.fts_top.specs.Sessions.{IsSession, MakesSession}
-use Rattle.fts_top.specs.Walks.{Walk}
-use Rattle.fts_top.specs.Tallies.{tally_of, no_tally}
-use Rattle.fts_top.specs.declared.ends.LineEnd.{LineEnd}
+use Rattle.fts_store.specs.Calls.{Call}
+use Rattle.fts_store.specs.Store.{StoreState}
+use Rattle.fts_workers.specs.Benches.{held_over}
+use Rattle.fts_workers.specs.Copies.{copies_from, copies_kept, FollowsReports}
+use Rattle.fts_workers.specs.Rounds.{Walk}
+use Rattle.fts_top.specs.Sessions.{IsSession, ThreadData, Works}
+use Rattle.fts_top.specs.Tallies.{tally_of, tally_with, no_tally}
+use Rattle.fts_top.specs.declared.ends.SessionEnd.{SessionEnd}
 use Rattle.fts_top.specs.declared.ends.RunEnd.{RunEnd}
 use Rattle.fts_top.specs.declared.ends.RunEnd.TheVariants.{NoMemory, NoCommand, SettingsUnread, SettingsRule, DiskFailed, Damaged, JournalFull, Session}
 use Rattle.fts_top.specs.declared.tally.Tally.{Tally}
 
--- what one thread meets: its disk, its input, the bytes that its output holds, and the moments to come, where they are told
-pub record OneThread (D : Type 0) : Type 0 where
+-- what one thread meets: its disk, its store, its input, the bytes that its output holds, and the moments and words to come, where they are told
+pub record OneThread (D E : Type 0) : Type 0 where
   pub disk : D
+  pub store : E
   pub input : Reading
   pub output : Option (List ℕ)
   pub moments : Option Coming
+  pub words : Option Coming
 
 -- the same by its parts
-abbrev pub one_thread : {D : Type 0} → D → Option (List ℕ) → ℕ → Option (List ℕ) → Option Coming → OneThread D
-one_thread disk left reads output moments =
-    record { disk = disk; input = record { left = left; reads = reads }; output = output; moments = moments }
+abbrev pub one_thread : {D E : Type 0} → D → E → Reading → Option (List ℕ) → Option Coming → Option Coming → OneThread D E
+one_thread disk store input output moments words =
+    record { disk = disk; store = store; input = input; output = output; moments = moments; words = words }
+
+-- this is so of the first hand before and after; the others are as they were
+abbrev pub OverHands : {H : Type 0} → List H → List H → (H → H → Type 0) → Type 0
+OverHands [] after P = Unit {0}
+OverHands (hand ∷ others) [] P = ⊥
+OverHands (hand ∷ others) (now ∷ others_now) P = P hand now × (others_now ≡ others)
 
 -- a disk is there before and after, and this is so of the two
 abbrev pub OverDisks : {D : Type 0} → Option D → Option D → (D → D → Type 0) → Type 0
@@ -79,13 +91,13 @@ start_end faults_of_keep.Memory = NoMemory
 start_end (faults_of_keep.Rule refusal) = NoMemory
 
 -- what a list leaves of the disk: since the journal was opened or made each image is one of the list, as it was at some time, with one entry
--- more at most; and at the end each is one of the list itself, with one doubt at most, and with none where no call of the disk failed
+-- more at most; and at the end each is one of the list itself, with one doubt at most
 pub record LeavesList {D : Type 0} (state : D → DiskState) (faults : D → ℕ) (opened disk : D) (opening final : List Entry) : Type 0 where
   pub since : LeavesOnly (state opened) (state disk) (IsImageSince opening final)
   pub doubt : Option Entry
   pub legal : IsLegal (with_doubt final doubt)
   pub images : (content : List ℕ) → (state disk).may_leave content → IsImageOf final doubt content
-  pub cause : (doubt ≡ None) ⊎ Rose (faults opened) (faults disk)
+  pub counts : faults opened ≤ faults disk
 
 -- nothing was started: the disk is as it was, and no moment was taken
 pub record StopsBefore {D : Type 0} (moments later : Option Coming) (disk left : D) : Type 0 where
@@ -114,34 +126,42 @@ module _ {D : Type 0} (state : D → DiskState) (faults : D → ℕ) where
   IsStop text moments later disk left NoMemory = StopsBefore moments later disk left ⊎ StartsWith text moments later disk left faults_of_keep.Memory
   IsStop text moments later disk left (Session end) = ⊥
 
-  -- a run stopped before its first request: it did not read its input, and wrote no response
-  pub record StopsEarly (text : Option (List ℕ)) (before after : OneThread D) (end : RunEnd) (tally : Tally) : Type 0 where
-    pub stop : IsStop text before.moments after.moments before.disk after.disk end
+-- where a session begins: behind the Restart, with nothing kept
+abbrev pub begun_with : List Entry → ℕ → ℕ → Option Coming → Option Coming → Walk
+begun_with entries used count moments words = record { entries = entries; used = used; faults = count; kept = None; moments = moments; words = words }
+
+-- what is seen of disks and stores: what is known of each, and its count of faults
+module _ {D E : Type 0} (state : D → DiskState) (faults : D → ℕ) (store_state : E → StoreState) (store_calls : E → Option (List Call)) (store_faults : E → ℕ) where
+  -- a run stopped before its first request: it did not read its input, wrote no response, called no store and took no word
+  pub record StopsEarly (text : Option (List ℕ)) (before after : OneThread D E) (end : RunEnd) (tally : Tally) : Type 0 where
+    pub stop : IsStop state faults text before.moments after.moments before.disk after.disk end
     pub counted : tally ≡ no_tally
     pub untaken : after.input ≡ before.input
     pub unwritten : after.output ≡ before.output
-
-  -- where a session begins: behind the Restart, with nothing kept
-  abbrev pub begun_with : List Entry → ℕ → ℕ → Option Coming → Walk
-  begun_with entries used count moments = record { entries = entries; used = used; faults = count; kept = None; moments = moments; words = None }
+    pub store : after.store ≡ before.store
+    pub words : after.words ≡ before.words
 
   -- a session ran from its Restart on, over the list that was there at the opening
-  pub record RanOver (before after : OneThread D) (settings : SettingsData) (now : ℕ) (moments : Option Coming) (keep : KeepData D)
+  pub record RanOver (before after : OneThread D E) (settings : SettingsData) (now : ℕ) (moments : Option Coming) (keep : KeepData D)
       (opening : List Entry) (end : RunEnd) (tally : Tally) : Type 0 where
     pub final : Walk
-    pub session_end : LineEnd
-    pub session : IsSession [] (begun_with (restarted opening now settings) keep.used (faults keep.disk) moments) final
-        before.input after.input before.output after.output session_end
+    pub session_end : SessionEnd
+    pub session : IsSession [] settings.workers before.input after.input before.output after.output session_end
+        (begun_with (restarted opening now settings) keep.used (faults keep.disk) moments before.words) final
     pub ended : end ≡ Session session_end
     pub moments_left : after.moments ≡ final.moments
+    pub words_left : after.words ≡ final.words
     pub faults_left : faults after.disk ≡ final.faults
     pub since : List Entry
     pub grown : final.entries ≡ restarted opening now settings ++ since
     pub legal : IsLegal final.entries
+    -- the copies made are those that the reports stand for, in order, and one at most whose report is to come
+    pub store : FollowsReports store_state store_calls store_faults [] (copies_from (λ writer. true) (tables_of (restarted opening now settings)) since)
+        (copies_kept (tables_of final.entries) (held_over final.entries final.kept)) before.store after.store
     pub counted : tally ≡ tally_of since (tables_of final.entries)
 
   -- a run came to its session: under the settings of the text, which is told or not
-  pub record RunsSession (text : Option (List ℕ)) (before after : OneThread D) (end : RunEnd) (tally : Tally) : Type 0 where
+  pub record RunsSession (text : Option (List ℕ)) (before after : OneThread D E) (end : RunEnd) (tally : Tally) : Type 0 where
     pub settings : SettingsData
     pub kept : IsSettings settings
     pub read : AreRead text settings
@@ -155,17 +175,20 @@ module _ {D : Type 0} (state : D → DiskState) (faults : D → ℕ) where
     pub tells : (state after.disk).told ≡ (state before.disk).told
     pub leaves : (told : IsTold (state before.disk)) → LeavesList state faults (starts.own told).opened after.disk opening ran.final.entries
 
-  -- requests were answered over a keep, which was closed then: it left this disk
-  pub record ServesKeep (keep : KeepData D) (left : D) (moments later : Option Coming) (kept : List ℕ) (input after : Reading)
+  -- a keep was served, which was closed then: it left this disk
+  pub record ServesKeep (at : ThreadData D E) (workers : ℕ) (left : D) (store : E) (later words_later : Option Coming) (kept : List ℕ) (input after : Reading)
       (held now : Option (List ℕ)) (end : RunEnd) (tally : Tally) : Type 0 where
-    pub session_end : LineEnd
+    pub session_end : SessionEnd
     pub ended : end ≡ Session session_end
-    pub last : KeepData D
-    pub closed : left ≡ last.disk
-    pub session : MakesSession state faults keep last moments later kept input after held now session_end
-    pub sound : IsKeep state last
-    pub counted : tally ≡ tally_of [] last.tables
+    pub last : ThreadData D E
+    pub closed : left ≡ last.keep.disk
+    pub store_is : store ≡ last.store
+    pub moments_are : later ≡ last.moments
+    pub words_are : words_later ≡ last.words
+    pub session : Works state faults store_state store_calls store_faults (IsSession kept workers input after held now session_end) at last
+    pub sound : IsKeep state last.keep
+    pub counted : tally ≡ tally_with last.claims last.keep.tables
 
   -- what a run did that ended so: it stopped before its first request, or ran a session
-  abbrev pub IsSessionRun : RunEnd → Tally → Option (List ℕ) → OneThread D → OneThread D → Type 0
+  abbrev pub IsSessionRun : RunEnd → Tally → Option (List ℕ) → OneThread D E → OneThread D E → Type 0
   IsSessionRun end tally text before after = StopsEarly text before after end tally ⊎ RunsSession text before after end tally

@@ -1,9 +1,10 @@
-//! How a connection and a run end. Each end has its exit status (`specs/Ends.antt`) and the line that it notes (`specs/Notes.antt`).
+//! How a connection, a session and a run end. Each end has its exit status (`specs/Ends.antt`) and the line that it notes (`specs/Notes.antt`).
 ghost use Rattle.std.specs.Prelude.{◌≡◌};
-ghost use Rattle.fts_top.specs.Ends.{line_status, status_of};
+ghost use Rattle.fts_top.specs.Ends.{line_status, round_status, session_status, status_of};
 ghost use Rattle.fts_top.specs.Runs.{start_end};
 
 use fts_keep::KeepFault;
+use fts_workers::RoundEnd;
 
 /// How a connection ended.
 #[derive(Clone, Copy, Debug, PartialEq, Eq)]
@@ -20,6 +21,13 @@ pub enum LineEnd {
     SourceFailed,
     /// A write failed.
     SinkFailed,
+}
+
+/// How a session ended: its connection, and its last round.
+#[derive(Clone, Copy, Debug, PartialEq, Eq)]
+pub struct SessionEnd {
+    pub line: LineEnd,
+    pub last: RoundEnd,
 }
 
 /// How a run ended.
@@ -39,23 +47,47 @@ pub enum RunEnd {
     Damaged { offset: u64 },
     /// The Restart didn't fit the journal behind so many bytes.
     JournalFull { used: u64 },
-    /// Requests were answered, until the connection ended so.
-    Session { end: LineEnd },
+    /// Requests were answered and rounds made, and the session ended so.
+    Session { end: SessionEnd },
 }
 
 impl LineEnd {
-    /// The exit status.
-    fn status(self) -> u8
+    /// The exit status, where it didn't end well.
+    fn status(self) -> Option<u8>
         ensures { result ≡ line_status self }
     {
         match self {
-            LineEnd::Closed => 0,
-            LineEnd::SourceFailed => 5,
-            LineEnd::SinkFailed => 6,
-            LineEnd::EndsInside => 10,
-            LineEnd::Refused { status: _ } => 12,
-            LineEnd::Many => 14,
+            LineEnd::Closed => None,
+            LineEnd::SourceFailed => Some(5),
+            LineEnd::SinkFailed => Some(6),
+            LineEnd::EndsInside => Some(10),
+            LineEnd::Refused { status: _ } => Some(12),
+            LineEnd::Many => Some(14),
         }
+    }
+}
+
+impl SessionEnd {
+    /// The exit status: the connection's where that didn't end well, and else the last round's.
+    fn status(self) -> u8
+        ensures { result ≡ session_status self }
+    {
+        match self.line.status() {
+            Some(status) => status,
+            None => round_end_status(self.last),
+        }
+    }
+}
+
+/// The exit status of a last round.
+fn round_end_status(end: RoundEnd) -> u8
+    ensures { result ≡ round_status end }
+{
+    match end {
+        RoundEnd::Clear | RoundEnd::Busy { held: _ } => 0,
+        RoundEnd::Memory => 1,
+        RoundEnd::DiskFailed => 4,
+        RoundEnd::JournalFull { used: _ } => 11,
     }
 }
 

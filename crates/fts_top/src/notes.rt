@@ -2,10 +2,11 @@
 ghost use Rattle.std.specs.Prelude.{◌≡◌};
 ghost use Rattle.fts_tables.specs.Counts.{CountsFaults};
 ghost use Rattle.fts_wire.specs.Response.{Sends};
-ghost use Rattle.fts_top.specs.Notes.{line_note_of, note_of, note_with, IsNoted};
+ghost use Rattle.fts_top.specs.Notes.{round_note_of, session_note_of, note_of, note_with, IsNoted};
 
-use crate::ends::{LineEnd, RunEnd};
+use crate::ends::{LineEnd, RunEnd, SessionEnd};
 use fts_wire::{Sink, SinkFailed, send_all, send_parts};
+use fts_workers::RoundEnd;
 use itoa::Buffer;
 
 /// Writes the line of a run's end, as far as the notes take it.
@@ -28,17 +29,17 @@ fn send_note<N: Sink>(notes: &mut N, end: RunEnd) -> Result<(), SinkFailed>
         RunEnd::DiskFailed => send_all(notes, "fts: disk failed\n".as_bytes()),
         RunEnd::Damaged { offset } => send_number(notes, "fts: journal damaged at ", offset),
         RunEnd::JournalFull { used } => send_number(notes, "fts: journal full at ", used),
-        RunEnd::Session { end } => send_line_note(notes, end),
+        RunEnd::Session { end } => send_session_note(notes, end),
     }
 }
 
-/// Sends the line of a connection's end.
-fn send_line_note<N: Sink>(notes: &mut N, end: LineEnd) -> Result<(), SinkFailed>
-    ensures sent { Sends (N.held notes.old) (N.held notes.new) (line_note_of end) result }
+/// Sends the line of a session's end.
+fn send_session_note<N: Sink>(notes: &mut N, end: SessionEnd) -> Result<(), SinkFailed>
+    ensures sent { Sends (N.held notes.old) (N.held notes.new) (session_note_of end.line end.last) result }
     ensures cause { CountsFaults (N.faults notes.old) (N.faults notes.new) result }
 {
-    match end {
-        LineEnd::Closed => send_all(notes, "".as_bytes()),
+    match end.line {
+        LineEnd::Closed => send_round_note(notes, end.last),
         LineEnd::SourceFailed => send_all(notes, "fts: input failed\n".as_bytes()),
         LineEnd::SinkFailed => send_all(notes, "fts: output failed\n".as_bytes()),
         LineEnd::EndsInside => send_all(notes, "fts: input ended inside a request\n".as_bytes()),
@@ -46,6 +47,19 @@ fn send_line_note<N: Sink>(notes: &mut N, end: LineEnd) -> Result<(), SinkFailed
             send_number(notes, "fts: request refused with ", status as u64)
         }
         LineEnd::Many => send_all(notes, "fts: too many requests\n".as_bytes()),
+    }
+}
+
+/// Sends the line of a last round.
+fn send_round_note<N: Sink>(notes: &mut N, last: RoundEnd) -> Result<(), SinkFailed>
+    ensures sent { Sends (N.held notes.old) (N.held notes.new) (round_note_of last) result }
+    ensures cause { CountsFaults (N.faults notes.old) (N.faults notes.new) result }
+{
+    match last {
+        RoundEnd::Clear | RoundEnd::Busy { held: _ } => send_all(notes, "".as_bytes()),
+        RoundEnd::DiskFailed => send_all(notes, "fts: disk failed\n".as_bytes()),
+        RoundEnd::JournalFull { used } => send_number(notes, "fts: journal full at ", used),
+        RoundEnd::Memory => send_all(notes, "fts: no memory\n".as_bytes()),
     }
 }
 

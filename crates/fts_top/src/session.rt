@@ -1,42 +1,86 @@
-//! A session: the requests of one connection, answered one after another over one keep.
+//! A session: the requests of one connection, answered one after another over one keep, each followed by a round of copies; and the last rounds.
 //! Keeps, from request to request: the tables are those of the list so far, what was written are its responses, and each request was read by one
-//! load (`MakesSession`). Order of a request: it is read, the clock is asked, it is answered, its response is written. Nothing is read behind a
-//! request that says close, nor behind the millionth, whose response says so, nor behind a load that found no request. A fault of the framing is
-//! answered once, and ends the session; a refusal of the keep is answered, and the session goes on.
+//! load (`Works` of `specs/Sessions.antt`). Order of a request: it is read, the clock is asked, it is answered, its response is written, a round is
+//! made. Nothing is read behind a request that says close, nor behind the millionth, whose response says so, nor behind a load that found no
+//! request. A fault of the framing is answered once, and no request behind it; a refusal of the keep is answered, a round's fault is tried again
+//! after the next request, and the session goes on.
 ghost use Rattle.std.specs.Prelude.{◌≡◌, ◌≤◌, ◌<◌, IsSome, IsTrue};
 ghost use Rattle.fts_tables.specs.Counts.{Rose, CountsFaults};
 ghost use Rattle.fts_wire.specs.Answered.{request_data};
 ghost use Rattle.fts_wire.specs.Faults.{status_of};
 ghost use Rattle.fts_wire.specs.Response.{has_phrase, has_methods, Sends};
-ghost use Rattle.fts_top.specs.Connections.{IsRefused, reading_of, response_to};
-ghost use Rattle.fts_top.specs.Sessions.{MakesSession};
+ghost use Rattle.fts_workers.specs.Rounds.{IsRound};
+ghost use Rattle.fts_top.specs.Connections.{IsRefused, IsConnection, reading_of, response_to};
+ghost use Rattle.fts_top.specs.Sessions.{AnswersNext, FollowedByRound, IsSession, LastRounds, Works, IsReady, thread};
 
-use crate::ends::LineEnd;
+use crate::ends::{LineEnd, SessionEnd};
 use fts_disk::Disk;
 use fts_keep::Keep;
 use fts_routes::{answer, refusal_reply};
-use fts_tables::Clock;
+use fts_store::Store;
 use fts_tables::limits::MAX_REQUESTS;
+use fts_tables::{Clock, Words};
 use fts_wire::{Reply, Request, Room, Sink, SinkFailed, Source, WireFault, write_response};
+use fts_workers::{Bench, RoundEnd, requests_leave_the_bench, round};
 use std::alloc::Global;
 
-/// Answers the requests of a connection as writer 0.
-pub fn run_session<D: Disk, S: Source, K: Sink, C: Clock>(
+/// What one thread works with: the keep, the files that it holds, and how many it has claimed.
+pub struct Working<D: Disk> {
+    pub keep: Keep<D>,
+    pub bench: Bench,
+    pub claims: u32,
+}
+
+/// Answers the requests of a connection as writer 0, with a round behind each, and then makes rounds until one is not busy.
+pub fn run_session<D: Disk, S: Source, K: Sink, E: Store, C: Clock, W: Words>(
     alloc: Global,
-    keep: &mut Keep<D>,
+    working: &mut Working<D>,
     room: &mut Room,
     input: &mut S,
     output: &mut K,
     clock: &mut C,
+    store: &mut E,
+    words: &mut W,
+) -> SessionEnd
+    requires ready { IsReady (thread working.old.keep working.old.bench working.old.claims store.old (C.moments clock.old) (W.words words.old)) }
+    // Whatever list keep and bench are over, the session goes on from it.
+    ensures session { Works D.state D.faults E.state E.calls E.faults
+        (IsSession room.old.kept working.old.bench.places (reading_of (S.left input.old) (S.reads input.old)) (reading_of (S.left input.new) (S.reads input.new))
+        (K.held output.old) (K.held output.new) result)
+        (thread working.old.keep working.old.bench working.old.claims store.old (C.moments clock.old) (W.words words.old))
+        (thread working.new.keep working.new.bench working.new.claims store.new (C.moments clock.new) (W.words words.new)) }
+    ensures input { result.line ≡ LineEnd.SourceFailed → Rose (S.faults input.old) (S.faults input.new) }
+    ensures output { result.line ≡ LineEnd.SinkFailed → Rose (K.faults output.old) (K.faults output.new) }
+    ensures disk { result.last ≡ RoundEnd.DiskFailed → Rose (D.faults working.old.keep.disk) (D.faults working.new.keep.disk) }
+{
+    let line = answer_requests(alloc, working, room, input, output, clock, store, words);
+    let last = make_last_rounds(working, clock, store, words);
+    SessionEnd { line, last }
+}
+
+/// Answers the requests of a connection, with a round behind each.
+fn answer_requests<D: Disk, S: Source, K: Sink, E: Store, C: Clock, W: Words>(
+    alloc: Global,
+    working: &mut Working<D>,
+    room: &mut Room,
+    input: &mut S,
+    output: &mut K,
+    clock: &mut C,
+    store: &mut E,
+    words: &mut W,
 ) -> LineEnd
-    // Whatever list the tables are of, the session goes on from it.
-    ensures session { MakesSession D.state D.faults keep.old keep.new (C.moments clock.old) (C.moments clock.new) room.old.kept
-        (reading_of (S.left input.old) (S.reads input.old)) (reading_of (S.left input.new) (S.reads input.new)) (K.held output.old) (K.held output.new) result }
+    requires ready { IsReady (thread working.old.keep working.old.bench working.old.claims store.old (C.moments clock.old) (W.words words.old)) }
+    ensures works { Works D.state D.faults E.state E.calls E.faults
+        (λ before after. IsConnection AnswersNext (FollowedByRound working.old.bench.places) room.old.kept before after
+        (reading_of (S.left input.old) (S.reads input.old)) (reading_of (S.left input.new) (S.reads input.new)) (K.held output.old) (K.held output.new) result)
+        (thread working.old.keep working.old.bench working.old.claims store.old (C.moments clock.old) (W.words words.old))
+        (thread working.new.keep working.new.bench working.new.claims store.new (C.moments clock.new) (W.words words.new)) }
     ensures input { result ≡ LineEnd.SourceFailed → Rose (S.faults input.old) (S.faults input.new) }
     ensures output { result ≡ LineEnd.SinkFailed → Rose (K.faults output.old) (K.faults output.new) }
 {
+    requests_leave_the_bench();
     // A keep has settings in force, and each image of its disk is one of its list.
-    keep.desk();
+    working.keep.desk();
     for done in 0..MAX_REQUESTS {
         match room.load(input) {
             Ok(true) => {}
@@ -47,16 +91,65 @@ pub fn run_session<D: Disk, S: Source, K: Sink, C: Clock>(
         }
         let now = clock.now();
         let request = room.request();
-        let reply = answer(alloc, keep, 0, &request, now);
+        let reply = answer(alloc, &mut working.keep, 0, &request, now);
         match respond(output, &request, done, &reply) {
             Ok(()) => {}
             Err(SinkFailed) => return LineEnd::SinkFailed,
         }
+        make_round(working, clock, store, words);
         if request.close {
             return LineEnd::Closed;
         }
     }
     LineEnd::Many
+}
+
+/// Makes rounds until one is not busy.
+fn make_last_rounds<D: Disk, E: Store, C: Clock, W: Words>(
+    working: &mut Working<D>,
+    clock: &mut C,
+    store: &mut E,
+    words: &mut W,
+) -> RoundEnd
+    requires ready { IsReady (thread working.old.keep working.old.bench working.old.claims store.old (C.moments clock.old) (W.words words.old)) }
+    ensures works { Works D.state D.faults E.state E.calls E.faults (LastRounds working.old.bench.places result)
+        (thread working.old.keep working.old.bench working.old.claims store.old (C.moments clock.old) (W.words words.old))
+        (thread working.new.keep working.new.bench working.new.claims store.new (C.moments clock.new) (W.words words.new)) }
+    ensures disk { result ≡ RoundEnd.DiskFailed → Rose (D.faults working.old.keep.disk) (D.faults working.new.keep.disk) }
+{
+    // What is used of the journal stays below its limit, and a busy round uses more of it.
+    working.keep.desk();
+    'rounds: loop {
+        match make_round(working, clock, store, words) {
+            RoundEnd::Busy { held: _ } => {}
+            RoundEnd::Clear => return RoundEnd::Clear,
+            RoundEnd::DiskFailed => return RoundEnd::DiskFailed,
+            RoundEnd::JournalFull { used } => return RoundEnd::JournalFull { used },
+            RoundEnd::Memory => return RoundEnd::Memory,
+        }
+    }
+}
+
+/// Makes one round, and counts the files that it claims: the commands that it adds, but for the reports of the files that were held.
+fn make_round<D: Disk, E: Store, C: Clock, W: Words>(
+    working: &mut Working<D>,
+    clock: &mut C,
+    store: &mut E,
+    words: &mut W,
+) -> RoundEnd
+    requires ready { IsReady (thread working.old.keep working.old.bench working.old.claims store.old (C.moments clock.old) (W.words words.old)) }
+    ensures works { Works D.state D.faults E.state E.calls E.faults (λ before after. IsRound working.old.bench.places before result after)
+        (thread working.old.keep working.old.bench working.old.claims store.old (C.moments clock.old) (W.words words.old))
+        (thread working.new.keep working.new.bench working.new.claims store.new (C.moments clock.new) (W.words words.new)) }
+    ensures disk { result ≡ RoundEnd.DiskFailed → Rose (D.faults working.old.keep.disk) (D.faults working.new.keep.disk) }
+    ensures used { working.new.keep.used ≤ 67108863 }
+{
+    let held = working.bench.held().len() as u64;
+    let before = working.keep.desk().commands();
+    let end = round(&mut working.keep, &mut working.bench, store, clock, words);
+    let added = working.keep.desk().commands() - before;
+    working.claims += u64::from(added).saturating_sub(held) as u32;
+    end
 }
 
 /// Writes the response to a request that has so many before it.

@@ -6,8 +6,12 @@ ghost use Rattle.std.specs.Prelude.{◌≡◌, ◌≤◌, ◌≢◌, [], length,
 
 use crate::{Ending, Outside, run};
 use fts_disk::{Disk, MemoryDisk};
-use fts_tables::{Clock, ListClock};
+use fts_store::{MemoryStore, Store, StoredFile};
+use fts_tables::{
+    Clock, EndpointName, Items, ListClock, ListWords, PathKey, Place, PlaceRef, Words,
+};
 use fts_wire::{MemorySink, MemorySource, Sink, SinkFailed, Source, SourceFailed};
+use fts_workers::Hand;
 use std::alloc::Global;
 use std::cell::Cell;
 use std::test::Fail;
@@ -26,7 +30,8 @@ struct Row {
     output: &'static str,
     status: u8,
     note: &'static str,
-    waiting: u32,
+    /// How many files finish, and how many fail.
+    ends: (u32, u32),
 }
 
 const ROWS: [Row; 24] = [
@@ -36,7 +41,7 @@ const ROWS: [Row; 24] = [
         output: "HTTP/1.1 200 OK\r\nContent-Type: application/json\r\nContent-Length: 49\r\n\r\n{\"job_id\":\"00000000-0000-4000-8000-000000000001\"}HTTP/1.1 200 OK\r\nContent-Type: application/json\r\nContent-Length: 49\r\n\r\n{\"job_id\":\"00000000-0000-4000-8000-000000000002\"}",
         status: 0,
         note: "",
-        waiting: 2,
+        ends: (1, 1),
     },
     Row {
         case: "nothing",
@@ -44,7 +49,7 @@ const ROWS: [Row; 24] = [
         output: "",
         status: 0,
         note: "",
-        waiting: 0,
+        ends: (0, 0),
     },
     Row {
         case: "no JSON, and a plain request behind it",
@@ -52,7 +57,7 @@ const ROWS: [Row; 24] = [
         output: "HTTP/1.1 400 Bad Request\r\nContent-Type: application/json\r\nContent-Length: 44\r\n\r\n{\"message\":\"not JSON\",\"rule\":1,\"status\":400}HTTP/1.1 200 OK\r\nContent-Type: application/json\r\nContent-Length: 49\r\n\r\n{\"job_id\":\"00000000-0000-4000-8000-000000000001\"}",
         status: 0,
         note: "",
-        waiting: 1,
+        ends: (1, 0),
     },
     Row {
         case: "no files",
@@ -60,7 +65,7 @@ const ROWS: [Row; 24] = [
         output: "HTTP/1.1 400 Bad Request\r\nContent-Type: application/json\r\nContent-Length: 44\r\n\r\n{\"message\":\"no files\",\"rule\":3,\"status\":400}",
         status: 0,
         note: "",
-        waiting: 0,
+        ends: (0, 0),
     },
     Row {
         case: "a checksum that is no MD5, verified",
@@ -68,7 +73,7 @@ const ROWS: [Row; 24] = [
         output: "HTTP/1.1 400 Bad Request\r\nContent-Type: application/json\r\nContent-Length: 52\r\n\r\n{\"message\":\"other algorithm\",\"rule\":13,\"status\":400}",
         status: 0,
         note: "",
-        waiting: 0,
+        ends: (0, 0),
     },
     Row {
         case: "a URL with a query, and a path with two dots",
@@ -76,7 +81,7 @@ const ROWS: [Row; 24] = [
         output: "HTTP/1.1 400 Bad Request\r\nContent-Type: application/json\r\nContent-Length: 45\r\n\r\n{\"message\":\"bad URL 3\",\"rule\":8,\"status\":400}HTTP/1.1 200 OK\r\nContent-Type: application/json\r\nContent-Length: 49\r\n\r\n{\"job_id\":\"00000000-0000-4000-8000-000000000001\"}",
         status: 0,
         note: "",
-        waiting: 1,
+        ends: (0, 1),
     },
     Row {
         case: "an endpoint that is not there",
@@ -84,7 +89,7 @@ const ROWS: [Row; 24] = [
         output: "HTTP/1.1 400 Bad Request\r\nContent-Type: application/json\r\nContent-Length: 52\r\n\r\n{\"message\":\"unknown endpoint\",\"rule\":9,\"status\":400}",
         status: 0,
         note: "",
-        waiting: 0,
+        ends: (0, 0),
     },
     Row {
         case: "a source that is its destination",
@@ -92,7 +97,7 @@ const ROWS: [Row; 24] = [
         output: "HTTP/1.1 400 Bad Request\r\nContent-Type: application/json\r\nContent-Length: 45\r\n\r\n{\"message\":\"same URL\",\"rule\":10,\"status\":400}",
         status: 0,
         note: "",
-        waiting: 0,
+        ends: (0, 0),
     },
     Row {
         case: "one client's id twice, and a job without one",
@@ -100,7 +105,7 @@ const ROWS: [Row; 24] = [
         output: "HTTP/1.1 200 OK\r\nContent-Type: application/json\r\nContent-Length: 49\r\n\r\n{\"job_id\":\"b949c361-d467-5052-9cfa-7e89a8319c00\"}HTTP/1.1 409 Conflict\r\nContent-Type: application/json\r\nContent-Length: 94\r\n\r\n{\"job_id\":\"b949c361-d467-5052-9cfa-7e89a8319c00\",\"message\":\"duplicate\",\"rule\":34,\"status\":409}HTTP/1.1 200 OK\r\nContent-Type: application/json\r\nContent-Length: 49\r\n\r\n{\"job_id\":\"00000000-0000-4000-8000-000000000002\"}",
         status: 0,
         note: "",
-        waiting: 2,
+        ends: (1, 1),
     },
     Row {
         case: "three files",
@@ -108,7 +113,7 @@ const ROWS: [Row; 24] = [
         output: "HTTP/1.1 200 OK\r\nContent-Type: application/json\r\nContent-Length: 49\r\n\r\n{\"job_id\":\"00000000-0000-4000-8000-000000000001\"}",
         status: 0,
         note: "",
-        waiting: 3,
+        ends: (1, 2),
     },
     Row {
         case: "three replicas of one file, in order",
@@ -116,7 +121,7 @@ const ROWS: [Row; 24] = [
         output: "HTTP/1.1 200 OK\r\nContent-Type: application/json\r\nContent-Length: 49\r\n\r\n{\"job_id\":\"00000000-0000-4000-8000-000000000001\"}",
         status: 0,
         note: "",
-        waiting: 1,
+        ends: (0, 3),
     },
     Row {
         case: "two hops",
@@ -124,7 +129,7 @@ const ROWS: [Row; 24] = [
         output: "HTTP/1.1 200 OK\r\nContent-Type: application/json\r\nContent-Length: 49\r\n\r\n{\"job_id\":\"00000000-0000-4000-8000-000000000001\"}",
         status: 0,
         note: "",
-        waiting: 1,
+        ends: (0, 1),
     },
     Row {
         case: "keys in another order, and blanks",
@@ -132,7 +137,7 @@ const ROWS: [Row; 24] = [
         output: "HTTP/1.1 200 OK\r\nContent-Type: application/json\r\nContent-Length: 49\r\n\r\n{\"job_id\":\"00000000-0000-4000-8000-000000000001\"}",
         status: 0,
         note: "",
-        waiting: 1,
+        ends: (0, 1),
     },
     Row {
         case: "half a head behind a request",
@@ -140,7 +145,7 @@ const ROWS: [Row; 24] = [
         output: "HTTP/1.1 200 OK\r\nContent-Type: application/json\r\nContent-Length: 49\r\n\r\n{\"job_id\":\"00000000-0000-4000-8000-000000000001\"}",
         status: 10,
         note: "fts: input ended inside a request\n",
-        waiting: 1,
+        ends: (1, 0),
     },
     Row {
         case: "a body that lacks its last byte",
@@ -148,7 +153,7 @@ const ROWS: [Row; 24] = [
         output: "",
         status: 10,
         note: "fts: input ended inside a request\n",
-        waiting: 0,
+        ends: (0, 0),
     },
     Row {
         case: "another version, and a plain request behind it",
@@ -156,7 +161,7 @@ const ROWS: [Row; 24] = [
         output: "HTTP/1.1 400 Bad Request\r\nContent-Type: application/json\r\nContent-Length: 45\r\nConnection: close\r\n\r\n{\"message\":\"bad head\",\"rule\":41,\"status\":400}",
         status: 12,
         note: "fts: request refused with 400\n",
-        waiting: 0,
+        ends: (0, 0),
     },
     Row {
         case: "65 lines behind the first",
@@ -164,7 +169,7 @@ const ROWS: [Row; 24] = [
         output: "HTTP/1.1 431 Request Header Fields Too Large\r\nContent-Type: application/json\r\nContent-Length: 51\r\nConnection: close\r\n\r\n{\"message\":\"head too large\",\"rule\":42,\"status\":431}",
         status: 12,
         note: "fts: request refused with 431\n",
-        waiting: 0,
+        ends: (0, 0),
     },
     Row {
         case: "two lengths of one value",
@@ -172,7 +177,7 @@ const ROWS: [Row; 24] = [
         output: "HTTP/1.1 400 Bad Request\r\nContent-Type: application/json\r\nContent-Length: 47\r\nConnection: close\r\n\r\n{\"message\":\"bad length\",\"rule\":43,\"status\":400}",
         status: 12,
         note: "fts: request refused with 400\n",
-        waiting: 0,
+        ends: (0, 0),
     },
     Row {
         case: "chunks, with a bad length",
@@ -180,7 +185,7 @@ const ROWS: [Row; 24] = [
         output: "HTTP/1.1 501 Not Implemented\r\nContent-Type: application/json\r\nContent-Length: 44\r\nConnection: close\r\n\r\n{\"message\":\"chunked\",\"rule\":44,\"status\":501}",
         status: 12,
         note: "fts: request refused with 501\n",
-        waiting: 0,
+        ends: (0, 0),
     },
     Row {
         case: "a body of 1 MiB and a byte",
@@ -188,7 +193,7 @@ const ROWS: [Row; 24] = [
         output: "HTTP/1.1 413 Payload Too Large\r\nContent-Type: application/json\r\nContent-Length: 51\r\nConnection: close\r\n\r\n{\"message\":\"body too large\",\"rule\":45,\"status\":413}",
         status: 12,
         note: "fts: request refused with 413\n",
-        waiting: 0,
+        ends: (0, 0),
     },
     Row {
         case: "a request that says close, and one behind it",
@@ -196,7 +201,7 @@ const ROWS: [Row; 24] = [
         output: "HTTP/1.1 200 OK\r\nContent-Type: application/json\r\nContent-Length: 49\r\nConnection: close\r\n\r\n{\"job_id\":\"00000000-0000-4000-8000-000000000001\"}",
         status: 0,
         note: "",
-        waiting: 1,
+        ends: (1, 0),
     },
     Row {
         case: "a request of version 1.0, and half a head behind it",
@@ -204,7 +209,7 @@ const ROWS: [Row; 24] = [
         output: "HTTP/1.1 200 OK\r\nContent-Type: application/json\r\nContent-Length: 49\r\nConnection: close\r\n\r\n{\"job_id\":\"00000000-0000-4000-8000-000000000001\"}",
         status: 0,
         note: "",
-        waiting: 1,
+        ends: (1, 0),
     },
     Row {
         case: "a head alone, and a request behind it",
@@ -212,15 +217,15 @@ const ROWS: [Row; 24] = [
         output: "HTTP/1.1 405 Method Not Allowed\r\nContent-Type: application/json\r\nContent-Length: 0\r\nAllow: GET, POST, PUT\r\n\r\nHTTP/1.1 200 OK\r\nContent-Type: application/json\r\nContent-Length: 49\r\n\r\n{\"job_id\":\"00000000-0000-4000-8000-000000000001\"}",
         status: 0,
         note: "",
-        waiting: 1,
+        ends: (1, 0),
     },
     Row {
         case: "a submission and a look at it, as curl sends them",
         input: "POST /jobs HTTP/1.1\r\nHost: localhost:8446\r\nUser-Agent: curl/8.5.0\r\nAccept: */*\r\nContent-Length: 93\r\nContent-Type: application/x-www-form-urlencoded\r\n\r\n{\"files\":[{\"sources\":[\"https://a.example/data/f1\"],\"destinations\":[\"https://b.example/f1\"]}]}GET /jobs/00000000-0000-4000-8000-000000000001 HTTP/1.1\r\nHost: localhost:8446\r\nUser-Agent: curl/8.5.0\r\nAccept: */*\r\n\r\n",
-        output: "HTTP/1.1 200 OK\r\nContent-Type: application/json\r\nContent-Length: 49\r\n\r\n{\"job_id\":\"00000000-0000-4000-8000-000000000001\"}HTTP/1.1 200 OK\r\nContent-Type: application/json\r\nContent-Length: 169\r\n\r\n{\"job_id\":\"00000000-0000-4000-8000-000000000001\",\"job_state\":\"SUBMITTED\",\"kind\":\"plain\",\"priority\":3,\"retry\":0,\"retry_delay\":0,\"submit_time\":1700000000,\"vo_name\":\"demo\"}",
+        output: "HTTP/1.1 200 OK\r\nContent-Type: application/json\r\nContent-Length: 49\r\n\r\n{\"job_id\":\"00000000-0000-4000-8000-000000000001\"}HTTP/1.1 200 OK\r\nContent-Type: application/json\r\nContent-Length: 166\r\n\r\n{\"job_id\":\"00000000-0000-4000-8000-000000000001\",\"job_state\":\"ACTIVE\",\"kind\":\"plain\",\"priority\":3,\"retry\":0,\"retry_delay\":0,\"submit_time\":1700000000,\"vo_name\":\"demo\"}",
         status: 0,
         note: "",
-        waiting: 1,
+        ends: (1, 0),
     },
 ];
 
@@ -283,7 +288,66 @@ fn source_of(
 }
 
 /// What a run over memory meets.
-type Meets = Outside<MemorySource, Pieces, MemorySink, MemorySink, MemoryDisk, ListClock>;
+type Meets = Outside<
+    MemorySource,
+    Pieces,
+    MemorySink,
+    MemorySink,
+    MemoryDisk,
+    MemoryStore,
+    ListClock,
+    ListWords,
+>;
+
+/// A store that holds `abc` at `https://a.example/data/f1`.
+fn store(alloc: Global) -> Result<MemoryStore, Fail> {
+    let mut files = Vec::new(alloc);
+    let endpoint = EndpointName::read(alloc, "https://a.example")?;
+    let path = PathKey::read(alloc, "data/f1")?;
+    if let (Some(endpoint), Some(path)) = (endpoint, path) {
+        let file = StoredFile {
+            place: Place { endpoint, path },
+            bytes: Items::from_vec(b"abc".to_vec(alloc)?),
+        };
+        if files.push(file).is_err() {
+            return Err(Fail::new("no memory"));
+        }
+    }
+    let files = Items::from_vec(files);
+    Ok(MemoryStore::new(alloc, files, Vec::new(alloc), Vec::new(alloc)))
+}
+
+/// The moment of every command.
+fn clock(alloc: Global) -> Result<ListClock, Fail> {
+    Ok(ListClock::new(vec![in alloc; 1_700_000_000; 1]?))
+}
+
+/// A hand with a clock.
+fn hand<C: Clock + Drop>(alloc: Global, clock: C) -> Result<Hand<MemoryStore, C, ListWords>, Fail> {
+    Ok(Hand {
+        store: store(alloc)?,
+        clock,
+        words: ListWords::new(vec![in alloc; 0; 1]?),
+    })
+}
+
+/// As many hands as a run has.
+fn hands(alloc: Global) -> Result<Vec<Hand<MemoryStore, ListClock, ListWords>>, Fail>
+    ensures { IfOk result (λ hands. length hands.items ≡ 16) }
+{
+    let mut hands = Vec::new(alloc);
+    for _ in 0..16 {
+        let one = hand(alloc, clock(alloc)?)?;
+        if hands.push(one).is_err() {
+            return Err(Fail::new("no memory"));
+        }
+    }
+    if hands.len() == 16 {
+        Ok(hands)
+    } else {
+        Err(Fail::new("another number of hands"))
+    }
+}
 
 /// An outside with these settings and this input, in which a read of the settings, a write and a note with these numbers fail.
 fn outside_under(
@@ -293,7 +357,8 @@ fn outside_under(
     write: u64,
     note: u64,
 ) -> Result<Meets, Fail>
-    ensures { IfOk result (λ outside. IsSome outside.disk) }
+    ensures disk { IfOk result (λ outside. IsSome outside.disk) }
+    ensures hands { IfOk result (λ outside. length outside.hands.items ≡ 16) }
 {
     let text = Vec::from_slice(alloc, settings.0.as_bytes())?;
     Ok(Outside {
@@ -302,24 +367,27 @@ fn outside_under(
         output: MemorySink::new(alloc, vec![in alloc; write; 1]?),
         notes: MemorySink::new(alloc, vec![in alloc; note; 1]?),
         disk: Some(MemoryDisk::new(alloc, Vec::new(alloc))),
-        clock: ListClock::new(vec![in alloc; 1_700_000_000; 1]?),
+        clock: clock(alloc)?,
+        hands: hands(alloc)?,
     })
 }
 
 /// An outside under the stand's settings.
 fn outside_with(alloc: Global, input: Pieces, write: u64, note: u64) -> Result<Meets, Fail>
-    ensures { IfOk result (λ outside. IsSome outside.disk) }
+    ensures disk { IfOk result (λ outside. IsSome outside.disk) }
+    ensures hands { IfOk result (λ outside. length outside.hands.items ≡ 16) }
 {
     outside_under(alloc, (STAND, 0), input, write, note)
 }
 
 /// A run of these words.
-fn run_words<F: Source, S: Source, K: Sink, N: Sink, D: Disk, C: Clock>(
+fn run_words<F: Source, S: Source, K: Sink, N: Sink, D: Disk, E: Store, C: Clock, W: Words>(
     alloc: Global,
     words: &[&str],
-    outside: &mut Outside<F, S, K, N, D, C>,
+    outside: &mut Outside<F, S, K, N, D, E, C, W>,
 ) -> Result<Ending, Fail>
-    requires { IsSome outside.old.disk }
+    requires disk { IsSome outside.old.disk }
+    requires hands { length outside.old.hands.items ≡ 16 }
 {
     let mut owned = Vec::new(alloc);
     for word in words {
@@ -349,7 +417,14 @@ fn requests_are_answered_byte_for_byte_however_they_are_cut(rt: HostRuntime) -> 
                 "{case}, cut at {cut}"
             );
             assert_eq!(rt; ending.status, row.status, "{case}, cut at {cut}");
-            assert_eq!(rt; ending.tally.waiting, row.waiting, "{case}, cut at {cut}");
+            let tally = ending.tally;
+            let ends = (tally.finished, tally.failed);
+            assert_eq!(rt; ends, row.ends, "{case}, cut at {cut}");
+            assert_eq!(rt;
+                (tally.claims, tally.waiting),
+                (ends.0 + ends.1, 0),
+                "{case}, cut at {cut}"
+            );
         }
     }
     Ok(())
@@ -378,7 +453,7 @@ fn requests_that_were_read_whole_are_answered_where_a_read_fails(
         );
         assert_eq!(rt; ending.status, 5, "after {read} bytes");
         assert_eq!(rt;
-            ending.tally.waiting as usize,
+            ending.tally.claims as usize,
             answered,
             "after {read} bytes"
         );
@@ -390,7 +465,7 @@ fn requests_that_were_read_whole_are_answered_where_a_read_fails(
 fn a_request_whose_response_could_not_be_written_is_the_last_one(
     rt: HostRuntime,
 ) -> Result<(), Fail> {
-    for (write, written, waiting) in [(1, 0, 1), (2, 120, 2)] {
+    for (write, written, claims) in [(1, 0, 1), (2, 120, 2)] {
         let input = source_of(rt.alloc(), ROWS[0].input.as_bytes(), 300, 1, false)?;
         let mut outside = outside_with(rt.alloc(), input, write, 0)?;
         let ending = run_words(rt.alloc(), &["session"], &mut outside)?;
@@ -402,7 +477,7 @@ fn a_request_whose_response_could_not_be_written_is_the_last_one(
             "write {write}"
         );
         assert_eq!(rt; ending.status, 6, "write {write}");
-        assert_eq!(rt; ending.tally.waiting, waiting, "write {write}");
+        assert_eq!(rt; ending.tally.claims, claims, "write {write}");
     }
     Ok(())
 }
@@ -426,7 +501,8 @@ fn session_over(alloc: Global, disk: MemoryDisk, requests: &str) -> Result<Sessi
         output: MemorySink::new(alloc, Vec::new(alloc)),
         notes: MemorySink::new(alloc, Vec::new(alloc)),
         disk: Some(disk),
-        clock: ListClock::new(vec![in alloc; 1_700_000_000; 1]?),
+        clock: clock(alloc)?,
+        hands: hands(alloc)?,
     };
     let ending = run_words(alloc, &["session"], &mut outside)?;
     let Outside {
@@ -436,6 +512,7 @@ fn session_over(alloc: Global, disk: MemoryDisk, requests: &str) -> Result<Sessi
         notes,
         disk,
         clock: _,
+        hands: _,
     } = outside;
     match disk {
         Some(disk) => Ok(Session {
@@ -453,14 +530,20 @@ fn left_by(disk: &MemoryDisk, byte: u8) -> Result<Vec<u8>, Fail> {
     Ok(disk.after_stop(disk.calls(), byte)?)
 }
 
-/// How many rows wait on the disk of these bytes, by a session of no requests.
-fn waiting_on(alloc: Global, bytes: Vec<u8>) -> Result<u32, Fail> {
+/// How many rows stand on the disk of these bytes, by a session of no requests.
+fn rows_on(alloc: Global, bytes: Vec<u8>) -> Result<u32, Fail> {
     let disk = MemoryDisk::holding(alloc, bytes, Vec::new(alloc));
     let session = session_over(alloc, disk, "")?;
     if session.ending.status != 0 {
         return Err(Fail::new("what was left is no journal"));
     }
-    Ok(session.ending.tally.waiting)
+    Ok(
+        session
+            .ending
+            .tally
+            .finished
+            .saturating_add(session.ending.tally.failed),
+    )
 }
 
 const FAILED: &str =
@@ -469,36 +552,45 @@ const FAILED: &str =
 const FIRST: &str =
     "HTTP/1.1 200 OK\r\nContent-Type: application/json\r\nContent-Length: 49\r\n\r\n{\"job_id\":\"00000000-0000-4000-8000-000000000001\"}";
 
+const SECOND: &str =
+    "HTTP/1.1 200 OK\r\nContent-Type: application/json\r\nContent-Length: 49\r\n\r\n{\"job_id\":\"00000000-0000-4000-8000-000000000002\"}";
+
 /// A journal of one Restart of the stand's settings at 1,700,000,000, by the format of journals and entries.
 const RESTARTED: &[u8] =
     b"FTS3JRN1\x01\x42\0\0\0\x00\x01\x80\xe2\xcf\xaa\x06\x04demo\x02\x02\x02\x11https://a.example\x14\x14\x11https://b.example\x14\x14\x00\x01\x07default\x01\x00";
 
-// With no failure the calls of the disk are 1 to 7 for the start, 8 to 11 for the first submission, and 12 to 15 for the second.
+// With no failure the calls of the disk are 1 to 7 for the start, and four for each entry behind it: the first submission, its file's claim, the
+// second submission, the first report, the second claim, and in the last rounds the second report.
 #[test]
 fn a_call_of_the_disk_that_fails_is_answered_and_loses_nothing(
     rt: HostRuntime,
 ) -> Result<(), Fail> {
     let alloc = rt.alloc();
-    for call in 1..=15 {
-        for last in [call, 40] {
+    for call in 1..=31 {
+        for last in [call, 90] {
             let mut fail = Vec::new(alloc);
             for number in call..=last {
                 fail.push(number)?;
             }
             let disk = MemoryDisk::new(alloc, fail);
             let session = session_over(alloc, disk, ROWS[0].input)?;
-            let replies: &[&str] = match (call, call == last) {
-                (1..=7, _) => &[],
-                (8..=11, true) => &[FAILED, FIRST],
-                (8..=11, false) => &[FAILED, FAILED],
-                _ => &[FIRST, FAILED],
+            let alone = call == last;
+            let (replies, status): (&[&str], u8) = match (call, alone) {
+                (1..=7, _) => (&[], 4),
+                (8..=11, true) => (&[FAILED, FIRST], 0),
+                (8..=11, false) => (&[FAILED, FAILED], 0),
+                (12..=15, false) => (&[FIRST, FAILED], 4),
+                (16..=19, true) => (&[FIRST, FAILED], 0),
+                (16..=19, false) => (&[FIRST, FAILED], 4),
+                (12..=27, true) => (&[FIRST, SECOND], 0),
+                _ => (&[FIRST, SECOND], 4),
             };
             let mut written = Vec::new(alloc);
             let mut accepted = 0;
             for reply in replies {
                 written.extend_from_slice(reply.as_bytes())?;
-                if *reply == FIRST {
-                    accepted = 1;
+                if *reply != FAILED {
+                    accepted = 2.min(accepted + 1);
                 }
             }
             assert_eq!(rt;
@@ -506,19 +598,18 @@ fn a_call_of_the_disk_that_fails_is_answered_and_loses_nothing(
                 written.as_slice(),
                 "{call} to {last}"
             );
-            let (status, note) = if call <= 7 {
-                (4, "fts: disk failed\n")
+            let note = if status == 4 {
+                "fts: disk failed\n"
             } else {
-                (0, "")
+                ""
             };
             assert_eq!(rt; session.ending.status, status, "{call} to {last}");
             assert_eq!(rt; session.notes.bytes(), note.as_bytes(), "{call} to {last}");
-            assert_eq!(rt; session.ending.tally.waiting, accepted, "{call} to {last}");
             // The first three calls make the journal.
             let bytes: &[u8] = if call > 3 { &[0, 1] } else { &[] };
             for byte in bytes {
-                let found = waiting_on(alloc, left_by(&session.disk, *byte)?)?;
-                let doubt = u32::from(call > 7 && replies.ends_with(&[FAILED]));
+                let found = rows_on(alloc, left_by(&session.disk, *byte)?)?;
+                let doubt = u32::from(!alone && replies.ends_with(&[FAILED]));
                 assert!(rt;
                     found >= accepted && found <= accepted + doubt,
                     "{call} to {last}, the rest {byte}"
@@ -540,7 +631,9 @@ fn a_session_goes_on_where_the_last_one_ended(rt: HostRuntime) -> Result<(), Fai
         second.output.bytes(),
         b"HTTP/1.1 200 OK\r\nContent-Type: application/json\r\nContent-Length: 49\r\n\r\n{\"job_id\":\"00000000-0000-4000-8000-000000000003\"}".as_slice()
     );
-    assert_eq!(rt; (second.ending.status, second.ending.tally.waiting), (0, 3));
+    let tally = second.ending.tally;
+    assert_eq!(rt; second.ending.status, 0);
+    assert_eq!(rt; (tally.claims, tally.finished, tally.failed), (1, 1, 2));
     Ok(())
 }
 
@@ -550,6 +643,23 @@ fn an_empty_input_leaves_one_restart(rt: HostRuntime) -> Result<(), Fail> {
     let session = session_over(alloc, MemoryDisk::new(alloc, Vec::new(alloc)), "")?;
     assert_eq!(rt; session.ending.status, 0);
     assert_eq!(rt; left_by(&session.disk, 7)?.as_slice(), RESTARTED);
+    Ok(())
+}
+
+#[test]
+fn a_file_is_copied_to_its_destination(rt: HostRuntime) -> Result<(), Fail> {
+    let alloc = rt.alloc();
+    let input = source_of(alloc, ROWS[0].input.as_bytes(), 300, 300, false)?;
+    let mut outside = outside_with(alloc, input, 0, 0)?;
+    let ending = run_words(alloc, &["session"], &mut outside)?;
+    assert_eq!(rt; (ending.tally.finished, ending.tally.failed), (1, 1));
+    let at = PlaceRef {
+        endpoint: "https://b.example",
+        path: "f1",
+    };
+    if let Some(hand) = outside.hands.first_mut() {
+        assert_eq!(rt; hand.store.size(at), Ok(Some(3)));
+    }
     Ok(())
 }
 
@@ -760,6 +870,20 @@ fn a_request_is_read_then_timed_then_answered_before_the_next_is_read(
     let text = Vec::from_slice(rt.alloc(), STAND.as_bytes())?;
     let requests = ROWS[0].input.as_bytes();
     let middle = requests.len().min(136);
+    let mut hands = Vec::new(rt.alloc());
+    for _ in 0..16 {
+        let clock = NotingClock {
+            reads_seen: &reads_seen,
+            noted: Vec::new(rt.alloc()),
+        };
+        let one = hand(rt.alloc(), clock)?;
+        if hands.push(one).is_err() {
+            return Err(Fail::new("no memory"));
+        }
+    }
+    if hands.len() != 16 {
+        return Err(Fail::new("another number of hands"));
+    }
     let mut outside = Outside {
         settings: MemorySource::new(text, Vec::new(rt.alloc())),
         input: WaitingClient {
@@ -780,6 +904,7 @@ fn a_request_is_read_then_timed_then_answered_before_the_next_is_read(
             reads_seen: &reads_seen,
             noted: Vec::new(rt.alloc()),
         },
+        hands,
     };
     let ending = run_words(rt.alloc(), &["session"], &mut outside)?;
     assert_eq!(rt;
@@ -789,8 +914,8 @@ fn a_request_is_read_then_timed_then_answered_before_the_next_is_read(
     );
     assert_eq!(rt;
         outside.clock.noted.as_slice(),
-        &[0, 1, 2][..],
-        "reads before each moment"
+        &[0, 1, 1, 1, 2, 2, 2, 2, 3, 3][..],
+        "reads before each moment: a Restart, a request, a claim and an idle one, and so on"
     );
     assert_eq!(rt;
         reads_seen.get(),

@@ -1,0 +1,355 @@
+//! The rows. A row is a sentence, settings, a job document, the numbers of the store's failing calls and of its appends that lose a byte, and a
+//! script: a line is a command or a question, ` = `, and its answer, as written by hand.
+ghost use Rattle.std.specs.Prelude.{◌≡◌, OnOk};
+ghost use Rattle.fts_rounds_trial.specs.Ready.{IsReady};
+
+use crate::Bed;
+use fts_store::{MemoryStore, Store, StoredFile};
+use fts_tables::{
+    Command, EndpointName, FileState, Items, JobState, Memory, Outcome, PathKey, Place, PlaceRef,
+    Reason,
+};
+use fts_workers::RoundEnd;
+use std::alloc::{AllocError, Global};
+use std::process::Abort;
+use std::test::Fail;
+
+/// The digest of the three bytes `abc`, from RFC 1321.
+const ABC: [u8; 16] = [
+    0x90, 0x01, 0x50, 0x98, 0x3c, 0xd2, 0x4f, 0xb0, 0xd6, 0x96, 0x3f, 0x7d, 0x28, 0xe1, 0x7f, 0x72,
+];
+
+const TWO: &str =
+    "[[storage]]\nurl = \"https://a.example\"\n[[storage]]\nurl = \"https://b.example\"\n";
+
+const THREE: &str =
+    "[[storage]]\nurl = \"https://a.example\"\n[[storage]]\nurl = \"https://b.example\"\n[[storage]]\nurl = \"https://c.example\"\ninbound_max_active = 1\n";
+
+const FIVE: &str =
+    "{\"files\":[{\"sources\":[\"https://a.example/f1\"],\"destinations\":[\"https://b.example/f1\"]},{\"sources\":[\"https://a.example/f2\"],\"destinations\":[\"https://b.example/f2\"]},{\"sources\":[\"https://a.example/f3\"],\"destinations\":[\"https://b.example/f3\"]},{\"sources\":[\"https://a.example/f4\"],\"destinations\":[\"https://b.example/f4\"]},{\"sources\":[\"https://a.example/f5\"],\"destinations\":[\"https://b.example/f5\"]}]}";
+
+const THREE_FILES: &str =
+    "{\"files\":[{\"sources\":[\"https://a.example/f1\"],\"destinations\":[\"https://b.example/f1\"]},{\"sources\":[\"https://a.example/f2\"],\"destinations\":[\"https://b.example/f2\"]},{\"sources\":[\"https://a.example/f3\"],\"destinations\":[\"https://b.example/f3\"]}]}";
+
+const INTO_THIRD: &str =
+    "{\"files\":[{\"sources\":[\"https://b.example/there\"],\"destinations\":[\"https://c.example/f1\"]},{\"sources\":[\"https://a.example/f2\"],\"destinations\":[\"https://c.example/f2\"]}]}";
+
+const SOURCES: &str =
+    "{\"files\":[{\"sources\":[\"https://a.example/none\",\"https://a.example/f1\",\"https://a.example/f2\"],\"destinations\":[\"https://b.example/f1\"],\"selection_strategy\":\"orderly\"}]}";
+
+const HOPS: &str =
+    "{\"files\":[{\"sources\":[\"https://a.example/f1\"],\"destinations\":[\"https://b.example/f1\"]},{\"sources\":[\"https://b.example/f1\"],\"destinations\":[\"https://b.example/there\"]},{\"sources\":[\"https://b.example/there\"],\"destinations\":[\"https://a.example/g1\"]}],\"params\":{\"multihop\":true}}";
+
+const EMPTY: &str =
+    "{\"files\":[{\"sources\":[\"https://a.example/empty\"],\"destinations\":[\"https://b.example/f1\"],\"checksum\":\"MD5:d41d8cd98f00b204e9800998ecf8427e\"}],\"params\":{\"verify_checksum\":true}}";
+
+const WRONG: &str =
+    "{\"files\":[{\"sources\":[\"https://a.example/f1\"],\"destinations\":[\"https://b.example/f1\"],\"checksum\":\"MD5:900150983cd24fb0d6963f7d28e17f73\"}],\"params\":{\"verify_checksum\":true,\"retry\":3}}";
+
+const RETRIED: &str =
+    "{\"files\":[{\"sources\":[\"https://a.example/f1\"],\"destinations\":[\"https://b.example/f1\"]}],\"params\":{\"retry\":1,\"retry_delay\":60}}";
+
+const ONE: &str =
+    "{\"files\":[{\"sources\":[\"https://a.example/f1\"],\"destinations\":[\"https://b.example/f1\"]}]}";
+
+/// What a row has.
+struct Row {
+    case: &'static str,
+    settings: &'static str,
+    limit: &'static str,
+    document: &'static str,
+    fail: &'static [u32],
+    drop: &'static [u32],
+    script: &'static str,
+}
+
+const ROWS: [Row; 9] = [
+    Row {
+        case: "a link carries as many files as its limit",
+        settings: TWO,
+        limit: "2",
+        document: FIVE,
+        fail: &[],
+        drop: &[],
+        script: "round 0 = busy 2\nstates = ACTIVE ACTIVE SUBMITTED SUBMITTED SUBMITTED ACTIVE\nround 0 = busy 2\nstates = FINISHED FINISHED ACTIVE ACTIVE SUBMITTED ACTIVE",
+    },
+    Row {
+        case: "an endpoint takes as many files as its limit, and of links with none the one of the least name is first",
+        settings: THREE,
+        limit: "2",
+        document: INTO_THIRD,
+        fail: &[],
+        drop: &[],
+        script: "round 0 = busy 1\nstates = SUBMITTED ACTIVE ACTIVE",
+    },
+    Row {
+        case: "behind a missing source the next one is copied",
+        settings: TWO,
+        limit: "2",
+        document: SOURCES,
+        fail: &[],
+        drop: &[],
+        script: "round 0 = busy 1\nround 0 = busy 1\nreason 1 = source missing\nround 0 = clear\nstates = FAILED FINISHED NOT_USED FINISHED",
+    },
+    Row {
+        case: "behind a failed hop nothing is copied",
+        settings: TWO,
+        limit: "2",
+        document: HOPS,
+        fail: &[],
+        drop: &[],
+        script: "round 0 = busy 1\nround 0 = busy 1\nround 0 = clear\nstates = FINISHED FAILED NOT_USED FAILED\nreason 2 = destination exists",
+    },
+    Row {
+        case: "a cancelled file keeps its slot until its report, though its copy was verified",
+        settings: TWO,
+        limit: "1",
+        document: THREE_FILES,
+        fail: &[],
+        drop: &[],
+        script: "round 0 = busy 1\ncancel = ok\nstates = ACTIVE CANCELED CANCELED ACTIVE\nround 0 = clear\nstates = CANCELED CANCELED CANCELED CANCELED\nsize f1 = 3",
+    },
+    Row {
+        case: "an empty file is copied",
+        settings: TWO,
+        limit: "2",
+        document: EMPTY,
+        fail: &[],
+        drop: &[],
+        script: "round 0 = busy 1\nround 0 = clear\nstates = FINISHED FINISHED\nsize f1 = 0",
+    },
+    Row {
+        case: "another digest than the wanted one fails at once",
+        settings: TWO,
+        limit: "2",
+        document: WRONG,
+        fail: &[],
+        drop: &[],
+        script: "round 0 = busy 1\nround 0 = clear\nstates = FAILED FAILED\nreason 1 = source digest of abc\nwaits 1 = attempt 1 not before 0\nsize f1 = none",
+    },
+    Row {
+        case: "a retry waits until its moment",
+        settings: TWO,
+        limit: "2",
+        document: RETRIED,
+        fail: &[1],
+        drop: &[],
+        script: "round 1000 = busy 1\nround 1000 = clear\nstates = SUBMITTED SUBMITTED\nwaits 1 = attempt 1 not before 1060\nreason 1 = store failed\nround 1059 = clear\nround 1060 = busy 1\nround 1060 = clear\nstates = FINISHED FINISHED\nwaits 1 = attempt 2 not before 1060",
+    },
+    Row {
+        case: "a byte that the store lost is found where it is missing",
+        settings: TWO,
+        limit: "2",
+        document: ONE,
+        fail: &[],
+        drop: &[1],
+        script: "round 0 = busy 1\nround 0 = clear\nstates = FAILED FAILED\nreason 1 = read back differs at 2\nsize f1 = none",
+    },
+];
+
+/// A file that the store holds from the start.
+fn file(
+    alloc: Global,
+    endpoint: &str,
+    path: &str,
+    bytes: &[u8],
+) -> Result<Option<StoredFile>, Memory> {
+    let Some(endpoint) = EndpointName::read(alloc, endpoint)? else {
+        return Ok(None);
+    };
+    let Some(path) = PathKey::read(alloc, path)? else {
+        return Ok(None);
+    };
+    Ok(Some(StoredFile {
+        place: Place { endpoint, path },
+        bytes: Items::from_vec(bytes.to_vec(alloc)?),
+    }))
+}
+
+/// A store with seven files.
+fn store(alloc: Global, fail: &[u32], drop: &[u32]) -> Result<MemoryStore, Memory> {
+    let mut files = Vec::new(alloc);
+    for (endpoint, path, bytes) in [
+        ("https://a.example", "f1", b"abc".as_slice()),
+        ("https://a.example", "f2", b"abc"),
+        ("https://a.example", "f3", b"abc"),
+        ("https://a.example", "f4", b"abc"),
+        ("https://a.example", "f5", b"abc"),
+        ("https://a.example", "empty", b""),
+        ("https://b.example", "there", b"abc"),
+    ] {
+        let Some(file) = file(alloc, endpoint, path, bytes)? else {
+            return Err(Memory);
+        };
+        if files.push(file).is_err() {
+            return Err(Memory);
+        }
+    }
+    let fail = fail.to_vec(alloc)?;
+    let drop = drop.to_vec(alloc)?;
+    Ok(MemoryStore::new(alloc, Items::from_vec(files), fail, drop))
+}
+
+fn end_text(alloc: Global, end: RoundEnd) -> Result<String, AllocError> {
+    match end {
+        RoundEnd::Clear => String::from_str(alloc, "clear"),
+        RoundEnd::Busy { held } => format!(in alloc; "busy {held}"),
+        RoundEnd::DiskFailed => String::from_str(alloc, "disk failed"),
+        RoundEnd::JournalFull { used } => format!(in alloc; "journal full at {used}"),
+        RoundEnd::Memory => String::from_str(alloc, "no memory"),
+    }
+}
+
+fn state_text(state: FileState) -> &'static str {
+    match state {
+        FileState::Submitted => "SUBMITTED",
+        FileState::Active => "ACTIVE",
+        FileState::Finished => "FINISHED",
+        FileState::Failed => "FAILED",
+        FileState::Canceled => "CANCELED",
+        FileState::NotUsed => "NOT_USED",
+    }
+}
+
+fn job_state_text(state: Option<JobState>) -> &'static str {
+    match state {
+        None => "none",
+        Some(JobState::Submitted) => "SUBMITTED",
+        Some(JobState::Active) => "ACTIVE",
+        Some(JobState::Finished) => "FINISHED",
+        Some(JobState::FinishedDirty) => "FINISHEDDIRTY",
+        Some(JobState::Failed) => "FAILED",
+        Some(JobState::Canceled) => "CANCELED",
+    }
+}
+
+fn outcome_text(alloc: Global, outcome: Outcome) -> Result<String, AllocError> {
+    match outcome {
+        Outcome::Verified { size, digest: _ } => format!(in alloc; "verified {size}"),
+        Outcome::SourceMissing => String::from_str(alloc, "source missing"),
+        Outcome::DestinationExists => String::from_str(alloc, "destination exists"),
+        Outcome::SourceSize { seen } => format!(in alloc; "source size {seen}"),
+        Outcome::SourceDigest { seen } => {
+            if seen == ABC {
+                String::from_str(alloc, "source digest of abc")
+            } else {
+                String::from_str(alloc, "another source digest")
+            }
+        }
+        Outcome::ReadBackDiffers { at } => format!(in alloc; "read back differs at {at}"),
+        Outcome::StoreFailed => String::from_str(alloc, "store failed"),
+        Outcome::Stopped => String::from_str(alloc, "stopped"),
+    }
+}
+
+/// The states of the rows, and of their job.
+fn states(bed: &Bed) -> Result<String, AllocError> {
+    let mut text = String::new(bed.alloc);
+    for row in bed.keep.desk().rows() {
+        text.push_str(state_text(row.state))?;
+        text.push_str(" ")?;
+    }
+    text.push_str(job_state_text(bed.keep.desk().state(1)))?;
+    Ok(text)
+}
+
+/// Why the row of an id is as it is.
+fn reason(bed: &Bed, id: u64) -> Result<String, AllocError> {
+    match bed
+        .keep
+        .desk()
+        .rows()
+        .iter()
+        .find(|row| u64::from(row.id) == id)
+    {
+        None => String::from_str(bed.alloc, "no row"),
+        Some(row) => match row.reason {
+            Reason::None => String::from_str(bed.alloc, "none"),
+            Reason::Cancelled => String::from_str(bed.alloc, "cancelled"),
+            Reason::Ended(outcome) => outcome_text(bed.alloc, outcome),
+        },
+    }
+}
+
+/// At which attempt the row of an id is, and until when it waits.
+fn waits(bed: &Bed, id: u64) -> Result<String, AllocError> {
+    match bed
+        .keep
+        .desk()
+        .rows()
+        .iter()
+        .find(|row| u64::from(row.id) == id)
+    {
+        None => String::from_str(bed.alloc, "no row"),
+        Some(row) => {
+            format!(in bed.alloc; "attempt {} not before {}", row.attempt, row.not_before)
+        }
+    }
+}
+
+/// The size of a file of the second endpoint.
+fn size(bed: &mut Bed, path: &str) -> Result<String, AllocError>
+    ensures keep { bed.new.keep ≡ bed.old.keep }
+    ensures bench { bed.new.bench ≡ bed.old.bench }
+{
+    let at = PlaceRef {
+        endpoint: "https://b.example",
+        path,
+    };
+    match bed.store.size(at) {
+        Ok(Some(size)) => format!(in bed.alloc; "{size}"),
+        Ok(None) => String::from_str(bed.alloc, "none"),
+        Err(_) => String::from_str(bed.alloc, "failed"),
+    }
+}
+
+/// What is answered a line: its first word says what is asked, and the second for what.
+fn told(bed: &mut Bed, asked: &str, of: &str) -> Result<String, Memory>
+    requires { IsReady bed.old.keep bed.old.bench }
+    ensures { OnOk result (IsReady bed.new.keep bed.new.bench) }
+{
+    let number = of.parse::<u64>().unwrap_or(0);
+    match asked {
+        "round" => {
+            let end = bed.round(number)?;
+            Ok(end_text(bed.alloc, end)?)
+        }
+        "cancel" => {
+            bed.request(Command::CancelJob { now: 0, job: 1 })?;
+            Ok(String::from_str(bed.alloc, "ok")?)
+        }
+        "reason" => Ok(reason(bed, number)?),
+        "waits" => Ok(waits(bed, number)?),
+        "size" => Ok(size(bed, of)?),
+        _ => Ok(states(bed)?),
+    }
+}
+
+/// Plays a row.
+fn play(rt: &impl Abort, alloc: Global, row: &Row) -> Result<(), Memory> {
+    let store = store(alloc, row.fail, row.drop)?;
+    let limit = row.limit;
+    let settings = row.settings;
+    let text = format!(in alloc;
+        "vo = \"demo\"\nworkers = 4\ndefault_max_active = {limit}\n{settings}"
+    )?;
+    let mut bed = Bed::new(alloc, text.as_str(), 4, store)?;
+    bed.submit(0, row.document)?;
+    for line in row.script.lines() {
+        if let Some((said, want)) = line.split_once(" = ") {
+            let (asked, of) = said.split_once(' ').unwrap_or((said, ""));
+            let answer = told(&mut bed, asked, of)?;
+            assert!(rt; answer.as_str() == want, "{}: {line}: {answer}", row.case);
+        }
+    }
+    Ok(())
+}
+
+#[test]
+fn rounds_do_what_an_operator_expects(rt: HostRuntime) -> Result<(), Fail> {
+    let alloc = rt.alloc();
+    for row in &ROWS {
+        play(&rt, alloc, row)?;
+    }
+    Ok(())
+}

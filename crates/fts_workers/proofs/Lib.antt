@@ -1,0 +1,14 @@
+pub mod Numbered
+pub mod Attempts
+pub mod OutFiles
+pub mod Copied
+pub mod Accepted
+pub mod Stayed
+pub mod Reported
+pub mod Claimed
+pub mod Parts
+pub mod FirstCopied
+pub mod Ended
+pub mod Looping
+pub mod Rounded
+pub mod Requested

@@ -1,0 +1,108 @@
+//! The bench of one thread: the files that it has claimed, and the room in which it copies one of them at a time.
+//! Keeps: no more files than places, and room for them all, so that holding one more takes no memory (`IsBench`).
+//! What it holds is tied to the tables by each round (`IsWorkedOver` of `specs/Rounds.antt`), and not by the bench itself.
+ghost use Rattle.std.specs.Prelude.{◌≡◌, ◌≤◌, ◌<◌, [], ◌∷◌, ◌++◌, List, length, IfOk, IsTrue, ◌↔◌};
+ghost use Rattle.fts_tables.specs.Tables.{AreWellFormed};
+
+use crate::copying::{copy_loaded, load_order};
+use crate::{Held, RoundEnd};
+use fts_copy::CopyRoom;
+use fts_desk::Desk;
+use fts_store::Store;
+use fts_tables::Memory;
+use std::alloc::Global;
+use std::marker::Model;
+
+/// The files that one thread holds, in order of their claims, and the room of their copies.
+#[derive(Drop)]
+pub struct Bench {
+    room: CopyRoom,
+    held: Vec<Held>,
+    places: u32,
+}
+
+impl Model for Bench {
+    ghost use Rattle.fts_workers.specs.Benches.{BenchData};
+
+    ghost Value = { BenchData };
+
+    ghost use Rattle.fts_workers.specs.BenchRoom.{bench_data, IsBench};
+
+    ghost view = { bench_data };
+
+    ghost invariant = { IsBench };
+}
+
+impl Bench {
+    ghost use Rattle.fts_workers.specs.declared.held.Held.{Held};
+    ghost use Rattle.fts_workers.specs.Benches.{KeepsOne, calm_end};
+    ghost use Rattle.fts_workers.specs.FirstFile.{HasFirst, CopiesFirst};
+
+    /// A bench that holds nothing, with so many places, from 1 to 16.
+    pub fn new(alloc: Global, places: u32) -> Result<Bench, Memory>
+        requires some { 1 ≤ places }
+        requires few { places ≤ 16 }
+        ensures held { IfOk result (λ bench. bench.held ≡ []) }
+        ensures places { IfOk result (λ bench. bench.places ≡ places) }
+    {
+        let room = CopyRoom::new(alloc)?;
+        let held = Vec::with_capacity(alloc, places as usize)?;
+        Ok(Bench { room, held, places })
+    }
+
+    /// The files that it holds, in order of their claims.
+    pub fn held(&self) -> &[Held]
+        ensures held { result.now ≡ self.now.held }
+        ensures few { length result.now ≤ self.now.places }
+    {
+        &self.held
+    }
+
+    /// Copies the first file that it holds, where no outcome of it is kept, and keeps how that ended.
+    pub(crate) fn copy_first<E: Store>(&mut self, desk: &Desk, store: &mut E)
+        requires formed { AreWellFormed desk.now.tables }
+        requires first { HasFirst desk.now.tables self.old.held }
+        requires kept { KeepsOne self.old.held }
+        ensures copied { (first : Held) (others : List Held) → self.old.held ≡ first ∷ others
+            → CopiesFirst E.state E.calls E.faults desk.now.tables first others self.old self.new store.old store.new }
+    {
+        if self.held[0].outcome.is_none() {
+            load_order(&mut self.room, desk, self.held[0].file);
+            let outcome = copy_loaded(store, &mut self.room);
+            self.held[0].outcome = Some(outcome);
+        }
+    }
+
+    /// Holds the first file no longer.
+    pub(crate) fn drop_first(&mut self)
+        requires some { 1 ≤ length self.old.held }
+        ensures dropped { (first : Held) (others : List Held) → self.old.held ≡ first ∷ others → self.new ≡ record self.old { held = others } }
+    {
+        self.held.remove(0);
+    }
+
+    /// How a round ends that met no fault.
+    pub(crate) fn calm_end(&self) -> RoundEnd
+        ensures { result ≡ calm_end (length self.now.held) }
+    {
+        match self.held.len() {
+            0 => RoundEnd::Clear,
+            held => RoundEnd::Busy { held: held as u32 },
+        }
+    }
+
+    /// Whether it holds as many files as it has places.
+    pub(crate) fn is_full(&self) -> bool
+        ensures full { IsTrue result ↔ (self.now.places ≤ length self.now.held) }
+    {
+        self.held.len() >= self.places as usize
+    }
+
+    /// Holds one file more, behind the others. It takes no memory.
+    pub(crate) fn hold(&mut self, held: Held)
+        requires free { length self.old.held < self.old.places }
+        ensures held { self.new ≡ record self.old { held = self.old.held ++ held ∷ [] } }
+    {
+        self.held.push_reserved(held);
+    }
+}

@@ -1,0 +1,59 @@
+//! One copy of a round: the order that a file's row asks for is loaded, and copied to its end.
+//! Over every store its calls are those of the copy's script, and it isn't called off (`IsCopied` of `specs/Copies.antt`).
+//! Called by the bench, for the first file that it holds.
+ghost use Rattle.std.specs.Prelude.{◌≡◌, false, Some, IsSome, IfSome};
+ghost use Rattle.fts_tables.specs.Tables.{AreWellFormed, job_at, row_at};
+ghost use Rattle.fts_copy.specs.Copy.{StaysInside};
+ghost use Rattle.fts_workers.specs.Benches.{is_stopped};
+ghost use Rattle.fts_workers.specs.Copies.{IsCopied, order_in};
+
+use crate::watch::AlwaysWanted;
+use fts_copy::{CopyRoom, copy_verified};
+use fts_desk::Desk;
+use fts_store::Store;
+use fts_tables::laws::found_rows_stand;
+use fts_tables::{FileRow, JobRow, Outcome};
+
+// The row of a file, at the place before its id.
+fn find_row<'a>(desk: &'a Desk, file: u32) -> &'a FileRow
+    requires formed { AreWellFormed desk.now.tables }
+    requires there { IsSome (row_at desk.now.tables.rows file) }
+    ensures { row_at desk.now.tables.rows file ≡ Some result.now }
+{
+    found_rows_stand();
+    &desk.rows()[file as usize - 1]
+}
+
+// The job of a row, at the place before its number.
+fn find_job<'a>(desk: &'a Desk, row: &FileRow) -> &'a JobRow
+    requires formed { AreWellFormed desk.now.tables }
+    requires there { row_at desk.now.tables.rows row.now.id ≡ Some row.now }
+    ensures { job_at desk.now.tables.jobs row.now.job ≡ Some result.now }
+{
+    &desk.jobs()[row.job as usize - 1]
+}
+
+/// Loads what the copy of a file is asked for, by its row and its job.
+pub fn load_order(room: &mut CopyRoom, desk: &Desk, file: u32)
+    requires formed { AreWellFormed desk.now.tables }
+    requires there { IsSome (row_at desk.now.tables.rows file) }
+    ensures order { IfSome (row_at desk.now.tables.rows file) (λ row. room.new ≡ Some (order_in desk.now.tables row)) }
+    ensures inside { IfSome (row_at desk.now.tables.rows file) (λ row. StaysInside (order_in desk.now.tables row)) }
+{
+    let row = find_row(desk, file);
+    let job = find_job(desk, row);
+    room.load(row, job.overwrite);
+}
+
+/// Copies what was loaded, to its end.
+pub fn copy_loaded<E: Store>(store: &mut E, room: &mut CopyRoom) -> Outcome
+    requires loaded { IsSome room.old }
+    requires inside { IfSome room.old StaysInside }
+    ensures room { room.new ≡ room.old }
+    ensures unstopped { is_stopped result ≡ false }
+    ensures copied { IfSome room.old (λ order. IsCopied (E.state store.old) (E.state store.new) (E.calls store.old) (E.calls store.new)
+        (E.faults store.old) (E.faults store.new) (record { order = order; outcome = result })) }
+{
+    let mut watch = AlwaysWanted::new();
+    copy_verified(store, room, &mut watch)
+}

@@ -1,0 +1,22 @@
+//! Rounds of one thread: the files that it holds are copied and reported, and then it claims others.
+//! `round` is one round over a keep, a bench, a store, a clock and words; `specs/Rounds.antt` says what a round is, `specs/Benches.antt` what a bench
+//! holds between two of them, and `specs/Copies.antt` how the store follows from the reports.
+#![tactic(auto)]
+
+mod bench;
+mod copying;
+mod ends;
+mod gate;
+mod hand;
+mod held;
+mod laws;
+mod rounds;
+mod watch;
+
+pub use bench::Bench;
+pub use ends::RoundEnd;
+pub use gate::{Gate, NoGate};
+pub use hand::Hand;
+pub use held::Held;
+pub use laws::{benches_stay_over_lists, requests_leave_the_bench};
+pub use rounds::round;
