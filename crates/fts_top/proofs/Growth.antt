@@ -2,13 +2,13 @@
 use Rattle.std.proofs.Common.{◌≡◌, ℕ, suc, ◌+◌, List, [], ◌∷◌, ◌++◌, length, Option, Some, None, Ok, refl, ap, sym, ◌∙◌, subst, arith, append_assoc, append-nil}
 use Rattle.std.specs.List.{concat}
 use Rattle.std.proofs.lemmas.List.Folds.{concat-append}
-use Rattle.std.specs.Prelude.{true, Bool}
+use Rattle.std.specs.Prelude.{true, false, Bool}
 use Rattle.fts_wire.specs.RequestData.{RequestData}
 use Rattle.fts_wire.specs.Requests.{next_of, AreRequests, Asks}
 use Rattle.fts_wire.specs.RoomData.{RoomData}
 use Rattle.fts_wire.specs.Taken.{pending, IsNext}
 use Rattle.fts_wire.specs.declared.response.Reply.{Reply}
-use Rattle.fts_top.specs.Connections.{Reading, Exchange, response_after, responses_from, AreRequestsIn, Loads, AreLoaded, AreServed}
+use Rattle.fts_top.specs.Connections.{Reading, Exchange, response_to, responses_from, GoOn, GoOnToLast, AreRequestsIn, Loads, AreLoaded, AreServed}
 
 -- one exchange more was served
 pub served_more : {S : Type 0} (Answers : S → RequestData → Reply → S → Type 0) (Follows : S → S → Type 0) (start middle answered after : S) (exchanges : List Exchange) (exchange : Exchange)
@@ -21,11 +21,22 @@ served_more Answers Follows start middle answered after (first ∷ exchanges) ex
 
 -- its response is the last
 pub response_more : (before : ℕ) (exchanges : List Exchange) (exchange : Exchange)
-    → responses_from before (exchanges ++ exchange ∷ []) ≡ responses_from before exchanges ++ response_after (before + length exchanges) exchange.reply ∷ []
-response_more before [] exchange = ap (λ (n : ℕ). response_after n exchange.reply ∷ []) (omega arith)
+    → responses_from before (exchanges ++ exchange ∷ []) ≡ responses_from before exchanges ++ response_to (before + length exchanges) exchange ∷ []
+response_more before [] exchange = ap (λ (n : ℕ). response_to n exchange ∷ []) (omega arith)
 response_more before (first ∷ exchanges) exchange =
-    ap (λ rest. response_after before first.reply ∷ rest) (response_more (suc before) exchanges exchange
-    ∙ ap (λ (n : ℕ). responses_from (suc before) exchanges ++ response_after n exchange.reply ∷ []) (omega arith))
+    ap (λ rest. response_to before first ∷ rest) (response_more (suc before) exchanges exchange
+    ∙ ap (λ (n : ℕ). responses_from (suc before) exchanges ++ response_to n exchange ∷ []) (omega arith))
+
+-- the connection goes on behind one request more
+pub goes_on : (exchanges : List Exchange) (exchange : Exchange) → GoOn exchanges → exchange.request.close ≡ false → GoOn (exchanges ++ exchange ∷ [])
+goes_on [] exchange go_on closes = (closes, tt)
+goes_on (first ∷ exchanges) exchange go_on closes = (go_on.0, goes_on exchanges exchange go_on.1 closes)
+
+-- and up to it, whatever it says
+pub goes_to : (exchanges : List Exchange) (exchange : Exchange) → GoOn exchanges → GoOnToLast (exchanges ++ exchange ∷ [])
+goes_to [] exchange go_on = tt
+goes_to (first ∷ []) exchange go_on = (go_on.0, tt)
+goes_to (first ∷ second ∷ exchanges) exchange go_on = (go_on.0, goes_to (second ∷ exchanges) exchange go_on.1)
 
 -- one request more at the end of those that stand in bytes
 request_more : (bytes : List ℕ) (requests : List RequestData) (rest : List ℕ) (request : RequestData) (behind : List ℕ)

@@ -1,4 +1,3 @@
-mod Submits
 pub mod Phrases
 pub mod Keeping
 pub mod Saying

@@ -14,17 +14,18 @@ use Rattle.fts_workers.specs.declared.ends.RoundEnd.TheVariants.{Clear, Busy, Di
 use Rattle.fts_wire.specs.RoomData.{RoomData}
 use Rattle.fts_wire.specs.RequestData.{RequestData}
 use Rattle.fts_wire.specs.Response.{Sends}
-use Rattle.fts_wire.specs.declared.request.WireFault.TheVariants.{NotBuilt, EndsInside, SourceFailed}
+use Rattle.fts_wire.specs.declared.fault.WireFault.{WireFault}
+use Rattle.fts_wire.specs.declared.fault.WireFault.TheVariants.{EndsInside, SourceFailed}
 use Rattle.fts_wire.specs.declared.outside.SinkFailed.{SinkFailed}
 use Rattle.fts_wire.specs.declared.response.Reply.{Reply}
-use Rattle.fts_top.specs.Replies.{Answers}
-use Rattle.fts_top.specs.Connections.{Reading, Loads, IsRefused, response_after, IsConnection}
+use Rattle.fts_routes.specs.Replies.{Answers}
+use Rattle.fts_top.specs.Connections.{Reading, Loads, IsRefused, response_to, IsConnection}
 use Rattle.fts_top.specs.Sessions.{AnswersNext, FollowedByRound, AreLastRounds, LastRounds, IsSession, ThreadData, IsReady, Works, walk_of}
 use Rattle.fts_top.specs.declared.ends.LineEnd.{LineEnd}
 use Rattle.fts_top.specs.declared.ends.LineEnd.TheVariants as line_ends
 use Rattle.fts_top.specs.declared.ends.SessionEnd.{SessionEnd}
 use Rattle.fts_top.proofs.Working.{LeavesBench, works_none, works_as, works_more, works_answer}
-use Rattle.fts_top.proofs.Turns.{InProgress, begun, turn, cut, closed, ended_inside, read_failed, many, refused}
+use Rattle.fts_top.proofs.Turns.{InProgress, begun, turn, cut, closed, closed_by, ended_inside, read_failed, many, refused}
 
 -- whatever last rounds are made from here were made from the beginning
 abbrev pub RoundsOn : ℕ → Walk → Walk → Type 0
@@ -111,10 +112,10 @@ module _ {D E : Type 0} (state : D → DiskState) (faults : D → ℕ) (store_st
     ends_by_read input2 room few load = ends_over line_ends.SourceFailed input2 output
         (λ start at done. read_failed AnswersNext (FollowedByRound workers) kept start input held n behind now output at done input2 room few load)
 
-    pub ends_refused : (input2 : Reading) (output2 : Option (List ℕ)) (room : RoomData) (end : LineEnd) → n < MAX_REQUESTS
-        → Loads behind now input2 room (Err NotBuilt) → IsRefused output output2 end → Ended end input2 output2 here
-    ends_refused input2 output2 room end few load is = ends_over end input2 output2
-        (λ start at done. refused AnswersNext (FollowedByRound workers) kept start input held n behind now output at done input2 output2 room end few load is)
+    pub ends_refused : (input2 : Reading) (output2 : Option (List ℕ)) (room : RoomData) (fault : WireFault) (end : LineEnd) → n < MAX_REQUESTS
+        → Loads behind now input2 room (Err fault) → IsRefused output output2 fault end → Ended end input2 output2 here
+    ends_refused input2 output2 room fault end few load is = ends_over end input2 output2
+        (λ start at done. refused AnswersNext (FollowedByRound workers) kept start input held n behind now output at done input2 output2 room fault end few load is)
 
     pub ends_by_many : n ≡ MAX_REQUESTS → Ended line_ends.Many now output here
     ends_by_many all = ends_over line_ends.Many now output
@@ -144,17 +145,30 @@ module _ {D E : Type 0} (state : D → DiskState) (faults : D → ℕ) (store_st
       pub is_ready : IsReady answered
       is_ready = one_answer.ready
 
-      -- its response was written, and a round was made
-      pub one_more : (end : RoundEnd) (next : ThreadData D E) → here.bench.places ≡ workers → Sends {E = SinkFailed} output output2 (response_after n reply) (Ok tt)
+      -- its response
+      abbrev pub response : List ℕ
+      response = response_to n (record { request = room.request; reply = reply })
+
+      -- its response was written, and a round was made; the connection goes on
+      pub one_more : (end : RoundEnd) (next : ThreadData D E) → here.bench.places ≡ workers → Sends {E = SinkFailed} output output2 response (Ok tt)
           → Works state faults store_state store_calls store_faults (λ before after. IsRound here.bench.places before end after) answered next
-          → SoFar (n + 1) room.kept input2 output2 next
-      one_more end next places sent round = works_more state faults store_state store_calls store_faults WithOne (λ before after. IsRound here.bench.places before end after)
+          → room.request.close ≡ false → SoFar (n + 1) room.kept input2 output2 next
+      one_more end next places sent round goes = works_more state faults store_state store_calls store_faults WithOne (λ before after. IsRound here.bench.places before end after)
           (λ start at. InProgress AnswersNext (FollowedByRound workers) kept start input held (n + 1) room.kept input2 output2 at) old answered next
           (λ start mid after done made. turn AnswersNext (FollowedByRound workers) kept start input held n behind now output done.0 done.1.0 input2 output2 room reply mid after
-          load done.1.1 (end, subst (λ (w : ℕ). IsRound w mid end after) places made) sent) with_one round
+          load done.1.1 (end, subst (λ (w : ℕ). IsRound w mid end after) places made) sent goes) with_one round
+
+      -- its response was written, and a round was made; it says close
+      pub ends_by_close : (end : RoundEnd) (next : ThreadData D E) → n < MAX_REQUESTS → here.bench.places ≡ workers → Sends {E = SinkFailed} output output2 response (Ok tt)
+          → Works state faults store_state store_calls store_faults (λ before after. IsRound here.bench.places before end after) answered next
+          → room.request.close ≡ true → Ended line_ends.Closed input2 output2 next
+      ends_by_close end next few places sent round closes = works_more state faults store_state store_calls store_faults WithOne (λ before after. IsRound here.bench.places before end after)
+          (λ before after. IsConnection AnswersNext (FollowedByRound workers) kept before after input input2 held output2 line_ends.Closed) old answered next
+          (λ start mid after done made. closed_by AnswersNext (FollowedByRound workers) kept start input held n behind now output done.0 done.1.0 input2 output2 room reply mid after
+          few load done.1.1 (end, subst (λ (w : ℕ). IsRound w mid end after) places made) sent closes) with_one round
 
       -- its response was cut short
-      pub ends_cut : (e : SinkFailed) → n < MAX_REQUESTS → Sends output output2 (response_after n reply) (Err e) → Ended line_ends.SinkFailed input2 output2 answered
+      pub ends_cut : (e : SinkFailed) → n < MAX_REQUESTS → Sends output output2 response (Err e) → Ended line_ends.SinkFailed input2 output2 answered
       ends_cut e few sent = works_as state faults store_state store_calls store_faults WithOne
           (λ before after. IsConnection AnswersNext (FollowedByRound workers) kept before after input input2 held output2 line_ends.SinkFailed) old answered
           (λ start after done. cut AnswersNext (FollowedByRound workers) kept start input held n behind now output done.0 done.1.0 input2 output2 room reply after e few

@@ -1,6 +1,6 @@
 -- One connection, whoever answers its requests: how its input was read, its requests, their responses in order, and how it ended.
 -- Input and output are told or not, each by itself. What is said of one asks nothing of the other.
-use Rattle.std.specs.Prelude.{◌≡◌, ◌⊎◌, ℕ, suc, ◌+◌, ◌<◌, ◌≤◌, ◌==◌, Bool, true, false, List, [], ◌∷◌, ◌++◌, map, length, Option, Some, None, option_map, Result, Ok, Err}
+use Rattle.std.specs.Prelude.{◌≡◌, ◌⊎◌, ℕ, suc, ◌+◌, ◌<◌, ◌≤◌, ◌==◌, ◌||◌, Bool, true, false, List, [], ◌∷◌, ◌++◌, map, length, bytes_eq, codes, Option, Some, None, option_map, Result, Ok, Err}
 use Rattle.std.specs.List.{concat}
 use Rattle.fts_tables.specs.declared.limits.TheConstants.{MAX_REQUESTS}
 use Rattle.fts_wire.specs.RequestData.{RequestData}
@@ -8,12 +8,13 @@ use Rattle.fts_wire.specs.RoomData.{RoomData}
 use Rattle.fts_wire.specs.Requests.{AreRequests}
 use Rattle.fts_wire.specs.Taken.{pending}
 use Rattle.fts_wire.specs.Answered.{IsLoaded}
+use Rattle.fts_wire.specs.Faults.{status_of, rule_of, message_of}
 use Rattle.fts_wire.specs.Response.{response_of, Sends}
 use Rattle.fts_wire.specs.declared.outside.SinkFailed.{SinkFailed}
-use Rattle.fts_wire.specs.declared.request.WireFault.{WireFault}
-use Rattle.fts_wire.specs.declared.request.WireFault.TheVariants.{NotBuilt, EndsInside, SourceFailed}
+use Rattle.fts_wire.specs.declared.fault.WireFault.{WireFault}
+use Rattle.fts_wire.specs.declared.fault.WireFault.TheVariants.{EndsInside, SourceFailed}
 use Rattle.fts_wire.specs.declared.response.Reply.{Reply}
-use Rattle.fts_top.specs.Replies.{no_memory, not_built}
+use Rattle.fts_routes.specs.Refusals.{no_memory, refusal_of}
 use Rattle.fts_top.specs.declared.ends.LineEnd.{LineEnd}
 use Rattle.fts_top.specs.declared.ends.LineEnd.TheVariants as line_ends
 
@@ -35,18 +36,41 @@ pub record Exchange : Type 0 where
 abbrev pub requests_of : List Exchange → List RequestData
 requests_of exchanges = map (λ exchange. exchange.request) exchanges
 
--- the response to a request that has so many before it: that to the last one that a connection may have says close
-abbrev pub response_after : ℕ → Reply → List ℕ
-response_after before reply = response_of reply false (before + 1 == MAX_REQUESTS)
+-- whether a request asks for a head alone
+abbrev pub is_head : RequestData → Bool
+is_head request = bytes_eq request.method (codes "HEAD")
+
+-- the response to a request that has so many before it: it says close where the request does, and where it is the last that a connection may have
+abbrev pub response_to : ℕ → Exchange → List ℕ
+response_to before exchange = response_of exchange.reply (is_head exchange.request) (exchange.request.close || (before + 1 == MAX_REQUESTS))
 
 -- the responses to requests that have so many before them
 abbrev pub responses_from : ℕ → List Exchange → List (List ℕ)
 responses_from before [] = []
-responses_from before (exchange ∷ exchanges) = response_after before exchange.reply ∷ responses_from (suc before) exchanges
+responses_from before (exchange ∷ exchanges) = response_to before exchange ∷ responses_from (suc before) exchanges
 
 -- the responses of a connection
 abbrev pub responses_of : List Exchange → List (List ℕ)
 responses_of exchanges = responses_from 0 exchanges
+
+-- the connection goes on behind each of these requests
+abbrev pub GoOn : List Exchange → Type 0
+GoOn [] = Unit {0}
+GoOn (exchange ∷ exchanges) = (exchange.request.close ≡ false) × GoOn exchanges
+
+-- the connection goes on behind each of these requests but the last, and there is one
+abbrev pub GoOnToLast : List Exchange → Type 0
+GoOnToLast [] = ⊥
+GoOnToLast (exchange ∷ []) = Unit {0}
+GoOnToLast (exchange ∷ next ∷ exchanges) = (exchange.request.close ≡ false) × GoOnToLast (next ∷ exchanges)
+
+-- the last of these requests says close, and no other
+pub record EndsByClose (exchanges : List Exchange) : Type 0 where
+  pub others : List Exchange
+  pub last : Exchange
+  pub all : exchanges ≡ others ++ last ∷ []
+  pub go_on : GoOn others
+  pub closes : last.request.close ≡ true
 
 -- bytes are these requests, one after another, and then this rest, where they are told
 abbrev pub AreRequestsIn : Option (List ℕ) → List RequestData → Option (List ℕ) → Type 0
@@ -84,53 +108,72 @@ pub record AreCutShort (held after : Option (List ℕ)) (responses : List (List 
   pub failed : SinkFailed
   pub cut : Sends (written held whole) after last (Err failed)
 
--- the response to bytes that begin no head of ours: not built, or want of memory; it says close
-abbrev pub IsRefusal : List ℕ → Type 0
-IsRefusal response = (response ≡ response_of not_built false true) ⊎ (response ≡ response_of no_memory false true)
+-- the response to a fault of the framing that is answered with this status: its refusal, or want of memory; it says close
+pub record IsRefusal (fault : WireFault) (status : ℕ) (response : List ℕ) : Type 0 where
+  pub rule : ℕ
+  pub message : List ℕ
+  pub has_status : status_of fault ≡ Some status
+  pub has_rule : rule_of fault ≡ Some rule
+  pub has_message : message_of fault ≡ Some message
+  pub is : (response ≡ response_of (refusal_of message rule status) false true) ⊎ (response ≡ response_of no_memory false true)
 
--- the end behind a refusal, by whether it could be written
-abbrev pub end_by : Result (Unit {0}) SinkFailed → LineEnd
-end_by (Ok sent) = line_ends.Refused 501
-end_by (Err failed) = line_ends.SinkFailed
+-- the end behind a refusal with this status, by whether it could be written
+abbrev pub end_by : ℕ → Result (Unit {0}) SinkFailed → LineEnd
+end_by status (Ok sent) = line_ends.Refused status
+end_by status (Err failed) = line_ends.SinkFailed
 
 -- what came was refused, by a last response that was written whole or cut short
-pub record IsRefused (before after : Option (List ℕ)) (end : LineEnd) : Type 0 where
+pub record IsRefused (before after : Option (List ℕ)) (fault : WireFault) (end : LineEnd) : Type 0 where
+  pub status : ℕ
   pub response : List ℕ
-  pub refusal : IsRefusal response
+  pub refusal : IsRefusal fault status response
   pub result : Result (Unit {0}) SinkFailed
   pub sent : Sends before after response result
-  pub ended : end ≡ end_by result
+  pub ended : end ≡ end_by status result
 
--- these responses and, as the last one, a refusal
-abbrev pub WithRefusal : (List (List ℕ) → Type 0) → List (List ℕ) → Type 0
-WithRefusal P responses = (response : List ℕ) × (IsRefusal response × P (responses ++ response ∷ []))
+-- these responses and, as the last one, the refusal of a fault with this status
+abbrev pub WithRefusal : WireFault → ℕ → (List (List ℕ) → Type 0) → List (List ℕ) → Type 0
+WithRefusal fault status P responses = (response : List ℕ) × (IsRefusal fault status response × P (responses ++ response ∷ []))
 
--- Behind its requests a connection tries one load more, which finds no request; behind the last request that it may have, and where
--- a response could not be written, it tries none.
-abbrev pub TriesOneMore : List Exchange → List ℕ → Reading → Reading → Result Bool WireFault → Type 0
-TriesOneMore exchanges kept between after result = (length exchanges < MAX_REQUESTS) × LoadsNone kept between after result
+-- Behind its requests a connection tries one load more, which finds no request; behind a request that says close, behind the last one that it
+-- may have, and where a response could not be written, it tries none.
+pub record TriesOneMore (exchanges : List Exchange) (kept : List ℕ) (between after : Reading) (result : Result Bool WireFault) : Type 0 where
+  pub go_on : GoOn exchanges
+  pub few : length exchanges < MAX_REQUESTS
+  pub loads : LoadsNone kept between after result
+
+-- what came behind these exchanges was refused for this fault, with this status: what is written are their responses and the refusal
+pub record RefusesNext (exchanges : List Exchange) (kept : List ℕ) (between after : Reading) (fault : WireFault) (status : ℕ) (Written : List (List ℕ) → Type 0) : Type 0 where
+  pub tries : TriesOneMore exchanges kept between after (Err fault)
+  pub written : WithRefusal fault status Written (responses_of exchanges)
+
+-- the last request says close, and nothing was read behind it
+pub record ClosesLast (exchanges : List Exchange) (between after : Reading) : Type 0 where
+  pub by_close : EndsByClose exchanges
+  pub unread : after ≡ between
 
 -- How a connection ended behind these exchanges, of which the last one's response may have failed to be written: with this kept behind
 -- its requests, and its input read so far then.
 abbrev pub Ends : List Exchange → Bool → List ℕ → Reading → Reading → Option (List ℕ) → Option (List ℕ) → LineEnd → Type 0
-Ends exchanges true kept between after held now line_ends.SinkFailed = (after ≡ between) × AreCutShort held now (responses_of exchanges)
+Ends exchanges true kept between after held now line_ends.SinkFailed =
+    GoOnToLast exchanges × ((after ≡ between) × AreCutShort held now (responses_of exchanges))
 Ends exchanges true kept between after held now line_ends.Closed = ⊥
 Ends exchanges true kept between after held now line_ends.EndsInside = ⊥
 Ends exchanges true kept between after held now (line_ends.Refused status) = ⊥
 Ends exchanges true kept between after held now line_ends.Many = ⊥
 Ends exchanges true kept between after held now line_ends.SourceFailed = ⊥
 Ends exchanges false kept between after held now line_ends.Closed =
-    TriesOneMore exchanges kept between after (Ok false) × AreWritten held now (responses_of exchanges)
+    (ClosesLast exchanges between after ⊎ TriesOneMore exchanges kept between after (Ok false)) × AreWritten held now (responses_of exchanges)
 Ends exchanges false kept between after held now line_ends.EndsInside =
     TriesOneMore exchanges kept between after (Err EndsInside) × AreWritten held now (responses_of exchanges)
 Ends exchanges false kept between after held now (line_ends.Refused status) =
-    (status ≡ 501) × (TriesOneMore exchanges kept between after (Err NotBuilt) × WithRefusal (AreWritten held now) (responses_of exchanges))
+    (fault : WireFault) × RefusesNext exchanges kept between after fault status (AreWritten held now)
 Ends exchanges false kept between after held now line_ends.Many =
-    (length exchanges ≡ MAX_REQUESTS) × ((after ≡ between) × AreWritten held now (responses_of exchanges))
+    GoOn exchanges × ((length exchanges ≡ MAX_REQUESTS) × ((after ≡ between) × AreWritten held now (responses_of exchanges)))
 Ends exchanges false kept between after held now line_ends.SourceFailed =
     TriesOneMore exchanges kept between after (Err SourceFailed) × AreWritten held now (responses_of exchanges)
 Ends exchanges false kept between after held now line_ends.SinkFailed =
-    TriesOneMore exchanges kept between after (Err NotBuilt) × WithRefusal (AreCutShort held now) (responses_of exchanges)
+    (fault : WireFault) × ((status : ℕ) × RefusesNext exchanges kept between after fault status (AreCutShort held now))
 
 -- whether there is one
 abbrev pub is_there : List Exchange → Bool

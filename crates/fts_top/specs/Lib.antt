@@ -1,4 +1,3 @@
-pub mod Replies
 pub mod Connections
 pub mod Tallies
 pub mod Sessions

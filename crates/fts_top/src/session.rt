@@ -1,23 +1,26 @@
 //! A session: the requests of one connection, answered one after another over one keep, each followed by a round of copies; and the last rounds.
 //! Keeps, from request to request: the tables are those of the list so far, what was written are its responses, and each request was read by one
 //! load (`Works` of `specs/Sessions.antt`). Order of a request: it is read, the clock is asked, it is answered, its response is written, a round is
-//! made. The millionth response says close, and nothing is read behind it, nor behind a load that found no request. A refusal of the keep is
-//! answered, a round's fault is tried again after the next request, and the session goes on.
-ghost use Rattle.std.specs.Prelude.{◌≡◌, ◌≤◌};
-ghost use Rattle.fts_tables.specs.Counts.{Rose};
+//! made. Nothing is read behind a request that says close, nor behind the millionth, whose response says so, nor behind a load that found no
+//! request. A fault of the framing is answered once, and no request behind it; a refusal of the keep is answered, a round's fault is tried again
+//! after the next request, and the session goes on.
+ghost use Rattle.std.specs.Prelude.{◌≡◌, ◌≤◌, ◌<◌, IsSome, IsTrue};
+ghost use Rattle.fts_tables.specs.Counts.{Rose, CountsFaults};
+ghost use Rattle.fts_wire.specs.Answered.{request_data};
+ghost use Rattle.fts_wire.specs.Faults.{status_of};
+ghost use Rattle.fts_wire.specs.Response.{has_phrase, has_methods, Sends};
 ghost use Rattle.fts_workers.specs.Rounds.{IsRound};
-ghost use Rattle.fts_top.specs.Connections.{IsRefused, IsConnection, reading_of};
+ghost use Rattle.fts_top.specs.Connections.{IsRefused, IsConnection, reading_of, response_to};
 ghost use Rattle.fts_top.specs.Sessions.{AnswersNext, FollowedByRound, IsSession, LastRounds, Works, IsReady, thread};
 
-use crate::answer::answer;
 use crate::ends::{LineEnd, SessionEnd};
-use crate::reply::{NOT_BUILT, refusal_reply};
 use fts_disk::Disk;
 use fts_keep::Keep;
+use fts_routes::{answer, refusal_reply};
 use fts_store::Store;
 use fts_tables::limits::MAX_REQUESTS;
 use fts_tables::{Clock, Words};
-use fts_wire::{Room, Sink, SinkFailed, Source, WireFault, statuses, write_response};
+use fts_wire::{Reply, Request, Room, Sink, SinkFailed, Source, WireFault, write_response};
 use fts_workers::{Bench, RoundEnd, requests_leave_the_bench, round};
 use std::alloc::Global;
 
@@ -84,16 +87,19 @@ fn answer_requests<D: Disk, S: Source, K: Sink, E: Store, C: Clock, W: Words>(
             Ok(false) => return LineEnd::Closed,
             Err(WireFault::EndsInside) => return LineEnd::EndsInside,
             Err(WireFault::SourceFailed) => return LineEnd::SourceFailed,
-            Err(WireFault::NotBuilt) => return refuse(alloc, output),
+            Err(fault) => return refuse(alloc, output, fault),
         }
         let now = clock.now();
-        let reply = answer(alloc, &mut working.keep, 0, &room.request(), now);
-        let is_last = done + 1 == MAX_REQUESTS;
-        match write_response(output, false, is_last, &reply) {
+        let request = room.request();
+        let reply = answer(alloc, &mut working.keep, 0, &request, now);
+        match respond(output, &request, done, &reply) {
             Ok(()) => {}
             Err(SinkFailed) => return LineEnd::SinkFailed,
         }
         make_round(working, clock, store, words);
+        if request.close {
+            return LineEnd::Closed;
+        }
     }
     LineEnd::Many
 }
@@ -146,17 +152,37 @@ fn make_round<D: Disk, E: Store, C: Clock, W: Words>(
     end
 }
 
-/// Refuses what came as not built, by the last response of its connection.
-fn refuse<K: Sink>(alloc: Global, output: &mut K) -> LineEnd
-    ensures refused { IsRefused (K.held output.old) (K.held output.new) result }
+/// Writes the response to a request that has so many before it.
+fn respond<K: Sink>(
+    output: &mut K,
+    request: &Request<'_>,
+    before: u32,
+    reply: &Reply,
+) -> Result<(), SinkFailed>
+    requires before { before < MAX_REQUESTS }
+    requires phrase { IsTrue (has_phrase reply.now.status) }
+    requires methods { IsTrue (has_methods reply.now.status reply.now.allow) }
+    ensures sent { Sends (K.held output.old) (K.held output.new) (response_to before (record { request = request_data request.now; reply = reply.now })) result }
+    ensures cause { CountsFaults (K.faults output.old) (K.faults output.new) result }
+{
+    let is_last = request.close || before + 1 == MAX_REQUESTS;
+    write_response(output, request.method == "HEAD", is_last, reply)
+}
+
+/// Refuses what came for a fault of the framing, by the last response of its connection.
+fn refuse<K: Sink>(alloc: Global, output: &mut K, fault: WireFault) -> LineEnd
+    requires answered { IsSome (status_of fault) }
+    ensures refused { IsRefused (K.held output.old) (K.held output.new) fault result }
     ensures output { result ≡ LineEnd.SinkFailed → Rose (K.faults output.old) (K.faults output.new) }
     ensures keeps { K.faults output.old ≤ K.faults output.new }
 {
-    let reply = refusal_reply(alloc, "not built", NOT_BUILT, statuses::NOT_IMPLEMENTED);
+    let (Some(status), Some(rule), Some(message)) = (fault.status(), fault.rule(), fault.message())
+    else {
+        unreachable!();
+    };
+    let reply = refusal_reply(alloc, message, u32::from(rule), status);
     match write_response(output, false, true, &reply) {
-        Ok(()) => LineEnd::Refused {
-            status: statuses::NOT_IMPLEMENTED,
-        },
+        Ok(()) => LineEnd::Refused { status },
         Err(SinkFailed) => LineEnd::SinkFailed,
     }
 }

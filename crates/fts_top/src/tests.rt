@@ -34,7 +34,7 @@ struct Row {
     ends: (u32, u32),
 }
 
-const ROWS: [Row; 17] = [
+const ROWS: [Row; 24] = [
     Row {
         case: "two submissions",
         input: "POST /jobs HTTP/1.1\r\nContent-Length: 93\r\n\r\n{\"files\":[{\"sources\":[\"https://a.example/data/f1\"],\"destinations\":[\"https://b.example/f1\"]}]}POST /jobs HTTP/1.1\r\nContent-Length: 93\r\n\r\n{\"files\":[{\"sources\":[\"https://a.example/data/f1\"],\"destinations\":[\"https://b.example/f1\"]}]}",
@@ -49,22 +49,6 @@ const ROWS: [Row; 17] = [
         output: "",
         status: 0,
         note: "",
-        ends: (0, 0),
-    },
-    Row {
-        case: "another head",
-        input: "GET /jobs HTTP/1.1\r\n\r\n",
-        output: "HTTP/1.1 501 Not Implemented\r\nContent-Type: application/json\r\nContent-Length: 46\r\nConnection: close\r\n\r\n{\"message\":\"not built\",\"rule\":40,\"status\":501}",
-        status: 12,
-        note: "fts: request refused with 501\n",
-        ends: (0, 0),
-    },
-    Row {
-        case: "a length of 8 digits",
-        input: "POST /jobs HTTP/1.1\r\nContent-Length: 00000093\r\n\r\n",
-        output: "HTTP/1.1 501 Not Implemented\r\nContent-Type: application/json\r\nContent-Length: 46\r\nConnection: close\r\n\r\n{\"message\":\"not built\",\"rule\":40,\"status\":501}",
-        status: 12,
-        note: "fts: request refused with 501\n",
         ends: (0, 0),
     },
     Row {
@@ -170,6 +154,78 @@ const ROWS: [Row; 17] = [
         status: 10,
         note: "fts: input ended inside a request\n",
         ends: (0, 0),
+    },
+    Row {
+        case: "another version, and a plain request behind it",
+        input: "GET /jobs HTTP/2.0\r\n\r\nPOST /jobs HTTP/1.1\r\nContent-Length: 93\r\n\r\n{\"files\":[{\"sources\":[\"https://a.example/data/f1\"],\"destinations\":[\"https://b.example/f1\"]}]}",
+        output: "HTTP/1.1 400 Bad Request\r\nContent-Type: application/json\r\nContent-Length: 45\r\nConnection: close\r\n\r\n{\"message\":\"bad head\",\"rule\":41,\"status\":400}",
+        status: 12,
+        note: "fts: request refused with 400\n",
+        ends: (0, 0),
+    },
+    Row {
+        case: "65 lines behind the first",
+        input: "POST /jobs HTTP/1.1\na:\na:\na:\na:\na:\na:\na:\na:\na:\na:\na:\na:\na:\na:\na:\na:\na:\na:\na:\na:\na:\na:\na:\na:\na:\na:\na:\na:\na:\na:\na:\na:\na:\na:\na:\na:\na:\na:\na:\na:\na:\na:\na:\na:\na:\na:\na:\na:\na:\na:\na:\na:\na:\na:\na:\na:\na:\na:\na:\na:\na:\na:\na:\na:\na:\n\n",
+        output: "HTTP/1.1 431 Request Header Fields Too Large\r\nContent-Type: application/json\r\nContent-Length: 51\r\nConnection: close\r\n\r\n{\"message\":\"head too large\",\"rule\":42,\"status\":431}",
+        status: 12,
+        note: "fts: request refused with 431\n",
+        ends: (0, 0),
+    },
+    Row {
+        case: "two lengths of one value",
+        input: "POST /jobs HTTP/1.1\r\nContent-Length: 1\r\nContent-Length: 1\r\n\r\n[",
+        output: "HTTP/1.1 400 Bad Request\r\nContent-Type: application/json\r\nContent-Length: 47\r\nConnection: close\r\n\r\n{\"message\":\"bad length\",\"rule\":43,\"status\":400}",
+        status: 12,
+        note: "fts: request refused with 400\n",
+        ends: (0, 0),
+    },
+    Row {
+        case: "chunks, with a bad length",
+        input: "POST /jobs HTTP/1.1\r\nContent-Length: one\r\nTransfer-Encoding: chunked\r\n\r\n",
+        output: "HTTP/1.1 501 Not Implemented\r\nContent-Type: application/json\r\nContent-Length: 44\r\nConnection: close\r\n\r\n{\"message\":\"chunked\",\"rule\":44,\"status\":501}",
+        status: 12,
+        note: "fts: request refused with 501\n",
+        ends: (0, 0),
+    },
+    Row {
+        case: "a body of 1 MiB and a byte",
+        input: "POST /jobs HTTP/1.1\r\nContent-Length: 1048577\r\n\r\n",
+        output: "HTTP/1.1 413 Payload Too Large\r\nContent-Type: application/json\r\nContent-Length: 51\r\nConnection: close\r\n\r\n{\"message\":\"body too large\",\"rule\":45,\"status\":413}",
+        status: 12,
+        note: "fts: request refused with 413\n",
+        ends: (0, 0),
+    },
+    Row {
+        case: "a request that says close, and one behind it",
+        input: "POST /jobs HTTP/1.1\r\nConnection: Close\r\nContent-Length: 93\r\n\r\n{\"files\":[{\"sources\":[\"https://a.example/data/f1\"],\"destinations\":[\"https://b.example/f1\"]}]}POST /jobs HTTP/1.1\r\nContent-Length: 93\r\n\r\n{\"files\":[{\"sources\":[\"https://a.example/data/f1\"],\"destinations\":[\"https://b.example/f1\"]}]}",
+        output: "HTTP/1.1 200 OK\r\nContent-Type: application/json\r\nContent-Length: 49\r\nConnection: close\r\n\r\n{\"job_id\":\"00000000-0000-4000-8000-000000000001\"}",
+        status: 0,
+        note: "",
+        ends: (1, 0),
+    },
+    Row {
+        case: "a request of version 1.0, and half a head behind it",
+        input: "PUT /jobs HTTP/1.0\r\nContent-Length: 93\r\n\r\n{\"files\":[{\"sources\":[\"https://a.example/data/f1\"],\"destinations\":[\"https://b.example/f1\"]}]}POST /jo",
+        output: "HTTP/1.1 200 OK\r\nContent-Type: application/json\r\nContent-Length: 49\r\nConnection: close\r\n\r\n{\"job_id\":\"00000000-0000-4000-8000-000000000001\"}",
+        status: 0,
+        note: "",
+        ends: (1, 0),
+    },
+    Row {
+        case: "a head alone, and a request behind it",
+        input: "HEAD /jobs HTTP/1.1\r\n\r\nPOST /jobs HTTP/1.1\r\nContent-Length: 93\r\n\r\n{\"files\":[{\"sources\":[\"https://a.example/data/f1\"],\"destinations\":[\"https://b.example/f1\"]}]}",
+        output: "HTTP/1.1 405 Method Not Allowed\r\nContent-Type: application/json\r\nContent-Length: 0\r\nAllow: GET, POST, PUT\r\n\r\nHTTP/1.1 200 OK\r\nContent-Type: application/json\r\nContent-Length: 49\r\n\r\n{\"job_id\":\"00000000-0000-4000-8000-000000000001\"}",
+        status: 0,
+        note: "",
+        ends: (1, 0),
+    },
+    Row {
+        case: "a submission and a look at it, as curl sends them",
+        input: "POST /jobs HTTP/1.1\r\nHost: localhost:8446\r\nUser-Agent: curl/8.5.0\r\nAccept: */*\r\nContent-Length: 93\r\nContent-Type: application/x-www-form-urlencoded\r\n\r\n{\"files\":[{\"sources\":[\"https://a.example/data/f1\"],\"destinations\":[\"https://b.example/f1\"]}]}GET /jobs/00000000-0000-4000-8000-000000000001 HTTP/1.1\r\nHost: localhost:8446\r\nUser-Agent: curl/8.5.0\r\nAccept: */*\r\n\r\n",
+        output: "HTTP/1.1 200 OK\r\nContent-Type: application/json\r\nContent-Length: 49\r\n\r\n{\"job_id\":\"00000000-0000-4000-8000-000000000001\"}HTTP/1.1 200 OK\r\nContent-Type: application/json\r\nContent-Length: 166\r\n\r\n{\"job_id\":\"00000000-0000-4000-8000-000000000001\",\"job_state\":\"ACTIVE\",\"kind\":\"plain\",\"priority\":3,\"retry\":0,\"retry_delay\":0,\"submit_time\":1700000000,\"vo_name\":\"demo\"}",
+        status: 0,
+        note: "",
+        ends: (1, 0),
     },
 ];
 
@@ -570,7 +626,7 @@ fn a_session_goes_on_where_the_last_one_ended(rt: HostRuntime) -> Result<(), Fai
     let disk = MemoryDisk::new(alloc, Vec::new(alloc));
     let first = session_over(alloc, disk, ROWS[0].input)?;
     assert_eq!(rt; first.output.bytes(), ROWS[0].output.as_bytes());
-    let second = session_over(alloc, first.disk, ROWS[14].input)?;
+    let second = session_over(alloc, first.disk, ROWS[12].input)?;
     assert_eq!(rt;
         second.output.bytes(),
         b"HTTP/1.1 200 OK\r\nContent-Type: application/json\r\nContent-Length: 49\r\n\r\n{\"job_id\":\"00000000-0000-4000-8000-000000000003\"}".as_slice()

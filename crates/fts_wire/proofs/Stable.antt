@@ -1,134 +1,104 @@
--- What is not less than a request stays what it is, whatever comes behind it.
-use Rattle.std.proofs.Common.{◌≡◌, ℕ, ◌+◌, ◌<◌, ◌≤◌, Bool, true, false, cond, List, [], ◌∷◌, ◌++◌, length, drop, refl, ap, sym, ◌∙◌, arith, subst, length-append, append-nil}
-use Rattle.std.specs.Prelude.{nat_le, ◌&&◌, ◌==◌}
-use Rattle.std.specs.Str.Parse.{digits_value}
-use Rattle.std.proofs.lemmas.Bool.{leb-true, le-leb, false_from_ne_true, false≢true}
-use Rattle.std.proofs.lemmas.List.{drop-append-le}
-use Rattle.std.proofs.lemmas.Str.Parse.{digits_value-take-le}
-use Rattle.std.proofs.Math.Seq.{take-append_seam}
-use Rattle.fts_wire.specs.declared.look.Front.{Front}
-use Rattle.fts_wire.specs.declared.look.Front.TheVariants.{Whole, Cut, Apart}
-use Rattle.fts_wire.specs.declared.look.Look.{Look}
-use Rattle.fts_wire.specs.declared.look.Look.TheVariants.{Short, Refused, Found}
-use Rattle.fts_wire.specs.Look.{front_of, head_end, is_digit, digits_of, is_length, look_body, look_end, look_behind, look_length, look_front, look_of, request_front}
-use Rattle.fts_wire.proofs.Bounds.{FrontFits, front_fits, digits_fewer, length_bounds}
+-- What is not less than a head stays what it is, whatever comes behind it.
+use Rattle.std.proofs.Common.{◌≡◌, ℕ, ◌+◌, ◌-◌, ◌<◌, ◌≤◌, List, ◌++◌, length, take, drop, Option, Some, None, refl, ap, sym, ◌∙◌, arith, subst, length-drop, length-append, ⊎_elim}
+use Rattle.std.specs.Prelude.{◌==◌, nat_le}
+use Rattle.std.specs.List.{list_all}
+use Rattle.std.proofs.lemmas.Bool.{cond_both, cond-false, cond-true, cases_lt, ne_eqb, le-leb, leb-true}
+use Rattle.std.proofs.lemmas.List.{drop-append-le, take-append-le, drop_all, take_all}
+use Rattle.std.proofs.lemmas.List.Folds.{prefix_len-append}
+use Rattle.std.proofs.lemmas.List.Sums.{prefix_len-le-length}
+use Rattle.std.proofs.Math.Seq.{take-append-add}
+use Rattle.httparse.specs.Pieces.{is_newline}
+use Rattle.fts_wire.specs.Head.{lines_of, head_lines}
+use Rattle.fts_wire.specs.RequestData.{HeadData, asked}
+use Rattle.fts_wire.specs.Look.{Sight, Short, Refused, Headed, blanks, sight_lines, sight_by, sight_in, sight_of}
+use Rattle.fts_wire.specs.Requests.{Next, Closed, EndsInside, Refuses, Asks, next_by, next_of, asks, request_size}
+use Rattle.fts_wire.specs.declared.fault.WireFault.TheVariants.{HeadTooLarge}
+use Rattle.fts_wire.proofs.Feeds.{head_more}
 
--- old stays in new, unless it is less than a request
-abbrev pub Stays : Look → Look → Type 0
+-- old stays in new, unless it is less than a head
+abbrev pub Stays : Sight → Sight → Type 0
 Stays Short new = Unit {0}
-Stays Refused new = new ≡ Refused
-Stays (Found head body) new = new ≡ Found head body
+Stays (Refused fault) new = new ≡ Refused fault
+Stays (Headed head) new = new ≡ Headed head
 
-abbrev FrontStays : Front → Front → Type 0
-FrontStays Cut new = Unit {0}
-FrontStays Whole new = new ≡ Whole
-FrontStays Apart new = new ≡ Apart
+stays_same : (old new : Sight) → new ≡ old → Stays old new
+stays_same Short new e = tt
+stays_same (Refused fault) new e = e
+stays_same (Headed head) new e = e
 
-front_stays_if : (b : Bool) (f g : Front) → FrontStays f g → FrontStays (cond b f Apart) (cond b g Apart)
-front_stays_if true f g h = h
-front_stays_if false f g h = refl
-
--- what a text is to bytes does not change behind its end
-pub front_more : (text bytes more : List ℕ) → FrontStays (front_of text bytes) (front_of text (bytes ++ more))
-front_more [] bytes more = refl
-front_more (t ∷ ts) [] more = tt
-front_more (t ∷ ts) (b ∷ bs) more = front_stays_if (t == b) (front_of ts bs) (front_of ts (bs ++ more)) (front_more ts bs more)
-
-body_stays : (b b' : Bool) (head body : ℕ) → (b ≡ true → b' ≡ true) → Stays (cond b (Found head body) Short) (cond b' (Found head body) Short)
-body_stays true b' head body up = ap (λ c. cond c (Found head body) Short) (up refl)
-body_stays false b' head body up = tt
-
-end_more : (f g : Front) (digits rest more : List ℕ) → FrontFits 4 (length rest) f → FrontStays f g
-    → Stays (look_end f digits rest) (look_end g digits (rest ++ more))
-end_more Cut g digits rest more fits h = tt
-end_more Apart g digits rest more fits h = ap (λ f. look_end f digits (rest ++ more)) h
-end_more Whole g digits rest more fits h =
-    let value = digits_value 10 digits in
-    let same : look_end g digits (rest ++ more) ≡ look_body digits (drop 4 rest ++ more) =
-    ap (λ f. look_end f digits (rest ++ more)) h ∙ ap (λ xs. look_body digits xs) (drop-append-le 4 rest more fits) in
-    subst (λ l. Stays (look_body digits (drop 4 rest)) l) (sym same)
-    (body_stays (nat_le value (length (drop 4 rest))) (nat_le value (length (drop 4 rest ++ more))) (41 + length digits) value
-    (λ e. le-leb value (length (drop 4 rest ++ more)) (omega (arith, leb-true value (length (drop 4 rest)) e, length-append (drop 4 rest) more))))
-
-behind_more : (digits rest more : List ℕ) → 0 < length rest → Stays (look_behind digits rest) (look_behind digits (rest ++ more))
-behind_more digits [] more some = absurd (omega (arith, some))
-behind_more [] (b ∷ bs) more some = refl
-behind_more (d ∷ ds) (b ∷ bs) more some =
-    end_more (front_of head_end (b ∷ bs)) (front_of head_end (b ∷ bs ++ more)) (d ∷ ds) (b ∷ bs) more (front_fits head_end (b ∷ bs)) (front_more head_end (b ∷ bs) more)
-
--- with more behind bytes there are more digits only where they were digits to their end
-digits_more_if : (d : Bool) (b : ℕ) (bs more : List ℕ) (front : List ℕ) → digits_of (bs ++ more) ≡ digits_of bs ++ front
-    → (0 < length (drop (length (digits_of bs)) bs) → front ≡ [])
-    → (front' : List ℕ) × (cond d (b ∷ digits_of (bs ++ more)) [] ≡ cond d (b ∷ digits_of bs) [] ++ front')
-    × (0 < length (drop (length (cond d (b ∷ digits_of bs) [])) (b ∷ bs)) → front' ≡ [])
-digits_more_if true b bs more front longer ended = (front, ap (λ xs. b ∷ xs) longer, ended)
-digits_more_if false b bs more front longer ended = ([], refl, λ some. refl)
-
-digits_more : (rest more : List ℕ) → (front : List ℕ) × (digits_of (rest ++ more) ≡ digits_of rest ++ front)
-    × (0 < length (drop (length (digits_of rest)) rest) → front ≡ [])
-digits_more [] more = (digits_of more, refl, λ some. absurd (omega (arith, some)))
-digits_more (b ∷ bs) more =
-    let tail = digits_more bs more in
-    digits_more_if (is_digit b) b bs more tail.0 tail.1 tail.2
-
--- with more digits it is a length only if it was one before
-pub longer_length : (digits more : List ℕ) → is_length digits ≡ false → is_length (digits ++ more) ≡ false
-longer_length digits more e = false_from_ne_true (is_length (digits ++ more))
-    (λ t. let bounds = length_bounds (digits ++ more) t in
-    let few : length digits ≤ 7 = omega (arith, bounds.0, length-append digits more) in
-    let value : digits_value 10 digits ≤ digits_value 10 (digits ++ more) =
-    subst (λ ds. digits_value 10 ds ≤ digits_value 10 (digits ++ more)) (take-append_seam digits more) (digits_value-take-le 10 (digits ++ more) (length digits) (omega arith)) in
-    let small : digits_value 10 digits ≤ 1048576 = omega (arith, value, bounds.1) in
-    false≢true (sym e ∙ ap (λ a. a && nat_le (digits_value 10 digits) 1048576) (le-leb (length digits) 7 few) ∙ le-leb (digits_value 10 digits) 1048576 small))
-
--- digits that end before the bytes do, and what is behind them, with more behind the bytes
-ended_more : (digits rest more : List ℕ) → 0 < length (drop (length digits) rest) → length digits ≤ length rest
-    → Stays (cond (is_length digits) (look_behind digits (drop (length digits) rest)) Refused)
-    (cond (is_length digits) (look_behind digits (drop (length digits) (rest ++ more))) Refused)
-ended_more digits rest more some fewer = subst
-    (λ xs. Stays (cond (is_length digits) (look_behind digits (drop (length digits) rest)) Refused) (cond (is_length digits) (look_behind digits xs) Refused))
-    (sym (drop-append-le (length digits) rest more fewer))
-    (stays_if (is_length digits) (look_behind digits (drop (length digits) rest)) (look_behind digits (drop (length digits) rest ++ more))
-    (behind_more digits (drop (length digits) rest) more some))
+-- a head in bytes that have one is the same with more behind them
+lines_stay : (bytes more : List ℕ) (lines : List (List ℕ)) → head_lines (lines_of (drop (blanks bytes) bytes)) ≡ Some lines
+    → (blanks (bytes ++ more) ≡ blanks bytes) × (head_lines (lines_of (drop (blanks bytes) (bytes ++ more))) ≡ Some lines)
+lines_stay bytes more lines e =
+    let n = blanks bytes in
+    let within : n ≤ length bytes = prefix_len-le-length is_newline bytes in
+    let inside : n < length bytes = ⊎_elim (λ h. h) (λ past. absurd (none_is_some (ap (λ xs. head_lines (lines_of xs)) (sym
+    (drop_all n bytes past)) ∙ e))) (cases_lt n (length bytes)) in (
+      prefix_len-append is_newline bytes more
+          ∙ cond-false (n == length bytes) (length bytes + blanks more) n (ne_eqb n (length bytes) (λ same. omega (arith, same, inside))),
+      ap (λ xs. head_lines (lines_of xs)) (drop-append-le n bytes more within) ∙ head_more (drop n bytes) more lines e,
+    )
   where
-    stays_if : (b : Bool) (x x' : Look) → Stays x x' → Stays (cond b x Refused) (cond b x' Refused)
-    stays_if true x x' h = h
-    stays_if false x x' h = refl
+    none_is_some : None ≡ Some lines → ⊥
+    none_is_some same = cc same
 
--- digits up to the end of the bytes are less than a request, or no length already
-all_more : (digits left rest more front : List ℕ) → left ≡ [] → digits_of (rest ++ more) ≡ digits ++ front
-    → Stays (cond (is_length digits) (look_behind digits left) Refused) (look_length (rest ++ more))
-all_more digits left rest more front none longer = all_if (is_length digits) refl
+in_more : (bytes more : List ℕ) → length bytes < 16384 → Stays (sight_in bytes) (sight_in (bytes ++ more))
+in_more bytes more few = by (head_lines (lines_of (drop (blanks bytes) bytes))) refl
   where
-    all_if : (b : Bool) → is_length digits ≡ b → Stays (cond b (look_behind digits left) Refused) (look_length (rest ++ more))
-    all_if true e = subst (λ xs. Stays (look_behind digits xs) (look_length (rest ++ more))) (sym none) tt
-    all_if false e =
-        let ds = digits_of (rest ++ more) in
-        ap (λ b. cond b (look_behind ds (drop (length ds) (rest ++ more))) Refused) (ap is_length longer ∙ longer_length digits front e)
+    by : (o : Option (List (List ℕ))) → head_lines (lines_of (drop (blanks bytes) bytes)) ≡ o
+        → Stays (sight_by (blanks bytes) (length bytes) o) (sight_in (bytes ++ more))
+    by None e = subst (λ s. Stays s (sight_in (bytes ++ more)))
+        (sym (cond-false (length bytes == 16384) (Refused HeadTooLarge) Short (ne_eqb (length bytes) 16384 (λ same. omega (arith, same, few))))) tt
+    by (Some lines) e =
+        let stay = lines_stay bytes more lines e in
+        stays_same (sight_lines (blanks bytes) lines) (sight_in (bytes ++ more))
+        (ap (λ n. sight_by n (length (bytes ++ more)) (head_lines (lines_of (drop n (bytes ++ more))))) stay.0
+        ∙ ap (sight_by (blanks bytes) (length (bytes ++ more))) stay.1)
 
-length_more_by : (left rest more : List ℕ) → drop (length (digits_of rest)) rest ≡ left → Stays (look_length rest) (look_length (rest ++ more))
-length_more_by [] rest more e =
-    let longer = digits_more rest more in
-    all_more (digits_of rest) (drop (length (digits_of rest)) rest) rest more longer.0 e longer.1
-length_more_by (b ∷ bs) rest more e =
-    let some : 0 < length (drop (length (digits_of rest)) rest) = omega (arith, ap length e) in
-    let longer = digits_more rest more in
-    let same : digits_of (rest ++ more) ≡ digits_of rest = longer.1 ∙ ap (λ xs. digits_of rest ++ xs) (longer.2 some) ∙ append-nil (digits_of rest) in
-    subst (λ ds. Stays (look_length rest) (cond (is_length ds) (look_behind ds (drop (length ds) (rest ++ more))) Refused)) (sym same)
-    (ended_more (digits_of rest) rest more some (digits_fewer rest))
+-- more bytes behind a head, or behind what is none, change nothing
+pub sight_more : (bytes more : List ℕ) → Stays (sight_of bytes) (sight_of (bytes ++ more))
+sight_more bytes more = ⊎_elim (λ few. short few)
+    (λ full. stays_same (sight_of bytes) (sight_of (bytes ++ more)) (ap sight_in (take-append-le 16384 bytes more full))) (cases_lt (length bytes) 16384)
+  where
+    short : length bytes < 16384 → Stays (sight_of bytes) (sight_of (bytes ++ more))
+    short few =
+        let m = 16384 - length bytes in
+        let sum : 16384 ≡ length bytes + m = omega (arith, few) in
+        let all : bytes ≡ take 16384 bytes = sym (take_all 16384 bytes (omega (arith, few))) in
+        let longer : bytes ++ take m more ≡ take 16384 (bytes ++ more) = sym (ap (λ n. take n (bytes ++ more)) sum ∙ take-append-add bytes more m) in
+        subst (λ xs. Stays (sight_in (take 16384 bytes)) (sight_in xs)) longer
+        (subst (λ xs. Stays (sight_in xs) (sight_in (bytes ++ take m more))) all (in_more bytes (take m more) few))
 
-length_more : (rest more : List ℕ) → Stays (look_length rest) (look_length (rest ++ more))
-length_more rest more = length_more_by (drop (length (digits_of rest)) rest) rest more refl
+-- what comes first, with more bytes behind
+abbrev pub StaysNext : Next → List ℕ → Next → Type 0
+StaysNext Closed more new = Unit {0}
+StaysNext EndsInside more new = Unit {0}
+StaysNext (Refuses fault) more new = new ≡ Refuses fault
+StaysNext (Asks request rest) more new = new ≡ Asks request (rest ++ more)
 
-look_front_more : (f g : Front) (bytes more : List ℕ) → FrontFits 37 (length bytes) f → FrontStays f g
-    → Stays (look_front f (drop 37 bytes)) (look_front g (drop 37 (bytes ++ more)))
-look_front_more Cut g bytes more fits h = tt
-look_front_more Apart g bytes more fits h = ap (λ f. look_front f (drop 37 (bytes ++ more))) h
-look_front_more Whole g bytes more fits h =
-    let same : look_front g (drop 37 (bytes ++ more)) ≡ look_length (drop 37 bytes ++ more) =
-    ap (λ f. look_front f (drop 37 (bytes ++ more))) h ∙ ap look_length (drop-append-le 37 bytes more fits) in
-    subst (λ l. Stays (look_length (drop 37 bytes)) l) (sym same) (length_more (drop 37 bytes) more)
+-- a request that stands in bytes stands in them with more behind
+asks_more : (head : HeadData) (bytes more : List ℕ) → request_size head ≤ length bytes
+    → asks head (bytes ++ more) ≡ Asks (asked head (take head.body (drop (head.before + head.size) bytes))) (drop (request_size head) bytes ++ more)
+asks_more head bytes more within =
+    let n = head.before + head.size in
+    ap (λ xs. Asks (asked head (take head.body xs)) (drop (request_size head) (bytes ++ more))) (drop-append-le n bytes more (omega (arith, within)))
+    ∙ ap (λ xs. Asks (asked head xs) (drop (request_size head) (bytes ++ more))) (take-append-le head.body (drop n bytes) more (omega
+    (arith, within, length-drop n bytes)))
+    ∙ ap (Asks (asked head (take head.body (drop n bytes)))) (drop-append-le (request_size head) bytes more within)
 
--- more bytes behind a request, or behind what is none, change nothing
-pub look_more : (bytes more : List ℕ) → Stays (look_of bytes) (look_of (bytes ++ more))
-look_more bytes more = look_front_more (front_of request_front bytes) (front_of request_front (bytes ++ more)) bytes more (front_fits request_front bytes) (front_more request_front bytes more)
+headed_more : (head : HeadData) (bytes more : List ℕ) → StaysNext (next_by (Headed head) bytes) more (next_by (Headed head) (bytes ++ more))
+headed_more head bytes more =
+    cond_both (nat_le (request_size head) (length bytes)) (asks head bytes) EndsInside (λ n. StaysNext n more (next_by (Headed head) (bytes ++ more)))
+    (λ e. let within = leb-true (request_size head) (length bytes) e in
+    cond-true (nat_le (request_size head) (length (bytes ++ more))) (asks head (bytes ++ more)) EndsInside
+    (le-leb (request_size head) (length (bytes ++ more)) (omega (arith, within, length-append bytes more))) ∙ asks_more head bytes more within)
+    (λ _. tt)
+
+-- what comes first in bytes, and is not open, comes first with more behind them
+pub next_more : (bytes more : List ℕ) → StaysNext (next_of bytes) more (next_of (bytes ++ more))
+next_more bytes more = by (sight_of bytes) (sight_more bytes more)
+  where
+    by : (s : Sight) → Stays s (sight_of (bytes ++ more)) → StaysNext (next_by s bytes) more (next_of (bytes ++ more))
+    by Short e = cond_both (list_all is_newline bytes) Closed EndsInside (λ n. StaysNext n more (next_of (bytes ++ more))) (λ _. tt) (λ _. tt)
+    by (Refused fault) e = ap (λ s. next_by s (bytes ++ more)) e
+    by (Headed head) e = subst (λ s. StaysNext (next_by (Headed head) bytes) more (next_by s (bytes ++ more))) (sym e) (headed_more head bytes more)

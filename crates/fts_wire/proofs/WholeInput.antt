@@ -1,11 +1,11 @@
 -- What reading to the end took, a piece at a time.
-use Rattle.std.proofs.Common.{◌≡◌, ℕ, ◌+◌, ◌-◌, min, ◌<◌, ◌≤◌, List, [], ◌∷◌, ◌++◌, length, take, drop, Option, Some, None, Ok, Err, refl, ap, sym, ◌∙◌, arith, subst, append_assoc, append-nil, ⊎_elim, inl, inr, length-append, length-drop}
-use Rattle.std.proofs.lemmas.List.{take-append-drop, length-take, nil_from_length}
+use Rattle.std.proofs.Common.{◌≡◌, ℕ, ◌+◌, ◌-◌, min, ◌<◌, ◌≤◌, List, [], ◌∷◌, ◌++◌, length, take, drop, Option, Some, None, Ok, Err, refl, ap, sym, ◌∙◌, arith, subst, append-nil, ⊎_elim, inl, inr, length-append, length-drop}
+use Rattle.std.proofs.lemmas.List.{length-take, nil_from_length}
 use Rattle.std.proofs.Math.Seq.{drop-append-add}
 use Rattle.fts_tables.specs.Counts.{Rose, CountsFaults}
 use Rattle.fts_wire.specs.Outside.{Reads, IsTakenOf}
 use Rattle.fts_wire.proofs.Pieces.{taken_then, gives_piece}
-use Rattle.fts_wire.specs.ReadAll.{IsAll, IsRefused, IsPartTaken}
+use Rattle.fts_wire.specs.ReadAll.{IsAll, IsRefused}
 use Rattle.fts_wire.specs.declared.whole_input.ReadAllFault.TheVariants.{TooLong, SourceFailed, Memory}
 
 -- a read takes a piece more

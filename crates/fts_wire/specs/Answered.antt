@@ -4,7 +4,7 @@ use Rattle.std.specs.Option.{option_copied}
 use Rattle.fts_wire.specs.RequestData.{RequestData}
 use Rattle.fts_wire.specs.RoomData.{RoomData}
 use Rattle.fts_wire.specs.Taken.{pending, IsNext, IsTaken}
-use Rattle.fts_wire.specs.declared.request.WireFault.{WireFault}
+use Rattle.fts_wire.specs.declared.fault.WireFault.{WireFault}
 use Rattle.fts_wire.specs.declared.request.Request.{Request}
 
 -- what a request lends

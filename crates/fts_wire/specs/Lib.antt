@@ -1,8 +1,13 @@
 pub mod Outside
 pub mod Memory
 pub mod Piece
-pub mod Look
+pub mod Faults
+pub mod Head
+pub mod Fields
 pub mod RequestData
+pub mod Look
+pub mod Lines
+pub mod Parsed
 pub mod Requests
 pub mod RoomData
 pub mod Room

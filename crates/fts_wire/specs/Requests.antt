@@ -1,33 +1,48 @@
 -- The requests that stand in bytes, one after another, and what comes behind them.
-use Rattle.std.specs.Prelude.{◌≡◌, ℕ, ◌+◌, List, [], ◌∷◌, take, drop}
-use Rattle.fts_wire.specs.RequestData.{RequestData, plain_request}
-use Rattle.fts_wire.specs.Look.{look_of}
-use Rattle.fts_wire.specs.declared.look.Look.{Look}
-use Rattle.fts_wire.specs.declared.look.Look.TheVariants.{Short, Refused, Found}
+use Rattle.std.specs.Prelude.{◌≡◌, ℕ, ◌+◌, Bool, true, false, nat_le, if◌then◌else◌, List, [], ◌∷◌, length, take, drop}
+use Rattle.std.specs.List.{list_all}
+use Rattle.httparse.specs.Pieces.{is_newline}
+use Rattle.fts_wire.specs.RequestData.{HeadData, RequestData, asked}
+use Rattle.fts_wire.specs.Look.{Sight, Short, Refused, Headed, sight_of}
+use Rattle.fts_wire.specs.declared.fault.WireFault.{WireFault}
 
--- what comes first in bytes that are all there is: nothing, a part of a request, what is not built, or a request and the bytes behind it
+-- what comes first in bytes that are all there is: nothing but CR and LF, a part of a request, what is refused, or a request and the bytes behind it
 pub data Next : Type 0 where
   Closed : Next
   EndsInside : Next
-  NotBuilt : Next
+  Refuses : WireFault → Next
   Asks : RequestData → List ℕ → Next
 
--- less than a request, at the end of the input
+-- less than a head, at the end of the input
 abbrev pub at_end : List ℕ → Next
-at_end [] = Closed
-at_end (b ∷ bs) = EndsInside
+at_end bytes = if list_all is_newline bytes then Closed else EndsInside
 
-abbrev pub next_by : Look → List ℕ → Next
+-- the length of a request, with what stands before its head
+abbrev pub request_size : HeadData → ℕ
+request_size head = head.before + head.size + head.body
+
+-- the request of a head, and the bytes behind its body
+abbrev pub asks : HeadData → List ℕ → Next
+asks head bytes = Asks (asked head (take head.body (drop (head.before + head.size) bytes))) (drop (request_size head) bytes)
+
+abbrev pub next_by : Sight → List ℕ → Next
 next_by Short bytes = at_end bytes
-next_by Refused bytes = NotBuilt
-next_by (Found head body) bytes = Asks (plain_request (take body (drop head bytes))) (drop (head + body) bytes)
+next_by (Refused fault) bytes = Refuses fault
+next_by (Headed head) bytes = if nat_le (request_size head) (length bytes) then asks head bytes else EndsInside
 
 abbrev pub next_of : List ℕ → Next
-next_of bytes = next_by (look_of bytes) bytes
+next_of bytes = next_by (sight_of bytes) bytes
+
+-- more bytes may change what comes first
+abbrev pub is_open : Next → Bool
+is_open Closed = true
+is_open EndsInside = true
+is_open (Refuses fault) = false
+is_open (Asks request rest) = false
 
 -- no whole request stands in these bytes yet, and none is excluded
 abbrev pub IsShort : List ℕ → Type 0
-IsShort bytes = look_of bytes ≡ Short
+IsShort bytes = is_open (next_of bytes) ≡ true
 
 -- bytes are these requests, one after another, and then this rest
 abbrev pub AreRequests : List ℕ → List RequestData → List ℕ → Type 0

@@ -9,15 +9,12 @@ ghost use Rattle.fts_wire.specs.Piece.{AddsPiece};
 
 use crate::{Source, SourceFailed};
 use fts_tables::Memory;
-use fts_tables::limits::MAX_CONTENT_BYTES;
+use fts_tables::limits::{MAX_CONTENT_BYTES, MAX_HEAD_BYTES};
 use std::alloc::Global;
 use std::marker::Model;
 
 /// At most this many bytes are asked of a source at a time.
 pub const PIECE_BYTES: usize = 65_536;
-
-/// The bytes of the longest plain head: 37 before the length, its 7 digits, and 4 behind it.
-const MAX_HEAD_BYTES: usize = 48;
 
 /// What is short of a request, and one piece more.
 pub const BUFFER_BYTES: usize = MAX_HEAD_BYTES + MAX_CONTENT_BYTES + PIECE_BYTES;

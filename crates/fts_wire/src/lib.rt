@@ -5,6 +5,9 @@
 #![tactic(auto)]
 
 mod buffer;
+mod fault;
+mod fields;
+mod lines;
 mod look;
 mod memory;
 mod outside;
@@ -16,9 +19,10 @@ pub mod statuses;
 mod tests;
 mod whole_input;
 
+pub use fault::WireFault;
 pub use memory::{MemoryLine, MemorySink, MemorySource};
 pub use outside::{Sink, SinkFailed, Source, SourceFailed};
-pub use request::{Request, Room, WireFault, next_request};
+pub use request::{Request, Room, next_request};
 pub use response::{Allow, Reply, send_all, send_parts, write_response};
 pub use standard::{StdSink, StdSource};
 pub use whole_input::{ReadAllFault, read_all};

@@ -1,102 +1,120 @@
-//! What bytes are the beginning of: less than a request, no request, or a whole one.
-//! A look reads the bytes at hand alone and takes none away, so it can be repeated when more have come; of a body it takes only the length.
-//! Called by `request`. Format: a plain head, `POST /jobs` with its length (RFC 9112, sections 2 and 6), and its body.
-ghost use Rattle.std.specs.Prelude.{◌≡◌, ◌≤◌, length, take, drop};
-ghost use Rattle.std.specs.Str.Parse.{digits_value};
-ghost use Rattle.fts_wire.specs.Look.{front_of, head_end, look_length, look_end, look_of};
+//! What bytes are the beginning of: less than a head, no request, or a whole head with the length of its body.
+//! A look reads the bytes at hand alone and takes none away, so it can be repeated when more have come. It takes no memory.
+//! Order of a look: the end of the head, its grammar, its coding, and then its length.
+//! Called by `request`. Format: HTTP/1.1 (RFC 9112, sections 2 to 6), and the grammar of `httparse`.
+ghost use Rattle.std.specs.Prelude.{◌≡◌, length, map, All, IsUtf8};
+ghost use Rattle.httparse.specs.Spans.{header_bytes, span_bytes, IsHeaderWithin, IsWithin};
+ghost use Rattle.fts_wire.specs.Head.{lines_of, head_of};
+ghost use Rattle.fts_wire.specs.Look.{sight_head, sight_fields, Sees, SeesIn};
+ghost use Rattle.fts_wire.specs.Parsed.{IsParsed, BeginsHead};
 
-use fts_tables::limits::MAX_CONTENT_BYTES;
+use crate::WireFault;
+use crate::fields::{ends_connection, has_coding, read_body_length};
+use crate::lines::{count_blanks, find_head_end};
+use fts_tables::limits::{MAX_HEAD_BYTES, MAX_HEADER_LINES};
+use httparse::Status;
+use httparse::spans::{EMPTY_HEADER_SPAN, HeaderSpan, RequestSpans, Span, parse_request};
 
-/// At most this many digits of a length.
-pub const MAX_LENGTH_DIGITS: usize = 7;
+/// At most this many lines of a head: the first, the fields, and the empty one.
+const MAX_LINES: usize = MAX_HEADER_LINES + 2;
 
-const FRONT: &[u8] = b"POST /jobs HTTP/1.1\r\nContent-Length: ";
-
-const HEAD_END: &[u8] = b"\r\n\r\n";
-
-/// How bytes begin against a text: with it, or they end within it, or differ from it.
+/// A whole head, as it stands in bytes: behind `before` bytes of CR and LF, `size` bytes long, with a body of `body` bytes behind it.
+/// Method and target are places in the head's own bytes.
 #[derive(Clone, Copy)]
-pub enum Front {
-    Whole,
-    Cut,
-    Apart,
+pub struct Head {
+    pub before: usize,
+    pub size: usize,
+    pub body: usize,
+    pub method: Span,
+    pub target: Span,
+    pub close: bool,
 }
 
-/// What bytes are the beginning of. A request that was found has a head and a body of these lengths.
+/// What bytes are the beginning of.
 #[derive(Clone, Copy)]
 pub enum Look {
     Short,
-    Refused,
-    Found { head: usize, body: usize },
+    Refused(WireFault),
+    Found(Head),
 }
 
 /// What these bytes are the beginning of.
 pub fn look_at(bytes: &[u8]) -> Look
-    ensures { result ≡ look_of bytes.now }
+    ensures { Sees bytes.now result }
 {
-    match compare_front(FRONT, bytes) {
-        Front::Cut => Look::Short,
-        Front::Apart => Look::Refused,
-        Front::Whole => look_at_length(&bytes[FRONT.len()..]),
-    }
-}
-
-/// What stands behind the front.
-fn look_at_length(rest: &[u8]) -> Look
-    ensures { result ≡ look_length rest.now }
-{
-    let mut value: usize = 0;
-    for (i, b) in rest.iter().enumerate() {
-        if *b < b'0' || *b > b'9' {
-            if i == 0 {
-                return Look::Refused;
-            }
-            return look_at_end(rest, i, value);
-        }
-        value = value * 10 + (*b - b'0') as usize;
-        if i >= MAX_LENGTH_DIGITS || value > MAX_CONTENT_BYTES {
-            return Look::Refused;
-        }
-    }
-    Look::Short
-}
-
-/// What stands behind this many digits, which write this value.
-fn look_at_end(rest: &[u8], count: usize, value: usize) -> Look
-    requires few { count ≤ MAX_LENGTH_DIGITS }
-    requires within { count ≤ length rest.now }
-    requires value { value ≡ digits_value 10 (take count rest.now) }
-    ensures { result ≡ look_end (front_of head_end (drop count rest.now)) (take count rest.now) (drop count rest.now) }
-{
-    let end = &rest[count..];
-    match compare_front(HEAD_END, end) {
-        Front::Cut => Look::Short,
-        Front::Apart => Look::Refused,
-        Front::Whole => {
-            if end.len() - HEAD_END.len() >= value {
-                Look::Found {
-                    head: FRONT.len() + count + HEAD_END.len(),
-                    body: value,
-                }
+    let few = &bytes[..bytes.len().min(MAX_HEAD_BYTES)];
+    let before = count_blanks(few);
+    let rest = &few[before..];
+    match find_head_end(rest) {
+        None => {
+            if few.len() == MAX_HEAD_BYTES {
+                Look::Refused(WireFault::HeadTooLarge)
             } else {
                 Look::Short
             }
         }
+        Some(end) => {
+            if end.lines > MAX_LINES {
+                return Look::Refused(WireFault::HeadTooLarge);
+            }
+            look_at_head(&rest[..end.size], before)
+        }
     }
 }
 
-/// How bytes begin against a text.
-fn compare_front(text: &[u8], bytes: &[u8]) -> Front
-    ensures front { result ≡ front_of text.now bytes.now }
-    ensures room { result ≡ Front.Whole → length text.now ≤ length bytes.now }
+/// What the bytes of a head are, behind so many bytes of CR and LF.
+fn look_at_head(own: &[u8], before: usize) -> Look
+    requires head { BeginsHead own.now }
+    ensures { SeesIn own.now before (sight_head before (length own.now) (head_of (lines_of own.now))) result }
 {
-    for (i, t) in text.iter().enumerate() {
-        if i >= bytes.len() {
-            return Front::Cut;
-        }
-        if *t != bytes[i] {
-            return Front::Apart;
-        }
+    let mut headers = [EMPTY_HEADER_SPAN; MAX_HEADER_LINES];
+    match parse_head(own, &mut headers) {
+        None => Look::Refused(WireFault::BadHead),
+        Some(spans) => look_at_fields(own, before, spans, &headers[..spans.headers]),
     }
-    Front::Whole
+}
+
+/// The parts of a head by its grammar, where the bytes are one, whole.
+fn parse_head(own: &[u8], headers: &mut [HeaderSpan]) -> Option<RequestSpans>
+    requires room { length headers.old ≡ 64 }
+    requires head { BeginsHead own.now }
+    ensures { IsParsed own.now headers.new result }
+{
+    match parse_request(own, headers) {
+        Ok(Status::Complete(spans)) => {
+            if spans.len == own.len() {
+                Some(spans)
+            } else {
+                None
+            }
+        }
+        Ok(Status::Partial) => None,
+        Err(_) => None,
+    }
+}
+
+/// What a head with these parts asks for.
+fn look_at_fields(own: &[u8], before: usize, spans: RequestSpans, headers: &[HeaderSpan]) -> Look
+    requires method { IsWithin (length own.now) spans.method }
+    requires target { IsWithin (length own.now) spans.path }
+    requires method_text { IsUtf8 (span_bytes own.now spans.method) }
+    requires target_text { IsUtf8 (span_bytes own.now spans.path) }
+    requires headers { All (IsHeaderWithin (length own.now)) headers.now }
+    ensures { SeesIn own.now before (sight_fields before (length own.now) (span_bytes own.now spans.method)
+        (span_bytes own.now spans.path) spans.version (map (header_bytes own.now) headers.now)) result }
+{
+    if has_coding(own, headers) {
+        return Look::Refused(WireFault::Chunked);
+    }
+    match read_body_length(own, headers) {
+        Err(fault) => Look::Refused(fault),
+        Ok(body) => Look::Found(Head {
+            before,
+            size: own.len(),
+            body,
+            method: spans.method,
+            target: spans.path,
+            close: ends_connection(own, headers, spans.version),
+        }),
+    }
 }

@@ -4,8 +4,9 @@ ghost use Rattle.std.specs.Prelude.{◌≡◌, IfOk, IsTrue};
 ghost use Rattle.fts_wire.specs.Response.{has_phrase, has_methods};
 
 use crate::{
-    Allow, MemoryLine, MemorySink, MemorySource, ReadAllFault, Reply, Room, Sink, SinkFailed,
-    Source, SourceFailed, StdSink, StdSource, WireFault, next_request, read_all, write_response,
+    Allow, MemoryLine, MemorySink, MemorySource, ReadAllFault, Reply, Request, Room, Sink,
+    SinkFailed, Source, SourceFailed, StdSink, StdSource, WireFault, next_request, read_all,
+    write_response,
 };
 use fts_tables::Items;
 use std::collections::VecDeque;
@@ -21,7 +22,7 @@ enum Said {
     Ended,
 }
 
-/// Notes the next request's body, or the end.
+/// Notes the next request: method, path, query, body and whether the connection stays (`;`) or ends (`.`). Or the end.
 fn note_next(
     room: &mut Room,
     source: &mut MemorySource,
@@ -29,16 +30,28 @@ fn note_next(
 ) -> Result<Said, Fail> {
     match next_request(room, source) {
         Ok(Some(request)) => {
-            notes.extend_from_slice(request.body)?;
-            notes.push(b';')?;
+            note_request(request, notes)?;
             return Ok(Said::More);
         }
         Ok(None) => notes.extend_from_slice(b"end")?,
-        Err(WireFault::NotBuilt) => notes.extend_from_slice(b"not built")?,
-        Err(WireFault::EndsInside) => notes.extend_from_slice(b"inside")?,
         Err(WireFault::SourceFailed) => return Ok(Said::Failed),
+        Err(fault) => notes.extend_from_slice(fault.message().unwrap_or("inside").as_bytes())?,
     }
     Ok(Said::Ended)
+}
+
+fn note_request(request: Request, notes: &mut Vec<u8>) -> Result<(), Fail> {
+    notes.extend_from_slice(request.method.as_bytes())?;
+    notes.push(b' ')?;
+    notes.extend_from_slice(request.path.as_bytes())?;
+    if let Some(query) = request.query {
+        notes.push(b'|')?;
+        notes.extend_from_slice(query.as_bytes())?;
+    }
+    notes.push(b' ')?;
+    notes.extend_from_slice(request.body)?;
+    notes.push(if request.close { b'.' } else { b';' })?;
+    Ok(())
 }
 
 /// Reads a part of the input, from a source that fails behind it unless it is the last one, and notes what stands in it.
@@ -78,74 +91,233 @@ fn note_parts(rt: &HostRuntime, parts: &[&[u8]]) -> Result<Vec<u8>, Fail> {
     Ok(notes)
 }
 
+/// The first place at which cutting the input in two gives other notes than these; one past its end stands for reading it byte by byte.
+/// Input of more than 1,000 bytes is not read byte by byte.
+fn first_bad_cut(rt: &HostRuntime, input: &[u8], want: &str) -> Result<Option<usize>, Fail> {
+    for cut in 0..=input.len() {
+        let notes = note_parts(rt, &[&input[..cut], &input[cut..]])?;
+        if notes.as_slice() != want.as_bytes() {
+            return Ok(Some(cut));
+        }
+    }
+    if input.len() > 1000 {
+        return Ok(None);
+    }
+    let mut single = Vec::new(rt.alloc());
+    for byte in input.chunks(1) {
+        single.push(byte)?;
+    }
+    let notes = note_parts(rt, single.as_slice())?;
+    let same = notes.as_slice() == want.as_bytes();
+    Ok(if same { None } else { Some(input.len() + 1) })
+}
+
 #[test]
 fn requests_are_the_same_however_they_are_cut(rt: HostRuntime) -> Result<(), Fail> {
-    for (case, input, want) in [
-        ("nothing", "", "end"),
+    for (input, want) in [
+        ("", "end"),
+        ("\r\n\n\r", "end"),
+        ("\r\nG", "inside"),
+        ("\r\n\n\rGET / HTTP/1.1\r\n\r\n", "GET / ;end"),
         (
-            "a body and no more",
-            "POST /jobs HTTP/1.1\r\nContent-Length: 3\r\n\r\nabc",
-            "abc;end",
+            "POST /jobs HTTP/1.1\r\nContent-Length: 1\r\n\r\n[\r\nPOST /jobs HTTP/1.1\r\nContent-Length: 02\r\n\r\n{}",
+            "POST /jobs [;POST /jobs {};end",
         ),
         (
-            "two requests",
-            "POST /jobs HTTP/1.1\r\nContent-Length: 1\r\n\r\n[POST /jobs HTTP/1.1\r\nContent-Length: 02\r\n\r\n{}",
-            "[;{};end",
+            "PUT /jobs HTTP/1.1\r\nAccept: */*\r\nContent-Length: 2\r\nHost: a\r\n\r\n{}",
+            "PUT /jobs {};end",
+        ),
+        ("GET / HTTP/1.1\nHost: a\n\n", "GET / ;end"),
+        (
+            "POST / HTTP/1.1\r\nHost:\ncoNTent-LENgth:\t 1 \t\r\n\nx",
+            "POST / x;end",
+        ),
+        ("GET /é?limit=1?2 HTTP/1.1\r\n\r\n", "GET /é|limit=1?2 ;end"),
+        ("OPTIONS *? HTTP/1.1\r\n\r\n", "OPTIONS *| ;end"),
+        ("POST / HT", "inside"),
+        ("GET / HTTP/1.1\r\nHost: a\r\n\r", "inside"),
+        ("\0\n\0", "inside"),
+    ] {
+        assert_eq!(rt;
+            first_bad_cut(&rt, input.as_bytes(), want)?,
+            None,
+            "{input}"
+        );
+    }
+    Ok(())
+}
+
+#[test]
+fn heads_outside_the_grammar_are_refused(rt: HostRuntime) -> Result<(), Fail> {
+    for input in [
+        "GET / HTTP/1.1\r\nA: b\r\n c\r\n\r\n",
+        "GET / HTTP/1.1\r\nHost : a\r\n\r\n",
+        "GET / HTTP/1.1\r\n Host: a\r\n\r\n",
+        "GET / HTTP/1.1\r\nHost\r\n\r\n",
+        "GET / HTTP/1.1\r\n: a\r\n\r\n",
+        "GET / HTTP/1.1\r\nA: \x01\r\n\r\n",
+        "GET / HTTP/1.1\r\nA: b\rc\r\n\r\n",
+        "GET / HTTP/1.1\r\n\r\r\n\r\n",
+        "GET  / HTTP/1.1\r\n\r\n",
+        " GET / HTTP/1.1\r\n\r\n",
+        "GE(T / HTTP/1.1\r\n\r\n",
+        "GET /\r\n\r\n",
+        "GET / HTTP/1.2\r\n\r\n",
+        "GET / http/1.1\r\n\r\n",
+        "GET / HTTP/1.1 \r\n\r\n",
+        "GET /\x7f HTTP/1.1\r\n\r\n",
+        "\0\n\n",
+    ] {
+        assert_eq!(rt;
+            first_bad_cut(&rt, input.as_bytes(), "bad head")?,
+            None,
+            "{input}"
+        );
+    }
+    let no_text = b"GET /\xff HTTP/1.1\r\n\r\n";
+    assert_eq!(rt;
+        first_bad_cut(&rt, no_text, "bad head")?,
+        None,
+        "a target that is no text"
+    );
+    Ok(())
+}
+
+#[test]
+fn fields_say_the_length_and_the_end(rt: HostRuntime) -> Result<(), Fail> {
+    for (fields, want) in [
+        ("Content-Length: x\r\nTransfer-Encoding: chunked", "chunked"),
+        ("Content-Length: 1\r\nContent-Length: 1", "bad length"),
+        ("Content-Length: ", "bad length"),
+        ("Content-Length: +1", "bad length"),
+        ("Content-Length: 1, 1", "bad length"),
+        ("Content-Length: 0000000000000000001", "POST / x;end"),
+        ("Content-Length: 00000000000000000001", "bad length"),
+        ("Content-Length: 9999999999999999999", "body too large"),
+        ("Content-Length: 1048577", "body too large"),
+        ("Content-Length: 1048576", "inside"),
+        ("Content-Length: 1\r\nConnection: Close", "POST / x.end"),
+        (
+            "Content-Length: 1\r\nConnection: te\r\nCONNECTION: close",
+            "POST / x.end",
         ),
         (
-            "an empty body",
-            "POST /jobs HTTP/1.1\r\nContent-Length: 0\r\n\r\n",
-            ";end",
-        ),
-        (
-            "seven digits",
-            "POST /jobs HTTP/1.1\r\nContent-Length: 0000001\r\n\r\nx",
-            "x;end",
-        ),
-        (
-            "a body that lacks its last byte",
-            "POST /jobs HTTP/1.1\r\nContent-Length: 1048576\r\n\r\nx",
-            "inside",
-        ),
-        ("a head that ends early", "POST /jobs HT", "inside"),
-        (
-            "a length with no end",
-            "POST /jobs HTTP/1.1\r\nContent-Length: 7",
-            "inside",
-        ),
-        ("another method", "GET /jobs HTTP/1.1\r\n\r\n", "not built"),
-        (
-            "eight digits",
-            "POST /jobs HTTP/1.1\r\nContent-Length: 00000001\r\n\r\nx",
-            "not built",
-        ),
-        (
-            "a length past the limit",
-            "POST /jobs HTTP/1.1\r\nContent-Length: 1048577",
-            "not built",
-        ),
-        (
-            "no length",
-            "POST /jobs HTTP/1.1\r\nContent-Length: \r\n\r\n",
-            "not built",
-        ),
-        (
-            "another line in the head",
-            "POST /jobs HTTP/1.1\r\nContent-Length: 1\r\nHost: a\r\n\r\nx",
-            "not built",
+            "Content-Length: 1\r\nConnection: keep-alive",
+            "POST / x;end",
         ),
     ] {
-        let bytes = input.as_bytes();
-        for cut in 0..=bytes.len() {
-            let notes = note_parts(&rt, &[&bytes[..cut], &bytes[cut..]])?;
-            assert_eq!(rt; notes.as_slice(), want.as_bytes(), "{case}, cut at {cut}");
-        }
-        let mut single = Vec::new(rt.alloc());
-        for byte in bytes.chunks(1) {
-            single.push(byte)?;
-        }
-        let notes = note_parts(&rt, single.as_slice())?;
-        assert_eq!(rt; notes.as_slice(), want.as_bytes(), "{case}, byte by byte");
+        let input = repeated(&rt, "POST / HTTP/1.1\r\n", fields, 1, "\r\n\r\nx")?;
+        assert_eq!(rt;
+            first_bad_cut(&rt, input.as_slice(), want)?,
+            None,
+            "{fields}"
+        );
+    }
+    let old = b"GET / HTTP/1.0\r\nConnection: keep-alive\r\n\r\n";
+    assert_eq!(rt; first_bad_cut(&rt, old, "GET / .end")?, None, "version 1.0");
+    Ok(())
+}
+
+/// Two heads of curl, one each of Python's http.client, of Go and of a browser.
+#[test]
+fn heads_of_clients_are_read(rt: HostRuntime) -> Result<(), Fail> {
+    for (input, want) in [
+        (
+            "GET /jobs HTTP/1.1\r\nHost: localhost:8446\r\nUser-Agent: curl/8.5.0\r\nAccept: */*\r\n\r\n",
+            "GET /jobs ;end",
+        ),
+        (
+            "POST /jobs HTTP/1.1\r\nHost: 127.0.0.1:8446\r\nUser-Agent: curl/8.5.0\r\nAccept: */*\r\n\
+             Content-Type: application/json\r\nContent-Length: 2\r\n\r\n{}",
+            "POST /jobs {};end",
+        ),
+        (
+            "POST /jobs?limit=5 HTTP/1.1\r\nHost: localhost:8446\r\nAccept-Encoding: identity\r\nContent-Length: 2\r\nContent-Type: application/json\r\n\r\n{}",
+            "POST /jobs|limit=5 {};end",
+        ),
+        (
+            "PUT /jobs HTTP/1.1\r\nHost: localhost:8446\r\nUser-Agent: Go-http-client/1.1\r\nContent-Length: 2\r\n\
+             Content-Type: application/json\r\nAccept-Encoding: gzip\r\nConnection: close\r\n\r\n{}",
+            "PUT /jobs {}.end",
+        ),
+        (
+            "GET /jobs HTTP/1.1\r\nHost: localhost:8446\r\n\
+             User-Agent: Mozilla/5.0 (X11; Linux x86_64; rv:128.0) Gecko/20100101 Firefox/128.0\r\n\
+             Accept: text/html,application/xhtml+xml,application/xml;q=0.9,*/*;q=0.8\r\nAccept-Language: en-US,en;q=0.5\r\n\
+             Accept-Encoding: gzip, deflate, br, zstd\r\nDNT: 1\r\nConnection: keep-alive\r\nUpgrade-Insecure-Requests: 1\r\n\
+             Sec-Fetch-Dest: document\r\nSec-Fetch-Mode: navigate\r\nSec-Fetch-Site: none\r\nPriority: u=0, i\r\n\r\n",
+            "GET /jobs ;end",
+        ),
+    ] {
+        assert_eq!(rt;
+            first_bad_cut(&rt, input.as_bytes(), want)?,
+            None,
+            "{input}"
+        );
+    }
+    Ok(())
+}
+
+/// So many times a text, between two others.
+fn repeated(
+    rt: &HostRuntime,
+    front: &str,
+    text: &str,
+    count: usize,
+    back: &str,
+) -> Result<Vec<u8>, Fail> {
+    let mut bytes = Vec::from_slice(rt.alloc(), front.as_bytes())?;
+    for _ in 0..count {
+        bytes.extend_from_slice(text.as_bytes())?;
+    }
+    bytes.extend_from_slice(back.as_bytes())?;
+    Ok(bytes)
+}
+
+#[test]
+fn heads_have_a_greatest_size(rt: HostRuntime) -> Result<(), Fail> {
+    for (front, text, count, back, want) in [
+        ("GET / HTTP/1.1\r\n", "A: b\r\n", 64, "\r\n", "GET / ;end"),
+        (
+            "GET / HTTP/1.1\r\n",
+            "A: b\r\n",
+            65,
+            "\r\n",
+            "head too large",
+        ),
+        ("GET / HTTP/1.1\r\n", "A: b\r\n", 65, "", "inside"),
+        ("GET\n", "A\n", 65, "\n", "head too large"),
+        (
+            "GET / HTTP/1.1\r\nA: ",
+            "a",
+            16_361,
+            "\r\n\r\n",
+            "GET / ;end",
+        ),
+        (
+            "GET / HTTP/1.1\r\nA: ",
+            "a",
+            16_362,
+            "\r\n\r\n",
+            "head too large",
+        ),
+        ("", "\r\n", 8_183, "GET / HTTP/1.1\r\n\r\n", "GET / ;end"),
+        (
+            "\n",
+            "\r\n",
+            8_183,
+            "GET / HTTP/1.1\r\n\r\n",
+            "head too large",
+        ),
+        ("", "\r\n", 8_192, "", "head too large"),
+        ("\r", "\r\n", 8_191, "", "end"),
+    ] {
+        let input = repeated(&rt, front, text, count, back)?;
+        assert_eq!(rt;
+            first_bad_cut(&rt, input.as_slice(), want)?,
+            None,
+            "{front} and {count} times {text}"
+        );
     }
     Ok(())
 }

@@ -1,5 +1,5 @@
 -- One part more, and a part that was cut short.
-use Rattle.std.proofs.Common.{◌++◌, ◌+◌, ℕ, List, take, drop, ◌∙◌, sym, arith, subst, Ok, Err}
+use Rattle.std.proofs.Common.{◌+◌, ℕ, List, take, drop, ◌∙◌, sym, arith, subst, Ok, Err}
 use Rattle.fts_wire.specs.Response.{Sends}
 use Rattle.fts_wire.specs.declared.outside.SinkFailed.{SinkFailed}
 use Rattle.fts_wire.proofs.Sent.{sends_then, sends_no_more, joined, joined_more, joined_parts}

@@ -1,5 +1,5 @@
 -- Each end of the reading, by what was taken so far.
-use Rattle.std.proofs.Common.{◌≡◌, ℕ, ◌+◌, ◌-◌, ◌≤◌, ◌<◌, List, ◌++◌, length, take, ap, sym, ◌∙◌, subst, arith}
+use Rattle.std.proofs.Common.{◌≡◌, ℕ, ◌≤◌, ◌<◌, List, ◌++◌, length, take, ap, sym, ◌∙◌, subst, arith}
 use Rattle.fts_wire.specs.Outside.{IsTakenOf}
 use Rattle.fts_wire.specs.declared.outside.SourceFailed.{SourceFailed}
 use Rattle.fts_wire.proofs.WholeInput.{piece_taken, all_taken, too_many, part_taken, lost, rose_since, cut_piece, few_more, one_over}

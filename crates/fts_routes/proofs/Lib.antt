@@ -1,0 +1,11 @@
+pub mod Segments
+pub mod Numbered
+pub mod Listed
+pub mod Changed
+pub mod Priorities
+pub mod Coming
+pub mod Sendable
+pub mod Adding
+pub mod Still
+pub mod Told
+pub mod Rows

@@ -1,0 +1,53 @@
+-- What was planned, and what came of it.
+use Rattle.std.proofs.Common.{subst}
+use Rattle.fts_tables.specs.Tables.{Tables}
+use Rattle.fts_wire.specs.Answered.{request_data}
+use Rattle.fts_routes.specs.Replies.{plan_of}
+use Rattle.fts_routes.specs.Planned.{IsPlanned}
+use Rattle.fts_routes.specs.declared.planned.Planned.TheVariants.{Replies as PlannedReply, Tries as PlannedCommand}
+use Rattle.fts_routes.proofs.Coming.{comes-replied, comes-tried, answers, planned-priority}
+use Rattle.fts_routes.proofs.Sendable.{sendable}
+use Rattle.fts_routes.proofs.Still.{still}
+use Rattle.fts_routes.proofs.answers.answer.Goals as goal
+
+pub try_command-requires : goal.try_command-requires
+try_command-requires g c = record {
+  priority = planned-priority c.desk.result.now.tables (plan_of c.desk.result.now.tables c.args.now (request_data c.args.request.now)) c.in-Ok-Tries.command c.in-Ok-Tries.reply
+      (rw c.in-Ok-Tries.field-0-is at c.in-Ok-Tries.ensures);
+}
+
+pub returns-in-Ok-Replies-clause-answers : goal.returns-in-Ok-Replies-clause-answers
+returns-in-Ok-Replies-clause-answers g c = answers g.D.Disk.state g.D.Disk.faults c.args.keep.now c.args.keep.now c.args.writer (request_data c.args.request.now) c.args.now c.in-Ok-Replies.reply
+    (comes-replied g.D.Disk.state g.D.Disk.faults c.args.keep.now c.args.writer (plan_of c.args.keep.now.tables c.args.now (request_data c.args.request.now)) c.in-Ok-Replies.reply
+    (subst (λ (tables : Tables). IsPlanned tables (PlannedReply c.in-Ok-Replies.reply) (plan_of tables c.args.now (request_data c.args.request.now))) c.desk.ensures.tables
+    (rw c.in-Ok-Replies.field-0-is at c.in-Ok-Replies.ensures)))
+
+pub returns-in-Ok-Replies-clause-images : goal.returns-in-Ok-Replies-clause-images
+returns-in-Ok-Replies-clause-images g c = still g.D.Disk.state g.met.D.Disk.lawful c.args.keep.now c.desk.ensures.kept
+
+pub returns-in-Ok-Replies-clause-phrase : goal.returns-in-Ok-Replies-clause-phrase
+returns-in-Ok-Replies-clause-phrase g c = (sendable g.D.Disk.state g.D.Disk.faults c.args.keep.now c.args.keep.now c.args.writer (request_data c.args.request.now) c.args.now c.in-Ok-Replies.reply
+    (returns-in-Ok-Replies-clause-answers g c)).phrase
+
+pub returns-in-Ok-Replies-clause-methods : goal.returns-in-Ok-Replies-clause-methods
+returns-in-Ok-Replies-clause-methods g c = (sendable g.D.Disk.state g.D.Disk.faults c.args.keep.now c.args.keep.now c.args.writer (request_data c.args.request.now) c.args.now c.in-Ok-Replies.reply
+    (returns-in-Ok-Replies-clause-answers g c)).methods
+
+pub returns-in-Ok-Tries-clause-answers : goal.returns-in-Ok-Tries-clause-answers
+returns-in-Ok-Tries-clause-answers g c = answers g.D.Disk.state g.D.Disk.faults c.args.keep.now c.try_command.new.keep c.args.writer (request_data c.args.request.now) c.args.now c.try_command.result
+    (comes-tried g.D.Disk.state g.D.Disk.faults c.args.keep.now c.try_command.new.keep c.args.writer (plan_of c.args.keep.now.tables c.args.now (request_data c.args.request.now))
+    c.in-Ok-Tries.command c.in-Ok-Tries.reply c.try_command.result
+    (subst (λ (tables : Tables). IsPlanned tables (PlannedCommand c.in-Ok-Tries.command c.in-Ok-Tries.reply) (plan_of tables c.args.now (request_data c.args.request.now))) c.desk.ensures.tables
+    (rw c.in-Ok-Tries.field-0-is at c.in-Ok-Tries.ensures))
+    c.try_command.ensures.comes)
+
+pub returns-in-Ok-Tries-clause-phrase : goal.returns-in-Ok-Tries-clause-phrase
+returns-in-Ok-Tries-clause-phrase g c = (sendable g.D.Disk.state g.D.Disk.faults c.args.keep.now c.try_command.new.keep c.args.writer (request_data c.args.request.now) c.args.now c.try_command.result
+    (returns-in-Ok-Tries-clause-answers g c)).phrase
+
+pub returns-in-Ok-Tries-clause-methods : goal.returns-in-Ok-Tries-clause-methods
+returns-in-Ok-Tries-clause-methods g c = (sendable g.D.Disk.state g.D.Disk.faults c.args.keep.now c.try_command.new.keep c.args.writer (request_data c.args.request.now) c.args.now c.try_command.result
+    (returns-in-Ok-Tries-clause-answers g c)).methods
+
+pub returns-in-Err-clause-images : goal.returns-in-Err-clause-images
+returns-in-Err-clause-images g c = still g.D.Disk.state g.met.D.Disk.lawful c.args.keep.now c.desk.ensures.kept

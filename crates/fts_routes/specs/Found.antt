@@ -1,0 +1,36 @@
+-- What code has at hand of a route, a path and a query.
+use Rattle.std.specs.Prelude.{ℕ, if◌then◌else◌, List, [], Option, Some, None}
+use Rattle.std.specs.Borrow.{Bor}
+use Rattle.fts_tables.specs.Names.{segments}
+use Rattle.fts_routes.specs.Queries.{job_states, between_commas, is_one_of}
+use Rattle.serde_json.specs.Data.{Data}
+use Rattle.fts_tables.specs.Tables.{Tables}
+use Rattle.fts_tables.specs.declared.rows.JobRow.{JobRow}
+use Rattle.fts_routes.specs.Objects.{job_object, job_state_text, state_in}
+use Rattle.fts_routes.specs.Routes.{Route, Jobs, Job, Files, File, Links, Endpoints, Shares}
+use Rattle.fts_routes.specs.declared.routes.Route.{Route as Found}
+use Rattle.fts_routes.specs.declared.routes.Route.TheVariants.{Jobs as FoundJobs, Job as FoundJob, Files as FoundFiles, File as FoundFile, Links as FoundLinks, Endpoints as FoundEndpoints, Shares as FoundShares}
+
+-- the route that was found
+abbrev pub route_data : Found → Route
+route_data FoundJobs = Jobs
+route_data (FoundJob id) = Job id.now
+route_data (FoundFiles id) = Files id.now
+route_data (FoundFile id file) = File id.now file.now
+route_data FoundLinks = Links
+route_data FoundEndpoints = Endpoints
+route_data FoundShares = Shares
+
+-- the names behind a slash, and none where there is no slash
+abbrev pub names_behind : Option (Bor (List ℕ)) → List (List ℕ)
+names_behind None = []
+names_behind (Some rest) = segments rest.now
+
+-- the states that count, where a query's text asks for some
+abbrev pub states_asked : Option (List ℕ) → List (List ℕ)
+states_asked None = job_states
+states_asked (Some text) = between_commas text
+
+-- a job's object, where the job is in one of these states
+abbrev pub shown_if_asked : Tables → List (List ℕ) → JobRow → Option Data
+shown_if_asked tables states job = if is_one_of states (job_state_text (state_in tables job)) then Some (job_object tables job) else None

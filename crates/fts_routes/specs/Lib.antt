@@ -1,0 +1,10 @@
+pub mod Json
+pub mod Objects
+pub mod Values
+pub mod Queries
+pub mod Routes
+pub mod Found
+pub mod Refusals
+pub mod Replies
+pub mod Changes
+pub mod Planned

@@ -1,0 +1,228 @@
+-- What a request is answered over a list, at a moment, and the entry that it adds. The checks come in this order: the route, its method,
+-- the job, the file, the document's or the query's rules, and then what the machine and the journal refuse.
+use Rattle.std.specs.Prelude.{◌≡◌, ◌≢◌, ◌⊎◌, ℕ, ◌+◌, ◌||◌, Bool, if◌then◌else◌, List, [], ◌∷◌, ◌++◌, length, Option, Some, None, bytes_eq, codes, Result, Ok, Err}
+use Rattle.std.specs.Option.{option_map_or}
+use Rattle.serde_json.specs.Data.{Data}
+use Rattle.fts_tables.specs.Tables.{Tables, job_at, rows_of_job}
+use Rattle.fts_tables.specs.JobData.{JobData}
+use Rattle.fts_tables.specs.Moves.{job_of_new}
+use Rattle.fts_tables.specs.History.{tables_of, tables_from}
+use Rattle.fts_tables.specs.declared.commands.Entry.{Entry}
+use Rattle.fts_tables.specs.declared.commands.Command.{Command}
+use Rattle.fts_tables.specs.declared.commands.Command.TheVariants.{Submit, CancelJob, CancelFile, SetPriority}
+use Rattle.fts_tables.specs.declared.commands.Refusal.{Refusal}
+use Rattle.fts_tables.specs.declared.commands.Refusal.TheVariants.{NoJob, NoFile, Duplicate, JobsFull, RowsFull, Idle, Stale, Unchanged}
+use Rattle.fts_tables.specs.declared.rows.JobRow.{JobRow}
+use Rattle.fts_tables.specs.declared.rows.FileRow.{FileRow}
+use Rattle.fts_tables.specs.Counts.{Rose}
+use Rattle.fts_disk.specs.Disk.{DiskState, IsTold}
+use Rattle.fts_wire.specs.RequestData.{RequestData}
+use Rattle.fts_wire.specs.declared.response.Allow.TheVariants.{Get as AllowGet}
+use Rattle.fts_wire.specs.declared.response.Reply.{Reply}
+use Rattle.fts_jobdoc.specs.Documents.{job_of, priority_of}
+use Rattle.fts_jobdoc.specs.declared.fault.DocFault.{DocFault}
+use Rattle.fts_keep.specs.Keeps.{KeepData, used_of, used_after}
+use Rattle.fts_keep.specs.Applied.{Applies, applied_to, entry_by}
+use Rattle.fts_keep.specs.declared.fault.KeepFault.TheVariants.{Rule, DiskFailed, JournalFull, Damaged, Memory}
+use Rattle.fts_routes.specs.Json.{array_of}
+use Rattle.fts_routes.specs.Objects.{settings_in, job_object, file_object, link_object, endpoint_object, weight_object, job_shown, file_shown, accepted_object}
+use Rattle.fts_routes.specs.Routes.{Route, Jobs, Job, Files, File, Links, Endpoints, Shares, route_of, allow_of, job_named, file_named}
+use Rattle.fts_routes.specs.Queries.{QueryFault, asked_in, jobs_asked}
+use Rattle.fts_routes.specs.Refusals.{shows, bad_document, bad_query, no_route, no_job, no_file, no_method, duplicate, disk_failed, rows_full, jobs_full, journal_full, no_memory}
+
+-- what a request comes to before any command is tried
+pub data Plan : Type 0 where
+  -- a reply that needs no command
+  Replies : Reply → Plan
+  -- a command, and what a reply shows of the tables behind it
+  Tries : Command → (Tables → Data) → Plan
+
+-- a plan that asks for a job, or a file, that isn't there
+abbrev pub if_job : Option JobRow → (JobRow → Plan) → Plan
+if_job None plan = Replies no_job
+if_job (Some job) plan = plan job
+
+abbrev pub if_file : Option FileRow → (FileRow → Plan) → Plan
+if_file None plan = Replies no_file
+if_file (Some row) plan = plan row
+
+-- a plan by what was read of a document
+abbrev pub if_read : {T : Type 0} → Result T DocFault → (T → Plan) → Plan
+if_read (Err fault) plan = Replies (bad_document fault)
+if_read (Ok value) plan = plan value
+
+-- the jobs that a query asks for
+abbrev pub jobs_plan : Tables → Result (List (List ℕ) × ℕ) QueryFault → Plan
+jobs_plan tables (Err fault) = Replies (bad_query fault)
+jobs_plan tables (Ok asked) = Replies (shows (array_of (job_object tables) (jobs_asked tables asked.0 asked.1)))
+
+-- the id that the machine gives a new job: the one that it asks for, or the standard one of the next number
+abbrev pub id_of_new : Tables → JobData → ℕ
+id_of_new tables job = (job_of_new tables tables.moment job).id
+
+-- a submission
+abbrev pub submission : Tables → ℕ → JobData → Plan
+submission tables now job = Tries (Submit now job) (λ after. accepted_object (id_of_new tables job))
+
+-- whether a request has this method
+abbrev pub has_method : RequestData → List ℕ → Bool
+has_method request method = bytes_eq request.method method
+
+-- /jobs: a look at the jobs, or a submission
+abbrev pub plan_on_jobs : Tables → ℕ → RequestData → Plan
+plan_on_jobs tables now request =
+    if has_method request (codes "GET") then jobs_plan tables (asked_in request.query)
+    else if has_method request (codes "POST") || has_method request (codes "PUT")
+    then if_read (job_of request.body (settings_in tables)) (submission tables now)
+    else Replies (no_method (allow_of Jobs))
+
+-- a look at a job
+abbrev pub look_at_job : Tables → JobRow → Plan
+look_at_job tables job = Replies (shows (job_object tables job))
+
+-- a cancellation of a job
+abbrev pub cancellation : ℕ → JobRow → Plan
+cancellation now job = Tries (CancelJob now job.number) (job_shown job.number)
+
+-- another priority for a job
+abbrev pub prioritization : ℕ → JobRow → ℕ → Plan
+prioritization now job priority = Tries (SetPriority now job.number priority) (job_shown job.number)
+
+-- /jobs/{id}: a look at a job, its cancellation, or another priority for it
+abbrev pub plan_on_job : Tables → ℕ → RequestData → List ℕ → Plan
+plan_on_job tables now request id =
+    if has_method request (codes "GET") then if_job (job_named tables id) (look_at_job tables)
+    else if has_method request (codes "DELETE") then if_job (job_named tables id) (cancellation now)
+    else if has_method request (codes "POST")
+    then if_job (job_named tables id) (λ job. if_read (priority_of request.body) (prioritization now job))
+    else Replies (no_method (allow_of (Job id)))
+
+-- a look at the files of a job
+abbrev pub look_at_files : Tables → JobRow → Plan
+look_at_files tables job = Replies (shows (array_of file_object (rows_of_job tables.rows job.number)))
+
+-- /jobs/{id}/files: a look at the files of a job
+abbrev pub plan_on_files : Tables → RequestData → List ℕ → Plan
+plan_on_files tables request id =
+    if has_method request (codes "GET") then if_job (job_named tables id) (look_at_files tables)
+    else Replies (no_method (allow_of (Files id)))
+
+-- a cancellation of a file of a job
+abbrev pub file_cancellation : ℕ → JobRow → FileRow → Plan
+file_cancellation now job row = Tries (CancelFile now job.number row.id) (file_shown row.id)
+
+-- /jobs/{id}/files/{file}: a cancellation of a file
+abbrev pub plan_on_file : Tables → ℕ → RequestData → List ℕ → List ℕ → Plan
+plan_on_file tables now request id file =
+    if has_method request (codes "DELETE")
+    then if_job (job_named tables id) (λ job. if_file (file_named tables job file) (file_cancellation now job))
+    else Replies (no_method (allow_of (File id file)))
+
+-- a look at a list of the settings
+abbrev pub look_at_settings : {A : Type 0} → RequestData → (A → Data) → List A → Plan
+look_at_settings request shown items =
+    if has_method request (codes "GET") then Replies (shows (array_of shown items)) else Replies (no_method AllowGet)
+
+-- the plan of a request, by its route
+abbrev pub plan_on : Tables → ℕ → RequestData → Route → Plan
+plan_on tables now request Jobs = plan_on_jobs tables now request
+plan_on tables now request (Job id) = plan_on_job tables now request id
+plan_on tables now request (Files id) = plan_on_files tables request id
+plan_on tables now request (File id file) = plan_on_file tables now request id file
+plan_on tables now request Links = look_at_settings request link_object (settings_in tables).links
+plan_on tables now request Endpoints = look_at_settings request endpoint_object (settings_in tables).endpoints
+plan_on tables now request Shares = look_at_settings request weight_object (settings_in tables).weights
+
+-- the plan of a request
+abbrev pub plan_of : Tables → ℕ → RequestData → Plan
+plan_of tables now request = option_map_or (plan_on tables now request) (route_of request.path) (Replies no_route)
+
+-- what is said to a request: the reply, and the entry that it adds, one at most
+pub record Said : Type 0 where
+  pub reply : Reply
+  pub added : List Entry
+
+-- a reply that adds nothing
+abbrev pub said_only : Reply → Said
+said_only reply = record { reply = reply; added = [] }
+
+-- the id of a job
+abbrev pub id_of_job : Tables → ℕ → ℕ
+id_of_job tables number = option_map_or (λ job. job.id) (job_at tables.jobs number) 0
+
+-- the reply to a command that the machine refuses; what changes nothing is shown as it is
+abbrev pub reply_to_refusal : Tables → (Tables → Data) → Refusal → Reply
+reply_to_refusal tables shown NoJob = no_job
+reply_to_refusal tables shown NoFile = no_file
+reply_to_refusal tables shown (Duplicate job) = duplicate (id_of_job tables job)
+reply_to_refusal tables shown (JobsFull jobs) = jobs_full
+reply_to_refusal tables shown (RowsFull rows) = rows_full
+reply_to_refusal tables shown (Unchanged job) = shows (shown tables)
+-- these two come of claims and reports alone
+reply_to_refusal tables shown Idle = no_memory
+reply_to_refusal tables shown (Stale state attempt) = no_memory
+
+-- what is said by what an entry came to
+abbrev pub said_by : Tables → (Tables → Data) → Entry → Applies → Said
+said_by tables shown entry (Ok done) = record { reply = shows (shown done.0); added = entry ∷ [] }
+said_by tables shown entry (Err (Rule refusal)) = said_only (reply_to_refusal tables shown refusal)
+said_by tables shown entry (Err (JournalFull used)) = said_only journal_full
+said_by tables shown entry (Err DiskFailed) = said_only disk_failed
+said_by tables shown entry (Err Memory) = said_only no_memory
+-- a command never finds a journal damaged
+said_by tables shown entry (Err (Damaged offset)) = said_only no_memory
+
+-- what is said by a plan
+abbrev pub said_to : Tables → ℕ → ℕ → Plan → Said
+said_to tables used writer (Replies reply) = said_only reply
+said_to tables used writer (Tries command shown) =
+    said_by tables shown (entry_by writer command) (applied_to tables used (entry_by writer command))
+
+-- what is said to a request over tables, with so many bytes of the journal used
+abbrev pub said : Tables → ℕ → ℕ → RequestData → ℕ → Said
+said tables used writer request now = said_to tables used writer (plan_of tables now request)
+
+-- the same over a list
+abbrev pub said_over : List Entry → ℕ → RequestData → ℕ → Said
+said_over entries writer request now = said (tables_of entries) (used_of entries) writer request now
+
+-- how an answer came about: as it is defined, or there was no memory, or the disk failed
+pub data Way : Type 0 where
+  AsDefined : Way
+  WithoutMemory : Way
+  WithoutDisk : Way
+
+-- what is said then
+abbrev pub said_so : Way → Said → Said
+said_so AsDefined said = said
+said_so WithoutMemory said = said_only no_memory
+said_so WithoutDisk said = said_only disk_failed
+
+-- the disk's count rose where the disk is the cause
+abbrev pub CausedBy : Way → ℕ → ℕ → Type 0
+CausedBy AsDefined old new = Unit {0}
+CausedBy WithoutMemory old new = Unit {0}
+CausedBy WithoutDisk old new = Rose old new
+
+-- the disk is the cause only where the reply would have come with an entry
+abbrev pub IsInsteadOf : Way → Said → Type 0
+IsInsteadOf AsDefined said = Unit {0}
+IsInsteadOf WithoutMemory said = Unit {0}
+IsInsteadOf WithoutDisk said = said.added ≢ []
+
+-- what answering a request did to a keep
+pub record Answers {D : Type 0} (state : D → DiskState) (faults : D → ℕ) (old new : KeepData D)
+    (writer : ℕ) (request : RequestData) (now : ℕ) (reply : Reply) : Type 0 where
+  pub way : Way
+  pub cause : CausedBy way (faults old.disk) (faults new.disk)
+  pub instead : IsInsteadOf way (said old.tables old.used writer request now)
+  pub replies : reply ≡ (said_so way (said old.tables old.used writer request now)).reply
+  pub tables : new.tables ≡ tables_from old.tables (said_so way (said old.tables old.used writer request now)).added
+  pub commands : new.commands ≡ old.commands + length (said_so way (said old.tables old.used writer request now)).added
+  pub used : new.used ≡ used_after old.used (said_so way (said old.tables old.used writer request now)).added
+  pub listed : IsTold (state old.disk) → new.entries ≡ old.entries ++ (said_so way (said old.tables old.used writer request now)).added
+
+-- an entry is in doubt only where it was before, or where the disk's count rose
+abbrev pub DoubtHasCause : {D : Type 0} → (D → DiskState) → (D → ℕ) → KeepData D → KeepData D → Type 0
+DoubtHasCause state faults old new =
+    IsTold (state old.disk) → (new.doubt ≡ None) ⊎ ((new.doubt ≡ old.doubt) ⊎ Rose (faults old.disk) (faults new.disk))

@@ -1,0 +1,23 @@
+//! Replies: what each request is answered over the tables, and the command that it makes of them, one at most.
+//! Each answer is one function of the tables, the journal's bytes used, the writer, the request and the moment: `said` (`specs/Replies.antt`).
+//! Order of checks: the route, its method, the job, the file, the document's or the query's rules, and then what the machine and the journal
+//! refuse. The body of a 200 that comes with a command is made before the command is applied.
+//! Called by fts_top. Nothing here knows of sockets, or of where a request ends. Format: docs/DEFINITIONS.md, "HTTP".
+#![tactic(auto)]
+
+mod answers;
+mod changes;
+mod looks;
+mod named;
+mod objects;
+mod plan;
+mod planned;
+mod queries;
+mod replies;
+mod routes;
+#[cfg(test)]
+mod tests;
+mod texts;
+
+pub use answers::answer;
+pub use replies::refusal_reply;
