@@ -349,11 +349,6 @@ fn each_no_ends_a_copy(rt: HostRuntime) -> Result<(), Fail> {
     Ok(())
 }
 
-fn folder_store(rt: HostRuntime, root: &str) -> Result<FolderStore<HostRuntime>, AllocError> {
-    let alloc = rt.alloc();
-    Ok(FolderStore::new(rt, alloc, String::from_str(alloc, root)?))
-}
-
 fn clear<R: Files<File = File> + Alloc>(rt: &R, root: &str) {
     let _old = fs::remove_dir_all(rt, root);
 }
@@ -374,6 +369,23 @@ fn holds<R: Files<File = File> + Alloc + Abort>(rt: &R, path: &str, want: &str, 
 const HELD: &str = "grid-of-a-copy/https:,,b.example/store/f1";
 
 type Folders = FolderStore<HostRuntime>;
+
+// A store of real folders, and what copies in it.
+#[derive(Drop)]
+struct Grid {
+    store: Folders,
+    copier: Copier,
+}
+
+fn grid_at(rt: HostRuntime, root: &str, wanted: Option<[u8; 16]>) -> Result<Grid, Fail> {
+    let alloc = rt.alloc();
+    let root = String::from_str(alloc, root)?;
+    let copier = copier_of(alloc, 0, wanted)?;
+    Ok(Grid {
+        store: FolderStore::new(rt, alloc, root),
+        copier,
+    })
+}
 
 fn copies_once<R: Files<File = File> + Alloc + Abort>(
     rt: &R,
@@ -418,23 +430,21 @@ fn spares_a_folder<R: Files<File = File> + Alloc + Abort>(
 
 fn copies_between_folders<R: Files<File = File> + Alloc + Abort>(
     rt: &R,
-    store: &mut Folders,
-    copier: &mut Copier,
+    grid: &mut Grid,
 ) -> Result<(), Fail> {
-    copies_once(rt, store, copier)?;
-    replaces_a_file(rt, store, copier)?;
-    spares_a_folder(rt, store, copier)
+    copies_once(rt, &mut grid.store, &mut grid.copier)?;
+    replaces_a_file(rt, &mut grid.store, &mut grid.copier)?;
+    spares_a_folder(rt, &mut grid.store, &mut grid.copier)
 }
 
 #[test]
 fn a_file_is_copied_between_real_folders(rt: HostRuntime) -> Result<(), Fail> {
     let root = "grid-of-a-copy";
     clear(&rt, root);
-    let mut copier = copier_of(rt.alloc(), 0, Some(ABC))?;
-    let mut store = folder_store(rt, root)?;
-    copies_between_folders(&rt, &mut store, &mut copier)?;
+    let mut grid = grid_at(rt, root, Some(ABC))?;
+    let ended = copies_between_folders(&rt, &mut grid);
     clear(&rt, root);
-    Ok(())
+    ended
 }
 
 // A copy's three files, of which the source holds `abc`.
@@ -716,11 +726,10 @@ fn each_written_ends<R: Files<File = File> + Alloc + Abort>(
 fn a_real_file_that_changes_during_a_copy(rt: HostRuntime) -> Result<(), Fail> {
     let root = "grid-of-a-change";
     make_folders(rt, root)?;
-    let mut copier = copier_of(rt.alloc(), 0, None)?;
-    let mut store = folder_store(rt, root)?;
-    each_written_ends(&rt, &mut store, &mut copier)?;
+    let mut grid = grid_at(rt, root, None)?;
+    let ended = each_written_ends(&rt, &mut grid.store, &mut grid.copier);
     clear(&rt, root);
-    Ok(())
+    ended
 }
 
 // Cuts a file, makes it as long as it was, writes other bytes into it and makes it longer, so often.
@@ -781,17 +790,16 @@ fn a_source_that_another_thread_changes_is_never_verified_as_another(
 ) -> Result<(), Fail> {
     let root = "grid-of-a-cut";
     make_source(rt, root)?;
-    let mut copier = copier_of(rt.alloc(), 0, None)?;
-    let mut store = folder_store(rt, root)?;
+    let mut grid = grid_at(rt, root, None)?;
     for _ in 0..5_u32 {
         let ((outcome, _), _) = join(
             &rt,
-            || never_stopped(&mut store, &mut copier, true),
+            || never_stopped(&mut grid.store, &mut grid.copier, true),
             || cut_and_lengthen(&rt, CUT_SOURCE),
         );
         assert!(rt; is_as_said(&rt, outcome, CUT_DEST), "{outcome:?}");
     }
-    ends_alone(&rt, &mut store, &mut copier);
+    ends_alone(&rt, &mut grid.store, &mut grid.copier);
     clear(&rt, root);
     Ok(())
 }
