@@ -4,6 +4,7 @@ use crate::{SettingKey, SettingsFault, read_settings};
 use fts_joburl::UrlFault;
 use fts_tables::{Endpoint, LinkRule, Settings, Weight};
 use std::alloc::{AllocError, Global};
+use std::process::Abort;
 use std::test::Fail;
 
 /// The fault of a text that ends so.
@@ -132,13 +133,36 @@ fn the_example_gives_its_settings(rt: HostRuntime) -> Result<(), Fail> {
     Ok(())
 }
 
+/// A text that ends so has this fault.
+fn has_fault(
+    rt: &impl Abort,
+    alloc: Global,
+    start: &str,
+    text: &str,
+    want: Option<SettingsFault>,
+) -> Result<(), AllocError> {
+    let found = fault_of(alloc, start, text)?;
+    assert_eq!(rt; found, want, "{text}");
+    Ok(())
+}
+
 #[test]
-fn a_key_has_its_type(rt: HostRuntime) -> Result<(), Fail> {
+fn a_key_of_the_whole_has_its_type(rt: HostRuntime) -> Result<(), Fail> {
     for (text, key) in [
         ("vo = 1", SettingKey::Vo),
         ("workers = 4.0", SettingKey::Workers),
         ("default_max_active = true", SettingKey::DefaultMaxActive),
         ("storage = 1979-05-27", SettingKey::Storage),
+    ] {
+        let want = Some(SettingsFault::WrongType { key });
+        has_fault(&rt, rt.alloc(), "", text, want)?;
+    }
+    Ok(())
+}
+
+#[test]
+fn a_key_of_a_storage_has_its_type(rt: HostRuntime) -> Result<(), Fail> {
+    for (text, key) in [
         ("storage = [1]", SettingKey::Storage),
         ("storage = [{ url = 1 }]", SettingKey::Url),
         (
@@ -149,6 +173,16 @@ fn a_key_has_its_type(rt: HostRuntime) -> Result<(), Fail> {
             "storage = [{ outbound_max_active = 07:32:00 }]",
             SettingKey::Outbound,
         ),
+    ] {
+        let want = Some(SettingsFault::WrongType { key });
+        has_fault(&rt, rt.alloc(), "", text, want)?;
+    }
+    Ok(())
+}
+
+#[test]
+fn a_key_of_a_link_has_its_type(rt: HostRuntime) -> Result<(), Fail> {
+    for (text, key) in [
         ("link = {}", SettingKey::Link),
         ("link = [{ symbolicname = [] }]", SettingKey::SymbolicName),
         ("link = [{ source = 1 }]", SettingKey::LinkSource),
@@ -157,19 +191,26 @@ fn a_key_has_its_type(rt: HostRuntime) -> Result<(), Fail> {
             SettingKey::LinkDestination,
         ),
         ("link = [{ max_active = \"1\" }]", SettingKey::MaxActive),
-        ("activity.name = \"default\"", SettingKey::Activity),
-        ("activity = [{ name = 1 }]", SettingKey::Name),
-        ("activity = [{ weight = 1.5 }]", SettingKey::Weight),
         (
             "link = [{ max_active = \"1\" }, { source = 1 }]",
             SettingKey::LinkSource,
         ),
     ] {
-        assert_eq!(rt;
-            fault_of(rt.alloc(), "", text)?,
-            Some(SettingsFault::WrongType { key }),
-            "{text}"
-        );
+        let want = Some(SettingsFault::WrongType { key });
+        has_fault(&rt, rt.alloc(), "", text, want)?;
+    }
+    Ok(())
+}
+
+#[test]
+fn a_key_of_an_activity_has_its_type(rt: HostRuntime) -> Result<(), Fail> {
+    for (text, key) in [
+        ("activity.name = \"default\"", SettingKey::Activity),
+        ("activity = [{ name = 1 }]", SettingKey::Name),
+        ("activity = [{ weight = 1.5 }]", SettingKey::Weight),
+    ] {
+        let want = Some(SettingsFault::WrongType { key });
+        has_fault(&rt, rt.alloc(), "", text, want)?;
     }
     Ok(())
 }
@@ -185,12 +226,14 @@ fn a_needed_key_is_there(rt: HostRuntime) -> Result<(), Fail> {
             SettingKey::Url,
         ),
     ] {
-        assert_eq!(rt;
-            fault_of(rt.alloc(), "", text)?,
-            Some(SettingsFault::Missing { key }),
-            "{text}"
-        );
+        let want = Some(SettingsFault::Missing { key });
+        has_fault(&rt, rt.alloc(), "", text, want)?;
     }
+    Ok(())
+}
+
+#[test]
+fn a_needed_key_of_a_link_or_activity_is_there(rt: HostRuntime) -> Result<(), Fail> {
     for (text, key) in [
         ("link = [{}]", SettingKey::LinkSource),
         (
@@ -204,60 +247,87 @@ fn a_needed_key_is_there(rt: HostRuntime) -> Result<(), Fail> {
         ("activity = [{}]", SettingKey::Name),
         ("activity = [{ name = \"default\" }]", SettingKey::Weight),
     ] {
-        assert_eq!(rt;
-            fault_of(rt.alloc(), START, text)?,
-            Some(SettingsFault::Missing { key }),
-            "{text}"
-        );
+        let want = Some(SettingsFault::Missing { key });
+        has_fault(&rt, rt.alloc(), START, text, want)?;
     }
     Ok(())
 }
 
 #[test]
-fn each_rule_alone(rt: HostRuntime) -> Result<(), Fail> {
-    for (text, want) in [
-        ("other = 1\nworkers = 16", None),
-        ("workers = ", Some(SettingsFault::NotToml)),
-        (
-            "workers = 9223372036854775808",
-            Some(SettingsFault::NotToml),
-        ),
+fn what_breaks_no_rule(rt: HostRuntime) -> Result<(), Fail> {
+    for text in [
+        "other = 1\nworkers = 16",
+        "link = [{ source = \"x://a\", destination = \"x://b\", max_active = 1 }, { source = \"x://b\", destination = \"x://a\", max_active = 2 }]",
+    ] {
+        has_fault(&rt, rt.alloc(), START, text, None)?;
+    }
+    Ok(())
+}
+
+#[test]
+fn each_rule_on_links_alone(rt: HostRuntime) -> Result<(), Fail> {
+    for (text, fault) in [
         (
             "link = [{ source = \"x://a\", destination = \"no url\", max_active = 1 }]",
-            Some(SettingsFault::BadUrl {
+            SettingsFault::BadUrl {
                 fault: UrlFault::NotUrl,
-            }),
+            },
         ),
         (
             "link = [{ source = \"x://a\", destination = \"x://b\", max_active = 1 }, { source = \"x://a\", destination = \"x://b\", max_active = 2 }]",
-            Some(SettingsFault::TwiceLink),
-        ),
-        (
-            "link = [{ source = \"x://a\", destination = \"x://b\", max_active = 1 }, { source = \"x://b\", destination = \"x://a\", max_active = 2 }]",
-            None,
+            SettingsFault::TwiceLink,
         ),
         (
             "link = [{ source = \"x://a\", destination = \"x://c\", max_active = 1 }]",
-            Some(SettingsFault::UnknownEndpoint),
+            SettingsFault::UnknownEndpoint,
         ),
-        ("default_max_active = 1001", Some(SettingsFault::LimitRange)),
-        ("default_max_active = -1", Some(SettingsFault::LimitRange)),
-        (
-            "activity = [{ name = \"default\", weight = 10001 }]",
-            Some(SettingsFault::WeightRange),
-        ),
-        ("activity = []", Some(SettingsFault::NoDefaultWeight)),
-        ("workers = 0", Some(SettingsFault::WorkerRange)),
         (
             "link = [{ source = \"x://a\", destination = \"x://b\", max_active = 1, symbolicname = \"\" }]",
-            Some(SettingsFault::BadLabel),
-        ),
-        (
-            "activity = [{ name = \"default\", weight = 1 }, { name = \"default\", weight = 2 }]",
-            Some(SettingsFault::TwiceWeight),
+            SettingsFault::BadLabel,
         ),
     ] {
-        assert_eq!(rt; fault_of(rt.alloc(), START, text)?, want, "{text}");
+        has_fault(&rt, rt.alloc(), START, text, Some(fault))?;
+    }
+    Ok(())
+}
+
+#[test]
+fn each_rule_on_text_and_limits_alone(rt: HostRuntime) -> Result<(), Fail> {
+    for (text, fault) in [
+        ("workers = ", SettingsFault::NotToml),
+        ("workers = 9223372036854775808", SettingsFault::NotToml),
+        ("default_max_active = 1001", SettingsFault::LimitRange),
+        ("default_max_active = -1", SettingsFault::LimitRange),
+        ("workers = 0", SettingsFault::WorkerRange),
+    ] {
+        has_fault(&rt, rt.alloc(), START, text, Some(fault))?;
+    }
+    Ok(())
+}
+
+#[test]
+fn each_rule_on_weights_alone(rt: HostRuntime) -> Result<(), Fail> {
+    for (text, fault) in [
+        (
+            "activity = [{ name = \"default\", weight = 10001 }]",
+            SettingsFault::WeightRange,
+        ),
+        ("activity = []", SettingsFault::NoDefaultWeight),
+        (
+            "activity = [{ name = \"default\", weight = 1 }, { name = \"default\", weight = 2 }]",
+            SettingsFault::TwiceWeight,
+        ),
+    ] {
+        has_fault(&rt, rt.alloc(), START, text, Some(fault))?;
+    }
+    Ok(())
+}
+
+/// A text breaks this rule first.
+fn breaks_first(rt: &impl Abort, alloc: Global, text: &str, rule: u32) -> Result<(), AllocError> {
+    match fault_of(alloc, "", text)? {
+        Some(fault) => assert_eq!(rt; fault.rule(), rule, "{text}"),
+        None => assert!(rt; false, "{text}"),
     }
     Ok(())
 }
@@ -276,6 +346,15 @@ fn of_two_rules_the_first_is_answered(rt: HostRuntime) -> Result<(), Fail> {
             "vo = \"v\"\nstorage = [{ url = \"HTTPS://A.EXAMPLE:443\" }, { url = \"https://a.example\" }]\nlink = [{ source = \"x://c\", destination = \"x://c\", max_active = 1 }, { source = \"x://c\", destination = \"x://c\", max_active = 1 }]",
             5,
         ),
+    ] {
+        breaks_first(&rt, rt.alloc(), text, rule)?;
+    }
+    Ok(())
+}
+
+#[test]
+fn of_two_later_rules_the_first_is_answered(rt: HostRuntime) -> Result<(), Fail> {
+    for (text, rule) in [
         (
             "vo = \"v\"\nstorage = [{ url = \"x://a\" }]\nlink = [{ source = \"x://c\", destination = \"x://c\", max_active = 1 }, { source = \"x://c\", destination = \"x://c\", max_active = 1 }]",
             6,
@@ -297,10 +376,7 @@ fn of_two_rules_the_first_is_answered(rt: HostRuntime) -> Result<(), Fail> {
             10,
         ),
     ] {
-        match fault_of(rt.alloc(), "", text)? {
-            Some(fault) => assert_eq!(rt; fault.rule(), rule, "{text}"),
-            None => assert!(rt; false, "{text}"),
-        }
+        breaks_first(&rt, rt.alloc(), text, rule)?;
     }
     Ok(())
 }
@@ -314,32 +390,21 @@ fn crowded(alloc: Global, more: &str, count: usize) -> Result<Option<SettingsFau
     fault_of(alloc, text.as_str(), "")
 }
 
+/// A link with an empty name.
+const BAD_NAME: &str =
+    "link = [{ source = \"x://a\", destination = \"x://b\", max_active = 1, symbolicname = \"\" }]";
+
 #[test]
 fn too_many_stands_between_its_neighbours(rt: HostRuntime) -> Result<(), Fail> {
-    assert_eq!(rt;
-        crowded(rt.alloc(), "workers = 0", 65)?,
-        Some(SettingsFault::WorkerRange)
-    );
-    assert_eq!(rt;
-        crowded(
-            rt.alloc(),
-            "link = [{ source = \"x://a\", destination = \"x://b\", max_active = 1, symbolicname = \"\" }]",
-            65
-        )?,
-        Some(SettingsFault::TooMany)
-    );
-    assert_eq!(rt;
-        crowded(
-            rt.alloc(),
-            "link = [{ source = \"x://a\", destination = \"x://b\", max_active = 1, symbolicname = \"\" }]",
-            2
-        )?,
-        Some(SettingsFault::BadLabel)
-    );
-    assert_eq!(rt;
-        crowded(rt.alloc(), "", 2)?,
-        Some(SettingsFault::TwiceWeight)
-    );
+    for (more, count, want) in [
+        ("workers = 0", 65, SettingsFault::WorkerRange),
+        (BAD_NAME, 65, SettingsFault::TooMany),
+        (BAD_NAME, 2, SettingsFault::BadLabel),
+        ("", 2, SettingsFault::TwiceWeight),
+    ] {
+        let found = crowded(rt.alloc(), more, count)?;
+        assert_eq!(rt; found, Some(want), "{more} {count}");
+    }
     Ok(())
 }
 

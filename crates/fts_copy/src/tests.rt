@@ -11,6 +11,7 @@ use md5::{Digest, Md5};
 use std::alloc::{Alloc, AllocError, Global};
 use std::fs::{self, File, Files, OpenOptions};
 use std::io::Write;
+use std::process::Abort;
 use std::test::Fail;
 use std::thread::join;
 
@@ -74,20 +75,18 @@ fn add(files: &mut Vec<StoredFile>, place: Place, bytes: Vec<u8>) -> Result<(), 
     }
 }
 
-// A store whose source holds these bytes.
-fn holding(
-    alloc: Global,
-    bytes: Vec<u8>,
-    fail: Vec<u32>,
-    drop: Vec<u32>,
-) -> Result<MemoryStore, Memory> {
+// A store whose source holds these bytes. The call of the one number fails, the append of the other loses a byte; both are numbered from 1.
+fn holding(alloc: Global, bytes: Vec<u8>, fails: u32, loses: u32) -> Result<MemoryStore, Memory> {
     let mut files = Vec::new(alloc);
-    add(
-        &mut files,
-        place(alloc, "https://a.example", "data/f1")?,
-        bytes,
-    )?;
+    let source = place(alloc, "https://a.example", "data/f1")?;
+    add(&mut files, source, bytes)?;
+    let fail = [fails].to_vec(alloc)?;
+    let drop = [loses].to_vec(alloc)?;
     Ok(MemoryStore::new(alloc, Items::from_vec(files), fail, drop))
+}
+
+fn holding_abc(alloc: Global, fails: u32, loses: u32) -> Result<MemoryStore, Memory> {
+    holding(alloc, b"abc".to_vec(alloc)?, fails, loses)
 }
 
 // A copy that is called off after so many pieces, and how often its watch was asked.
@@ -104,104 +103,145 @@ fn copied<E: Store>(
     (outcome, watch.askings())
 }
 
+// A room, and the row that is copied in it.
+#[derive(Drop)]
+struct Copier {
+    room: CopyRoom,
+    row: FileRow,
+}
+
+fn copier_of(alloc: Global, size: u64, wanted: Option<[u8; 16]>) -> Result<Copier, Memory> {
+    Ok(Copier {
+        room: CopyRoom::new(alloc)?,
+        row: row(alloc, size, wanted)?,
+    })
+}
+
+fn never_stopped<E: Store>(store: &mut E, copier: &mut Copier, overwrite: bool) -> (Outcome, u64) {
+    copied(store, &mut copier.room, &copier.row, overwrite, u64::MAX)
+}
+
+fn verified(size: u64, digest: [u8; 16]) -> Outcome {
+    Outcome::Verified { size, digest }
+}
+
+fn ends(rt: &impl Abort, found: (Outcome, u64), want: (Outcome, u64), case: &str) {
+    assert_eq!(rt; found, want, "{case}");
+}
+
+// A copy of `abc` whose append of this number loses a byte: its end, and the size of what is at the destination then.
+fn end_of_abc(
+    alloc: Global,
+    room: &mut CopyRoom,
+    row: &FileRow,
+    loses: u32,
+) -> Result<(Outcome, Option<u64>), Fail> {
+    let mut store = holding_abc(alloc, 0, loses)?;
+    let (outcome, _) = copied(&mut store, room, row, false, u64::MAX);
+    Ok((outcome, store.size(dest())?))
+}
+
+// A copy of `abc`, of which this size and digest are wanted, ends so.
+fn abc_ends(
+    alloc: Global,
+    room: &mut CopyRoom,
+    wants: (u64, Option<[u8; 16]>),
+    loses: u32,
+    want: Outcome,
+) -> Result<bool, Fail> {
+    let row = row(alloc, wants.0, wants.1)?;
+    let there = if want == verified(3, ABC) {
+        Some(3)
+    } else {
+        None
+    };
+    Ok(end_of_abc(alloc, room, &row, loses)? == (want, there))
+}
+
 #[test]
 fn each_end_of_a_copy_of_three_bytes(rt: HostRuntime) -> Result<(), Fail> {
-    let alloc = rt.alloc();
-    let mut room = CopyRoom::new(alloc)?;
-    let verified = Outcome::Verified {
-        size: 3,
-        digest: ABC,
-    };
-    for (case, size, wanted, lost, want) in [
-        ("any size and digest", 0, None, 0, verified),
-        ("the size and the digest", 3, Some(ABC), 0, verified),
+    let mut room = CopyRoom::new(rt.alloc())?;
+    for (case, wants, loses, want) in [
+        ("any size and digest", (0, None), 0, verified(3, ABC)),
+        (
+            "the size and the digest",
+            (3, Some(ABC)),
+            0,
+            verified(3, ABC),
+        ),
         (
             "another size",
-            4,
-            Some(OTHER),
+            (4, Some(OTHER)),
             0,
             Outcome::SourceSize { seen: 3 },
         ),
         (
             "another digest",
-            0,
-            Some(OTHER),
+            (0, Some(OTHER)),
             1,
             Outcome::SourceDigest { seen: ABC },
         ),
         (
             "a lost byte",
-            3,
-            Some(ABC),
+            (3, Some(ABC)),
             1,
             Outcome::ReadBackDiffers { at: 2 },
         ),
     ] {
-        let row = row(alloc, size, wanted)?;
-        let mut store = holding(
-            alloc,
-            b"abc".to_vec(alloc)?,
-            Vec::new(alloc),
-            [lost].to_vec(alloc)?,
-        )?;
-        let (outcome, _) = copied(&mut store, &mut room, &row, false, u64::MAX);
-        assert_eq!(rt; outcome, want, "{case}");
-        let there = if outcome == verified { Some(3) } else { None };
-        assert_eq!(rt; store.size(dest()), Ok(there), "{case}");
+        let is_so = abc_ends(rt.alloc(), &mut room, wants, loses, want)?;
+        assert!(rt; is_so, "{case} {want:?}");
     }
     Ok(())
 }
 
-#[test]
-fn what_is_missing_or_there_ends_a_copy(rt: HostRuntime) -> Result<(), Fail> {
-    let alloc = rt.alloc();
-    let mut room = CopyRoom::new(alloc)?;
-    let row = row(alloc, 0, Some(EMPTY))?;
-    let mut store = holding(alloc, Vec::new(alloc), Vec::new(alloc), Vec::new(alloc))?;
-    let empty = Outcome::Verified {
-        size: 0,
-        digest: EMPTY,
-    };
-    assert_eq!(rt;
-        copied(&mut store, &mut room, &row, false, u64::MAX),
-        (empty, 1),
-        "an empty file"
-    );
-    assert_eq!(rt;
-        copied(&mut store, &mut room, &row, false, u64::MAX),
-        (Outcome::DestinationExists, 0)
-    );
-    assert_eq!(rt;
-        copied(&mut store, &mut room, &row, true, u64::MAX),
-        (empty, 1),
-        "it is replaced"
-    );
+fn copies_an_empty_file(rt: &impl Abort, alloc: Global, copier: &mut Copier) -> Result<(), Fail> {
+    let mut store = holding(alloc, Vec::new(alloc), 0, 0)?;
+    let first = never_stopped(&mut store, copier, false);
+    ends(rt, first, (verified(0, EMPTY), 1), "an empty file");
+    let second = never_stopped(&mut store, copier, false);
+    ends(rt, second, (Outcome::DestinationExists, 0), "it is there");
+    let third = never_stopped(&mut store, copier, true);
+    ends(rt, third, (verified(0, EMPTY), 1), "it is replaced");
+    Ok(())
+}
+
+fn misses_a_source(rt: &impl Abort, alloc: Global, copier: &mut Copier) {
     let none = Items::from_vec(Vec::new(alloc));
     let mut store = MemoryStore::new(alloc, none, Vec::new(alloc), Vec::new(alloc));
-    assert_eq!(rt;
-        copied(&mut store, &mut room, &row, false, u64::MAX),
-        (Outcome::SourceMissing, 0)
-    );
+    let found = never_stopped(&mut store, copier, false);
+    ends(rt, found, (Outcome::SourceMissing, 0), "no source");
+}
+
+#[test]
+fn what_is_missing_or_there_ends_a_copy(rt: HostRuntime) -> Result<(), Fail> {
+    let mut copier = copier_of(rt.alloc(), 0, Some(EMPTY))?;
+    copies_an_empty_file(&rt, rt.alloc(), &mut copier)?;
+    misses_a_source(&rt, rt.alloc(), &mut copier);
+    Ok(())
+}
+
+// A copy of `abc` whose call of this number fails ends so; the call behind the last of a copy is the look at what it left.
+fn ends_at_call(
+    rt: &impl Abort,
+    alloc: Global,
+    copier: &mut Copier,
+    call: u32,
+) -> Result<(), Memory> {
+    let mut store = holding_abc(alloc, call, 0)?;
+    let (outcome, _) = never_stopped(&mut store, copier, false);
+    let has_failed = outcome == Outcome::StoreFailed;
+    let is_told = store.size(dest()).is_ok();
+    let is_early = call != 11;
+    assert_eq!(rt; (has_failed, is_told), (is_early, is_early), "call {call}");
     Ok(())
 }
 
 #[test]
 fn each_call_that_fails_ends_a_copy(rt: HostRuntime) -> Result<(), Fail> {
-    let alloc = rt.alloc();
-    let mut room = CopyRoom::new(alloc)?;
-    let row = row(alloc, 3, Some(ABC))?;
+    let mut copier = copier_of(rt.alloc(), 3, Some(ABC))?;
     // two looks, the part made, a read and an append, two reads, two at the ends, the rename
     for call in 1..=11 {
-        let mut store = holding(
-            alloc,
-            b"abc".to_vec(alloc)?,
-            [call].to_vec(alloc)?,
-            Vec::new(alloc),
-        )?;
-        let (outcome, _) = copied(&mut store, &mut room, &row, false, u64::MAX);
-        let is_done = call == 11;
-        assert_eq!(rt; outcome == Outcome::StoreFailed, !is_done, "call {call}");
-        assert_eq!(rt; store.size(dest()).is_ok(), !is_done, "call {call}");
+        ends_at_call(&rt, rt.alloc(), &mut copier, call)?;
     }
     Ok(())
 }
@@ -215,143 +255,196 @@ fn pattern(alloc: Global, size: usize) -> Result<Vec<u8>, AllocError> {
     Ok(bytes)
 }
 
+// A copy of so many bytes, whose append of this number loses one and 0 loses none, ends so.
+fn pattern_ends(
+    rt: &impl Abort,
+    alloc: Global,
+    copier: &mut Copier,
+    size: usize,
+    loses: u32,
+    want: (Outcome, u64),
+) -> Result<(), Memory> {
+    let mut store = holding(alloc, pattern(alloc, size)?, 0, loses)?;
+    let found = never_stopped(&mut store, copier, false);
+    assert_eq!(rt; found, want, "{size} {loses}");
+    Ok(())
+}
+
 #[test]
 fn sizes_around_a_piece(rt: HostRuntime) -> Result<(), Fail> {
-    let alloc = rt.alloc();
-    let mut room = CopyRoom::new(alloc)?;
-    let row = row(alloc, 0, None)?;
-    // the lost append is the one of this number, and 0 loses none
-    for (size, lost, digest, at, askings) in [
-        (0, 0, EMPTY, 0, 1),
+    let mut copier = copier_of(rt.alloc(), 0, None)?;
+    for (size, digest, askings) in [
+        (0, &EMPTY, 1),
         (
             1,
-            0,
-            *b"\x93\xb8\x85\xad\xfe\x0d\xa0\x89\xcd\xf6\x34\x90\x4f\xd5\x9f\x71",
-            0,
+            b"\x93\xb8\x85\xad\xfe\x0d\xa0\x89\xcd\xf6\x34\x90\x4f\xd5\x9f\x71",
             3,
         ),
-        (1, 1, EMPTY, 0, 2),
         (
             65_535,
-            0,
-            *b"\x89\x37\x8b\xe9\x3d\x51\xbb\xd3\xa9\xaa\x65\xe9\x20\x10\x36\x92",
-            0,
+            b"\x89\x37\x8b\xe9\x3d\x51\xbb\xd3\xa9\xaa\x65\xe9\x20\x10\x36\x92",
             3,
         ),
-        (65_535, 1, EMPTY, 65_534, 2),
         (
             65_536,
-            0,
-            *b"\x9c\xc6\x07\x13\x92\x35\x28\xa1\xdd\x94\xe1\xc1\xab\x0e\xbc\x9e",
-            0,
+            b"\x9c\xc6\x07\x13\x92\x35\x28\xa1\xdd\x94\xe1\xc1\xab\x0e\xbc\x9e",
             3,
         ),
-        (65_536, 1, EMPTY, 65_535, 2),
         (
             65_537,
-            0,
-            *b"\x4c\x26\x41\xc7\xfe\x5c\x93\xd3\xae\xd7\xc4\x06\x62\x9f\xf0\xab",
-            0,
+            b"\x4c\x26\x41\xc7\xfe\x5c\x93\xd3\xae\xd7\xc4\x06\x62\x9f\xf0\xab",
             5,
         ),
-        (65_537, 1, EMPTY, 65_535, 3),
-        (65_537, 2, EMPTY, 65_536, 4),
         (
             131_072,
-            0,
-            *b"\xd0\x21\x99\xa1\x97\xfb\x4b\x17\x77\x52\x5f\xe3\x75\xf9\xf5\xf1",
-            0,
+            b"\xd0\x21\x99\xa1\x97\xfb\x4b\x17\x77\x52\x5f\xe3\x75\xf9\xf5\xf1",
             5,
         ),
-        (131_072, 1, EMPTY, 65_535, 3),
-        (131_072, 2, EMPTY, 131_071, 4),
     ] {
-        let mut store = holding(
-            alloc,
-            pattern(alloc, size)?,
-            Vec::new(alloc),
-            [lost].to_vec(alloc)?,
-        )?;
-        let want = if lost == 0 {
-            Outcome::Verified {
-                size: size as u64,
-                digest,
-            }
-        } else {
-            Outcome::ReadBackDiffers { at }
-        };
-        assert_eq!(rt;
-            copied(&mut store, &mut room, &row, false, u64::MAX),
-            (want, askings),
-            "{size} {lost}"
-        );
+        let want = (verified(size as u64, *digest), askings);
+        pattern_ends(&rt, rt.alloc(), &mut copier, size, 0, want)?;
     }
+    Ok(())
+}
+
+#[test]
+fn a_lost_byte_of_sizes_around_a_piece(rt: HostRuntime) -> Result<(), Fail> {
+    let mut copier = copier_of(rt.alloc(), 0, None)?;
+    for (size, loses, at, askings) in [
+        (1, 1, 0, 2),
+        (65_535, 1, 65_534, 2),
+        (65_536, 1, 65_535, 2),
+        (65_537, 1, 65_535, 3),
+        (65_537, 2, 65_536, 4),
+        (131_072, 1, 65_535, 3),
+        (131_072, 2, 131_071, 4),
+    ] {
+        let want = (Outcome::ReadBackDiffers { at }, askings);
+        pattern_ends(&rt, rt.alloc(), &mut copier, size, loses, want)?;
+    }
+    Ok(())
+}
+
+// A copy that is called off after so many pieces is stopped, and leaves nothing.
+fn stops_after(
+    rt: &impl Abort,
+    alloc: Global,
+    copier: &mut Copier,
+    yeses: u64,
+) -> Result<(), Memory> {
+    let mut store = holding(alloc, pattern(alloc, 65_537)?, 0, 0)?;
+    let ended = copied(&mut store, &mut copier.room, &copier.row, false, yeses);
+    let want = (Outcome::Stopped, yeses.saturating_add(1));
+    ends(rt, ended, want, "it is stopped");
+    assert_eq!(rt; store.size(dest()), Ok(None));
     Ok(())
 }
 
 #[test]
 fn each_no_ends_a_copy(rt: HostRuntime) -> Result<(), Fail> {
-    let alloc = rt.alloc();
-    let mut room = CopyRoom::new(alloc)?;
-    let row = row(alloc, 0, None)?;
+    let mut copier = copier_of(rt.alloc(), 0, None)?;
     for yeses in 0..5 {
-        let mut store = holding(
-            alloc,
-            pattern(alloc, 65_537)?,
-            Vec::new(alloc),
-            Vec::new(alloc),
-        )?;
-        let ended = copied(&mut store, &mut room, &row, false, yeses);
-        assert_eq!(rt; ended, (Outcome::Stopped, yeses + 1));
-        assert_eq!(rt; store.size(dest()), Ok(None));
+        stops_after(&rt, rt.alloc(), &mut copier, yeses)?;
     }
     Ok(())
 }
 
+fn clear<R: Files<File = File> + Alloc>(rt: &R, root: &str) {
+    let _old = fs::remove_dir_all(rt, root);
+}
+
+// The bytes of a real file; none where it can't be read.
+fn bytes_at<R: Files<File = File> + Alloc>(rt: &R, path: &str) -> Vec<u8, R::A> {
+    match fs::read(rt, path) {
+        Ok(bytes) => bytes,
+        Err(_) => Vec::new(rt.alloc()),
+    }
+}
+
+fn holds<R: Files<File = File> + Alloc + Abort>(rt: &R, path: &str, want: &str, case: &str) {
+    let bytes = bytes_at(rt, path);
+    assert_eq!(rt; bytes.as_slice(), want.as_bytes(), "{case}");
+}
+
+const HELD: &str = "grid-of-a-copy/https:,,b.example/store/f1";
+
+type Folders = FolderStore<HostRuntime>;
+
+// A store of real folders, and what copies in it.
+#[derive(Drop)]
+struct Grid {
+    store: Folders,
+    copier: Copier,
+}
+
+fn grid_at(rt: HostRuntime, root: &str, wanted: Option<[u8; 16]>) -> Result<Grid, Fail> {
+    let alloc = rt.alloc();
+    let root = String::from_str(alloc, root)?;
+    let copier = copier_of(alloc, 0, wanted)?;
+    Ok(Grid {
+        store: FolderStore::new(rt, alloc, root),
+        copier,
+    })
+}
+
+fn copies_once<R: Files<File = File> + Alloc + Abort>(
+    rt: &R,
+    store: &mut Folders,
+    copier: &mut Copier,
+) -> Result<(), Fail> {
+    let missing = never_stopped(store, copier, false);
+    ends(rt, missing, (Outcome::SourceMissing, 0), "no source");
+    fs::create_dir_all(rt, "grid-of-a-copy/https:,,a.example/data")?;
+    fs::write(rt, "grid-of-a-copy/https:,,a.example/data/f1", "abc")?;
+    let first = never_stopped(store, copier, false);
+    ends(rt, first, (verified(3, ABC), 3), "a source");
+    let second = never_stopped(store, copier, false);
+    ends(rt, second, (Outcome::DestinationExists, 0), "it is there");
+    Ok(())
+}
+
+fn replaces_a_file<R: Files<File = File> + Alloc + Abort>(
+    rt: &R,
+    store: &mut Folders,
+    copier: &mut Copier,
+) -> Result<(), Fail> {
+    fs::write(rt, HELD, "other")?;
+    let found = never_stopped(store, copier, true);
+    ends(rt, found, (verified(3, ABC), 3), "it is replaced");
+    holds(rt, HELD, "abc", "it is replaced");
+    Ok(())
+}
+
+fn spares_a_folder<R: Files<File = File> + Alloc + Abort>(
+    rt: &R,
+    store: &mut Folders,
+    copier: &mut Copier,
+) -> Result<(), Fail> {
+    fs::remove_file(rt, HELD)?;
+    fs::create_dir_all(rt, HELD)?;
+    let found = never_stopped(store, copier, true);
+    ends(rt, found, (Outcome::StoreFailed, 3), "a folder is there");
+    assert!(rt; fs::exists(rt, HELD)?, "it is there still");
+    Ok(())
+}
+
+fn copies_between_folders<R: Files<File = File> + Alloc + Abort>(
+    rt: &R,
+    grid: &mut Grid,
+) -> Result<(), Fail> {
+    copies_once(rt, &mut grid.store, &mut grid.copier)?;
+    replaces_a_file(rt, &mut grid.store, &mut grid.copier)?;
+    spares_a_folder(rt, &mut grid.store, &mut grid.copier)
+}
+
 #[test]
 fn a_file_is_copied_between_real_folders(rt: HostRuntime) -> Result<(), Fail> {
-    let alloc = rt.alloc();
     let root = "grid-of-a-copy";
-    let held = "grid-of-a-copy/https:,,b.example/store/f1";
-    let _old = fs::remove_dir_all(&rt, root);
-    let mut room = CopyRoom::new(alloc)?;
-    let row = row(alloc, 0, Some(ABC))?;
-    let mut store = FolderStore::new(rt, alloc, String::from_str(alloc, root)?);
-    let verified = Outcome::Verified {
-        size: 3,
-        digest: ABC,
-    };
-    assert_eq!(rt;
-        copied(&mut store, &mut room, &row, false, u64::MAX),
-        (Outcome::SourceMissing, 0)
-    );
-    fs::create_dir_all(&rt, "grid-of-a-copy/https:,,a.example/data")?;
-    fs::write(&rt, "grid-of-a-copy/https:,,a.example/data/f1", "abc")?;
-    assert_eq!(rt;
-        copied(&mut store, &mut room, &row, false, u64::MAX),
-        (verified, 3)
-    );
-    assert_eq!(rt;
-        copied(&mut store, &mut room, &row, false, u64::MAX),
-        (Outcome::DestinationExists, 0)
-    );
-    fs::write(&rt, held, "other")?;
-    assert_eq!(rt;
-        copied(&mut store, &mut room, &row, true, u64::MAX),
-        (verified, 3),
-        "it is replaced"
-    );
-    assert_eq!(rt; fs::read(&rt, held)?.as_slice(), b"abc".as_slice());
-    fs::remove_file(&rt, held)?;
-    fs::create_dir_all(&rt, held)?;
-    assert_eq!(rt;
-        copied(&mut store, &mut room, &row, true, u64::MAX),
-        (Outcome::StoreFailed, 3),
-        "a folder is there"
-    );
-    assert!(rt; fs::exists(&rt, held)?, "it is there still");
-    fs::remove_dir_all(&rt, root)?;
-    Ok(())
+    clear(&rt, root);
+    let mut grid = grid_at(rt, root, Some(ABC))?;
+    let ended = copies_between_folders(&rt, &mut grid);
+    clear(&rt, root);
+    ended
 }
 
 // A copy's three files, of which the source holds `abc`.
@@ -366,10 +459,6 @@ fn three_files(alloc: Global, dest: Vec<u8>) -> Changing {
         calls: Vec::new(alloc),
         faults: 0,
     }
-}
-
-fn verified(size: u64, digest: [u8; 16]) -> Outcome {
-    Outcome::Verified { size, digest }
 }
 
 // The calls, a letter each: the source's size, the destination's, the part made, a read and an append, two reads, two at the ends, the move.
@@ -419,72 +508,92 @@ fn wrong_call(alloc: Global, expected: &Expected) -> Result<usize, Memory> {
     Ok(0)
 }
 
-fn is_verified(later: &'static [u8], first: usize, end: usize, held: &'static [u8]) -> Expected {
-    Expected {
-        later: Some(later),
-        first,
-        end,
-        want: verified(held.len() as u64, ABC),
+// Asserts that a copy of a source that becomes this at a call from `calls.0` up to the one before `calls.1` is verified, and holds so much.
+fn becomes(
+    rt: &impl Abort,
+    alloc: Global,
+    later: &'static str,
+    calls: (usize, usize),
+    held: &'static str,
+    digest: [u8; 16],
+) -> Result<(), Memory> {
+    let expected = Expected {
+        later: Some(later.as_bytes()),
+        first: calls.0,
+        end: calls.1,
+        want: verified(held.len() as u64, digest),
         calls: ALL_CALLS,
-        held,
-    }
+        held: held.as_bytes(),
+    };
+    assert_eq!(rt; wrong_call(alloc, &expected)?, 0, "{later} {held}");
+    Ok(())
 }
 
-fn ends(later: Option<&'static [u8]>, first: usize, end: usize, calls: &'static [u8]) -> Expected {
-    Expected {
+// Asserts that it ends so after these calls, and leaves nothing.
+fn ends_after(
+    rt: &impl Abort,
+    alloc: Global,
+    later: Option<&'static [u8]>,
+    numbers: (usize, usize),
+    calls: &'static str,
+    want: Outcome,
+) -> Result<(), Memory> {
+    let expected = Expected {
         later,
-        first,
-        end,
-        want: Outcome::StoreFailed,
-        calls,
+        first: numbers.0,
+        end: numbers.1,
+        want,
+        calls: calls.as_bytes(),
         held: b"",
-    }
+    };
+    assert_eq!(rt; wrong_call(alloc, &expected)?, 0, "{calls} {want:?}");
+    Ok(())
 }
 
 #[test]
 fn a_source_that_changes_during_a_copy_that_is_verified(rt: HostRuntime) -> Result<(), Fail> {
-    for (digest, expected) in [
-        (ABC, is_verified(b"abc", 1, 2, b"abc")),
-        (AB, is_verified(b"ab", 1, 2, b"ab")),
-        (ABC, is_verified(b"ab", 7, 11, b"abc")),
-        (ABC_PLUS, is_verified(b"abc+", 1, 2, b"abc+")),
-        (ABC, is_verified(b"abc+", 9, 11, b"abc")),
-        (AB_PLUS, is_verified(b"ab+", 1, 5, b"ab+")),
-        (ABC, is_verified(b"ab+", 7, 11, b"abc")),
+    for (later, calls, held, digest) in [
+        ("abc", (1, 2), "abc", &ABC),
+        ("ab", (1, 2), "ab", &AB),
+        ("ab", (7, 11), "abc", &ABC),
+        ("abc+", (1, 2), "abc+", &ABC_PLUS),
+        ("abc+", (9, 11), "abc", &ABC),
+        ("ab+", (1, 5), "ab+", &AB_PLUS),
+        ("ab+", (7, 11), "abc", &ABC),
     ] {
-        let want = verified(expected.held.len() as u64, digest);
-        let expected = Expected { want, ..expected };
-        assert_eq!(rt; wrong_call(rt.alloc(), &expected)?, 0, "{want:?}");
+        becomes(&rt, rt.alloc(), later, calls, held, *digest)?;
     }
     Ok(())
 }
 
 #[test]
 fn a_source_that_changes_during_a_copy_that_is_not(rt: HostRuntime) -> Result<(), Fail> {
-    for (want, expected) in [
-        (
-            Outcome::SourceSize { seen: 2 },
-            ends(Some(b"ab"), 2, 5, b"SDcssa"),
-        ),
-        (
-            Outcome::ReadBackDiffers { at: 2 },
-            ends(Some(b"ab"), 5, 7, b"SDcsassp"),
-        ),
-        (
-            Outcome::ReadBackDiffers { at: 3 },
-            ends(Some(b"abc+"), 2, 9, b"SDcsaspsp"),
-        ),
-        (
-            Outcome::ReadBackDiffers { at: 2 },
-            ends(Some(b"ab+"), 5, 7, b"SDcsasp"),
-        ),
-        (Outcome::SourceMissing, ends(None, 1, 2, b"S")),
-        (Outcome::StoreFailed, ends(None, 2, 5, b"SDcs")),
-        (Outcome::StoreFailed, ends(None, 5, 7, b"SDcsas")),
-        (Outcome::StoreFailed, ends(None, 7, 9, b"SDcsasps")),
+    let size = Outcome::SourceSize { seen: 2 };
+    let differs = Outcome::ReadBackDiffers { at: 2 };
+    let longer = Outcome::ReadBackDiffers { at: 3 };
+    for (later, numbers, calls, want) in [
+        ("ab", (2, 5), "SDcssa", size),
+        ("ab", (5, 7), "SDcsassp", differs),
+        ("abc+", (2, 9), "SDcsaspsp", longer),
+        ("ab+", (5, 7), "SDcsasp", differs),
     ] {
-        let expected = Expected { want, ..expected };
-        assert_eq!(rt; wrong_call(rt.alloc(), &expected)?, 0, "{want:?}");
+        ends_after(
+            &rt,
+            rt.alloc(),
+            Some(later.as_bytes()),
+            numbers,
+            calls,
+            want,
+        )?;
+    }
+    Ok(())
+}
+
+#[test]
+fn a_source_that_vanishes_during_a_copy(rt: HostRuntime) -> Result<(), Fail> {
+    ends_after(&rt, rt.alloc(), None, (1, 2), "S", Outcome::SourceMissing)?;
+    for (numbers, calls) in [((2, 5), "SDcs"), ((5, 7), "SDcsas"), ((7, 9), "SDcsasps")] {
+        ends_after(&rt, rt.alloc(), None, numbers, calls, Outcome::StoreFailed)?;
     }
     Ok(())
 }
@@ -554,17 +663,48 @@ const CHANGED_SOURCE: &str = "grid-of-a-change/https:,,a.example/data/f1";
 
 const CHANGED_DEST: &str = "grid-of-a-change/https:,,b.example/store/f1";
 
-#[test]
-fn a_real_file_that_changes_during_a_copy(rt: HostRuntime) -> Result<(), Fail> {
-    let alloc = rt.alloc();
-    let root = "grid-of-a-change";
-    let _old = fs::remove_dir_all(&rt, root);
+fn clear_dest<R: Files<File = File>>(rt: &R) -> Result<(), Fail> {
+    let _old = fs::remove_file(rt, CHANGED_DEST);
+    fs::write(rt, CHANGED_SOURCE, "abc")?;
+    Ok(())
+}
+
+// A copy whose watch writes these bytes into a file, before the first piece is read, ends so and leaves this at the destination.
+fn written_ends<R: Files<File = File> + Alloc + Abort>(
+    rt: &R,
+    stand: (&mut Folders, &mut Copier),
+    written: (&str, &str),
+    want: Outcome,
+    there: &str,
+) -> Result<(), Fail> {
+    clear_dest(rt)?;
+    let (path, bytes) = written;
+    let mut watch = WritingWatch {
+        rt,
+        path,
+        bytes,
+        askings: 0,
+    };
+    let (store, copier) = stand;
+    copier.room.load(&copier.row, false);
+    let found = copy_verified(store, &mut copier.room, &mut watch);
+    assert_eq!(rt; found, want, "{bytes}");
+    holds(rt, CHANGED_DEST, there, bytes);
+    Ok(())
+}
+
+fn make_folders(rt: HostRuntime, root: &str) -> Result<(), Fail> {
+    clear(&rt, root);
     fs::create_dir_all(&rt, "grid-of-a-change/https:,,a.example/data")?;
     fs::create_dir_all(&rt, "grid-of-a-change/https:,,b.example/store")?;
-    let mut room = CopyRoom::new(alloc)?;
-    let row = file_row(alloc)?;
-    let mut store = FolderStore::new(rt, alloc, String::from_str(alloc, root)?);
-    // the file that is written anew before the first piece is read, with these bytes; the end, and what is at the destination then
+    Ok(())
+}
+
+fn each_written_ends<R: Files<File = File> + Alloc + Abort>(
+    rt: &R,
+    store: &mut Folders,
+    copier: &mut Copier,
+) -> Result<(), Fail> {
     for (path, bytes, want, there) in [
         (CHANGED_SOURCE, "abc", verified(3, ABC), "abc"),
         (CHANGED_SOURCE, "ab", Outcome::SourceSize { seen: 2 }, ""),
@@ -577,28 +717,19 @@ fn a_real_file_that_changes_during_a_copy(rt: HostRuntime) -> Result<(), Fail> {
         (CHANGED_SOURCE, "ab+", verified(3, AB_PLUS), "ab+"),
         (CHANGED_DEST, "other", Outcome::StoreFailed, "other"),
     ] {
-        let _old = fs::remove_file(&rt, CHANGED_DEST);
-        fs::write(&rt, CHANGED_SOURCE, "abc")?;
-        let mut watch = WritingWatch {
-            rt: &rt,
-            path,
-            bytes,
-            askings: 0,
-        };
-        room.load(&row, false);
-        assert_eq!(rt;
-            copy_verified(&mut store, &mut room, &mut watch),
-            want,
-            "{bytes}"
-        );
-        let held = match fs::read(&rt, CHANGED_DEST) {
-            Ok(held) => held,
-            Err(_) => Vec::new(alloc),
-        };
-        assert_eq!(rt; held.as_slice(), there.as_bytes(), "{bytes}");
+        written_ends(rt, (store, copier), (path, bytes), want, there)?;
     }
-    fs::remove_dir_all(&rt, root)?;
     Ok(())
+}
+
+#[test]
+fn a_real_file_that_changes_during_a_copy(rt: HostRuntime) -> Result<(), Fail> {
+    let root = "grid-of-a-change";
+    make_folders(rt, root)?;
+    let mut grid = grid_at(rt, root, None)?;
+    let ended = each_written_ends(&rt, &mut grid.store, &mut grid.copier);
+    clear(&rt, root);
+    ended
 }
 
 // Cuts a file, makes it as long as it was, writes other bytes into it and makes it longer, so often.
@@ -628,34 +759,47 @@ fn is_as_said<R: Files<File = File> + Alloc>(rt: &R, outcome: Outcome, path: &st
     }
 }
 
+const CUT_SOURCE: &str = "grid-of-a-cut/https:,,a.example/data/f1";
+
+const CUT_DEST: &str = "grid-of-a-cut/https:,,b.example/store/f1";
+
+fn make_source(rt: HostRuntime, root: &str) -> Result<(), Fail> {
+    clear(&rt, root);
+    fs::create_dir_all(&rt, "grid-of-a-cut/https:,,a.example/data")?;
+    let bytes = pattern(rt.alloc(), 70_000)?;
+    fs::write(&rt, CUT_SOURCE, bytes.as_slice())?;
+    Ok(())
+}
+
+// A copy that nobody disturbs.
+fn ends_alone<R: Files<File = File> + Alloc + Abort>(
+    rt: &R,
+    store: &mut Folders,
+    copier: &mut Copier,
+) {
+    let (outcome, _) = never_stopped(store, copier, true);
+    assert!(rt;
+        outcome != Outcome::StoreFailed && is_as_said(rt, outcome, CUT_DEST),
+        "{outcome:?}"
+    );
+}
+
 #[test]
 fn a_source_that_another_thread_changes_is_never_verified_as_another(
     rt: HostRuntime,
 ) -> Result<(), Fail> {
-    let alloc = rt.alloc();
     let root = "grid-of-a-cut";
-    let source = "grid-of-a-cut/https:,,a.example/data/f1";
-    let held = "grid-of-a-cut/https:,,b.example/store/f1";
-    let _old = fs::remove_dir_all(&rt, root);
-    let mut room = CopyRoom::new(alloc)?;
-    let row = row(alloc, 0, None)?;
-    let mut store = FolderStore::new(rt, alloc, String::from_str(alloc, root)?);
-    fs::create_dir_all(&rt, "grid-of-a-cut/https:,,a.example/data")?;
-    fs::write(&rt, source, pattern(alloc, 70_000)?.as_slice())?;
+    make_source(rt, root)?;
+    let mut grid = grid_at(rt, root, None)?;
     for _ in 0..5_u32 {
         let ((outcome, _), _) = join(
             &rt,
-            || copied(&mut store, &mut room, &row, true, u64::MAX),
-            || cut_and_lengthen(&rt, source),
+            || never_stopped(&mut grid.store, &mut grid.copier, true),
+            || cut_and_lengthen(&rt, CUT_SOURCE),
         );
-        assert!(rt; is_as_said(&rt, outcome, held), "{outcome:?}");
+        assert!(rt; is_as_said(&rt, outcome, CUT_DEST), "{outcome:?}");
     }
-    // nobody changes it now
-    let (outcome, _) = copied(&mut store, &mut room, &row, true, u64::MAX);
-    assert!(rt;
-        outcome != Outcome::StoreFailed && is_as_said(&rt, outcome, held),
-        "{outcome:?}"
-    );
-    fs::remove_dir_all(&rt, root)?;
+    ends_alone(&rt, &mut grid.store, &mut grid.copier);
+    clear(&rt, root);
     Ok(())
 }

@@ -4,14 +4,39 @@ ghost use Rattle.std.specs.Prelude.{ℤ, pos};
 use crate::guard::Guard;
 use crate::raw::{Pages, RawFile, forgotten, synced, written};
 use crate::{Disk, DiskFailed, FileDisk, MemoryDisk};
+use std::alloc::{Alloc, Global};
+use std::fs::{self, File, Files};
+use std::io;
 use std::os::fd::AsRawFd;
+use std::process::Abort;
 use std::test::Fail;
-use std::{fs, io};
+
+// Of a write, a sync, a read and a length of a disk whose listed calls fail, these are done.
+fn are_done(
+    rt: &impl Abort,
+    alloc: Global,
+    fail: &[u32],
+    want: [bool; 4],
+    case: &str,
+) -> Result<(), Fail> {
+    let mut disk = MemoryDisk::holding(alloc, b"ab".to_vec(alloc)?, fail.to_vec(alloc)?);
+    let mut into = [0; 2];
+    let found = [
+        disk.write_at(0, b"cde").is_ok(),
+        disk.sync().is_ok(),
+        disk.read_at(0, &mut into).is_ok(),
+        disk.len().is_ok(),
+    ];
+    assert_eq!(rt; (found, disk.calls()), (want, 4), "{case}");
+    if want[0] && want[2] {
+        assert_eq!(rt; into, *b"cd", "{case}");
+    }
+    Ok(())
+}
 
 // The n-th call fails where n is listed, and no other one with ample memory.
 #[test]
 fn listed_calls_fail_and_no_others(rt: HostRuntime) -> Result<(), Fail> {
-    let alloc = rt.alloc();
     for (case, fail, want) in [
         ("none", [0, 0], [true, true, true, true]),
         ("the first", [1, 0], [false, true, true, true]),
@@ -23,46 +48,54 @@ fn listed_calls_fail_and_no_others(rt: HostRuntime) -> Result<(), Fail> {
         ),
         ("one that never comes", [5, 5], [true, true, true, true]),
     ] {
-        let mut disk = MemoryDisk::holding(alloc, b"ab".to_vec(alloc)?, fail.to_vec(alloc)?);
-        let mut into = [0; 2];
-        assert_eq!(rt; disk.write_at(0, b"cde").is_ok(), want[0], "{case}");
-        assert_eq!(rt; disk.sync().is_ok(), want[1], "{case}");
-        assert_eq!(rt; disk.read_at(0, &mut into).is_ok(), want[2], "{case}");
-        assert_eq!(rt; disk.len().is_ok(), want[3], "{case}");
-        assert_eq!(rt; disk.calls(), 4, "{case}");
-        if want[0] && want[2] {
-            assert_eq!(rt; into.as_slice(), b"cd".as_slice(), "{case}");
-        }
+        are_done(&rt, rt.alloc(), &fail, want, case)?;
+    }
+    Ok(())
+}
+
+// A disk of `abcd`, over which `XY` and behind which `123` was written; all but the last was synced.
+fn cut_short(rt: &impl Abort, alloc: Global) -> Result<MemoryDisk, Fail> {
+    let mut disk = MemoryDisk::new(alloc, [7].to_vec(alloc)?);
+    assert!(rt; disk.write_at(0, b"abcd").is_ok() && disk.sync().is_ok());
+    assert!(rt; disk.write_at(0, b"XY").is_ok() && disk.sync().is_ok());
+    if let Ok(end) = disk.len() {
+        assert_eq!(rt; disk.write_at(end, b"123"), Ok(()));
+    }
+    assert_eq!(rt; disk.sync(), Err(DiskFailed));
+    Ok(disk)
+}
+
+// A stop after so many calls leaves this, where each byte that is open is a 7.
+fn stop_leaves(
+    rt: &impl Abort,
+    disk: &MemoryDisk,
+    calls: usize,
+    want: &str,
+    case: &str,
+) -> Result<(), Fail> {
+    if calls <= disk.calls() {
+        let left = disk.after_stop(calls, b'7')?;
+        assert_eq!(rt; left.as_slice(), want.as_bytes(), "{case}");
+    } else {
+        assert!(rt; false, "{case}");
     }
     Ok(())
 }
 
 #[test]
 fn a_stop_leaves_what_was_synced(rt: HostRuntime) -> Result<(), Fail> {
-    let alloc = rt.alloc();
-    let mut disk = MemoryDisk::new(alloc, [7].to_vec(alloc)?);
-    for bytes in [b"abcd".as_slice(), b"XY".as_slice()] {
-        assert_eq!(rt; disk.write_at(0, bytes), Ok(()));
-        assert_eq!(rt; disk.sync(), Ok(()));
-    }
-    if let Ok(end) = disk.len() {
-        assert_eq!(rt; disk.write_at(end, b"123"), Ok(()));
-    }
-    assert_eq!(rt; disk.sync(), Err(DiskFailed));
+    let disk = cut_short(&rt, rt.alloc())?;
     for (case, calls, want) in [
-        ("nothing was called", 0, b"".as_slice()),
-        ("a first write", 1, b"7777"),
-        ("its sync", 2, b"abcd"),
-        ("a write over two bytes", 3, b"77cd"),
-        ("its sync", 4, b"XYcd"),
-        ("a look", 5, b"XYcd"),
-        ("a write past the end", 6, b"XYcd777"),
-        ("a sync that fails", 7, b"XYcd777"),
+        ("nothing was called", 0, ""),
+        ("a first write", 1, "7777"),
+        ("its sync", 2, "abcd"),
+        ("a write over two bytes", 3, "77cd"),
+        ("its sync", 4, "XYcd"),
+        ("a look", 5, "XYcd"),
+        ("a write past the end", 6, "XYcd777"),
+        ("a sync that fails", 7, "XYcd777"),
     ] {
-        assert!(rt; calls <= disk.calls(), "{case}");
-        if calls <= disk.calls() {
-            assert_eq!(rt; disk.after_stop(calls, b'7')?.as_slice(), want, "{case}");
-        }
+        stop_leaves(&rt, &disk, calls, want, case)?;
     }
     Ok(())
 }
@@ -154,117 +187,138 @@ impl RawFile for ScriptedFile {
     }
 }
 
+// A write, a sync, a length, a write and a sync answer so, and ask these calls of a file with these failures, whose reads may lie.
+fn asks(
+    rt: &impl Abort,
+    alloc: Global,
+    script: ([usize; 2], bool),
+    answers: [bool; 5],
+    calls: &str,
+    case: &str,
+) {
+    let file = ScriptedFile::new(Vec::new(alloc), script.0, script.1);
+    let mut guard = Guard::new(file, 8);
+    let found = [
+        guard.write_at(2, b"XY").is_ok(),
+        guard.sync().is_ok(),
+        guard.len().is_ok(),
+        guard.write_at(3, b"Z").is_ok(),
+        guard.sync().is_ok(),
+    ];
+    assert_eq!(rt; found, answers, "{case}");
+    assert_eq!(rt;
+        guard.into_file().calls.as_slice(),
+        calls.as_bytes(),
+        "{case}"
+    );
+}
+
 #[test]
-fn after_a_failure_the_device_is_asked(rt: HostRuntime) -> Result<(), Fail> {
-    let alloc = rt.alloc();
-    for (case, fail, lies, answers, calls) in [
-        (
-            "no failure",
-            [0, 0],
-            false,
-            [true, true, true, true, true],
-            b"wslws".as_slice(),
-        ),
+fn after_a_failure_the_device_is_asked(rt: HostRuntime) {
+    for (case, fail, answers, calls) in [
+        ("no failure", [0, 0], [true; 5], "wslws"),
         (
             "a write",
             [1, 0],
-            false,
             [false, true, true, true, true],
-            b"wSflslwSfrs",
+            "wSflslwSfrs",
         ),
         (
             "a sync",
             [2, 0],
-            false,
             [true, false, true, true, true],
-            b"wsSfllwSfrs",
+            "wsSfllwSfrs",
         ),
         (
             "and the next sync",
             [2, 3],
-            false,
             [true, false, false, true, true],
-            b"wsSSflwSfrs",
+            "wsSSflwSfrs",
         ),
         (
             "and the dropping",
             [2, 4],
-            false,
             [true, false, false, true, true],
-            b"wsSfSflwSfrs",
-        ),
-        (
-            "other bytes are read back",
-            [2, 0],
-            true,
-            [true, false, true, false, true],
-            b"wsSfllwSfrSfls",
+            "wsSfSflwSfrs",
         ),
     ] {
-        let file = ScriptedFile::new(Vec::new(alloc), fail, lies);
-        let mut guard = Guard::new(file, 8);
-        let found = [
-            guard.write_at(2, b"XY").is_ok(),
-            guard.sync().is_ok(),
-            guard.len().is_ok(),
-            guard.write_at(3, b"Z").is_ok(),
-            guard.sync().is_ok(),
-        ];
-        assert_eq!(rt; found, answers, "{case}");
-        assert_eq!(rt; guard.into_file().calls.as_slice(), calls, "{case}");
+        asks(&rt, rt.alloc(), (fail, false), answers, calls, case);
     }
-    Ok(())
 }
 
 #[test]
-fn zeros_are_written_and_synced_before_a_file_grows(rt: HostRuntime) -> Result<(), Fail> {
-    let alloc = rt.alloc();
+fn after_other_bytes_are_read_back_the_device_is_asked(rt: HostRuntime) {
+    let answers = [true, false, true, false, true];
+    let case = "other bytes are read back";
+    let calls = "wsSfllwSfrSfls";
+    asks(&rt, rt.alloc(), ([2, 0], true), answers, calls, case);
+}
+
+// A write of four bytes at this place of a file of that length asks these calls of it.
+fn grows(rt: &impl Abort, alloc: Global, len: u64, at: u64, calls: &str, case: &str) {
+    let file = ScriptedFile::new(Vec::new(alloc), [0, 0], false);
+    let mut guard = Guard::new(file, len);
+    assert!(rt; guard.write_at(at, b"1234").is_ok(), "{case}");
+    assert_eq!(rt;
+        guard.into_file().calls.as_slice(),
+        calls.as_bytes(),
+        "{case}"
+    );
+}
+
+#[test]
+fn zeros_are_written_and_synced_before_a_file_grows(rt: HostRuntime) {
     for (case, len, at, calls) in [
-        ("an empty file", 0, 0, b"w".as_slice()),
-        ("inside", 8, 4, b"w"),
-        ("past the end", 1_000_000, 999_999, b"wsw"),
-        ("to the end of a block", 1_048_570, 1_048_570, b"wsw"),
-        ("a whole block", 8, 8, b"wwwwwwwwwwwwwwwwsw"),
+        ("an empty file", 0, 0, "w"),
+        ("inside", 8, 4, "w"),
+        ("past the end", 1_000_000, 999_999, "wsw"),
+        ("to the end of a block", 1_048_570, 1_048_570, "wsw"),
+        ("a whole block", 8, 8, "wwwwwwwwwwwwwwwwsw"),
         (
             "no further than a journal goes",
             67_108_860,
             67_108_860,
-            b"wsw",
+            "wsw",
         ),
-        ("far behind the end", 8, 1_000_000, b"w"),
+        ("far behind the end", 8, 1_000_000, "w"),
     ] {
-        let file = ScriptedFile::new(Vec::new(alloc), [0, 0], false);
-        let mut guard = Guard::new(file, len);
-        assert_eq!(rt; guard.write_at(at, b"1234").is_ok(), true, "{case}");
-        assert_eq!(rt; guard.into_file().calls.as_slice(), calls, "{case}");
+        grows(&rt, rt.alloc(), len, at, calls, case);
     }
-    Ok(())
 }
 
 const PATH: &str = "disk-of-a-test";
 
+fn clear<R: Files<File = File> + Alloc>(rt: &R, path: &str) {
+    let _old = fs::remove_file(rt, path);
+}
+
+fn is_written<R: Files<File = File> + Abort>(rt: &R, at: u64, bytes: &[u8; 4], case: &str) {
+    let mut disk = FileDisk::open(rt, PATH);
+    assert_eq!(rt; disk.write_at(at, bytes), Ok(()), "{case}");
+    assert_eq!(rt; disk.sync(), Ok(()), "{case}");
+}
+
+// A file that is opened again has this length, and these bytes at that place; none can be read past its end.
+fn is_read<R: Files<File = File> + Abort>(rt: &R, at: u64, bytes: &[u8; 4], len: u64, case: &str) {
+    let mut into = [0; 4];
+    let mut disk = FileDisk::open(rt, PATH);
+    assert_eq!(rt; disk.len(), Ok(len), "{case}");
+    let found = disk.read_at(at, &mut into);
+    assert_eq!(rt; (found, into), (Ok(()), *bytes), "{case}");
+    let past = disk.read_at(len.saturating_sub(3), &mut into);
+    assert_eq!(rt; past, Err(DiskFailed), "{case}, past its end");
+}
+
 #[test]
 fn a_file_is_written_synced_and_opened_again(rt: HostRuntime) -> Result<(), Fail> {
-    let _old = fs::remove_file(&rt, PATH);
-    let mut into = [0; 4];
-    for (case, at, bytes, len, want) in [
-        ("a new file", 0, b"abcd", 4, b"abcd"),
-        ("past the end, zeros ahead", 4, b"efgh", 1_048_576, b"efgh"),
-        ("over what is there", 2, b"CDEF", 1_048_576, b"CDEF"),
+    clear(&rt, PATH);
+    for (case, at, bytes, len) in [
+        ("a new file", 0, b"abcd", 4),
+        ("past the end, zeros ahead", 4, b"efgh", 1_048_576),
+        ("over what is there", 2, b"CDEF", 1_048_576),
     ] {
-        let mut disk = FileDisk::open(&rt, PATH);
-        assert_eq!(rt; disk.write_at(at, bytes), Ok(()), "{case}");
-        assert_eq!(rt; disk.sync(), Ok(()), "{case}");
-        drop(disk);
-        let mut again = FileDisk::open(&rt, PATH);
-        assert_eq!(rt; again.len(), Ok(len), "{case}");
-        assert_eq!(rt; again.read_at(at, &mut into), Ok(()), "{case}");
-        assert_eq!(rt; &into, want, "{case}");
-        assert_eq!(rt;
-            again.read_at(len - 3, &mut into),
-            Err(DiskFailed),
-            "{case}, past its end"
-        );
+        is_written(&rt, at, bytes, case);
+        is_read(&rt, at, bytes, len, case);
     }
     fs::remove_file(&rt, PATH)?;
     Ok(())
@@ -280,40 +334,57 @@ fn answers(disk: &mut FileDisk) -> [bool; 4] {
     ]
 }
 
+fn answer(rt: &impl Abort, disk: &mut FileDisk, want: [bool; 4], case: &str) {
+    assert_eq!(rt; answers(disk), want, "{case}");
+}
+
+fn looks_at_none<R: Files<File = File> + Alloc + Abort>(rt: &R, path: &str) -> Result<(), Fail> {
+    let mut absent = FileDisk::view(rt, path);
+    answer(rt, &mut absent, [false, true, true, true], "no file");
+    assert_eq!(rt; absent.len(), Ok(0));
+    assert!(rt; !fs::exists(rt, path)?, "looking makes no file");
+    Ok(())
+}
+
+fn looks_at_one(rt: &impl Abort, looking: &mut FileDisk) {
+    answer(rt, looking, [false, true, true, true], "looking");
+    assert_eq!(rt; looking.len(), Ok(4));
+}
+
+// One opens a file, and another is refused it, while it is held and for good.
+fn holds<R: Files<File = File> + Abort>(rt: &R, path: &str) {
+    let mut first = FileDisk::open(rt, path);
+    answer(rt, &mut first, [true; 4], "a first");
+    let mut second = FileDisk::open(rt, path);
+    answer(rt, &mut second, [false; 4], "the file is held");
+    let mut looking = FileDisk::view(rt, path);
+    looks_at_one(rt, &mut looking);
+    drop(first);
+    answer(rt, &mut second, [false; 4], "it stays refused");
+    let mut third = FileDisk::open(rt, path);
+    answer(rt, &mut third, [true; 4], "it was let go");
+}
+
 #[test]
 fn one_service_holds_a_file_and_others_look(rt: HostRuntime) -> Result<(), Fail> {
     let path = "lock-of-a-test";
-    let _old = fs::remove_file(&rt, path);
-    let mut absent = FileDisk::view(&rt, path);
-    assert_eq!(rt; answers(&mut absent), [false, true, true, true]);
-    assert_eq!(rt; absent.len(), Ok(0));
-    assert!(rt; !fs::exists(&rt, path)?, "looking makes no file");
-
-    let mut first = FileDisk::open(&rt, path);
-    assert_eq!(rt; answers(&mut first), [true; 4]);
-    let mut second = FileDisk::open(&rt, path);
-    assert_eq!(rt; answers(&mut second), [false; 4], "the file is held");
-    let mut looking = FileDisk::view(&rt, path);
-    assert_eq!(rt; answers(&mut looking), [false, true, true, true]);
-    assert_eq!(rt; looking.len(), Ok(4));
-
-    drop(first);
-    assert_eq!(rt; answers(&mut second), [false; 4], "it stays refused");
-    assert_eq!(rt;
-        answers(&mut FileDisk::open(&rt, path)),
-        [true; 4],
-        "it was let go"
-    );
-    let mut nowhere = FileDisk::open(&rt, "no-such-folder/file");
-    assert_eq!(rt; answers(&mut nowhere), [false; 4]);
-    for no_file in [".", "/dev/null"] {
-        let mut opened = FileDisk::open(&rt, no_file);
-        assert_eq!(rt; answers(&mut opened), [false; 4], "{no_file}");
-        let mut viewed = FileDisk::view(&rt, no_file);
-        assert_eq!(rt; answers(&mut viewed), [false; 4], "{no_file}, looked at");
-    }
+    clear(&rt, path);
+    looks_at_none(&rt, path)?;
+    holds(&rt, path);
     fs::remove_file(&rt, path)?;
     Ok(())
+}
+
+#[test]
+fn what_is_no_file_is_refused(rt: HostRuntime) {
+    let mut nowhere = FileDisk::open(&rt, "no-such-folder/file");
+    answer(&rt, &mut nowhere, [false; 4], "no folder");
+    for no_file in [".", "/dev/null"] {
+        let mut opened = FileDisk::open(&rt, no_file);
+        answer(&rt, &mut opened, [false; 4], no_file);
+        let mut viewed = FileDisk::view(&rt, no_file);
+        answer(&rt, &mut viewed, [false; 4], "no file is looked at");
+    }
 }
 
 // The opening of a pipe for reading waits until it is opened for writing.
@@ -328,33 +399,56 @@ fn looking_at_a_pipe_ends(rt: HostRuntime) -> Result<(), Fail> {
     Ok(())
 }
 
+const LINK: &str = "link-of-a-test";
+
+const TARGET: &str = "target-of-a-test";
+
+fn link<R: Files<File = File> + Alloc>(rt: &R) -> Result<(), Fail> {
+    clear(rt, LINK);
+    clear(rt, TARGET);
+    std::os::unix::fs::symlink(rt, TARGET, LINK)?;
+    Ok(())
+}
+
+fn misses_a_target<R: Files<File = File> + Alloc + Abort>(rt: &R) -> Result<(), Fail> {
+    let mut none = FileDisk::open(rt, LINK);
+    answer(rt, &mut none, [false; 4], "its target is absent");
+    assert!(rt; !fs::exists(rt, TARGET)?, "and isn't made");
+    Ok(())
+}
+
+fn finds_a_target<R: Files<File = File> + Abort>(rt: &R) {
+    drop(FileDisk::open(rt, TARGET));
+    let mut some = FileDisk::open(rt, LINK);
+    answer(rt, &mut some, [true; 4], "its target is there");
+}
+
 #[test]
 fn a_link_is_followed_where_its_target_is(rt: HostRuntime) -> Result<(), Fail> {
-    let (link, target) = ("link-of-a-test", "target-of-a-test");
-    let _old = (fs::remove_file(&rt, link), fs::remove_file(&rt, target));
-    std::os::unix::fs::symlink(&rt, target, link)?;
-    let mut none = FileDisk::open(&rt, link);
-    assert_eq!(rt; answers(&mut none), [false; 4], "its target is absent");
-    assert!(rt; !fs::exists(&rt, target)?, "and isn't made");
-    drop(FileDisk::open(&rt, target));
-    let mut some = FileDisk::open(&rt, link);
-    assert_eq!(rt; answers(&mut some), [true; 4], "its target is there");
-    fs::remove_file(&rt, link)?;
-    fs::remove_file(&rt, target)?;
+    link(&rt)?;
+    misses_a_target(&rt)?;
+    finds_a_target(&rt);
+    fs::remove_file(&rt, LINK)?;
+    fs::remove_file(&rt, TARGET)?;
     Ok(())
 }
 
 // A write behind the greatest offset of a file fails, also with leave and room to write.
-#[test]
-fn a_file_goes_on_after_a_failed_write(rt: HostRuntime) -> Result<(), Fail> {
-    let path = "failing-write-of-a-test";
-    let _old = fs::remove_file(&rt, path);
-    let mut disk = FileDisk::open(&rt, path);
-    assert_eq!(rt; answers(&mut disk), [true; 4]);
+fn fails_and_goes_on(rt: &impl Abort, disk: &mut FileDisk) {
+    answer(rt, disk, [true; 4], "a new file");
     assert_eq!(rt; disk.write_at(1 << 62, b"far"), Err(DiskFailed));
     assert_eq!(rt; disk.write_at(2, b"CD"), Ok(()));
     assert_eq!(rt; disk.sync(), Ok(()));
-    assert!(rt; fs::read(&rt, path)?.starts_with(b"abCD"));
+}
+
+#[test]
+fn a_file_goes_on_after_a_failed_write(rt: HostRuntime) -> Result<(), Fail> {
+    let path = "failing-write-of-a-test";
+    clear(&rt, path);
+    let mut disk = FileDisk::open(&rt, path);
+    fails_and_goes_on(&rt, &mut disk);
+    let bytes = fs::read(&rt, path)?;
+    assert!(rt; bytes.starts_with(b"abCD"));
     fs::remove_file(&rt, path)?;
     Ok(())
 }

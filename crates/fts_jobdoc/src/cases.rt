@@ -518,31 +518,25 @@ pub const EXAMPLES: [(&str, &str); 6] = [
 ];
 
 /// A sentence, a body, the priority, and the rule and message.
-pub const PRIORITIES: [(&str, &str, u32, u32, &str); 8] = [
-    ("priority 5", "{\"params\":{\"priority\":5}}", 5, 0, ""),
+pub const PRIORITIES: [(&str, &str, (u32, u32, &str)); 8] = [
+    ("priority 5", "{\"params\":{\"priority\":5}}", (5, 0, "")),
     (
         "priority 6",
         "{\"params\":{\"priority\":6}}",
-        0,
-        19,
-        "bad priority",
+        (0, 19, "bad priority"),
     ),
-    ("no priority", "{\"params\":{}}", 0, 19, "bad priority"),
-    ("no parameters", "{}", 0, 19, "bad priority"),
+    ("no priority", "{\"params\":{}}", (0, 19, "bad priority")),
+    ("no parameters", "{}", (0, 19, "bad priority")),
     (
         "null for the priority",
         "{\"params\":{\"priority\":null}}",
-        0,
-        19,
-        "bad priority",
+        (0, 19, "bad priority"),
     ),
     (
         "a list for the parameters",
         "{\"params\":[]}",
-        0,
-        16,
-        "params is not an object",
+        (0, 16, "params is not an object"),
     ),
-    ("a number", "5", 0, 2, "not an object"),
-    ("nothing", "", 0, 1, "not JSON"),
+    ("a number", "5", (0, 2, "not an object")),
+    ("nothing", "", (0, 1, "not JSON")),
 ];

@@ -7,9 +7,12 @@ use crate::cases::{
     ABC, BODIES, BodyCase, EXAMPLES, FIELDS, KINDS, MULTIHOP, PARAMETERS, PRIORITIES, PairCase,
     URLS, WITH_CHECKSUM,
 };
-use crate::{DocFault, read_job, read_priority, sid_id};
-use fts_tables::{Endpoint, EndpointName, Items, Label, Memory, NewFile, Settings, Weight};
+use crate::{read_job, read_priority, sid_id};
+use fts_tables::{
+    Endpoint, EndpointName, Items, Label, Memory, NewFile, NewJob, Place, Settings, Weight,
+};
 use std::alloc::{AllocError, Global};
+use std::process::Abort;
 use std::test::Fail;
 
 fn add<T: Drop>(items: &mut Items<T>, item: T) -> Result<(), Memory>
@@ -139,116 +142,151 @@ fn many(alloc: Global, file: &str, count: usize) -> Result<String, AllocError> {
     Ok(body)
 }
 
-fn letters(alloc: Global, count: usize) -> Result<String, AllocError> {
+/// A text so often.
+fn many_of(alloc: Global, part: &str, count: usize) -> Result<String, AllocError> {
     let mut text = String::new(alloc);
     for _ in 0..count {
-        text.push_str("x")?;
+        text.push_str(part)?;
     }
     Ok(text)
 }
 
+fn place(alloc: Global, place: &Place) -> Result<String, AllocError> {
+    format!(in alloc; "{}/{}", place.endpoint.as_str(), place.path.as_str())
+}
+
 /// What a job's file is, in one line.
 fn line(alloc: Global, file: &NewFile) -> Result<String, AllocError> {
+    let source = place(alloc, &file.source)?;
+    let dest = place(alloc, &file.dest)?;
     format!(in alloc;
-        "{} {}/{} {}/{} {} {}",
+        "{} {} {} {} {}\n",
         file.index,
-        file.source.endpoint.as_str(),
-        file.source.path.as_str(),
-        file.dest.endpoint.as_str(),
-        file.dest.path.as_str(),
+        source.as_str(),
+        dest.as_str(),
         file.size,
         file.activity.as_str()
     )
 }
 
-/// What a document's job is, in some lines.
-fn summary(alloc: Global, body: &str, settings: &Settings) -> Result<String, Fail> {
-    let job = read_job(alloc, body.as_bytes(), settings)?;
-    let mut text = format!(in alloc;
+/// What a job is, but for its files, in one line.
+fn head(alloc: Global, job: &NewJob) -> Result<String, AllocError> {
+    format!(in alloc;
         "{:?} {:?} {} {} {}\n",
         job.kind, job.strategy, job.priority, job.retry, job.delay
-    )?;
+    )
+}
+
+/// What a job is, in some lines.
+fn lines(alloc: Global, job: &NewJob) -> Result<String, AllocError> {
+    let mut text = head(alloc, job)?;
     for file in job.files.as_slice() {
         text.push_str(line(alloc, file)?.as_str())?;
-        text.push_str("\n")?;
     }
     Ok(text)
 }
 
+/// A document's job.
+fn job_of(alloc: Global, body: &str) -> Result<NewJob, Fail> {
+    let settings = settings(alloc)?;
+    Ok(read_job(alloc, body.as_bytes(), &settings)?)
+}
+
+/// What a document's job is, in some lines.
+fn summary(alloc: Global, body: &str) -> Result<String, Fail> {
+    let job = job_of(alloc, body)?;
+    Ok(lines(alloc, &job)?)
+}
+
 /// The digest that a document's first file wants.
-fn wanted(alloc: Global, body: &str, settings: &Settings) -> Result<Option<[u8; 16]>, DocFault> {
-    let job = read_job(alloc, body.as_bytes(), settings)?;
+fn wanted(alloc: Global, body: &str) -> Result<Option<[u8; 16]>, Fail> {
+    let job = job_of(alloc, body)?;
     match job.files.as_slice() {
         [] => Ok(None),
         [file, ..] => Ok(file.wanted),
     }
 }
 
+/// The rule that a body breaks; 0 where it breaks none.
+fn rule_of(alloc: Global, body: &str) -> Result<u32, Memory> {
+    let settings = settings(alloc)?;
+    Ok(refusal(alloc, body, &settings).0)
+}
+
+fn wrong_body(alloc: Global, cases: &[BodyCase]) -> Result<Option<&'static str>, Memory> {
+    let settings = settings(alloc)?;
+    Ok(first_wrong_body(alloc, cases, &settings))
+}
+
+fn wrong_field(alloc: Global, cases: &[PairCase]) -> Result<Option<&'static str>, Memory> {
+    let settings = settings(alloc)?;
+    Ok(first_wrong_field(alloc, cases, &settings)?)
+}
+
+fn wrong_url(alloc: Global, cases: &[PairCase]) -> Result<Option<&'static str>, Memory> {
+    let settings = settings(alloc)?;
+    Ok(first_wrong_url(alloc, cases, &settings)?)
+}
+
+/// No row of a table is answered otherwise.
+fn is_none(rt: &impl Abort, wrong: Option<&'static str>) {
+    assert_eq!(rt; wrong, None);
+}
+
 #[test]
 fn a_body_that_is_no_document_breaks_the_least_rule(rt: HostRuntime) -> Result<(), Fail> {
-    let settings = settings(rt.alloc())?;
-    assert_eq!(rt; first_wrong_body(rt.alloc(), &BODIES, &settings), None);
+    is_none(&rt, wrong_body(rt.alloc(), &BODIES)?);
     Ok(())
 }
 
 #[test]
 fn a_broken_url_has_its_number(rt: HostRuntime) -> Result<(), Fail> {
-    let settings = settings(rt.alloc())?;
-    assert_eq!(rt; first_wrong_url(rt.alloc(), &URLS, &settings)?, None);
+    is_none(&rt, wrong_url(rt.alloc(), &URLS)?);
     Ok(())
 }
 
 #[test]
 fn a_broken_field_breaks_its_rule(rt: HostRuntime) -> Result<(), Fail> {
-    let settings = settings(rt.alloc())?;
-    assert_eq!(rt; first_wrong_field(rt.alloc(), &FIELDS, &settings)?, None);
+    is_none(&rt, wrong_field(rt.alloc(), &FIELDS)?);
     Ok(())
 }
 
 #[test]
 fn a_broken_parameter_breaks_its_rule(rt: HostRuntime) -> Result<(), Fail> {
-    let settings = settings(rt.alloc())?;
-    assert_eq!(rt;
-        first_wrong_field(rt.alloc(), &PARAMETERS, &settings)?,
-        None
-    );
+    is_none(&rt, wrong_field(rt.alloc(), &PARAMETERS)?);
     Ok(())
 }
 
 #[test]
 fn several_files_break_the_rules_on_kinds(rt: HostRuntime) -> Result<(), Fail> {
-    let settings = settings(rt.alloc())?;
-    assert_eq!(rt; first_wrong_body(rt.alloc(), &KINDS, &settings), None);
+    is_none(&rt, wrong_body(rt.alloc(), &KINDS)?);
     Ok(())
+}
+
+/// The rule that a document of so many equal files breaks; 0 where it breaks none.
+fn rule_of_many(alloc: Global, file: &str, count: usize) -> Result<u32, Memory> {
+    let body = many(alloc, file, count)?;
+    rule_of(alloc, body.as_str())
 }
 
 #[test]
 fn so_many_files_are_allowed(rt: HostRuntime) -> Result<(), Fail> {
-    let settings = settings(rt.alloc())?;
     let file = "{\"sources\":[\"https://a.example/f\"],\"destinations\":[\"https://b.example/f\"]}";
-    assert_eq!(rt;
-        refusal(rt.alloc(), many(rt.alloc(), file, 200)?.as_str(), &settings).0,
-        0
-    );
-    assert_eq!(rt;
-        refusal(rt.alloc(), many(rt.alloc(), file, 201)?.as_str(), &settings).0,
-        4
-    );
-    assert_eq!(rt;
-        refusal(rt.alloc(), many(rt.alloc(), "3", 201)?.as_str(), &settings).0,
-        4
-    );
+    for (file, count, rule) in [(file, 200, 0), (file, 201, 4), ("3", 201, 4)] {
+        let found = rule_of_many(rt.alloc(), file, count)?;
+        assert_eq!(rt; found, rule, "{count}");
+    }
     Ok(())
 }
 
 fn of_activity(alloc: Global, length: usize) -> Result<String, AllocError> {
-    let name = letters(alloc, length)?;
+    let name = many_of(alloc, "x", length)?;
     let fields = format!(in alloc; ",\"activity\":\"{}\"", name.as_str())?;
     document(alloc, fields.as_str(), "")
 }
 
 fn of_sid(alloc: Global, length: usize) -> Result<String, AllocError> {
-    let sid = letters(alloc, length)?;
+    let sid = many_of(alloc, "x", length)?;
     let keys = format!(in alloc;
         ",\"params\":{{\"id_generator\":\"deterministic\",\"sid\":\"{}\"}}",
         sid.as_str()
@@ -256,67 +294,45 @@ fn of_sid(alloc: Global, length: usize) -> Result<String, AllocError> {
     document(alloc, "", keys.as_str())
 }
 
-#[test]
-fn so_many_bytes_are_allowed(rt: HostRuntime) -> Result<(), Fail> {
-    let settings = settings(rt.alloc())?;
-    assert_eq!(rt;
-        refusal(
-            rt.alloc(),
-            of_activity(rt.alloc(), 255)?.as_str(),
-            &settings
-        )
-        .0,
-        0
-    );
-    assert_eq!(rt;
-        refusal(
-            rt.alloc(),
-            of_activity(rt.alloc(), 256)?.as_str(),
-            &settings
-        )
-        .0,
-        15
-    );
-    assert_eq!(rt;
-        refusal(rt.alloc(), of_sid(rt.alloc(), 255)?.as_str(), &settings).0,
-        0
-    );
-    assert_eq!(rt;
-        refusal(rt.alloc(), of_sid(rt.alloc(), 256)?.as_str(), &settings).0,
-        24
-    );
-    Ok(())
+/// The rules that an activity and a sid of so many bytes break; 0 where they break none.
+fn rules_of_length(alloc: Global, length: usize) -> Result<(u32, u32), Memory> {
+    let activity = of_activity(alloc, length)?;
+    let sid = of_sid(alloc, length)?;
+    Ok((
+        rule_of(alloc, activity.as_str())?,
+        rule_of(alloc, sid.as_str())?,
+    ))
 }
 
 #[test]
-fn deep_lists_are_no_json(rt: HostRuntime) -> Result<(), Fail> {
-    let settings = settings(rt.alloc())?;
-    match read_job(rt.alloc(), &[b'['; 200], &settings) {
-        Ok(_) => assert!(rt; false, "no JSON"),
-        Err(fault) => assert_eq!(rt; fault.rule(), 1),
+fn so_many_bytes_are_allowed(rt: HostRuntime) -> Result<(), Fail> {
+    for (length, rules) in [(255, (0, 0)), (256, (15, 24))] {
+        assert_eq!(rt; rules_of_length(rt.alloc(), length)?, rules, "{length}");
     }
     Ok(())
 }
 
 #[test]
+fn deep_lists_are_no_json(rt: HostRuntime) -> Result<(), Fail> {
+    let body = many_of(rt.alloc(), "[", 200)?;
+    assert_eq!(rt; rule_of(rt.alloc(), body.as_str())?, 1);
+    Ok(())
+}
+
+#[test]
 fn the_examples_are_the_jobs_that_they_say(rt: HostRuntime) -> Result<(), Fail> {
-    let settings = settings(rt.alloc())?;
     for (body, want) in EXAMPLES {
-        assert_eq!(rt; summary(rt.alloc(), body, &settings)?.as_str(), want);
+        assert_eq!(rt; summary(rt.alloc(), body)?.as_str(), want);
     }
     Ok(())
 }
 
 #[test]
 fn a_digest_is_wanted_only_where_verification_is_asked_for(rt: HostRuntime) -> Result<(), Fail> {
-    let settings = settings(rt.alloc())?;
-    assert_eq!(rt; wanted(rt.alloc(), WITH_CHECKSUM, &settings)?, Some(ABC));
-    let body = document(
-        rt.alloc(),
-        ",\"checksum\":\"MD5:900150983cd24fb0d6963f7d28e17f72\"",
-        "",
-    )?;
-    assert_eq!(rt; wanted(rt.alloc(), body.as_str(), &settings)?, None);
+    assert_eq!(rt; wanted(rt.alloc(), WITH_CHECKSUM)?, Some(ABC));
+    let checksum = ",\"checksum\":\"MD5:900150983cd24fb0d6963f7d28e17f72\"";
+    let body = document(rt.alloc(), checksum, "")?;
+    assert_eq!(rt; wanted(rt.alloc(), body.as_str())?, None);
     Ok(())
 }
 
@@ -327,9 +343,8 @@ fn a_sid_makes_the_id_that_another_program_makes(rt: HostRuntime) -> Result<(), 
         sid_id("atlas", "dataset-2026-11-27"),
         0xb25e_2ead_09fa_59c0_b703_38ca_9d40_b86c
     );
-    let settings = settings(rt.alloc())?;
-    let job = read_job(rt.alloc(), MULTIHOP.as_bytes(), &settings)?;
-    assert_eq!(rt; job.id, Some(0x8b35_c5cc_fec2_5479_8778_9cbe_6f13_7978));
+    let id = job_of(rt.alloc(), MULTIHOP)?.id;
+    assert_eq!(rt; id, Some(0x8b35_c5cc_fec2_5479_8778_9cbe_6f13_7978));
     Ok(())
 }
 
@@ -343,10 +358,7 @@ fn priority(alloc: Global, body: &str) -> (u32, u32, &'static str) {
 
 #[test]
 fn a_priority_is_read(rt: HostRuntime) {
-    for (case, body, want, rule, message) in PRIORITIES {
-        let found = priority(rt.alloc(), body);
-        assert_eq!(rt; found.0, want, "{case}");
-        assert_eq!(rt; found.1, rule, "{case}");
-        assert_eq!(rt; found.2, message, "{case}");
+    for (case, body, want) in PRIORITIES {
+        assert_eq!(rt; priority(rt.alloc(), body), want, "{case}");
     }
 }

@@ -3,8 +3,9 @@ ghost use Rattle.std.specs.Prelude.{IsTrue};
 ghost use Rattle.fts_record.specs.Proper.{has_priority};
 
 use crate::{ReadFault, read_entry, write_entry};
-use fts_tables::{Command, Entry, Memory, Outcome};
+use fts_tables::{Command, Endpoint, Entry, Memory, NewFile, NewJob, Outcome, Settings};
 use std::alloc::{AllocError, Global};
+use std::process::Abort;
 use std::test::Fail;
 
 const CANCEL: &[u8] = b"\x03\x03\x80\xe2\xcf\xaa\x06\x01";
@@ -41,7 +42,7 @@ fn place(alloc: Global, bytes: &[u8]) -> Option<usize> {
 }
 
 #[test]
-fn worked_entries_are_read_field_by_field(rt: HostRuntime) -> Result<(), Fail> {
+fn a_worked_cancellation_is_read_field_by_field(rt: HostRuntime) -> Result<(), Fail> {
     let cancel = read_entry(rt.alloc(), CANCEL)?;
     assert_eq!(rt; cancel.writer, 3);
     assert!(rt;
@@ -53,6 +54,11 @@ fn worked_entries_are_read_field_by_field(rt: HostRuntime) -> Result<(), Fail> {
             }
         )
     );
+    Ok(())
+}
+
+#[test]
+fn a_worked_claim_is_read_field_by_field(rt: HostRuntime) -> Result<(), Fail> {
     let claim = read_entry(rt.alloc(), CLAIM)?;
     assert_eq!(rt; claim.writer, 0);
     assert!(rt;
@@ -64,6 +70,11 @@ fn worked_entries_are_read_field_by_field(rt: HostRuntime) -> Result<(), Fail> {
             }
         )
     );
+    Ok(())
+}
+
+#[test]
+fn a_worked_report_is_read_field_by_field(rt: HostRuntime) -> Result<(), Fail> {
     let report = read_entry(rt.alloc(), REPORT)?;
     match &report.command {
         Command::Report {
@@ -77,46 +88,68 @@ fn worked_entries_are_read_field_by_field(rt: HostRuntime) -> Result<(), Fail> {
     Ok(())
 }
 
+fn is_worked_endpoint(rt: &impl Abort, endpoint: &Endpoint) {
+    assert_eq!(rt; endpoint.name.as_str(), "a://a");
+    assert_eq!(rt; (endpoint.inbound, endpoint.outbound), (3, 4));
+}
+
+fn are_worked_settings(rt: &impl Abort, settings: &Settings) {
+    assert_eq!(rt; settings.vo.as_str(), "demo");
+    assert_eq!(rt; (settings.workers, settings.default_max_active), (2, 7));
+    for endpoint in settings.endpoints.as_slice() {
+        is_worked_endpoint(rt, endpoint);
+    }
+}
+
 #[test]
-fn settings_and_a_job_are_read_field_by_field(rt: HostRuntime) -> Result<(), Fail> {
+fn worked_settings_are_read_field_by_field(rt: HostRuntime) -> Result<(), Fail> {
     let restart = read_entry(rt.alloc(), RESTART)?;
     match &restart.command {
-        Command::Restart { settings, .. } => {
-            assert_eq!(rt; settings.vo.as_str(), "demo");
-            assert_eq!(rt; (settings.workers, settings.default_max_active), (2, 7));
-            for endpoint in settings.endpoints.as_slice() {
-                assert_eq!(rt; endpoint.name.as_str(), "a://a");
-                assert_eq!(rt; (endpoint.inbound, endpoint.outbound), (3, 4));
-            }
-        }
+        Command::Restart { settings, .. } => are_worked_settings(&rt, settings),
         _ => assert!(rt; false, "a restart"),
     }
+    Ok(())
+}
+
+fn is_worked_file(rt: &impl Abort, file: &NewFile) {
+    assert_eq!(rt; file.source.path.as_str(), "s");
+    assert_eq!(rt; file.dest.path.as_str(), "d");
+    assert_eq!(rt; file.size, 129);
+}
+
+fn is_worked_job(rt: &impl Abort, job: &NewJob) {
+    assert_eq!(rt; job.id, Some(0x0001_0203_0405_0607_0809_0a0b_0c0d_0e0f));
+    assert_eq!(rt; (job.priority, job.retry, job.delay), (3, 2, 300));
+    for file in job.files.as_slice() {
+        is_worked_file(rt, file);
+    }
+}
+
+#[test]
+fn a_worked_job_is_read_field_by_field(rt: HostRuntime) -> Result<(), Fail> {
     let submit = read_entry(rt.alloc(), SUBMIT)?;
     match &submit.command {
-        Command::Submit { job, .. } => {
-            assert_eq!(rt; job.id, Some(0x0001_0203_0405_0607_0809_0a0b_0c0d_0e0f));
-            assert_eq!(rt; (job.priority, job.retry, job.delay), (3, 2, 300));
-            for file in job.files.as_slice() {
-                assert_eq!(rt; file.source.path.as_str(), "s");
-                assert_eq!(rt; file.dest.path.as_str(), "d");
-                assert_eq!(rt; file.size, 129);
-            }
-        }
+        Command::Submit { job, .. } => is_worked_job(&rt, job),
         _ => assert!(rt; false, "a submission"),
     }
     Ok(())
+}
+
+/// Each front of an entry is a broken one.
+fn fronts_are_broken(rt: &impl Abort, alloc: Global, bytes: &[u8]) {
+    for end in 0..bytes.len() {
+        assert!(rt;
+            place(alloc, &bytes[..end]).is_some(),
+            "{end} bytes are a front alone"
+        );
+    }
 }
 
 #[test]
 fn worked_entries_are_written_byte_by_byte(rt: HostRuntime) -> Result<(), Fail> {
     for bytes in [CANCEL, CLAIM, REPORT, RESTART, SUBMIT] {
         assert_eq!(rt; again(rt.alloc(), bytes)?.as_slice(), bytes);
-        for end in 0..bytes.len() {
-            assert!(rt;
-                place(rt.alloc(), &bytes[..end]).is_some(),
-                "{end} bytes are a front alone"
-            );
-        }
+        fronts_are_broken(&rt, rt.alloc(), bytes);
     }
     Ok(())
 }
@@ -135,40 +168,77 @@ fn place_broken(
     Ok(place(alloc, &broken))
 }
 
+/// An entry of which one byte is another is broken at this place.
+fn breaks_at(
+    rt: &impl Abort,
+    alloc: Global,
+    bytes: &[u8],
+    broken: (usize, u8),
+    want: usize,
+    case: &str,
+) -> Result<(), AllocError> {
+    let found = place_broken(alloc, bytes, broken.0, broken.1)?;
+    assert_eq!(rt; found, Some(want), "{case}");
+    Ok(())
+}
+
 #[test]
-fn a_broken_field_of_a_job_is_named_by_its_place(rt: HostRuntime) -> Result<(), Fail> {
+fn a_broken_head_of_a_job_is_named_by_its_place(rt: HostRuntime) -> Result<(), Fail> {
     for (case, changed, byte, want) in [
         ("a command byte past the last", 1, 0x08, 1),
         ("a moment with a needless byte", 6, 0x00, 2),
         ("a kind past the last", 7, 0x03, 7),
         ("a strategy past the last", 8, 0x02, 8),
         ("an id behind the flag 02", 9, 0x02, 9),
-        ("a priority past its range", 26, 0x06, 26),
-        ("a retry past its range", 27, 0x0b, 27),
-        ("a delay with a needless byte", 29, 0x00, 28),
-        ("a flag 02", 30, 0x02, 30),
-        ("no file", 31, 0x00, 31),
-        ("a first file with index 1", 32, 0x01, 7),
-        ("a name that is no UTF-8", 34, 0xff, 33),
-        ("a name in capitals", 34, 0x41, 33),
-        ("a path that is a slash", 40, 0x2f, 39),
-        ("a file copied onto itself", 48, 0x73, 7),
-        ("a size with a needless byte", 50, 0x00, 49),
-        ("a digest behind the flag 02", 51, 0x02, 51),
-        ("an activity past the end", 68, 0x08, 68),
-        ("a byte behind the last field", 68, 0x06, 75),
     ] {
-        assert_eq!(rt;
-            place_broken(rt.alloc(), SUBMIT, changed, byte)?,
-            Some(want),
-            "{case}"
-        );
+        breaks_at(&rt, rt.alloc(), SUBMIT, (changed, byte), want, case)?;
     }
     Ok(())
 }
 
 #[test]
-fn a_broken_field_of_settings_is_named_by_its_place(rt: HostRuntime) -> Result<(), Fail> {
+fn a_broken_number_of_a_job_is_named_by_its_place(rt: HostRuntime) -> Result<(), Fail> {
+    for (case, changed, byte, want) in [
+        ("a priority past its range", 26, 0x06, 26),
+        ("a retry past its range", 27, 0x0b, 27),
+        ("a delay with a needless byte", 29, 0x00, 28),
+        ("a flag 02", 30, 0x02, 30),
+        ("no file", 31, 0x00, 31),
+    ] {
+        breaks_at(&rt, rt.alloc(), SUBMIT, (changed, byte), want, case)?;
+    }
+    Ok(())
+}
+
+#[test]
+fn a_broken_place_of_a_file_is_named_by_its_place(rt: HostRuntime) -> Result<(), Fail> {
+    for (case, changed, byte, want) in [
+        ("a first file with index 1", 32, 0x01, 7),
+        ("a name that is no UTF-8", 34, 0xff, 33),
+        ("a name in capitals", 34, 0x41, 33),
+        ("a path that is a slash", 40, 0x2f, 39),
+        ("a file copied onto itself", 48, 0x73, 7),
+    ] {
+        breaks_at(&rt, rt.alloc(), SUBMIT, (changed, byte), want, case)?;
+    }
+    Ok(())
+}
+
+#[test]
+fn a_broken_end_of_a_file_is_named_by_its_place(rt: HostRuntime) -> Result<(), Fail> {
+    for (case, changed, byte, want) in [
+        ("a size with a needless byte", 50, 0x00, 49),
+        ("a digest behind the flag 02", 51, 0x02, 51),
+        ("an activity past the end", 68, 0x08, 68),
+        ("a byte behind the last field", 68, 0x06, 75),
+    ] {
+        breaks_at(&rt, rt.alloc(), SUBMIT, (changed, byte), want, case)?;
+    }
+    Ok(())
+}
+
+#[test]
+fn a_broken_head_of_settings_is_named_by_its_place(rt: HostRuntime) -> Result<(), Fail> {
     for (case, changed, byte, want) in [
         ("an empty VO", 7, 0x00, 7),
         ("17 workers", 12, 0x11, 12),
@@ -176,59 +246,64 @@ fn a_broken_field_of_settings_is_named_by_its_place(rt: HostRuntime) -> Result<(
         ("no endpoint", 14, 0x00, 14),
         ("no inbound limit", 21, 0x00, 21),
         ("an empty label", 24, 0x00, 24),
+    ] {
+        breaks_at(&rt, rt.alloc(), RESTART, (changed, byte), want, case)?;
+    }
+    Ok(())
+}
+
+#[test]
+fn a_broken_link_or_activity_is_named_by_its_place(rt: HostRuntime) -> Result<(), Fail> {
+    for (case, changed, byte, want) in [
         ("a link from an unknown endpoint", 31, 0x62, 7),
         ("a link without a limit", 38, 0x00, 38),
         ("65 activities", 39, 0x41, 39),
         ("no default activity", 41, 0x44, 7),
         ("no weight", 48, 0x00, 48),
     ] {
-        assert_eq!(rt;
-            place_broken(rt.alloc(), RESTART, changed, byte)?,
-            Some(want),
-            "{case}"
-        );
+        breaks_at(&rt, rt.alloc(), RESTART, (changed, byte), want, case)?;
     }
-    assert_eq!(rt;
-        place_broken(rt.alloc(), REPORT, 9, 0x08)?,
-        Some(9),
-        "an outcome past the last"
-    );
     Ok(())
 }
 
 #[test]
-fn other_bytes_are_no_entry(rt: HostRuntime) {
-    for (case, bytes, want) in [
-        ("the empty list", b"".as_slice(), 0),
-        (
-            "a moment that ends in 00",
-            b"\x03\x03\x80\xe2\xcf\xaa\x86\x00\x01".as_slice(),
-            2,
-        ),
-        (
-            "a byte behind the entry",
-            b"\x03\x03\x80\xe2\xcf\xaa\x06\x01\x00".as_slice(),
-            8,
-        ),
-        (
-            "a writer of 33 bits",
-            b"\x80\x80\x80\x80\x10\x03\x00\x01".as_slice(),
-            0,
-        ),
-        (
-            "a moment of 65 bits",
-            b"\x00\x03\x80\x80\x80\x80\x80\x80\x80\x80\x80\x02\x01".as_slice(),
-            2,
-        ),
-        ("half a word", b"\x00\x06\x00\x45\x00\x00\x00".as_slice(), 3),
-        (
-            "half a digest",
-            b"\x00\x07\x00\x01\x01\x04\x90\x01".as_slice(),
-            6,
-        ),
-    ] {
-        assert_eq!(rt; place(rt.alloc(), bytes), Some(want), "{case}");
-    }
+fn a_broken_outcome_is_named_by_its_place(rt: HostRuntime) -> Result<(), Fail> {
+    let case = "an outcome past the last";
+    breaks_at(&rt, rt.alloc(), REPORT, (9, 0x08), 9, case)?;
+    Ok(())
+}
+
+/// These bytes are no entry, from this place on.
+fn is_broken(rt: &impl Abort, alloc: Global, bytes: &[u8], want: usize, case: &str) {
+    assert_eq!(rt; place(alloc, bytes), Some(want), "{case}");
+}
+
+#[test]
+fn too_few_or_many_bytes_are_no_entry(rt: HostRuntime) {
+    let alloc = rt.alloc();
+    is_broken(&rt, alloc, b"", 0, "the empty list");
+    let behind = b"\x03\x03\x80\xe2\xcf\xaa\x06\x01\x00";
+    is_broken(&rt, alloc, behind, 8, "a byte behind the entry");
+    is_broken(
+        &rt,
+        alloc,
+        b"\x00\x06\x00\x45\x00\x00\x00",
+        3,
+        "half a word",
+    );
+    let half = b"\x00\x07\x00\x01\x01\x04\x90\x01";
+    is_broken(&rt, alloc, half, 6, "half a digest");
+}
+
+#[test]
+fn other_numbers_are_no_entry(rt: HostRuntime) {
+    let alloc = rt.alloc();
+    let needless = b"\x03\x03\x80\xe2\xcf\xaa\x86\x00\x01";
+    is_broken(&rt, alloc, needless, 2, "a moment that ends in 00");
+    let writer = b"\x80\x80\x80\x80\x10\x03\x00\x01";
+    is_broken(&rt, alloc, writer, 0, "a writer of 33 bits");
+    let moment = b"\x00\x03\x80\x80\x80\x80\x80\x80\x80\x80\x80\x02\x01";
+    is_broken(&rt, alloc, moment, 2, "a moment of 65 bits");
 }
 
 fn draw(state: &mut u64) -> u64 {
@@ -292,6 +367,17 @@ fn command(state: &mut u64) -> Command
     }
 }
 
+/// What is written of an entry is read and written again the same.
+fn comes_back(rt: &impl Abort, alloc: Global, entry: &Entry, number: u32) -> Result<(), Fail>
+    requires { IsTrue (has_priority entry.now.command) }
+{
+    let mut out = Vec::new(alloc);
+    write_entry(entry, &mut out)?;
+    let back = again(alloc, &out)?;
+    assert_eq!(rt; back.as_slice(), out.as_slice(), "entry {number}");
+    Ok(())
+}
+
 #[test]
 fn generated_entries_come_back(rt: HostRuntime) -> Result<(), Fail> {
     let mut state = 2026;
@@ -300,13 +386,7 @@ fn generated_entries_come_back(rt: HostRuntime) -> Result<(), Fail> {
             writer: small(&mut state),
             command: command(&mut state),
         };
-        let mut out = Vec::new(rt.alloc());
-        write_entry(&entry, &mut out)?;
-        assert_eq!(rt;
-            again(rt.alloc(), &out)?.as_slice(),
-            out.as_slice(),
-            "entry {number}"
-        );
+        comes_back(&rt, rt.alloc(), &entry, number)?;
     }
     Ok(())
 }
