@@ -5,6 +5,8 @@
 
 #[cfg(test)]
 mod changing;
+#[cfg(test)]
+mod changing_tests;
 mod copy;
 mod differences;
 mod order;
