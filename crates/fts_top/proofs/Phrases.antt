@@ -31,4 +31,3 @@ pub sent_of_refusal : (fault : WireFault) (message : List ℕ) (rule status : �
     → IsOrNoMemory reply (refusal_of message rule status) → CanBeSent reply
 sent_of_refusal fault message rule status reply e (inl h) = subst CanBeSent (sym h) (sent_fault fault message rule status e)
 sent_of_refusal fault message rule status reply e (inr h) = subst CanBeSent (sym h) sent_no_memory
-

@@ -143,7 +143,8 @@ pub record TriesOneMore (exchanges : List Exchange) (kept : List ℕ) (between a
   pub loads : LoadsNone kept between after result
 
 -- what came behind these exchanges was refused for this fault, with this status: what is written are their responses and the refusal
-pub record RefusesNext (exchanges : List Exchange) (kept : List ℕ) (between after : Reading) (fault : WireFault) (status : ℕ) (Written : List (List ℕ) → Type 0) : Type 0 where
+pub record RefusesNext (exchanges : List Exchange) (kept : List ℕ) (between after : Reading) (fault : WireFault) (status : ℕ)
+    (Written : List (List ℕ) → Type 0) : Type 0 where
   pub tries : TriesOneMore exchanges kept between after (Err fault)
   pub written : WithRefusal fault status Written (responses_of exchanges)
 

@@ -162,7 +162,8 @@ fn respond<K: Sink>(
     requires before { before < MAX_REQUESTS }
     requires phrase { IsTrue (has_phrase reply.now.status) }
     requires methods { IsTrue (has_methods reply.now.status reply.now.allow) }
-    ensures sent { Sends (K.held output.old) (K.held output.new) (response_to before (record { request = request_data request.now; reply = reply.now })) result }
+    ensures sent { Sends (K.held output.old) (K.held output.new)
+        (response_to before (record { request = request_data request.now; reply = reply.now })) result }
     ensures cause { CountsFaults (K.faults output.old) (K.faults output.new) result }
 {
     let is_last = request.close || before + 1 == MAX_REQUESTS;
