@@ -1,17 +1,16 @@
 -- What an answer adds: nothing, or one command that is accepted where it stands, and that a request may ask for. For the crates above.
-use Rattle.std.proofs.Common.{◌≡◌, ◌⊎◌, inl, inr, ℕ, Bool, true, false, List, [], ◌∷◌, Result, Ok, Err, refl, subst, sym}
+use Rattle.std.proofs.Common.{◌≡◌, ◌⊎◌, inl, inr, ℕ, Bool, true, false, List, [], ◌∷◌, Ok, Err, refl, subst, sym}
 use Rattle.std.specs.Prelude.{if◌then◌else◌}
 use Rattle.serde_json.specs.Data.{Data}
 use Rattle.fts_tables.specs.Tables.{Tables}
 use Rattle.fts_tables.specs.Step.{Outcomes, step}
 use Rattle.fts_tables.specs.History.{IsAccepted}
 use Rattle.fts_tables.specs.declared.commands.Answer.{Answer}
-use Rattle.fts_tables.specs.declared.commands.Command.{Command}
 use Rattle.fts_tables.specs.declared.commands.Entry.{Entry}
 use Rattle.fts_wire.specs.RequestData.{RequestData}
-use Rattle.fts_keep.specs.Applied.{Applies, applied_by, entry_by, fits}
+use Rattle.fts_keep.specs.Applied.{applied_by, entry_by, fits}
 use Rattle.fts_keep.specs.declared.fault.KeepFault.TheVariants.{JournalFull}
-use Rattle.fts_routes.specs.Replies.{Plan, Replies, Tries, plan_of, Said, said, said_by, said_to, said_so, Way, AsDefined, WithoutMemory, WithoutDisk}
+use Rattle.fts_routes.specs.Replies.{Plan, Replies, Tries, plan_of, said, said_by, said_to, said_so, Way, AsDefined, WithoutMemory, WithoutDisk}
 use Rattle.fts_routes.proofs.Sendable.{IsAsked, IsGoodPlan, planned}
 
 -- nothing, or one command that is accepted where it stands, and that a request may ask for

@@ -16,6 +16,8 @@ mod queries;
 mod replies;
 mod routes;
 #[cfg(test)]
+mod test_rows;
+#[cfg(test)]
 mod tests;
 mod texts;
 

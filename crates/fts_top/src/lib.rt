@@ -11,6 +11,8 @@ mod reading;
 mod session;
 mod tally;
 #[cfg(test)]
+mod test_rows;
+#[cfg(test)]
 mod tests;
 mod top;
 mod words;

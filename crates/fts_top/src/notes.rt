@@ -1,5 +1,4 @@
 //! The line that a run writes to its notes where it does not end with status 0 (`specs/Notes.antt`). It takes no memory, and a failed write changes nothing.
-ghost use Rattle.std.specs.Prelude.{◌≡◌};
 ghost use Rattle.fts_tables.specs.Counts.{CountsFaults};
 ghost use Rattle.fts_wire.specs.Response.{Sends};
 ghost use Rattle.fts_top.specs.Notes.{round_note_of, session_note_of, note_of, note_with, IsNoted};
