@@ -1,5 +1,5 @@
 -- Each answer is one that a response can be written of: its status has a phrase, and it is no refusal of a method. None says that it isn't built.
-use Rattle.std.proofs.Common.{inl, inr, refl, ◌≢◌, ℕ, Bool, true, false, if◌then◌else◌, Result, Ok, Err, sym, subst}
+use Rattle.std.proofs.Common.{inl, inr, refl, ℕ, Result, Ok, Err, sym, subst}
 use Rattle.std.specs.Prelude.{IsTrue}
 use Rattle.fts_tables.specs.JobData.{JobData}
 use Rattle.fts_tables.specs.Tables.{Tables}
@@ -14,7 +14,7 @@ use Rattle.fts_wire.specs.Response.{has_phrase, has_methods}
 use Rattle.fts_wire.specs.RequestData.{RequestData}
 use Rattle.fts_wire.specs.declared.response.Reply.{Reply}
 use Rattle.fts_jobdoc.specs.declared.fault.DocFault.{DocFault}
-use Rattle.fts_top.specs.Replies.{reply_to_refusal, id_of_new, document_of, no_memory, not_built, disk_failed, submission, IsOrNoMemory, Way, AsDefined, WithoutMemory, WithoutDisk, Said, said, said_by, said_to, said_so, Answers}
+use Rattle.fts_top.specs.Replies.{reply_to_refusal, id_of_new, document_of, no_memory, not_built, submission, IsOrNoMemory, Way, AsDefined, WithoutMemory, WithoutDisk, said_by, said_to, said_so, Answers}
 
 -- a response can be written of a reply
 pub record CanBeSent (reply : Reply) : Type 0 where

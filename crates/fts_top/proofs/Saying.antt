@@ -1,7 +1,6 @@
 -- What is said to a submission, by each answer of its keep, and what that adds.
-use Rattle.std.proofs.Common.{◌≡◌, ◌⊎◌, inl, inr, ⊎_elim, refl, ap, sym, ◌∙◌, subst, ℕ, ◌≤◌, Bool, true, false, if◌then◌else◌, List, [], ◌∷◌, ◌++◌, Option, Some, None, Result, Ok, Err, IsOk, arith}
+use Rattle.std.proofs.Common.{◌≡◌, ◌⊎◌, inl, inr, ⊎_elim, refl, ap, sym, ◌∙◌, subst, ℕ, Bool, true, false, if◌then◌else◌, List, [], ◌∷◌, ◌++◌, Result, Ok, Err, IsOk, arith}
 use Rattle.std.proofs.lemmas.List.Elements.{All-nil}
-use Rattle.fts_tables.specs.Counts.{Rose}
 use Rattle.fts_tables.specs.Tables.{Tables}
 use Rattle.fts_tables.specs.JobData.{JobData}
 use Rattle.fts_tables.specs.Step.{Outcomes, step}
@@ -10,9 +9,9 @@ use Rattle.fts_tables.specs.declared.commands.Entry.{Entry}
 use Rattle.fts_tables.specs.declared.commands.Answer.{Answer}
 use Rattle.fts_tables.specs.declared.commands.Command.TheVariants.{Submit}
 use Rattle.fts_tables.specs.declared.commands.Refusal.{Refusal}
-use Rattle.fts_disk.specs.Disk.{DiskState, IsTold}
+use Rattle.fts_disk.specs.Disk.{DiskState}
 use Rattle.fts_keep.specs.Keeps.{KeepData, Grows}
-use Rattle.fts_keep.specs.Applied.{Applies, Applied, KeepsList, applied_to, applied_by, fits, entry_by}
+use Rattle.fts_keep.specs.Applied.{Applies, Applied, KeepsList, applied_to, applied_by, fits}
 use Rattle.fts_keep.specs.declared.fault.KeepFault.{KeepFault}
 use Rattle.fts_keep.specs.declared.fault.KeepFault.TheVariants.{Rule, DiskFailed, JournalFull, Damaged, Memory}
 use Rattle.fts_jobdoc.specs.declared.fault.DocFault.{DocFault}
@@ -20,7 +19,7 @@ use Rattle.fts_wire.specs.RequestData.{RequestData}
 use Rattle.fts_wire.specs.declared.response.Allow.TheVariants.{None as NoAllow}
 use Rattle.fts_wire.specs.declared.response.Reply.{Reply}
 use Rattle.fts_workers.specs.Requests.{IsOfRequest}
-use Rattle.fts_top.specs.Replies.{accepted_body, reply_to_refusal, journal_full, disk_failed, no_memory, document_of, id_of_new, IsOrNoMemory, Said, said, said_by, said_to, said_so, submission, Way, AsDefined, WithoutMemory, WithoutDisk, Says, Answers, DoubtHasCause}
+use Rattle.fts_top.specs.Replies.{accepted_body, reply_to_refusal, journal_full, disk_failed, no_memory, document_of, id_of_new, IsOrNoMemory, Said, said, said_by, said_to, said_so, submission, Way, AsDefined, WithoutMemory, WithoutDisk, Says, DoubtHasCause}
 use Rattle.fts_top.proofs.Keeping.{none_more}
 
 -- the tables that came of an entry

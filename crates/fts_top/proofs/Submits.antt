@@ -1,5 +1,5 @@
 -- For which causes the machine refuses a submission.
-use Rattle.std.proofs.Common.{◌≡◌, ℕ, ◌+◌, Bool, true, false, cond, List, length, Option, Some, None, Ok, Err, subst}
+use Rattle.std.proofs.Common.{◌≡◌, ℕ, ◌+◌, Bool, true, false, cond, length, Option, Some, None, Ok, Err, subst}
 use Rattle.std.specs.Prelude.{nat_lt, option_and_then, max}
 use Rattle.fts_tables.specs.Tables.{Tables, number_of_id}
 use Rattle.fts_tables.specs.JobData.{JobData}

@@ -1,7 +1,7 @@
 -- What a request is answered over tables, and the entry that it adds to their list: today each request is a submission.
 -- The checks come in this order: the document's rules, then what the machine refuses, then the journal's limit.
 -- Bodies are JSON, compact, with keys in byte order.
-use Rattle.std.specs.Prelude.{◌≡◌, ◌≢◌, ◌⊎◌, ℕ, ◌+◌, List, [], ◌∷◌, ◌++◌, length, codes, decimal, unwrap_or, Option, None, Result, Ok, Err}
+use Rattle.std.specs.Prelude.{◌≡◌, ◌≢◌, ◌⊎◌, ℕ, ◌+◌, List, [], ◌∷◌, ◌++◌, length, codes, decimal, unwrap_or, None, Result, Ok, Err}
 use Rattle.std.specs.Int.{to_be_bytes, w128}
 use Rattle.uuid.specs.Text.{hyphenated_text, lower}
 use Rattle.fts_tables.specs.SettingsData.{SettingsData}

@@ -1,7 +1,5 @@
 -- A body that is no document is refused, and leaves the keep as it is.
-use Rattle.std.proofs.Common.{refl}
 use Rattle.fts_top.proofs.Keeping.{images_none}
-use Rattle.fts_top.proofs.Saying.{said_none, grows_none, doubt_none}
 use Rattle.fts_top.proofs.answer.answer.Goals as goal
 
 pub returns-in-Err-Memory-clause-images : goal.returns-in-Err-Memory-clause-images

@@ -1,5 +1,5 @@
 -- The answer to a submission, by what its keep answered.
-use Rattle.std.proofs.Common.{subst, Ok, Err}
+use Rattle.std.proofs.Common.{subst, Err}
 use Rattle.fts_keep.specs.Applied.{Applied}
 use Rattle.fts_keep.specs.declared.fault.KeepFault.{KeepFault}
 use Rattle.fts_top.specs.Replies.{submission}

@@ -1,5 +1,5 @@
 -- One turn of a connection's loop, and its ends.
-use Rattle.std.proofs.Common.{◌∙◌, true, false, Ok, Err, subst, arith}
+use Rattle.std.proofs.Common.{true, false, Ok, Err, subst, arith}
 use Rattle.fts_wire.specs.RequestData.{RequestData}
 use Rattle.fts_wire.specs.declared.request.WireFault.TheVariants.{NotBuilt, EndsInside, SourceFailed}
 use Rattle.fts_top.specs.Replies.{Answers}
