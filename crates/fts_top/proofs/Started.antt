@@ -1,5 +1,5 @@
 -- A run that started its keep and served it, and one that did not start it.
-use Rattle.std.proofs.Common.{◌≡◌, ◌⊎◌, inl, inr, ℕ, ◌+◌, true, List, [], ◌∷◌, ◌++◌, length, Option, None, refl, ap, sym, ◌∙◌, subst, arith, length-append}
+use Rattle.std.proofs.Common.{◌≡◌, inl, inr, ℕ, ◌+◌, true, List, [], ◌∷◌, ◌++◌, length, Option, refl, ap, sym, ◌∙◌, subst, arith, length-append}
 use Rattle.fts_tables.specs.Coming.{Coming, Gives}
 use Rattle.fts_tables.specs.SettingsData.{SettingsData, IsSettings}
 use Rattle.fts_tables.specs.Tables.{Tables, empty_tables}
@@ -16,12 +16,12 @@ use Rattle.fts_keep.specs.declared.fault.KeepFault.{KeepFault}
 use Rattle.fts_keep.specs.declared.fault.KeepFault.TheVariants as faults_of_keep
 use Rattle.fts_workers.specs.Benches.{BenchData, held_as, held_over, kept_of, KeepsOne}
 use Rattle.fts_workers.specs.Copies.{Copy, copies_from, copies_kept, FollowsReports}
-use Rattle.fts_workers.specs.Rounds.{Walk, IsWorkedOver}
+use Rattle.fts_workers.specs.Rounds.{IsWorkedOver}
 use Rattle.fts_workers.specs.declared.held.Held.{Held}
 use Rattle.fts_top.specs.Connections.{Reading}
-use Rattle.fts_top.specs.Tallies.{claims_in, tally_of, tally_with, no_tally}
-use Rattle.fts_top.specs.Sessions.{IsSession, ThreadData, IsOver, IsReady, walk_of, kept_at, thread}
-use Rattle.fts_top.specs.Runs.{OneThread, one_thread, begun_with, AreRead, HasNoSettings, IsStop, StartsWith, StopsBefore, LeavesList, ServesKeep, RanOver, RunsSession, IsSessionRun, start_end}
+use Rattle.fts_top.specs.Tallies.{claims_in, tally_with, no_tally}
+use Rattle.fts_top.specs.Sessions.{IsSession, IsOver, IsReady, walk_of, kept_at, thread}
+use Rattle.fts_top.specs.Runs.{one_thread, begun_with, AreRead, HasNoSettings, IsStop, StartsWith, LeavesList, ServesKeep, IsSessionRun, start_end}
 use Rattle.fts_top.specs.declared.ends.RunEnd.{RunEnd}
 use Rattle.fts_top.specs.declared.ends.RunEnd.TheVariants.{NoMemory, NoCommand, SettingsUnread, SettingsRule, DiskFailed, Damaged, JournalFull, Session}
 use Rattle.fts_top.specs.declared.tally.Tally.{Tally}

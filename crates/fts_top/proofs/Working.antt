@@ -1,5 +1,5 @@
 -- Parts of a session, one behind the other: what each adds, what the bench holds, and the store that follows.
-use Rattle.std.proofs.Common.{◌≡◌, ◌≢◌, ◌⊎◌, inl, inr, refl, ap, sym, ◌∙◌, subst, ℕ, zero, suc, ◌+◌, ◌-◌, ◌≤◌, ◌<◌, Bool, true, false, if◌then◌else◌, cond, List, [], ◌∷◌, ◌++◌, length, Option, None, arith, append_assoc, length-append}
+use Rattle.std.proofs.Common.{◌≡◌, inl, inr, refl, ap, sym, ◌∙◌, subst, ℕ, zero, suc, ◌+◌, ◌-◌, ◌≤◌, Bool, true, false, if◌then◌else◌, cond, List, [], ◌∷◌, ◌++◌, length, Option, None, arith, append_assoc, length-append}
 use Rattle.std.proofs.lemmas.List.Sums.{sum_by-append}
 use Rattle.fts_tables.specs.Coming.{Coming, Gives}
 use Rattle.fts_tables.specs.Tables.{Tables, empty_tables}
@@ -13,8 +13,7 @@ use Rattle.fts_disk.specs.Disk.{DiskState, IsTold, IsLawful}
 use Rattle.fts_store.specs.Calls.{Call}
 use Rattle.fts_store.specs.Store.{StoreState}
 use Rattle.fts_keep.specs.Keeps.{KeepData, IsKeep, Grows, KeepsImagesSinceAny, used_after}
-use Rattle.fts_keep.specs.Applied.{entry_by}
-use Rattle.fts_workers.specs.Benches.{BenchData, KeepsOne, HoldsActive, held_as, held_over, kept_of}
+use Rattle.fts_workers.specs.Benches.{BenchData, HoldsActive, held_as, held_over, kept_of}
 use Rattle.fts_workers.specs.Copies.{Copy, copies_in, copies_from, copies_kept, AreCopied, FollowsReports}
 use Rattle.fts_workers.specs.Requests.{IsOfRequest}
 use Rattle.fts_workers.specs.Rounds.{Walk, WorksOff, FillsUp, IsRound, IsWorkedOver, walk_over, MakesRound}
@@ -24,7 +23,7 @@ use Rattle.fts_wire.specs.RequestData.{RequestData}
 use Rattle.fts_wire.specs.declared.response.Reply.{Reply}
 use Rattle.fts_routes.specs.Replies.{Answers, said, said_so, IsInsteadOf}
 use Rattle.fts_top.specs.Tallies.{claims_in, is_claim}
-use Rattle.fts_top.specs.Sessions.{AnswersNext, Extends, ThreadData, IsOver, IsReady, walk_of, kept_at, Works}
+use Rattle.fts_top.specs.Sessions.{AnswersNext, ThreadData, IsOver, IsReady, walk_of, kept_at, Works}
 use Rattle.fts_top.proofs.Keeping.{none_more, tables_from-append, legal_behind, extends_none, extends_more}
 use Rattle.fts_top.proofs.Saying.{AddsWell, said_well}
 

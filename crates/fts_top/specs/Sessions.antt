@@ -2,7 +2,7 @@
 -- It is a walk over any list that the tables and the bench are of: over a disk that tells its contents that is the disk's own.
 use Rattle.std.specs.Prelude.{◌≡◌, ◌≢◌, ℕ, zero, suc, ◌+◌, ◌≤◌, true, List, ◌++◌, Option}
 use Rattle.fts_tables.specs.Coming.{Coming, Gives}
-use Rattle.fts_tables.specs.History.{tables_of, tables_from, IsLegalFrom}
+use Rattle.fts_tables.specs.History.{tables_of, tables_from}
 use Rattle.fts_tables.specs.declared.commands.Entry.{Entry}
 use Rattle.fts_disk.specs.Disk.{DiskState, IsTold}
 use Rattle.fts_store.specs.Calls.{Call}

@@ -1,5 +1,5 @@
 -- A round, and the claims in it.
-use Rattle.std.proofs.Common.{◌≡◌, ◌∙◌, sym, ap, ℕ, ◌+◌, ◌-◌, List, length, arith}
+use Rattle.std.proofs.Common.{ap, List, length, arith}
 use Rattle.fts_workers.specs.declared.held.Held.{Held}
 use Rattle.fts_top.proofs.Working.{works_round}
 use Rattle.fts_top.proofs.session.make_round.Goals as goal
