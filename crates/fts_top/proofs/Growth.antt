@@ -2,11 +2,11 @@
 use Rattle.std.proofs.Common.{◌≡◌, ℕ, suc, ◌+◌, List, [], ◌∷◌, ◌++◌, length, Option, Some, None, Ok, refl, ap, sym, ◌∙◌, subst, arith, append_assoc, append-nil}
 use Rattle.std.specs.List.{concat}
 use Rattle.std.proofs.lemmas.List.Folds.{concat-append}
-use Rattle.std.specs.Prelude.{true, false, Bool}
+use Rattle.std.specs.Prelude.{true, false}
 use Rattle.fts_wire.specs.RequestData.{RequestData}
 use Rattle.fts_wire.specs.Requests.{next_of, AreRequests, Asks}
 use Rattle.fts_wire.specs.RoomData.{RoomData}
-use Rattle.fts_wire.specs.Taken.{pending, IsNext}
+use Rattle.fts_wire.specs.Taken.{IsNext}
 use Rattle.fts_wire.specs.declared.response.Reply.{Reply}
 use Rattle.fts_top.specs.Connections.{Reading, Exchange, response_to, responses_from, GoOn, GoOnToLast, AreRequestsIn, Loads, AreLoaded, AreServed}
 

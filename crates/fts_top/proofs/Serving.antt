@@ -1,5 +1,5 @@
 -- A connection's loop over a keep and a bench, request by request, and the last rounds.
-use Rattle.std.proofs.Common.{◌≡◌, ◌⊎◌, inl, inr, ⊎_elim, ℕ, zero, suc, ◌+◌, ◌-◌, ◌<◌, ◌≤◌, true, false, Bool, List, [], ◌∷◌, ◌++◌, length, Option, Result, Ok, Err, refl, ap, sym, ◌∙◌, subst, arith}
+use Rattle.std.proofs.Common.{◌≡◌, inl, inr, ℕ, zero, suc, ◌+◌, ◌-◌, ◌<◌, ◌≤◌, true, false, List, [], ◌∷◌, ◌++◌, length, Option, Ok, Err, refl, ap, subst, arith}
 use Rattle.fts_tables.specs.Coming.{Coming, Gives}
 use Rattle.fts_tables.specs.History.{out_of_list}
 use Rattle.fts_tables.specs.declared.limits.TheConstants.{MAX_REQUESTS}
@@ -7,12 +7,11 @@ use Rattle.fts_disk.specs.Disk.{DiskState, IsTold, IsLawful}
 use Rattle.fts_store.specs.Calls.{Call}
 use Rattle.fts_store.specs.Store.{StoreState}
 use Rattle.fts_keep.specs.Keeps.{KeepData, IsKeep, Grows, KeepsImagesSinceAny}
-use Rattle.fts_workers.specs.Benches.{BenchData, calm_end}
+use Rattle.fts_workers.specs.Benches.{calm_end}
 use Rattle.fts_workers.specs.Rounds.{Walk, WorksOff, FillsUp, IsRound}
 use Rattle.fts_workers.specs.declared.ends.RoundEnd.{RoundEnd}
-use Rattle.fts_workers.specs.declared.ends.RoundEnd.TheVariants.{Clear, Busy, DiskFailed, JournalFull, Memory}
+use Rattle.fts_workers.specs.declared.ends.RoundEnd.TheVariants.{Busy}
 use Rattle.fts_wire.specs.RoomData.{RoomData}
-use Rattle.fts_wire.specs.RequestData.{RequestData}
 use Rattle.fts_wire.specs.Response.{Sends}
 use Rattle.fts_wire.specs.declared.fault.WireFault.{WireFault}
 use Rattle.fts_wire.specs.declared.fault.WireFault.TheVariants.{EndsInside, SourceFailed}
@@ -20,10 +19,9 @@ use Rattle.fts_wire.specs.declared.outside.SinkFailed.{SinkFailed}
 use Rattle.fts_wire.specs.declared.response.Reply.{Reply}
 use Rattle.fts_routes.specs.Replies.{Answers}
 use Rattle.fts_top.specs.Connections.{Reading, Loads, IsRefused, response_to, IsConnection}
-use Rattle.fts_top.specs.Sessions.{AnswersNext, FollowedByRound, AreLastRounds, LastRounds, IsSession, ThreadData, IsReady, Works, walk_of}
+use Rattle.fts_top.specs.Sessions.{AnswersNext, FollowedByRound, LastRounds, IsSession, ThreadData, IsReady, Works, walk_of}
 use Rattle.fts_top.specs.declared.ends.LineEnd.{LineEnd}
 use Rattle.fts_top.specs.declared.ends.LineEnd.TheVariants as line_ends
-use Rattle.fts_top.specs.declared.ends.SessionEnd.{SessionEnd}
 use Rattle.fts_top.proofs.Working.{LeavesBench, works_none, works_as, works_more, works_answer}
 use Rattle.fts_top.proofs.Turns.{InProgress, begun, turn, cut, closed, closed_by, ended_inside, read_failed, many, refused}
 

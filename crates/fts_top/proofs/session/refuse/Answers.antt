@@ -1,7 +1,6 @@
 -- A refusal, written or cut short.
-use Rattle.std.proofs.Common.{◌≡◌, ◌∙◌, ℕ, List, Some, sym, ap}
+use Rattle.std.proofs.Common.{◌∙◌, ℕ, Some, sym, ap}
 use Rattle.std.specs.Prelude.{true, false, option_map}
-use Rattle.fts_wire.specs.Faults.{status_of, rule_of, message_of}
 use Rattle.fts_wire.specs.Response.{response_of}
 use Rattle.fts_top.specs.Connections.{end_by}
 use Rattle.fts_top.proofs.Phrases.{sent_of_refusal}
