@@ -217,7 +217,7 @@ fn requests_are_answered_byte_for_byte_however_they_are_cut(rt: HostRuntime) -> 
             assert_eq!(rt; ends, row.ends, "{case}, cut at {cut}");
             assert_eq!(rt;
                 (tally.claims, tally.waiting),
-                (ends.0 + ends.1, 0),
+                (ends.0.saturating_add(ends.1), 0),
                 "{case}, cut at {cut}"
             );
         }
@@ -385,7 +385,7 @@ fn a_call_of_the_disk_that_fails_is_answered_and_loses_nothing(
             for reply in replies {
                 written.extend_from_slice(reply.as_bytes())?;
                 if *reply != FAILED {
-                    accepted = 2.min(accepted + 1);
+                    accepted = u32::saturating_add(accepted, 1);
                 }
             }
             assert_eq!(rt;
@@ -406,7 +406,7 @@ fn a_call_of_the_disk_that_fails_is_answered_and_loses_nothing(
                 let found = rows_on(alloc, left_by(&session.disk, *byte)?)?;
                 let doubt = u32::from(!alone && replies.ends_with(&[FAILED]));
                 assert!(rt;
-                    found >= accepted && found <= accepted + doubt,
+                    found >= accepted && found <= accepted.saturating_add(doubt),
                     "{call} to {last}, the rest {byte}"
                 );
             }
