@@ -1,6 +1,6 @@
 //! The rows. A row is a sentence, settings, a job document, the numbers of the store's failing calls and of its appends that lose a byte, and a
 //! script: a line is a command or a question, ` = `, and its answer, as written by hand.
-ghost use Rattle.std.specs.Prelude.{◌≡◌, OnOk};
+ghost use Rattle.std.specs.Prelude.{◌≡◌, IfOk, OnOk};
 ghost use Rattle.fts_rounds_trial.specs.Ready.{IsReady};
 
 use crate::Bed;
@@ -325,22 +325,44 @@ fn told(bed: &mut Bed, asked: &str, of: &str) -> Result<String, Memory>
     }
 }
 
-/// Plays a row.
-fn play(rt: &impl Abort, alloc: Global, row: &Row) -> Result<(), Memory> {
-    let store = store(alloc, row.fail, row.drop)?;
+/// The settings of a row.
+fn settings(alloc: Global, row: &Row) -> Result<String, AllocError> {
     let limit = row.limit;
-    let settings = row.settings;
-    let text = format!(in alloc;
-        "vo = \"demo\"\nworkers = 4\ndefault_max_active = {limit}\n{settings}"
-    )?;
-    let mut bed = Bed::new(alloc, text.as_str(), 4, store)?;
+    let storages = row.settings;
+    format!(in alloc; "vo = \"demo\"\nworkers = 4\ndefault_max_active = {limit}\n{storages}")
+}
+
+/// A bed with the settings and the job of a row.
+fn bed(alloc: Global, row: &Row) -> Result<Bed, Memory>
+    ensures { IfOk result (λ bed. IsReady bed.keep bed.bench) }
+{
+    let settings = settings(alloc, row)?;
+    let store = store(alloc, row.fail, row.drop)?;
+    let mut bed = Bed::new(alloc, settings.as_str(), 4, store)?;
     bed.submit(0, row.document)?;
+    Ok(bed)
+}
+
+/// Asks what a line asks, and compares.
+fn ask(rt: &impl Abort, bed: &mut Bed, case: &str, line: &str) -> Result<(), Memory>
+    requires { IsReady bed.old.keep bed.old.bench }
+    ensures { OnOk result (IsReady bed.new.keep bed.new.bench) }
+{
+    let Some((said, want)) = line.split_once(" = ") else {
+        return Err(Memory);
+    };
+    let (asked, of) = said.split_once(' ').unwrap_or((said, ""));
+    let answer = told(bed, asked, of)?;
+    assert!(rt; answer.as_str() == want, "{case}: {line}: {answer}");
+    Ok(())
+}
+
+/// Plays the script of a row.
+fn play(rt: &impl Abort, bed: &mut Bed, row: &Row) -> Result<(), Memory>
+    requires { IsReady bed.old.keep bed.old.bench }
+{
     for line in row.script.lines() {
-        if let Some((said, want)) = line.split_once(" = ") {
-            let (asked, of) = said.split_once(' ').unwrap_or((said, ""));
-            let answer = told(&mut bed, asked, of)?;
-            assert!(rt; answer.as_str() == want, "{}: {line}: {answer}", row.case);
-        }
+        ask(rt, bed, row.case, line)?;
     }
     Ok(())
 }
@@ -349,7 +371,8 @@ fn play(rt: &impl Abort, alloc: Global, row: &Row) -> Result<(), Memory> {
 fn rounds_do_what_an_operator_expects(rt: HostRuntime) -> Result<(), Fail> {
     let alloc = rt.alloc();
     for row in &ROWS {
-        play(&rt, alloc, row)?;
+        let mut bed = bed(alloc, row)?;
+        play(&rt, &mut bed, row)?;
     }
     Ok(())
 }
