@@ -6,6 +6,8 @@
 #![tactic(auto)]
 
 mod answers;
+#[cfg(test)]
+mod cases;
 mod changes;
 mod looks;
 mod named;
@@ -15,8 +17,6 @@ mod planned;
 mod queries;
 mod replies;
 mod routes;
-#[cfg(test)]
-mod test_rows;
 #[cfg(test)]
 mod tests;
 mod texts;

@@ -4,7 +4,7 @@ ghost use Rattle.std.specs.Prelude.{IfOk, IsTrue};
 ghost use Rattle.fts_record.specs.Proper.{has_priority};
 
 use crate::answer;
-use crate::test_rows::{CLAIMED, EMPTY, FAILING, FINISHED, FIRST, Row, SID, SUBMITTED};
+use crate::cases::{CLAIMED, EMPTY, FAILING, FINISHED, FIRST, Row, SID, SUBMITTED};
 use fts_disk::MemoryDisk;
 use fts_keep::Keep;
 use fts_record::read_entry;

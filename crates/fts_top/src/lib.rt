@@ -5,13 +5,13 @@
 //! Order of a run: words, settings, memory, the keep with its Restart, requests with a round behind each, last rounds, note.
 #![tactic(auto)]
 
+#[cfg(test)]
+mod cases;
 mod ends;
 mod notes;
 mod reading;
 mod session;
 mod tally;
-#[cfg(test)]
-mod test_rows;
 #[cfg(test)]
 mod tests;
 mod top;

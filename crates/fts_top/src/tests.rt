@@ -4,7 +4,7 @@
 //! Python's, by `uuid.uuid5` twice.
 ghost use Rattle.std.specs.Prelude.{◌≡◌, ◌≤◌, [], length, IfOk, IsSome};
 
-use crate::test_rows::ROWS;
+use crate::cases::ROWS;
 use crate::{Ending, Outside, run};
 use fts_disk::{Disk, MemoryDisk};
 use fts_store::{MemoryStore, Store, StoredFile};
