@@ -1,7 +1,9 @@
 -- Which stand a command line names, which of its words are the command's, and which status the process ends with.
-use Rattle.std.specs.Prelude.{ℕ, List, [], ◌∷◌, codes, string_bytes, String, Result, Ok, Err}
+use Rattle.std.specs.Prelude.{ℕ, List, [], ◌∷◌, codes, string_bytes, String, Option, Some, None, Result, Ok, Err}
 use Rattle.std.specs.declared.alloc.Global.{Global}
 use Rattle.fts_tables.specs.declared.names.Memory.{Memory}
+use Rattle.fts_words.specs.declared.asked.Asked.{Asked}
+use Rattle.fts_words.specs.declared.asked.Asked.TheVariants.{Session, Show, Load, Serve}
 use Rattle.fts_top.specs.declared.tally.Ending.{Ending}
 
 -- the stand in memory
@@ -19,6 +21,14 @@ abbrev pub words_of : List (String Global) → List (String Global)
 words_of [] = []
 words_of (program ∷ []) = []
 words_of (program ∷ stand ∷ words) = words
+
+-- what is asked for writes nothing: `show`, or nothing at all
+abbrev pub LooksAtMost : Option Asked → Type 0
+LooksAtMost None = Unit {0}
+LooksAtMost (Some Session) = ⊥
+LooksAtMost (Some Show) = Unit {0}
+LooksAtMost (Some (Load number)) = ⊥
+LooksAtMost (Some (Serve port lanes connections)) = ⊥
 
 -- the status of the process: that of its run, and 1 where there was no memory to begin one
 abbrev pub exit_status_of : Result Ending Memory → ℕ

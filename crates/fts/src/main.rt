@@ -1,26 +1,38 @@
 //! The program `fts STAND COMMAND`: it makes the real outside, calls `run`, and ends with its status.
-//! The stand `-` has its settings, its journal and its stores in memory. Any other one is a folder with `fts.toml`, `fts.journal`, which is made
-//! where it is absent and locked against other services, and `grid`, in which files are copied. Where a word is no UTF-8, `run` gets an empty list
+//! The stand `-` has its settings, its journal and its stores in memory. Any other one is a folder with `fts.toml`, `fts.journal`, which a service
+//! makes where it is absent and locks against other services, and `grid`, in which files are copied. For `show`, and for words that are no command,
+//! the journal is only looked at. Where a word is no UTF-8, `run` gets an empty list
 //! of words, which is no command, over the stand `-`.
 //! Which word is the stand stands in `specs/CommandLine.antt`.
 #![tactic(auto)]
 
-ghost use Rattle.std.specs.Prelude.{◌≡◌, length, IfOk};
-ghost use Rattle.fts.specs.CommandLine.{stand_of, words_of, exit_status_of};
+ghost use Rattle.std.specs.Prelude.{◌≡◌, length, map, string_bytes, IfOk};
+ghost use Rattle.fts_disk.specs.File.{IsReadOnly};
+ghost use Rattle.fts_words.specs.Words.{asked_in};
+ghost use Rattle.fts.specs.CommandLine.{stand_of, words_of, exit_status_of, LooksAtMost};
 
 mod outside;
+#[cfg(test)]
+mod sockets;
+mod tcp_doors;
+mod tcp_line;
 #[cfg(test)]
 mod tests;
 
 use fts_disk::{Disk, FileDisk, MemoryDisk};
 use fts_store::{FolderStore, MemoryStore, Store, StoredFile};
 use fts_tables::{Clock, EndpointName, Items, Memory, PathKey, Place};
-use fts_top::{Ending, Outside, run};
+use fts_top::{Doors, Ending, Lane, Outside, run};
 use fts_wire::{MemorySource, Source, StdSink, StdSource};
+use fts_words::{Asked, read_words};
 use fts_workers::Hand;
 use outside::{FileSource, PcgWords, SystemClock};
 use std::process::ExitCode;
+use std::sync::Wait;
+use std::thread::Threads;
 use std::{env, io};
+use tcp_doors::TcpDoors;
+use tcp_line::LineLimits;
 
 /// The settings of the stand `-`.
 const STAND_SETTINGS: &str =
@@ -28,6 +40,9 @@ const STAND_SETTINGS: &str =
 
 /// How many hands a run has.
 const HANDS: usize = 16;
+
+/// How many lanes a run has.
+const LANES: usize = 8;
 
 /// The words of the command line, with the program's name first; none where one of them is no UTF-8.
 fn command_line(rt: &HostRuntime) -> Result<Vec<String>, Memory> {
@@ -106,14 +121,66 @@ fn hands_over<'a, E: Store + Drop>(
     }
 }
 
-/// Runs the command over these settings, this disk and these hands, and the system's streams and clock.
-fn run_over<F: Source + Drop, D: Disk + Drop, E: Store + Drop>(
+/// Doors for each lane, which don't listen yet.
+fn closed_doors(rt: &HostRuntime) -> Result<Vec<TcpDoors<&HostRuntime>>, Memory> {
+    let mut doors = Vec::new(rt.alloc());
+    for _ in 0..LANES {
+        if doors
+            .push(TcpDoors::new(rt, LineLimits::of_service()))
+            .is_err()
+        {
+            return Err(Memory);
+        }
+    }
+    Ok(doors)
+}
+
+/// A lane with the system's clock.
+type RealLane<'a, A> = Lane<A, SystemClock<&'a HostRuntime>>;
+
+/// The lanes at these doors, each with the system's clock.
+fn lanes_over<'a, A: Doors + Drop>(
+    rt: &'a HostRuntime,
+    doors: Vec<A>,
+) -> Result<Vec<RealLane<'a, A>>, Memory>
+    ensures { IfOk result (λ lanes. length lanes.items ≡ 8) }
+{
+    let mut lanes = Vec::new(rt.alloc());
+    for doors in doors {
+        let lane = Lane {
+            doors,
+            clock: SystemClock::new(rt),
+        };
+        if lanes.push(lane).is_err() {
+            return Err(Memory);
+        }
+    }
+    if lanes.len() == LANES {
+        Ok(lanes)
+    } else {
+        Err(Memory)
+    }
+}
+
+/// Runs the command over these settings, this disk and these hands, the system's streams and clock, and the ports of the machine.
+fn run_over<
+    F: Source + Drop,
+    D: Disk + Send + Drop,
+    E: Store + Send + Drop,
+    A: Doors + Send + Drop,
+    R: Threads + Wait + Sync,
+>(
     rt: &HostRuntime,
+    threads: &R,
     words: &[String],
     settings: F,
     disk: D,
     stores: Vec<E>,
-) -> Result<Ending, Memory> {
+    doors: Vec<A>,
+) -> Result<Ending, Memory>
+where
+    A::Line: Send,
+{
     let mut outside = Outside {
         settings,
         input: StdSource::new(rt.stdin()),
@@ -122,8 +189,9 @@ fn run_over<F: Source + Drop, D: Disk + Drop, E: Store + Drop>(
         disk: Some(disk),
         clock: SystemClock::new(rt),
         hands: hands_over(rt, stores)?,
+        lanes: lanes_over(rt, doors)?,
     };
-    Ok(run(rt.alloc(), words, &mut outside))
+    Ok(run(threads, rt.alloc(), words, &mut outside))
 }
 
 /// A store in memory that holds `abc` at `https://a.example/data/f1`.
@@ -146,7 +214,11 @@ fn stand_store(rt: &HostRuntime) -> Result<MemoryStore, Memory> {
 }
 
 /// Runs the command in memory, with the stand's settings.
-fn run_in_memory(rt: &HostRuntime, words: &[String]) -> Result<Ending, Memory> {
+fn run_in_memory<R: Threads + Wait + Sync>(
+    rt: &HostRuntime,
+    threads: &R,
+    words: &[String],
+) -> Result<Ending, Memory> {
     let alloc = rt.alloc();
     let text = Vec::from_slice(alloc, STAND_SETTINGS.as_bytes())?;
     let settings = MemorySource::new(text, Vec::new(alloc));
@@ -157,11 +229,24 @@ fn run_in_memory(rt: &HostRuntime, words: &[String]) -> Result<Ending, Memory> {
             return Err(Memory);
         }
     }
-    run_over(rt, words, settings, disk, stores)
+    run_over(
+        rt,
+        threads,
+        words,
+        settings,
+        disk,
+        stores,
+        closed_doors(rt)?,
+    )
 }
 
 /// Runs the command in a folder.
-fn run_in_folder(rt: &HostRuntime, folder: &str, words: &[String]) -> Result<Ending, Memory> {
+fn run_in_folder<R: Threads + Wait + Sync>(
+    rt: &HostRuntime,
+    threads: &R,
+    folder: &str,
+    words: &[String],
+) -> Result<Ending, Memory> {
     let alloc = rt.alloc();
     let settings = format!(in alloc; "{folder}/fts.toml")?;
     let journal = format!(in alloc; "{folder}/fts.journal")?;
@@ -173,20 +258,39 @@ fn run_in_folder(rt: &HostRuntime, folder: &str, words: &[String]) -> Result<End
         }
     }
     let settings = FileSource::open(rt, settings.as_str());
-    let disk = FileDisk::open(rt, journal.as_str());
-    run_over(rt, words, settings, disk, stores)
+    let disk = disk_for(rt, words, journal.as_str());
+    run_over(
+        rt,
+        threads,
+        words,
+        settings,
+        disk,
+        stores,
+        closed_doors(rt)?,
+    )
+}
+
+/// The journal's file, opened for what the words ask for: made and locked for a service, and only looked at for `show` and for words that are no
+/// command, which leave a folder as it is.
+fn disk_for(rt: &HostRuntime, words: &[String], path: &str) -> FileDisk
+    ensures { LooksAtMost (asked_in (map string_bytes words.now)) → IsReadOnly result }
+{
+    match read_words(words) {
+        Some(Asked::Session | Asked::Load { .. } | Asked::Serve { .. }) => FileDisk::open(rt, path),
+        Some(Asked::Show) | None => FileDisk::view(rt, path),
+    }
 }
 
 /// Makes the outside of the stand that the command line names, and runs the command in it.
-fn run_stand(rt: &HostRuntime) -> Result<Ending, Memory> {
+fn run_stand<R: Threads + Wait + Sync>(rt: &HostRuntime, threads: &R) -> Result<Ending, Memory> {
     let line = command_line(rt)?;
     let words = command_words(line.as_slice());
     match stand(line.as_slice()) {
-        "-" => run_in_memory(rt, words),
-        folder => run_in_folder(rt, folder, words),
+        "-" => run_in_memory(rt, threads, words),
+        folder => run_in_folder(rt, threads, folder, words),
     }
 }
 
 fn main(rt: HostRuntime) -> ExitCode {
-    ExitCode::from(exit_status(run_stand(&rt)))
+    ExitCode::from(exit_status(run_stand(&rt, &rt)))
 }

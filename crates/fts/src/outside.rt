@@ -96,6 +96,7 @@ impl FileSource {
 
 impl Source for FileSource {
     ghost use Rattle.std.specs.Prelude.{None};
+    ghost use Rattle.fts_wire.specs.Outside.{nothing_beside};
 
     ghost left = { λ _. None };
 
@@ -103,7 +104,7 @@ impl Source for FileSource {
 
     ghost reads = { λ s. s.reads };
 
-    ghost beside = { λ _. record { bytes = None; faults = 0 } };
+    ghost beside = { λ _. nothing_beside };
 
     fn read(&mut self, into: &mut [u8]) -> Result<usize, SourceFailed>
         ensures bound { IfOk result (λ n. n ≤ length into.new) }

@@ -4,8 +4,14 @@ use crate::outside::SystemClock;
 use crate::{STAND_SETTINGS, run_in_folder};
 use fts_disk::FileDisk;
 use fts_tables::Clock;
-use std::fs;
+use std::io::{Read, Write};
+use std::net::{Ipv4Addr, TcpStream};
 use std::test::Fail;
+use std::time::Duration;
+use std::{fs, io, thread};
+
+/// The port of the service that a test runs.
+const PORT: u16 = 18_423;
 
 #[test]
 fn the_clock_of_the_system_gives_seconds_since_1970(rt: HostRuntime) -> Result<(), Fail> {
@@ -28,11 +34,11 @@ fn a_folder_is_served_by_one_service_at_a_time(rt: HostRuntime) -> Result<(), Fa
         let _old = fs::remove_file(&rt, old);
     }
     let words = [String::from_str(rt.alloc(), "session")?];
-    let without = run_in_folder(&rt, ".", &words)?;
+    let without = run_in_folder(&rt, &rt, ".", &words)?;
     assert_eq!(rt; without.status, 8, "there is no fts.toml");
     fs::write(&rt, settings, STAND_SETTINGS.as_bytes())?;
     for (case, gates) in [("a new journal", [1, 0]), ("the same again", [1, 1])] {
-        let ending = run_in_folder(&rt, ".", &words)?;
+        let ending = run_in_folder(&rt, &rt, ".", &words)?;
         assert_eq!(rt; ending.status, 0, "{case}");
         let journal = fs::read(&rt, path)?;
         let found = [journal.get(8).copied(), journal.get(79).copied()];
@@ -40,13 +46,78 @@ fn a_folder_is_served_by_one_service_at_a_time(rt: HostRuntime) -> Result<(), Fa
     }
     let before = fs::read(&rt, path)?;
     let held = FileDisk::open(&rt, path);
-    let second = run_in_folder(&rt, ".", &words)?;
+    let second = run_in_folder(&rt, &rt, ".", &words)?;
     assert_eq!(rt; second.status, 4, "another service holds it");
     assert_eq!(rt; fs::read(&rt, path)?, before);
     drop(held);
-    assert_eq!(rt; run_in_folder(&rt, ".", &words)?.status, 0, "and it let go");
+    assert_eq!(rt;
+        run_in_folder(&rt, &rt, ".", &words)?.status,
+        0,
+        "and it let go"
+    );
     for file in [settings, path] {
         fs::remove_file(&rt, file)?;
     }
+    Ok(())
+}
+
+/// A client of a service that is starting.
+fn connect_soon(rt: &HostRuntime, port: u16) -> io::Result<TcpStream> {
+    for _ in 0..500 {
+        if let Ok(client) = TcpStream::connect(rt, (Ipv4Addr::LOCALHOST, port)) {
+            return Ok(client);
+        }
+        thread::sleep(rt, Duration::from_millis(10));
+    }
+    Err(io::Error::from(io::ErrorKind::TimedOut))
+}
+
+/// Sends a request, and says whether its response holds a word. A short response comes in one piece.
+fn is_told(client: &mut TcpStream, request: &str, word: &[u8]) -> io::Result<bool> {
+    client.write_all(request.as_bytes())?;
+    let mut piece = [0; 4_096];
+    let n = client.read(&mut piece)?;
+    Ok(
+        piece[..n]
+            .windows(word.len().max(1))
+            .any(|part| part == word),
+    )
+}
+
+/// Submits a file, and looks at its job until it is copied; whether it was, after so many looks at most.
+fn is_copied(rt: &HostRuntime, port: u16) -> io::Result<bool> {
+    let mut client = connect_soon(rt, port)?;
+    let mut request =
+        "POST /jobs HTTP/1.1\r\nContent-Length: 93\r\n\r\n{\"files\":[{\"sources\":[\"https://a.example/data/f1\"],\"destinations\":[\"https://b.example/f1\"]}]}";
+    for _ in 0..500 {
+        if is_told(&mut client, request, b"FINISHED")? {
+            return Ok(true);
+        }
+        request = "GET /jobs/00000000-0000-4000-8000-000000000001 HTTP/1.1\r\n\r\n";
+        thread::sleep(rt, Duration::from_millis(10));
+    }
+    Ok(false)
+}
+
+#[test]
+fn a_service_copies_what_a_client_submits(rt: HostRuntime) -> Result<(), Fail> {
+    let (folder, source) = ("./served", "./served/grid/https:,,a.example/data");
+    let _old = fs::remove_dir_all(&rt, folder);
+    fs::create_dir_all(&rt, source)?;
+    fs::write(&rt, "./served/grid/https:,,a.example/data/f1", b"abc")?;
+    fs::write(&rt, "./served/fts.toml", STAND_SETTINGS.as_bytes())?;
+    let mut words = Vec::new(rt.alloc());
+    for word in ["serve", "--port", "18423", "--lanes=1", "--connections=1"] {
+        words.push(String::from_str(rt.alloc(), word)?)?;
+    }
+    let (ended, copied) = thread::join(
+        &rt,
+        || run_in_folder(&rt, &rt, folder, words.as_slice()),
+        || is_copied(&rt, PORT),
+    );
+    assert_eq!(rt; ended?.status, 0);
+    assert_eq!(rt; copied?, true, "the client is told");
+    let copy = fs::read(&rt, "./served/grid/https:,,b.example/f1")?;
+    assert_eq!(rt; copy.as_slice(), b"abc".as_slice());
     Ok(())
 }

@@ -20,5 +20,6 @@ mod watch;
 mod writing;
 
 pub use copy::copy_verified;
+pub use order::Loaded;
 pub use room::CopyRoom;
 pub use watch::{CountingWatch, Watch};

@@ -52,4 +52,11 @@ impl CopyRoom {
     {
         self.order = Some(Loaded::of(row, overwrite));
     }
+
+    /// Takes an order that was loaded elsewhere.
+    pub fn take(&mut self, order: Loaded)
+        ensures { self.new ≡ Some order }
+    {
+        self.order = Some(order);
+    }
 }

@@ -15,3 +15,8 @@ mod Released
 mod Reported
 mod RunningRows
 mod Sound
+mod JobIds
+mod Loaded
+mod RowLinks
+mod KnownLinks
+mod CancelledRows

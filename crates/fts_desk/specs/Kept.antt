@@ -1,10 +1,12 @@
 -- The lists behind a desk's tables: which tables they are, their limits, and the room in them.
-use Rattle.std.specs.Prelude.{◌≡◌, ℕ, ◌+◌, ◌<◌, ◌≤◌, length, vec_capacity, Result, Ok, Err}
+use Rattle.std.specs.Prelude.{◌≡◌, ℕ, ◌+◌, ◌<◌, ◌≤◌, true, List, length, map, vec_capacity, Result, Ok, Err}
 use Rattle.fts_tables.specs.Tables.{Tables}
 use Rattle.fts_tables.specs.declared.limits.TheConstants.{MAX_JOBS, MAX_ROWS}
 use Rattle.fts_tables.specs.declared.commands.Command.{Command}
 use Rattle.fts_tables.specs.declared.commands.Command.TheVariants.{Restart, Submit, CancelJob, CancelFile, SetPriority, Claim, Report}
 use Rattle.fts_tables.specs.declared.commands.Refusal.TheVariants.{JobsFull, RowsFull}
+use Rattle.fts_desk.specs.Loaded.{are_known, link_of_file}
+use Rattle.fts_tables.specs.declared.rows.NewFile.{NewFile}
 use Rattle.fts_desk.specs.declared.kept.Kept.{Kept}
 use Rattle.fts_desk.specs.declared.desk.DeskFault.{DeskFault}
 use Rattle.fts_desk.specs.declared.desk.DeskFault.TheVariants.{Rule, Memory}
@@ -22,13 +24,19 @@ pub record IsWithinLimits (kept : Kept) : Type 0 where
 pub record HasRoomFor (kept : Kept) (count : ℕ) : Type 0 where
   pub job : length kept.jobs.items + 1 ≤ vec_capacity kept.jobs
   pub files : length kept.rows.items + count ≤ vec_capacity kept.rows
+  pub id : length kept.ids.ids < kept.ids.room
   pub job_limit : length kept.jobs.items < MAX_JOBS
   pub row_limit : length kept.rows.items + count ≤ MAX_ROWS
+
+-- room for one job more of these files, and for the link of each among the loads
+pub record HasRoomForFiles (kept : Kept) (files : List NewFile) : Type 0 where
+  pub count : HasRoomFor kept (length files)
+  pub links : are_known kept.loads (map link_of_file files) ≡ true
 
 -- room for what a command adds
 abbrev pub HasRoom : Kept → Command → Type 0
 HasRoom kept (Restart now settings) = Unit {0}
-HasRoom kept (Submit now job) = HasRoomFor kept (length job.files)
+HasRoom kept (Submit now job) = HasRoomForFiles kept job.files
 HasRoom kept (CancelJob now job) = Unit {0}
 HasRoom kept (CancelFile now job file) = Unit {0}
 HasRoom kept (SetPriority now job priority) = Unit {0}

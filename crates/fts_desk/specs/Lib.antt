@@ -4,6 +4,7 @@ pub mod Claims
 pub mod Desk
 pub mod DeskData
 pub mod Kept
+pub mod Loaded
 pub mod Places
 pub mod Prepared
 pub mod Reports

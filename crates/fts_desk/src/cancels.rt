@@ -1,20 +1,24 @@
 //! Cancellations: of a job, and of one of its files. A file of a replica or multihop job is cancelled with the whole job.
 //! A row that waits becomes CANCELED; an ACTIVE one keeps its state, and so its slot, until its report. What changes no row is refused.
 //! Each check answers as the machine's step does, and each step after an accepted check is the machine's.
-ghost use Rattle.std.specs.Prelude.{◌≡◌, ℕ, ◌==◌, map, option_map, Ok, Err, if◌then◌else◌};
+ghost use Rattle.std.specs.Prelude.{◌≡◌, ℕ, ◌==◌, ◌<◌, length, map, Some, Ok, Err, if◌then◌else◌};
 ghost use Rattle.std.specs.List.{list_any};
-ghost use Rattle.fts_tables.specs.Tables.{Tables, AreNumberedFrom, AreWellFormed, job_at, is_live};
+ghost use Rattle.fts_tables.specs.Tables.{Tables, AreNumberedFrom, AreWellFormed, is_live};
 ghost use Rattle.fts_tables.specs.Moves.{cancelled, is_cancellable, is_settled_job, change_row};
 ghost use Rattle.fts_tables.specs.Step.{step, cancel_rows, cancel_row, cancel_one};
 ghost use Rattle.fts_desk.specs.Cancels.{cancelled_of, after_file, IsInside};
 ghost use Rattle.fts_tables.specs.History.{IsAccepted};
 ghost use Rattle.fts_tables.specs.declared.commands.Command.TheVariants.{CancelJob, CancelFile};
+ghost use Rattle.fts_desk.specs.Loaded.{AreLoadsOf};
+ghost use Rattle.fts_desk.specs.Places.{change_at};
 ghost use Rattle.fts_desk.specs.Kept.{tables_kept};
 ghost use Rattle.fts_desk.specs.Standing.{StandTogether};
 ghost use Rattle.fts_desk.specs.Prepared.{IsChecked};
 
 use crate::kept::Kept;
-use crate::lookups::{find_job, find_row, rows_of_job, rows_stand_together};
+use crate::loads::recount;
+use crate::lookups::{find_job, find_row, job_place, rows_of_job, rows_stand_together};
+use fts_index::Loads;
 use fts_states::{CancelStep, after_cancel};
 use fts_tables::laws::found_rows_stand;
 use fts_tables::{Answer, FileRow, FileState, JobKind, JobRow, Reason, Refusal};
@@ -118,11 +122,19 @@ fn any_live(rows: &[FileRow]) -> bool
 
 /// Cancels a job.
 pub fn cancel_job(kept: &mut Kept, now: u64, job: u32) -> Answer
+    requires formed { AreWellFormed (tables_kept kept.old) }
     requires accepted { IsAccepted (step (tables_kept kept.old) (CancelJob now job)) }
     ensures step { step (tables_kept kept.old) (CancelJob now job) ≡ Ok (tables_kept kept.new, result) }
 {
+    rows_stand_together();
     kept.moment = now.max(kept.moment);
-    cancel_all_of(&mut kept.rows, job);
+    match job_place(&kept.jobs, job) {
+        Some(place) => {
+            let found = kept.jobs[place];
+            cancel_all_of(&mut kept.rows, &found, &mut kept.loads);
+        }
+        None => unreachable!(),
+    }
     Answer::Cancelled { job }
 }
 
@@ -132,54 +144,74 @@ pub fn cancel_file(kept: &mut Kept, now: u64, job: u32, file: u32) -> Answer
     requires accepted { IsAccepted (step (tables_kept kept.old) (CancelFile now job file)) }
     ensures step { step (tables_kept kept.old) (CancelFile now job file) ≡ Ok (tables_kept kept.new, result) }
 {
+    rows_stand_together();
     found_rows_stand();
     kept.moment = now.max(kept.moment);
-    let kind = kind_of(&kept.jobs, job);
-    cancel_by_kind(&mut kept.rows, kind, job, file);
+    match job_place(&kept.jobs, job) {
+        Some(place) => {
+            let found = kept.jobs[place];
+            cancel_by_kind(&mut kept.rows, &found, file, &mut kept.loads);
+        }
+        None => unreachable!(),
+    }
     Answer::Cancelled { job }
 }
 
-/// The kind of the job of a number, where there is one.
-fn kind_of(jobs: &[JobRow], number: u32) -> Option<JobKind>
-    requires numbered { AreNumberedFrom (λ job. job.number) 1 jobs.now }
-    ensures kind { result ≡ option_map (λ job. job.kind) (job_at jobs.now number) }
-{
-    match find_job(jobs, number) {
-        Some(job) => Some(job.kind),
-        None => None,
-    }
-}
-
 /// Cancels a file's row, or all rows of its job, by the job's kind.
-fn cancel_by_kind(rows: &mut [FileRow], kind: Option<JobKind>, job: u32, file: u32)
+fn cancel_by_kind(rows: &mut [FileRow], job: &JobRow, file: u32, loads: &mut Loads)
+    requires loaded { AreLoadsOf rows.old loads.old }
+    requires together { StandTogether rows.old job.now }
     requires inside { IsInside rows.old file }
-    ensures rows { rows.new ≡ after_file kind job file rows.old }
+    ensures rows { rows.new ≡ after_file (Some job.now.kind) job.now.number file rows.old }
+    ensures loaded { AreLoadsOf rows.new loads.new }
 {
-    match kind {
-        Some(JobKind::Plain) => cancel_at(rows, file),
-        Some(JobKind::Replica) | Some(JobKind::Multihop) | None => cancel_all_of(rows, job),
+    match job.kind {
+        JobKind::Plain => cancel_at(rows, file, loads),
+        JobKind::Replica | JobKind::Multihop => cancel_all_of(rows, job, loads),
     }
 }
 
 /// Cancels the row of an id.
-fn cancel_at(rows: &mut [FileRow], file: u32)
+fn cancel_at(rows: &mut [FileRow], file: u32, loads: &mut Loads)
+    requires loaded { AreLoadsOf rows.old loads.old }
     requires inside { IsInside rows.old file }
     ensures rows { rows.new ≡ change_row file cancelled rows.old }
+    ensures loaded { AreLoadsOf rows.new loads.new }
 {
-    cancel(&mut rows[file as usize - 1]);
+    let place = file as usize - 1;
+    let was_live = rows[place].state.is_live();
+    cancel(&mut rows[place]);
+    recount(loads, was_live, &rows[place]);
 }
 
-/// Cancels each row of a job.
-fn cancel_all_of(rows: &mut [FileRow], job: u32)
-    ensures rows { rows.new ≡ map (cancelled_of job) rows.old }
+/// Cancels each row of a job, and looks at no other.
+fn cancel_all_of(rows: &mut [FileRow], job: &JobRow, loads: &mut Loads)
+    requires loaded { AreLoadsOf rows.old loads.old }
+    requires numbered { AreNumberedFrom (λ row. row.id) 1 rows.old }
+    requires together { StandTogether rows.old job.now }
+    ensures rows { rows.new ≡ map (cancelled_of job.now.number) rows.old }
+    ensures loaded { AreLoadsOf rows.new loads.new }
 {
-    for row in rows.iter_mut() {
-        cancel_if_of(row, job);
+    let from = job.first as usize - 1;
+    for place in from..from + job.count as usize {
+        cancel_if_of(rows, place, job.number, loads);
     }
 }
 
+/// Cancels the row at a place where it is of a job.
+fn cancel_if_of(rows: &mut [FileRow], place: usize, job: u32, loads: &mut Loads)
+    requires loaded { AreLoadsOf rows.old loads.old }
+    requires inside { place < length rows.old }
+    ensures rows { rows.new ≡ change_at place (cancelled_of job) rows.old }
+    ensures loaded { AreLoadsOf rows.new loads.new }
+{
+    let was_live = rows[place].state.is_live();
+    cancel_of(&mut rows[place], job);
+    recount(loads, was_live, &rows[place]);
+}
+
 /// Cancels a row where it is of a job.
-fn cancel_if_of(row: &mut FileRow, job: u32)
+fn cancel_of(row: &mut FileRow, job: u32)
     ensures row { row.new ≡ cancelled_of job row.old }
 {
     if row.job == job {

@@ -26,6 +26,7 @@ ghost use Rattle.fts_desk.specs.Prepared.{IsPrepared};
 use crate::DeskFault;
 use crate::claim_view::{ClaimView, running_rows};
 use crate::kept::Kept;
+use crate::loads::recount;
 use crate::search::pick_row;
 use fts_tables::laws::picked_rows_stand;
 use fts_tables::{Answer, FileRow, FileState, Memory, Refusal};
@@ -83,5 +84,8 @@ pub fn claim(kept: &mut Kept, now: u64, place: usize) -> Answer
         → step (tables_kept kept.old) (Claim now word) ≡ Ok (tables_kept kept.new, result) }
 {
     kept.moment = now.max(kept.moment);
-    claim_row(&mut kept.rows[place])
+    let was_live = kept.rows[place].state.is_live();
+    let answer = claim_row(&mut kept.rows[place]);
+    recount(&mut kept.loads, was_live, &kept.rows[place]);
+    answer
 }

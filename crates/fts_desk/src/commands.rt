@@ -2,11 +2,11 @@
 //! `decide` leaves the tables as they are. What it decides, the place of the row that a claim takes, holds while they stay so.
 //! Called by the desk alone, which keeps the decided command between the two.
 ghost use Rattle.std.specs.Prelude.{◌≡◌, ℕ, Ok, IfOk, length};
-ghost use Rattle.fts_tables.specs.Tables.{AreWellFormed};
+ghost use Rattle.fts_tables.specs.Tables.{AreNumberedFrom, AreWellFormed};
 ghost use Rattle.fts_tables.specs.Step.{Outcomes, step};
 ghost use Rattle.fts_tables.specs.History.{IsAccepted};
 ghost use Rattle.fts_tables.specs.declared.commands.Command.TheVariants.{Submit};
-ghost use Rattle.fts_desk.specs.Kept.{tables_kept, IsWithinLimits, HasRoomFor};
+ghost use Rattle.fts_desk.specs.Kept.{tables_kept, IsWithinLimits, HasRoomForFiles};
 ghost use Rattle.fts_desk.specs.Bounds.{IsFileCount};
 ghost use Rattle.fts_desk.specs.Desk.{IsPlanned, IsSoundEnough};
 ghost use Rattle.fts_desk.specs.Prepared.{IsPrepared, IsChecked};
@@ -49,10 +49,11 @@ fn ruled(checked: Result<(), Refusal>) -> Result<usize, DeskFault>
 
 /// Makes room for a new job, whose type says how many files it may have.
 fn make_room(kept: &mut Kept, job: &NewJob) -> Result<usize, DeskFault>
+    requires numbered { AreNumberedFrom (λ job. job.number) 1 kept.old.jobs.items }
     requires limits { IsWithinLimits kept.old }
     ensures tables { tables_kept kept.new ≡ tables_kept kept.old }
     ensures answer { (now : ℕ) → IsPrepared (step (tables_kept kept.old) (Submit now job.now)) result }
-    ensures room { IfOk result (λ place. HasRoomFor kept.new (length job.now.files)) }
+    ensures room { IfOk result (λ place. HasRoomForFiles kept.new job.now.files) }
     ensures files { IfOk result (λ place. IsFileCount (length job.now.files)) }
 {
     let _priority = job.priority;

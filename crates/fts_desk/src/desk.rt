@@ -16,6 +16,7 @@ use crate::bounds::steps_keep_bounds;
 use crate::commands::{decide, make_step};
 use crate::find::number_of_id;
 use crate::kept::Kept;
+use fts_index::{JobIds, Loads};
 use fts_tables::laws::steps_keep_standing;
 use fts_tables::{Answer, Command, FileRow, JobRow, JobState, LinkAt, Memory, Refusal, Settings};
 use std::alloc::Global;
@@ -72,6 +73,8 @@ impl Desk {
                 rows: Vec::new(alloc),
                 moment: 0,
                 settings: None,
+                ids: JobIds::new(alloc),
+                loads: Loads::new(alloc),
             },
             commands: 0,
             planned: None,
@@ -148,7 +151,7 @@ impl Desk {
     pub fn find(&self, id: u128) -> Option<u32>
         ensures { result ≡ number_of_id self.now.tables.jobs id }
     {
-        number_of_id(&self.kept.jobs, id)
+        number_of_id(&self.kept, id)
     }
 
     /// The rows of the job of a number, in order of id. There is none exactly where there is no such job.

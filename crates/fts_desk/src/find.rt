@@ -1,12 +1,15 @@
 //! Jobs by their ids.
 ghost use Rattle.std.specs.Prelude.{◌≡◌};
-ghost use Rattle.fts_tables.specs.Tables.{number_of_id};
+ghost use Rattle.fts_tables.specs.Tables.{AreNumberedFrom, number_of_id};
 
-use fts_tables::JobRow;
+use crate::kept::Kept;
+use fts_index::laws::numbers_in_ids_are_the_jobs;
 
 /// The least number of a job with this id.
-pub fn number_of_id(jobs: &[JobRow], id: u128) -> Option<u32>
-    ensures { result ≡ number_of_id jobs.now id }
+pub fn number_of_id(kept: &Kept, id: u128) -> Option<u32>
+    requires numbered { AreNumberedFrom (λ job. job.number) 1 kept.now.jobs.items }
+    ensures number { result ≡ number_of_id kept.now.jobs.items id }
 {
-    jobs.iter().find(|job| job.id == id).map(|job| job.number)
+    numbers_in_ids_are_the_jobs();
+    kept.ids.find(id)
 }

@@ -14,6 +14,7 @@ mod commands;
 mod desk;
 mod find;
 mod kept;
+mod loads;
 mod lookups;
 mod order;
 mod priority;

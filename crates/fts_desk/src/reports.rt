@@ -1,6 +1,6 @@
 //! Report: the row of a copy that ended, and the row of its job that begins to wait behind it.
 //! What becomes of the row, and which kind of row follows, `after_report` says; behind a finished hop comes the row after it,
-//! after a failed replica the next alternative, with loads over all rows as the report leaves them.
+//! after a failed replica the next alternative, with loads over all rows as the report leaves them, which are kept beside the rows.
 //! Order: the row is written first, then the one that follows is woken.
 ghost use Rattle.std.specs.Prelude.{
   ◌≡◌,
@@ -40,16 +40,19 @@ ghost use Rattle.fts_tables.specs.declared.rows.JobRow.{JobRow};
 ghost use Rattle.fts_tables.specs.declared.rows.Outcome.{Outcome};
 ghost use Rattle.fts_tables.specs.declared.rows.JobKind.TheVariants.{Multihop, Replica};
 ghost use Rattle.fts_states.specs.Afters.{with_follow};
+ghost use Rattle.fts_desk.specs.Loaded.{AreLoadsOf};
 ghost use Rattle.fts_desk.specs.Kept.{tables_kept, IsWithinLimits};
 ghost use Rattle.fts_desk.specs.Prepared.{IsChecked};
 ghost use Rattle.fts_desk.specs.Reports.{HaveFewFiles};
 ghost use Rattle.fts_desk.specs.Standing.{StandTogether};
 
 use crate::kept::Kept;
+use crate::loads::recount;
 use crate::lookups::{job_place, row_place, rows_of_job, rows_stand_together};
 use crate::sources::next_source;
-use crate::waking::wake_at;
+use crate::waking::wake_counted;
 use fts_choice::next_hop;
+use fts_index::Loads;
 use fts_states::{After, Follow, after_report};
 use fts_tables::{Answer, FileRow, JobRow, Outcome, Refusal};
 
@@ -109,7 +112,14 @@ pub fn report(kept: &mut Kept, now: u64, file: u32, attempt: u32, outcome: Outco
         Some(place) => match job_place(&kept.jobs, kept.rows[place].job) {
             Some(number) => {
                 let job = kept.jobs[number];
-                report_at(&mut kept.rows, place, &job, kept.moment, &outcome)
+                report_at(
+                    &mut kept.rows,
+                    place,
+                    &job,
+                    kept.moment,
+                    &outcome,
+                    &mut kept.loads,
+                )
             }
             None => unreachable!(),
         },
@@ -124,7 +134,9 @@ fn report_at(
     job: &JobRow,
     now: u64,
     outcome: &Outcome,
+    loads: &mut Loads,
 ) -> Answer
+    requires loaded { AreLoadsOf rows.old loads.old }
     requires numbered { AreNumberedFrom (λ row. row.id) 1 rows.old }
     requires together { StandTogether rows.old job.now }
     requires limits { (length rows.old ≤ MAX_ROWS) × (job.now.count ≤ MAX_FILES) }
@@ -134,10 +146,13 @@ fn report_at(
     ensures rows { (row : FileRow) → slice_get rows.old place ≡ Some row
         → rows.new ≡ followed job.now (reported job.now now outcome.now row) (change_row row.id (reported job.now now outcome.now) rows.old) }
     ensures answer { (row : FileRow) → slice_get rows.old place ≡ Some row → result ≡ Reported row.id (reported job.now now outcome.now row).state }
+    ensures loaded { AreLoadsOf rows.new loads.new }
 {
     let file = rows[place].id;
+    let was_live = rows[place].state.is_live();
     let after = report_row(&mut rows[place], job, now, outcome);
-    follow(rows, place, job, after.follow);
+    recount(loads, was_live, &rows[place]);
+    follow(rows, place, job, after.follow, loads);
     Answer::Reported {
         file,
         state: after.state,
@@ -162,43 +177,49 @@ fn report_row(row: &mut FileRow, job: &JobRow, now: u64, outcome: &Outcome) -> A
 }
 
 /// Wakes the row that follows that at a place, where there is one.
-fn follow(rows: &mut [FileRow], place: usize, job: &JobRow, follow: Follow)
+fn follow(rows: &mut [FileRow], place: usize, job: &JobRow, follow: Follow, loads: &mut Loads)
+    requires loaded { AreLoadsOf rows.old loads.old }
     requires numbered { AreNumberedFrom (λ row. row.id) 1 rows.old }
     requires together { StandTogether rows.old job.now }
     requires limits { (length rows.old ≤ MAX_ROWS) × (job.now.count ≤ MAX_FILES) }
     requires owned { (job.now.first - 1 ≤ place) × (place < job.now.first - 1 + job.now.count) }
     ensures rows { (row : FileRow) → row.id ≡ place + 1 → rows.new ≡ with_follow follow job.now row rows.old }
+    ensures loaded { AreLoadsOf rows.new loads.new }
 {
     match follow {
         Follow::Nothing => {}
-        Follow::NextHop => wake_hop(rows, place, job),
-        Follow::NextAlternative => wake_alternative(rows, job),
+        Follow::NextHop => wake_hop(rows, place, job, loads),
+        Follow::NextAlternative => wake_alternative(rows, job, loads),
     }
 }
 
 /// Wakes the hop behind that at a place, where there is one.
-fn wake_hop(rows: &mut [FileRow], place: usize, job: &JobRow)
+fn wake_hop(rows: &mut [FileRow], place: usize, job: &JobRow, loads: &mut Loads)
+    requires loaded { AreLoadsOf rows.old loads.old }
     requires numbered { AreNumberedFrom (λ row. row.id) 1 rows.old }
     requires together { StandTogether rows.old job.now }
     requires owned { (job.now.first - 1 ≤ place) × (place < job.now.first - 1 + job.now.count) }
     ensures rows { (row : FileRow) → row.id ≡ place + 1 → rows.new ≡ followed_finish Multihop job.now row rows.old }
+    ensures loaded { AreLoadsOf rows.new loads.new }
 {
     let first = job.first as usize - 1;
     match next_hop(rows_of_job(rows, job), place - first) {
-        Some(next) => wake_at(rows, first + next),
+        Some(next) => wake_counted(rows, first + next, loads),
         None => {}
     }
 }
 
 /// Wakes the next alternative of a replica job, where there is one.
-fn wake_alternative(rows: &mut [FileRow], job: &JobRow)
+fn wake_alternative(rows: &mut [FileRow], job: &JobRow, loads: &mut Loads)
+    requires loaded { AreLoadsOf rows.old loads.old }
     requires numbered { AreNumberedFrom (λ row. row.id) 1 rows.old }
     requires together { StandTogether rows.old job.now }
     requires limits { (length rows.old ≤ MAX_ROWS) × (job.now.count ≤ MAX_FILES) }
     ensures rows { rows.new ≡ followed_failure Replica job.now rows.old }
+    ensures loaded { AreLoadsOf rows.new loads.new }
 {
-    match next_source(rows, rows_of_job(rows, job), job.strategy) {
-        Some(place) => wake_at(rows, job.first as usize - 1 + place),
+    match next_source(rows_of_job(rows, job), job.strategy, loads) {
+        Some(place) => wake_counted(rows, job.first as usize - 1 + place, loads),
         None => {}
     }
 }

@@ -4,9 +4,12 @@ ghost use Rattle.fts_tables.specs.Tables.{is_active};
 ghost use Rattle.fts_tables.specs.Step.{step, released};
 ghost use Rattle.fts_tables.specs.declared.commands.Command.TheVariants.{Restart};
 ghost use Rattle.fts_tables.specs.declared.limits.TheConstants.{MAX_ROWS};
+ghost use Rattle.fts_desk.specs.Loaded.{AreLoadsOf};
 ghost use Rattle.fts_desk.specs.Kept.{tables_kept};
 
 use crate::kept::Kept;
+use crate::loads::recount;
+use fts_index::Loads;
 use fts_states::after_restart;
 use fts_tables::{Answer, FileRow, Reason, Settings};
 
@@ -17,23 +20,26 @@ pub fn restart(kept: &mut Kept, now: u64, settings: Settings) -> Answer
     ensures jobs { kept.new.jobs.items ≡ kept.old.jobs.items }
     ensures rows { length kept.new.rows.items ≡ length kept.old.rows.items }
 {
-    let released = release(&mut kept.rows);
+    let released = release(&mut kept.rows, &mut kept.loads);
     kept.moment = kept.moment.max(now);
     kept.settings = Some(settings);
     Answer::Restarted { released }
 }
 
 /// Gives up each ACTIVE row, and counts them.
-fn release(rows: &mut [FileRow]) -> u32
-    requires { length rows.old ≤ MAX_ROWS }
+fn release(rows: &mut [FileRow], loads: &mut Loads) -> u32
+    requires loaded { AreLoadsOf rows.old loads.old }
     ensures rows { rows.new ≡ map released rows.old }
     ensures count { result ≡ count_by (λ row. is_active row.state) rows.old }
+    ensures loaded { AreLoadsOf rows.new loads.new }
 {
     let mut count = 0;
     for row in rows.iter_mut() {
+        let was_live = row.state.is_live();
         if release_one(row) {
             count += 1;
         }
+        recount(loads, was_live, row);
     }
     count
 }

@@ -1,14 +1,18 @@
 //! Submit: a job of any kind gets the next number, its given id or the standard one, and a row for each of its files.
 //! All rows of a plain job wait, of a multihop job the first, of a replica job the first in order or the one of the least load.
 //! Loads count the rows that were there before the submission.
-//! `make_room` refuses an id that a job has and what would pass the limits, and takes all the memory that `submit` needs.
+//! `make_room` refuses an id that a job has and what would pass the limits, and takes all the memory that `submit` needs. The new rows count
+//! among the loads once they all stand.
 ghost use Rattle.std.specs.Prelude.{
   ◌≡◌,
   ℕ,
   ◌+◌,
   ◌≤◌,
   ◌++◌,
+  List,
   length,
+  map,
+  true,
   vec_capacity,
   option_and_then,
   unwrap_or,
@@ -16,7 +20,7 @@ ghost use Rattle.std.specs.Prelude.{
   OnOk,
 };
 ghost use Rattle.fts_tables.specs.JobData.{JobData};
-ghost use Rattle.fts_tables.specs.Tables.{number_of_id};
+ghost use Rattle.fts_tables.specs.Tables.{AreNumberedFrom, number_of_id};
 ghost use Rattle.fts_tables.specs.Moves.{
   new_row,
   new_rows,
@@ -30,17 +34,21 @@ ghost use Rattle.fts_tables.specs.Step.{step};
 ghost use Rattle.fts_tables.specs.History.{IsAccepted};
 ghost use Rattle.fts_tables.specs.declared.commands.Command.TheVariants.{Submit};
 ghost use Rattle.fts_tables.specs.declared.limits.TheConstants.{MAX_FILES, MAX_ROWS};
-ghost use Rattle.fts_desk.specs.Kept.{tables_kept, IsWithinLimits, HasRoomFor, IsRoomFor};
+ghost use Rattle.fts_index.specs.Links.{Link};
+ghost use Rattle.fts_desk.specs.Kept.{tables_kept, IsWithinLimits, HasRoomForFiles, IsRoomFor};
+ghost use Rattle.fts_desk.specs.Loaded.{AreLoadsOf, are_known, link_of_file};
 ghost use Rattle.fts_desk.specs.Prepared.{IsPrepared};
 
 use crate::DeskFault;
 use crate::find::number_of_id;
 use crate::kept::Kept;
+use crate::loads::count_new;
 use crate::sources::next_source;
 use crate::waking::wake_at;
+use fts_index::Loads;
 use fts_tables::limits::{MAX_JOBS, MAX_ROWS};
 use fts_tables::{
-    Answer, FileRow, FileState, JobKind, JobRow, NewFile, NewJob, Reason, Refusal, Strategy,
+    Answer, FileRow, FileState, JobKind, JobRow, Memory, NewFile, NewJob, Reason, Refusal, Strategy,
 };
 
 /// The id 00000000-0000-4000-8000-000000000000, to which a job's number is added.
@@ -56,46 +64,63 @@ pub fn standard_id(number: u32) -> u128
 /// Makes room for a job, or says that the machine refuses it: `Duplicate` for an id that a job has, then `JobsFull`, then `RowsFull`.
 /// The tables stay as they are, also after want of memory.
 pub fn make_room(kept: &mut Kept, job: &NewJob) -> Result<(), DeskFault>
+    requires numbered { AreNumberedFrom (λ job. job.number) 1 kept.old.jobs.items }
     requires limits { IsWithinLimits kept.old }
     ensures tables { tables_kept kept.new ≡ tables_kept kept.old }
-    ensures room { OnOk result (HasRoomFor kept.new (length job.now.files)) }
+    ensures room { OnOk result (HasRoomForFiles kept.new job.now.files) }
     ensures answer { (now : ℕ) → IsPrepared (step (tables_kept kept.old) (Submit now job.now)) result }
 {
-    match number_of_given(&kept.jobs, job.id) {
+    match number_of_given(kept, job.id) {
         Some(number) => Err(DeskFault::Rule(Refusal::Duplicate { job: number })),
-        None => make_room_for(kept, job.files.as_slice().len()),
+        None => make_room_for(kept, job.files.as_slice()),
     }
 }
 
 /// The least number of a job with the id that a new job was given, where it was given one.
-fn number_of_given(jobs: &[JobRow], id: Option<u128>) -> Option<u32>
-    ensures number { result ≡ option_and_then (number_of_id jobs.now) id }
+fn number_of_given(kept: &Kept, id: Option<u128>) -> Option<u32>
+    requires numbered { AreNumberedFrom (λ job. job.number) 1 kept.now.jobs.items }
+    ensures number { result ≡ option_and_then (number_of_id kept.now.jobs.items) id }
 {
     match id {
-        Some(id) => number_of_id(jobs, id),
+        Some(id) => number_of_id(kept, id),
         None => None,
     }
 }
 
-/// Makes room for a job of so many files, or says that the limits refuse it.
-fn make_room_for(kept: &mut Kept, files: usize) -> Result<(), DeskFault>
+/// Makes room for a job of these files, or says that the limits refuse it.
+fn make_room_for(kept: &mut Kept, files: &[NewFile]) -> Result<(), DeskFault>
     requires { IsWithinLimits kept.old }
     ensures tables { tables_kept kept.new ≡ tables_kept kept.old }
-    ensures room { OnOk result (HasRoomFor kept.new files) }
-    ensures answer { IsRoomFor (length kept.old.jobs.items) (length kept.old.rows.items) files result }
+    ensures room { OnOk result (HasRoomForFiles kept.new files.now) }
+    ensures answer { IsRoomFor (length kept.old.jobs.items) (length kept.old.rows.items) (length files.now) result }
 {
     if kept.jobs.len() >= MAX_JOBS {
         return Err(DeskFault::Rule(Refusal::JobsFull {
             jobs: kept.jobs.len() as u32,
         }));
     }
-    if files > MAX_ROWS - kept.rows.len() {
+    if files.len() > MAX_ROWS - kept.rows.len() {
         return Err(DeskFault::Rule(Refusal::RowsFull {
             rows: kept.rows.len() as u32,
         }));
     }
-    if kept.jobs.reserve(1).is_err() || kept.rows.reserve(files).is_err() {
+    if kept.jobs.reserve(1).is_err() || kept.rows.reserve(files.len()).is_err() {
         return Err(DeskFault::Memory);
+    }
+    if kept.ids.make_room().is_err() || know_links(&mut kept.loads, files).is_err() {
+        return Err(DeskFault::Memory);
+    }
+    Ok(())
+}
+
+/// Makes room for the links of files among the loads. What is counted, and what there was room for, stays.
+fn know_links(loads: &mut Loads, files: &[NewFile]) -> Result<(), Memory>
+    ensures links { loads.new.links ≡ loads.old.links }
+    ensures stay { (links : List Link) → are_known loads.old links ≡ true → are_known loads.new links ≡ true }
+    ensures known { OnOk result (are_known loads.new (map link_of_file files.now) ≡ true) }
+{
+    for file in files {
+        loads.make_room(&file.source.endpoint, &file.dest.endpoint)?;
     }
     Ok(())
 }
@@ -103,7 +128,7 @@ fn make_room_for(kept: &mut Kept, files: usize) -> Result<(), DeskFault>
 /// Adds a job of any kind, for which there is room, at a moment in whole seconds, or at the last one where that is later.
 /// It takes no memory and can't fail, and answers the job's number and id.
 pub fn submit(kept: &mut Kept, now: u64, job: NewJob) -> Answer
-    requires room { HasRoomFor kept.old (length job.files) }
+    requires room { HasRoomForFiles kept.old job.files }
     requires accepted { IsAccepted (step (tables_kept kept.old) (Submit now job)) }
     ensures step { step (tables_kept kept.old) (Submit now job) ≡ Ok (tables_kept kept.new, result) }
     ensures jobs { length kept.new.jobs.items ≡ length kept.old.jobs.items + 1 }
@@ -125,7 +150,9 @@ pub fn submit(kept: &mut Kept, now: u64, job: NewJob) -> Answer
     let id = id_of_new(id, number);
     let files = files.into_vec();
     let count = files.len() as u32;
-    add_rows_of_kind(&mut kept.rows, number, kind, strategy, files);
+    add_rows_of_kind(&mut kept.rows, number, kind, strategy, files, &kept.loads);
+    count_new(&mut kept.loads, &kept.rows[first as usize - 1..]);
+    kept.ids.add(id);
     kept.jobs.push_reserved(JobRow {
         number,
         id,
@@ -159,7 +186,9 @@ fn add_rows_of_kind(
     kind: JobKind,
     strategy: Strategy,
     files: Vec<NewFile>,
+    loads: &Loads,
 )
+    requires loaded { AreLoadsOf rows.old.items loads.now }
     requires room { length rows.old.items + length files.items ≤ vec_capacity rows.old }
     requires few { length rows.old.items + length files.items ≤ MAX_ROWS }
     requires files { length files.items ≤ MAX_FILES }
@@ -170,7 +199,7 @@ fn add_rows_of_kind(
     match kind {
         JobKind::Plain => add_rows(rows, job, FileState::Submitted, files),
         JobKind::Multihop => add_hops(rows, job, files),
-        JobKind::Replica => add_sources(rows, job, strategy, files),
+        JobKind::Replica => add_sources(rows, job, strategy, files, loads),
     }
 }
 
@@ -187,7 +216,14 @@ fn add_hops(rows: &mut Vec<FileRow>, job: u32, files: Vec<NewFile>)
 }
 
 /// Adds the rows of a replica job, of which the chosen one waits.
-fn add_sources(rows: &mut Vec<FileRow>, job: u32, strategy: Strategy, files: Vec<NewFile>)
+fn add_sources(
+    rows: &mut Vec<FileRow>,
+    job: u32,
+    strategy: Strategy,
+    files: Vec<NewFile>,
+    loads: &Loads,
+)
+    requires loaded { AreLoadsOf rows.old.items loads.now }
     requires room { length rows.old.items + length files.items ≤ vec_capacity rows.old }
     requires few { length rows.old.items + length files.items ≤ MAX_ROWS }
     requires files { length files.items ≤ MAX_FILES }
@@ -196,7 +232,7 @@ fn add_sources(rows: &mut Vec<FileRow>, job: u32, strategy: Strategy, files: Vec
 {
     let first = rows.len();
     add_rows(rows, job, FileState::NotUsed, files);
-    match next_source(&rows[..first], &rows[first..], strategy) {
+    match next_source(&rows[first..], strategy, loads) {
         Some(place) => wake_at(rows, first + place),
         None => {}
     }

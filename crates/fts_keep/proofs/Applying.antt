@@ -1,5 +1,5 @@
 -- What an applied command comes to, as callers need it: settings stay in force, the list only grows, and images compose.
-use Rattle.std.proofs.Common.{◌≡◌, refl, ap, sym, ◌∙◌, subst, inl, inr, ℕ, ◌≤◌, Bool, true, false, if◌then◌else◌, List, [], ◌∷◌, ◌++◌, Option, Some, None, IsSome, Result, Ok, Err}
+use Rattle.std.proofs.Common.{◌≡◌, refl, ap, sym, ◌∙◌, subst, inl, inr, ⊎_elim, ℕ, ◌≤◌, Bool, true, false, if◌then◌else◌, List, [], ◌∷◌, ◌++◌, Option, Some, None, IsSome, Result, Ok, Err}
 use Rattle.std.proofs.lemmas.List.Elements.{All-nil, All-cons}
 use Rattle.fts_tables.specs.Tables.{Tables, empty_tables}
 use Rattle.fts_tables.specs.Step.{Outcomes, step}
@@ -9,9 +9,9 @@ use Rattle.fts_tables.specs.declared.commands.Answer.{Answer}
 use Rattle.fts_desk.specs.DeskData.{DeskData}
 use Rattle.fts_disk.specs.Disk.{DiskState, IsTold}
 use Rattle.fts_journal.specs.Journal.{JournalData}
-use Rattle.fts_keep.specs.Keeps.{KeepData, HoldsList, IsFold, IsImageSince, Grows, KeepsImages, StandsFor, with_doubt}
+use Rattle.fts_keep.specs.Keeps.{KeepData, HoldsList, IsFold, IsImageSince, Grows, DoubtHasCause, KeepsImages, StandsFor, with_doubt}
 use Rattle.fts_keep.specs.Views.{keep_of, entries_in, IsTied, IsKept}
-use Rattle.fts_keep.specs.Applied.{Applied, AppliesSafely, IsImageDuring, applied_by, fits}
+use Rattle.fts_keep.specs.Applied.{Applied, AppliesSafely, DoubtIsOwn, IsImageDuring, applied_by, fits}
 use Rattle.fts_keep.specs.declared.fault.KeepFault.{KeepFault}
 use Rattle.fts_keep.specs.declared.fault.KeepFault.TheVariants.{Rule, DiskFailed, JournalFull, Damaged, Memory}
 use Rattle.fts_keep.proofs.Lists.{none_more, legal_list, legal_more, accepted_by}
@@ -82,6 +82,43 @@ module _ {D : Type 0} (state : D → DiskState) (faults : D → ℕ) (desk next 
     grown (Err DiskFailed) applied = added_none applied.keeps.entries applied.keeps.told
     grown (Err Memory) applied = added_none applied.keeps.entries applied.keeps.told
     grown (Err (Damaged offset)) applied = absurd applied
+
+-- an entry is in doubt only where one was, or by a failure of the disk
+module _ {D : Type 0} (state : D → DiskState) (faults : D → ℕ) (old new : KeepData D) (entry : Entry) where
+  -- where nothing changed, nothing came into doubt
+  same_caused : new ≡ old → DoubtHasCause state faults old new
+  same_caused same = record {
+    in_doubt = λ doubted. inl (ap (λ k. k.in_doubt) (sym same) ∙ doubted);
+    doubt = λ told. inr (inl (ap (λ k. k.doubt) same));
+  }
+
+  pub doubt_caused : (result : Result Answer KeepFault) → Applied state faults old new entry result → DoubtHasCause state faults old new
+  doubt_caused (Ok answer) applied = record { in_doubt = λ doubted. let sure = applied.no_doubt in absurd cc; doubt = λ told. inl (applied.listed told).1 }
+  doubt_caused (Err (Rule refusal)) applied = same_caused applied.1
+  doubt_caused (Err (JournalFull used)) applied = same_caused applied.1
+  doubt_caused (Err DiskFailed) applied = record { in_doubt = λ doubted. inr applied.rose; doubt = λ told. inr (inr applied.rose) }
+  doubt_caused (Err Memory) applied = record {
+    in_doubt = λ doubted. inl (was old.in_doubt refl doubted);
+    doubt = λ told. ⊎_elim (λ same. inr (inl same)) (λ none. inl none) (applied.doubt told);
+  }
+    where
+      was : (before : Bool) → old.in_doubt ≡ before → new.in_doubt ≡ true → old.in_doubt ≡ true
+      was true is doubted = is
+      was false is doubted = ap (λ (k : KeepData D). k.in_doubt) (sym (applied.untouched is)) ∙ doubted
+  doubt_caused (Err (Damaged offset)) applied = absurd applied
+
+-- and it is the old one, or the command's own
+pub doubt_of : {D : Type 0} (state : D → DiskState) (faults : D → ℕ) (old new : KeepData D) (entry : Entry) (result : Result Answer KeepFault)
+    → Applied state faults old new entry result → DoubtIsOwn state faults old new entry
+doubt_of state faults old new entry (Ok answer) applied = λ told doubted is. let sure = (applied.listed told).1 in absurd cc
+doubt_of state faults old new entry (Err (Rule refusal)) applied = λ told doubted is. inl (ap (λ k. k.doubt) (sym applied.1) ∙ is)
+doubt_of state faults old new entry (Err (JournalFull used)) applied = λ told doubted is. inl (ap (λ k. k.doubt) (sym applied.1) ∙ is)
+doubt_of state faults old new entry (Err DiskFailed) applied = λ told doubted is. ⊎_elim
+    (λ same. inl (sym same ∙ is))
+    (λ other. ⊎_elim (λ none. absurd cc) (λ own. inr ((cc), applied.rose)) other)
+    (applied.doubt told)
+doubt_of state faults old new entry (Err Memory) applied = λ told doubted is. ⊎_elim (λ same. inl (sym same ∙ is)) (λ none. absurd cc) (applied.doubt told)
+doubt_of state faults old new entry (Err (Damaged offset)) applied = absurd applied
 
 -- images that are those of a list, with one entry more at most, are so since any opening of that list
 pub images_since : {D : Type 0} (state : D → DiskState) (faults : D → ℕ) (old new : KeepData D) (entry : Entry) (opening since : List Entry)

@@ -9,6 +9,7 @@ use Rattle.fts_tables.specs.declared.commands.Entry.{Entry}
 use Rattle.fts_tables.specs.declared.commands.Answer.{Answer}
 use Rattle.fts_tables.specs.declared.commands.Refusal.{Refusal}
 use Rattle.fts_record.specs.Spelling.{spelled}
+use Rattle.fts_tables.specs.Counts.{Rose}
 use Rattle.fts_record.specs.Proper.{IsProper}
 use Rattle.fts_record.specs.Reading.{read_of}
 use Rattle.fts_desk.specs.DeskData.{DeskData}
@@ -97,6 +98,15 @@ module _ {D : Type 0} (state : D → DiskState) (faults : D → ℕ) (old new : 
   told_still Memory applied = applied.keeps.told
   told_still (Damaged offset) applied = absurd applied
 
+  -- and, where nothing was in doubt, the disk itself, but for a failure of it
+  untouched_disk : old.in_doubt ≡ false → (fault : KeepFault) → Applied state faults old new entry (Err fault)
+      → Rose (faults old.disk) (faults new.disk) ⊎ (old.disk ≡ new.disk)
+  untouched_disk sure (Rule refusal) applied = inr (ap (λ (k : KeepData D). k.disk) (sym applied.1))
+  untouched_disk sure (JournalFull used) applied = inr (ap (λ (k : KeepData D). k.disk) (sym applied.1))
+  untouched_disk sure DiskFailed applied = inl applied.rose
+  untouched_disk sure Memory applied = inr (ap (λ (k : KeepData D). k.disk) (sym (applied.untouched sure)))
+  untouched_disk sure (Damaged offset) applied = absurd applied
+
 module _ {D : Type 0} (state : D → DiskState) (faults : D → ℕ) (reads : (entry : Entry) → IsProper entry → read_of (spelled entry) ≡ Some entry)
     (lawful : (disk : D) → IsTold (state disk) → IsLawful (state disk)) (once : (content : List ℕ) → DamageIsOne content) (disk : D)
     (settings : SettingsData) (now : ℕ) where
@@ -115,6 +125,8 @@ module _ {D : Type 0} (state : D → DiskState) (faults : D → ℕ) (reads : (e
       images = λ told opening sound. let still = quiet_still (state disk) (state left) (opens.quiet told (whole_some (state disk).seen opening sound)) in
           weakened (state disk) (state left) (state disk).may_leave _ still.moments (λ content there. inl there);
       made = λ told empty. weakened (state disk) (state left) (IsMaking (state disk)) _ (made told empty) (λ content there. inl there);
+      doubt_cause = λ told some. inr (quiet_still (state disk) (state left) (opens.quiet told some));
+      made_cause = λ told empty. inr (weakened (state disk) (state left) (IsMaking (state disk)) _ (made told empty) (λ content there. inl there));
       quiet = λ told offset some damaged. quiet_still (state disk) (state left) (opens.quiet told some);
     },
   )
@@ -137,6 +149,15 @@ module _ {D : Type 0} (state : D → DiskState) (faults : D → ℕ) (reads : (e
     looked_still told some = still_still (state disk) (state journal.disk) (state folded.disk)
         (quiet_still (state disk) (state journal.disk) ((opens.own told).quiet some)) (leaves.still (told_journal told))
 
+    -- and one that was made stays empty
+    made_still : IsTold (state disk) → (state disk).seen ≡ []
+        → LeavesOnly (state disk) (state folded.disk) (λ content. IsMaking (state disk) content ⊎ StandsFor content [])
+    made_still told empty = joined (state disk) (state journal.disk) (state folded.disk) (λ content. IsMaking (state disk) content ⊎ StandsFor content [])
+        (weakened (state disk) (state journal.disk) (IsMaking (state disk)) _ (made told empty) (λ content there. inl there))
+        (weakened (state journal.disk) (state folded.disk) (state journal.disk).may_leave _ (leaves.still (told_journal told)).moments
+        (λ content there. inr (subst (Stands content) (empty_bodies (state disk).seen journal.bodies empty (opens.own told).list)
+        ((opens.own told).sound content there))))
+
     -- bodies that weren't folded
     pub unfolded : (fault : KeepFault) → FoldFault state faults journal folded fault → Started state faults disk settings now (Err (fault, folded.disk))
     unfolded fault cause = (
@@ -152,6 +173,8 @@ module _ {D : Type 0} (state : D → DiskState) (faults : D → ℕ) (reads : (e
             (weakened (state journal.disk) (state folded.disk) (state journal.disk).may_leave _ (leaves.still (told_journal told)).moments
             (λ content there. inr (image_before [] (restarted [] now settings) restart content refl tt
             (subst (Stands content) (empty_bodies (state disk).seen journal.bodies empty (opens.own told).list) ((opens.own told).sound content there)))));
+        doubt_cause = λ told some. inr (looked_still told some);
+        made_cause = λ told empty. inr (made_still told empty);
         quiet = λ told offset some damaged. looked_still told some;
       },
     )
@@ -312,6 +335,13 @@ module _ {D : Type 0} (state : D → DiskState) (faults : D → ℕ) (reads : (e
                 (weakened (state journal.disk) (state last.disk) (IsImageSince folds.entries (restarted folds.entries now settings)) _
                 (since_opening told (restarted folds.entries now settings) refl)
                 (λ content there. inr (subst (λ l. IsImageSince l (restarted l now settings) content) same there)));
+            doubt_cause = λ told some. ⊎_elim (λ rose. inl (since_disk rose))
+                (λ same. inr (subst (λ d. IsStill (state disk) (state d)) same (looked_still told some)))
+                (untouched_disk state faults (keep_of state desk folded) (keep_of state next last) restart (leaves.in_doubt ∙ opens.sure) fault applied);
+            made_cause = λ told empty. ⊎_elim (λ rose. inl (since_disk rose))
+                (λ same. inr (subst (λ d. LeavesOnly (state disk) (state d) (λ content. IsMaking (state disk) content ⊎ StandsFor content []))
+                same (made_still told empty)))
+                (untouched_disk state faults (keep_of state desk folded) (keep_of state next last) restart (leaves.in_doubt ∙ opens.sure) fault applied);
             quiet = λ told offset some damaged. absurd (⊎_elim
                 (λ none. some none.0)
                 (λ own. (once (state disk).seen).apart offset folds.entries damaged own)
@@ -319,10 +349,13 @@ module _ {D : Type 0} (state : D → DiskState) (faults : D → ℕ) (reads : (e
           },
         )
           where
+            since_disk : Rose (faults folded.disk) (faults last.disk) → Rose (faults disk) (faults last.disk)
+            since_disk rose = rose_later (faults disk) (faults folded.disk) (faults last.disk) (omega (arith, opens.counts, leaves.counts)) rose
+
             why : (f : KeepFault) → Applied state faults (keep_of state desk folded) (keep_of state next last) restart (Err f)
                 → StartFault state faults disk last.disk settings now f
             why (Damaged offset) a = absurd a
-            why DiskFailed a = rose_later (faults disk) (faults folded.disk) (faults last.disk) (omega (arith, opens.counts, leaves.counts)) a.rose
+            why DiskFailed a = since_disk a.rose
             why Memory a = tt
             why (JournalFull used) a = let l = full_by (fits folded.used restart) _ folded.used used a.0 in
                 (ap (λ n. fits n restart) l.0 ∙ l.1, λ told. (folds.entries, (opened_list told, l.0 ∙ (opened_held told).fills)))

@@ -1,5 +1,5 @@
 -- A desk tied to its journal: what that says over a disk that tells its contents, and what it needs.
-use Rattle.std.proofs.Common.{◌≡◌, ap, sym, ◌∙◌, ◌+◌, ◌*◌, ◌≤◌, ◌<◌, Bool, true, false, List, [], length, Option, Some, option_map, option_and_then, is_some, All}
+use Rattle.std.proofs.Common.{◌≡◌, ◌≢◌, refl, ap, sym, ◌∙◌, ◌+◌, ◌*◌, ◌≤◌, ◌<◌, Bool, true, false, List, [], length, Option, Some, option_map, option_and_then, is_some, All}
 use Rattle.fts_tables.specs.History.{tables_of, IsLegal}
 use Rattle.fts_tables.specs.declared.limits.TheConstants.{MAX_JOURNAL_BYTES}
 use Rattle.fts_tables.specs.declared.commands.Entry.{Entry}
@@ -20,6 +20,11 @@ list_told told items is = ap (λ b. list_if b items) is
 -- and where it isn't
 pub list_untold : {A : Type 0} (told : Bool) (items : List A) → told ≡ false → list_if told items ≡ []
 list_untold told items is = ap (λ b. list_if b items) is
+
+-- who shows an item tells
+pub told_where_seen : {A : Type 0} (told : Bool) (items : List A) → list_if told items ≢ [] → told ≡ true
+told_where_seen true items some = refl
+told_where_seen false items some = absurd (some refl)
 
 -- the same of an option
 pub option_told : {A : Type 0} (told : Bool) (item : Option A) → told ≡ true → option_if told item ≡ item

@@ -82,6 +82,11 @@ Applied state faults old new entry (Err DiskFailed) = FailsByDisk state faults o
 Applied state faults old new entry (Err Memory) = LacksMemory state old new
 Applied state faults old new entry (Err (Damaged offset)) = ⊥
 
+-- the entry in doubt after a command is the one from before it, which nothing settled, or the command's own, and then the disk counted a failure
+abbrev pub DoubtIsOwn : {D : Type 0} → (D → DiskState) → (D → ℕ) → KeepData D → KeepData D → Entry → Type 0
+DoubtIsOwn state faults old new entry = IsTold (state old.disk) → (doubted : Entry) → new.doubt ≡ Some doubted
+    → (old.doubt ≡ Some doubted) ⊎ ((doubted ≡ entry) × Rose (faults old.disk) (faults new.disk))
+
 -- at every moment of the call an image is one of the list before it, with its doubt, or of that list with this command, where that would be accepted
 abbrev pub IsImageDuring : {D : Type 0} → KeepData D → Entry → List ℕ → Type 0
 IsImageDuring old entry content =

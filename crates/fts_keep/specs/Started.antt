@@ -80,6 +80,10 @@ pub record StartsNot {D : Type 0} (state : D → DiskState) (faults : D → ℕ)
   -- on an empty disk it stands for nothing, or for the Restart alone
   pub made : IsTold (state disk) → (state disk).seen ≡ []
       → LeavesOnly (state disk) (state left) (λ content. IsMaking (state disk) content ⊎ IsImageSince [] (restarted [] now settings) content)
+  -- nor is the Restart in doubt but by a failure that the disk counted: else what is there was only looked at, or an empty journal was made
+  pub doubt_cause : IsTold (state disk) → (state disk).seen ≢ [] → Rose (faults disk) (faults left) ⊎ IsStill (state disk) (state left)
+  pub made_cause : IsTold (state disk) → (state disk).seen ≡ []
+      → Rose (faults disk) (faults left) ⊎ LeavesOnly (state disk) (state left) (λ content. IsMaking (state disk) content ⊎ StandsFor content [])
   -- what is damaged is only looked at
   pub quiet : IsTold (state disk) → (offset : ℕ) → (state disk).seen ≢ [] → IsDamaged (state disk).seen offset → IsStill (state disk) (state left)
 

@@ -4,7 +4,7 @@
 //! Called by the layers that answer requests and copy files. It knows neither.
 ghost use Rattle.std.specs.Prelude.{◌≡◌, IsSome, IfOk, IfErr, IsTrue, Ok, Err};
 ghost use Rattle.fts_record.specs.Proper.{has_priority};
-ghost use Rattle.fts_keep.specs.Applied.{Applied, AppliesSafely, entry_by};
+ghost use Rattle.fts_keep.specs.Applied.{Applied, AppliesSafely, DoubtIsOwn, entry_by};
 ghost use Rattle.fts_keep.specs.Started.{Started, Viewed};
 
 use crate::KeepFault;
@@ -41,8 +41,9 @@ impl<D: Disk> Model for Keep<D> {
 }
 
 impl<D: Disk> Keep<D> {
-    ghost use Rattle.std.specs.Prelude.{◌≡◌, IsSome, IfOk, IfErr, IsTrue, Ok, Err};
-    ghost use Rattle.fts_keep.specs.Keeps.{IsKeep, Grows, KeepsImagesSinceAny};
+    ghost use Rattle.std.specs.Prelude.{◌≡◌, ◌≢◌, [], IsSome, IfOk, IfErr, IsTrue, Ok, Err};
+    ghost use Rattle.fts_disk.specs.Disk.{IsTold};
+    ghost use Rattle.fts_keep.specs.Keeps.{IsKeep, Grows, DoubtHasCause, KeepsImagesSinceAny};
 
     /// Makes a journal on an empty disk, or folds the one that is there, and then has a Restart of writer 0 accepted.
     /// `now` is in seconds since 1970. Gives the disk back where it isn't started; `Rule` never comes.
@@ -81,12 +82,15 @@ impl<D: Disk> Keep<D> {
 
     /// Tries a command of a writer. At `Ok` the tables are the machine's and every crash leaves the command; a refusal leaves list and tables as
     /// they were. `Rule` comes exactly where the machine refuses, `JournalFull` exactly by the journal's limit; `Damaged` never.
-    /// After `DiskFailed` one entry is in doubt at most, and the next command that passes its checks ends the doubt first.
+    /// After `DiskFailed` one entry is in doubt at most, an old one or this one, and the next command that passes its checks ends the doubt first.
     pub fn apply(&mut self, writer: u32, command: Command) -> Result<Answer, KeepFault>
         requires priority { IsTrue (has_priority command) }
         ensures applied { Applied D.state D.faults self.old self.new (entry_by writer command) result }
         ensures safe { AppliesSafely D.state self.old self.new (entry_by writer command) }
         ensures grows { Grows D.state D.faults writer self.old self.new }
+        // Without a failure of the disk nothing comes into doubt, and no other entry than this one ever does.
+        ensures doubt_cause { DoubtHasCause D.state D.faults self.old self.new }
+        ensures doubt_own { DoubtIsOwn D.state D.faults self.old self.new (entry_by writer command) }
         // Since any opening of the list each image is a beginning of it, with one entry more at most.
         ensures images { KeepsImagesSinceAny D.state self.old self.new }
     {
@@ -100,6 +104,8 @@ impl<D: Disk> Keep<D> {
         ensures commands { result.now.commands ≡ self.now.commands }
         ensures settings { IsSome result.now.tables.settings }
         ensures kept { IsKeep D.state self.now }
+        // Only over a disk that tells its contents entries are seen.
+        ensures told { self.now.entries ≢ [] → IsTold (D.state self.now.disk) }
     {
         &self.desk
     }

@@ -577,3 +577,95 @@ pub(crate) const FAILING: [Row; 2] = [
         "{\"job_id\":\"00000000-0000-4000-8000-000000000001\"}",
     ),
 ];
+
+// The methods that each path is asked by, in this order, with an empty body.
+pub(crate) const METHODS: [&str; 7] = ["GET", "POST", "PUT", "HEAD", "PATCH", "OPTIONS", "DELETE"];
+
+// Over the first job: each path, the statuses of these methods, and the methods that a refusal of a method names.
+pub(crate) const PATHS: [(&str, [u16; 7], Allow); 20] = [
+    ("/jobs", [200, 400, 400, 405, 405, 405, 405], Allow::Jobs),
+    (
+        "/jobs/00000000-0000-4000-8000-000000000001",
+        [200, 400, 405, 405, 405, 405, 200],
+        Allow::Job,
+    ),
+    (
+        "/jobs/00000000-0000-4000-8000-000000000002",
+        [404, 404, 405, 405, 405, 405, 404],
+        Allow::Job,
+    ),
+    ("/jobs/x", [404, 404, 405, 405, 405, 405, 404], Allow::Job),
+    (
+        "/jobs/00000000-0000-4000-8000-000000000001/files",
+        [200, 405, 405, 405, 405, 405, 405],
+        Allow::Get,
+    ),
+    (
+        "/jobs/00000000-0000-4000-8000-000000000002/files",
+        [404, 405, 405, 405, 405, 405, 405],
+        Allow::Get,
+    ),
+    (
+        "/jobs/00000000-0000-4000-8000-000000000001/files/1",
+        [405, 405, 405, 405, 405, 405, 200],
+        Allow::File,
+    ),
+    (
+        "/jobs/00000000-0000-4000-8000-000000000001/files/2",
+        [405, 405, 405, 405, 405, 405, 404],
+        Allow::File,
+    ),
+    (
+        "/jobs/00000000-0000-4000-8000-000000000002/files/1",
+        [405, 405, 405, 405, 405, 405, 404],
+        Allow::File,
+    ),
+    (
+        "/config/links",
+        [200, 405, 405, 405, 405, 405, 405],
+        Allow::Get,
+    ),
+    (
+        "/config/se",
+        [200, 405, 405, 405, 405, 405, 405],
+        Allow::Get,
+    ),
+    (
+        "/config/activity_shares",
+        [200, 405, 405, 405, 405, 405, 405],
+        Allow::Get,
+    ),
+    ("/", [404; 7], Allow::None),
+    ("/jobs/", [404; 7], Allow::None),
+    ("/Jobs", [404; 7], Allow::None),
+    ("/config", [404; 7], Allow::None),
+    ("/config/links/", [404; 7], Allow::None),
+    ("/jobs/x/files/", [404; 7], Allow::None),
+    ("jobs", [404; 7], Allow::None),
+    ("*", [404; 7], Allow::None),
+];
+
+// The changes: method, path and body.
+pub(crate) const CHANGES: [(&str, &str, &str); 5] = [
+    (
+        "POST",
+        "/jobs",
+        "{\"files\":[{\"sources\":[\"https://a.example/data/f2\"],\"destinations\":[\"https://b.example/f2\"]}]}",
+    ),
+    (
+        "PUT",
+        "/jobs",
+        "{\"files\":[{\"sources\":[\"https://a.example/data/f2\"],\"destinations\":[\"https://b.example/f2\"]}]}",
+    ),
+    (
+        "POST",
+        "/jobs/00000000-0000-4000-8000-000000000001",
+        "{\"params\":{\"priority\":5}}",
+    ),
+    ("DELETE", "/jobs/00000000-0000-4000-8000-000000000001", ""),
+    (
+        "DELETE",
+        "/jobs/00000000-0000-4000-8000-000000000001/files/1",
+        "",
+    ),
+];

@@ -23,3 +23,4 @@ mod texts;
 
 pub use answers::answer;
 pub use replies::refusal_reply;
+pub use texts::{file_state_text, job_state_text, kind_text};

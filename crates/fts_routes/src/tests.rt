@@ -4,13 +4,16 @@ ghost use Rattle.std.specs.Prelude.{IfOk, IsTrue};
 ghost use Rattle.fts_record.specs.Proper.{has_priority};
 
 use crate::answer;
-use crate::cases::{CLAIMED, EMPTY, FAILING, FINISHED, FIRST, Row, SID, SUBMITTED};
+use crate::cases::{
+    CHANGES, CLAIMED, EMPTY, FAILING, FINISHED, FIRST, METHODS, PATHS, Row, SID, SUBMITTED,
+};
 use fts_disk::MemoryDisk;
 use fts_keep::Keep;
 use fts_record::read_entry;
 use fts_tables::{Command, Memory, Outcome, Settings};
-use fts_wire::{Reply, Request};
+use fts_wire::{Allow, Reply, Request};
 use std::alloc::Global;
+use std::process::Abort;
 use std::test::Fail;
 
 // Two endpoints, a link from the first to the second with a limit of 1, and the activity `default`.
@@ -58,12 +61,15 @@ fn ask(alloc: Global, keep: &mut Keep<MemoryDisk>, row: &Row) -> Reply {
     answer(alloc, keep, 0, &request, NOW)
 }
 
-#[test]
-fn each_route_answers_over_no_job(rt: HostRuntime) -> Result<(), Fail> {
-    let alloc = rt.alloc();
-    let mut keep = keep(alloc, Vec::new(alloc))?;
-    for row in EMPTY.as_slice() {
-        let reply = ask(alloc, &mut keep, row);
+// Asks what each row asks, one after the other, and compares.
+fn check(
+    rt: &impl Abort,
+    alloc: Global,
+    keep: &mut Keep<MemoryDisk>,
+    rows: &[Row],
+) -> Result<(), Fail> {
+    for row in rows {
+        let reply = ask(alloc, keep, row);
         assert_eq!(rt;
             (reply.status, reply.allow),
             (row.4, row.5),
@@ -82,77 +88,78 @@ fn each_route_answers_over_no_job(rt: HostRuntime) -> Result<(), Fail> {
         );
     }
     Ok(())
+}
+
+// Asks a path by each method, with an empty body, and compares the statuses. A refusal of a method names those that the path has.
+fn check_methods(
+    rt: &impl Abort,
+    alloc: Global,
+    keep: &mut Keep<MemoryDisk>,
+    path: &'static str,
+    statuses: &[u16],
+    allow: Allow,
+) -> Result<(), Fail> {
+    for (method, status) in METHODS.iter().zip(statuses) {
+        let row = (*method, path, "", "", *status, Allow::None, "");
+        let reply = ask(alloc, keep, &row);
+        let named = if *status == 405 { allow } else { Allow::None };
+        assert_eq!(rt;
+            (reply.status, reply.allow),
+            (*status, named),
+            "{method} {path}"
+        );
+    }
+    Ok(())
+}
+
+#[test]
+fn each_path_answers_each_method(rt: HostRuntime) -> Result<(), Fail> {
+    let alloc = rt.alloc();
+    let mut keep = keep(alloc, Vec::new(alloc))?;
+    check(&rt, alloc, &mut keep, &FIRST)?;
+    for (path, statuses, allow) in &PATHS {
+        check_methods(&rt, alloc, &mut keep, *path, statuses, *allow)?;
+    }
+    Ok(())
+}
+
+// The start takes seven calls of the disk and a submission four: the next one fails, at whatever a row asks behind a submission.
+#[test]
+fn each_change_answers_a_failed_disk_once(rt: HostRuntime) -> Result<(), Fail> {
+    let alloc = rt.alloc();
+    for (method, path, body) in &CHANGES {
+        let mut keep = keep(alloc, vec![in alloc; 12; 1]?)?;
+        check(&rt, alloc, &mut keep, &FIRST)?;
+        for status in [503, 200] {
+            let row = (*method, *path, "", *body, status, Allow::None, "");
+            let reply = ask(alloc, &mut keep, &row);
+            assert_eq!(rt; reply.status, status, "{method} {path}");
+        }
+    }
+    Ok(())
+}
+
+#[test]
+fn each_route_answers_over_no_job(rt: HostRuntime) -> Result<(), Fail> {
+    let alloc = rt.alloc();
+    let mut keep = keep(alloc, Vec::new(alloc))?;
+    check(&rt, alloc, &mut keep, &EMPTY)
 }
 
 #[test]
 fn jobs_are_shown_prioritized_and_cancelled(rt: HostRuntime) -> Result<(), Fail> {
     let alloc = rt.alloc();
     let mut keep = keep(alloc, Vec::new(alloc))?;
-    for row in SUBMITTED.as_slice() {
-        let reply = ask(alloc, &mut keep, row);
-        assert_eq!(rt;
-            (reply.status, reply.allow),
-            (row.4, row.5),
-            "{} {}?{}",
-            row.0,
-            row.1,
-            row.2
-        );
-        assert_eq!(rt;
-            reply.body.as_slice(),
-            row.6.as_bytes(),
-            "{} {}?{}",
-            row.0,
-            row.1,
-            row.2
-        );
-    }
+    check(&rt, alloc, &mut keep, &SUBMITTED)?;
     assert!(rt; keep.apply(0, Command::Claim { now: NOW, word: 0 }).is_ok());
-    for row in CLAIMED.as_slice() {
-        let reply = ask(alloc, &mut keep, row);
-        assert_eq!(rt;
-            (reply.status, reply.allow),
-            (row.4, row.5),
-            "{} {}?{}",
-            row.0,
-            row.1,
-            row.2
-        );
-        assert_eq!(rt;
-            reply.body.as_slice(),
-            row.6.as_bytes(),
-            "{} {}?{}",
-            row.0,
-            row.1,
-            row.2
-        );
-    }
-    Ok(())
+    check(&rt, alloc, &mut keep, &CLAIMED)
 }
 
 #[test]
 fn a_finished_file_shows_its_digest(rt: HostRuntime) -> Result<(), Fail> {
     let alloc = rt.alloc();
     let mut keep = keep(alloc, Vec::new(alloc))?;
-    for row in FIRST.as_slice() {
-        let reply = ask(alloc, &mut keep, row);
-        assert_eq!(rt;
-            (reply.status, reply.allow),
-            (row.4, row.5),
-            "{} {}?{}",
-            row.0,
-            row.1,
-            row.2
-        );
-        assert_eq!(rt;
-            reply.body.as_slice(),
-            row.6.as_bytes(),
-            "{} {}?{}",
-            row.0,
-            row.1,
-            row.2
-        );
-    }
+    check(&rt, alloc, &mut keep, &FIRST)?;
     assert!(rt; keep.apply(0, Command::Claim { now: NOW, word: 0 }).is_ok());
     let digest = *b"\x90\x01\x50\x98\x3c\xd2\x4f\xb0\xd6\x96\x3f\x7d\x28\xe1\x7f\x72";
     let outcome = Outcome::Verified { size: 3, digest };
@@ -163,76 +170,19 @@ fn a_finished_file_shows_its_digest(rt: HostRuntime) -> Result<(), Fail> {
         outcome,
     };
     assert!(rt; keep.apply(0, report).is_ok());
-    for row in FINISHED.as_slice() {
-        let reply = ask(alloc, &mut keep, row);
-        assert_eq!(rt;
-            (reply.status, reply.allow),
-            (row.4, row.5),
-            "{} {}?{}",
-            row.0,
-            row.1,
-            row.2
-        );
-        assert_eq!(rt;
-            reply.body.as_slice(),
-            row.6.as_bytes(),
-            "{} {}?{}",
-            row.0,
-            row.1,
-            row.2
-        );
-    }
-    Ok(())
+    check(&rt, alloc, &mut keep, &FINISHED)
 }
 
 #[test]
 fn one_id_of_a_client_is_one_job(rt: HostRuntime) -> Result<(), Fail> {
     let alloc = rt.alloc();
     let mut keep = keep(alloc, Vec::new(alloc))?;
-    for row in SID.as_slice() {
-        let reply = ask(alloc, &mut keep, row);
-        assert_eq!(rt;
-            (reply.status, reply.allow),
-            (row.4, row.5),
-            "{} {}?{}",
-            row.0,
-            row.1,
-            row.2
-        );
-        assert_eq!(rt;
-            reply.body.as_slice(),
-            row.6.as_bytes(),
-            "{} {}?{}",
-            row.0,
-            row.1,
-            row.2
-        );
-    }
-    Ok(())
+    check(&rt, alloc, &mut keep, &SID)
 }
 
 #[test]
 fn a_disk_that_failed_once_is_answered_once(rt: HostRuntime) -> Result<(), Fail> {
     let alloc = rt.alloc();
     let mut keep = keep(alloc, vec![in alloc; 8]?)?;
-    for row in FAILING.as_slice() {
-        let reply = ask(alloc, &mut keep, row);
-        assert_eq!(rt;
-            (reply.status, reply.allow),
-            (row.4, row.5),
-            "{} {}?{}",
-            row.0,
-            row.1,
-            row.2
-        );
-        assert_eq!(rt;
-            reply.body.as_slice(),
-            row.6.as_bytes(),
-            "{} {}?{}",
-            row.0,
-            row.1,
-            row.2
-        );
-    }
-    Ok(())
+    check(&rt, alloc, &mut keep, &FAILING)
 }

@@ -1,2 +1,3 @@
 mod LinkCounts
 mod NamedPlaces
+pub mod Tallied

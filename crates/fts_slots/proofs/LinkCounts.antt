@@ -1,14 +1,17 @@
 -- Counts of a list of links: one more, one less, and how many links limits on their sources allow.
-use Rattle.std.proofs.Common.{◌≡◌, ℕ, zero, suc, ◌+◌, ◌-◌, ◌*◌, ◌<◌, ◌≤◌, Bool, true, false, cond, List, [], ◌∷◌, ◌++◌, length, Option, Some, None, refl, ap, sym, ◌∙◌, arith, subst}
+use Rattle.std.proofs.Common.{◌≡◌, ℕ, zero, suc, ◌+◌, ◌-◌, ◌*◌, ◌<◌, ◌≤◌, Bool, true, false, cond, List, [], ◌∷◌, ◌++◌, length, Option, Some, None, refl, ap, sym, ◌∙◌, arith, subst, inl, inr}
 use Rattle.std.specs.Prelude.{not, ◌&&◌, ◌||◌, ◌==◌, nat_lt, nat_le, count_by, sum_by, position, option_map, slice_get, remove}
 use Rattle.std.specs.List.{list_any, list_all, position_or_len}
 use Rattle.std.specs.Option.{option_map_or}
 use Rattle.std.proofs.lemmas.Bool.{and_parts, eqb-true, eq-eqb, ltb-true, ltb-false, lt-ltb, le-ltb, leb-true}
 use Rattle.std.proofs.lemmas.List.Sums.{sum_by-cons, sum_by-append, count_by-le-length}
-use Rattle.fts_tables.specs.SettingsData.{IsSettings, is_active_limit}
+use Rattle.std.proofs.lemmas.Option.{slice_get_cases}
+use Rattle.fts_tables.specs.SettingsData.{SettingsData, IsSettings, is_active_limit}
 use Rattle.fts_tables.specs.declared.settings.Endpoint.{Endpoint}
 use Rattle.fts_tables.specs.declared.settings.LinkAt.{LinkAt}
-use Rattle.fts_slots.specs.SlotsData.{SlotsData, outbound_limit_at, inbound_limit_at, link_limit_at, is_same_link, held_of, outbound_of, inbound_of, is_free, AreWithin}
+use Rattle.fts_slots.specs.declared.counts.Counts.{Counts}
+use Rattle.fts_slots.specs.Tallies.{AreTallied, HasPlaces}
+use Rattle.fts_slots.specs.SlotsData.{SlotsData, IsInside, outbound_limit_at, inbound_limit_at, link_limit_at, is_same_link, held_of, outbound_of, inbound_of, is_free, AreWithin}
 
 -- the first item and the others
 count_by-cons : {Item : Type 0} (test : Item → Bool) (item : Item) (items : List Item)
@@ -16,7 +19,7 @@ count_by-cons : {Item : Type 0} (test : Item → Bool) (item : Item) (items : Li
 count_by-cons test item items = sum_by-cons (λ other. cond (test other) 1 0) item items
 
 -- one item more
-count_by-push : {Item : Type 0} (test : Item → Bool) (items : List Item) (item : Item)
+pub count_by-push : {Item : Type 0} (test : Item → Bool) (items : List Item) (item : Item)
     → count_by test (items ++ item ∷ []) ≡ count_by test items + cond (test item) 1 0
 count_by-push test items item = sum_by-append (λ other. cond (test other) 1 0) items (item ∷ [])
     ∙ ap (λ count. count_by test items + count) (count_by-cons test item [] ∙ omega arith)
@@ -254,3 +257,61 @@ few_links slots settings within =
 -- a count of links within the limits
 pub few_counted : (slots : SlotsData) (test : LinkAt → Bool) → IsSettings slots.settings → AreWithin slots → count_by test slots.links ≤ 256000
 few_counted slots test settings within = omega (arith, count_by-le-length test slots.links, few_links slots settings within)
+
+-- links that are one come from one place and go to one place
+link_ends : (link other : LinkAt) → (cond (is_same_link link other) 1 0 ≤ cond (other.source == link.source) 1 0)
+    × (cond (is_same_link link other) 1 0 ≤ cond (other.dest == link.dest) 1 0)
+link_ends link other = by_tests (other.source == link.source) (other.dest == link.dest)
+  where
+    by_tests : (source dest : Bool) → (cond (source && dest) 1 0 ≤ cond source 1 0) × (cond (source && dest) 1 0 ≤ cond dest 1 0)
+    by_tests true true = (omega arith, omega arith)
+    by_tests true false = (omega arith, omega arith)
+    by_tests false true = (omega arith, omega arith)
+    by_tests false false = (omega arith, omega arith)
+
+-- what a link holds, each of its ends holds
+held_at_ends : (links : List LinkAt) (link : LinkAt) → (held_of links link ≤ outbound_of links link.source) × (held_of links link ≤ inbound_of links link.dest)
+held_at_ends [] link = (omega arith, omega arith)
+held_at_ends (other ∷ links) link =
+    let behind = held_at_ends links link in
+    let ends = link_ends link other in
+    let held = count_by-cons (is_same_link link) other links in (
+      omega (arith, behind.0, ends.0, held, count_by-cons (λ (some : LinkAt). some.source == link.source) other links),
+      omega (arith, behind.1, ends.1, held, count_by-cons (λ (some : LinkAt). some.dest == link.dest) other links),
+    )
+
+-- a limit above 0 is that of an endpoint inside the settings
+inside_of_limit : (limit_of : Endpoint → ℕ) (endpoints : List Endpoint) (place : ℕ) → 0 < option_map_or limit_of (slice_get endpoints place) 0
+    → place < length endpoints
+inside_of_limit limit_of endpoints place above = elim (slice_get_cases endpoints place).1 [
+  | inl found ↦ found.1
+  | inr past ↦ absurd (
+      let none : ◌≡◌ {A = ℕ} (option_map_or limit_of (slice_get endpoints place) 0) 0 = ap (λ at. option_map_or limit_of at 0) past.1 in omega arith)
+]
+
+-- a link that is held is inside the settings
+pub inside_of_held : (slots : SlotsData) (link : LinkAt) → AreWithin slots → 0 < held_of slots.links link → IsInside slots.settings link
+inside_of_held slots link within held =
+    let ends = held_at_ends slots.links link in
+    record {
+      source = inside_of_limit (λ endpoint. endpoint.outbound) slots.settings.endpoints link.source (omega (arith, ends.0, held, within.outbound link.source));
+      dest = inside_of_limit (λ endpoint. endpoint.inbound) slots.settings.endpoints link.dest (omega (arith, ends.1, held, within.inbound link.dest));
+    }
+
+-- the settings list at most 256 endpoints
+pub few_endpoints : (settings : SettingsData) → IsSettings settings → length settings.endpoints ≤ 256
+few_endpoints settings kept =
+    let endpoints = and_parts (nat_le 1 (length settings.endpoints)) (nat_le (length settings.endpoints) 256) kept.endpoint_count in
+    leb-true (length settings.endpoints) 256 endpoints.1
+
+-- there are counters for a link inside the settings
+pub places_inside : (settings : SettingsData) (link : LinkAt) (taken : List LinkAt) (counts : Counts) → IsSettings settings → IsInside settings link
+    → AreTallied (length settings.endpoints) taken counts → HasPlaces counts link
+places_inside settings link taken counts kept inside tallied =
+    let few = few_endpoints settings kept in
+    record {
+      link = omega (arith, few, inside.source, inside.dest, tallied.link_places);
+      source = omega (arith, inside.source, tallied.outbound_places);
+      dest = omega (arith, inside.dest, tallied.inbound_places);
+      low = omega (arith, few, inside.dest);
+    }

@@ -1,2 +1,3 @@
 pub mod SlotsData
+pub mod Tallies
 pub mod Slots

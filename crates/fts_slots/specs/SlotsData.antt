@@ -1,5 +1,5 @@
 -- Slots by the places of endpoints in the settings, from 0: limits, what a list of links holds of them, and which links are free.
-use Rattle.std.specs.Prelude.{ℕ, Bool, ◌&&◌, ◌==◌, ◌<◌, ◌≤◌, nat_lt, bytes_eq, List, [], length, count_by, remove, position, slice_get, Option, Some}
+use Rattle.std.specs.Prelude.{ℕ, ◌+◌, ◌*◌, Bool, ◌&&◌, ◌==◌, ◌<◌, ◌≤◌, nat_lt, bytes_eq, List, [], length, count_by, remove, position, slice_get, Option, Some}
 use Rattle.std.specs.Option.{option_map_or}
 use Rattle.fts_tables.specs.SettingsData.{SettingsData}
 use Rattle.fts_tables.specs.Limits.{link_limit}
@@ -38,6 +38,10 @@ link_limit_at settings link = link_limit (Some settings) (name_at settings link.
 -- whether two links are one
 abbrev pub is_same_link : LinkAt → LinkAt → Bool
 is_same_link one other = (other.source == one.source) && (other.dest == one.dest)
+
+-- the place of a link among the counters of links: those of one source stand together
+abbrev pub index_of : LinkAt → ℕ
+index_of link = link.source * 256 + link.dest
 
 -- how many slots of a link are taken
 abbrev pub held_of : List LinkAt → LinkAt → ℕ

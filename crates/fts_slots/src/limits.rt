@@ -3,6 +3,7 @@
 ghost use Rattle.std.specs.Prelude.{
   ◌≡◌,
   ◌<◌,
+  ◌≤◌,
   ◌&&◌,
   ◌↔◌,
   ℕ,
@@ -20,6 +21,7 @@ ghost use Rattle.std.specs.Prelude.{
 ghost use Rattle.std.specs.Option.{option_map_or};
 ghost use Rattle.fts_tables.specs.SettingsData.{SettingsData, IsSettings, is_listed};
 ghost use Rattle.fts_tables.specs.Limits.{endpoint_at, link_limit, outbound_limit, inbound_limit};
+ghost use Rattle.fts_tables.specs.declared.limits.TheConstants.{MAX_ENDPOINTS};
 ghost use Rattle.fts_slots.specs.SlotsData.{
   name_at,
   outbound_limit_at,
@@ -145,6 +147,14 @@ pub fn inbound_limit_of(settings: &Settings, place: u16) -> u32
     ensures limit { result ≡ inbound_limit_at settings.now place }
 {
     inbound_of(settings.endpoints.as_slice().get(usize::from(place)))
+}
+
+/// How many endpoints the settings list: from 1 to 256.
+pub fn count_endpoints(settings: &Settings) -> usize
+    ensures count { result ≡ length settings.now.endpoints }
+    ensures few { result ≤ MAX_ENDPOINTS }
+{
+    settings.endpoints.as_slice().len()
 }
 
 /// How many files may come from all endpoints together.

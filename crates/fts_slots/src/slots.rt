@@ -1,5 +1,7 @@
 //! The list of links held, with the limits that it keeps.
-//! Each count walks the list. `take` writes into room that `new` made: as many links as the outbound limits add up to, which no list within the limits passes.
+//! Counters beside the list hold what is taken of each link and at each end (`AreTallied`), so `held`, `inbound`, `outbound` and `free` walk none of it.
+//! Order of a call: the list and the counters change together. `give` looks for the link's first place in the list, four bytes a link held.
+//! `take` writes into room that `new` made: as many links as the outbound limits add up to, which no list within the limits passes.
 ghost use Rattle.std.specs.Prelude.{◌≡◌, ◌<◌, ◌+◌, ◌↔◌, [], ◌∷◌, ◌++◌, Bool, length, count_by, if◌then◌else◌, IsTrue, IsFalse, IfOk, None};
 ghost use Rattle.fts_tables.specs.SettingsData.{is_listed};
 ghost use Rattle.fts_tables.specs.declared.settings.LinkAt.{LinkAt};
@@ -15,9 +17,10 @@ ghost use Rattle.fts_slots.specs.SlotsData.{
   without_link,
 };
 
-use crate::counts::{count_from, count_link, count_to, place_of_link};
+use crate::counts::{Counts, place_of_link};
 use crate::limits::{
-    inbound_limit_of, link_limit_of, outbound_limit_of, place_of_endpoint, whole_outbound,
+    count_endpoints, inbound_limit_of, link_limit_of, outbound_limit_of, place_of_endpoint,
+    whole_outbound,
 };
 use fts_tables::{EndpointName, LinkAt, Memory, Settings};
 use std::alloc::Global;
@@ -28,6 +31,7 @@ use std::marker::Model;
 pub struct Slots {
     settings: Settings,
     links: Vec<LinkAt>,
+    counts: Counts,
 }
 
 impl Model for Slots {
@@ -48,9 +52,11 @@ impl Slots {
         ensures slots { IfOk result (λ slots. slots ≡ record { settings = settings.now; links = [] }) }
     {
         let links = Vec::with_capacity(alloc, whole_outbound(settings))?;
+        let counts = Counts::new(alloc, count_endpoints(settings))?;
         Ok(Slots {
             settings: settings.copy(alloc)?,
             links,
+            counts,
         })
     }
 
@@ -83,6 +89,7 @@ impl Slots {
         ensures slots { self.new ≡ record self.old { links = self.old.links ++ link ∷ [] } }
     {
         self.links.push_reserved(link);
+        self.counts.raise(link);
     }
 
     /// Gives a slot of a link back that was taken: any count of links is one less where it counted this one.
@@ -92,6 +99,7 @@ impl Slots {
         ensures counts { (test : LinkAt → Bool) → count_by test self.old.links ≡ count_by test self.new.links + (if test link then 1 else 0) }
     {
         if let Some(place) = place_of_link(self.links.as_slice(), link) {
+            self.counts.lower(link);
             self.links.remove(place);
         }
     }
@@ -102,7 +110,7 @@ impl Slots {
         ensures count { result ≡ held_of self.now.links link }
         ensures limits { AreWithin self.now }
     {
-        count_link(self.links.as_slice(), link) as u32
+        self.counts.of_link(link)
     }
 
     /// How many slots are taken of what goes to the endpoint at a place.
@@ -110,7 +118,7 @@ impl Slots {
         requires inside { endpoint < length self.now.settings.endpoints }
         ensures count { result ≡ inbound_of self.now.links endpoint }
     {
-        count_to(self.links.as_slice(), endpoint) as u32
+        self.counts.to(endpoint)
     }
 
     /// How many slots are taken of what comes from the endpoint at a place.
@@ -118,6 +126,6 @@ impl Slots {
         requires inside { endpoint < length self.now.settings.endpoints }
         ensures count { result ≡ outbound_of self.now.links endpoint }
     {
-        count_from(self.links.as_slice(), endpoint) as u32
+        self.counts.from(endpoint)
     }
 }

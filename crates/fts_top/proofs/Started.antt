@@ -19,11 +19,12 @@ use Rattle.fts_workers.specs.Copies.{Copy, copies_from, copies_kept, FollowsRepo
 use Rattle.fts_workers.specs.Rounds.{IsWorkedOver}
 use Rattle.fts_workers.specs.declared.held.Held.{Held}
 use Rattle.fts_top.specs.Connections.{Reading}
-use Rattle.fts_top.specs.Tallies.{claims_in, tally_with, no_tally}
+use Rattle.fts_attempts.specs.Attempts.{claims_in}
+use Rattle.fts_top.specs.Tallies.{tally_with, no_tally}
 use Rattle.fts_top.specs.Sessions.{IsSession, IsOver, IsReady, walk_of, kept_at, thread}
-use Rattle.fts_top.specs.Runs.{one_thread, begun_with, AreRead, HasNoSettings, IsStop, StartsWith, LeavesList, ServesKeep, IsSessionRun, start_end}
+use Rattle.fts_top.specs.Runs.{one_thread, begun_with, AreRead, HasNoSettings, IsStop, StartsWith, LeavesList, ServesKeep, StopsEarly, RunsSession, IsSessionRun, start_end}
 use Rattle.fts_top.specs.declared.ends.RunEnd.{RunEnd}
-use Rattle.fts_top.specs.declared.ends.RunEnd.TheVariants.{NoMemory, NoCommand, SettingsUnread, SettingsRule, DiskFailed, Damaged, JournalFull, Session}
+use Rattle.fts_top.specs.declared.ends.RunEnd.TheVariants.{NoMemory, NoCommand, SettingsUnread, SettingsRule, DiskFailed, Damaged, JournalFull, Session, Shown, SourcesUnmade, LineUnwritten, DoorsFailed, Served}
 use Rattle.fts_top.specs.declared.tally.Tally.{Tally}
 use Rattle.fts_top.proofs.Keeping.{legal_behind, joined, weakened, since_more}
 
@@ -75,6 +76,11 @@ module _ {D : Type 0} (state : D → DiskState) (faults : D → ℕ) where
   unsettled text moments disk (Damaged offset) h = absurd h
   unsettled text moments disk (JournalFull used) h = absurd h
   unsettled text moments disk (Session end) h = absurd h
+  unsettled text moments disk (Shown whole) h = absurd h
+  unsettled text moments disk SourcesUnmade h = absurd h
+  unsettled text moments disk LineUnwritten h = absurd h
+  unsettled text moments disk DoorsFailed h = absurd h
+  unsettled text moments disk (Served end) h = absurd h
 
   -- a keep that could not be started stops the run
   pub unstarted : (text : Option (List ℕ)) (moments later : Option Coming) (disk left : D) (fault : KeepFault)
@@ -87,10 +93,10 @@ module _ {D : Type 0} (state : D → DiskState) (faults : D → ℕ) where
 
 module _ {D E : Type 0} (state : D → DiskState) (faults : D → ℕ) (store_state : E → StoreState) (store_calls : E → Option (List Call)) (store_faults : E → ℕ) where
   -- a run that has no settings
-  pub stopped_unset : (text : Option (List ℕ)) (moments words : Option Coming) (disk closed : D) (store : E) (input : Reading) (output : Option (List ℕ)) (found end : RunEnd) (tally : Tally)
+  pub stops_unset : (text : Option (List ℕ)) (moments words : Option Coming) (disk closed : D) (store : E) (input : Reading) (output : Option (List ℕ)) (found end : RunEnd) (tally : Tally)
       → HasNoSettings text found → end ≡ found → tally ≡ no_tally → closed ≡ disk
-      → IsSessionRun state faults store_state store_calls store_faults end tally text (one_thread disk store input output moments words) (one_thread closed store input output moments words)
-  stopped_unset text moments words disk closed store input output found end tally unset ended counted same = inl (record {
+      → StopsEarly state faults store_state store_calls store_faults text (one_thread disk store input output moments words) (one_thread closed store input output moments words) end tally
+  stops_unset text moments words disk closed store input output found end tally unset ended counted same = record {
     stop = subst (λ (e : RunEnd). IsStop state faults text moments moments disk closed e) (sym ended)
         (subst (λ (d : D). IsStop state faults text moments moments disk d found) (sym same) (unsettled state faults text moments disk found unset));
     counted = counted;
@@ -98,15 +104,21 @@ module _ {D E : Type 0} (state : D → DiskState) (faults : D → ℕ) (store_st
     unwritten = refl;
     store = refl;
     words = refl;
-  })
+  }
+
+  pub stopped_unset : (text : Option (List ℕ)) (moments words : Option Coming) (disk closed : D) (store : E) (input : Reading) (output : Option (List ℕ)) (found end : RunEnd) (tally : Tally)
+      → HasNoSettings text found → end ≡ found → tally ≡ no_tally → closed ≡ disk
+      → IsSessionRun state faults store_state store_calls store_faults end tally text (one_thread disk store input output moments words) (one_thread closed store input output moments words)
+  stopped_unset text moments words disk closed store input output found end tally unset ended counted same =
+      inl (stops_unset text moments words disk closed store input output found end tally unset ended counted same)
 
   -- a run whose keep could not be started
-  pub stopped : (text : Option (List ℕ)) (before later words : Option Coming) (disk left closed : D) (store : E) (input : Reading) (output : Option (List ℕ)) (settings : SettingsData) (now : ℕ)
+  pub stops : (text : Option (List ℕ)) (before later words : Option Coming) (disk left closed : D) (store : E) (input : Reading) (output : Option (List ℕ)) (settings : SettingsData) (now : ℕ)
       (fault : KeepFault) (end : RunEnd) (tally : Tally) → IsSettings settings → AreRead text settings → Gives before later now
       → StartFault state faults disk left settings now fault × StartsNot state faults disk left settings now
       → end ≡ start_end fault → tally ≡ no_tally → closed ≡ left
-      → IsSessionRun state faults store_state store_calls store_faults end tally text (one_thread disk store input output before words) (one_thread closed store input output later words)
-  stopped text before later words disk left closed store input output settings now fault end tally valid read tick started ended counted same = inl (record {
+      → StopsEarly state faults store_state store_calls store_faults text (one_thread disk store input output before words) (one_thread closed store input output later words) end tally
+  stops text before later words disk left closed store input output settings now fault end tally valid read tick started ended counted same = record {
     stop = subst (λ (e : RunEnd). IsStop state faults text before later disk closed e) (sym ended)
         (subst (λ (d : D). IsStop state faults text before later disk d (start_end fault)) (sym same)
         (unstarted state faults text before later disk left fault
@@ -116,7 +128,15 @@ module _ {D E : Type 0} (state : D → DiskState) (faults : D → ℕ) (store_st
     unwritten = refl;
     store = refl;
     words = refl;
-  })
+  }
+
+  pub stopped : (text : Option (List ℕ)) (before later words : Option Coming) (disk left closed : D) (store : E) (input : Reading) (output : Option (List ℕ)) (settings : SettingsData) (now : ℕ)
+      (fault : KeepFault) (end : RunEnd) (tally : Tally) → IsSettings settings → AreRead text settings → Gives before later now
+      → StartFault state faults disk left settings now fault × StartsNot state faults disk left settings now
+      → end ≡ start_end fault → tally ≡ no_tally → closed ≡ left
+      → IsSessionRun state faults store_state store_calls store_faults end tally text (one_thread disk store input output before words) (one_thread closed store input output later words)
+  stopped text before later words disk left closed store input output settings now fault end tally valid read tick started ended counted same =
+      inl (stops text before later words disk left closed store input output settings now fault end tally valid read tick started ended counted same)
 
   module _ (settings : SettingsData) (now : ℕ) (keep : KeepData D) (opening : List Entry) (disk left : D) (starts : StartsOver state faults disk settings now keep opening)
       (bench : BenchData) (empty : bench.held ≡ []) (places : bench.places ≡ settings.workers) (store store_now : E)
@@ -193,10 +213,10 @@ module _ {D E : Type 0} (state : D → DiskState) (faults : D → ℕ) (store_st
     claims_are = omega (arith, serves.session.counted)
 
     -- the run from its beginning
-    pub ran : (text : Option (List ℕ)) (before : Option Coming) → IsSettings settings → AreRead text settings → Gives before moments now → kept ≡ []
-        → IsSessionRun state faults store_state store_calls store_faults end tally text (one_thread disk store input held before words)
-        (one_thread left store_now after output later words_later)
-    ran text before valid read tick none = inr (record {
+    pub runs : (text : Option (List ℕ)) (before : Option Coming) → IsSettings settings → AreRead text settings → Gives before moments now → kept ≡ []
+        → RunsSession state faults store_state store_calls store_faults text (one_thread disk store input held before words)
+        (one_thread left store_now after output later words_later) end tally
+    runs text before valid read tick none = record {
       settings = settings;
       kept = valid;
       read = read;
@@ -223,4 +243,15 @@ module _ {D E : Type 0} (state : D → DiskState) (faults : D → ℕ) (store_st
       };
       tells = ap (λ (d : D). (state d).told) serves.closed ∙ serves.session.extends.told ∙ starts.told;
       leaves = left_list;
-    })
+    }
+
+    -- its settings
+    pub runs_settings : (text : Option (List ℕ)) (before : Option Coming) (valid : IsSettings settings) (read : AreRead text settings) (tick : Gives before moments now) (none : kept ≡ [])
+        → (runs text before valid read tick none).settings ≡ settings
+    unfolding runs
+    runs_settings text before valid read tick none = refl
+
+    pub ran : (text : Option (List ℕ)) (before : Option Coming) → IsSettings settings → AreRead text settings → Gives before moments now → kept ≡ []
+        → IsSessionRun state faults store_state store_calls store_faults end tally text (one_thread disk store input held before words)
+        (one_thread left store_now after output later words_later)
+    ran text before valid read tick none = inr (runs text before valid read tick none)

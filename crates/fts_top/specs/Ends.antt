@@ -1,12 +1,14 @@
--- The exit status of each end of a run. That of a connection which didn't end well goes before that of the last round.
-use Rattle.std.specs.Prelude.{ℕ, Option, Some, None, unwrap_or}
+-- The exit status of each end of a run. In a session that of a connection which didn't end well goes before that of the last round.
+use Rattle.std.specs.Prelude.{◌≡◌, ◌==◌, ◌||◌, false, ℕ, if◌then◌else◌, Option, Some, None, unwrap_or}
 use Rattle.fts_workers.specs.declared.ends.RoundEnd.{RoundEnd}
 use Rattle.fts_workers.specs.declared.ends.RoundEnd.TheVariants as round_ends
+use Rattle.fts_shop.specs.declared.ends.WorkerEnd.{WorkerEnd}
+use Rattle.fts_shop.specs.declared.ends.WorkerEnd.TheVariants as worker_ends
 use Rattle.fts_top.specs.declared.ends.SessionEnd.{SessionEnd}
 use Rattle.fts_top.specs.declared.ends.LineEnd.{LineEnd}
 use Rattle.fts_top.specs.declared.ends.LineEnd.TheVariants as line_ends
 use Rattle.fts_top.specs.declared.ends.RunEnd.{RunEnd}
-use Rattle.fts_top.specs.declared.ends.RunEnd.TheVariants.{NoMemory, NoCommand, SettingsUnread, SettingsRule, DiskFailed, Damaged, JournalFull, Session}
+use Rattle.fts_top.specs.declared.ends.RunEnd.TheVariants.{NoMemory, NoCommand, SettingsUnread, SettingsRule, DiskFailed, Damaged, JournalFull, Session, Shown, SourcesUnmade, LineUnwritten, DoorsFailed, Served}
 
 -- the status of a connection that didn't end well
 abbrev pub line_status : LineEnd → Option ℕ
@@ -29,6 +31,13 @@ round_status round_ends.Memory = 1
 abbrev pub session_status : SessionEnd → ℕ
 session_status end = unwrap_or (line_status end.line) (round_status end.last)
 
+-- the status of workers whose worst end this is
+abbrev pub worker_status : WorkerEnd → ℕ
+worker_status worker_ends.Drained = 0
+worker_status worker_ends.Memory = 1
+worker_status worker_ends.DiskFailed = 4
+worker_status (worker_ends.JournalFull used) = 11
+
 -- the exit status of a run
 abbrev pub status_of : RunEnd → ℕ
 status_of NoMemory = 1
@@ -39,3 +48,12 @@ status_of (Damaged offset) = 7
 status_of SettingsUnread = 8
 status_of (JournalFull used) = 11
 status_of (Session end) = session_status end
+status_of (Shown whole) = if whole then 0 else 6
+status_of SourcesUnmade = 13
+status_of LineUnwritten = 6
+status_of DoorsFailed = 9
+status_of (Served end) = worker_status end
+
+-- a status with which a run that serves may end: it is of a command, and has nothing of a session's input and output
+abbrev pub IsServingStatus : ℕ → Type 0
+IsServingStatus status = (status == 2 || (status == 5 || status == 6)) ≡ false

@@ -1,14 +1,16 @@
 -- The line that a run writes to its notes, by how it ended.
-use Rattle.std.specs.Prelude.{ℕ, List, [], ◌++◌, codes, decimal, Option, Result}
+use Rattle.std.specs.Prelude.{ℕ, if◌then◌else◌, List, [], ◌++◌, codes, decimal, Option, Result}
 use Rattle.fts_tables.specs.Counts.{CountsFaults}
 use Rattle.fts_wire.specs.Response.{Sends}
 use Rattle.fts_wire.specs.declared.outside.SinkFailed.{SinkFailed}
 use Rattle.fts_workers.specs.declared.ends.RoundEnd.{RoundEnd}
 use Rattle.fts_workers.specs.declared.ends.RoundEnd.TheVariants as round_ends
+use Rattle.fts_shop.specs.declared.ends.WorkerEnd.{WorkerEnd}
+use Rattle.fts_shop.specs.declared.ends.WorkerEnd.TheVariants as worker_ends
 use Rattle.fts_top.specs.declared.ends.LineEnd.{LineEnd}
 use Rattle.fts_top.specs.declared.ends.LineEnd.TheVariants as line_ends
 use Rattle.fts_top.specs.declared.ends.RunEnd.{RunEnd}
-use Rattle.fts_top.specs.declared.ends.RunEnd.TheVariants.{NoMemory, NoCommand, SettingsUnread, SettingsRule, DiskFailed, Damaged, JournalFull, Session}
+use Rattle.fts_top.specs.declared.ends.RunEnd.TheVariants.{NoMemory, NoCommand, SettingsUnread, SettingsRule, DiskFailed, Damaged, JournalFull, Session, Shown, SourcesUnmade, LineUnwritten, DoorsFailed, Served}
 
 -- a line with a number
 abbrev pub note_with : List ℕ → ℕ → List ℕ
@@ -31,6 +33,13 @@ session_note_of line_ends.EndsInside last = codes "fts: input ended inside a req
 session_note_of (line_ends.Refused status) last = note_with (codes "fts: request refused with ") status
 session_note_of line_ends.Many last = codes "fts: too many requests\n"
 
+-- the line of workers whose worst end this is
+abbrev pub worker_note_of : WorkerEnd → List ℕ
+worker_note_of worker_ends.Drained = []
+worker_note_of worker_ends.Memory = codes "fts: no memory\n"
+worker_note_of worker_ends.DiskFailed = codes "fts: disk failed\n"
+worker_note_of (worker_ends.JournalFull used) = note_with (codes "fts: journal full at ") used
+
 -- the line of a run's end
 abbrev pub note_of : RunEnd → List ℕ
 note_of NoMemory = codes "fts: no memory\n"
@@ -41,6 +50,11 @@ note_of (Damaged offset) = note_with (codes "fts: journal damaged at ") offset
 note_of SettingsUnread = codes "fts: settings could not be read\n"
 note_of (JournalFull used) = note_with (codes "fts: journal full at ") used
 note_of (Session end) = session_note_of end.line end.last
+note_of (Shown whole) = if whole then [] else codes "fts: output failed\n"
+note_of SourcesUnmade = codes "fts: store failed\n"
+note_of LineUnwritten = codes "fts: output failed\n"
+note_of DoorsFailed = codes "fts: doors failed\n"
+note_of (Served end) = worker_note_of end
 
 -- a text was written to a sink: all of it or, where its count of faults rose, a part
 pub record IsNoted (before after : Option (List ℕ)) (old new : ℕ) (text : List ℕ) : Type 0 where

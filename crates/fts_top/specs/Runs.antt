@@ -25,7 +25,7 @@ use Rattle.fts_top.specs.Sessions.{IsSession, ThreadData, Works}
 use Rattle.fts_top.specs.Tallies.{tally_of, tally_with, no_tally}
 use Rattle.fts_top.specs.declared.ends.SessionEnd.{SessionEnd}
 use Rattle.fts_top.specs.declared.ends.RunEnd.{RunEnd}
-use Rattle.fts_top.specs.declared.ends.RunEnd.TheVariants.{NoMemory, NoCommand, SettingsUnread, SettingsRule, DiskFailed, Damaged, JournalFull, Session}
+use Rattle.fts_top.specs.declared.ends.RunEnd.TheVariants.{NoMemory, NoCommand, SettingsUnread, SettingsRule, DiskFailed, Damaged, JournalFull, Session, Shown, SourcesUnmade, LineUnwritten, DoorsFailed, Served}
 use Rattle.fts_top.specs.declared.tally.Tally.{Tally}
 
 -- what one thread meets: its disk, its store, its input, the bytes that its output holds, and the moments and words to come, where they are told
@@ -79,6 +79,11 @@ HasNoSettings text DiskFailed = ⊥
 HasNoSettings text (Damaged offset) = ⊥
 HasNoSettings text (JournalFull used) = ⊥
 HasNoSettings text (Session end) = ⊥
+HasNoSettings text (Shown whole) = ⊥
+HasNoSettings text SourcesUnmade = ⊥
+HasNoSettings text LineUnwritten = ⊥
+HasNoSettings text DoorsFailed = ⊥
+HasNoSettings text (Served end) = ⊥
 
 -- how a run ends that could not start its keep, for this fault
 abbrev pub start_end : KeepFault → RunEnd
@@ -124,6 +129,11 @@ module _ {D : Type 0} (state : D → DiskState) (faults : D → ℕ) where
   IsStop text moments later disk left (JournalFull used) = StartsWith text moments later disk left (faults_of_keep.JournalFull used)
   IsStop text moments later disk left NoMemory = StopsBefore moments later disk left ⊎ StartsWith text moments later disk left faults_of_keep.Memory
   IsStop text moments later disk left (Session end) = ⊥
+  IsStop text moments later disk left (Shown whole) = ⊥
+  IsStop text moments later disk left SourcesUnmade = ⊥
+  IsStop text moments later disk left LineUnwritten = ⊥
+  IsStop text moments later disk left DoorsFailed = ⊥
+  IsStop text moments later disk left (Served end) = ⊥
 
 -- where a session begins: behind the Restart, with nothing kept
 abbrev pub begun_with : List Entry → ℕ → ℕ → Option Coming → Option Coming → Walk

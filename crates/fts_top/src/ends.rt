@@ -1,9 +1,12 @@
 //! How a connection, a session and a run end. Each end has its exit status (`specs/Ends.antt`) and the line that it notes (`specs/Notes.antt`).
 ghost use Rattle.std.specs.Prelude.{◌≡◌};
-ghost use Rattle.fts_top.specs.Ends.{line_status, round_status, session_status, status_of};
+ghost use Rattle.fts_top.specs.Ends.{line_status, round_status, session_status, worker_status, status_of};
 ghost use Rattle.fts_top.specs.Runs.{start_end};
+ghost use Rattle.fts_top.specs.Served.{end_when_served};
 
+use crate::together::ServedEnd;
 use fts_keep::KeepFault;
+use fts_shop::WorkerEnd;
 use fts_workers::RoundEnd;
 
 /// How a connection ended.
@@ -49,6 +52,16 @@ pub enum RunEnd {
     JournalFull { used: u64 },
     /// Requests were answered and rounds made, and the session ended so.
     Session { end: SessionEnd },
+    /// The tables were shown, whole or, where a write failed, in part.
+    Shown { whole: bool },
+    /// A call of the store failed while the files of a load were made.
+    SourcesUnmade,
+    /// A load ended well, and a write of its line failed.
+    LineUnwritten,
+    /// The doors of a lane failed, at their opening or later.
+    DoorsFailed,
+    /// Connections were served, no doors failed, and this is the worst of the workers' ends.
+    Served { end: WorkerEnd },
 }
 
 impl LineEnd {
@@ -91,6 +104,18 @@ fn round_end_status(end: RoundEnd) -> u8
     }
 }
 
+/// The exit status of workers whose worst end this is.
+fn worker_end_status(end: WorkerEnd) -> u8
+    ensures { result ≡ worker_status end }
+{
+    match end {
+        WorkerEnd::Drained => 0,
+        WorkerEnd::Memory => 1,
+        WorkerEnd::DiskFailed => 4,
+        WorkerEnd::JournalFull { used: _ } => 11,
+    }
+}
+
 impl RunEnd {
     /// The exit status.
     pub fn status(self) -> u8
@@ -105,6 +130,12 @@ impl RunEnd {
             RunEnd::SettingsUnread => 8,
             RunEnd::JournalFull { used: _ } => 11,
             RunEnd::Session { end } => end.status(),
+            RunEnd::Shown { whole: true } => 0,
+            RunEnd::Shown { whole: false } => 6,
+            RunEnd::SourcesUnmade => 13,
+            RunEnd::LineUnwritten => 6,
+            RunEnd::DoorsFailed => 9,
+            RunEnd::Served { end } => worker_end_status(end),
         }
     }
 
@@ -117,6 +148,16 @@ impl RunEnd {
             KeepFault::Damaged { offset } => RunEnd::Damaged { offset },
             KeepFault::JournalFull { used } => RunEnd::JournalFull { used },
             KeepFault::Rule(_) | KeepFault::Memory => RunEnd::NoMemory,
+        }
+    }
+
+    /// How a run ends whose lanes and workers ended so together.
+    pub fn of_served(end: ServedEnd) -> RunEnd
+        ensures { result ≡ end_when_served end }
+    {
+        match end {
+            ServedEnd::DoorsFailed => RunEnd::DoorsFailed,
+            ServedEnd::Worked { end } => RunEnd::Served { end },
         }
     }
 }

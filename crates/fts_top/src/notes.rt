@@ -1,9 +1,10 @@
 //! The line that a run writes to its notes where it does not end with status 0 (`specs/Notes.antt`). It takes no memory, and a failed write changes nothing.
 ghost use Rattle.fts_tables.specs.Counts.{CountsFaults};
 ghost use Rattle.fts_wire.specs.Response.{Sends};
-ghost use Rattle.fts_top.specs.Notes.{round_note_of, session_note_of, note_of, note_with, IsNoted};
+ghost use Rattle.fts_top.specs.Notes.{round_note_of, session_note_of, worker_note_of, note_of, note_with, IsNoted};
 
 use crate::ends::{LineEnd, RunEnd, SessionEnd};
+use fts_shop::WorkerEnd;
 use fts_wire::{Sink, SinkFailed, send_all, send_parts};
 use fts_workers::RoundEnd;
 use itoa::Buffer;
@@ -29,6 +30,13 @@ fn send_note<N: Sink>(notes: &mut N, end: RunEnd) -> Result<(), SinkFailed>
         RunEnd::Damaged { offset } => send_number(notes, "fts: journal damaged at ", offset),
         RunEnd::JournalFull { used } => send_number(notes, "fts: journal full at ", used),
         RunEnd::Session { end } => send_session_note(notes, end),
+        RunEnd::Shown { whole: true } => send_all(notes, "".as_bytes()),
+        RunEnd::Shown { whole: false } | RunEnd::LineUnwritten => {
+            send_all(notes, "fts: output failed\n".as_bytes())
+        }
+        RunEnd::SourcesUnmade => send_all(notes, "fts: store failed\n".as_bytes()),
+        RunEnd::DoorsFailed => send_all(notes, "fts: doors failed\n".as_bytes()),
+        RunEnd::Served { end } => send_worker_note(notes, end),
     }
 }
 
@@ -59,6 +67,19 @@ fn send_round_note<N: Sink>(notes: &mut N, last: RoundEnd) -> Result<(), SinkFai
         RoundEnd::DiskFailed => send_all(notes, "fts: disk failed\n".as_bytes()),
         RoundEnd::JournalFull { used } => send_number(notes, "fts: journal full at ", used),
         RoundEnd::Memory => send_all(notes, "fts: no memory\n".as_bytes()),
+    }
+}
+
+/// Sends the line of workers whose worst end this is.
+fn send_worker_note<N: Sink>(notes: &mut N, end: WorkerEnd) -> Result<(), SinkFailed>
+    ensures sent { Sends (N.held notes.old) (N.held notes.new) (worker_note_of end) result }
+    ensures cause { CountsFaults (N.faults notes.old) (N.faults notes.new) result }
+{
+    match end {
+        WorkerEnd::Drained => send_all(notes, "".as_bytes()),
+        WorkerEnd::Memory => send_all(notes, "fts: no memory\n".as_bytes()),
+        WorkerEnd::DiskFailed => send_all(notes, "fts: disk failed\n".as_bytes()),
+        WorkerEnd::JournalFull { used } => send_number(notes, "fts: journal full at ", used),
     }
 }
 

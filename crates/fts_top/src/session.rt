@@ -4,23 +4,21 @@
 //! made. Nothing is read behind a request that says close, nor behind the millionth, whose response says so, nor behind a load that found no
 //! request. A fault of the framing is answered once, and no request behind it; a refusal of the keep is answered, a round's fault is tried again
 //! after the next request, and the session goes on.
-ghost use Rattle.std.specs.Prelude.{◌≡◌, ◌≤◌, ◌<◌, IsSome, IsTrue};
-ghost use Rattle.fts_tables.specs.Counts.{Rose, CountsFaults};
-ghost use Rattle.fts_wire.specs.Answered.{request_data};
-ghost use Rattle.fts_wire.specs.Faults.{status_of};
-ghost use Rattle.fts_wire.specs.Response.{has_phrase, has_methods, Sends};
+ghost use Rattle.std.specs.Prelude.{◌≡◌, ◌≤◌};
+ghost use Rattle.fts_tables.specs.Counts.{Rose};
 ghost use Rattle.fts_workers.specs.Rounds.{IsRound};
-ghost use Rattle.fts_top.specs.Connections.{IsRefused, IsConnection, reading_of, response_to};
+ghost use Rattle.fts_top.specs.Connections.{IsConnection, reading_of};
 ghost use Rattle.fts_top.specs.Sessions.{AnswersNext, FollowedByRound, IsSession, LastRounds, Works, IsReady, thread};
 
 use crate::ends::{LineEnd, SessionEnd};
+use crate::responding::{refuse, respond};
 use fts_disk::Disk;
 use fts_keep::Keep;
-use fts_routes::{answer, refusal_reply};
+use fts_routes::answer;
 use fts_store::Store;
 use fts_tables::limits::MAX_REQUESTS;
 use fts_tables::{Clock, Words};
-use fts_wire::{Reply, Request, Room, Sink, SinkFailed, Source, WireFault, write_response};
+use fts_wire::{Room, Sink, SinkFailed, Source, WireFault};
 use fts_workers::{Bench, RoundEnd, requests_leave_the_bench, round};
 use std::alloc::Global;
 
@@ -150,40 +148,4 @@ fn make_round<D: Disk, E: Store, C: Clock, W: Words>(
     let added = working.keep.desk().commands() - before;
     working.claims += u64::from(added).saturating_sub(held) as u32;
     end
-}
-
-/// Writes the response to a request that has so many before it.
-fn respond<K: Sink>(
-    output: &mut K,
-    request: &Request<'_>,
-    before: u32,
-    reply: &Reply,
-) -> Result<(), SinkFailed>
-    requires before { before < MAX_REQUESTS }
-    requires phrase { IsTrue (has_phrase reply.now.status) }
-    requires methods { IsTrue (has_methods reply.now.status reply.now.allow) }
-    ensures sent { Sends (K.held output.old) (K.held output.new)
-        (response_to before (record { request = request_data request.now; reply = reply.now })) result }
-    ensures cause { CountsFaults (K.faults output.old) (K.faults output.new) result }
-{
-    let is_last = request.close || before + 1 == MAX_REQUESTS;
-    write_response(output, request.method == "HEAD", is_last, reply)
-}
-
-/// Refuses what came for a fault of the framing, by the last response of its connection.
-fn refuse<K: Sink>(alloc: Global, output: &mut K, fault: WireFault) -> LineEnd
-    requires answered { IsSome (status_of fault) }
-    ensures refused { IsRefused (K.held output.old) (K.held output.new) fault result }
-    ensures output { result ≡ LineEnd.SinkFailed → Rose (K.faults output.old) (K.faults output.new) }
-    ensures keeps { K.faults output.old ≤ K.faults output.new }
-{
-    let (Some(status), Some(rule), Some(message)) = (fault.status(), fault.rule(), fault.message())
-    else {
-        unreachable!();
-    };
-    let reply = refusal_reply(alloc, message, u32::from(rule), status);
-    match write_response(output, false, true, &reply) {
-        Ok(()) => LineEnd::Refused { status },
-        Err(SinkFailed) => LineEnd::SinkFailed,
-    }
 }

@@ -5,12 +5,11 @@
 ghost use Rattle.std.specs.Prelude.{◌≡◌, ◌≤◌, [], length, IfOk, IsSome};
 
 use crate::cases::ROWS;
-use crate::{Ending, Outside, run};
+use crate::stands::{clock, clocks, lanes, store};
+use crate::{Doors, Ending, MemoryDoors, Outside, run_alone};
 use fts_disk::{Disk, MemoryDisk};
-use fts_store::{MemoryStore, Store, StoredFile};
-use fts_tables::{
-    Clock, EndpointName, Items, ListClock, ListWords, PathKey, Place, PlaceRef, Words,
-};
+use fts_store::{MemoryStore, Store};
+use fts_tables::{Clock, ListClock, ListWords, PlaceRef, Words};
 use fts_wire::{MemorySink, MemorySource, Sink, SinkFailed, Source, SourceFailed};
 use fts_workers::Hand;
 use std::alloc::Global;
@@ -39,6 +38,7 @@ struct Pieces {
 
 impl Source for Pieces {
     ghost use Rattle.std.specs.Prelude.{None};
+    ghost use Rattle.fts_wire.specs.Outside.{nothing_beside};
 
     ghost left = { λ _. None };
 
@@ -46,7 +46,7 @@ impl Source for Pieces {
 
     ghost reads = { λ source. source.reads };
 
-    ghost beside = { λ _. record { bytes = None; faults = 0 } };
+    ghost beside = { λ _. nothing_beside };
 
     fn read(&mut self, into: &mut [u8]) -> Result<usize, SourceFailed> {
         self.reads = self.reads.saturating_add(1);
@@ -92,30 +92,8 @@ type Meets = Outside<
     MemoryStore,
     ListClock,
     ListWords,
+    MemoryDoors,
 >;
-
-/// A store that holds `abc` at `https://a.example/data/f1`.
-fn store(alloc: Global) -> Result<MemoryStore, Fail> {
-    let mut files = Vec::new(alloc);
-    let endpoint = EndpointName::read(alloc, "https://a.example")?;
-    let path = PathKey::read(alloc, "data/f1")?;
-    if let (Some(endpoint), Some(path)) = (endpoint, path) {
-        let file = StoredFile {
-            place: Place { endpoint, path },
-            bytes: Items::from_vec(b"abc".to_vec(alloc)?),
-        };
-        if files.push(file).is_err() {
-            return Err(Fail::new("no memory"));
-        }
-    }
-    let files = Items::from_vec(files);
-    Ok(MemoryStore::new(alloc, files, Vec::new(alloc), Vec::new(alloc)))
-}
-
-/// The moment of every command.
-fn clock(alloc: Global) -> Result<ListClock, Fail> {
-    Ok(ListClock::new(vec![in alloc; 1_700_000_000; 1]?))
-}
 
 /// A hand with a clock.
 fn hand<C: Clock + Drop>(alloc: Global, clock: C) -> Result<Hand<MemoryStore, C, ListWords>, Fail> {
@@ -154,6 +132,7 @@ fn outside_under(
 ) -> Result<Meets, Fail>
     ensures disk { IfOk result (λ outside. IsSome outside.disk) }
     ensures hands { IfOk result (λ outside. length outside.hands.items ≡ 16) }
+    ensures lanes { IfOk result (λ outside. length outside.lanes.items ≡ 8) }
 {
     let text = Vec::from_slice(alloc, settings.0.as_bytes())?;
     Ok(Outside {
@@ -164,6 +143,7 @@ fn outside_under(
         disk: Some(MemoryDisk::new(alloc, Vec::new(alloc))),
         clock: clock(alloc)?,
         hands: hands(alloc)?,
+        lanes: lanes(alloc, clocks(alloc)?)?,
     })
 }
 
@@ -171,24 +151,39 @@ fn outside_under(
 fn outside_with(alloc: Global, input: Pieces, write: u64, note: u64) -> Result<Meets, Fail>
     ensures disk { IfOk result (λ outside. IsSome outside.disk) }
     ensures hands { IfOk result (λ outside. length outside.hands.items ≡ 16) }
+    ensures lanes { IfOk result (λ outside. length outside.lanes.items ≡ 8) }
 {
     outside_under(alloc, (STAND, 0), input, write, note)
 }
 
-/// A run of these words.
-fn run_words<F: Source, S: Source, K: Sink, N: Sink, D: Disk, E: Store, C: Clock, W: Words>(
+/// A run of these words, which are not to serve.
+fn run_words<
+    F: Source,
+    S: Source,
+    K: Sink,
+    N: Sink,
+    D: Disk,
+    E: Store,
+    C: Clock,
+    W: Words,
+    A: Doors,
+>(
     alloc: Global,
     words: &[&str],
-    outside: &mut Outside<F, S, K, N, D, E, C, W>,
+    outside: &mut Outside<F, S, K, N, D, E, C, W, A>,
 ) -> Result<Ending, Fail>
     requires disk { IsSome outside.old.disk }
     requires hands { length outside.old.hands.items ≡ 16 }
+    requires lanes { length outside.old.lanes.items ≡ 8 }
 {
     let mut owned = Vec::new(alloc);
     for word in words {
         owned.push(String::from_str(alloc, word)?)?;
     }
-    Ok(run(alloc, owned.as_slice(), outside))
+    match run_alone(alloc, owned.as_slice(), outside) {
+        Some(ending) => Ok(ending),
+        None => Err(Fail::new("it serves")),
+    }
 }
 
 #[test]
@@ -288,6 +283,16 @@ struct Session {
 
 /// A session of these requests over a disk, under the stand's settings.
 fn session_over(alloc: Global, disk: MemoryDisk, requests: &str) -> Result<Session, Fail> {
+    run_over(alloc, "session", disk, requests)
+}
+
+/// A run of this command over a disk, under the stand's settings.
+fn run_over(
+    alloc: Global,
+    command: &str,
+    disk: MemoryDisk,
+    requests: &str,
+) -> Result<Session, Fail> {
     let text = Vec::from_slice(alloc, STAND.as_bytes())?;
     let input = Vec::from_slice(alloc, requests.as_bytes())?;
     let mut outside = Outside {
@@ -298,8 +303,9 @@ fn session_over(alloc: Global, disk: MemoryDisk, requests: &str) -> Result<Sessi
         disk: Some(disk),
         clock: clock(alloc)?,
         hands: hands(alloc)?,
+        lanes: lanes(alloc, clocks(alloc)?)?,
     };
-    let ending = run_words(alloc, &["session"], &mut outside)?;
+    let ending = run_words(alloc, &[command], &mut outside)?;
     let Outside {
         settings: _,
         input: _,
@@ -308,6 +314,7 @@ fn session_over(alloc: Global, disk: MemoryDisk, requests: &str) -> Result<Sessi
         disk,
         clock: _,
         hands: _,
+        lanes: _,
     } = outside;
     match disk {
         Some(disk) => Ok(Session {
@@ -571,6 +578,37 @@ fn settings_that_cannot_be_had_stop_the_run(rt: HostRuntime) -> Result<(), Fail>
     Ok(())
 }
 
+/// What `show` writes after the two submissions of the first row: the file of the first is there, and the second finds its destination.
+const SHOWN: &str =
+    "job 00000000-0000-4000-8000-000000000001 FINISHED plain 3\nfile 1 0 FINISHED https://a.example/data/f1 https://b.example/f1\njob 00000000-0000-4000-8000-000000000002 FAILED plain 3\nfile 2 0 FAILED https://a.example/data/f1 https://b.example/f1\n";
+
+#[test]
+fn show_writes_the_tables_of_a_journal(rt: HostRuntime) -> Result<(), Fail> {
+    let alloc = rt.alloc();
+    let empty = MemoryDisk::new(alloc, Vec::new(alloc));
+    let first = session_over(alloc, empty, ROWS[0].input)?;
+    let shown = run_over(alloc, "show", first.disk, ROWS[0].input)?;
+    assert_eq!(rt; shown.output.bytes(), SHOWN.as_bytes());
+    assert_eq!(rt; shown.notes.bytes(), b"".as_slice());
+    let tally = shown.ending.tally;
+    assert_eq!(rt; (shown.ending.status, tally.claims), (0, 0));
+    assert_eq!(rt; (tally.finished, tally.failed), (1, 1));
+    let again = run_over(alloc, "show", shown.disk, "")?;
+    assert_eq!(rt;
+        again.output.bytes(),
+        SHOWN.as_bytes(),
+        "it left the journal"
+    );
+    let empty = MemoryDisk::new(alloc, Vec::new(alloc));
+    let nothing = run_over(alloc, "show", empty, "")?;
+    assert_eq!(rt; nothing.ending.status, 7);
+    assert_eq!(rt;
+        nothing.notes.bytes(),
+        b"fts: journal damaged at 0\n".as_slice()
+    );
+    Ok(())
+}
+
 #[test]
 fn other_words_are_no_command(rt: HostRuntime) -> Result<(), Fail> {
     let lists: [&[&str]; 5] = [
@@ -610,6 +648,7 @@ struct WaitingClient<'a> {
 
 impl Source for WaitingClient<'_> {
     ghost use Rattle.std.specs.Prelude.{None};
+    ghost use Rattle.fts_wire.specs.Outside.{nothing_beside};
 
     ghost left = { λ _. None };
 
@@ -617,7 +656,7 @@ impl Source for WaitingClient<'_> {
 
     ghost reads = { λ client. client.reads };
 
-    ghost beside = { λ _. record { bytes = None; faults = 0 } };
+    ghost beside = { λ _. nothing_beside };
 
     fn read(&mut self, into: &mut [u8]) -> Result<usize, SourceFailed> {
         self.reads = self.reads.saturating_add(1);
@@ -698,6 +737,16 @@ fn a_request_is_read_then_timed_then_answered_before_the_next_is_read(
     if hands.len() != 16 {
         return Err(Fail::new("another number of hands"));
     }
+    let mut clocks = Vec::new(rt.alloc());
+    for _ in 0..8 {
+        let clock = NotingClock {
+            reads_seen: &reads_seen,
+            noted: Vec::new(rt.alloc()),
+        };
+        if clocks.push(clock).is_err() {
+            return Err(Fail::new("no memory"));
+        }
+    }
     let mut outside = Outside {
         settings: MemorySource::new(text, Vec::new(rt.alloc())),
         input: WaitingClient {
@@ -719,6 +768,7 @@ fn a_request_is_read_then_timed_then_answered_before_the_next_is_read(
             noted: Vec::new(rt.alloc()),
         },
         hands,
+        lanes: lanes(rt.alloc(), clocks)?,
     };
     let ending = run_words(rt.alloc(), &["session"], &mut outside)?;
     assert_eq!(rt;

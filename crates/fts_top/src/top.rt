@@ -1,36 +1,46 @@
-//! The top call: what the program does, over the outside that it is handed.
+//! The top calls: what the program does, over the outside that it is handed.
 //! Order: the words are looked at, the settings are read whole and then by their rules, memory is taken, a keep is started on the disk, which has a
-//! Restart with the settings accepted, requests are answered and rounds made, the disk is given back, and the end is noted.
-ghost use Rattle.std.specs.Prelude.{◌≡◌, ◌≢◌, ◌↔◌, ◌≤◌, ℕ, false, List, length, count_by, Option, IsSome};
-ghost use Rattle.fts_tables.specs.Tables.{is_submitted, is_finished, is_failed, is_canceled};
+//! Restart with the settings accepted, requests are answered and rounds made, the disk is given back, and the end is noted. For `show` the journal
+//! is only looked at, behind the settings.
+//! `run_alone` does every command but `serve`, and waits for nobody; `run` calls it first.
+ghost use Rattle.std.specs.Prelude.{◌≡◌, ◌≢◌, ◌↔◌, ℕ, None, List, map, length, string_bytes, Option, IsSome, IfSome};
 ghost use Rattle.fts_tables.specs.Counts.{Rose};
-ghost use Rattle.fts_top.specs.Words.{is_session};
-ghost use Rattle.fts_top.specs.Ends.{status_of};
+ghost use Rattle.fts_words.specs.Words.{asked_in, IsToServe};
+ghost use Rattle.fts_top.specs.Ends.{status_of, IsServingStatus};
 ghost use Rattle.fts_top.specs.Notes.{note_of, IsNoted};
-ghost use Rattle.fts_top.specs.Tallies.{tally_with, no_tally};
+ghost use Rattle.fts_top.specs.Asked.{DoesAsked, DoesOrServes};
+ghost use Rattle.fts_top.specs.Complete.{Completes, failures_of};
 ghost use Rattle.fts_top.specs.Connections.{reading_of};
 ghost use Rattle.fts_top.specs.Sessions.{IsReady, thread};
+ghost use Rattle.fts_top.specs.Serves.{IsServingRun, many_threads};
 ghost use Rattle.fts_top.specs.Runs.{one_thread, OverDisks, OverHands, AreRead, IsSessionRun, ServesKeep};
 
+use crate::Ending;
+use crate::done::{Done, make_tally, stop};
+use crate::doors::Doors;
 use crate::ends::RunEnd;
+use crate::lane::Lane;
+use crate::loads::run_load;
+use crate::looks::show;
 use crate::notes::write_note;
 use crate::reading::load_settings;
+use crate::service::serve_as_asked;
 use crate::session::{Working, run_session};
-use crate::words::is_session_command;
-use crate::{Ending, Tally};
-use fts_desk::Desk;
 use fts_disk::Disk;
 use fts_keep::Keep;
 use fts_store::Store;
-use fts_tables::{Clock, FileRow, Settings, Words};
+use fts_tables::{Clock, Memory, Settings, Words};
 use fts_wire::{Room, Sink, Source};
+use fts_words::{Asked, read_words, take_words};
 use fts_workers::{Bench, Hand};
 use std::alloc::Global;
+use std::sync::Wait;
+use std::thread::Threads;
 
-/// What a run meets: the text of its settings, its input, its output, where it notes how it ended, the disk of its journal, the clock, and hands,
-/// of which one thread uses the first one's store and words.
+/// What a run meets: the text of its settings, its input, its output, where it notes how it ended, the disk of its journal, the clock, hands, of
+/// which one thread uses the first one's store and words, and lanes, of which only a run that serves uses any.
 #[derive(Drop)]
-pub struct Outside<F, S, K, N, D, E: Store, C: Clock, W: Words> {
+pub struct Outside<F, S, K, N, D, E: Store, C: Clock, W: Words, A: Doors> {
     pub settings: F,
     pub input: S,
     pub output: K,
@@ -38,48 +48,205 @@ pub struct Outside<F, S, K, N, D, E: Store, C: Clock, W: Words> {
     pub disk: Option<D>,
     pub clock: C,
     pub hands: Vec<Hand<E, C, W>>,
-}
-
-/// How a command ended, its tally, and the disk that it gives back.
-#[derive(Drop)]
-struct Done<D> {
-    end: RunEnd,
-    tally: Tally,
-    disk: D,
+    pub lanes: Vec<Lane<A, C>>,
 }
 
 /// Does all that the program does for these words, and gives its exit status:
-/// 0 at the input's end between requests, once nothing is left to copy; 1 for want of memory, 2 for words that are no command, 3 where the settings
-/// break a rule, 4 where the disk failed at the opening or in the last round, 5 and 6 where a read or a write failed, 7 where the journal is damaged,
-/// 8 where the settings could not be read, 10 where the input ended inside a request, 11 where the Restart or an entry of the last round doesn't fit
-/// the journal, 12 where what came was refused, 14 after as many requests as a connection may have. There are 16 hands; the disk is there before and
-/// after, and the hands are in their order.
-pub fn run<F: Source, S: Source, K: Sink, N: Sink, D: Disk, E: Store, C: Clock, W: Words>(
+/// 0 at the input's end between requests, once nothing is left to copy, or where a load ended so, or where the tables were shown, or where all lanes
+/// ended and all workers found nothing left; 1 for want of memory, 2 for words that are no command, 3 where the settings
+/// break a rule, 4 where the disk failed at the opening or in the last round, or in a worker's last turn, 5 and 6 where a read or a write failed,
+/// 7 where the journal is damaged, or is shown and has no byte,
+/// 8 where the settings could not be read, 9 where the doors of a lane failed, 10 where the input ended inside a request, 11 where the Restart or
+/// an entry of the last round or of a worker's last turn doesn't fit
+/// the journal, 12 where what came was refused, 13 where a call of the store failed while the files of a load were made, 14 after as many requests as a connection may have. There are 16 hands and 8 lanes; the disk is
+/// there before and after, and the hands and the lanes are in their order. It waits only where it serves.
+pub fn run<
+    F: Source,
+    S: Source,
+    K: Sink,
+    N: Sink,
+    D: Disk + Send,
+    E: Store + Send,
+    C: Clock + Send,
+    W: Words + Send,
+    A: Doors + Send,
+    R: Threads + Wait + Sync,
+>(
+    rt: &R,
     alloc: Global,
     words: &[String],
-    outside: &mut Outside<F, S, K, N, D, E, C, W>,
+    outside: &mut Outside<F, S, K, N, D, E, C, W, A>,
 ) -> Ending
+where
+    A::Line: Send,
     requires disk { IsSome outside.old.disk }
     requires hands { length outside.old.hands.items ≡ 16 }
-    ensures words { (result.status ≡ 2) ↔ (is_session words.now ≡ false) }
-    ensures untouched { is_session words.now ≡ false → (outside.new.settings ≡ outside.old.settings) × (outside.new.input ≡ outside.old.input)
+    requires lanes { length outside.old.lanes.items ≡ 8 }
+    ensures words { (result.status ≡ 2) ↔ (asked_in (map string_bytes words.now) ≡ None) }
+    ensures untouched { asked_in (map string_bytes words.now) ≡ None → (outside.new.settings ≡ outside.old.settings) × (outside.new.input ≡ outside.old.input)
+        × (outside.new.output ≡ outside.old.output) × (outside.new.disk ≡ outside.old.disk) × (outside.new.clock ≡ outside.old.clock) }
+    // Its end decides the status and the note, and is the end of what it did: alone, with the first hand and no lane, or with lanes and hands.
+    ensures run { (end : RunEnd) × ((result.status ≡ status_of end)
+        × (OverDisks outside.old.disk outside.new.disk (λ disk left. DoesOrServes (asked_in (map string_bytes words.now))
+        (OverHands outside.old.hands.items outside.new.hands.items
+        (λ hand now. DoesAsked D.state D.faults E.state E.calls E.faults (asked_in (map string_bytes words.now)) end result.tally (F.left outside.old.settings)
+        (one_thread disk hand.store (reading_of (S.left outside.old.input) (S.reads outside.old.input)) (K.held outside.old.output)
+        (C.moments outside.old.clock) (W.words hand.words))
+        (one_thread left now.store (reading_of (S.left outside.new.input) (S.reads outside.new.input)) (K.held outside.new.output)
+        (C.moments outside.new.clock) (W.words now.words))) × (outside.new.lanes ≡ outside.old.lanes))
+        (λ lanes connections. IsServingRun D.state D.faults E.state E.calls E.faults
+        (record { left = A.Line.Source.left; reads = A.Line.Source.reads; held = A.Line.Sink.held; read_faults = A.Line.Source.faults; write_faults = A.Line.Sink.faults })
+        A.doors A.faults C.moments W.words lanes connections end result.tally (F.left outside.old.settings)
+        (many_threads disk outside.old.lanes.items outside.old.hands.items (C.moments outside.old.clock))
+        (many_threads left outside.new.lanes.items outside.new.hands.items (C.moments outside.new.clock))
+        × (outside.new.input ≡ outside.old.input) × (outside.new.output ≡ outside.old.output)))
+        × IsNoted (N.held outside.old.notes) (N.held outside.new.notes) (N.faults outside.old.notes) (N.faults outside.new.notes) (note_of end))) }
+    // Where nothing breaks a rule and no device fails, it comes to its end.
+    ensures complete { (IsToServe (asked_in (map string_bytes words.now)) → ⊥) → (end : RunEnd) × ((result.status ≡ status_of end)
+        × OverDisks outside.old.disk outside.new.disk (λ disk left. OverHands outside.old.hands.items outside.new.hands.items
+        (λ hand now. Completes D.state D.faults E.state E.calls E.faults (F.left outside.old.settings)
+        (one_thread disk hand.store (reading_of (S.left outside.old.input) (S.reads outside.old.input)) (K.held outside.old.output)
+        (C.moments outside.old.clock) (W.words hand.words))
+        (one_thread left now.store (reading_of (S.left outside.new.input) (S.reads outside.new.input)) (K.held outside.new.output)
+        (C.moments outside.new.clock) (W.words now.words)) end result.tally (asked_in (map string_bytes words.now))
+        (failures_of (F.faults outside.old.settings) (S.faults outside.old.input) (K.faults outside.old.output) (D.faults disk))
+        (failures_of (F.faults outside.new.settings) (S.faults outside.new.input) (K.faults outside.new.output) (D.faults left))))) }
+    ensures settings { result.status ≡ 8 → Rose (F.faults outside.old.settings) (F.faults outside.new.settings) }
+    ensures input { result.status ≡ 5 → Rose (S.faults outside.old.input) (S.faults outside.new.input) }
+    ensures output { result.status ≡ 6 → Rose (K.faults outside.old.output) (K.faults outside.new.output) }
+    // Of a run that serves, what it did says it of the start and of each worker's last turn.
+    ensures disk { (IsToServe (asked_in (map string_bytes words.now)) → ⊥) → result.status ≡ 4
+        → OverDisks outside.old.disk outside.new.disk (λ disk left. Rose (D.faults disk) (D.faults left)) }
+    ensures there { IsSome outside.new.disk }
+    ensures hands { length outside.new.hands.items ≡ 16 }
+    ensures lanes { length outside.new.lanes.items ≡ 8 }
+{
+    match run_alone(alloc, words, outside) {
+        Some(ending) => ending,
+        None => run_serving(rt, alloc, words, outside),
+    }
+}
+
+/// Serves as these words ask for, which are accepted as `serve`.
+fn run_serving<
+    F: Source,
+    S: Source,
+    K: Sink,
+    N: Sink,
+    D: Disk + Send,
+    E: Store + Send,
+    C: Clock + Send,
+    W: Words + Send,
+    A: Doors + Send,
+    R: Threads + Wait + Sync,
+>(
+    rt: &R,
+    alloc: Global,
+    words: &[String],
+    outside: &mut Outside<F, S, K, N, D, E, C, W, A>,
+) -> Ending
+where
+    A::Line: Send,
+    requires asked { IsToServe (asked_in (map string_bytes words.now)) }
+    requires disk { IsSome outside.old.disk }
+    requires hands { length outside.old.hands.items ≡ 16 }
+    requires lanes { length outside.old.lanes.items ≡ 8 }
+    ensures run { (end : RunEnd) × ((result.status ≡ status_of end)
+        × (OverDisks outside.old.disk outside.new.disk (λ disk left. DoesOrServes (asked_in (map string_bytes words.now)) ⊥
+        (λ lanes connections. IsServingRun D.state D.faults E.state E.calls E.faults
+        (record { left = A.Line.Source.left; reads = A.Line.Source.reads; held = A.Line.Sink.held; read_faults = A.Line.Source.faults; write_faults = A.Line.Sink.faults })
+        A.doors A.faults C.moments W.words lanes connections end result.tally (F.left outside.old.settings)
+        (many_threads disk outside.old.lanes.items outside.old.hands.items (C.moments outside.old.clock))
+        (many_threads left outside.new.lanes.items outside.new.hands.items (C.moments outside.new.clock))))
+        × IsNoted (N.held outside.old.notes) (N.held outside.new.notes) (N.faults outside.old.notes) (N.faults outside.new.notes) (note_of end))) }
+    ensures nothing { (outside.new.input ≡ outside.old.input) × (outside.new.output ≡ outside.old.output) }
+    ensures settings { result.status ≡ 8 → Rose (F.faults outside.old.settings) (F.faults outside.new.settings) }
+    ensures status { IsServingStatus result.status }
+    ensures there { IsSome outside.new.disk }
+    ensures hands { length outside.new.hands.items ≡ 16 }
+    ensures lanes { length outside.new.lanes.items ≡ 8 }
+{
+    let Some(disk) = outside.disk.take() else {
+        unreachable!();
+    };
+    let done = serve_as_asked(
+        rt,
+        alloc,
+        words,
+        &mut outside.settings,
+        disk,
+        &mut outside.clock,
+        &mut outside.lanes,
+        &mut outside.hands,
+    );
+    let Done { end, tally, disk } = done;
+    match outside.disk.replace(disk) {
+        None => {}
+        Some(_) => unreachable!(),
+    }
+    write_note(&mut outside.notes, end);
+    Ending {
+        status: end.status(),
+        tally,
+    }
+}
+
+/// Does all that `run` does for every command but `serve`, and waits for nobody. `None` exactly where the words are accepted as `serve`, and then
+/// nothing is read, written or called.
+pub fn run_alone<
+    F: Source,
+    S: Source,
+    K: Sink,
+    N: Sink,
+    D: Disk,
+    E: Store,
+    C: Clock,
+    W: Words,
+    A: Doors,
+>(
+    alloc: Global,
+    words: &[String],
+    outside: &mut Outside<F, S, K, N, D, E, C, W, A>,
+) -> Option<Ending>
+    requires disk { IsSome outside.old.disk }
+    requires hands { length outside.old.hands.items ≡ 16 }
+    requires lanes { length outside.old.lanes.items ≡ 8 }
+    ensures serve { (result ≡ None) ↔ IsToServe (asked_in (map string_bytes words.now)) }
+    ensures nothing { result ≡ None → outside.new ≡ outside.old }
+    ensures words { IfSome result (λ ending. (ending.status ≡ 2) ↔ (asked_in (map string_bytes words.now) ≡ None)) }
+    ensures untouched { asked_in (map string_bytes words.now) ≡ None → (outside.new.settings ≡ outside.old.settings) × (outside.new.input ≡ outside.old.input)
         × (outside.new.output ≡ outside.old.output) × (outside.new.disk ≡ outside.old.disk) × (outside.new.clock ≡ outside.old.clock) }
     // Its end decides the status and the note, and is the end of what it did.
-    ensures run { (end : RunEnd) × ((result.status ≡ status_of end)
+    ensures run { IfSome result (λ ending. (end : RunEnd) × ((ending.status ≡ status_of end)
         × (OverDisks outside.old.disk outside.new.disk (λ disk left. OverHands outside.old.hands.items outside.new.hands.items
-        (λ hand now. IsSessionRun D.state D.faults E.state E.calls E.faults end result.tally (F.left outside.old.settings)
+        (λ hand now. DoesAsked D.state D.faults E.state E.calls E.faults (asked_in (map string_bytes words.now)) end ending.tally (F.left outside.old.settings)
         (one_thread disk hand.store (reading_of (S.left outside.old.input) (S.reads outside.old.input)) (K.held outside.old.output)
         (C.moments outside.old.clock) (W.words hand.words))
         (one_thread left now.store (reading_of (S.left outside.new.input) (S.reads outside.new.input)) (K.held outside.new.output)
         (C.moments outside.new.clock) (W.words now.words))))
-        × IsNoted (N.held outside.old.notes) (N.held outside.new.notes) (N.faults outside.old.notes) (N.faults outside.new.notes) (note_of end))) }
-    ensures settings { result.status ≡ 8 → Rose (F.faults outside.old.settings) (F.faults outside.new.settings) }
-    ensures input { result.status ≡ 5 → Rose (S.faults outside.old.input) (S.faults outside.new.input) }
-    ensures output { result.status ≡ 6 → Rose (K.faults outside.old.output) (K.faults outside.new.output) }
-    ensures disk { result.status ≡ 4 → OverDisks outside.old.disk outside.new.disk (λ disk left. Rose (D.faults disk) (D.faults left)) }
+        × IsNoted (N.held outside.old.notes) (N.held outside.new.notes) (N.faults outside.old.notes) (N.faults outside.new.notes) (note_of end)))) }
+    // Where nothing breaks a rule and no device fails, it comes to its end.
+    ensures complete { IfSome result (λ ending. (end : RunEnd) × ((ending.status ≡ status_of end)
+        × OverDisks outside.old.disk outside.new.disk (λ disk left. OverHands outside.old.hands.items outside.new.hands.items
+        (λ hand now. Completes D.state D.faults E.state E.calls E.faults (F.left outside.old.settings)
+        (one_thread disk hand.store (reading_of (S.left outside.old.input) (S.reads outside.old.input)) (K.held outside.old.output)
+        (C.moments outside.old.clock) (W.words hand.words))
+        (one_thread left now.store (reading_of (S.left outside.new.input) (S.reads outside.new.input)) (K.held outside.new.output)
+        (C.moments outside.new.clock) (W.words now.words)) end ending.tally (asked_in (map string_bytes words.now))
+        (failures_of (F.faults outside.old.settings) (S.faults outside.old.input) (K.faults outside.old.output) (D.faults disk))
+        (failures_of (F.faults outside.new.settings) (S.faults outside.new.input) (K.faults outside.new.output) (D.faults left)))))) }
+    ensures settings { IfSome result (λ ending. ending.status ≡ 8 → Rose (F.faults outside.old.settings) (F.faults outside.new.settings)) }
+    ensures input { IfSome result (λ ending. ending.status ≡ 5 → Rose (S.faults outside.old.input) (S.faults outside.new.input)) }
+    ensures output { IfSome result (λ ending. ending.status ≡ 6 → Rose (K.faults outside.old.output) (K.faults outside.new.output)) }
+    ensures disk { IfSome result (λ ending. ending.status ≡ 4 → OverDisks outside.old.disk outside.new.disk (λ disk left. Rose (D.faults disk) (D.faults left))) }
     ensures there { IsSome outside.new.disk }
     ensures hands { length outside.new.hands.items ≡ 16 }
+    ensures lanes { outside.new.lanes ≡ outside.old.lanes }
 {
+    match read_words(words) {
+        Some(Asked::Serve { .. }) => return None,
+        Some(Asked::Session | Asked::Show | Asked::Load { .. }) | None => {}
+    }
     let Some(disk) = outside.disk.take() else {
         unreachable!();
     };
@@ -101,13 +268,13 @@ pub fn run<F: Source, S: Source, K: Sink, N: Sink, D: Disk, E: Store, C: Clock, 
         Some(_) => unreachable!(),
     }
     write_note(&mut outside.notes, end);
-    Ending {
+    Some(Ending {
         status: end.status(),
         tally,
-    }
+    })
 }
 
-/// Does the command that the words are, where they are one.
+/// Does the command that the words are, which is not to serve.
 fn do_command<F: Source, S: Source, K: Sink, D: Disk, E: Store, C: Clock, W: Words>(
     alloc: Global,
     words: &[String],
@@ -119,10 +286,11 @@ fn do_command<F: Source, S: Source, K: Sink, D: Disk, E: Store, C: Clock, W: Wor
     store: &mut E,
     draws: &mut W,
 ) -> Done<D>
-    ensures words { (status_of result.end ≡ 2) ↔ (is_session words.now ≡ false) }
-    ensures untouched { is_session words.now ≡ false → (settings.new ≡ settings.old) × (input.new ≡ input.old)
+    requires alone { IsToServe (asked_in (map string_bytes words.now)) → ⊥ }
+    ensures words { (status_of result.end ≡ 2) ↔ (asked_in (map string_bytes words.now) ≡ None) }
+    ensures untouched { asked_in (map string_bytes words.now) ≡ None → (settings.new ≡ settings.old) × (input.new ≡ input.old)
         × (output.new ≡ output.old) × (result.disk ≡ disk) × (clock.new ≡ clock.old) }
-    ensures run { IsSessionRun D.state D.faults E.state E.calls E.faults result.end result.tally (F.left settings.old)
+    ensures run { DoesAsked D.state D.faults E.state E.calls E.faults (asked_in (map string_bytes words.now)) result.end result.tally (F.left settings.old)
         (one_thread disk store.old (reading_of (S.left input.old) (S.reads input.old)) (K.held output.old) (C.moments clock.old) (W.words draws.old))
         (one_thread result.disk store.new (reading_of (S.left input.new) (S.reads input.new)) (K.held output.new) (C.moments clock.new) (W.words draws.new)) }
     ensures settings { status_of result.end ≡ 8 → Rose (F.faults settings.old) (F.faults settings.new) }
@@ -130,10 +298,20 @@ fn do_command<F: Source, S: Source, K: Sink, D: Disk, E: Store, C: Clock, W: Wor
     ensures output { status_of result.end ≡ 6 → Rose (K.faults output.old) (K.faults output.new) }
     ensures disk { status_of result.end ≡ 4 → Rose (D.faults disk) (D.faults result.disk) }
 {
-    if is_session_command(words) {
-        begin_session(alloc, settings, input, output, disk, clock, store, draws)
-    } else {
-        stop(RunEnd::NoCommand, disk)
+    let asked = match take_words(alloc, words) {
+        Ok(asked) => asked,
+        Err(Memory) => return stop(RunEnd::NoMemory, disk),
+    };
+    match asked {
+        None => stop(RunEnd::NoCommand, disk),
+        Some(Asked::Session) => {
+            begin_session(alloc, settings, input, output, disk, clock, store, draws)
+        }
+        Some(Asked::Show) => show(alloc, settings, output, disk),
+        Some(Asked::Load { number }) => {
+            run_load(alloc, number, settings, output, disk, clock, store, draws)
+        }
+        Some(Asked::Serve { .. }) => unreachable!(),
     }
 }
 
@@ -206,7 +384,7 @@ fn serve_under<S: Source, K: Sink, D: Disk, E: Store, C: Clock, W: Words>(
 }
 
 /// Runs a session over a keep, and closes it.
-fn serve<S: Source, K: Sink, D: Disk, E: Store, C: Clock, W: Words>(
+pub fn serve<S: Source, K: Sink, D: Disk, E: Store, C: Clock, W: Words>(
     alloc: Global,
     mut working: Working<D>,
     room: &mut Room,
@@ -248,65 +426,4 @@ fn serve<S: Source, K: Sink, D: Disk, E: Store, C: Clock, W: Words>(
         tally,
         disk: keep.close(),
     }
-}
-
-/// The end of a run that stopped before its first request.
-fn stop<D>(end: RunEnd, disk: D) -> Done<D>
-    ensures end { result.end ≡ end }
-    ensures tally { result.tally ≡ no_tally }
-    ensures disk { result.disk ≡ disk }
-{
-    Done {
-        end,
-        tally: Tally {
-            claims: 0,
-            finished: 0,
-            failed: 0,
-            cancelled: 0,
-            waiting: 0,
-        },
-        disk,
-    }
-}
-
-/// The tally of a desk, after so many claims.
-fn make_tally(desk: &Desk, claims: u32) -> Tally
-    ensures { result ≡ tally_with claims desk.now.tables }
-{
-    let rows = desk.rows();
-    Tally {
-        claims,
-        finished: count_finished(rows) as u32,
-        failed: count_failed(rows) as u32,
-        cancelled: count_canceled(rows) as u32,
-        waiting: count_submitted(rows) as u32,
-    }
-}
-
-fn count_finished(rows: &[FileRow]) -> usize
-    ensures count { result ≡ count_by (λ row. is_finished row.state) rows.now }
-    ensures few { result ≤ length rows.now }
-{
-    rows.iter().filter(|row| row.state.is_finished()).count()
-}
-
-fn count_failed(rows: &[FileRow]) -> usize
-    ensures count { result ≡ count_by (λ row. is_failed row.state) rows.now }
-    ensures few { result ≤ length rows.now }
-{
-    rows.iter().filter(|row| row.state.is_failed()).count()
-}
-
-fn count_canceled(rows: &[FileRow]) -> usize
-    ensures count { result ≡ count_by (λ row. is_canceled row.state) rows.now }
-    ensures few { result ≤ length rows.now }
-{
-    rows.iter().filter(|row| row.state.is_canceled()).count()
-}
-
-fn count_submitted(rows: &[FileRow]) -> usize
-    ensures count { result ≡ count_by (λ row. is_submitted row.state) rows.now }
-    ensures few { result ≤ length rows.now }
-{
-    rows.iter().filter(|row| row.state.is_submitted()).count()
 }

@@ -48,7 +48,8 @@ impl MemorySource {
 }
 
 impl Source for MemorySource {
-    ghost use Rattle.std.specs.Prelude.{Some, None};
+    ghost use Rattle.std.specs.Prelude.{Some};
+    ghost use Rattle.fts_wire.specs.Outside.{nothing_beside};
 
     ghost left = { λ s. Some s.left };
 
@@ -56,7 +57,7 @@ impl Source for MemorySource {
 
     ghost reads = { λ s. s.reads };
 
-    ghost beside = { λ _. record { bytes = None; faults = 0 } };
+    ghost beside = { λ _. nothing_beside };
 
     fn read(&mut self, into: &mut [u8]) -> Result<usize, SourceFailed>
         ensures bound { IfOk result (λ n. n ≤ length into.new) }
@@ -120,13 +121,14 @@ impl MemorySink {
 }
 
 impl Sink for MemorySink {
-    ghost use Rattle.std.specs.Prelude.{Some, None};
+    ghost use Rattle.std.specs.Prelude.{Some};
+    ghost use Rattle.fts_wire.specs.Outside.{nothing_beside};
 
     ghost held = { λ s. Some s.held };
 
     ghost faults = { λ s. s.faults };
 
-    ghost beside = { λ _. record { bytes = None; faults = 0 } };
+    ghost beside = { λ _. nothing_beside };
 
     fn write(&mut self, bytes: &[u8]) -> Result<usize, SinkFailed>
         ensures bound { IfOk result (λ n. n ≤ length bytes.now) }
@@ -169,8 +171,8 @@ impl MemoryLine {
         ensures reads { ⟦<MemoryLine as Source>⟧.reads result ≡ ⟦<MemorySource as Source>⟧.reads source }
         ensures sink_faults { ⟦<MemoryLine as Sink>⟧.faults result ≡ ⟦<MemorySink as Sink>⟧.faults sink }
         ensures line { IsLine
-            (record { bytes = ⟦<MemoryLine as Source>⟧.left; faults = ⟦<MemoryLine as Source>⟧.faults; beside = ⟦<MemoryLine as Source>⟧.beside })
-            (record { bytes = ⟦<MemoryLine as Sink>⟧.held; faults = ⟦<MemoryLine as Sink>⟧.faults; beside = ⟦<MemoryLine as Sink>⟧.beside }) }
+            (record { bytes = ⟦<MemoryLine as Source>⟧.left; faults = ⟦<MemoryLine as Source>⟧.faults; reads = ⟦<MemoryLine as Source>⟧.reads; beside = ⟦<MemoryLine as Source>⟧.beside })
+            (record { bytes = ⟦<MemoryLine as Sink>⟧.held; faults = ⟦<MemoryLine as Sink>⟧.faults; reads = λ _. 0; beside = ⟦<MemoryLine as Sink>⟧.beside }) }
     {
         MemoryLine { source, sink }
     }
@@ -192,7 +194,7 @@ impl Source for MemoryLine {
 
     ghost reads = { λ l. l.source.reads };
 
-    ghost beside = { λ l. record { bytes = Some l.sink.held; faults = l.sink.faults } };
+    ghost beside = { λ l. record { bytes = Some l.sink.held; faults = l.sink.faults; reads = 0 } };
 
     fn read(&mut self, into: &mut [u8]) -> Result<usize, SourceFailed> {
         self.source.read(into)
@@ -206,7 +208,7 @@ impl Sink for MemoryLine {
 
     ghost faults = { λ l. l.sink.faults };
 
-    ghost beside = { λ l. record { bytes = Some l.source.left; faults = l.source.faults } };
+    ghost beside = { λ l. record { bytes = Some l.source.left; faults = l.source.faults; reads = l.source.reads } };
 
     fn write(&mut self, bytes: &[u8]) -> Result<usize, SinkFailed> {
         self.sink.write(bytes)

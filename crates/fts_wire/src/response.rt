@@ -1,7 +1,7 @@
 //! Responses, each handed to a sink in as few pieces as may be.
 //! Keeps: what is written is all of the response's bytes or, after a failed write, a part of them (`write_response`, clause `sent`).
-//! Order: the head with as much of the body as makes one piece, and then the rest of the body. A short response is one piece, since a head
-//! and a body that are written apart keep a client waiting for the second.
+//! Order: the head with as much of the body as makes one piece, and then the rest of the body. A response of up to 65,536 bytes is one piece,
+//! since a head and a body that are written apart keep a client waiting for the second. A short one, as most are, has a room of its own size.
 //! Called by fts_top. Format: docs/DEFINITIONS.md, "HTTP" (RFC 9112, section 4).
 ghost use Rattle.std.specs.Prelude.{◌≡◌, ◌+◌, ◌≤◌, ◌++◌, length, map, IsTrue};
 ghost use Rattle.std.specs.List.{concat};
@@ -13,8 +13,11 @@ use arrayvec::{ArrayString, ArrayVec};
 use fts_tables::Items;
 use itoa::Buffer;
 
-/// At most this many bytes of a response are handed to the sink with its head.
-const FIRST_PIECE_BYTES: usize = 4_096;
+/// A response of at most this many bytes is put together in a small room; of one that is no single piece so many bytes go out first.
+const SHORT_BYTES: usize = 4_096;
+
+/// A response of at most this many bytes is handed to the sink in one piece.
+const ONE_PIECE_BYTES: usize = 65_536;
 
 /// More than the longest head.
 const HEAD_BYTES: usize = 400;
@@ -53,8 +56,11 @@ pub fn write_response<K: Sink>(
 {
     let body = body_bytes(reply, head_only);
     let head = response_head(reply.status, body.len(), reply.allow, close);
-    let first = body.len().min(FIRST_PIECE_BYTES - head.len());
-    let piece = first_piece(&head, &body[..first]);
+    if head.len() + body.len() > SHORT_BYTES && head.len() + body.len() <= ONE_PIECE_BYTES {
+        return send_all(sink, joined::<ONE_PIECE_BYTES>(&head, body).as_slice());
+    }
+    let first = body.len().min(SHORT_BYTES - head.len());
+    let piece = joined::<SHORT_BYTES>(&head, &body[..first]);
     send_parts(sink, &[piece.as_slice(), &body[first..]])
 }
 
@@ -70,8 +76,8 @@ fn body_bytes(reply: &Reply, head_only: bool) -> &[u8]
 }
 
 /// A head, and the first bytes of a body.
-fn first_piece(head: &ArrayString<HEAD_BYTES>, body: &[u8]) -> ArrayVec<u8, FIRST_PIECE_BYTES>
-    requires { length head.now.bytes + length body.now ≤ FIRST_PIECE_BYTES }
+fn joined<const N: usize>(head: &ArrayString<HEAD_BYTES>, body: &[u8]) -> ArrayVec<u8, N>
+    requires { length head.now.bytes + length body.now ≤ N }
     ensures { result.items ≡ head.now.bytes ++ body.now }
 {
     let mut piece = ArrayVec::new();

@@ -35,6 +35,7 @@ impl<R: Read> StdSource<R> {
 
 impl<R: Read> Source for StdSource<R> {
     ghost use Rattle.std.specs.Prelude.{None};
+    ghost use Rattle.fts_wire.specs.Outside.{nothing_beside};
 
     ghost left = { λ _. None };
 
@@ -42,7 +43,7 @@ impl<R: Read> Source for StdSource<R> {
 
     ghost reads = { λ s. s.reads };
 
-    ghost beside = { λ _. record { bytes = None; faults = 0 } };
+    ghost beside = { λ _. nothing_beside };
 
     fn read(&mut self, into: &mut [u8]) -> Result<usize, SourceFailed>
         ensures bound { IfOk result (λ n. n ≤ length into.new) }
@@ -80,12 +81,13 @@ impl<W: Write> StdSink<W> {
 
 impl<W: Write> Sink for StdSink<W> {
     ghost use Rattle.std.specs.Prelude.{None};
+    ghost use Rattle.fts_wire.specs.Outside.{nothing_beside};
 
     ghost held = { λ _. None };
 
     ghost faults = { λ s. s.faults };
 
-    ghost beside = { λ _. record { bytes = None; faults = 0 } };
+    ghost beside = { λ _. nothing_beside };
 
     fn write(&mut self, bytes: &[u8]) -> Result<usize, SinkFailed>
         ensures bound { IfOk result (λ n. n ≤ length bytes.now) }

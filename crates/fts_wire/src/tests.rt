@@ -134,6 +134,10 @@ fn requests_are_the_same_however_they_are_cut(rt: HostRuntime) -> Result<(), Fai
         ),
         ("GET /é?limit=1?2 HTTP/1.1\r\n\r\n", "GET /é|limit=1?2 ;end"),
         ("OPTIONS *? HTTP/1.1\r\n\r\n", "OPTIONS *| ;end"),
+        (
+            "HEAD /jobs HTTP/1.1\r\nHost: a\r\n\r\nGET / HTTP/1.1\r\nHost: a\r\n\r\n",
+            "HEAD /jobs ;GET / ;end",
+        ),
         ("POST / HT", "inside"),
         ("GET / HTTP/1.1\r\nHost: a\r\n\r", "inside"),
         ("\0\n\0", "inside"),
@@ -394,12 +398,13 @@ struct PieceLengths {
 
 impl Sink for PieceLengths {
     ghost use Rattle.std.specs.Prelude.{None};
+    ghost use Rattle.fts_wire.specs.Outside.{nothing_beside};
 
     ghost held = { λ _. None };
 
     ghost faults = { λ _. 18446744073709551615 };
 
-    ghost beside = { λ _. record { bytes = None; faults = 0 } };
+    ghost beside = { λ _. nothing_beside };
 
     fn write(&mut self, bytes: &[u8]) -> Result<usize, SinkFailed> {
         match self.lengths.push(bytes.len()) {
@@ -411,13 +416,14 @@ impl Sink for PieceLengths {
 
 #[test]
 fn a_response_goes_out_in_few_pieces(rt: HostRuntime) -> Result<(), Fail> {
-    // A head of 200 with a length of four digits has 73 bytes.
+    // A head of 200 with a length of four digits has 73 bytes, and one digit more is one byte more.
     for (case, body, head_only, want) in [
         ("no body", 0, false, &[70][..]),
-        ("the greatest that is one piece", 4023, false, &[4096]),
-        ("a byte more", 4024, false, &[4096, 1]),
-        ("a large one", 9999, false, &[4096, 5976]),
-        ("a large one without its body", 9999, true, &[70]),
+        ("a short one", 4023, false, &[4096]),
+        ("a byte more", 4024, false, &[4097]),
+        ("the greatest that is one piece", 65_462, false, &[65_536]),
+        ("more than one piece", 65_463, false, &[4096, 61_441]),
+        ("a large one without its body", 65_463, true, &[70]),
     ] {
         let body = vec![in rt.alloc(); b' '; body]?;
         let reply = reply_of(&rt, 200, Allow::None, body.as_slice())?;
@@ -438,12 +444,12 @@ fn each_write_of_a_line_fails_in_turn(rt: HostRuntime) -> Result<(), Fail> {
     for (case, fail, want) in [
         ("the first", 1, 0),
         ("the second", 2, 4096),
-        ("none", 3, 5073),
+        ("none", 3, 70_074),
     ] {
         let source = MemorySource::new(Vec::new(rt.alloc()), Vec::new(rt.alloc()));
         let sink = MemorySink::new(rt.alloc(), vec![in rt.alloc(); fail; 1]?);
         let mut line = MemoryLine::new(source, sink);
-        let body = vec![in rt.alloc(); b' '; 5000]?;
+        let body = vec![in rt.alloc(); b' '; 70_000]?;
         let reply = reply_of(&rt, 200, Allow::None, body.as_slice())?;
         assert_eq!(rt;
             write_response(&mut line, false, false, &reply).is_ok(),

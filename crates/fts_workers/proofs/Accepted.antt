@@ -1,5 +1,5 @@
 -- What a command's answer makes of the list that a keep is of, and of the images since an opening.
-use Rattle.std.proofs.Common.{◌≡◌, refl, ap, sym, ◌∙◌, subst, inl, inr, ⊎_elim, ℕ, Bool, true, false, List, [], ◌∷◌, ◌++◌, Option, Some, None, Ok, Err, arith}
+use Rattle.std.proofs.Common.{◌≡◌, refl, ap, sym, ◌∙◌, subst, inl, inr, ⊎_elim, ℕ, ◌≤◌, Bool, true, false, List, [], ◌∷◌, ◌++◌, Option, Some, None, Ok, Err, arith}
 use Rattle.std.specs.Prelude.{if◌then◌else◌}
 use Rattle.std.proofs.lemmas.List.{append_assoc, length-append}
 use Rattle.std.proofs.lemmas.List.Elements.{All-nil, All-append}
@@ -11,7 +11,7 @@ use Rattle.fts_tables.specs.declared.commands.Entry.{Entry}
 use Rattle.fts_tables.specs.declared.commands.Answer.{Answer}
 use Rattle.fts_tables.specs.declared.commands.Refusal.{Refusal}
 use Rattle.fts_disk.specs.Disk.{DiskState, IsTold, IsLawful, LeavesOnly}
-use Rattle.fts_keep.specs.Keeps.{KeepData, IsKeep, IsListOf, IsImageOf, IsImageSince, StandsFor, with_doubt}
+use Rattle.fts_keep.specs.Keeps.{KeepData, DoubtHasCause, IsKeep, IsListOf, IsImageOf, IsImageSince, StandsFor, with_doubt}
 use Rattle.fts_keep.specs.Applied.{Applied, Accepts, KeepsList, applied_to, applied_by, fits}
 use Rattle.fts_keep.specs.declared.fault.KeepFault.{KeepFault}
 use Rattle.fts_keep.specs.declared.fault.KeepFault.TheVariants.{Rule, DiskFailed, JournalFull as Full, Damaged, Memory}
@@ -153,7 +153,35 @@ legal_list : (entries : List Entry) (doubt : Option Entry) → IsLegal (with_dou
 legal_list entries None legal = legal
 legal_list entries (Some entry) legal = legal_front empty_tables entries (entry ∷ []) legal
 
+-- a count that rose before or behind other calls rose
+rose_before : (old mid new : ℕ) → mid ≤ new → Rose old mid → Rose old new
+rose_before old mid new keeps rose = ⊎_elim (λ more. inl (omega arith)) (λ most. inr (omega arith)) rose
+
+rose_later : (old mid new : ℕ) → old ≤ mid → Rose mid new → Rose old new
+rose_later old mid new keeps rose = ⊎_elim (λ more. inl (omega arith)) (λ most. inr most) rose
+
 module _ {D : Type 0} (state : D → DiskState) (faults : D → ℕ) where
+  -- a doubt behind both was there before, or came by a failure
+  caused_more : (old mid new : KeepData D) → faults old.disk ≤ faults mid.disk → faults mid.disk ≤ faults new.disk
+      → (state mid.disk).told ≡ (state old.disk).told
+      → DoubtHasCause state faults old mid → DoubtHasCause state faults mid new → DoubtHasCause state faults old new
+  caused_more old mid new first second told one two = record {
+    in_doubt = λ doubted. ⊎_elim (λ between. ⊎_elim (λ was. inl was) (λ rose. inr (before rose)) (one.in_doubt between)) (λ rose. inr (later rose))
+        (two.in_doubt doubted);
+    doubt = λ tells. ⊎_elim (λ none. inl none)
+        (λ some. ⊎_elim
+        (λ same. ⊎_elim (λ none. inl (same ∙ none)) (λ known. inr (⊎_elim (λ was. inl (same ∙ was)) (λ rose. inr (before rose)) known)) (one.doubt tells))
+        (λ rose. inr (inr (later rose)))
+        some)
+        (two.doubt (told ∙ tells));
+  }
+    where
+      before : Rose (faults old.disk) (faults mid.disk) → Rose (faults old.disk) (faults new.disk)
+      before rose = rose_before (faults old.disk) (faults mid.disk) (faults new.disk) second rose
+
+      later : Rose (faults mid.disk) (faults new.disk) → Rose (faults old.disk) (faults new.disk)
+      later rose = rose_later (faults old.disk) (faults mid.disk) (faults new.disk) first rose
+
   -- calls, and calls behind them
   pub keeps_more : (old mid new : KeepData D) → KeepsOn state faults old mid → KeepsOn state faults mid new → KeepsOn state faults old new
   keeps_more old mid new one two = record {
@@ -169,6 +197,7 @@ module _ {D : Type 0} (state : D → DiskState) (faults : D → ℕ) where
         (λ content image. image_longer opening mid.entries two.grows.added new.entries content two.grows.appended image))
         (two.images opening (since ++ one.grows.added)
         (one.grows.appended ∙ ap (λ l. l ++ one.grows.added) is ∙ append_assoc opening since one.grows.added) (one.grows.told ∙ told));
+    doubt = caused_more old mid new one.grows.counts two.grows.counts one.grows.told one.doubt two.doubt;
   }
 
   -- no call at all
@@ -181,6 +210,7 @@ module _ {D : Type 0} (state : D → DiskState) (faults : D → ℕ) where
       counts = omega arith;
       told = refl;
     };
+    doubt = record { in_doubt = λ doubted. inl doubted; doubt = λ told. inr (inl refl) };
     images = λ opening since is told.
         let image = image_now opening since is told in
         record {

@@ -6,7 +6,7 @@ use Rattle.fts_tables.specs.History.{tables_from, out_of_list}
 use Rattle.fts_tables.specs.declared.commands.Entry.{Entry}
 use Rattle.fts_store.specs.Calls.{Call}
 use Rattle.fts_store.specs.Store.{StoreState}
-use Rattle.fts_keep.specs.Keeps.{KeepData, Grows, KeepsImagesSinceAny}
+use Rattle.fts_keep.specs.Keeps.{KeepData, Grows, DoubtHasCause, KeepsImagesSinceAny}
 use Rattle.fts_workers.specs.Benches.{BenchData, calm_end}
 use Rattle.fts_workers.specs.Copies.{Copy, copies_from, copies_kept, FollowsReports}
 use Rattle.fts_workers.specs.Rounds.{Walk, IsRound, FillsUp, IsWorkedOver, walk_over}
@@ -76,7 +76,8 @@ FillsOn workers (Err end) walk after = Fills workers end walk after
 abbrev pub RoundsTo : ℕ → RoundEnd → Walk → Walk → Type 0
 RoundsTo workers end walk after = IsRound workers walk end after
 
--- what every part keeps: the list only grows, by entries of writer 0, and each image is one of it
+-- what every part keeps: the list only grows, by entries of writer 0, each image is one of it, and a doubt behind it has its cause
 pub record KeepsOn {D : Type 0} (state : D → DiskState) (faults : D → ℕ) (old new : KeepData D) : Type 0 where
   pub grows : Grows state faults 0 old new
   pub images : KeepsImagesSinceAny state old new
+  pub doubt : DoubtHasCause state faults old new

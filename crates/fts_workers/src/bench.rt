@@ -2,14 +2,19 @@
 //! Keeps: no more files than places, and room for them all, so that holding one more takes no memory (`IsBench`).
 //! What it holds is tied to the tables by each round (`IsWorkedOver` of `specs/Rounds.antt`), and not by the bench itself.
 ghost use Rattle.std.specs.Prelude.{◌≡◌, ◌≤◌, ◌<◌, [], ◌∷◌, ◌++◌, List, length, IfOk, IsTrue, ◌↔◌};
+ghost use Rattle.fts_tables.specs.Counts.{Rose};
 ghost use Rattle.fts_tables.specs.Tables.{AreWellFormed};
+ghost use Rattle.fts_store.specs.Store.{IsTold, Stays};
+ghost use Rattle.fts_copy.specs.Copy.{IsCopy, KeepsDest};
+ghost use Rattle.fts_copy.specs.Script.{Plays, copy_of, log_of};
+ghost use Rattle.fts_copy.specs.Watch.{NoesBy, VerifiedAsks};
 
 use crate::copying::{copy_loaded, load_order};
 use crate::{Held, RoundEnd};
-use fts_copy::CopyRoom;
+use fts_copy::{CopyRoom, Loaded, Watch, copy_verified};
 use fts_desk::Desk;
 use fts_store::Store;
-use fts_tables::Memory;
+use fts_tables::{Memory, Outcome};
 use std::alloc::Global;
 use std::marker::Model;
 
@@ -54,6 +59,7 @@ impl Bench {
     pub fn held(&self) -> &[Held]
         ensures held { result.now ≡ self.now.held }
         ensures few { length result.now ≤ self.now.places }
+        ensures some { 1 ≤ self.now.places }
     {
         &self.held
     }
@@ -73,8 +79,31 @@ impl Bench {
         }
     }
 
+    /// Copies an order to its end by its own room, while the watch says that it is wanted. What the bench holds stays.
+    /// The outcome, what it leaves of the store, the calls and the counts are those of `copy_verified`.
+    pub fn copy<E: Store, V: Watch>(
+        &mut self,
+        order: Loaded,
+        store: &mut E,
+        watch: &mut V,
+    ) -> Outcome
+        ensures bench { self.new ≡ self.old }
+        ensures stays { Stays (E.state store.old) (E.state store.new) }
+        ensures copy { IsTold (E.state store.old) → IsCopy order (E.state store.old) (E.state store.new) result }
+        ensures script { Plays (copy_of order) (log_of (E.calls store.old) (V.answers watch.old)) (log_of (E.calls store.new) (V.answers watch.new)) result }
+        ensures destination { IsTold (E.state store.old) → KeepsDest order (E.state store.old).files (E.state store.new).files result }
+        ensures no_fewer_faults { E.faults store.old ≤ E.faults store.new }
+        ensures store_failed { result ≡ Outcome.StoreFailed → Rose (E.faults store.old) (E.faults store.new) }
+        ensures noes { NoesBy result (V.noes watch.old) (V.noes watch.new) }
+        ensures asked { VerifiedAsks result (V.askings watch.old) (V.askings watch.new) }
+        ensures later { V.later watch.old watch.new }
+    {
+        self.room.take(order);
+        copy_verified(store, &mut self.room, watch)
+    }
+
     /// Holds the first file no longer.
-    pub(crate) fn drop_first(&mut self)
+    pub fn drop_first(&mut self)
         requires some { 1 ≤ length self.old.held }
         ensures dropped { (first : Held) (others : List Held) → self.old.held ≡ first ∷ others → self.new ≡ record self.old { held = others } }
     {
@@ -99,7 +128,7 @@ impl Bench {
     }
 
     /// Holds one file more, behind the others. It takes no memory.
-    pub(crate) fn hold(&mut self, held: Held)
+    pub fn hold(&mut self, held: Held)
         requires free { length self.old.held < self.old.places }
         ensures held { self.new ≡ record self.old { held = self.old.held ++ held ∷ [] } }
     {

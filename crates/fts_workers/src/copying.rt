@@ -1,14 +1,14 @@
 //! One copy of a round: the order that a file's row asks for is loaded, and copied to its end.
 //! Over every store its calls are those of the copy's script, and it isn't called off (`IsCopied` of `specs/Copies.antt`).
 //! Called by the bench, for the first file that it holds.
-ghost use Rattle.std.specs.Prelude.{◌≡◌, false, Some, IsSome, IfSome};
+ghost use Rattle.std.specs.Prelude.{◌≡◌, false, Some, IsSome, IfSome, option_map};
 ghost use Rattle.fts_tables.specs.Tables.{AreWellFormed, job_at, row_at};
 ghost use Rattle.fts_copy.specs.Copy.{StaysInside};
 ghost use Rattle.fts_workers.specs.Benches.{is_stopped};
 ghost use Rattle.fts_workers.specs.Copies.{IsCopied, order_in};
 
 use crate::watch::AlwaysWanted;
-use fts_copy::{CopyRoom, copy_verified};
+use fts_copy::{CopyRoom, Loaded, copy_verified};
 use fts_desk::Desk;
 use fts_store::Store;
 use fts_tables::laws::found_rows_stand;
@@ -43,6 +43,29 @@ pub fn load_order(room: &mut CopyRoom, desk: &Desk, file: u32)
     let row = find_row(desk, file);
     let job = find_job(desk, row);
     room.load(row, job.overwrite);
+}
+
+/// The row of a file. None exactly where there is none.
+pub fn row_of_file<'a>(desk: &'a Desk, file: u32) -> Option<&'a FileRow>
+    ensures { option_map (λ row. row.now) result ≡ row_at desk.now.tables.rows file }
+{
+    found_rows_stand();
+    let _standing = desk.commands();
+    if file == 0 {
+        return None;
+    }
+    desk.rows().get(file as usize - 1)
+}
+
+/// What the copy of a file is asked for, by its row and its job, as an order of its own. None exactly where the file has no row.
+pub fn order_of_file(desk: &Desk, file: u32) -> Option<Loaded>
+    ensures order { result ≡ option_map (order_in desk.now.tables) (row_at desk.now.tables.rows file) }
+    ensures inside { IfSome result StaysInside }
+{
+    let _standing = desk.commands();
+    let row = row_of_file(desk, file)?;
+    let job = find_job(desk, row);
+    Some(Loaded::of(row, job.overwrite))
 }
 
 /// Copies what was loaded, to its end.

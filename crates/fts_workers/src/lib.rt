@@ -14,6 +14,7 @@ mod rounds;
 mod watch;
 
 pub use bench::Bench;
+pub use copying::{order_of_file, row_of_file};
 pub use ends::RoundEnd;
 pub use gate::{Gate, NoGate};
 pub use hand::Hand;

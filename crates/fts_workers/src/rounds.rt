@@ -9,7 +9,7 @@ ghost use Rattle.fts_tables.specs.Coming.{Coming};
 ghost use Rattle.fts_tables.specs.declared.commands.Entry.{Entry};
 ghost use Rattle.fts_tables.specs.Counts.{Rose};
 ghost use Rattle.fts_store.specs.Store.{Stays};
-ghost use Rattle.fts_keep.specs.Keeps.{Grows, KeepsImagesSinceAny};
+ghost use Rattle.fts_keep.specs.Keeps.{Grows, DoubtHasCause, KeepsImagesSinceAny};
 ghost use Rattle.fts_workers.specs.Benches.{EndsHolding, HoldsActive, KeepsOne, kept_of};
 ghost use Rattle.fts_workers.specs.FirstFile.{IsFirstCopied};
 ghost use Rattle.fts_workers.specs.Rounds.{IsFullAt, IsWorkedOver, MakesRound};
@@ -271,6 +271,8 @@ pub fn round<D: Disk, E: Store, C: Clock, W: Words>(
     ensures no_fewer_faults { E.faults store.old ≤ E.faults store.new }
     ensures grows { Grows D.state D.faults 0 keep.old keep.new }
     ensures images { KeepsImagesSinceAny D.state keep.old keep.new }
+    // An entry is in doubt behind a round only where one was before it, or where the disk counted a failure in it.
+    ensures doubt_cause { DoubtHasCause D.state D.faults keep.old keep.new }
 {
     files_out_are_the_active_rows();
     active_rows_have_known_ends();

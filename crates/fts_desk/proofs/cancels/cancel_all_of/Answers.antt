@@ -1,14 +1,30 @@
--- A turn of the loop that cancels a job's rows.
-use Rattle.std.proofs.Common.{set, ap, sym, ◌∙◌}
-use Rattle.std.proofs.lemmas.List.Edits.{map_over_more}
-use Rattle.fts_desk.specs.Cancels.{cancelled_of}
+-- A turn of the loop that cancels a job's rows, and what it leaves.
+use Rattle.std.proofs.Common.{List, refl, ap, ◌∙◌}
+use Rattle.std.specs.Prelude.{slice_get}
+use Rattle.fts_tables.specs.declared.rows.FileRow.{FileRow}
+use Rattle.fts_desk.proofs.CancelledRows.{cancelled_before, cancelled_turn_done, cancelled_turn_rest, cancelled_all}
 use Rattle.fts_desk.proofs.cancels.cancel_all_of.Goals as goal
 
-pub loop-row-preserved : goal.loop-row-preserved
-loop-row-preserved c =
-    let change = cancelled_of c.args.job in
-    let place = c.loop-row.row-index in
+pub loop-place-init : goal.loop-place-init
+loop-place-init c = record {
+  done = cancelled_before c.args.rows.now c.args.job.now c.requires.numbered c.requires.together;
+  rest = λ at behind. refl;
+  loaded = c.requires.loaded;
+}
+
+pub loop-place-preserved : goal.loop-place-preserved
+loop-place-preserved c =
+    let rows = c.args.rows.now in
+    let number = c.args.job.now.number in
+    let place = c.loop-place.place in
     record {
-      rows = ap (set c.loop-row.rows place) (c.cancel_if_of.ensures.row ∙ ap change (sym c.row-item.is))
-          ∙ map_over_more change c.args.rows.now c.loop-row.rows place c.row-item.result c.loop-row-test.true c.loop-row.invariant.rows c.row-item.is;
+      done = λ at before. ap (λ (after : List FileRow). slice_get after at) c.cancel_if_of.ensures.rows
+          ∙ cancelled_turn_done rows c.loop-place.rows number place c.loop-place.invariant.done c.loop-place.invariant.rest at before;
+      rest = λ at behind. ap (λ (after : List FileRow). slice_get after at) c.cancel_if_of.ensures.rows
+          ∙ cancelled_turn_rest rows c.loop-place.rows number place c.loop-place.invariant.rest at behind;
+      loaded = c.cancel_if_of.ensures.loaded;
     }
+
+pub returns-clause-rows : goal.returns-clause-rows
+returns-clause-rows c = cancelled_all c.args.rows.now c.args.job.now c.requires.numbered c.requires.together c.loop-place.rows c.loop-place.place
+    c.loop-place-test.false c.loop-place.invariant.done c.loop-place.invariant.rest

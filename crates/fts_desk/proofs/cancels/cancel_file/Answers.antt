@@ -1,39 +1,69 @@
-use Rattle.std.proofs.Common.{◌-◌, ap, sym, ◌∙◌, arith, subst}
+-- The job and its row are there, and what cancelling leaves is the machine's step.
+use Rattle.std.proofs.Common.{◌-◌, List, Some, ap, sym, ◌∙◌, arith, subst}
 use Rattle.std.specs.Prelude.{max, option_map}
 use Rattle.std.specs.Vec.{with_items}
 use Rattle.std.proofs.lemmas.List.{with_items_is}
 use Rattle.std.proofs.lemmas.Option.{slice_get_within}
 use Rattle.fts_tables.specs.Tables.{job_at, row_at}
+use Rattle.fts_tables.specs.Step.{cancel_file}
+use Rattle.fts_tables.specs.History.{IsAccepted}
+use Rattle.fts_tables.specs.declared.rows.FileRow.{FileRow}
 use Rattle.fts_tables.specs.declared.rows.JobRow.{JobRow}
 use Rattle.fts_tables.specs.declared.commands.Answer.TheVariants.{Cancelled}
 use Rattle.fts_desk.specs.Kept.{tables_kept}
+use Rattle.fts_desk.specs.Loaded.{AreLoadsOf}
 use Rattle.fts_desk.specs.Cancels.{after_file, IsInside}
-use Rattle.fts_desk.proofs.Found.{file_found, file_cancelled, rows_done}
+use Rattle.fts_desk.specs.Standing.{StandTogether}
+use Rattle.fts_desk.proofs.Found.{on_option, file_found, file_cancelled, rows_done}
+use Rattle.fts_desk.proofs.Numbered.{number_at}
+use Rattle.fts_desk.proofs.Reported.{found_there}
 use Rattle.fts_desk.proofs.cancels.cancel_file.Goals as goal
 
-pub cancel_by_kind-requires : goal.cancel_by_kind-requires
-cancel_by_kind-requires c =
+pub cancel_by_kind-requires-clause-together : goal.cancel_by_kind-requires-clause-together
+cancel_by_kind-requires-clause-together c =
+    let job = c.index.result.now in
+    let found = found_there (λ (jobs : List JobRow). job_at jobs c.args.job) c.deref.result.now c.args.kept.now.jobs.items c.in-Some.place job
+    c.deref.ensures.value c.in-Some.ensures.job c.in-Some.ensures.inside.0 c.index.ensures in
+    subst (λ (rows : List FileRow). StandTogether rows job) (sym c.deref_mut.ensures.value)
+    (c.rows_stand_together.ensures.together (tables_kept c.args.kept.now) c.args.job job c.requires.formed found)
+
+pub cancel_by_kind-requires-clause-inside : goal.cancel_by_kind-requires-clause-inside
+cancel_by_kind-requires-clause-inside c =
     let tables = tables_kept c.args.kept.now in
     let named = file_found tables (max c.args.now c.args.kept.now.moment) c.args.job c.args.file (job_at tables.jobs c.args.job)
     (row_at tables.rows c.args.file) c.requires.accepted in
     let stands = c.found_rows_stand.ensures.place tables c.args.file named.0 c.requires.formed named.1 in
     let within = slice_get_within tables.rows (c.args.file - 1) named.0 stands.1 in
-    record {
-      inside = subst (λ rows. IsInside rows c.args.file) (sym c.deref_mut.ensures.value)
-          (record { numbered = c.requires.formed.rows; first = stands.0; last = omega (arith, stands.0, within) });
-    }
+    subst (λ rows. IsInside rows c.args.file) (sym c.deref_mut.ensures.value)
+    (record { numbered = c.requires.formed.rows; first = stands.0; last = omega (arith, stands.0, within) })
+
+pub unreachable-requires : goal.unreachable-requires
+unreachable-requires c =
+    let tables = tables_kept c.args.kept.now in
+    subst (λ found. IsAccepted (on_option (λ job. cancel_file tables (max c.args.now c.args.kept.now.moment) job (row_at tables.rows c.args.file)) found))
+    (ap (λ (jobs : List JobRow). job_at jobs c.args.job) (sym c.deref.ensures.value) ∙ sym c.in-None.ensures.job) c.requires.accepted
 
 pub returns : goal.returns
 returns c =
     let tables = tables_kept c.args.kept.now in
     let now = max c.args.now c.args.kept.now.moment in
-    let kind = ap (λ jobs. option_map (λ (job : JobRow). job.kind) (job_at jobs c.args.job)) (sym c.deref.ensures.value) ∙ sym c.kind_of-kind.ensures.kind in
-    let rows = ap (λ found. after_file found c.args.job c.args.file tables.rows) kind
-    ∙ (ap (after_file c.kind_of-kind.result c.args.job c.args.file) (sym c.deref_mut.ensures.value) ∙ (sym c.cancel_by_kind.ensures.rows
-    ∙ sym (with_items_is c.args.kept.now.rows c.cancel_by_kind.new.rows (c.cancel_by_kind.auto.rows ∙ c.deref_mut.ensures.len)))) in
+    let job = c.index.result.now in
+    let found = found_there (λ (jobs : List JobRow). job_at jobs c.args.job) c.deref.result.now c.args.kept.now.jobs.items c.in-Some.place job
+    c.deref.ensures.value c.in-Some.ensures.job c.in-Some.ensures.inside.0 c.index.ensures in
+    let rows = ap (λ found. after_file found c.args.job c.args.file tables.rows) (ap (option_map (λ (job : JobRow). job.kind)) found)
+    ∙ (ap (λ number. after_file (Some job.kind) number c.args.file tables.rows) (sym (number_at tables.jobs c.args.job job found))
+    ∙ (ap (after_file (Some job.kind) job.number c.args.file) (sym c.deref_mut.ensures.value) ∙ (sym c.cancel_by_kind.ensures.rows
+    ∙ sym (with_items_is c.args.kept.now.rows c.cancel_by_kind.new.rows (c.cancel_by_kind.auto.rows ∙ c.deref_mut.ensures.len))))) in
     record {
       step = file_cancelled tables now c.args.job c.args.file c.requires.accepted
           ∙ rows_done tables (Cancelled c.args.job) (max c.args.now c.args.kept.now.moment) c.max-kept.result
           (after_file (option_map (λ (job : JobRow). job.kind) (job_at tables.jobs c.args.job)) c.args.job c.args.file tables.rows)
           (with_items c.args.kept.now.rows c.cancel_by_kind.new.rows).items (sym c.max-kept.ensures) rows;
     }
+
+pub invariant_of-kept : goal.invariant_of-kept
+invariant_of-kept c = record {
+  ids_of_jobs = c.args.kept.now.ids_of_jobs;
+  loads_of_rows = subst (λ (rows : List FileRow). AreLoadsOf rows c.cancel_by_kind.new.loads)
+      (sym (with_items_is c.args.kept.now.rows c.cancel_by_kind.new.rows (c.cancel_by_kind.auto.rows ∙ c.deref_mut.ensures.len))) c.cancel_by_kind.ensures.loaded;
+}

@@ -10,12 +10,14 @@ use Rattle.fts_states.specs.Afters.{with_follow}
 use Rattle.fts_desk.specs.Standing.{StandTogether}
 use Rattle.fts_desk.proofs.ChangedRows.{change_row-set, id_at}
 use Rattle.fts_desk.proofs.KeptFiles.{reported_file, one_file, numbered-map, together-map}
+use Rattle.fts_desk.proofs.Loaded.{site_may, site_done}
+use Rattle.fts_desk.proofs.RowLinks.{link_reported}
 use Rattle.fts_desk.proofs.reports.report_at.Goals as goal
 
 pub follow-requires-clause-numbered : goal.follow-requires-clause-numbered
 follow-requires-clause-numbered c =
     let change = reported c.args.job.now c.args.now c.args.outcome.now in
-    let written = change_row-set c.args.rows.now c.args.place change c.index-rows-place-2.result c.report_row-after.new.row c.requires.numbered
+    let written = change_row-set c.args.rows.now c.args.place change c.index-rows-place-3.result c.report_row-after.new.row c.requires.numbered
     c.requires.inside c.report_row-after.ensures.row in
     let one = λ (row : FileRow). if row.id == c.args.place + 1 then change row else row in
     subst (λ (rows : List FileRow). AreNumberedFrom (λ row. row.id) 1 rows) (sym written)
@@ -24,7 +26,7 @@ follow-requires-clause-numbered c =
 pub follow-requires-clause-together : goal.follow-requires-clause-together
 follow-requires-clause-together c =
     let change = reported c.args.job.now c.args.now c.args.outcome.now in
-    let written = change_row-set c.args.rows.now c.args.place change c.index-rows-place-2.result c.report_row-after.new.row c.requires.numbered
+    let written = change_row-set c.args.rows.now c.args.place change c.index-rows-place-3.result c.report_row-after.new.row c.requires.numbered
     c.requires.inside c.report_row-after.ensures.row in
     let one = λ (row : FileRow). if row.id == c.args.place + 1 then change row else row in
     subst (λ (rows : List FileRow). StandTogether rows c.args.job.now) (sym written)
@@ -39,9 +41,9 @@ returns-clause-rows c = λ row at.
     let change = reported job c.args.now c.args.outcome.now in
     let next = c.report_row-after.result.follow in
     let after = set rows place c.report_row-after.new.row in
-    let there : get_or rows place c.index-rows-place-2.result ≡ row = get_or_from_slice_get rows place row c.index-rows-place-2.result at in
+    let there : get_or rows place c.index-rows-place-3.result ≡ row = get_or_from_slice_get rows place row c.index-rows-place-3.result at in
     let id : row.id ≡ place + 1 = omega (arith, id_at 1 rows place row c.requires.numbered at) in
-    let written = change_row-set rows place change c.index-rows-place-2.result c.report_row-after.new.row c.requires.numbered c.requires.inside
+    let written = change_row-set rows place change c.index-rows-place-3.result c.report_row-after.new.row c.requires.numbered c.requires.inside
     c.report_row-after.ensures.row in
     let changed : c.report_row-after.new.row ≡ change row = c.report_row-after.ensures.row ∙ ap change there in
     c.follow.ensures.rows row id ∙ ap (λ (other : FileRow). with_follow next job other after) (sym there) ∙ sym (c.report_row-after.ensures.follow after)
@@ -52,6 +54,23 @@ pub returns-clause-answer : goal.returns-clause-answer
 returns-clause-answer c = λ row at.
     let change = reported c.args.job.now c.args.now c.args.outcome.now in
     let here = get_or_from_slice_get c.args.rows.now c.args.place row c.index-rows-place.result at in
-    let there = get_or_from_slice_get c.args.rows.now c.args.place row c.index-rows-place-2.result at in
+    let there = get_or_from_slice_get c.args.rows.now c.args.place row c.index-rows-place-3.result at in
     ap (λ (other : FileRow). Reported other.id c.report_row-after.result.state) here
     ∙ ap (Reported row.id) (c.report_row-after.ensures.state ∙ ap (λ (other : FileRow). other.state) (c.report_row-after.ensures.row ∙ ap change there))
+
+pub recount-requires : goal.recount-requires
+recount-requires c =
+    let change = reported c.args.job.now c.args.now c.args.outcome.now in
+    record {
+      may = site_may c.args.rows.now c.args.place change (link_reported c.args.job.now c.args.now c.args.outcome.now) c.index-rows-place-2.result
+          c.index-rows-place-3.result c.report_row-after.new.row c.is_live-was_live.result c.requires.inside c.is_live-was_live.ensures
+          c.report_row-after.ensures.row c.args.loads.now c.requires.loaded c.index-rows-place-4.result;
+    }
+
+pub follow-requires-clause-loaded : goal.follow-requires-clause-loaded
+follow-requires-clause-loaded c =
+    let change = reported c.args.job.now c.args.now c.args.outcome.now in
+    site_done c.args.rows.now c.args.place change (link_reported c.args.job.now c.args.now c.args.outcome.now) c.index-rows-place-2.result
+    c.index-rows-place-3.result c.report_row-after.new.row c.is_live-was_live.result c.requires.inside c.is_live-was_live.ensures
+    c.report_row-after.ensures.row c.args.loads.now c.requires.loaded c.index-rows-place-4.result c.recount.new.loads c.recount.ensures.counts
+    c.recount.ensures.known

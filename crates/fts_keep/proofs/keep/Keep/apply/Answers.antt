@@ -2,10 +2,10 @@
 use Rattle.std.proofs.Common.{◌≡◌, ◌++◌, subst, List}
 use Rattle.fts_tables.specs.declared.commands.Entry.{Entry}
 use Rattle.fts_disk.specs.Disk.{IsTold}
-use Rattle.fts_keep.specs.Keeps.{Grows, KeepsImages}
+use Rattle.fts_keep.specs.Keeps.{Grows, DoubtHasCause, KeepsImages}
 use Rattle.fts_keep.specs.Views.{keep_of}
-use Rattle.fts_keep.specs.Applied.{entry_by}
-use Rattle.fts_keep.proofs.Applying.{kept_after, grown, images_since}
+use Rattle.fts_keep.specs.Applied.{DoubtIsOwn, entry_by}
+use Rattle.fts_keep.proofs.Applying.{kept_after, grown, doubt_caused, doubt_of, images_since}
 use Rattle.fts_keep.proofs.keep.Keep.apply.Goals as goal
 
 pub invariant_of-self : goal.invariant_of-self
@@ -19,6 +19,20 @@ returns-clause-grows g c = subst (λ k. Grows g.D.Disk.state g.D.Disk.faults c.a
     (grown g.D.Disk.state g.D.Disk.faults c.self.inside.desk c.accept.new.desk c.self.inside.journal c.accept.new.journal
     (entry_by c.args.writer c.args.command)
     c.accept.ensures.counts c.accept.result c.accept.ensures.applied)
+
+pub returns-clause-doubt_cause : goal.returns-clause-doubt_cause
+returns-clause-doubt_cause g c = subst (λ k. DoubtHasCause g.D.Disk.state g.D.Disk.faults k (keep_of g.D.Disk.state c.accept.new.desk c.accept.new.journal))
+    c.self.view_is
+    (doubt_caused g.D.Disk.state g.D.Disk.faults (keep_of g.D.Disk.state c.self.inside.desk c.self.inside.journal)
+    (keep_of g.D.Disk.state c.accept.new.desk c.accept.new.journal)
+    (entry_by c.args.writer c.args.command) c.accept.result c.accept.ensures.applied)
+
+pub returns-clause-doubt_own : goal.returns-clause-doubt_own
+returns-clause-doubt_own g c = subst (λ k. DoubtIsOwn g.D.Disk.state g.D.Disk.faults k (keep_of g.D.Disk.state c.accept.new.desk c.accept.new.journal)
+    (entry_by c.args.writer c.args.command)) c.self.view_is
+    (doubt_of g.D.Disk.state g.D.Disk.faults (keep_of g.D.Disk.state c.self.inside.desk c.self.inside.journal)
+    (keep_of g.D.Disk.state c.accept.new.desk c.accept.new.journal)
+    (entry_by c.args.writer c.args.command) c.accept.result c.accept.ensures.applied)
 
 pub returns-clause-images : goal.returns-clause-images
 returns-clause-images g c = subst (λ k. (opening since : List Entry) → k.entries ≡ opening ++ since → IsTold (g.D.Disk.state k.disk)

@@ -1,7 +1,8 @@
-use Rattle.std.proofs.Common.{◌+◌, ◌<◌, cond, subst, sym, ap, ◌∙◌, arith}
+use Rattle.std.proofs.Common.{◌+◌, ◌<◌, cond, length, Some, subst, sym, ap, ◌∙◌, arith}
 use Rattle.std.specs.Prelude.{count_by, position}
 use Rattle.fts_slots.specs.SlotsData.{SlotsData, AreWithin, is_same_link, held_of}
-use Rattle.fts_slots.proofs.LinkCounts.{within_after_give, position-found, position-none, count_by-remove, same_link}
+use Rattle.fts_slots.specs.Tallies.{AreTallied}
+use Rattle.fts_slots.proofs.LinkCounts.{within_after_give, position-found, position-none, count_by-remove, same_link, inside_of_held, places_inside}
 use Rattle.fts_slots.proofs.slots.Slots.give.Goals as goal
 
 pub invariant_of-self : goal.invariant_of-self
@@ -13,6 +14,9 @@ invariant_of-self c =
       settings = c.self.invariant.settings;
       within = subst (λ links. AreWithin (record { settings = c.self.inside.settings; links = links })) (sym c.remove.ensures.items)
           (within_after_give slots c.in-Some.place found.item found.at c.self.invariant.within);
+      tallied = subst (λ links. AreTallied (length c.self.inside.settings.endpoints) links c.lower.new.self) (sym c.remove.ensures.items)
+          (c.lower.ensures.tallied (length c.self.inside.settings.endpoints) c.self.inside.links.items c.in-Some.place
+          (found.at ∙ ap (λ link. Some link) (sym (same_link c.args.link found.item found.passes))) c.self.invariant.tallied);
       room = omega (arith, c.self.invariant.room, c.remove.ensures.capacity);
     }
 
@@ -31,3 +35,12 @@ returns-in_default-clause-counts c = λ test.
     (ap (λ links. position (is_same_link c.args.link) links) (sym c.as_slice.ensures.value) ∙ (sym c.place_of_link.ensures.place ∙ c.in_default.is)) in
     let held = subst (λ (slots : SlotsData). 0 < held_of slots.links c.args.link) (sym c.self.view_is) c.requires.held in
     absurd (omega (arith, held, none.1))
+
+pub lower-requires : goal.lower-requires
+lower-requires c =
+    let slots : SlotsData = record { settings = c.self.inside.settings; links = c.self.inside.links.items } in
+    let held = subst (λ (some : SlotsData). 0 < held_of some.links c.args.link) (sym c.self.view_is) c.requires.held in
+    record {
+      places = places_inside c.self.inside.settings c.args.link c.self.inside.links.items c.self.inside.counts c.self.invariant.settings
+          (inside_of_held slots c.args.link c.self.invariant.within held) c.self.invariant.tallied;
+    }

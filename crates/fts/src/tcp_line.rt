@@ -1,0 +1,235 @@
+//! A line over a socket: the bytes that a client sends, and those that it is sent.
+//! Keeps: no client holds its lane. A read or a write that waits too long fails, and so does a read for a request that isn't whole in time, however
+//! its bytes drip (`LineLimits`). Each failure is counted, and is this line's alone.
+//! Order of an end: where the client may still be sending, the writing side is shut, and what comes is taken in for a while; then it is closed.
+//! Else unread bytes would make the system reset the connection, and the last response could be lost.
+//! Made by `TcpDoors`. It tells nothing of bytes.
+ghost use Rattle.std.specs.Prelude.{◌≡◌, ◌≤◌, ◌<◌, length, None, IfOk};
+ghost use Rattle.fts_tables.specs.Counts.{CountsFaults};
+ghost use Rattle.fts_wire.specs.Outside.{Reads, Writes, raised};
+
+use fts_wire::{Sink, SinkFailed, Source, SourceFailed};
+use std::io;
+use std::io::{ErrorKind, Read, Write};
+use std::net::{Shutdown, TcpStream};
+use std::rt::Clock as SystemTimes;
+use std::time::{Duration, Instant};
+
+/// How long a client may keep a lane.
+#[derive(Clone, Copy)]
+pub struct LineLimits {
+    /// How long one read or one write may wait.
+    pub wait: Duration,
+    /// How long a request may take, from the last response or the beginning of the line until it is whole.
+    pub request: Duration,
+    /// How long what still comes is taken in at the end of a line.
+    pub drain: Duration,
+    /// How many bytes are taken in then.
+    pub drain_bytes: usize,
+}
+
+/// How long one read or one write of a client's line may wait, in seconds.
+const WAIT_SECONDS: u64 = 10;
+
+/// How long a request may take until it is whole, in seconds since the last response or the beginning of its line.
+const REQUEST_SECONDS: u64 = 60;
+
+/// How long what still comes is taken in at the end of a line, in seconds.
+const DRAIN_SECONDS: u64 = 5;
+
+/// How many bytes are taken in then.
+const DRAIN_BYTES: usize = 16_777_216;
+
+/// Bytes that are taken in at a time at the end of a line.
+const DRAIN_PIECE_BYTES: usize = 8_192;
+
+impl LineLimits {
+    /// The limits of the service.
+    pub fn of_service() -> LineLimits {
+        LineLimits {
+            wait: Duration::from_secs(WAIT_SECONDS),
+            request: Duration::from_secs(REQUEST_SECONDS),
+            drain: Duration::from_secs(DRAIN_SECONDS),
+            drain_bytes: DRAIN_BYTES,
+        }
+    }
+}
+
+/// One connection of a client.
+#[derive(Drop)]
+pub struct TcpLine<R: SystemTimes + Copy> {
+    rt: R,
+    stream: TcpStream,
+    limits: LineLimits,
+    /// When its last response was written, or when it began.
+    since: Instant,
+    /// Whether its input has ended.
+    is_at_end: bool,
+    reads: u64,
+    read_faults: u64,
+    write_faults: u64,
+}
+
+impl<R: SystemTimes + Copy> TcpLine<R> {
+    /// A line over a new connection. Small pieces are sent at once.
+    pub fn new(rt: R, stream: TcpStream, limits: LineLimits) -> io::Result<TcpLine<R>> {
+        stream.set_nodelay(true)?;
+        stream.set_write_timeout(Some(limits.wait))?;
+        let since = Instant::now(&rt)?;
+        Ok(TcpLine {
+            rt,
+            stream,
+            limits,
+            since,
+            is_at_end: false,
+            reads: 0,
+            read_faults: 0,
+            write_faults: 0,
+        })
+    }
+
+    /// Reads, as long as the request may still take and one read may wait.
+    fn read_in_time(&mut self, into: &mut [u8]) -> io::Result<usize>
+        ensures bound { IfOk result (λ n. n ≤ length into.new) }
+        ensures faults { (self.new.reads ≡ self.old.reads) × (self.new.read_faults ≡ self.old.read_faults) × (self.new.write_faults ≡ self.old.write_faults) }
+    {
+        let left = time_left(self.limits.request, self.since.elapsed(&self.rt)?)?;
+        self.stream
+            .set_read_timeout(Some(left.min(self.limits.wait)))?;
+        let n = read_once(&mut self.stream, into)?;
+        self.is_at_end = n == 0 && !into.is_empty();
+        Ok(n)
+    }
+
+    /// Writes all of the bytes, in the time that one write may wait.
+    fn write_in_time(&mut self, bytes: &[u8]) -> io::Result<()>
+        ensures faults { (self.new.reads ≡ self.old.reads) × (self.new.read_faults ≡ self.old.read_faults) × (self.new.write_faults ≡ self.old.write_faults) }
+    {
+        write_whole(&self.rt, &mut self.stream, bytes, self.limits.wait)?;
+        self.since = Instant::now(&self.rt)?;
+        Ok(())
+    }
+
+    /// Ends the connection. A client that may still be sending can read its last response to the end.
+    pub fn end(mut self) {
+        if !self.is_at_end && self.read_faults == 0 && self.write_faults == 0 {
+            // Whatever comes of it, the line is closed, and nobody is left to be told.
+            let _drained = self.drain();
+        }
+    }
+
+    /// Shuts the writing side, and takes in what comes until the client ends too, for a bounded time and number of bytes.
+    fn drain(&mut self) -> io::Result<()> {
+        self.stream.shutdown(Shutdown::Write)?;
+        let start = Instant::now(&self.rt)?;
+        let mut piece = [0; DRAIN_PIECE_BYTES];
+        let mut taken = 0;
+        for _ in 0..u64::MAX {
+            let left = time_left(self.limits.drain, start.elapsed(&self.rt)?)?;
+            self.stream.set_read_timeout(Some(left))?;
+            let n = read_once(&mut self.stream, &mut piece)?;
+            taken = usize::saturating_add(taken, n);
+            if n == 0 || taken >= self.limits.drain_bytes {
+                break;
+            }
+        }
+        Ok(())
+    }
+}
+
+/// What is left of a time, which is not 0.
+fn time_left(whole: Duration, passed: Duration) -> io::Result<Duration> {
+    match whole.checked_sub(passed) {
+        Some(left) if !left.is_zero() => Ok(left),
+        Some(_) | None => Err(io::Error::from(ErrorKind::TimedOut)),
+    }
+}
+
+/// One read, tried again where a signal came between.
+fn read_once(stream: &mut TcpStream, into: &mut [u8]) -> io::Result<usize>
+    ensures bound { IfOk result (λ n. n ≤ length into.new) }
+{
+    for _ in 0..u64::MAX {
+        match stream.read(into) {
+            Err(error) if error.kind() == ErrorKind::Interrupted => {}
+            read => return read,
+        }
+    }
+    Err(io::Error::from(ErrorKind::Interrupted))
+}
+
+/// Writes all of the bytes, within this time.
+fn write_whole<R: SystemTimes>(
+    rt: &R,
+    stream: &mut TcpStream,
+    bytes: &[u8],
+    wait: Duration,
+) -> io::Result<()> {
+    let start = Instant::now(rt)?;
+    let mut rest = bytes;
+    for _ in 0..u64::MAX {
+        let n = write_once(stream, rest)?;
+        rest = &rest[n..];
+        if rest.is_empty() {
+            return Ok(());
+        }
+        time_left(wait, start.elapsed(rt)?)?;
+    }
+    Err(io::Error::from(ErrorKind::TimedOut))
+}
+
+/// One write, tried again where a signal came between.
+fn write_once(stream: &mut TcpStream, bytes: &[u8]) -> io::Result<usize>
+    ensures bound { IfOk result (λ n. n ≤ length bytes.now) }
+{
+    for _ in 0..u64::MAX {
+        match stream.write(bytes) {
+            Err(error) if error.kind() == ErrorKind::Interrupted => {}
+            written => return written,
+        }
+    }
+    Err(io::Error::from(ErrorKind::Interrupted))
+}
+
+impl<R: SystemTimes + Copy> Source for TcpLine<R> {
+    ghost use Rattle.std.specs.Prelude.{None};
+
+    ghost left = { λ _. None };
+
+    ghost faults = { λ l. l.read_faults };
+
+    ghost reads = { λ l. l.reads };
+
+    ghost beside = { λ l. record { bytes = None; faults = l.write_faults; reads = 0 } };
+
+    fn read(&mut self, into: &mut [u8]) -> Result<usize, SourceFailed> {
+        self.reads = self.reads.saturating_add(1);
+        match self.read_in_time(into) {
+            Ok(n) => Ok(n),
+            Err(_) => {
+                self.read_faults = self.read_faults.saturating_add(1);
+                Err(SourceFailed)
+            }
+        }
+    }
+}
+
+impl<R: SystemTimes + Copy> Sink for TcpLine<R> {
+    ghost use Rattle.std.specs.Prelude.{None};
+
+    ghost held = { λ _. None };
+
+    ghost faults = { λ l. l.write_faults };
+
+    ghost beside = { λ l. record { bytes = None; faults = l.read_faults; reads = l.reads } };
+
+    fn write(&mut self, bytes: &[u8]) -> Result<usize, SinkFailed> {
+        match self.write_in_time(bytes) {
+            Ok(()) => Ok(bytes.len()),
+            Err(_) => {
+                self.write_faults = self.write_faults.saturating_add(1);
+                Err(SinkFailed)
+            }
+        }
+    }
+}

@@ -1,0 +1,5 @@
+pub mod Numbers
+pub mod JobIds
+pub mod Links
+pub mod Loads
+pub mod LiveLinks

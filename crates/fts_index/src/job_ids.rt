@@ -1,0 +1,82 @@
+//! The numbers of jobs by their ids.
+//! Contracts see the ids in order of the jobs' numbers, and the room. Kept in its type (`AreJobIds`).
+//! Order: `make_room` before `add`, which takes no memory.
+ghost use Rattle.std.specs.Prelude.{◌≡◌, ◌<◌, ◌+◌, ◌++◌, ◌∷◌, [], max, length, ◌==◌, position, IfSome, OnOk, OnErr};
+ghost use Rattle.fts_index.specs.Numbers.{IdList, number_in};
+
+use fts_tables::Memory;
+use std::alloc::Global;
+use std::marker::Model;
+
+/// The ids of jobs 1, 2, 3 and so on, with the least number of each.
+#[derive(Drop)]
+pub struct JobIds {
+    ids: Vec<u128>,
+    room: u32,
+}
+
+impl Model for JobIds {
+    ghost use Rattle.fts_index.specs.Numbers.{IdList};
+
+    ghost Value = { IdList };
+
+    ghost use Rattle.fts_index.specs.JobIds.{id_list, AreJobIds};
+
+    ghost view = { id_list };
+
+    ghost invariant = { AreJobIds };
+}
+
+/// The first place of an id.
+fn first_place(ids: &[u128], id: u128) -> Option<usize>
+    ensures place { result ≡ position (λ other. other == id) ids.now }
+    ensures inside { IfSome result (λ place. place < length ids.now) }
+{
+    ids.iter().position(|other| *other == id)
+}
+
+impl JobIds {
+    /// No id, and no room. What grows later takes its memory from `alloc`.
+    pub fn new(alloc: Global) -> JobIds
+        ensures ids { result ≡ record { ids = []; room = 0 } }
+    {
+        JobIds {
+            ids: Vec::new(alloc),
+            room: 0,
+        }
+    }
+
+    /// Makes room for one id more than there are, where there is none. At an `Err` all stays as it is; at 4,294,967,295 ids it is the answer.
+    pub fn make_room(&mut self) -> Result<(), Memory>
+        ensures ok { OnOk result (self.new ≡ record self.old { room = max self.old.room (length self.old.ids + 1) }) }
+        ensures err { OnErr result (self.new ≡ self.old) }
+    {
+        if self.ids.len() < self.room as usize {
+            return Ok(());
+        }
+        if self.room == u32::MAX {
+            return Err(Memory);
+        }
+        self.ids.reserve(1)?;
+        self.room += 1;
+        Ok(())
+    }
+
+    /// Adds the id of the next job, in room that is there.
+    pub fn add(&mut self, id: u128)
+        requires room { length self.old.ids < self.old.room }
+        ensures ids { self.new ≡ record self.old { ids = self.old.ids ++ id ∷ [] } }
+    {
+        self.ids.push_reserved(id);
+    }
+
+    /// The least number with this id, from 1. None exactly where no job has it.
+    pub fn find(&self, id: u128) -> Option<u32>
+        ensures number { result ≡ number_in self.now.ids id }
+    {
+        match first_place(self.ids.as_slice(), id) {
+            Some(place) => Some(place as u32 + 1),
+            None => None,
+        }
+    }
+}

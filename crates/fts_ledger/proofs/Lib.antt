@@ -1,0 +1,12 @@
+mod Lists
+mod Sound
+mod Moved
+mod Walks
+mod Turned
+mod Passed
+mod Begun
+mod Stations
+mod Fresh
+mod Followed
+mod Stores
+mod Worked

@@ -1,0 +1,4 @@
+pub mod Claims
+pub mod Reports
+pub mod Fitting
+pub mod Ledger

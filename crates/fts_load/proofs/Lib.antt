@@ -1,0 +1,4 @@
+pub mod Ranges
+pub mod Drawing
+pub mod Making
+pub mod Texts

@@ -1,0 +1,4 @@
+pub mod Sources
+pub mod Requests
+pub mod Made
+pub mod Input

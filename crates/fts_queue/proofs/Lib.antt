@@ -1,0 +1,10 @@
+mod Sorting
+mod Orders
+mod Numbers
+mod QueueRooms
+mod Places
+mod TreeCounts
+mod TreeOrder
+mod TreePlaces
+mod QueueParts
+mod FileSearch

@@ -1,0 +1,260 @@
+-- Places in the list of a tree: what stands at one, what goes without it, and how many pass a test that goes down along the list.
+use Rattle.std.proofs.Common.{◌≡◌, ℕ, zero, suc, ◌+◌, ◌<◌, ◌≤◌, Bool, true, false, cond, List, [], ◌∷◌, ◌++◌, length, refl, ap, sym, ◌∙◌, arith, inl, inr, length-append}
+use Rattle.std.specs.Prelude.{◌⊎◌, nat_lt, filter, slice_get, remove}
+use Rattle.std.specs.List.{AllByRecursion}
+use Rattle.std.proofs.lemmas.Bool.{false≢true, cases_Bool, leb-true, le-leb, lt-leb, false_from_ne_true, not_from_false, not-true, ltb-true, lt-ltb}
+use Rattle.fts_queue.specs.declared.waiter.Waiter.{Waiter}
+use Rattle.fts_queue.specs.declared.tree.Tree.{Tree, Leaf, Branch'}
+use Rattle.fts_tables.specs.declared.settings.LinkAt.{LinkAt}
+use Rattle.fts_queue.specs.declared.tree.Mark.{Mark}
+use Rattle.fts_queue.specs.declared.tree.Mark.TheVariants.{File, Start, End}
+use Rattle.fts_queue.specs.WaitingData.{is_ripe, goes_before, AreSortedBy, is_first_by, is_queue_before}
+use Rattle.fts_queue.specs.Trees.{waiters_in, IsCounted, stands_before}
+use Rattle.fts_queue.proofs.Orders.{waiting_order, first_passes_on, first_why}
+use Rattle.fts_queue.proofs.TreeCounts.{filter_append, filter_fits, one_if}
+use Rattle.fts_queue.proofs.TreeOrder.{sorted_parts, all_parts}
+
+-- what stands in the front of joined lists, and what in the back
+pub get_front : {A : Type 0} (front back : List A) (n : ℕ) → n < length front → slice_get (front ++ back) n ≡ slice_get front n
+get_front [] back n less = absurd (omega arith)
+get_front (first ∷ front) back zero less = refl
+get_front (first ∷ front) back (suc n) less = get_front front back n (omega arith)
+
+pub get_back : {A : Type 0} (front back : List A) (n m : ℕ) → n ≡ length front + m → slice_get (front ++ back) n ≡ slice_get back m
+get_back [] back n m at =
+    let same : n ≡ m = omega arith in
+    ap (slice_get back) same
+get_back (first ∷ front) back zero m at = absurd (omega arith)
+get_back (first ∷ front) back (suc n) m at = get_back front back n m (omega arith)
+
+-- without what stands in the front of joined lists, and in the back
+pub remove_front : {A : Type 0} (front back : List A) (n : ℕ) → n < length front → remove (front ++ back) n ≡ remove front n ++ back
+remove_front [] back n less = absurd (omega arith)
+remove_front (first ∷ front) back zero less = refl
+remove_front (first ∷ front) back (suc n) less = ap (λ later. first ∷ later) (remove_front front back n (omega arith))
+
+pub remove_back : {A : Type 0} (front back : List A) (n m : ℕ) → n ≡ length front + m → remove (front ++ back) n ≡ front ++ remove back m
+remove_back [] back n m at =
+    let same : n ≡ m = omega arith in
+    ap (remove back) same
+remove_back (first ∷ front) back zero m at = absurd (omega arith)
+remove_back (first ∷ front) back (suc n) m at = ap (λ later. first ∷ later) (remove_back front back n m (omega arith))
+
+-- a list of which all pass, and one of which none does
+pub all_pass : {A : Type 0} (passes : A → Bool) (items : List A) → AllByRecursion (λ item. passes item ≡ true) items → filter passes items ≡ items
+all_pass passes [] all = refl
+all_pass passes (first ∷ rest) all =
+    ap (λ test. cond test (first ∷ filter passes rest) (filter passes rest)) all.0 ∙ ap (λ later. first ∷ later) (all_pass passes rest all.1)
+
+pub none_pass : {A : Type 0} (passes : A → Bool) (items : List A) → AllByRecursion (λ item. passes item ≡ false) items → filter passes items ≡ []
+none_pass passes [] all = refl
+none_pass passes (first ∷ rest) all =
+    ap (λ test. cond test (first ∷ filter passes rest) (filter passes rest)) all.0 ∙ none_pass passes rest all.1
+
+-- what follows of each follows of all
+pub all_from : {A : Type 0} (P Q : A → Type 0) → ((item : A) → P item → Q item) → (items : List A) → AllByRecursion P items → AllByRecursion Q items
+all_from P Q from [] all = tt
+all_from P Q from (first ∷ rest) all = (from first all.0, all_from P Q from rest all.1)
+
+-- a test that goes down along the order of files
+abbrev pub GoesDown : (Waiter → Bool) → Type 0
+GoesDown test = (one other : Waiter) → goes_before one other ≡ true → test other ≡ true → test one ≡ true
+
+-- where the middle passes, all of the front do; where it fails, so does all of the back
+pub passes_to : (test : Waiter → Bool) → GoesDown test → (front back : List Waiter) (middle : Waiter) → AreSortedBy goes_before (front ++ middle ∷ back)
+    → test middle ≡ true → length (filter test (front ++ middle ∷ back)) ≡ length front + 1 + length (filter test back)
+passes_to test down front back middle sorted is =
+    let parts = sorted_parts goes_before front back middle sorted in
+    let all = all_from (λ other. goes_before other middle ≡ true) (λ other. test other ≡ true) (λ other goes. down other middle goes is) front parts.sooner in
+    omega (
+      arith,
+      ap length (filter_append test front (middle ∷ back)),
+      length-append (filter test front) (filter test (middle ∷ back)),
+      ap length (all_pass test front all),
+      ap (λ answer. length (cond answer (middle ∷ filter test back) (filter test back))) is,
+    )
+
+pub fails_from : (test : Waiter → Bool) → GoesDown test → (front back : List Waiter) (middle : Waiter) → AreSortedBy goes_before (front ++ middle ∷ back)
+    → test middle ≡ false → length (filter test (front ++ middle ∷ back)) ≡ length (filter test front)
+fails_from test down front back middle sorted is =
+    let parts = sorted_parts goes_before front back middle sorted in
+    let none = all_from (λ other. goes_before middle other ≡ true) (λ other. test other ≡ false)
+    (λ other goes. false_from_ne_true (test other) (λ passes. false≢true (sym is ∙ down middle other goes passes))) back parts.later in
+    omega (
+      arith,
+      ap length (filter_append test front (middle ∷ back)),
+      length-append (filter test front) (filter test (middle ∷ back)),
+      ap (λ answer. length (cond answer (middle ∷ filter test back) (filter test back))) is,
+      ap length (none_pass test back none),
+    )
+
+-- what goes before a file of an earlier queue is of an earlier one itself
+queue_before_on : (one other : Waiter) (link : LinkAt) (activity : ℕ) → goes_before one other ≡ true
+    → is_queue_before other.link other.activity link activity ≡ true → is_queue_before one.link one.activity link activity ≡ true
+queue_before_on one other link activity goes before =
+    first_passes_on one.link.source other.link.source link.source
+    (is_first_by one.link.dest other.link.dest (is_first_by one.activity other.activity rest))
+    (is_first_by other.link.dest link.dest (nat_lt other.activity activity)) (is_first_by one.link.dest link.dest (nat_lt one.activity activity)) goes before
+    (λ goes before. first_passes_on one.link.dest other.link.dest link.dest (is_first_by one.activity other.activity rest) (nat_lt other.activity activity)
+    (nat_lt one.activity activity) goes before
+    (λ goes before. by_why (first_why one.activity other.activity rest goes) (ltb-true other.activity activity before)))
+  where
+    rest : Bool
+    rest = is_first_by other.priority one.priority (nat_lt one.file other.file)
+
+    by_why : (one.activity < other.activity) ⊎ ((one.activity ≡ other.activity) × (rest ≡ true)) → other.activity < activity
+        → nat_lt one.activity activity ≡ true
+    by_why (inl less) before = lt-ltb one.activity activity (omega arith)
+    by_why (inr same) before =
+        let at : one.activity ≡ other.activity = same.0 in
+        lt-ltb one.activity activity (omega arith)
+
+-- what stands behind a file of a later queue is of a later one itself
+pub queue_after_on : (one other : Waiter) (link : LinkAt) (activity : ℕ) → goes_before one other ≡ true
+    → is_queue_before link activity one.link one.activity ≡ true → is_queue_before link activity other.link other.activity ≡ true
+queue_after_on one other link activity goes before =
+    first_passes_on link.source one.link.source other.link.source
+    (is_first_by link.dest one.link.dest (nat_lt activity one.activity))
+    (is_first_by one.link.dest other.link.dest (is_first_by one.activity other.activity rest)) (is_first_by link.dest other.link.dest (nat_lt activity other.activity))
+    before goes
+    (λ before goes. first_passes_on link.dest one.link.dest other.link.dest (nat_lt activity one.activity) (is_first_by one.activity other.activity rest)
+    (nat_lt activity other.activity) before goes
+    (λ before goes. by_why (first_why one.activity other.activity rest goes) (ltb-true activity one.activity before)))
+  where
+    rest : Bool
+    rest = is_first_by other.priority one.priority (nat_lt one.file other.file)
+
+    by_why : (one.activity < other.activity) ⊎ ((one.activity ≡ other.activity) × (rest ≡ true)) → activity < one.activity
+        → nat_lt activity other.activity ≡ true
+    by_why (inl less) before = lt-ltb activity other.activity (omega arith)
+    by_why (inr same) before =
+        let at : one.activity ≡ other.activity = same.0 in
+        lt-ltb activity other.activity (omega arith)
+
+-- a mark is such a test
+pub mark_goes_down : (mark : Mark) → GoesDown (stands_before mark)
+mark_goes_down (File bound) = λ one other goes passes. waiting_order.passes_on one other bound goes passes
+mark_goes_down (Start link activity) = λ one other goes passes. queue_before_on one other link activity goes passes
+mark_goes_down (End link activity) = λ one other goes passes.
+    not_from_false (is_queue_before link activity one.link one.activity)
+    (false_from_ne_true (is_queue_before link activity one.link one.activity)
+    (λ is. false≢true (sym (not-true (is_queue_before link activity other.link other.activity) passes) ∙ queue_after_on one other link activity goes is)))
+
+-- two filters, one of the other's
+pub filter_twice : {A : Type 0} (one other : A → Bool) (items : List A) → filter one (filter other items) ≡ filter other (filter one items)
+filter_twice one other [] = refl
+filter_twice one other (first ∷ rest) = by_tests (one first) (other first) refl refl (filter_twice one other rest)
+  where
+    by_tests : (a b : Bool) → one first ≡ a → other first ≡ b → filter one (filter other rest) ≡ filter other (filter one rest)
+        → filter one (filter other (first ∷ rest)) ≡ filter other (filter one (first ∷ rest))
+    by_tests true true isa isb behind = simp (isa, isb) (ap (λ later. first ∷ later) behind)
+    by_tests true false isa isb behind = simp (isa, isb) behind
+    by_tests false true isa isb behind = simp (isa, isb) behind
+    by_tests false false isa isb behind = simp (isa, isb) behind
+
+-- the ripe files before a bound, on both sides of a middle
+pub ripe_to : (moment : ℕ) (test : Waiter → Bool) → GoesDown test → (front back : List Waiter) (middle : Waiter) → AreSortedBy goes_before (front ++ middle ∷ back)
+    → test middle ≡ true → length (filter test (filter (is_ripe moment) (front ++ middle ∷ back)))
+    ≡ length (filter (is_ripe moment) front) + one_if (is_ripe moment middle) + length (filter test (filter (is_ripe moment) back))
+ripe_to moment test down front back middle sorted is =
+    let parts = sorted_parts goes_before front back middle sorted in
+    let all = all_from (λ other. goes_before other middle ≡ true) (λ other. test other ≡ true) (λ other goes. down other middle goes is) front parts.sooner in
+    omega (
+      arith,
+      ap length (filter_twice test (is_ripe moment) (front ++ middle ∷ back)),
+      ap (λ waiters. length (filter (is_ripe moment) waiters)) (filter_append test front (middle ∷ back)),
+      ap length (filter_append (is_ripe moment) (filter test front) (filter test (middle ∷ back))),
+      length-append (filter (is_ripe moment) (filter test front)) (filter (is_ripe moment) (filter test (middle ∷ back))),
+      ap (λ waiters. length (filter (is_ripe moment) waiters)) (all_pass test front all),
+      ap (λ answer. length (filter (is_ripe moment) (cond answer (middle ∷ filter test back) (filter test back)))) is,
+      one_more (is_ripe moment middle),
+      ap length (filter_twice test (is_ripe moment) back),
+    )
+  where
+    one_more : (answer : Bool) → length (cond answer (middle ∷ filter (is_ripe moment) (filter test back)) (filter (is_ripe moment) (filter test back)))
+        ≡ one_if answer + length (filter (is_ripe moment) (filter test back))
+    one_more true = omega arith
+    one_more false = omega arith
+
+pub ripe_from : (moment : ℕ) (test : Waiter → Bool) → GoesDown test → (front back : List Waiter) (middle : Waiter) → AreSortedBy goes_before (front ++ middle ∷ back)
+    → test middle ≡ false → length (filter test (filter (is_ripe moment) (front ++ middle ∷ back))) ≡ length (filter test (filter (is_ripe moment) front))
+ripe_from moment test down front back middle sorted is =
+    let parts = sorted_parts goes_before front back middle sorted in
+    let none = all_from (λ other. goes_before middle other ≡ true) (λ other. test other ≡ false)
+    (λ other goes. false_from_ne_true (test other) (λ passes. false≢true (sym is ∙ down middle other goes passes))) back parts.later in
+    omega (
+      arith,
+      ap length (filter_twice test (is_ripe moment) (front ++ middle ∷ back)),
+      ap (λ waiters. length (filter (is_ripe moment) waiters)) (filter_append test front (middle ∷ back)),
+      ap length (filter_append (is_ripe moment) (filter test front) (filter test (middle ∷ back))),
+      length-append (filter (is_ripe moment) (filter test front)) (filter (is_ripe moment) (filter test (middle ∷ back))),
+      ap (λ answer. length (filter (is_ripe moment) (cond answer (middle ∷ filter test back) (filter test back)))) is,
+      ap (λ waiters. length (filter (is_ripe moment) waiters)) (none_pass test back none),
+      ap length (filter_twice test (is_ripe moment) front),
+    )
+
+-- what stands at a place among the ripe ones, around a middle
+pub ripe_place : (moment : ℕ) (front back : List Waiter) (middle : Waiter)
+    → filter (is_ripe moment) (front ++ middle ∷ back) ≡ filter (is_ripe moment) front ++ filter (is_ripe moment) (middle ∷ back)
+ripe_place moment front back middle = filter_append (is_ripe moment) front (middle ∷ back)
+
+-- where the ripe ones stay the same, the counts do
+alike_filter : (moment was : ℕ) (waiters : List Waiter) → AllByRecursion (λ waiter. is_ripe moment waiter ≡ is_ripe was waiter) waiters
+    → filter (is_ripe was) waiters ≡ filter (is_ripe moment) waiters
+alike_filter moment was [] all = refl
+alike_filter moment was (first ∷ rest) all =
+    ap (λ test. cond test (first ∷ filter (is_ripe was) rest) (filter (is_ripe was) rest)) (sym all.0)
+    ∙ ap (λ behind. cond (is_ripe moment first) (first ∷ behind) behind) (alike_filter moment was rest all.1)
+
+alike_next : (moment was next : ℕ) (waiters : List Waiter) → AllByRecursion (λ waiter. is_ripe moment waiter ≡ is_ripe was waiter) waiters
+    → AllByRecursion (λ waiter. is_ripe was waiter ≡ false → next ≤ waiter.not_before) waiters
+    → AllByRecursion (λ waiter. is_ripe moment waiter ≡ false → next ≤ waiter.not_before) waiters
+alike_next moment was next [] all bounds = tt
+alike_next moment was next (first ∷ rest) all bounds = ((λ unripe. bounds.0 (sym all.0 ∙ unripe)), alike_next moment was next rest all.1 bounds.1)
+
+pub still_counted : (moment was : ℕ) (tree : Tree) → AllByRecursion (λ waiter. is_ripe moment waiter ≡ is_ripe was waiter) (waiters_in tree)
+    → IsCounted was tree → IsCounted moment tree
+still_counted moment was Leaf all counted = tt
+still_counted moment was (Branch' p waiter size ripe next left right) all counted =
+    let parts = all_parts (λ waiter. is_ripe moment waiter ≡ is_ripe was waiter) (waiters_in left) (waiters_in right) waiter all in (
+      record {
+        size = counted.0.size;
+        ripe = counted.0.ripe ∙ ap length (alike_filter moment was (waiters_in left ++ waiter ∷ waiters_in right) all);
+        next = alike_next moment was next (waiters_in left ++ waiter ∷ waiters_in right) all counted.0.next;
+      },
+      still_counted moment was left parts.0 counted.1,
+      still_counted moment was right parts.2 counted.2,
+    )
+
+-- before the next one ripens, the ripe ones stay the same
+pub not_yet : (moment was next : ℕ) (waiters : List Waiter) → was ≤ moment → moment < next
+    → AllByRecursion (λ waiter. is_ripe was waiter ≡ false → next ≤ waiter.not_before) waiters
+    → AllByRecursion (λ waiter. is_ripe moment waiter ≡ is_ripe was waiter) waiters
+not_yet moment was next [] later before bounds = tt
+not_yet moment was next (first ∷ rest) later before bounds =
+    (by_test (cases_Bool (is_ripe was first)), not_yet moment was next rest later before bounds.1)
+  where
+    by_test : (is_ripe was first ≡ true) ⊎ (is_ripe was first ≡ false) → is_ripe moment first ≡ is_ripe was first
+    by_test (inl ripe) =
+        let at : first.not_before ≤ was = leb-true first.not_before was ripe in
+        le-leb first.not_before moment (omega arith) ∙ sym ripe
+    by_test (inr unripe) =
+        let bound : next ≤ first.not_before = bounds.0 unripe in
+        lt-leb first.not_before moment (omega arith) ∙ sym unripe
+
+-- where all are ripe they stay so
+pub all_ripe : (moment was : ℕ) (waiters : List Waiter) → was ≤ moment → length waiters ≤ length (filter (is_ripe was) waiters)
+    → AllByRecursion (λ waiter. is_ripe moment waiter ≡ is_ripe was waiter) waiters
+all_ripe moment was [] later all = tt
+all_ripe moment was (first ∷ rest) later all = by_test (cases_Bool (is_ripe was first)) (all_ripe moment was rest later)
+  where
+    by_test : (is_ripe was first ≡ true) ⊎ (is_ripe was first ≡ false)
+        → (length rest ≤ length (filter (is_ripe was) rest) → AllByRecursion (λ waiter. is_ripe moment waiter ≡ is_ripe was waiter) rest)
+        → AllByRecursion (λ waiter. is_ripe moment waiter ≡ is_ripe was waiter) (first ∷ rest)
+    by_test (inl ripe) behind =
+        let at : first.not_before ≤ was = leb-true first.not_before was ripe in
+        let one = ap (λ test. length (cond test (first ∷ filter (is_ripe was) rest) (filter (is_ripe was) rest))) ripe in
+        (le-leb first.not_before moment (omega arith) ∙ sym ripe, behind (omega (arith, one, all)))
+    by_test (inr unripe) behind =
+        let one = ap (λ test. length (cond test (first ∷ filter (is_ripe was) rest) (filter (is_ripe was) rest))) unripe in
+        absurd (omega (arith, one, all, filter_fits (is_ripe was) rest))

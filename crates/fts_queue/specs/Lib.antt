@@ -1,0 +1,3 @@
+pub mod WaitingData
+pub mod Waiting
+pub mod Trees

@@ -1,0 +1,57 @@
+-- Trees of files that wait: the list of a tree, and what its counts say of it at a moment.
+use Rattle.std.specs.Prelude.{◌≡◌, ℕ, ◌≤◌, Bool, false, List, [], ◌∷◌, ◌++◌, length, filter, not}
+use Rattle.std.specs.List.{AllByRecursion}
+use Rattle.fts_queue.specs.declared.waiter.Waiter.{Waiter}
+use Rattle.fts_queue.specs.declared.tree.Tree.{Tree, Leaf, Branch'}
+use Rattle.fts_queue.specs.declared.tree.Node.{Node, out-Node}
+use Rattle.fts_queue.specs.declared.tree.Mark.{Mark}
+use Rattle.fts_queue.specs.declared.tree.Mark.TheVariants.{File, Start, End}
+use Rattle.fts_queue.specs.WaitingData.{is_ripe, goes_before, is_queue_before}
+
+-- the files of a tree, from left to right
+abbrev pub waiters_in : Tree → List Waiter
+waiters_in Leaf = []
+waiters_in (Branch' p waiter size ripe next left right) = waiters_in left ++ waiter ∷ waiters_in right
+
+-- the files of a node: those of its left side, its own, and those of its right side
+abbrev pub waiters_of : Node → List Waiter
+waiters_of node = waiters_in (out-Node node).left ++ (out-Node node).waiter ∷ waiters_in (out-Node node).right
+
+-- what a tree counts
+abbrev pub size_of : Tree → ℕ
+size_of Leaf = 0
+size_of (Branch' p waiter size ripe next left right) = size
+
+-- how many of these are ripe
+abbrev pub ripe_of : Tree → ℕ
+ripe_of Leaf = 0
+ripe_of (Branch' p waiter size ripe next left right) = ripe
+
+-- when the next of them ripens, at the earliest
+abbrev pub next_of : Tree → ℕ
+next_of Leaf = 18446744073709551615
+next_of (Branch' p waiter size ripe next left right) = next
+
+-- the counts are those of a list of files, at a moment
+pub record AreCounts (moment size_there ripe_there next_there : ℕ) (waiters : List Waiter) : Type 0 where
+  pub size : size_there ≡ length waiters
+  pub ripe : ripe_there ≡ length (filter (is_ripe moment) waiters)
+  pub next : AllByRecursion (λ waiter. is_ripe moment waiter ≡ false → next_there ≤ waiter.not_before) waiters
+
+-- each node counts its own files right
+abbrev pub IsCounted : ℕ → Tree → Type 0
+IsCounted moment Leaf = Unit {0}
+IsCounted moment (Branch' p waiter size ripe next left right) =
+    AreCounts moment size ripe next (waiters_in left ++ waiter ∷ waiters_in right) × IsCounted moment left × IsCounted moment right
+
+-- a node counts its files right, and so do both its sides
+pub record IsCountedNode (moment : ℕ) (node : Node) : Type 0 where
+  pub counts : AreCounts moment (out-Node node).size (out-Node node).ripe (out-Node node).next (waiters_of node)
+  pub left : IsCounted moment (out-Node node).left
+  pub right : IsCounted moment (out-Node node).right
+
+-- whether a file stands before a mark: a file, where a queue starts, or where it ends
+abbrev pub stands_before : Mark → Waiter → Bool
+stands_before (File bound) waiter = goes_before waiter bound
+stands_before (Start link activity) waiter = is_queue_before waiter.link waiter.activity link activity
+stands_before (End link activity) waiter = not (is_queue_before link activity waiter.link waiter.activity)

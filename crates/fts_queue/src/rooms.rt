@@ -1,0 +1,104 @@
+//! The rooms of queues, in their order: how many files each may hold. Called by `Waiting::make_room`, which alone changes them.
+ghost use Rattle.std.specs.Prelude.{
+  ◌≡◌,
+  ◌≤◌,
+  ◌<◌,
+  ◌^◌,
+  length,
+  find,
+  option_map,
+  vec_len,
+  vec_capacity,
+  sum_by,
+};
+ghost use Rattle.std.specs.List.{prefix_len};
+ghost use Rattle.std.specs.Option.{option_map_or};
+ghost use Rattle.fts_queue.specs.WaitingData.{
+  is_queue_before,
+  is_room_of,
+  room_of,
+  with_room,
+  AreQueuesInOrder,
+};
+
+use fts_tables::LinkAt;
+
+/// How many files may wait on a link under an activity.
+#[derive(Clone, Copy, Debug, PartialEq, Eq)]
+pub struct Room {
+    pub link: LinkAt,
+    pub activity: u16,
+    pub room: usize,
+}
+
+/// Whether a room's queue stands before another.
+fn is_queue_before(room: &Room, link: LinkAt, activity: u16) -> bool
+    ensures answer { result ≡ is_queue_before room.now.link room.now.activity link activity }
+{
+    room.link.source < link.source
+        || (room.link.source == link.source
+            && (room.link.dest < link.dest
+                || (room.link.dest == link.dest && room.activity < activity)))
+}
+
+/// Whether a room is a queue's.
+fn is_room_of(room: &Room, link: LinkAt, activity: u16) -> bool
+    ensures answer { result ≡ is_room_of link activity room.now }
+{
+    room.link.source == link.source && room.link.dest == link.dest && room.activity == activity
+}
+
+/// The room of a queue, where there is one.
+fn room_at(rooms: &[Room], link: LinkAt, activity: u16) -> Option<&Room>
+    ensures room { option_map (λ room. room.now) result ≡ find (is_room_of link activity) rooms.now }
+{
+    rooms.iter().find(|room| is_room_of(room, link, activity))
+}
+
+/// How many files a room is for, and 0 where there is none.
+fn number_of(room: Option<&Room>) -> usize
+    ensures room { result ≡ option_map_or (λ room. room.now.room) room.entry 0 }
+{
+    match room {
+        Some(room) => room.room,
+        None => 0,
+    }
+}
+
+/// How many files a queue has room for.
+pub fn room_of(rooms: &[Room], link: LinkAt, activity: u16) -> usize
+    ensures room { result ≡ room_of link activity rooms.now }
+{
+    number_of(room_at(rooms, link, activity))
+}
+
+/// How many queues stand before one.
+fn place_of(rooms: &[Room], link: LinkAt, activity: u16) -> usize
+    requires order { AreQueuesInOrder rooms.now }
+    ensures place { result ≡ prefix_len (λ room. is_queue_before room.link room.activity link activity) rooms.now }
+    ensures inside { result ≤ length rooms.now }
+{
+    rooms.partition_point(|room| is_queue_before(room, link, activity))
+}
+
+/// Raises the room of a queue to a number, or puts it in, in memory that is there.
+pub fn raise(rooms: &mut Vec<Room>, link: LinkAt, activity: u16, wanted: usize)
+    requires order { AreQueuesInOrder rooms.old.items }
+    requires memory { vec_len rooms.old < vec_capacity rooms.old }
+    ensures rooms { rooms.new.items ≡ with_room link activity wanted rooms.old.items }
+{
+    let place = place_of(rooms.as_slice(), link, activity);
+    if place < rooms.len() && is_room_of(&rooms[place], link, activity) {
+        let room = &mut rooms[place];
+        room.room = room.room.max(wanted);
+    } else {
+        let _ = rooms.insert(
+            place,
+            Room {
+                link,
+                activity,
+                room: wanted,
+            },
+        );
+    }
+}

@@ -1,0 +1,149 @@
+//! A run that serves over a stand: settings, journal and stores in memory, with a clock that stands still, over any doors.
+//! Keeps: there are 16 hands and 8 lanes, as a run asks for. Every error is answered as want of memory.
+ghost use Rattle.std.specs.Prelude.{◌≡◌, ◌≤◌, length, IfOk};
+
+use fts_disk::MemoryDisk;
+use fts_store::{MemoryStore, StoredFile};
+use fts_tables::{EndpointName, Items, ListClock, ListWords, Memory, PathKey, Place};
+use fts_top::{Doors, Ending, Lane, Outside, run};
+use fts_wire::{MemorySink, MemorySource};
+use fts_workers::Hand;
+use std::alloc::Global;
+use std::sync::Wait;
+use std::thread::Threads;
+
+/// The settings: two storages and two workers.
+const SETTINGS: &str =
+    "vo = \"demo\"\nworkers = 2\n[[storage]]\nurl = \"https://a.example\"\n[[storage]]\nurl = \"https://b.example\"\n";
+
+/// The moment of every command, in seconds since 1970.
+const NOW: u64 = 1_700_000_000;
+
+/// How many hands and lanes a run has.
+const HANDS: usize = 16;
+
+const LANES: usize = 8;
+
+type StillHand = Hand<MemoryStore, ListClock, ListWords>;
+
+fn clock(alloc: Global) -> Result<ListClock, Memory> {
+    Ok(ListClock::new([NOW].to_vec(alloc)?))
+}
+
+/// A store that holds `abc` at `https://a.example/data/f1`.
+fn store(alloc: Global) -> Result<MemoryStore, Memory> {
+    let mut files = Vec::new(alloc);
+    let endpoint = EndpointName::read(alloc, "https://a.example")?;
+    let path = PathKey::read(alloc, "data/f1")?;
+    if let (Some(endpoint), Some(path)) = (endpoint, path) {
+        let file = StoredFile {
+            place: Place { endpoint, path },
+            bytes: Items::from_vec(b"abc".to_vec(alloc)?),
+        };
+        if files.push(file).is_err() {
+            return Err(Memory);
+        }
+    }
+    let files = Items::from_vec(files);
+    Ok(MemoryStore::new(alloc, files, Vec::new(alloc), Vec::new(alloc)))
+}
+
+fn hands(alloc: Global) -> Result<Vec<StillHand>, Memory>
+    ensures { IfOk result (λ hands. length hands.items ≡ 16) }
+{
+    let mut hands = Vec::new(alloc);
+    for _ in 0..HANDS {
+        let hand = Hand {
+            store: store(alloc)?,
+            clock: clock(alloc)?,
+            words: ListWords::new([0].to_vec(alloc)?),
+        };
+        if hands.push(hand).is_err() {
+            return Err(Memory);
+        }
+    }
+    if hands.len() == HANDS {
+        Ok(hands)
+    } else {
+        Err(Memory)
+    }
+}
+
+/// Lanes at these doors. There are eight of them.
+fn lanes<A: Doors + Drop>(alloc: Global, doors: Vec<A>) -> Result<Vec<Lane<A, ListClock>>, Memory>
+    ensures { IfOk result (λ lanes. length lanes.items ≡ 8) }
+{
+    let mut lanes = Vec::new(alloc);
+    for one in doors {
+        let lane = Lane {
+            doors: one,
+            clock: clock(alloc)?,
+        };
+        if lanes.push(lane).is_err() {
+            return Err(Memory);
+        }
+    }
+    if lanes.len() == LANES {
+        Ok(lanes)
+    } else {
+        Err(Memory)
+    }
+}
+
+/// How a run ended, and what it left.
+#[derive(Drop)]
+pub struct Left<A: Doors> {
+    pub ending: Ending,
+    pub notes: MemorySink,
+    pub disk: MemoryDisk,
+    pub lanes: Vec<Lane<A, ListClock>>,
+}
+
+/// A run of these words over these eight doors and this disk.
+pub fn run_over<A: Doors + Send + Drop, R: Threads + Wait + Sync>(
+    alloc: Global,
+    threads: &R,
+    words: &[&str],
+    doors: Vec<A>,
+    disk: MemoryDisk,
+) -> Result<Left<A>, Memory>
+where
+    A::Line: Send,
+{
+    let mut owned = Vec::new(alloc);
+    for word in words {
+        if owned.push(String::from_str(alloc, word)?).is_err() {
+            return Err(Memory);
+        }
+    }
+    let mut outside = Outside {
+        settings: MemorySource::new(SETTINGS.as_bytes().to_vec(alloc)?, Vec::new(alloc)),
+        input: MemorySource::new(Vec::new(alloc), Vec::new(alloc)),
+        output: MemorySink::new(alloc, Vec::new(alloc)),
+        notes: MemorySink::new(alloc, Vec::new(alloc)),
+        disk: Some(disk),
+        clock: clock(alloc)?,
+        hands: hands(alloc)?,
+        lanes: lanes(alloc, doors)?,
+    };
+    let ending = run(threads, alloc, owned.as_slice(), &mut outside);
+    let Outside {
+        settings: _,
+        input: _,
+        output: _,
+        notes,
+        disk,
+        clock: _,
+        hands: _,
+        lanes,
+    } = outside;
+    match disk {
+        Some(disk) => Ok(Left {
+            ending,
+            notes,
+            disk,
+            lanes,
+        }),
+        None => unreachable!(),
+    }
+}

@@ -1,0 +1,76 @@
+-- A claimed file has its row, so the order of its copy comes with it.
+use Rattle.std.proofs.Common.{◌≡◌, refl, sym, ap, ◌∙◌, subst, ℕ, ◌+◌, ◌==◌, max, Bool, true, false, cond, List, [], ◌∷◌, map, Option, Some, None, option_map, IsSome, IsTrue, Result, Ok, Err}
+use Rattle.fts_disk.specs.Disk.{DiskState}
+use Rattle.fts_tables.specs.Tables.{Tables, AreWellFormed, is_submitted, row_at}
+use Rattle.fts_tables.specs.Choice.{pick}
+use Rattle.fts_tables.specs.Moves.{change_row, claimed}
+use Rattle.fts_tables.specs.Step.{Outcomes, step, claim, with_rows}
+use Rattle.fts_tables.specs.History.{tables_of, IsLegal, claimed_file}
+use Rattle.fts_tables.specs.declared.rows.FileRow.{FileRow}
+use Rattle.fts_tables.specs.declared.commands.Entry.{Entry}
+use Rattle.fts_tables.specs.declared.commands.Command.TheVariants.{Claim}
+use Rattle.fts_tables.specs.declared.commands.Answer.{Answer}
+use Rattle.fts_tables.specs.declared.commands.Answer.TheVariants.{Restarted, Submitted, Cancelled, PrioritySet, Claimed, Reported}
+use Rattle.fts_keep.specs.Keeps.{KeepData, IsKeep}
+use Rattle.fts_keep.specs.Applied.{Applied, entry_by}
+use Rattle.fts_keep.specs.declared.fault.KeepFault.{KeepFault}
+use Rattle.fts_workers.specs.Copies.{order_in}
+use Rattle.fts_shop.specs.Within.{HasOrder, order_claimed}
+use Rattle.fts_shop.proofs.Answered.{step_of, same_done}
+
+-- a row of an id is there still once rows were changed that keep their ids
+there_still : (change : FileRow → FileRow) → ((row : FileRow) → (change row).id ≡ row.id) → (rows : List FileRow) (id : ℕ) → IsSome (row_at rows id)
+    → IsSome (row_at (map change rows) id)
+there_still change same [] id there = there
+there_still change same (row ∷ rows) id there =
+    subst (λ other. IsSome (cond (other == id) (Some (change row)) (row_at (map change rows) id))) (sym (same row))
+    (by_head (there_still change same rows id) (row.id == id) there)
+  where
+    by_head : (IsSome (row_at rows id) → IsSome (row_at (map change rows) id)) → (here : Bool) → IsSome (cond here (Some row) (row_at rows id))
+        → IsSome (cond here (Some (change row)) (row_at (map change rows) id))
+    by_head behind true there_here = refl
+    by_head behind false there_behind = behind there_behind
+
+-- one of two rows with an id
+either_id : (first : Bool) (row one : FileRow) → one.id ≡ row.id → (cond first one row).id ≡ row.id
+either_id true row one same = same
+either_id false row one same = refl
+
+-- behind a claim each row is there that was there before
+claim_there : (tables : Tables) (now : ℕ) (found : Option FileRow) (after : Tables) (answer : Answer) (file : ℕ)
+    → claim tables now found ≡ Ok (after, answer) → IsSome (row_at tables.rows file) → IsSome (row_at after.rows file)
+claim_there tables now None after answer file is there = absurd cc
+claim_there tables now (Some row) after answer file is there =
+    let rows = change_row row.id claimed tables.rows in
+    let after_is : with_rows tables now rows ≡ after =
+    ap (λ (d : Tables × Answer). d.0) (same_done (with_rows tables now rows, Claimed row.id (row.attempt + 1)) (after, answer) is) in
+    subst (λ (t : Tables). IsSome (row_at t.rows file)) after_is
+    (there_still (λ other. cond (other.id == row.id) (claimed other) other) (λ other. either_id (other.id == row.id) other (claimed other) refl)
+    tables.rows file there)
+
+-- what is there maps to what is there
+some_map : {A B : Type 0} (f : A → B) (found : Option A) → IsSome found → IsSome (option_map f found)
+some_map f (Some x) there = refl
+some_map f None there = there
+
+module _ {D : Type 0} (state : D → DiskState) (faults : D → ℕ) (old new : KeepData D) (writer now word : ℕ)
+    (formed : (entries : List Entry) → IsLegal entries → AreWellFormed (tables_of entries))
+    (waited : (tables : Tables) (now word file : ℕ) → AreWellFormed tables → claimed_file (step tables (Claim now word)) ≡ Some file
+    → (row : FileRow) × (row_at tables.rows file ≡ Some row) × IsTrue (is_submitted row.state))
+    (kept : IsKeep state old) where
+  pub has_order : (answer : Result Answer KeepFault) → Applied state faults old new (entry_by writer (Claim now word)) answer
+      → HasOrder answer (order_claimed new.tables answer)
+  has_order (Ok (Claimed file attempt)) applied =
+      let some = kept.fold.some in
+      let fine = subst (λ t. AreWellFormed t) (sym some.1.folded) (formed some.0 some.1.legal) in
+      let stepped = step_of old.used (entry_by writer (Claim now word)) (step old.tables (Claim now word)) (new.tables, Claimed file attempt) applied.done in
+      let row = waited old.tables now word file fine (ap claimed_file stepped) in
+      some_map (order_in new.tables) (row_at new.tables.rows file)
+      (claim_there old.tables (max now old.tables.moment) (pick old.tables (max now old.tables.moment) word) new.tables (Claimed file attempt) file stepped
+      (subst IsSome (sym row.1) refl))
+  has_order (Ok (Restarted released)) applied = tt
+  has_order (Ok (Submitted job id)) applied = tt
+  has_order (Ok (Cancelled job)) applied = tt
+  has_order (Ok (PrioritySet job)) applied = tt
+  has_order (Ok (Reported file left)) applied = tt
+  has_order (Err fault) applied = tt

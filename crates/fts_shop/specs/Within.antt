@@ -1,0 +1,59 @@
+-- What is done to a shop within one turn.
+use Rattle.std.specs.Prelude.{◌≡◌, ◌≢◌, ℕ, Bool, false, List, [], Option, None, IsSome, option_map, Result, Ok, Err}
+use Rattle.std.specs.Option.{option_map_or}
+use Rattle.fts_disk.specs.Disk.{DiskState, IsTold}
+use Rattle.fts_tables.specs.Tables.{Tables, row_at}
+use Rattle.fts_tables.specs.declared.commands.Command.{Command}
+use Rattle.fts_tables.specs.declared.commands.Answer.{Answer}
+use Rattle.fts_tables.specs.declared.commands.Answer.TheVariants.{Restarted, Submitted, Cancelled, PrioritySet, Claimed, Reported}
+use Rattle.fts_copy.specs.Copy.{Order}
+use Rattle.fts_turnstile.specs.Passes.{Appends}
+use Rattle.fts_keep.specs.Keeps.{IsKeep}
+use Rattle.fts_keep.specs.Applied.{Applied, entry_by}
+use Rattle.fts_keep.specs.declared.fault.KeepFault.{KeepFault}
+use Rattle.fts_workers.specs.Copies.{order_in}
+use Rattle.fts_shop.specs.Shops.{ShopData, shop_entries, writer_of}
+
+-- a command of a writer was tried: what it came to, by its answer, what it added, and the lanes left, which stay
+pub record TriesIn {D : Type 0} (state : D → DiskState) (faults : D → ℕ) (writer : ℕ) (command : Command) (old new : ShopData D)
+    (answer : Result Answer KeepFault) (lanes : ℕ) : Type 0 where
+  -- what a keep's type keeps, and that only over a disk that tells its contents entries are seen
+  pub kept : IsKeep state old.keep
+  pub told : old.keep.entries ≢ [] → IsTold (state old.keep.disk)
+  pub keeps : IsKeep state new.keep
+  pub still_told : new.keep.entries ≢ [] → IsTold (state new.keep.disk)
+  pub applied : Applied state faults old.keep new.keep (entry_by writer command) answer
+  pub appends : Appends shop_entries writer_of writer old new
+  pub left : lanes ≡ old.lanes
+  pub stay : new.lanes ≡ old.lanes
+
+-- what the copy of a claimed file is asked for, by the answer to the claim
+abbrev pub order_claimed : Tables → Result Answer KeepFault → Option Order
+order_claimed tables (Ok (Claimed file attempt)) = option_map (order_in tables) (row_at tables.rows file)
+order_claimed tables (Ok (Restarted released)) = None
+order_claimed tables (Ok (Submitted job id)) = None
+order_claimed tables (Ok (Cancelled job)) = None
+order_claimed tables (Ok (PrioritySet job)) = None
+order_claimed tables (Ok (Reported file state)) = None
+order_claimed tables (Err fault) = None
+
+-- an order comes with a claimed file
+abbrev pub HasOrder : Result Answer KeepFault → Option Order → Type 0
+HasOrder (Ok (Claimed file attempt)) order = IsSome order
+HasOrder (Ok (Restarted released)) order = Unit {0}
+HasOrder (Ok (Submitted job id)) order = Unit {0}
+HasOrder (Ok (Cancelled job)) order = Unit {0}
+HasOrder (Ok (PrioritySet job)) order = Unit {0}
+HasOrder (Ok (Reported file state)) order = Unit {0}
+HasOrder (Err fault) order = Unit {0}
+
+-- whether cancel was asked of a file
+abbrev pub is_cancel_asked : Tables → ℕ → Bool
+is_cancel_asked tables file = option_map_or (λ row. row.cancel_asked) (row_at tables.rows file) false
+
+-- a look whether cancel was asked of a file, which changes nothing
+pub record IsLookIn {D : Type 0} (state : D → DiskState) (file : ℕ) (old new : ShopData D) (asked : Bool) : Type 0 where
+  pub kept : IsKeep state old.keep
+  pub told : old.keep.entries ≢ [] → IsTold (state old.keep.disk)
+  pub same : new ≡ old
+  pub is : asked ≡ is_cancel_asked old.keep.tables file

@@ -1,0 +1,87 @@
+-- What a worker does at its station: turns, until one says that no lane is left and nothing is eligible, or ends by a fault with no lane left.
+use Rattle.std.specs.Prelude.{◌≡◌, ℕ, zero, suc, Bool, true, false, List, [], ◌∷◌, Option, Some, None, IsSome}
+use Rattle.fts_tables.specs.Coming.{Coming}
+use Rattle.fts_store.specs.Calls.{Call}
+use Rattle.fts_store.specs.Store.{StoreState}
+use Rattle.fts_tables.specs.declared.commands.Entry.{Entry}
+use Rattle.fts_turnstile.specs.Passes.{PassView, IsSame}
+use Rattle.fts_workers.specs.declared.held.Held.{Held}
+use Rattle.fts_shop.specs.Turns.{HandData, IsReady, IsTurn, hand_data}
+use Rattle.fts_shop.specs.declared.ends.Turn.{Turn as TurnEnd}
+use Rattle.fts_shop.specs.declared.ends.Turn.TheVariants as turn_ends
+use Rattle.fts_shop.specs.declared.ends.WorkerEnd.{WorkerEnd}
+use Rattle.fts_shop.specs.declared.ends.WorkerEnd.TheVariants as worker_ends
+use Rattle.fts_shop.specs.declared.station.Station.{Station}
+
+-- what contracts see of a station
+pub record StationData (E : Type 0) : Type 0 where
+  pub hand : HandData E
+  pub held : List Held
+  pub places : ℕ
+  pub pass : PassView Entry
+  pub end : Option WorkerEnd
+
+-- the same of a station, by what its clock and its words tell
+abbrev pub station_data : {D E C W : Type 0} → (C → Option Coming) → (W → Option Coming) → Station D E C W → StationData E
+station_data moments words station = record {
+  hand = hand_data moments words station.hand;
+  held = station.bench.held;
+  places = station.bench.places;
+  pass = station.pass;
+  end = station.end;
+}
+
+-- by a fault a worker ends where no lane is left
+abbrev pub end_without_lanes : ℕ → WorkerEnd → Option WorkerEnd
+end_without_lanes zero end = Some end
+end_without_lanes (suc more) end = None
+
+-- how a worker ends after a turn that ended so, where it does
+abbrev pub worker_end_of : TurnEnd → Option WorkerEnd
+worker_end_of turn_ends.Idle = None
+worker_end_of turn_ends.Stopping = Some worker_ends.Drained
+worker_end_of (turn_ends.Done file) = None
+worker_end_of (turn_ends.Failed file) = None
+worker_end_of (turn_ends.Retried file) = None
+worker_end_of (turn_ends.Cancelled file) = None
+worker_end_of (turn_ends.Stale file) = None
+worker_end_of (turn_ends.DiskFailed lanes) = end_without_lanes lanes worker_ends.DiskFailed
+worker_end_of (turn_ends.JournalFull used lanes) = end_without_lanes lanes (worker_ends.JournalFull used)
+worker_end_of (turn_ends.Memory lanes) = end_without_lanes lanes worker_ends.Memory
+
+-- whether nothing was eligible, or a fault was met
+abbrev pub is_restful : TurnEnd → Bool
+is_restful turn_ends.Idle = true
+is_restful turn_ends.Stopping = false
+is_restful (turn_ends.Done file) = false
+is_restful (turn_ends.Failed file) = false
+is_restful (turn_ends.Retried file) = false
+is_restful (turn_ends.Cancelled file) = false
+is_restful (turn_ends.Stale file) = false
+is_restful (turn_ends.DiskFailed lanes) = true
+is_restful (turn_ends.JournalFull used lanes) = true
+is_restful (turn_ends.Memory lanes) = true
+
+module _ {E : Type 0} (state : E → StoreState) (calls : E → Option (List Call)) (faults : E → ℕ) where
+  -- one turn at a station
+  abbrev pub TakesOne : StationData E → StationData E → TurnEnd → Type 0
+  TakesOne old new end = IsTurn state calls faults old.pass new.pass old.hand new.hand old.held end new.held
+
+  -- turns, one after the other, after none of which a worker ends
+  abbrev pub AreTurns : ℕ → StationData E → StationData E → Type 0
+  AreTurns zero old new = (old.hand ≡ new.hand) × (old.held ≡ new.held) × (old.pass ≡ new.pass)
+  AreTurns (suc more) old new = (next : StationData E) × (end : TurnEnd) × (TakesOne old next end × ((worker_end_of end ≡ None) × AreTurns more next new))
+
+  -- a worker that has ended: turns, and one more, after which it ended so
+  pub record WorkerDone (old new : StationData E) : Type 0 where
+    pub more : ℕ
+    pub between : StationData E
+    pub turns : AreTurns more old between
+    pub last : TurnEnd
+    pub ends : TakesOne between new last
+    pub end_is : new.end ≡ worker_end_of last
+    pub ended : IsSome new.end
+    -- what stays, and what a bench holds between two turns
+    pub same : IsSame old.pass new.pass
+    pub ready : IsReady new.held
+    pub places : new.places ≡ old.places

@@ -1,0 +1,141 @@
+//! A worker: it takes turns at its station until nothing is left to do, or until it fails with no lane left. And many workers at once.
+//! Keeps: the pass is of the lock, and what a bench holds between two turns (`IsReady`).
+//! Order: a turn, then a rest where nothing was eligible or a fault was met. `run_workers` returns once each worker has ended.
+//! Called by the service, with a station for each hand.
+ghost use Rattle.std.specs.Prelude.{◌≡◌, All};
+ghost use Rattle.fts_turnstile.specs.Passes.{IsOf};
+ghost use Rattle.fts_shop.specs.Turns.{IsReady};
+ghost use Rattle.fts_shop.specs.Many.{Each};
+ghost use Rattle.fts_shop.specs.Workers.{WorkerDone, end_without_lanes, is_restful, station_data, worker_end_of};
+
+use crate::ends::{Turn, WorkerEnd};
+use crate::many::{Work, spread};
+use crate::shop::Shop;
+use crate::station::Station;
+use crate::turning::turn;
+use fts_disk::Disk;
+use fts_store::Store;
+use fts_tables::{Clock, Words};
+use fts_turnstile::Turnstile;
+use fts_workers::Gate;
+use std::sync::Wait;
+use std::thread::Threads;
+
+// How a worker ends by a fault: not while a lane is left.
+fn end_without_lanes(lanes: u32, end: WorkerEnd) -> Option<WorkerEnd>
+    ensures { result ≡ end_without_lanes lanes end }
+{
+    if lanes == 0 { Some(end) } else { None }
+}
+
+// How a worker ends after a turn that ended so, where it does.
+fn end_after(turn: Turn) -> Option<WorkerEnd>
+    ensures { result ≡ worker_end_of turn }
+{
+    match turn {
+        Turn::Stopping => Some(WorkerEnd::Drained),
+        Turn::DiskFailed { lanes } => end_without_lanes(lanes, WorkerEnd::DiskFailed),
+        Turn::JournalFull { used, lanes } => {
+            end_without_lanes(lanes, WorkerEnd::JournalFull { used })
+        }
+        Turn::Memory { lanes } => end_without_lanes(lanes, WorkerEnd::Memory),
+        Turn::Idle
+        | Turn::Done { file: _ }
+        | Turn::Failed { file: _ }
+        | Turn::Retried { file: _ }
+        | Turn::Cancelled { file: _ }
+        | Turn::Stale { file: _ } => None,
+    }
+}
+
+// Whether a worker rests after a turn that ended so and that it goes on from: nothing was eligible, or a fault was met.
+fn rests_after(turn: Turn) -> bool
+    ensures { result ≡ is_restful turn }
+{
+    match turn {
+        Turn::Idle
+        | Turn::DiskFailed { lanes: _ }
+        | Turn::JournalFull { used: _, lanes: _ }
+        | Turn::Memory { lanes: _ } => true,
+        Turn::Stopping
+        | Turn::Done { file: _ }
+        | Turn::Failed { file: _ }
+        | Turn::Retried { file: _ }
+        | Turn::Cancelled { file: _ }
+        | Turn::Stale { file: _ } => false,
+    }
+}
+
+/// Takes turns at a station until one says that nothing is left to do, or fails, with no lane left; rests after a turn that found nothing or failed.
+/// `end` says then how it ended. It waits, and owes no return.
+pub fn worker<D: Disk, E: Store, C: Clock, W: Words, G: Gate, R: Wait>(
+    rt: &R,
+    shop: &Turnstile<Shop<D>>,
+    station: &mut Station<D, E, C, W>,
+    gate: &G,
+)
+    requires own { IsOf shop.now station.old.pass }
+    requires ready { IsReady station.old.bench.held }
+    ensures { WorkerDone E.state E.calls E.faults (station_data C.moments W.words station.old) (station_data C.moments W.words station.new) }
+{
+    for _ in rt.forever() {
+        let end = turn(
+            rt,
+            shop,
+            &mut station.pass,
+            &mut station.hand,
+            &mut station.bench,
+            gate,
+        );
+        if let Some(end) = end_after(end) {
+            station.end = Some(end);
+            return;
+        }
+        if rests_after(end) {
+            station.hand.clock.rest();
+        }
+    }
+    unreachable!()
+}
+
+/// What the workers share.
+pub struct Floor<'a, D: Disk, G> {
+    pub shop: &'a Turnstile<Shop<D>>,
+    pub gate: &'a G,
+}
+
+/// The work of a worker at its station.
+pub struct Workers;
+
+impl<'a, D: Disk, E: Store, C: Clock, W: Words, G: Gate> Work<Floor<'a, D, G>, Station<D, E, C, W>>
+    for Workers {
+    ghost use Rattle.fts_turnstile.specs.Passes.{IsOf};
+    ghost use Rattle.fts_shop.specs.Turns.{IsReady};
+    ghost use Rattle.fts_shop.specs.Workers.{WorkerDone, station_data};
+
+    ghost ready = { λ floor station. IsOf floor.shop.now station.pass × IsReady station.bench.held };
+
+    ghost done = { λ floor old new. WorkerDone E.state E.calls E.faults (station_data C.moments W.words old) (station_data C.moments W.words new) };
+
+    fn work<R: Wait>(rt: &R, shared: &Floor<'a, D, G>, job: &mut Station<D, E, C, W>) {
+        worker(rt, shared.shop, job, shared.gate);
+    }
+}
+
+/// A worker at each station, at the same time. Each station's `end` says then how its worker ended.
+pub fn run_workers<
+    D: Disk + Send,
+    E: Store + Send,
+    C: Clock + Send,
+    W: Words + Send,
+    G: Gate + Sync,
+    R: Threads + Wait + Sync,
+>(rt: &R, shop: &Turnstile<Shop<D>>, stations: &mut [Station<D, E, C, W>], gate: &G)
+    requires { All (λ station. IsOf shop.now station.pass × IsReady station.bench.held) stations.old }
+    ensures { Each (λ old new. WorkerDone E.state E.calls E.faults (station_data C.moments W.words old) (station_data C.moments W.words new))
+        stations.old stations.new }
+{
+    let floor = Floor { shop, gate };
+    spread::<Workers, Floor<'_, D, G>, Station<D, E, C, W>, R>(rt, &floor, stations);
+    let Floor { shop: _, gate: _ } = floor;
+}

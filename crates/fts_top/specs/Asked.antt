@@ -1,0 +1,31 @@
+-- What a run of one thread does, by what its words ask for.
+use Rattle.std.specs.Prelude.{◌≡◌, ℕ, List, Option, Some, None}
+use Rattle.fts_disk.specs.Disk.{DiskState}
+use Rattle.fts_store.specs.Calls.{Call}
+use Rattle.fts_store.specs.Store.{StoreState}
+use Rattle.fts_words.specs.declared.asked.Asked.{Asked}
+use Rattle.fts_words.specs.declared.asked.Asked.TheVariants as asks
+use Rattle.fts_top.specs.Loads.{IsLoad}
+use Rattle.fts_top.specs.Looks.{IsLook, LooksOnly}
+use Rattle.fts_top.specs.Runs.{OneThread, StopsEarly, IsSessionRun}
+use Rattle.fts_top.specs.declared.ends.RunEnd.{RunEnd}
+use Rattle.fts_top.specs.declared.ends.RunEnd.TheVariants.{NoCommand}
+use Rattle.fts_top.specs.declared.tally.Tally.{Tally}
+
+module _ {D E : Type 0} (state : D → DiskState) (faults : D → ℕ) (store_state : E → StoreState) (store_calls : E → Option (List Call)) (store_faults : E → ℕ) where
+  -- words that are not accepted ask for nothing; `serve` is not for one thread
+  abbrev pub DoesAsked : Option Asked → RunEnd → Tally → Option (List ℕ) → OneThread D E → OneThread D E → Type 0
+  DoesAsked None end tally text before after = (end ≡ NoCommand) × StopsEarly state faults store_state store_calls store_faults text before after end tally
+  DoesAsked (Some asks.Session) end tally text before after = IsSessionRun state faults store_state store_calls store_faults end tally text before after
+  DoesAsked (Some asks.Show) end tally text before after =
+      IsLook state faults end tally text before.disk after.disk before.output after.output × LooksOnly before after
+  DoesAsked (Some (asks.Load number)) end tally text before after = IsLoad state faults store_state store_calls store_faults number end tally text before after
+  DoesAsked (Some (asks.Serve port lanes connections)) end tally text before after = ⊥
+
+-- a run does one thing where the words ask to serve, by the lanes and the connections that they name, and another where they don't
+abbrev pub DoesOrServes : Option Asked → Type 0 → (ℕ → Option ℕ → Type 0) → Type 0
+DoesOrServes None alone serves = alone
+DoesOrServes (Some asks.Session) alone serves = alone
+DoesOrServes (Some asks.Show) alone serves = alone
+DoesOrServes (Some (asks.Load number)) alone serves = alone
+DoesOrServes (Some (asks.Serve port lanes connections)) alone serves = serves lanes connections

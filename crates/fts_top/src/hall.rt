@@ -1,0 +1,82 @@
+//! Lanes and workers at the same time: each lane at its booth and each worker at its station in a thread of its own, where one can be made.
+//! Keeps: what `serve_lane` says of each booth and `worker` of each station, by its own old value alone.
+//! Called by a run that serves, once everything is made and the doors are open.
+ghost use Rattle.std.specs.Prelude.{◌≤◌, IfSome, All};
+ghost use Rattle.fts_turnstile.specs.Passes.{IsOf};
+ghost use Rattle.fts_shop.specs.Many.{Each};
+ghost use Rattle.fts_top.specs.Halls.{IsBoothServed, IsBoothReady, IsStationWorked, IsStationReady};
+
+use crate::doors::Doors;
+use crate::lane::{Booth, serve_lane};
+use fts_disk::Disk;
+use fts_shop::{Shop, Station, Work, beside, worker};
+use fts_store::Store;
+use fts_tables::{Clock, Words};
+use fts_turnstile::Turnstile;
+use fts_workers::NoGate;
+use std::alloc::Global;
+use std::sync::Wait;
+use std::thread::Threads;
+
+/// What all lanes and workers of a run share: the lock, where memory comes from, and how many lines a lane serves at most, which is at least 1.
+pub struct Hall<'a, D: Disk> {
+    pub shop: &'a Turnstile<Shop<D>>,
+    pub alloc: Global,
+    pub connections: Option<u32>,
+}
+
+/// The work of a lane at its booth.
+struct AtBooths;
+
+impl<'a, D: Disk, A: Doors, C: Clock> Work<Hall<'a, D>, Booth<D, A, C>> for AtBooths {
+    ghost use Rattle.fts_top.specs.Halls.{IsBoothServed, IsBoothReady};
+
+    ghost ready = { λ hall booth. IsBoothReady hall.shop.now hall.connections booth };
+
+    ghost done = { λ hall old new. IsBoothServed
+        (record { left = A.Line.Source.left; reads = A.Line.Source.reads; held = A.Line.Sink.held; read_faults = A.Line.Source.faults; write_faults = A.Line.Sink.faults })
+        A.doors A.faults C.moments hall.connections old new };
+
+    fn work<R: Wait>(rt: &R, shared: &Hall<'a, D>, job: &mut Booth<D, A, C>) {
+        serve_lane(rt, shared.alloc, shared.shop, job, shared.connections);
+    }
+}
+
+/// The work of a worker at its station.
+struct AtStations;
+
+impl<'a, D: Disk, E: Store, C: Clock, W: Words> Work<Hall<'a, D>, Station<D, E, C, W>>
+    for AtStations {
+    ghost use Rattle.fts_top.specs.Halls.{IsStationWorked, IsStationReady};
+
+    ghost ready = { λ hall station. IsStationReady hall.shop.now station };
+
+    ghost done = { λ hall old new. IsStationWorked E.state E.calls E.faults C.moments W.words old new };
+
+    fn work<R: Wait>(rt: &R, shared: &Hall<'a, D>, job: &mut Station<D, E, C, W>) {
+        worker(rt, shared.shop, job, &NoGate);
+    }
+}
+
+/// Serves the lines of all booths, and takes the turns of all stations, at the same time. It waits for both.
+pub fn serve_all<
+    D: Disk + Send,
+    A: Doors + Send,
+    E: Store + Send,
+    C: Clock + Send,
+    W: Words + Send,
+    R: Threads + Wait + Sync,
+>(rt: &R, hall: &Hall<'_, D>, booths: &mut [Booth<D, A, C>], stations: &mut [Station<D, E, C, W>])
+where
+    A::Line: Send,
+    requires booths { All (IsBoothReady hall.now.shop.now hall.now.connections) booths.old }
+    requires stations { All (IsStationReady hall.now.shop.now) stations.old }
+    ensures booths { Each (IsBoothServed
+        (record { left = A.Line.Source.left; reads = A.Line.Source.reads; held = A.Line.Sink.held; read_faults = A.Line.Source.faults; write_faults = A.Line.Sink.faults })
+        A.doors A.faults C.moments hall.now.connections) booths.old booths.new }
+    ensures stations { Each (IsStationWorked E.state E.calls E.faults C.moments W.words) stations.old stations.new }
+{
+    beside::<AtBooths, AtStations, Hall<'_, D>, Booth<D, A, C>, Station<D, E, C, W>, R>(
+        rt, hall, booths, stations,
+    );
+}

@@ -1,0 +1,143 @@
+-- The numbers of options, with one option more.
+use Rattle.std.proofs.Common.{◌≡◌, ℕ, Bool, if◌then◌else◌, List, [], ◌∷◌, ◌++◌, Option, Some, None, refl, ap, sym, subst, ◌∙◌}
+use Rattle.std.specs.Prelude.{is_some, unwrap_or, option_map}
+use Rattle.std.specs.List.{list_any}
+use Rattle.fts_words.specs.Words.{port_of, lanes_of, connections_of, number_given, first_of, numbers_of, is_same_option}
+use Rattle.fts_words.specs.declared.options.Given.{Given}
+use Rattle.fts_words.specs.declared.options.Given.TheVariants.{Port, Lanes, Connections, Number}
+use Rattle.fts_words.specs.declared.options.Numbers.{Numbers}
+
+-- the first that there is stays the first
+first_stays : (part : Given → Option ℕ) (before : List Given) (option : Given) → part option ≡ None → first_of part (before ++ option ∷ []) ≡ first_of part before
+first_stays part [] option none = ap (λ (o : Option ℕ). unwrap_or (option_map Some o) None) none
+first_stays part (first ∷ before) option none = ap (λ (o : Option ℕ). unwrap_or (option_map Some (part first)) o) (first_stays part before option none)
+
+-- where there is none it is the new one
+first_new : (part : Given → Option ℕ) (before : List Given) (option : Given) (number : ℕ) → first_of part before ≡ None → part option ≡ Some number
+    → first_of part (before ++ option ∷ []) ≡ Some number
+first_new part [] option number none is = ap (λ (o : Option ℕ). unwrap_or (option_map Some o) None) is
+first_new part (first ∷ before) option number none is = by_first (part first) none (λ all. first_new part before option number all is)
+  where
+    by_first : (o : Option ℕ) → unwrap_or (option_map Some o) (first_of part before) ≡ None
+        → (first_of part before ≡ None → first_of part (before ++ option ∷ []) ≡ Some number)
+        → unwrap_or (option_map Some o) (first_of part (before ++ option ∷ [])) ≡ Some number
+    by_first None none behind = behind none
+    by_first (Some n) none behind = cc
+
+-- whether there is one of a name
+any_port : (number : ℕ) (before : List Given) → list_any (is_same_option (Port number)) before ≡ is_some (first_of port_of before)
+any_port number [] = refl
+any_port number (Port n ∷ before) = refl
+any_port number (Lanes n ∷ before) = any_port number before
+any_port number (Connections n ∷ before) = any_port number before
+any_port number (Number n ∷ before) = any_port number before
+
+any_lanes : (number : ℕ) (before : List Given) → list_any (is_same_option (Lanes number)) before ≡ is_some (first_of lanes_of before)
+any_lanes number [] = refl
+any_lanes number (Port n ∷ before) = any_lanes number before
+any_lanes number (Lanes n ∷ before) = refl
+any_lanes number (Connections n ∷ before) = any_lanes number before
+any_lanes number (Number n ∷ before) = any_lanes number before
+
+any_connections : (number : ℕ) (before : List Given) → list_any (is_same_option (Connections number)) before ≡ is_some (first_of connections_of before)
+any_connections number [] = refl
+any_connections number (Port n ∷ before) = any_connections number before
+any_connections number (Lanes n ∷ before) = any_connections number before
+any_connections number (Connections n ∷ before) = refl
+any_connections number (Number n ∷ before) = any_connections number before
+
+any_number : (number : ℕ) (before : List Given) → list_any (is_same_option (Number number)) before ≡ is_some (first_of number_given before)
+any_number number [] = refl
+any_number number (Port n ∷ before) = any_number number before
+any_number number (Lanes n ∷ before) = any_number number before
+any_number number (Connections n ∷ before) = any_number number before
+any_number number (Number n ∷ before) = refl
+
+-- what one option more makes of numbers
+abbrev pub Taken : List Given → Given → Option Numbers → Type 0
+Taken before option result = result ≡ (if list_any (is_same_option option) before then None else Some (numbers_of (before ++ option ∷ [])))
+
+-- the option is there already
+there : (before : List Given) (option : Given) (found : Option ℕ) (number : ℕ) → list_any (is_same_option option) before ≡ is_some found → found ≡ Some number
+    → Taken before option None
+there before option found number any is =
+    ap (λ (b : Bool). if b then None else Some (numbers_of (before ++ option ∷ []))) (sym (any ∙ ap (λ (o : Option ℕ). is_some o) is))
+
+-- it is not, and these are the numbers with it
+fresh : (before : List Given) (option : Given) (found : Option ℕ) (result : Numbers) → list_any (is_same_option option) before ≡ is_some found → found ≡ None
+    → result ≡ numbers_of (before ++ option ∷ []) → Taken before option (Some result)
+fresh before option found result any is same =
+    ap (λ (n : Numbers). Some n) same ∙ ap (λ (b : Bool). if b then None else Some (numbers_of (before ++ option ∷ []))) (sym (any ∙ ap (λ (o : Option ℕ). is_some o) is))
+
+-- numbers by their parts
+abbrev record_of : Option ℕ → Option ℕ → Option ℕ → Option ℕ → Numbers
+record_of port lanes connections number = record { port = port; lanes = lanes; connections = connections; number = number }
+
+same_numbers : {a b c d p q r s : Option ℕ} → a ≡ p → b ≡ q → c ≡ r → d ≡ s
+    → record_of a b c d ≡ record_of p q r s
+same_numbers one two three four = cc
+
+-- the option by its variant
+at_variant : (before : List Given) (option variant : Given) (result : Option Numbers) → option ≡ variant → Taken before variant result → Taken before option result
+at_variant before option variant result is taken = subst (λ (o : Given). Taken before o result) (sym is) taken
+
+module _ (self : Numbers) (before : List Given) (are : self ≡ numbers_of before) (option : Given) (number : ℕ) where
+  pub port_there : (old : ℕ) → option ≡ Port number → self.port ≡ Some old → Taken before option None
+  port_there old one is = at_variant before option (Port number) None one
+      (there before (Port number) (first_of port_of before) old (any_port number before) (sym (ap (λ (n : Numbers). n.port) are) ∙ is))
+
+  pub lanes_there : (old : ℕ) → option ≡ Lanes number → self.lanes ≡ Some old → Taken before option None
+  lanes_there old one is = at_variant before option (Lanes number) None one
+      (there before (Lanes number) (first_of lanes_of before) old (any_lanes number before) (sym (ap (λ (n : Numbers). n.lanes) are) ∙ is))
+
+  pub connections_there : (old : ℕ) → option ≡ Connections number → self.connections ≡ Some old → Taken before option None
+  connections_there old one is = at_variant before option (Connections number) None one
+      (there before (Connections number) (first_of connections_of before) old (any_connections number before) (sym (ap (λ (n : Numbers). n.connections) are) ∙ is))
+
+  pub number_there : (old : ℕ) → option ≡ Number number → self.number ≡ Some old → Taken before option None
+  number_there old one is = at_variant before option (Number number) None one
+      (there before (Number number) (first_of number_given before) old (any_number number before) (sym (ap (λ (n : Numbers). n.number) are) ∙ is))
+
+  pub port_fresh : option ≡ Port number → self.port ≡ None → Taken before option (Some (record self { port = Some number }))
+  port_fresh one is =
+      let none : first_of port_of before ≡ None = sym (ap (λ (n : Numbers). n.port) are) ∙ is in
+      at_variant before option (Port number) (Some (record self { port = Some number })) one
+      (fresh before (Port number) (first_of port_of before) (record self { port = Some number }) (any_port number before) none
+      (same_numbers
+      (sym (first_new port_of before (Port number) number none refl))
+      (ap (λ (n : Numbers). n.lanes) are ∙ sym (first_stays lanes_of before (Port number) refl))
+      (ap (λ (n : Numbers). n.connections) are ∙ sym (first_stays connections_of before (Port number) refl))
+      (ap (λ (n : Numbers). n.number) are ∙ sym (first_stays number_given before (Port number) refl))))
+
+  pub lanes_fresh : option ≡ Lanes number → self.lanes ≡ None → Taken before option (Some (record self { lanes = Some number }))
+  lanes_fresh one is =
+      let none : first_of lanes_of before ≡ None = sym (ap (λ (n : Numbers). n.lanes) are) ∙ is in
+      at_variant before option (Lanes number) (Some (record self { lanes = Some number })) one
+      (fresh before (Lanes number) (first_of lanes_of before) (record self { lanes = Some number }) (any_lanes number before) none
+      (same_numbers
+      (ap (λ (n : Numbers). n.port) are ∙ sym (first_stays port_of before (Lanes number) refl))
+      (sym (first_new lanes_of before (Lanes number) number none refl))
+      (ap (λ (n : Numbers). n.connections) are ∙ sym (first_stays connections_of before (Lanes number) refl))
+      (ap (λ (n : Numbers). n.number) are ∙ sym (first_stays number_given before (Lanes number) refl))))
+
+  pub connections_fresh : option ≡ Connections number → self.connections ≡ None → Taken before option (Some (record self { connections = Some number }))
+  connections_fresh one is =
+      let none : first_of connections_of before ≡ None = sym (ap (λ (n : Numbers). n.connections) are) ∙ is in
+      at_variant before option (Connections number) (Some (record self { connections = Some number })) one
+      (fresh before (Connections number) (first_of connections_of before) (record self { connections = Some number }) (any_connections number before) none
+      (same_numbers
+      (ap (λ (n : Numbers). n.port) are ∙ sym (first_stays port_of before (Connections number) refl))
+      (ap (λ (n : Numbers). n.lanes) are ∙ sym (first_stays lanes_of before (Connections number) refl))
+      (sym (first_new connections_of before (Connections number) number none refl))
+      (ap (λ (n : Numbers). n.number) are ∙ sym (first_stays number_given before (Connections number) refl))))
+
+  pub number_fresh : option ≡ Number number → self.number ≡ None → Taken before option (Some (record self { number = Some number }))
+  number_fresh one is =
+      let none : first_of number_given before ≡ None = sym (ap (λ (n : Numbers). n.number) are) ∙ is in
+      at_variant before option (Number number) (Some (record self { number = Some number })) one
+      (fresh before (Number number) (first_of number_given before) (record self { number = Some number }) (any_number number before) none
+      (same_numbers
+      (ap (λ (n : Numbers). n.port) are ∙ sym (first_stays port_of before (Number number) refl))
+      (ap (λ (n : Numbers). n.lanes) are ∙ sym (first_stays lanes_of before (Number number) refl))
+      (ap (λ (n : Numbers). n.connections) are ∙ sym (first_stays connections_of before (Number number) refl))
+      (sym (first_new number_given before (Number number) number none refl))))

@@ -1,0 +1,153 @@
+-- Which words are a command, and what they ask for: the first is a command's name, and the rest are its options, in any order and each at most once.
+-- An option is `--name` and its value in the next word, or `--name=value` in one. A value is 1 to 20 decimal digits, with a number in its range.
+use Rattle.std.specs.Prelude.{ℕ, ◌≤◌, IfSome, ◌==◌, ◌&&◌, Bool, true, false, if◌then◌else◌, nat_lt, List, [], ◌∷◌, length, Option, Some, None, option_and_then, option_map, unwrap_or, bytes_eq, codes}
+use Rattle.std.specs.List.{list_all, position_or_len, before_first, after_first}
+use Rattle.std.specs.Str.Parse.{digits_value}
+use Rattle.fts_tables.specs.Names.{is_digit}
+use Rattle.fts_tables.specs.SettingsData.{is_within, are_apart}
+use Rattle.fts_words.specs.declared.asked.Asked.{Asked}
+use Rattle.fts_words.specs.declared.asked.Asked.TheVariants as asks
+use Rattle.fts_words.specs.declared.asked.Command.{Command}
+use Rattle.fts_words.specs.declared.asked.Command.TheVariants.{Session, Show, Load, Serve}
+use Rattle.fts_words.specs.declared.options.Given.{Given}
+use Rattle.fts_words.specs.declared.options.Given.TheVariants.{Port, Lanes, Connections, Number}
+use Rattle.fts_words.specs.declared.options.Numbers.{Numbers}
+
+-- the command of a name
+abbrev pub command_named : List ℕ → Option Command
+command_named name =
+    if bytes_eq name (codes "session") then Some Session else
+    if bytes_eq name (codes "show") then Some Show else
+    if bytes_eq name (codes "load") then Some Load else
+    if bytes_eq name (codes "serve") then Some Serve else None
+
+-- the commands that are built
+abbrev pub is_built : Command → Bool
+is_built Session = true
+is_built Show = true
+is_built Load = true
+is_built Serve = true
+
+-- the command that is asked for
+abbrev pub command_of : Asked → Command
+command_of asks.Session = Session
+command_of asks.Show = Show
+command_of (asks.Load number) = Load
+command_of (asks.Serve port lanes connections) = Serve
+
+-- whether it is to serve that is asked for
+abbrev pub IsToServe : Option Asked → Type 0
+IsToServe None = ⊥
+IsToServe (Some asks.Session) = ⊥
+IsToServe (Some asks.Show) = ⊥
+IsToServe (Some (asks.Load number)) = ⊥
+IsToServe (Some (asks.Serve port lanes connections)) = Unit {0}
+
+-- the lanes and connections that are asked for are in their ranges
+abbrev pub IsInRange : Asked → Type 0
+IsInRange asks.Session = Unit {0}
+IsInRange asks.Show = Unit {0}
+IsInRange (asks.Load number) = Unit {0}
+IsInRange (asks.Serve port lanes connections) = (1 ≤ lanes) × ((lanes ≤ 8) × IfSome connections (λ most. 1 ≤ most))
+
+-- whether a byte is an equals sign
+abbrev pub is_equals : ℕ → Bool
+is_equals byte = byte == 61
+
+-- whether a word has its value behind an equals sign
+abbrev pub has_value : List ℕ → Bool
+has_value word = nat_lt (position_or_len is_equals word) (length word)
+
+-- the number of a value of 1 to 20 decimal digits
+abbrev pub number_of : List ℕ → Option ℕ
+number_of value = if is_within 1 20 (length value) && list_all is_digit value then Some (digits_value 10 value) else None
+
+-- a number that is in a range
+abbrev pub within : ℕ → ℕ → (ℕ → Given) → ℕ → Option Given
+within low high given number = if is_within low high number then Some (given number) else None
+
+-- the option of a command by its name, with a number in its range
+abbrev pub given_by : Command → List ℕ → ℕ → Option Given
+given_by Session name number = None
+given_by Show name number = None
+given_by Load name number = if bytes_eq name (codes "--number") then within 0 18446744073709551615 Number number else None
+given_by Serve name number =
+    if bytes_eq name (codes "--port") then within 1 65535 Port number else
+    if bytes_eq name (codes "--lanes") then within 1 8 Lanes number else
+    if bytes_eq name (codes "--connections") then within 1 1000000 Connections number else None
+
+-- the option of a command by its name and its value
+abbrev pub option_of : Command → List ℕ → List ℕ → Option Given
+option_of command name value = option_and_then (given_by command name) (number_of value)
+
+-- an option before others
+abbrev pub before_others : Option (List Given) → Given → Option (List Given)
+before_others others given = option_map (λ more. given ∷ more) others
+
+-- the options of words, in their order; a word that waits is a name whose value comes next
+abbrev pub options_behind : Command → Option (List ℕ) → List (List ℕ) → Option (List Given)
+options_behind command None [] = Some []
+options_behind command (Some name) [] = None
+options_behind command (Some name) (word ∷ words) = option_and_then (before_others (options_behind command None words)) (option_of command name word)
+options_behind command None (word ∷ words) =
+    if has_value word then option_and_then (before_others (options_behind command None words)) (option_of command (before_first is_equals word) (after_first is_equals word))
+    else options_behind command (Some word) words
+
+-- whether two options have one name
+abbrev pub is_same_option : Given → Given → Bool
+is_same_option (Port one) (Port other) = true
+is_same_option (Lanes one) (Lanes other) = true
+is_same_option (Connections one) (Connections other) = true
+is_same_option (Number one) (Number other) = true
+is_same_option one other = false
+
+-- the options, where none stands twice
+abbrev pub each_once : List Given → Option (List Given)
+each_once options = if are_apart is_same_option options then Some options else None
+
+-- the numbers of options, each of one name
+abbrev pub port_of : Given → Option ℕ
+port_of (Port number) = Some number
+port_of other = None
+
+abbrev pub lanes_of : Given → Option ℕ
+lanes_of (Lanes number) = Some number
+lanes_of other = None
+
+abbrev pub connections_of : Given → Option ℕ
+connections_of (Connections number) = Some number
+connections_of other = None
+
+abbrev pub number_given : Given → Option ℕ
+number_given (Number number) = Some number
+number_given other = None
+
+-- the first of options that has such a number
+abbrev pub first_of : (Given → Option ℕ) → List Given → Option ℕ
+first_of part [] = None
+first_of part (option ∷ options) = unwrap_or (option_map Some (part option)) (first_of part options)
+
+-- the numbers of options
+abbrev pub numbers_of : List Given → Numbers
+numbers_of options =
+    record { port = first_of port_of options; lanes = first_of lanes_of options; connections = first_of connections_of options; number = first_of number_given options }
+
+-- what a command asks for with these numbers: a port and a number have to be there where they are the command's; there are 4 lanes where none are named
+abbrev pub asked_with : Command → Numbers → Option Asked
+asked_with Session numbers = Some asks.Session
+asked_with Show numbers = Some asks.Show
+asked_with Load numbers = option_map asks.Load numbers.number
+asked_with Serve numbers = option_map (λ port. asks.Serve port (unwrap_or numbers.lanes 4) numbers.connections) numbers.port
+
+-- what a command's words ask for
+abbrev pub asked_of : Command → List (List ℕ) → Option Asked
+asked_of command words = option_and_then (λ options. asked_with command (numbers_of options)) (option_and_then each_once (options_behind command None words))
+
+-- the same, where the command is built
+abbrev pub asked_if_built : List (List ℕ) → Command → Option Asked
+asked_if_built words command = if is_built command then asked_of command words else None
+
+-- what words ask for, where they are accepted
+abbrev pub asked_in : List (List ℕ) → Option Asked
+asked_in [] = None
+asked_in (name ∷ words) = option_and_then (asked_if_built words) (command_named name)

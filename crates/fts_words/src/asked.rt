@@ -1,0 +1,59 @@
+//! Commands, and what a list of words asks for.
+ghost use Rattle.std.specs.Prelude.{◌≡◌};
+ghost use Rattle.fts_words.specs.Words.{command_named, is_built};
+
+/// What accepted words ask for.
+#[derive(Clone, Copy, Debug, PartialEq, Eq)]
+pub enum Asked {
+    /// One connection on the input and the output.
+    Session,
+    /// The text of the tables.
+    Show,
+    /// The large input that this number makes.
+    Load {
+        number: u64,
+    },
+    /// Connections on this port, in 1 to 8 lanes, each of which takes so many, 1 to 1,000,000, or as many as come.
+    Serve {
+        port: u16,
+        lanes: u32,
+        connections: Option<u32>,
+    },
+}
+
+/// A command's name.
+#[derive(Clone, Copy, Debug, PartialEq, Eq)]
+pub enum Command {
+    Session,
+    Show,
+    Load,
+    Serve,
+}
+
+impl Command {
+    /// The command of a name.
+    pub fn named(name: &str) -> Option<Command>
+        ensures { result ≡ command_named name.now }
+    {
+        if name == "session" {
+            Some(Command::Session)
+        } else if name == "show" {
+            Some(Command::Show)
+        } else if name == "load" {
+            Some(Command::Load)
+        } else if name == "serve" {
+            Some(Command::Serve)
+        } else {
+            None
+        }
+    }
+
+    /// Whether the command is built; the lists of one that is not are not accepted.
+    pub fn is_built(self) -> bool
+        ensures { result ≡ is_built self }
+    {
+        match self {
+            Command::Session | Command::Show | Command::Load | Command::Serve => true,
+        }
+    }
+}
