@@ -7,7 +7,14 @@ pub(crate) const WORDS: &[(&str, Option<Asked>)] = &[
     ("show", Some(Asked::Show)),
     ("load --number 7", Some(Asked::Load { number: 7 })),
     ("load", None),
-    ("serve --port 8080", None),
+    (
+        "serve --port 8080",
+        Some(Asked::Serve {
+            port: 8080,
+            lanes: 4,
+            connections: None,
+        }),
+    ),
     ("", None),
     ("Session", None),
     ("sessions", None),
