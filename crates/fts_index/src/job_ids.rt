@@ -86,7 +86,7 @@ impl JobIds {
         let place = self.ids.len() as u32;
         match search(self.ids.as_slice(), self.order.as_slice(), id) {
             // The id has a lesser number already.
-            Ok(_) => {}
+            Ok(_at) => {}
             Err(at) => {
                 let _ = self.order.insert(at, place);
             }

@@ -18,9 +18,9 @@ invariant_of-self c = elim c.match-search.branch [
       let room = ap (λ (inside : Inside). inside.room) w.self-inside-is in
       let capacity = ap (λ (inside : Inside). vec_capacity inside.order) w.self-inside-is in
       let same = ap (λ (inside : Inside). inside.order.items) w.self-inside-is in
-      let at : IsInOrderAt ids order c.args.id w.in-Ok.field-0 =
-      subst (λ some. IsInOrderAt some order c.args.id w.in-Ok.field-0) c.as_slice.ensures.value
-      (subst (λ some. IsInOrderAt c.as_slice.result.now some c.args.id w.in-Ok.field-0) c.as_slice-2.ensures.value w.in-Ok.ensures.found) in
+      let at : IsInOrderAt ids order c.args.id w.in-Ok._at =
+      subst (λ some. IsInOrderAt some order c.args.id w.in-Ok._at) c.as_slice.ensures.value
+      (subst (λ some. IsInOrderAt c.as_slice.result.now some c.args.id w.in-Ok._at) c.as_slice-2.ensures.value w.in-Ok.ensures.found) in
       record {
         inside = omega (
           arith,
@@ -34,7 +34,7 @@ invariant_of-self c = elim c.match-search.branch [
         few = omega (arith, room, c.self.invariant.few);
         room_in_order = omega (arith, count, room, capacity, ap length same, c.self.invariant.room_in_order);
         order = subst (λ some. IsOrderOf c.push_reserved.new.self.items some) (sym same)
-            (subst (λ some. IsOrderOf some order) (sym items) (added_again ids order c.self.invariant.order c.args.id w.in-Ok.field-0 at));
+            (subst (λ some. IsOrderOf some order) (sym items) (added_again ids order c.self.invariant.order c.args.id w.in-Ok._at at));
       }
   | in-Err w ↦
       let ids : List ℕ = c.self.inside.ids.items in
