@@ -1,0 +1,27 @@
+#!/bin/sh
+# Submissions over 4 connections beside the journal's appends alone, in turns, in one run.
+#     bench/submissions.sh PROGRAM JOURNAL [SECONDS]
+# PROGRAM is fts, and JOURNAL the program of crates/bench_journal, as they were built. It needs Debian's wrk. Port 18080 of 127.0.0.1 is used.
+set -eu
+program=$(realpath "$1")
+journal=$(realpath "$2")
+seconds=${3:-3}
+work=$(mktemp -d "$(pwd)/submissions.XXXXXX")
+trap 'kill $(jobs -p) 2>/dev/null || true; wait; rm -rf "$work"' EXIT
+cd "$work"
+mkdir -p stand/grid
+printf 'vo = "demo"\nworkers = 1\n[[storage]]\nurl = "https://a.example"\n[[storage]]\nurl = "https://b.example"\n' > stand/fts.toml
+# of files that have no source, so that next to nothing is copied
+cat > post.lua <<'LUA'
+wrk.method = "POST"
+wrk.body = [[{"files":[{"sources":["https://a.example/none"],"destinations":["https://b.example/f1"]}]}]]
+LUA
+for round in 1 2 3; do
+    rm -f stand/fts.journal
+    "$program" stand serve --port 18080 --lanes 4 & service=$!
+    for _ in $(seq 100); do curl -sf -m 2 -o /dev/null http://127.0.0.1:18080/jobs && break; sleep 0.05; done
+    ours=$(wrk -t4 -c4 -d"${seconds}s" -s post.lua http://127.0.0.1:18080/jobs | awk '/Requests\/sec/ { print $2 }')
+    kill $service; wait $service 2>/dev/null || true
+    theirs=$("$journal" 3000 | sed 's/.*journal \([0-9]*\),.*/\1/')
+    awk -v round="$round" -v ours="$ours" -v theirs="$theirs" 'BEGIN { printf "round %s: %.0f submissions a second, %.0f appends a second alone, ratio %.2f\n", round, ours, theirs, ours / theirs }'
+done

@@ -1,0 +1,478 @@
+-- Of lanes and workers that ran over a told list: what each pass added, by its number, and what follows for all of them.
+use Rattle.std.proofs.Common.{◌≡◌, ◌≢◌, refl, sym, ap, ◌∙◌, subst, inl, inr, ⊎_elim, ℕ, zero, suc, ◌+◌, ◌<◌, ◌≤◌, Bool, true, false, List, [], ◌∷◌, ◌++◌, length, map, drop, All, Option, Some, None, Ok, Err, append-nil, append_assoc, arith}
+use Rattle.std.specs.Prelude.{◌⊎◌, max, IsSome}
+use Rattle.fts_tables.specs.Coming.{Coming}
+use Rattle.fts_tables.specs.SettingsData.{SettingsData, IsSettings}
+use Rattle.fts_tables.specs.Tables.{Tables, empty_tables}
+use Rattle.fts_tables.specs.Limits.{eligible_rows}
+use Rattle.fts_tables.specs.Step.{step}
+use Rattle.fts_tables.specs.History.{IsLegal, out_of_list, tables_of}
+use Rattle.fts_tables.specs.declared.commands.Entry.{Entry}
+use Rattle.fts_tables.specs.declared.commands.Command.TheVariants.{Claim, Restart}
+use Rattle.fts_tables.specs.declared.commands.Refusal.TheVariants.{Idle}
+use Rattle.fts_disk.specs.Disk.{DiskState}
+use Rattle.fts_store.specs.Calls.{Call}
+use Rattle.fts_store.specs.Store.{StoreState}
+use Rattle.fts_turnstile.specs.declared.turn.Turn.{Turn}
+use Rattle.fts_turnstile.specs.History.{AllGiven, AllNamed, Among, NoneBy, OnlyOthersSince, items_of, shown_after}
+use Rattle.fts_turnstile.specs.Passes.{PassView, TurnstileView, pass_given, seen_list}
+use Rattle.fts_passes.specs.Crews.{AreSeenBy, passes_given}
+use Rattle.fts_keep.specs.Keeps.{KeepData}
+use Rattle.fts_keep.specs.Applied.{entry_by}
+use Rattle.fts_workers.specs.declared.hand.Hand.{Hand}
+use Rattle.fts_workers.specs.declared.held.Held.{Held}
+use Rattle.fts_shop.specs.Many.{Each}
+use Rattle.fts_shop.specs.Looking.{LeaveLanes, NoneOf}
+use Rattle.fts_shop.specs.Looked.{items_on}
+use Rattle.fts_workers.proofs.Accepted.{legal_front}
+use Rattle.fts_shop.specs.Shops.{IsToldList, ShopData, lanes_shown, writer_of}
+use Rattle.fts_shop.specs.Workers.{StationData, WorkerDone, station_data, worker_end_of}
+use Rattle.fts_shop.specs.declared.ends.Turn.TheVariants.{Stale}
+use Rattle.fts_shop.specs.declared.ends.WorkerEnd.{WorkerEnd}
+use Rattle.fts_shop.specs.declared.ends.WorkerEnd.TheVariants.{Drained}
+use Rattle.fts_shop.specs.declared.station.Station.{Station}
+use Rattle.fts_top.specs.Doors.{DoorsData}
+use Rattle.fts_top.specs.Halls.{IsBoothServed, IsStationWorked}
+use Rattle.fts_top.specs.Lanes.{Sides}
+use Rattle.fts_top.specs.Seats.{booths_of, stations_of}
+use Rattle.fts_top.specs.Serves.{ClosesServed}
+use Rattle.fts_top.specs.declared.ends.RunEnd.{RunEnd}
+use Rattle.fts_top.specs.declared.lane.Booth.{Booth}
+use Rattle.fts_top.specs.declared.lane.Lane.{Lane}
+use Rattle.fts_ledger.specs.Claims.{IsOut, IsOwn, last_claim}
+use Rattle.fts_ledger.specs.Ledger.{AreFresh, FollowsOwn, KeepsItsFiles, KeepsLedger, MayKeep}
+use Rattle.fts_ledger.specs.Reports.{AddsAsked, AddsWork, HasNoRestart, IsUndisturbed, ReportsOwn}
+use Rattle.fts_serving.specs.Ends.{AreDrained, IsOpenedBy, KeepTheLedger, KeepsOwn, LeavesNothing, entries_added, stations_before}
+use Rattle.fts_serving.proofs.Last.{HasLast, IsBehind, IsLast, given_last, items_to, last_of, last_or_behind, last_there, none_above, none_among, none_last, not_behind, within}
+use Rattle.fts_serving.proofs.Open.{LaneTurns, Rules, has_turn, none_open, open_all, open_behind, open_lanes, own_turn, there_behind}
+use Rattle.fts_serving.proofs.Own.{asked_none, named_back, none_items}
+use Rattle.fts_serving.proofs.Seats.{At, Seat, booths_given, drop_given, each_idle, each_weaker, each_with, giver_from, seat_at, seats, seen_behind, stations_given}
+use Rattle.fts_serving.proofs.Stations.{FindsNone, drained_finds_none, worker_leaves}
+use Rattle.fts_serving.proofs.Whole.{Laws, OfLane, OfWorker, Sees, keeps, may, of_lane, of_worker, seen}
+
+-- the laws of lists that are cited here
+pub record ListLaws : Type 0 where
+  pub claimed : (opening entries : List Entry) (file : ℕ) → out_of_list opening ≡ [] → IsOut file (opening ++ entries)
+      → (writer : ℕ) × IsOwn writer (last_claim file opening entries)
+  pub asked : (writer file : ℕ) (opening entries : List Entry) → AddsAsked writer entries → IsOwn writer (last_claim file opening entries) → ⊥
+  pub before : (writer file : ℕ) (opening entries later : List Entry) → NoneOf writer later → IsOut file (opening ++ (entries ++ later))
+      → IsOwn writer (last_claim file opening (entries ++ later)) → IsOut file (opening ++ entries) × IsOwn writer (last_claim file opening entries)
+  pub restarted : (entries : List Entry) (writer now : ℕ) (settings : SettingsData) → IsLegal (entries ++ entry_by writer (Restart now settings) ∷ [])
+      → out_of_list (entries ++ entry_by writer (Restart now settings) ∷ []) ≡ []
+  pub settings : (entries : List Entry) (writer now : ℕ) (settings : SettingsData) (more : List Entry) → HasNoRestart more
+      → IsLegal ((entries ++ entry_by writer (Restart now settings) ∷ []) ++ more)
+      → (tables_of ((entries ++ entry_by writer (Restart now settings) ∷ []) ++ more)).settings ≡ Some settings
+  pub none : (entries : List Entry) → ((writer : ℕ) → AddsWork writer entries ⊎ AddsAsked writer entries) → HasNoRestart entries
+  pub reports : (writer : ℕ) (opening entries : List Entry) → AddsAsked writer entries → ReportsOwn writer opening [] entries
+  pub others : (writer : ℕ) (opening before entries : List Entry) → NoneOf writer entries → ReportsOwn writer opening before entries
+  pub undisturbed : (opening entries : List Entry) → HasNoRestart entries → ((writer : ℕ) → ReportsOwn writer opening [] entries)
+      → (writer : ℕ) → IsUndisturbed writer opening entries
+  pub idle : (tables : Tables) (settings : SettingsData) (now word : ℕ) → tables.settings ≡ Some settings → IsSettings settings
+      → step tables (Claim now word) ≡ Err Idle → eligible_rows tables (max now tables.moment) ≡ []
+  pub earlier : (tables : Tables) (now later : ℕ) → now ≤ later → eligible_rows tables later ≡ [] → eligible_rows tables now ≡ []
+
+-- the laws of stations that are cited here
+pub record StoreLaws {E : Type 0} (store_state : E → StoreState) (store_calls : E → Option (List Call)) (store_faults : E → ℕ) : Type 0 where
+  pub own : Laws store_state store_calls store_faults
+  pub before : (pass : PassView Entry) (later : List (Turn Entry)) → IsUndisturbed pass.number pass.opening (items_of (pass.seen ++ later)) → KeepsItsFiles pass
+  pub follow : (old new : StationData E) (done : WorkerDone store_state store_calls store_faults old new) → MayKeep old.pass new.pass old.held
+      → KeepsItsFiles new.pass
+      → FollowsOwn store_state store_calls store_faults old new × AreFresh store_state store_calls store_faults done.more old done.between
+
+-- what adds nothing works and asks for nothing
+work_none : (writer : ℕ) (entries : List Entry) → NoneOf writer entries → AddsWork writer entries
+work_none writer [] none = tt
+work_none writer (entry ∷ entries) none = ((λ is. absurd (none.0 is)), work_none writer entries none.1)
+
+-- a moment isn't later than the greater of two
+le_max : (a b : ℕ) → b ≤ max a b
+le_max a b = omega arith
+
+module _ {D A E C W L : Type 0} (state : D → DiskState) (faults : D → ℕ) (store_state : E → StoreState) (store_calls : E → Option (List Call)) (store_faults : E → ℕ)
+    (sides : Sides L) (doors : A → DoorsData L) (door_faults : A → ℕ) (moments : C → Option Coming) (words : W → Option Coming)
+    {lanes workers : ℕ} {connections : Option ℕ} {keep : KeepData D} {lanes_before : List (Lane A C L)} {hands : List (Hand E C W)} {after : List (Lane A C L)}
+    {hands_now : List (Hand E C W)} {closed : ShopData D} {end : RunEnd}
+    (lists : ListLaws) (laws : StoreLaws store_state store_calls store_faults)
+    (serves : ClosesServed state faults store_state store_calls store_faults sides doors door_faults moments words lanes workers connections keep lanes_before hands
+    after hands_now closed end)
+    (settings : SettingsData) (opened : IsOpenedBy keep.entries settings) (legal : IsLegal (keep.entries ++ items_of serves.ran.history.turns))
+    (lanes_there : lanes ≤ length serves.opened) (hands_there : workers ≤ length hands) (some : 1 ≤ workers) where
+  -- the one list of turns, pass 0, and what the list was opened with
+  abbrev turns : List (Turn Entry)
+  turns = serves.ran.history.turns
+
+  abbrev items : List Entry
+  items = items_of turns
+
+  abbrev first : PassView Entry
+  first = serves.first
+
+  given_is : first.given ≡ lanes + workers
+  given_is = ap (λ (p : PassView Entry). p.given) serves.locked.first_is
+
+  unseen : first.seen ≡ []
+  unseen = ap (λ (p : PassView Entry). p.seen) serves.locked.first_is
+
+  opening_is : first.opening ≡ keep.entries
+  opening_is = ap (λ (p : PassView Entry). p.opening) serves.locked.first_is ∙ serves.locked.opening
+
+  shows_are : lanes_shown first.opening_shows ≡ lanes
+  shows_are = ap (λ (p : PassView Entry). lanes_shown p.opening_shows) serves.locked.first_is ∙ ap lanes_shown serves.locked.shows
+
+  named : AllNamed writer_of turns
+  named = serves.ran.history.named
+
+  told : IsToldList first
+  told none = not_empty opened.opening (sym opened.is ∙ sym opening_is ∙ none)
+    where
+      not_empty : (entries : List Entry) → entries ++ entry_by 0 (Restart opened.now settings) ∷ [] ≡ [] → ⊥
+      not_empty [] is = absurd cc
+      not_empty (entry ∷ entries) is = absurd cc
+
+  legal_first : IsLegal (first.opening ++ items)
+  legal_first = subst (λ o. IsLegal (o ++ items)) (sym opening_is) legal
+
+  -- the seats of lanes, by number
+  lane_at : (n : ℕ) → 1 ≤ n → n ≤ lanes
+      → At (λ (booth : Booth D A C L). booth.pass) (IsBoothServed sides doors door_faults moments connections) turns first n
+  lane_at n low high =
+      seat_at (λ (booth : Booth D A C L). booth.pass) (IsBoothServed sides doors door_faults moments connections) turns first
+      (booths_of serves.opened serves.rooms (passes_given (giver_from first 0) first.given)) serves.ran.booths
+      (map (λ (station : Station D E C W). station.pass) serves.ran.stations) 0 (length serves.rooms)
+      (booths_given D serves.opened serves.rooms first 0 first.given
+      (omega (arith, lanes_there, serves.as_many.0)) (omega (arith, given_is, serves.as_many.0)))
+      serves.ran.served serves.ran.history.seen n (omega (arith, low)) (omega (arith, high, serves.as_many.0))
+
+  -- a worker's work, from an empty bench
+  abbrev Worked : Station D E C W → Station D E C W → Type 0
+  Worked old new = IsStationWorked store_state store_calls store_faults moments words old new × (old.bench.held ≡ [])
+
+  abbrev passes_behind : List (PassView Entry)
+  passes_behind = drop (length serves.rooms) (passes_given (giver_from first 0) first.given)
+
+  worked : Each Worked (stations_of hands serves.benches passes_behind) serves.ran.stations
+  worked = each_idle (IsStationWorked store_state store_calls store_faults moments words) hands serves.benches passes_behind serves.ran.stations
+      serves.ran.worked serves.ran.idle
+
+  stations_are : map (λ (station : Station D E C W). station.pass) (stations_of hands serves.benches passes_behind)
+      ≡ passes_given (giver_from first (0 + length serves.rooms)) (length serves.benches)
+  stations_are =
+      ap (λ l. map (λ (station : Station D E C W). station.pass) (stations_of hands serves.benches l))
+      (drop_given (length serves.rooms) first.given workers first 0 (omega (arith, given_is, serves.as_many.0)))
+      ∙ stations_given D hands serves.benches first (0 + length serves.rooms) workers (omega (arith, hands_there, serves.as_many.1)) (omega (arith, serves.as_many.1))
+
+  stations_seen : AreSeenBy turns (map (λ (station : Station D E C W). station.pass) serves.ran.stations ++ [])
+  stations_seen = subst (AreSeenBy turns) (sym (append-nil (map (λ (station : Station D E C W). station.pass) serves.ran.stations)))
+      (seen_behind turns (map (λ (booth : Booth D A C L). booth.pass) serves.ran.booths)
+      (map (λ (station : Station D E C W). station.pass) serves.ran.stations) serves.ran.history.seen)
+
+  -- the seats of workers, by number, with what else is known of each
+  station_at : (Q : Station D E C W → Station D E C W → Type 0) → Each Q (stations_of hands serves.benches passes_behind) serves.ran.stations
+      → (n : ℕ) → lanes < n → n ≤ lanes + workers → At (λ (station : Station D E C W). station.pass) Q turns first n
+  station_at Q each n low high =
+      seat_at (λ (station : Station D E C W). station.pass) Q turns first (stations_of hands serves.benches passes_behind) serves.ran.stations [] (0 + length serves.rooms)
+      (length serves.benches) stations_are each stations_seen n (omega (arith, low, serves.as_many.0)) (omega (arith, high, serves.as_many.0, serves.as_many.1))
+
+  -- what is known of a pass that was given, by pass 0
+  numbered : (n given : ℕ) (pass : PassView Entry) → suc given ≡ n → pass ≡ pass_given (giver_from first given)
+      → (pass.number ≡ n) × ((pass.opening ≡ first.opening) × ((pass.opening_shows ≡ first.opening_shows) × (pass.seen ≡ [])))
+  numbered n given pass is from = (
+    ap (λ (p : PassView Entry). p.number) from ∙ omega (arith, is),
+    (
+      ap (λ (p : PassView Entry). p.opening) from,
+      (
+        ap (λ (p : PassView Entry). p.opening_shows) from,
+        ap (λ (p : PassView Entry). p.seen) from ∙ unseen,
+      ),
+    ),
+  )
+
+  lane_of : (n : ℕ) → 1 ≤ n → n ≤ lanes
+      → AddsAsked n items × (LaneTurns n first.opening_shows turns × (has_turn n turns ≡ true))
+  lane_of n low high =
+      let at = lane_at n low high in
+      let is = numbered n at.seat.given at.old.pass at.is at.seat.pass in
+      let of = of_lane sides doors door_faults moments connections turns at.old at.new (λ none. told (sym is.1.0 ∙ none)) is.1.1.1 named at.seat.since at.seat.holds in (
+        subst (λ m. AddsAsked m items) is.0 of.asked,
+        (
+          subst (λ m. LaneTurns m first.opening_shows turns) is.0 (subst (λ l. LaneTurns at.old.pass.number l turns) is.1.1.0 of.lane),
+          subst (λ m. has_turn m turns ≡ true) is.0 of.there,
+        ),
+      )
+
+  -- a worker's seat, as stations are seen
+  module _ (old new : Station D E C W) (given : ℕ) (from : old.pass ≡ pass_given (giver_from first given)) (since : OnlyOthersSince (new.pass.number ∷ []) new.pass.seen turns)
+      (done : Worked old new) where
+    station_is : (old.pass.number ≡ suc given) × ((old.pass.opening ≡ first.opening) × ((old.pass.opening_shows ≡ first.opening_shows) × (old.pass.seen ≡ [])))
+    station_is = numbered (suc given) given old.pass refl from
+
+    station_told : IsToldList old.pass
+    station_told none = told (sym station_is.1.0 ∙ none)
+
+    station_legal : IsLegal (old.pass.opening ++ items)
+    station_legal = subst (λ o. IsLegal (o ++ items)) (sym station_is.1.0) legal_first
+
+    station_may : MayKeep old.pass new.pass old.bench.held
+    station_may = may store_state store_calls store_faults laws.own turns (station_data moments words old) (station_data moments words new) station_told
+        station_is.1.1.1 done.1 station_legal done.0 since
+
+    station_keeps : KeepsLedger old.pass new.pass new.bench.held
+    station_keeps = keeps store_state store_calls store_faults laws.own turns (station_data moments words old) (station_data moments words new) station_told
+        station_is.1.1.1 done.1 station_legal done.0 since
+
+    station_of_worker : OfWorker turns old.pass
+    station_of_worker = of_worker store_state store_calls store_faults laws.own turns (station_data moments words old) (station_data moments words new) station_told
+        station_is.1.1.1 done.1 station_legal done.0 since named
+
+  worker_of : (n : ℕ) → lanes < n → n ≤ lanes + workers
+      → AddsWork n items × (ReportsOwn n keep.entries [] items × LeaveLanes n first.opening_shows turns)
+  worker_of n low high =
+      let at = station_at Worked worked n low high in
+      let is = numbered n at.seat.given at.old.pass at.is at.seat.pass in
+      let of = station_of_worker at.old at.new at.seat.given at.seat.pass at.seat.since at.seat.holds in (
+        subst (λ m. AddsWork m items) is.0 of.work,
+        (
+          subst (λ m. ReportsOwn m keep.entries [] items) is.0 (subst (λ o. ReportsOwn at.old.pass.number o [] items) (is.1.0 ∙ opening_is) of.own),
+          subst (λ m. LeaveLanes m first.opening_shows turns) is.0 (subst (λ l. LeaveLanes at.old.pass.number l turns) is.1.1.0 of.leaves),
+        ),
+      )
+
+  -- the entries of other numbers
+  none_of_zero : NoneOf 0 items
+  none_of_zero = none_items 0 turns serves.ran.history.none_of_first named
+
+  none_of_above : (n : ℕ) → lanes + workers < n → NoneOf n items
+  none_of_above n above = none_items n turns (none_above first.given n turns serves.ran.history.given (omega (arith, given_is, above))) named
+
+  pub asked : (pass : ℕ) → 1 ≤ pass → pass ≤ lanes → AddsAsked pass items
+  asked pass low high = (lane_of pass low high).0
+
+  pub work : (pass : ℕ) → lanes < pass → AddsWork pass items
+  work pass low = ⊎_elim
+      (λ high. (worker_of pass low high).0)
+      (λ above. work_none pass items (none_of_above pass above))
+      (within pass (lanes + workers))
+
+  asked_low : (writer : ℕ) → writer ≤ lanes → AddsAsked writer items
+  asked_low zero high = asked_none 0 items none_of_zero
+  asked_low (suc more) high = asked (suc more) (omega arith) high
+
+  pub own : (writer : ℕ) → ReportsOwn writer keep.entries [] items
+  own writer = ⊎_elim
+      (λ high. lists.reports writer keep.entries items (asked_low writer high))
+      (λ low. ⊎_elim
+      (λ high. (worker_of writer low high).1.0)
+      (λ above. lists.others writer keep.entries [] items (none_of_above writer above))
+      (within writer (lanes + workers)))
+      (within writer lanes)
+
+  none_restarts : HasNoRestart items
+  none_restarts = lists.none items (λ writer. ⊎_elim (λ high. inr (asked_low writer high)) (λ low. inl (work writer low)) (within writer lanes))
+
+  pub undisturbed : (writer : ℕ) → IsUndisturbed writer keep.entries items
+  undisturbed writer = lists.undisturbed keep.entries items none_restarts own writer
+
+  -- each worker's own
+  keeps_own : (old new : Station D E C W) → Seat (λ (station : Station D E C W). station.pass) Worked turns first old new
+      → KeepsOwn store_state store_calls store_faults (station_data moments words old) (station_data moments words new)
+  keeps_own old new seat =
+      let is = numbered (suc seat.given) seat.given old.pass refl seat.pass in
+      let done = seat.holds.0 in
+      let files : KeepsItsFiles new.pass = laws.before new.pass seat.since.0
+      (subst (λ t. IsUndisturbed new.pass.number new.pass.opening (items_of t)) seat.since.1
+      (subst (λ o. IsUndisturbed new.pass.number o items) (sym (done.same.1 ∙ is.1.0 ∙ opening_is)) (undisturbed new.pass.number))) in
+      let follows = laws.follow (station_data moments words old) (station_data moments words new) done
+      (station_may old new seat.given seat.pass seat.since seat.holds) files in
+      record {
+        done = done;
+        follows = follows.0;
+        fresh = follows.1;
+        last = λ file stale. not_ended new.end (ap worker_end_of stale) done.end_is done.ended;
+      }
+    where
+      not_ended : (ended : Option WorkerEnd) {of : Option WorkerEnd} → of ≡ None → ended ≡ of → IsSome ended → ⊥
+      not_ended ended none is there = absurd (let e = is ∙ none in cc)
+
+  pub stations : Each (λ old new. KeepsOwn store_state store_calls store_faults (station_data moments words old) (station_data moments words new))
+      (stations_of hands serves.benches passes_behind) serves.ran.stations
+  stations = each_weaker (Seat (λ (station : Station D E C W). station.pass) Worked turns first)
+      (λ old new. KeepsOwn store_state store_calls store_faults (station_data moments words old) (station_data moments words new)) keeps_own
+      (stations_of hands serves.benches passes_behind) serves.ran.stations
+      (seats (λ (station : Station D E C W). station.pass) Worked turns first (stations_of hands serves.benches passes_behind) serves.ran.stations []
+      (0 + length serves.rooms) (length serves.benches) stations_are worked stations_seen)
+
+  -- where all ended drained
+  module _ (drained : AreDrained state faults store_state store_calls store_faults sides doors door_faults moments words serves) where
+    -- work that ended so
+    abbrev Drains : Station D E C W → Station D E C W → Type 0
+    Drains old new = Worked old new × (new.end ≡ Some Drained)
+
+    drains : Each Drains (stations_of hands serves.benches passes_behind) serves.ran.stations
+    drains = each_with Worked (λ (station : Station D E C W). station.end ≡ Some Drained) (stations_of hands serves.benches passes_behind) serves.ran.stations
+        worked drained
+
+    -- a drained worker by its number: what its last turn found, where that stands, and that it holds nothing
+    record Found (n : ℕ) : Type 0 where
+      pass : PassView Entry
+      number : pass.number ≡ n
+      opening : pass.opening ≡ first.opening
+      shows : pass.opening_shows ≡ first.opening_shows
+      finds : FindsNone pass
+      later : List (Turn Entry)
+      is : turns ≡ pass.seen ++ later
+      none : NoneBy (n ∷ []) later
+      whole : (file : ℕ) → IsOut file (pass.opening ++ items_of pass.seen) → IsOwn n (last_claim file pass.opening (items_of pass.seen)) → ⊥
+
+    found : (n : ℕ) → lanes < n → n ≤ lanes + workers → Found n
+    found n low high =
+        let at = station_at Drains drains n low high in
+        let is = numbered n at.seat.given at.old.pass at.is at.seat.pass in
+        let done = at.seat.holds.0.0 in
+        let old = station_data moments words at.old in
+        let new = station_data moments words at.new in
+        let ends = drained_finds_none store_state store_calls store_faults old new (λ none. told (sym is.1.0 ∙ none)) is.1.1.1 done at.seat.holds.1 in
+        let kept = station_keeps at.old at.new at.seat.given at.seat.pass at.seat.since at.seat.holds.0 in
+        let number : at.new.pass.number ≡ n = done.same.3 ∙ is.0 in
+        record {
+          pass = at.new.pass;
+          number = number;
+          opening = done.same.1 ∙ is.1.0;
+          shows = done.same.2 ∙ is.1.1.0;
+          finds = ends.0;
+          later = at.seat.since.0;
+          is = at.seat.since.1;
+          none = subst (λ m. NoneBy (m ∷ []) at.seat.since.0) number at.seat.since.2;
+          whole = λ file out own.
+              subst (λ (held : List Held). Among file (map (λ (one : Held). one.file) held)) ends.1
+              (kept.held_is_out.whole file out (subst (λ m. IsOwn m (last_claim file at.new.pass.opening (items_of at.new.pass.seen))) (sym number) own));
+        }
+
+    -- no file is out: its last claim would be a worker's, which holds nothing
+    not_out : (file : ℕ) → IsOut file (keep.entries ++ items) → ⊥
+    not_out file out =
+        let claim = lists.claimed keep.entries items file restarted_none out in
+        by claim.0 claim.1
+      where
+        restarted_none : out_of_list keep.entries ≡ []
+        restarted_none = subst (λ l. out_of_list l ≡ []) (sym opened.is)
+            (lists.restarted opened.opening 0 opened.now settings (legal_front empty_tables (opened.opening ++ entry_by 0 (Restart opened.now settings) ∷ []) items
+            (subst (λ o. IsLegal (o ++ items)) opened.is legal)))
+
+        worker : (writer : ℕ) → lanes < writer → writer ≤ lanes + workers → IsOwn writer (last_claim file keep.entries items) → ⊥
+        worker writer low high own =
+            let at = found writer low high in
+            let all : items ≡ items_of at.pass.seen ++ items_of at.later = ap items_of at.is ∙ items_on at.pass.seen at.later in
+            let none = none_items writer at.later at.none (named_back at.pass.seen at.later (subst (AllNamed writer_of) at.is named)) in
+            let before = lists.before writer file keep.entries (items_of at.pass.seen) (items_of at.later) none
+            (subst (λ l. IsOut file (keep.entries ++ l)) all out)
+            (subst (λ l. IsOwn writer (last_claim file keep.entries l)) all own) in
+            let opens : keep.entries ≡ at.pass.opening = sym opening_is ∙ sym at.opening in
+            at.whole file
+            (subst (λ o. IsOut file (o ++ items_of at.pass.seen)) opens before.0)
+            (subst (λ o. IsOwn writer (last_claim file o (items_of at.pass.seen))) opens before.1)
+
+        by : (writer : ℕ) → IsOwn writer (last_claim file keep.entries items) → ⊥
+        by writer own = ⊎_elim
+            (λ high. lists.asked writer file keep.entries items (asked_low writer high) own)
+            (λ low. ⊎_elim
+            (λ high. worker writer low high own)
+            (λ above. lists.asked writer file keep.entries items (asked_none writer items (none_of_above writer above)) own)
+            (within writer (lanes + workers)))
+            (within writer lanes)
+
+    -- the rules by which lanes are shown
+    rules : Rules lanes (lanes + workers) first.opening_shows turns
+    rules = record {
+      lane = λ n low high. (lane_of n low high).1.0;
+      other = λ n low high. (worker_of n low high).1.1;
+      given = subst (λ m. AllGiven m turns) given_is serves.ran.history.given;
+      none = serves.ran.history.none_of_first;
+    }
+
+    -- behind a drained worker's last turn no lane has a turn
+    none_behind : {n : ℕ} (at : Found n) (m : ℕ) → 1 ≤ m → m ≤ lanes → has_turn m (at.finds.turn ∷ at.later) ≡ false
+    none_behind at m from upto =
+        let rest = at.finds.turn ∷ at.later in
+        let all : turns ≡ at.finds.before ++ rest = at.is ∙ ap (λ l. l ++ at.later) at.finds.seen ∙ append_assoc at.finds.before (at.finds.turn ∷ []) at.later in
+        let opens = open_behind lanes (lanes + workers) first.opening_shows at.finds.before rest (subst (Rules lanes (lanes + workers) first.opening_shows) all rules)
+        (shows_are ∙ open_all lanes turns (λ k one two. (lane_of k one two).1.1) ∙ ap (open_lanes lanes) all) in
+        none_open lanes rest
+        (sym opens ∙ ap (λ l. lanes_shown (shown_after l at.finds.before)) (sym at.shows) ∙ at.finds.no_lane) m from upto
+
+    -- no row may be claimed where this claim was refused
+    none_waits_at : (now word : ℕ) → step (tables_of (keep.entries ++ items)) (Claim now word) ≡ Err Idle
+        → eligible_rows (tables_of (keep.entries ++ items)) (tables_of (keep.entries ++ items)).moment ≡ []
+    none_waits_at now word refused =
+        let list = keep.entries ++ items in
+        let in_force : (tables_of list).settings ≡ Some settings =
+        subst (λ o. (tables_of (o ++ items)).settings ≡ Some settings) (sym opened.is)
+        (lists.settings opened.opening 0 opened.now settings items none_restarts (subst (λ o. IsLegal (o ++ items)) opened.is legal)) in
+        lists.earlier (tables_of list) (tables_of list).moment (max now (tables_of list).moment) (le_max now (tables_of list).moment)
+        (lists.idle (tables_of list) settings now word in_force opened.kept refused)
+
+    -- the last turn of all is a drained worker's last one
+    none_waits : eligible_rows (tables_of (keep.entries ++ items)) (tables_of (keep.entries ++ items)).moment ≡ []
+    none_waits = by turns refl
+      where
+        worker_one : Found (suc lanes)
+        worker_one = found (suc lanes) (omega arith) (omega (arith, some))
+
+        whole_of : {n : ℕ} (at : Found n) → turns ≡ at.finds.before ++ at.finds.turn ∷ at.later
+        whole_of at = at.is ∙ ap (λ l. l ++ at.later) at.finds.seen ∙ append_assoc at.finds.before (at.finds.turn ∷ []) at.later
+
+        not_none : (before : List (Turn Entry)) (turn : Turn Entry) (later : List (Turn Entry)) → ◌≡◌ {A = List (Turn Entry)} [] (before ++ turn ∷ later) → ⊥
+        not_none [] turn later is = absurd cc
+        not_none (one ∷ before) turn later is = absurd cc
+
+        by_worker : (last : HasLast turns) → lanes < last.turn.number → last.turn.number ≤ lanes + workers
+            → eligible_rows (tables_of (keep.entries ++ items)) (tables_of (keep.entries ++ items)).moment ≡ []
+        by_worker last low high =
+            let at = found last.turn.number low high in
+            ⊎_elim
+            (λ here.
+            let all : items ≡ items_of at.finds.before =
+            ap items_of (whole_of at ∙ ap (λ l. at.finds.before ++ at.finds.turn ∷ l) here.none) ∙ items_to at.finds.before at.finds.turn at.finds.nothing in
+            none_waits_at at.finds.now at.finds.word
+            (subst (λ l. step (tables_of l) (Claim at.finds.now at.finds.word) ≡ Err Idle)
+            (ap (λ o. o ++ items_of at.finds.before) (at.opening ∙ opening_is) ∙ ap (λ l. keep.entries ++ l) (sym all)) at.finds.refused))
+            (λ behind. absurd (not_behind last.turn.number at.later last.turn at.none refl behind))
+            (last_or_behind at.finds.before at.finds.turn at.later last.before last.turn (sym (whole_of at) ∙ last.is))
+
+        by_lane : (last : HasLast turns) → 1 ≤ last.turn.number → last.turn.number ≤ lanes → ⊥
+        by_lane last low high =
+            let at = worker_one in
+            let none = none_behind at last.turn.number low high in
+            ⊎_elim
+            (λ here. clash (sym (own_there at.finds.turn at.later last.turn.number (ap (λ (t : Turn Entry). t.number) here.turn_is)) ∙ none))
+            (λ behind. clash (sym (there_behind last.turn.number at.finds.turn at.later (last_there last.turn.number at.later last.turn behind refl)) ∙ none))
+            (last_or_behind at.finds.before at.finds.turn at.later last.before last.turn (sym (whole_of at) ∙ last.is))
+          where
+            clash : true ≡ false → ⊥
+            clash is = absurd cc
+
+            own_there : (turn : Turn Entry) (later : List (Turn Entry)) (number : ℕ) → turn.number ≡ number → has_turn number (turn ∷ later) ≡ true
+            own_there turn later number is = own_turn number turn later is
+
+        by_last : (last : HasLast turns) → eligible_rows (tables_of (keep.entries ++ items)) (tables_of (keep.entries ++ items)).moment ≡ []
+        by_last last =
+            let low = none_last last.before last.turn (subst (NoneBy (0 ∷ [])) last.is serves.ran.history.none_of_first) in
+            let high : last.turn.number ≤ lanes + workers =
+            given_last (lanes + workers) last.before last.turn (subst (AllGiven (lanes + workers)) last.is (subst (λ m. AllGiven m turns) given_is serves.ran.history.given)) in
+            ⊎_elim (λ upto. absurd (by_lane last low upto)) (λ above. by_worker last above high) (within last.turn.number lanes)
+
+        by : (all : List (Turn Entry)) → turns ≡ all → eligible_rows (tables_of (keep.entries ++ items)) (tables_of (keep.entries ++ items)).moment ≡ []
+        by [] is = absurd (not_none worker_one.finds.before worker_one.finds.turn worker_one.later (sym is ∙ whole_of worker_one))
+        by (turn ∷ all) is = let last = last_of turn all in by_last (record { before = last.before; turn = last.turn; is = is ∙ last.is })
+
+    pub nothing_left : LeavesNothing (keep.entries ++ items)
+    nothing_left = record { none_out = none_among (out_of_list (keep.entries ++ items)) not_out; none_waits = none_waits }
+
+  pub ledger : KeepTheLedger state faults store_state store_calls store_faults sides doors door_faults moments words serves
+  ledger = record {
+    asked = asked;
+    work = work;
+    own = own;
+    undisturbed = undisturbed;
+    stations = stations;
+    nothing_left = nothing_left;
+  }

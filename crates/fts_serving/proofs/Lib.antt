@@ -1,0 +1,10 @@
+mod Open
+mod Asked
+mod Own
+mod Lanes
+mod Stations
+mod Seats
+mod Whole
+mod Last
+mod Ledger
+mod Runs

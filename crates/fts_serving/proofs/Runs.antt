@@ -1,0 +1,231 @@
+-- A run that serves, from its start to its closed shop.
+use Rattle.std.proofs.Common.{◌≡◌, ◌≢◌, refl, sym, ap, ◌∙◌, subst, inl, inr, ⊎_elim, ℕ, zero, suc, ◌+◌, ◌<◌, ◌≤◌, Bool, true, false, cond, List, [], ◌∷◌, ◌++◌, length, map, All, Option, Some, None, arith, append-nil}
+use Rattle.std.proofs.lemmas.Bool.{leb-true, ltb-false, ltb-true}
+use Rattle.std.specs.Prelude.{◌⊎◌, ◌&&◌, nat_le, nat_lt, unwrap_or, IsSome, IsTrue}
+use Rattle.std.specs.List.{AllByRecursion, list_any}
+use Rattle.std.proofs.lemmas.List.Elements.{All-cons, All-nil}
+use Rattle.fts_tables.specs.Coming.{Coming}
+use Rattle.fts_tables.specs.SettingsData.{IsSettings, SettingsData, has_worker_range}
+use Rattle.fts_tables.specs.Tables.{empty_tables}
+use Rattle.fts_tables.specs.History.{IsLegal}
+use Rattle.fts_tables.specs.declared.commands.Entry.{Entry}
+use Rattle.fts_disk.specs.Disk.{DiskState, IsTold}
+use Rattle.fts_store.specs.Calls.{Call}
+use Rattle.fts_store.specs.Store.{StoreState}
+use Rattle.fts_turnstile.specs.History.{items_of}
+use Rattle.fts_keep.specs.Applied.{entry_by}
+use Rattle.fts_keep.specs.Keeps.{KeepData, with_doubt}
+use Rattle.fts_keep.specs.Started.{Starts, restarted, restart_at}
+use Rattle.fts_workers.proofs.Accepted.{legal_front}
+use Rattle.fts_workers.specs.declared.hand.Hand.{Hand}
+use Rattle.fts_shop.specs.Many.{Each}
+use Rattle.fts_shop.specs.Shops.{ShopData}
+use Rattle.fts_shop.specs.declared.ends.WorkerEnd.{WorkerEnd}
+use Rattle.fts_shop.specs.declared.ends.WorkerEnd.TheVariants as worker_ends
+use Rattle.fts_shop.specs.declared.station.Station.{Station}
+use Rattle.fts_top.specs.Doors.{DoorsData}
+use Rattle.fts_top.specs.Ends.{status_of}
+use Rattle.fts_top.specs.Halls.{IsStationWorked}
+use Rattle.fts_top.specs.Lanes.{Sides}
+use Rattle.fts_top.specs.Openings.{AreOpened}
+use Rattle.fts_top.specs.Served.{end_when_served, served_end, severity_of, worse_of, worst_from, worst_of, are_doors_failed}
+use Rattle.fts_top.specs.Serves.{Closes, ClosesServed, ClosesUnserved, HoldsBehind, IsServingRun, ManyThreads, RunsServing, StopsUnstarted, WhyNoLane}
+use Rattle.fts_top.specs.Runs.{IsStop}
+use Rattle.fts_top.specs.declared.ends.RunEnd.{RunEnd}
+use Rattle.fts_top.specs.declared.ends.RunEnd.TheVariants as run_ends
+use Rattle.fts_top.specs.declared.lane.Booth.{Booth}
+use Rattle.fts_top.specs.declared.lane.Lane.{Lane}
+use Rattle.fts_top.specs.declared.lane.LaneStop.{LaneStop}
+use Rattle.fts_top.specs.declared.tally.Tally.{Tally}
+use Rattle.fts_top.specs.declared.together.ServedEnd.{ServedEnd}
+use Rattle.fts_top.specs.declared.together.ServedEnd.TheVariants as served_ends
+use Rattle.fts_serving.specs.Ends.{IsOpenedBy, KeepTheLedger, KeptWhereServed, LeavesDisk, LeavesNothing, stations_before}
+use Rattle.fts_serving.proofs.Ledger.{ListLaws, StoreLaws, ledger}
+
+-- opened lanes are as many
+pub opened_length : {A C L : Type 0} (doors : A → DoorsData L) (faults : A → ℕ) (count : ℕ) (olds news : List (Lane A C L)) → AreOpened doors faults count olds news
+    → length news ≡ length olds
+opened_length doors faults zero olds news opened = ap length opened
+opened_length doors faults (suc more) [] [] opened = refl
+opened_length doors faults (suc more) [] (new ∷ news) opened = absurd opened
+opened_length doors faults (suc more) (old ∷ olds) [] opened = absurd opened
+opened_length doors faults (suc more) (old ∷ olds) (new ∷ news) opened = ap suc (opened_length doors faults more olds news opened.1)
+
+-- a list without its doubt is legal
+pub undoubted : (entries : List Entry) (doubt : Option Entry) → IsLegal (with_doubt entries doubt) → IsLegal entries
+undoubted entries None legal = legal
+undoubted entries (Some entry) legal = legal_front empty_tables entries (entry ∷ []) legal
+
+-- the worst of ends is drained only where all are
+not_less : (end : WorkerEnd) → severity_of end ≡ 0 → end ≡ worker_ends.Drained
+not_less worker_ends.Drained is = refl
+not_less worker_ends.Memory is = absurd cc
+not_less (worker_ends.JournalFull used) is = absurd cc
+not_less worker_ends.DiskFailed is = absurd cc
+
+worse_least : (one other : WorkerEnd) → severity_of (worse_of one other) ≡ 0 → (severity_of one ≡ 0) × (severity_of other ≡ 0)
+worse_least one other is = by (nat_lt (severity_of one) (severity_of other)) refl is
+  where
+    by : (less : Bool) → nat_lt (severity_of one) (severity_of other) ≡ less → severity_of (cond less other one) ≡ 0
+        → (severity_of one ≡ 0) × (severity_of other ≡ 0)
+    by true at least = absurd (omega (arith, ltb-true (severity_of one) (severity_of other) at, least))
+    by false at least = (least, omega (arith, ltb-false (severity_of one) (severity_of other) at, least))
+
+worst_least : (worst : WorkerEnd) (ends : List (Option WorkerEnd)) → severity_of (worst_from worst ends) ≡ 0 → severity_of worst ≡ 0
+worst_least worst [] is = is
+worst_least worst (end ∷ ends) is = (worse_least worst (unwrap_or end worker_ends.Drained) (worst_least (worse_of worst (unwrap_or end worker_ends.Drained)) ends is)).0
+
+drained_all : {D E C W : Type 0} (worst : WorkerEnd) (stations : List (Station D E C W)) → severity_of (worst_from worst (map (λ (s : Station D E C W). s.end) stations)) ≡ 0
+    → AllByRecursion (λ (s : Station D E C W). IsSome s.end) stations → All (λ (s : Station D E C W). s.end ≡ Some worker_ends.Drained) stations
+drained_all worst [] is ended = All-nil (λ s. s.end ≡ Some worker_ends.Drained)
+drained_all worst (station ∷ stations) is ended =
+    All-cons (λ s. s.end ≡ Some worker_ends.Drained) station stations
+    (one station.end ended.0
+    (worse_least worst (unwrap_or station.end worker_ends.Drained)
+    (worst_least (worse_of worst (unwrap_or station.end worker_ends.Drained)) (map (λ s. s.end) stations) is)).1)
+    (drained_all (worse_of worst (unwrap_or station.end worker_ends.Drained)) stations is ended.1)
+  where
+    one : (end : Option WorkerEnd) → IsSome end → severity_of (unwrap_or end worker_ends.Drained) ≡ 0 → end ≡ Some worker_ends.Drained
+    one None there least = absurd cc
+    one (Some end) there least = ap Some (not_less end least)
+
+-- a served end with status 0 is that of workers that are all drained
+served_zero : (served : ServedEnd) → status_of (end_when_served served) ≡ 0 → served ≡ served_ends.Worked worker_ends.Drained
+served_zero served_ends.DoorsFailed is = absurd cc
+served_zero (served_ends.Worked worker_ends.Drained) is = refl
+served_zero (served_ends.Worked worker_ends.Memory) is = absurd cc
+served_zero (served_ends.Worked worker_ends.DiskFailed) is = absurd cc
+served_zero (served_ends.Worked (worker_ends.JournalFull used)) is = absurd cc
+
+worked_worst : (stops : List (Option LaneStop)) (ends : List (Option WorkerEnd)) → served_end stops ends ≡ served_ends.Worked worker_ends.Drained
+    → severity_of (worst_of ends) ≡ 0
+worked_worst stops ends is = by (list_any are_doors_failed stops) is
+  where
+    by : (failed : Bool) → cond failed served_ends.DoorsFailed (served_ends.Worked (worst_of ends)) ≡ served_ends.Worked worker_ends.Drained
+        → severity_of (worst_of ends) ≡ 0
+    by true is = absurd cc
+    by false is = let same : worst_of ends ≡ worker_ends.Drained = cc in ap severity_of same
+
+-- a stop has another status
+no_lane_status : {A C L : Type 0} (door_faults : A → ℕ) (before opened : List (Lane A C L)) (end : RunEnd) → WhyNoLane door_faults before opened end → status_of end ≡ 0 → ⊥
+no_lane_status door_faults before opened run_ends.NoMemory why is = absurd cc
+no_lane_status door_faults before opened run_ends.DoorsFailed why is = absurd cc
+no_lane_status door_faults before opened run_ends.NoCommand why is = absurd why
+no_lane_status door_faults before opened run_ends.SettingsUnread why is = absurd why
+no_lane_status door_faults before opened (run_ends.SettingsRule rule) why is = absurd why
+no_lane_status door_faults before opened run_ends.DiskFailed why is = absurd why
+no_lane_status door_faults before opened (run_ends.Damaged offset) why is = absurd why
+no_lane_status door_faults before opened (run_ends.JournalFull used) why is = absurd why
+no_lane_status door_faults before opened (run_ends.Session end) why is = absurd why
+no_lane_status door_faults before opened (run_ends.Shown whole) why is = absurd why
+no_lane_status door_faults before opened run_ends.SourcesUnmade why is = absurd why
+no_lane_status door_faults before opened run_ends.LineUnwritten why is = absurd why
+no_lane_status door_faults before opened (run_ends.Served end) why is = absurd why
+
+rule_status : (rule : _) → status_of (run_ends.SettingsRule rule) ≡ 0 → ⊥
+rule_status rule is = absurd cc
+
+module _ {D : Type 0} (state : D → DiskState) (faults : D → ℕ) where
+  stop_status : (text : Option (List ℕ)) (moments later : Option Coming) (disk left : D) (end : RunEnd) → IsStop state faults text moments later disk left end
+      → status_of end ≡ 0 → ⊥
+  stop_status text moments later disk left run_ends.NoMemory stop is = absurd cc
+  stop_status text moments later disk left run_ends.DoorsFailed stop is = absurd stop
+  stop_status text moments later disk left run_ends.NoCommand stop is = absurd cc
+  stop_status text moments later disk left run_ends.SettingsUnread stop is = absurd cc
+  stop_status text moments later disk left (run_ends.SettingsRule rule) stop is = absurd cc
+  stop_status text moments later disk left run_ends.DiskFailed stop is = absurd cc
+  stop_status text moments later disk left (run_ends.Damaged offset) stop is = absurd cc
+  stop_status text moments later disk left (run_ends.JournalFull used) stop is = absurd cc
+  stop_status text moments later disk left (run_ends.Session end) stop is = absurd stop
+  stop_status text moments later disk left (run_ends.Shown whole) stop is = absurd stop
+  stop_status text moments later disk left run_ends.SourcesUnmade stop is = absurd stop
+  stop_status text moments later disk left run_ends.LineUnwritten stop is = absurd stop
+  stop_status text moments later disk left (run_ends.Served end) stop is = absurd stop
+
+-- settings have a worker at least, and no more than a run has hands
+both_true : (one other : Bool) → (one && other) ≡ true → (one ≡ true) × (other ≡ true)
+both_true true true is = (refl, refl)
+both_true true false is = absurd cc
+both_true false other is = absurd cc
+
+range_of : (settings : SettingsData) → IsTrue (has_worker_range settings) → (1 ≤ settings.workers) × (settings.workers ≤ 16)
+range_of settings range =
+    let both = both_true (nat_le 1 settings.workers) (nat_le settings.workers 16) range in
+    (leb-true 1 settings.workers both.0, leb-true settings.workers 16 both.1)
+
+-- the list that a keep was started with isn't empty
+restarted_some : (opening : List Entry) (now : ℕ) (settings : SettingsData) → restarted opening now settings ≢ []
+restarted_some [] now settings is = absurd cc
+restarted_some (entry ∷ opening) now settings is = absurd cc
+
+module _ {D A E C W L : Type 0} (state : D → DiskState) (faults : D → ℕ) (store_state : E → StoreState) (store_calls : E → Option (List Call)) (store_faults : E → ℕ)
+    (sides : Sides L) (doors : A → DoorsData L) (door_faults : A → ℕ) (moments : C → Option Coming) (words : W → Option Coming)
+    (lists : ListLaws) (laws : StoreLaws store_state store_calls store_faults) where
+  -- of a run of workers, each one's end
+  ended_all : (olds news : List (Station D E C W)) → Each (IsStationWorked store_state store_calls store_faults moments words) olds news
+      → AllByRecursion (λ (s : Station D E C W). IsSome s.end) news
+  ended_all [] [] each = tt
+  ended_all [] (new ∷ news) each = absurd each
+  ended_all (old ∷ olds) [] each = absurd each
+  ended_all (old ∷ olds) (new ∷ news) each = (each.0.ended, ended_all olds news each.1)
+
+  module _ {lanes : ℕ} {connections : Option ℕ} {text : Option (List ℕ)} {before after : ManyThreads D A E C W L} {end : RunEnd} {tally : Tally}
+      (runs : RunsServing state faults store_state store_calls store_faults sides doors door_faults moments words lanes connections text before after end tally)
+      (told : IsTold (state before.disk)) (lanes_eight : length before.lanes ≡ 8) (few : lanes ≤ 8) (hands_sixteen : length before.hands ≡ 16) where
+    listed : runs.keep.entries ≡ restarted runs.opening runs.now runs.settings
+    listed = (runs.starts.own told).listed
+
+    some_entries : runs.keep.entries ≢ []
+    some_entries none = restarted_some runs.opening runs.now runs.settings (sym listed ∙ none)
+
+    behind : HoldsBehind state runs.keep.entries runs.serves.added runs.serves.closed.keep tally
+    behind = runs.serves.told some_entries
+
+    all_legal : IsLegal (runs.keep.entries ++ runs.serves.added)
+    all_legal = subst IsLegal behind.listed (undoubted runs.serves.closed.keep.entries runs.serves.closed.keep.doubt behind.holds.legal)
+
+    workers_range : (1 ≤ runs.settings.workers) × (runs.settings.workers ≤ 16)
+    workers_range = range_of runs.settings runs.kept.workers
+
+    ledger_of : (serves : ClosesServed state faults store_state store_calls store_faults sides doors door_faults moments words lanes runs.settings.workers connections
+        runs.keep before.lanes before.hands after.lanes after.hands runs.serves.closed end) → runs.serves.added ≡ items_of serves.ran.history.turns
+        → KeepTheLedger state faults store_state store_calls store_faults sides doors door_faults moments words serves
+    ledger_of serves is =
+        ledger state faults store_state store_calls store_faults sides doors door_faults moments words lists laws serves runs.settings
+        (record { opening = runs.opening; now = runs.now; is = listed; kept = runs.kept })
+        (subst (λ l. IsLegal (runs.keep.entries ++ l)) is all_legal)
+        (omega (arith, few, lanes_eight, opened_length doors door_faults lanes before.lanes serves.opened serves.opens))
+        (omega (arith, workers_range.1, hands_sixteen)) workers_range.0
+
+    pub kept_where_served : KeptWhereServed state faults store_state store_calls store_faults sides doors door_faults moments words runs.serves.closes
+    kept_where_served = by runs.serves.closes
+      where
+        by : (closes : Closes state faults store_state store_calls store_faults sides doors door_faults moments words lanes runs.settings.workers connections
+            runs.keep before.lanes before.hands after.lanes after.hands runs.serves.closed end runs.serves.added)
+            → KeptWhereServed state faults store_state store_calls store_faults sides doors door_faults moments words closes
+        by (inl unserved) = tt
+        by (inr served) = ledger_of served.0 served.1
+
+    pub leaves_disk : status_of end ≡ 0 → LeavesDisk state after.disk
+    leaves_disk zero_is = by runs.serves.closes
+      where
+        by : Closes state faults store_state store_calls store_faults sides doors door_faults moments words lanes runs.settings.workers connections
+            runs.keep before.lanes before.hands after.lanes after.hands runs.serves.closed end runs.serves.added → LeavesDisk state after.disk
+        by (inl unserved) = absurd (no_lane_status door_faults before.lanes after.lanes end unserved.0.why zero_is)
+        by (inr served) =
+            let serves = served.0 in
+            let worst = worked_worst (map (λ (booth : Booth D A C L). booth.end) serves.ran.booths) (map (λ (station : Station D E C W). station.end) serves.ran.stations) (sym serves.ran.ended ∙ served_zero serves.served (ap status_of (sym serves.ended) ∙ zero_is)) in
+            let drained = drained_all worker_ends.Drained serves.ran.stations worst (ended_all (stations_before state faults store_state store_calls store_faults sides doors door_faults moments words serves) serves.ran.stations serves.ran.worked) in
+            record {
+              keep = runs.serves.closed.keep;
+              disk_is = runs.serves.left_is;
+              holds = behind.holds;
+              nothing = subst LeavesNothing (sym (behind.listed ∙ ap (λ l. runs.keep.entries ++ l) served.1)) ((ledger_of serves served.1).nothing_left drained);
+            }
+
+  pub run_leaves_disk : {lanes : ℕ} {connections : Option ℕ} {text : Option (List ℕ)} {before after : ManyThreads D A E C W L} {end : RunEnd} {tally : Tally}
+      → IsServingRun state faults store_state store_calls store_faults sides doors door_faults moments words lanes connections end tally text before after
+      → status_of end ≡ 0 → IsTold (state before.disk) → length before.lanes ≡ 8 → lanes ≤ 8 → length before.hands ≡ 16 → LeavesDisk state after.disk
+  run_leaves_disk {text = text} {before = before} {after = after} {end = end} (inl stops) zero_is told lanes_eight few hands_sixteen =
+      absurd (stop_status state faults text before.moments after.moments before.disk after.disk end stops.stop zero_is)
+  run_leaves_disk (inr runs) zero_is told lanes_eight few hands_sixteen = leaves_disk runs told lanes_eight few hands_sixteen zero_is

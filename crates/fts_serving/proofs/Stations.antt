@@ -1,0 +1,227 @@
+-- How a worker's turns leave the lanes, and what its last turn found, where it ended drained.
+use Rattle.std.proofs.Common.{◌≡◌, ◌≢◌, refl, sym, ap, ◌∙◌, subst, inl, inr, ℕ, zero, suc, Bool, true, false, cond, List, [], ◌∷◌, ◌++◌, Option, Some, None, Result, Ok, Err, append_assoc}
+use Rattle.fts_tables.specs.Coming.{Coming}
+use Rattle.fts_tables.specs.Step.{step}
+use Rattle.fts_tables.specs.History.{tables_of}
+use Rattle.fts_tables.specs.declared.rows.FileState.{FileState}
+use Rattle.fts_tables.specs.declared.rows.FileState.TheVariants as state
+use Rattle.fts_tables.specs.declared.rows.Outcome.{Outcome}
+use Rattle.fts_tables.specs.declared.commands.Entry.{Entry}
+use Rattle.fts_tables.specs.declared.commands.Command.{Command}
+use Rattle.fts_tables.specs.declared.commands.Command.TheVariants.{Claim, Report}
+use Rattle.fts_tables.specs.declared.commands.Answer.{Answer}
+use Rattle.fts_tables.specs.declared.commands.Answer.TheVariants.{Restarted, Submitted, Cancelled, PrioritySet, Claimed, Reported}
+use Rattle.fts_tables.specs.declared.commands.Refusal.{Refusal}
+use Rattle.fts_tables.specs.declared.commands.Refusal.TheVariants.{Idle}
+use Rattle.fts_store.specs.Calls.{Call}
+use Rattle.fts_store.specs.Store.{StoreState}
+use Rattle.fts_turnstile.specs.declared.turn.Turn.{Turn}
+use Rattle.fts_turnstile.specs.History.{items_of, shown_after}
+use Rattle.fts_turnstile.specs.Passes.{PassView, IsSame}
+use Rattle.fts_keep.specs.Keeps.{used_of}
+use Rattle.fts_keep.specs.Applied.{entry_by}
+use Rattle.fts_keep.specs.declared.fault.KeepFault.{KeepFault}
+use Rattle.fts_keep.specs.declared.fault.KeepFault.TheVariants.{Rule, DiskFailed, JournalFull, Damaged, Memory}
+use Rattle.fts_workers.proofs.Accepted.{refused_of}
+use Rattle.fts_workers.specs.declared.held.Held.{Held}
+use Rattle.fts_shop.specs.Looked.{same_on}
+use Rattle.fts_shop.specs.Looking.{LeaveLanes}
+use Rattle.fts_shop.specs.Shops.{IsToldList, TakesTurn, TriedInTurn, lanes_in, lanes_shown, point}
+use Rattle.fts_shop.specs.Turns.{ClaimTurn, Copies, GoesOn, HandData, IsTurn, KeptTurn, ReportTurn, ReportsHeld, end_by_claim, end_by_fault, end_by_report, end_by_state, idle_end}
+use Rattle.fts_shop.specs.Workers.{AreTurns, StationData, TakesOne, WorkerDone, worker_end_of, end_without_lanes}
+use Rattle.fts_shop.specs.declared.ends.Turn.{Turn as TurnEnd}
+use Rattle.fts_shop.specs.declared.ends.Turn.TheVariants as turn_ends
+use Rattle.fts_shop.specs.declared.ends.WorkerEnd.{WorkerEnd}
+use Rattle.fts_shop.specs.declared.ends.WorkerEnd.TheVariants as worker_ends
+use Rattle.fts_serving.proofs.Own.{leave_on, turn_leaves}
+
+-- a pass that has left the lanes
+pub record Leaves (base pass : PassView Entry) : Type 0 where
+  pub same : IsSame base pass
+  pub leaves : LeaveLanes pass.number pass.opening_shows pass.seen
+
+-- as one does that has seen no turn
+begun : (pass : PassView Entry) → pass.seen ≡ [] → Leaves pass pass
+begun pass unseen = record {
+  same = (refl, refl, refl, refl, refl, refl);
+  leaves = subst (LeaveLanes pass.number pass.opening_shows) (sym unseen) tt;
+}
+
+-- one turn more
+tried_leaves : (base : PassView Entry) {old new : PassView Entry} {command : Command} {result : Result Answer KeepFault} {lanes : ℕ} → Leaves base old
+    → TriedInTurn old new command result lanes → Leaves base new
+tried_leaves base {old} {new} was tried = record {
+  same = same_on base old new was.same tried.taken.same;
+  leaves = subst (λ n. LeaveLanes n new.opening_shows new.seen) (sym tried.taken.same.3)
+      (subst (λ l. LeaveLanes old.number l new.seen) (sym tried.taken.same.2) (turn_leaves tried.taken was.leaves tried.stay));
+}
+
+module _ {E : Type 0} (store_state : E → StoreState) (store_calls : E → Option (List Call)) (store_faults : E → ℕ) where
+  -- a copy more
+  copy_leaves : (base : PassView Entry) {old new : PassView Entry} {store after : E} {file : ℕ} {outcome : Outcome} → Leaves base old
+      → Copies store_state store_calls store_faults old new store after file outcome → Leaves base new
+  copy_leaves base {old} {new} was copied = record {
+    same = same_on base old new was.same copied.same;
+    leaves = subst (LeaveLanes new.number new.opening_shows) (sym copied.seen)
+        (subst (λ n. LeaveLanes n new.opening_shows (old.seen ++ copied.since)) (sym copied.same.3)
+        (subst (λ l. LeaveLanes old.number l (old.seen ++ copied.since)) (sym copied.same.2)
+        (leave_on old.number old.opening_shows old.seen copied.since was.leaves copied.lanes)));
+  }
+
+  -- a report more
+  reports_leave : (base : PassView Entry) {old new : PassView Entry} (moments later : Option Coming) (held : List Held) (end : TurnEnd) (left : List Held)
+      → Leaves base old → ReportsHeld old new moments later held end left → Leaves base new
+  reports_leave base moments later [] end left was reported = absurd reported
+  reports_leave base moments later (held ∷ []) end left was reported = tried_leaves base was reported.1.tried
+  reports_leave base moments later (held ∷ next ∷ others) end left was reported = absurd reported
+
+  -- what follows a claim
+  goes_leave : (base : PassView Entry) {old new : PassView Entry} (hand after : HandData E) (lanes : ℕ) (result : Result Answer KeepFault) (end : TurnEnd)
+      (left : List Held) → Leaves base old → GoesOn store_state store_calls store_faults lanes result old new hand after end left → Leaves base new
+  goes_leave base hand after lanes (Ok (Claimed file attempt)) end left was goes = tried_leaves base (copy_leaves base was goes.copied) goes.reported.tried
+  goes_leave base hand after lanes (Ok (Restarted released)) end left was goes = absurd goes
+  goes_leave base hand after lanes (Ok (Submitted job id)) end left was goes = absurd goes
+  goes_leave base hand after lanes (Ok (Cancelled job)) end left was goes = absurd goes
+  goes_leave base hand after lanes (Ok (PrioritySet job)) end left was goes = absurd goes
+  goes_leave base hand after lanes (Ok (Reported file left_in)) end left was goes = absurd goes
+  goes_leave base hand after lanes (Err fault) end left was goes = subst (Leaves base) (sym goes.1.pass) was
+
+  -- a turn at a station
+  turn_leaves_lanes : (base old new : PassView Entry) (hand after : HandData E) (held : List Held) (end : TurnEnd) (left : List Held) → Leaves base old
+      → IsTurn store_state store_calls store_faults old new hand after held end left → Leaves base new
+  turn_leaves_lanes base old new hand after [] end left was turn =
+      goes_leave base turn.behind after turn.lanes turn.result end left (tried_leaves base was turn.tried) turn.goes_on
+  turn_leaves_lanes base old new hand after (held ∷ others) end left was turn =
+      reports_leave base hand.moments after.moments (held ∷ others) end left was turn.reported
+
+  turns_leave : (base : PassView Entry) (more : ℕ) (old new : StationData E) → Leaves base old.pass
+      → AreTurns store_state store_calls store_faults more old new → Leaves base new.pass
+  turns_leave base zero old new was turns = subst (Leaves base) turns.2 was
+  turns_leave base (suc more) old new was turns =
+      turns_leave base more turns.0 new
+      (turn_leaves_lanes base old.pass turns.0.pass old.hand turns.0.hand old.held turns.1 turns.0.held was turns.2.0)
+      turns.2.1.1
+
+  -- a worker has left the lanes as they were, in all that its pass has seen
+  pub worker_leaves : (old new : StationData E) → old.pass.seen ≡ [] → WorkerDone store_state store_calls store_faults old new → Leaves old.pass new.pass
+  worker_leaves old new unseen done =
+      turn_leaves_lanes old.pass done.between.pass new.pass done.between.hand new.hand done.between.held done.last new.held
+      (turns_leave old.pass done.more old done.between (begun old.pass unseen) done.turns) done.ends
+
+-- the last turn of a worker that ended drained: no lane was left, no row was eligible on the list so far, and nothing was added
+pub record FindsNone (pass : PassView Entry) : Type 0 where
+  pub before : List (Turn Entry)
+  pub turn : Turn Entry
+  pub seen : pass.seen ≡ before ++ turn ∷ []
+  pub mine : turn.number ≡ pass.number
+  pub nothing : turn.items ≡ []
+  pub no_lane : lanes_shown (shown_after pass.opening_shows before) ≡ 0
+  pub now : ℕ
+  pub word : ℕ
+  pub refused : step (tables_of (pass.opening ++ items_of before)) (Claim now word) ≡ Err Idle
+
+-- a turn that ends so
+drained_end : (end : TurnEnd) → worker_end_of end ≡ Some worker_ends.Drained → end ≡ turn_ends.Stopping
+drained_end turn_ends.Idle is = absurd cc
+drained_end turn_ends.Stopping is = refl
+drained_end (turn_ends.Done file) is = absurd cc
+drained_end (turn_ends.Failed file) is = absurd cc
+drained_end (turn_ends.Retried file) is = absurd cc
+drained_end (turn_ends.Cancelled file) is = absurd cc
+drained_end (turn_ends.Stale file) is = absurd cc
+drained_end (turn_ends.DiskFailed zero) is = absurd cc
+drained_end (turn_ends.DiskFailed (suc more)) is = absurd cc
+drained_end (turn_ends.JournalFull used zero) is = absurd cc
+drained_end (turn_ends.JournalFull used (suc more)) is = absurd cc
+drained_end (turn_ends.Memory zero) is = absurd cc
+drained_end (turn_ends.Memory (suc more)) is = absurd cc
+
+-- no report ends a turn so
+state_ends : (file : ℕ) (left : FileState) → end_by_state file left ≡ turn_ends.Stopping → ⊥
+state_ends file state.Finished is = absurd cc
+state_ends file state.Failed is = absurd cc
+state_ends file state.Submitted is = absurd cc
+state_ends file state.Canceled is = absurd cc
+state_ends file state.Active is = absurd cc
+state_ends file state.NotUsed is = absurd cc
+
+report_ends : (file lanes : ℕ) (result : Result Answer KeepFault) → end_by_report file lanes result ≡ turn_ends.Stopping → ⊥
+report_ends file lanes (Ok (Reported reported left)) is = state_ends file left is
+report_ends file lanes (Ok (Restarted released)) is = absurd cc
+report_ends file lanes (Ok (Submitted job id)) is = absurd cc
+report_ends file lanes (Ok (Cancelled job)) is = absurd cc
+report_ends file lanes (Ok (PrioritySet job)) is = absurd cc
+report_ends file lanes (Ok (Claimed claimed attempt)) is = absurd cc
+report_ends file lanes (Err DiskFailed) is = absurd cc
+report_ends file lanes (Err (JournalFull used)) is = absurd cc
+report_ends file lanes (Err Memory) is = absurd cc
+report_ends file lanes (Err (Rule refusal)) is = absurd cc
+report_ends file lanes (Err (Damaged offset)) is = absurd cc
+
+-- a claim does where it was refused and no lane was left
+no_lane_left : (lanes : ℕ) → idle_end lanes ≡ turn_ends.Stopping → lanes ≡ 0
+no_lane_left zero is = refl
+no_lane_left (suc more) is = absurd cc
+
+module _ {E : Type 0} (store_state : E → StoreState) (store_calls : E → Option (List Call)) (store_faults : E → ℕ) where
+  -- no report of a held file ends a turn so
+  held_ends : (old new : PassView Entry) (moments later : Option Coming) (held : List Held) (left : List Held)
+      → ReportsHeld old new moments later held turn_ends.Stopping left → ⊥
+  held_ends old new moments later [] left reported = reported
+  held_ends old new moments later (held ∷ []) left reported = report_ends held.file reported.1.lanes reported.1.result (sym reported.1.ends)
+  held_ends old new moments later (held ∷ next ∷ others) left reported = reported
+
+  -- a refused claim, tried over a told list
+  refused_claim : {old claimed : PassView Entry} (now word lanes : ℕ) (refusal : Refusal) → IsToldList old → lanes ≡ 0
+      → TriedInTurn old claimed (Claim now word) (Err (Rule refusal)) lanes → FindsNone claimed
+  refused_claim {old} {claimed} now word lanes refusal told none tried =
+      let taken = tried.taken in
+      let before = old.seen ++ taken.between in
+      record {
+        before = before;
+        turn = taken.turn;
+        seen = taken.seen;
+        mine = taken.mine ∙ sym taken.same.3;
+        nothing = tried.added told;
+        no_lane = ap (λ l. lanes_shown (shown_after l before)) taken.same.2 ∙ sym tried.left ∙ none;
+        now = now;
+        word = word;
+        refused = subst (λ o. step (tables_of (o ++ items_of before)) (Claim now word) ≡ Err Idle) (sym taken.same.1)
+            (subst (λ r. step (tables_of (point taken)) (Claim now word) ≡ Err r) tried.answers
+            (refused_of (used_of (point taken)) (entry_by old.number (Claim now word)) (step (tables_of (point taken)) (Claim now word)) refusal (tried.came told)));
+      }
+
+  goes_none : {old claimed new : PassView Entry} (now word lanes : ℕ) (result : Result Answer KeepFault) (hand after : HandData E) (left : List Held)
+      → IsToldList old → TriedInTurn old claimed (Claim now word) result lanes
+      → GoesOn store_state store_calls store_faults lanes result claimed new hand after turn_ends.Stopping left → FindsNone new × (left ≡ [])
+  goes_none now word lanes (Ok (Claimed file attempt)) hand after left told tried goes =
+      absurd (report_ends file goes.reported.lanes goes.reported.result (sym goes.reported.ends))
+  goes_none now word lanes (Ok (Restarted released)) hand after left told tried goes = absurd goes
+  goes_none now word lanes (Ok (Submitted job id)) hand after left told tried goes = absurd goes
+  goes_none now word lanes (Ok (Cancelled job)) hand after left told tried goes = absurd goes
+  goes_none now word lanes (Ok (PrioritySet job)) hand after left told tried goes = absurd goes
+  goes_none now word lanes (Ok (Reported file left_in)) hand after left told tried goes = absurd goes
+  goes_none now word lanes (Err (Rule refusal)) hand after left told tried goes = (
+    subst FindsNone (sym goes.1.pass) (refused_claim now word lanes refusal told (no_lane_left lanes (sym goes.0)) tried),
+    goes.1.nothing,
+  )
+  goes_none now word lanes (Err DiskFailed) hand after left told tried goes = absurd (let is = goes.0 in cc)
+  goes_none now word lanes (Err (JournalFull used)) hand after left told tried goes = absurd (let is = goes.0 in cc)
+  goes_none now word lanes (Err Memory) hand after left told tried goes = absurd (let is = goes.0 in cc)
+  goes_none now word lanes (Err (Damaged offset)) hand after left told tried goes = absurd (let is = goes.0 in cc)
+
+  turn_none : (old new : PassView Entry) (hand after : HandData E) (held left : List Held) → IsToldList old
+      → IsTurn store_state store_calls store_faults old new hand after held turn_ends.Stopping left → FindsNone new × (left ≡ [])
+  turn_none old new hand after [] left told turn =
+      goes_none turn.now turn.word turn.lanes turn.result turn.behind after left told turn.tried turn.goes_on
+  turn_none old new hand after (held ∷ others) left told turn = absurd (held_ends old new hand.moments after.moments (held ∷ others) left turn.reported)
+
+  -- a worker that ended drained found none in its last turn, and holds nothing
+  pub drained_finds_none : (old new : StationData E) → IsToldList old.pass → old.pass.seen ≡ [] → (done : WorkerDone store_state store_calls store_faults old new)
+      → new.end ≡ Some worker_ends.Drained → FindsNone new.pass × (new.held ≡ [])
+  drained_finds_none old new told unseen done is =
+      let was = turns_leave store_state store_calls store_faults old.pass done.more old done.between (begun old.pass unseen) done.turns in
+      turn_none done.between.pass new.pass done.between.hand new.hand done.between.held new.held
+      (λ none. told (sym was.same.1 ∙ none))
+      (subst (λ e. IsTurn store_state store_calls store_faults done.between.pass new.pass done.between.hand new.hand done.between.held e new.held)
+      (drained_end done.last (sym done.end_is ∙ is)) done.ends)

@@ -1,0 +1,76 @@
+//! The laws over lanes and workers that ran over one told list, as `fts_top` says what they did.
+//! A law is a function without parameters that does nothing: its clauses speak of every run. Who reads what `run` says of a run that serves calls it.
+ghost use Rattle.std.specs.Prelude.{◌≡◌, ◌≤◌, ℕ, List, ◌++◌, length, Option};
+ghost use Rattle.fts_tables.specs.SettingsData.{SettingsData};
+ghost use Rattle.fts_tables.specs.History.{IsLegal};
+ghost use Rattle.fts_disk.specs.Disk.{IsTold};
+ghost use Rattle.fts_keep.specs.Keeps.{KeepData};
+ghost use Rattle.fts_shop.specs.Shops.{ShopData};
+ghost use Rattle.fts_workers.specs.declared.hand.Hand.{Hand};
+ghost use Rattle.fts_top.specs.Ends.{status_of};
+ghost use Rattle.fts_top.specs.Serves.{ClosesServed, IsServingRun, ManyThreads, RunsServing};
+ghost use Rattle.fts_top.specs.declared.ends.RunEnd.{RunEnd};
+ghost use Rattle.fts_top.specs.declared.lane.Lane.{Lane};
+ghost use Rattle.fts_top.specs.declared.tally.Tally.{Tally};
+ghost use Rattle.fts_serving.specs.Ends.{IsOpenedBy, KeepTheLedger, KeptWhereServed, LeavesDisk, entries_added};
+
+use fts_disk::Disk;
+use fts_idle::laws::idle_claims_find_none;
+use fts_ledger::laws::{
+    files_out_have_claimants, own_reports_disturb_nobody, passes_see_one_list,
+    turns_keep_the_ledger, undisturbed_stores_follow,
+};
+use fts_store::Store;
+use fts_tables::{Clock, Words};
+use fts_top::Doors;
+
+/// Lanes and workers that ran over a told list, which is legal, keep the ledger: lanes add clients' commands alone and workers claims and reports;
+/// each report is of a file whose last claim is the writer's own, so nobody takes a file from a worker; each station's store follows from the reports
+/// of its pass, and no turn is stale. Where all workers ended drained, no file is out and no row may be claimed at the last moment.
+pub fn lanes_and_workers_keep_the_ledger<D: Disk, E: Store, C: Clock, W: Words, A: Doors>()
+    ensures ledger { (lanes workers : ℕ) (connections : Option ℕ) (settings : SettingsData) (keep : KeepData D) (before : List (Lane A C A.Line))
+        (hands : List (Hand E C W)) (after : List (Lane A C A.Line)) (hands_now : List (Hand E C W)) (closed : ShopData D) (end : RunEnd)
+        → (serves : ClosesServed D.state D.faults E.state E.calls E.faults
+        (record { left = A.Line.Source.left; reads = A.Line.Source.reads; held = A.Line.Sink.held; read_faults = A.Line.Source.faults; write_faults = A.Line.Sink.faults })
+        A.doors A.faults C.moments W.words lanes workers connections keep before hands after hands_now closed end)
+        → IsOpenedBy keep.entries settings → IsLegal (keep.entries ++ entries_added D.state D.faults E.state E.calls E.faults
+        (record { left = A.Line.Source.left; reads = A.Line.Source.reads; held = A.Line.Sink.held; read_faults = A.Line.Source.faults; write_faults = A.Line.Sink.faults })
+        A.doors A.faults C.moments W.words serves)
+        → lanes ≤ length before → workers ≤ length hands → 1 ≤ workers
+        → KeepTheLedger D.state D.faults E.state E.calls E.faults
+        (record { left = A.Line.Source.left; reads = A.Line.Source.reads; held = A.Line.Sink.held; read_faults = A.Line.Source.faults; write_faults = A.Line.Sink.faults })
+        A.doors A.faults C.moments W.words serves }
+{
+    turns_keep_the_ledger::<E>();
+    own_reports_disturb_nobody();
+    passes_see_one_list();
+    undisturbed_stores_follow::<E>();
+    files_out_have_claimants();
+    idle_claims_find_none();
+}
+
+/// A run that serves over a told disk keeps the ledger where its lanes began (`ledger`). Where it ended with status 0, its disk has a list of its own
+/// behind which no file is out, and no row may be claimed at the last moment (`ends`). There are 8 lanes, of which it uses some, and 16 hands.
+pub fn runs_that_serve_leave_nothing<D: Disk, E: Store, C: Clock, W: Words, A: Doors>()
+    ensures ledger { (lanes : ℕ) (connections : Option ℕ) (text : Option (List ℕ)) (before after : ManyThreads D A E C W A.Line) (end : RunEnd) (tally : Tally)
+        → (runs : RunsServing D.state D.faults E.state E.calls E.faults
+        (record { left = A.Line.Source.left; reads = A.Line.Source.reads; held = A.Line.Sink.held; read_faults = A.Line.Source.faults; write_faults = A.Line.Sink.faults })
+        A.doors A.faults C.moments W.words lanes connections text before after end tally)
+        → IsTold (D.state before.disk) → length before.lanes ≡ 8 → lanes ≤ 8 → length before.hands ≡ 16
+        → KeptWhereServed D.state D.faults E.state E.calls E.faults
+        (record { left = A.Line.Source.left; reads = A.Line.Source.reads; held = A.Line.Sink.held; read_faults = A.Line.Source.faults; write_faults = A.Line.Sink.faults })
+        A.doors A.faults C.moments W.words runs.serves.closes }
+    ensures ends { (lanes : ℕ) (connections : Option ℕ) (text : Option (List ℕ)) (before after : ManyThreads D A E C W A.Line) (end : RunEnd) (tally : Tally)
+        → IsServingRun D.state D.faults E.state E.calls E.faults
+        (record { left = A.Line.Source.left; reads = A.Line.Source.reads; held = A.Line.Sink.held; read_faults = A.Line.Source.faults; write_faults = A.Line.Sink.faults })
+        A.doors A.faults C.moments W.words lanes connections end tally text before after
+        → status_of end ≡ 0 → IsTold (D.state before.disk) → length before.lanes ≡ 8 → lanes ≤ 8 → length before.hands ≡ 16
+        → LeavesDisk D.state after.disk }
+{
+    turns_keep_the_ledger::<E>();
+    own_reports_disturb_nobody();
+    passes_see_one_list();
+    undisturbed_stores_follow::<E>();
+    files_out_have_claimants();
+    idle_claims_find_none();
+}
