@@ -21,7 +21,7 @@ import tempfile
 
 RATIO = 2.5
 # so many runs of both sizes, and as many again where they differ by more, up to so often
-RUNS, TRIES = 2, 4
+RUNS, TRIES = 3, 4
 # MiB of a process at most, by the kind of its text: start, room of a connection and what is read there
 MOST = {"head": 16, "document": 64, "url": 16, "query": 16, "settings": 64, "journal": 512}
 # a request behind one that ends the connection: it is not answered
