@@ -23,7 +23,7 @@ RATIO = 2.5
 # so many runs of both sizes, and as many again where they differ by more, up to so often
 RUNS, TRIES = 3, 4
 # MiB of a process at most, by the kind of its text: start, room of a connection and what is read there
-MOST = {"head": 16, "document": 64, "url": 16, "query": 16, "settings": 64, "journal": 512}
+MOST = {"head": 16, "document": 32, "url": 16, "query": 16, "settings": 48, "journal": 256}
 # a request behind one that ends the connection: it is not answered
 BEHIND = b"GET /jobs HTTP/1.1\r\n\r\n"
 RESPONSE = re.compile(rb"HTTP/1\.1 (\d{3}) [^\r\n]*\r\n(?:[^\r\n]+\r\n)*?Content-Length: (\d+)\r\n(?:[^\r\n]+\r\n)*\r\n")
