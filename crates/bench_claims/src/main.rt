@@ -1,9 +1,10 @@
-//! Measures how many claims a desk answers a second, at 2,000 and at 20,000 files that wait.
+//! Measures how many claims a desk answers a second, at 2,000 and at 20,000 files that wait, and how long 10,000 and 100,000 submissions with ids take.
 //! Without an argument it prints nothing and ends, so that it runs alike each time; with any argument it measures and prints.
 //! Command: `rt run -- measure` in this folder. Results with their machine and date: docs/BENCHMARKS.md.
 #![tactic(auto)]
 
 mod measure;
+mod submissions;
 mod waiting;
 
 use std::env;
@@ -11,6 +12,7 @@ use std::env;
 fn main(rt: HostRuntime) -> anyhow::Result<()> {
     if env::args(&rt)?.len() > 1 {
         measure::measure(&rt, rt.alloc())?;
+        submissions::measure(&rt, rt.alloc())?;
     }
     Ok(())
 }

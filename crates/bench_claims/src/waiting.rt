@@ -1,11 +1,12 @@
 //! A desk on which files wait: eight endpoints, sixteen links and three activities, and plain jobs of 200 files, each file with a destination of its own.
+//! Or an empty desk, and submissions of one file each whose ids the clients chose.
 //! Settings and jobs are spelled as entries and read back, so this program needs no proof that they keep their rules.
 ghost use Rattle.std.specs.Prelude.{◌<◌};
 
 use anyhow::{Result, bail};
 use fts_desk::{Desk, DeskFault};
 use fts_record::read_entry;
-use fts_tables::{Answer, Command};
+use fts_tables::{Answer, Command, Entry};
 use std::alloc::Global;
 
 /// The moment of each command.
@@ -22,6 +23,12 @@ const RESTART: &[u8] = b"\x00\x01\x80\xe2\xcf\xaa\x06\x02vo\x10\x64\x08\
 
 /// What stands before a job's priority: the submission of a plain job without an id.
 const SUBMIT: &[u8] = b"\x00\x02\x80\xe2\xcf\xaa\x06\x00\x00\x00";
+
+/// What stands before the id of a job that has one: the submission of a plain job.
+const SUBMIT_WITH_ID: &[u8] = b"\x00\x02\x80\xe2\xcf\xaa\x06\x00\x00\x01";
+
+/// What stands behind that id: priority 3, no retry, no delay, no overwriting, and one file.
+const OPTIONS_OF_ONE: &[u8] = b"\x03\x00\x00\x00\x01";
 
 /// What stands between a job's priority and its files: no retry, no delay, no overwriting, and 200 files.
 const OPTIONS: &[u8] = b"\x00\x00\x00\xc8\x01";
@@ -91,21 +98,40 @@ pub fn apply(desk: &mut Desk, command: &Command) -> Result<Answer> {
     }
 }
 
-/// Applies an entry that is spelled so.
-fn apply_entry(desk: &mut Desk, alloc: Global, bytes: &[u8]) -> Result<()> {
+/// The entry that is spelled so.
+fn entry(alloc: Global, bytes: &[u8]) -> Result<Entry> {
     match read_entry(alloc, bytes) {
-        Ok(entry) => {
-            apply(desk, &entry.command)?;
-            Ok(())
-        }
+        Ok(entry) => Ok(entry),
         Err(_) => bail!("an entry is not read"),
     }
 }
 
-/// A desk on which as many jobs wait.
-pub fn filled_desk(alloc: Global, jobs: u32) -> Result<Desk> {
+/// Applies an entry that is spelled so.
+fn apply_entry(desk: &mut Desk, alloc: Global, bytes: &[u8]) -> Result<()> {
+    apply(desk, &entry(alloc, bytes)?.command)?;
+    Ok(())
+}
+
+/// The submission of a job of one file, with an id. The ids of jobs that follow each other lie far apart, above and below.
+pub fn submission_with_id(alloc: Global, job: u32) -> Result<Entry> {
+    let mut bytes = SUBMIT_WITH_ID.to_vec(alloc)?;
+    let id = (job as u128 + 1).wrapping_mul(0xb504_f333_f9de_6484_597d_89b3_754a_be9f);
+    bytes.extend_from_slice(&id.to_be_bytes())?;
+    bytes.extend_from_slice(OPTIONS_OF_ONE)?;
+    push_file(&mut bytes, alloc, job, 0)?;
+    entry(alloc, bytes.as_slice())
+}
+
+/// A desk without jobs.
+pub fn begun_desk(alloc: Global) -> Result<Desk> {
     let mut desk = Desk::empty(alloc);
     apply_entry(&mut desk, alloc, RESTART)?;
+    Ok(desk)
+}
+
+/// A desk on which as many jobs wait.
+pub fn filled_desk(alloc: Global, jobs: u32) -> Result<Desk> {
+    let mut desk = begun_desk(alloc)?;
     for job in 0..jobs {
         let bytes = submission(alloc, job)?;
         apply_entry(&mut desk, alloc, bytes.as_slice())?;

@@ -1,3 +1,4 @@
 mod Found
+mod Ordered
 mod Counted
 mod TableLists

@@ -1,4 +1,5 @@
 pub mod Numbers
+pub mod IdOrder
 pub mod JobIds
 pub mod Links
 pub mod Loads

@@ -1,7 +1,8 @@
-//! The numbers of jobs by their ids.
-//! Contracts see the ids in order of the jobs' numbers, and the room. Kept in its type (`AreJobIds`).
+//! The numbers of jobs by their ids: the ids in order of the jobs' numbers, and beside them their places in order of the ids.
+//! Contracts see the ids in order of the jobs' numbers, and the room. Kept in its type (`AreJobIds`): a look-up is a search by halves.
 //! Order: `make_room` before `add`, which takes no memory.
-ghost use Rattle.std.specs.Prelude.{◌≡◌, ◌<◌, ◌+◌, ◌++◌, ◌∷◌, [], max, length, ◌==◌, position, IfSome, OnOk, OnErr};
+ghost use Rattle.std.specs.Prelude.{◌≡◌, ◌<◌, ◌+◌, ◌++◌, ◌∷◌, [], max, length, IfOk, IfErr, OnOk, OnErr};
+ghost use Rattle.fts_index.specs.IdOrder.{id_at, IsGapFor, IsInOrderAt, IsOrderOf};
 ghost use Rattle.fts_index.specs.Numbers.{IdList, number_in};
 
 use fts_tables::Memory;
@@ -12,6 +13,8 @@ use std::marker::Model;
 #[derive(Drop)]
 pub struct JobIds {
     ids: Vec<u128>,
+    /// The least place of each different id, in rising order of the ids.
+    order: Vec<u32>,
     room: u32,
 }
 
@@ -27,12 +30,23 @@ impl Model for JobIds {
     ghost invariant = { AreJobIds };
 }
 
-/// The first place of an id.
-fn first_place(ids: &[u128], id: u128) -> Option<usize>
-    ensures place { result ≡ position (λ other. other == id) ids.now }
-    ensures inside { IfSome result (λ place. place < length ids.now) }
+/// The id at a place, and 0 behind the end.
+fn id_at(ids: &[u128], place: u32) -> u128
+    ensures id { result ≡ id_at ids.now place }
 {
-    ids.iter().position(|other| *other == id)
+    match ids.get(place as usize) {
+        Some(id) => *id,
+        None => 0,
+    }
+}
+
+/// How far in the order an id stands, or would stand.
+fn search(ids: &[u128], order: &[u32], id: u128) -> Result<usize, usize>
+    requires order { IsOrderOf ids.now order.now }
+    ensures found { IfOk result (IsInOrderAt ids.now order.now id) }
+    ensures absent { IfErr result (IsGapFor ids.now order.now id) }
+{
+    order.binary_search_by_key(&id, |place| id_at(ids, *place))
 }
 
 impl JobIds {
@@ -42,6 +56,7 @@ impl JobIds {
     {
         JobIds {
             ids: Vec::new(alloc),
+            order: Vec::new(alloc),
             room: 0,
         }
     }
@@ -58,6 +73,7 @@ impl JobIds {
             return Err(Memory);
         }
         self.ids.reserve(1)?;
+        self.order.reserve(1)?;
         self.room += 1;
         Ok(())
     }
@@ -67,6 +83,14 @@ impl JobIds {
         requires room { length self.old.ids < self.old.room }
         ensures ids { self.new ≡ record self.old { ids = self.old.ids ++ id ∷ [] } }
     {
+        let place = self.ids.len() as u32;
+        match search(self.ids.as_slice(), self.order.as_slice(), id) {
+            // The id has a lesser number already.
+            Ok(_at) => {}
+            Err(at) => {
+                let _ = self.order.insert(at, place);
+            }
+        }
         self.ids.push_reserved(id);
     }
 
@@ -74,9 +98,9 @@ impl JobIds {
     pub fn find(&self, id: u128) -> Option<u32>
         ensures number { result ≡ number_in self.now.ids id }
     {
-        match first_place(self.ids.as_slice(), id) {
-            Some(place) => Some(place as u32 + 1),
-            None => None,
+        match search(self.ids.as_slice(), self.order.as_slice(), id) {
+            Ok(at) => Some(self.order[at] + 1),
+            Err(_) => None,
         }
     }
 }

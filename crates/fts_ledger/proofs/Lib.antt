@@ -6,6 +6,8 @@ mod Turned
 mod Passed
 mod Begun
 mod Stations
+mod Claimants
+mod Asked
 mod Fresh
 mod Followed
 mod Stores

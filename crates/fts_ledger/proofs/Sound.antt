@@ -23,7 +23,7 @@ use Rattle.fts_tables.specs.declared.commands.Command.TheVariants.{Restart, Subm
 use Rattle.fts_workers.specs.Benches.{attempt_of}
 use Rattle.fts_workers.proofs.Attempts.{IsSameAttempt, attempt_among, attempts_map, attempts_one, either_attempt, same_attempt, report_attempts, claim_others, claim_own}
 use Rattle.fts_workers.proofs.Numbered.{found_at, row_at-id}
-use Rattle.fts_ledger.specs.Reports.{IsRestart, IsReportOf}
+use Rattle.fts_ledger.specs.Reports.{IsAsked, IsRestart, IsReportOf}
 
 -- each row that is there stays at its attempt
 abbrev pub KeepsAttempts : Tables → Tables → Type 0
@@ -146,6 +146,22 @@ report_keeps tables now file (Some row) attempt outcome at =
     subst (λ id. Keeps (IsReported id) tables (report_of tables now row attempt outcome (job_at tables.jobs row.job))) (row_at-id tables.rows file row at)
     (report_of_keeps tables now row attempt outcome (job_at tables.jobs row.job))
 
+-- a client's command claims nothing and reports nothing
+pub asked_keeps : (tables : Tables) (command : Command) → IsAsked command → Keeps IsQuiet tables (step tables command)
+asked_keeps tables (Restart now settings) asked = absurd asked
+asked_keeps tables (Submit now job) asked =
+    submit_keeps (option_and_then (number_of_id tables.jobs) job.id) tables (max now tables.moment) job
+asked_keeps tables (CancelJob now job) asked =
+    on_found IsQuiet tables (job_at tables.jobs job) (cancel_rows tables (max now tables.moment)) (cancel_rows_keeps tables (max now tables.moment))
+asked_keeps tables (CancelFile now job file) asked =
+    on_found IsQuiet tables (job_at tables.jobs job) (λ found. cancel_file tables (max now tables.moment) found (row_at tables.rows file))
+    (λ found. cancel_file_keeps tables (max now tables.moment) found (row_at tables.rows file))
+asked_keeps tables (SetPriority now job priority) asked =
+    on_found IsQuiet tables (job_at tables.jobs job) (λ found. set_priority tables (max now tables.moment) found priority)
+    (λ found. priority_keeps tables (max now tables.moment) found priority)
+asked_keeps tables (Claim now word) asked = absurd asked
+asked_keeps tables (Report now file attempt outcome) asked = absurd asked
+
 -- a claim raises the attempt of its file, which is there, by one, and leaves the others'
 pub record Claims (before : Tables) (command : Command) (after : Tables) (file attempt : ℕ) : Type 0 where
   pub now : ℕ
@@ -241,15 +257,13 @@ module _ (picks_stand : PicksStand) (tables : Tables) (formed : AreWellFormed ta
       (λ after answer fine keeps. restart_behaves tables (Restart now settings) after answer tt fine keeps) _
       (restart_keeps tables (max now tables.moment) settings) done is
   step_behaves (Submit now job) done is = by_keeps IsQuiet (Submit now job) (quiet_behaves tables (Submit now job)) _
-      (submit_keeps (option_and_then (number_of_id tables.jobs) job.id) tables (max now tables.moment) job) done is
+      (asked_keeps tables (Submit now job) tt) done is
   step_behaves (CancelJob now job) done is = by_keeps IsQuiet (CancelJob now job) (quiet_behaves tables (CancelJob now job)) _
-      (on_found IsQuiet tables (job_at tables.jobs job) (cancel_rows tables (max now tables.moment)) (cancel_rows_keeps tables (max now tables.moment))) done is
+      (asked_keeps tables (CancelJob now job) tt) done is
   step_behaves (CancelFile now job file) done is = by_keeps IsQuiet (CancelFile now job file) (quiet_behaves tables (CancelFile now job file)) _
-      (on_found IsQuiet tables (job_at tables.jobs job) (λ found. cancel_file tables (max now tables.moment) found (row_at tables.rows file))
-      (λ found. cancel_file_keeps tables (max now tables.moment) found (row_at tables.rows file))) done is
+      (asked_keeps tables (CancelFile now job file) tt) done is
   step_behaves (SetPriority now job priority) done is = by_keeps IsQuiet (SetPriority now job priority) (quiet_behaves tables (SetPriority now job priority)) _
-      (on_found IsQuiet tables (job_at tables.jobs job) (λ found. set_priority tables (max now tables.moment) found priority)
-      (λ found. priority_keeps tables (max now tables.moment) found priority)) done is
+      (asked_keeps tables (SetPriority now job priority) tt) done is
   step_behaves (Claim now word) done is =
       claim_behaves now word (max now tables.moment) (pick tables (max now tables.moment) word) refl done is
   step_behaves (Report now file attempt outcome) done is = by_keeps (IsReported file) (Report now file attempt outcome)

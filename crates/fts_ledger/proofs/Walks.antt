@@ -94,7 +94,7 @@ later_after before after command (Claimed claimed again) by writer file attempt 
 later_after before after command (Reported reported state) by writer file attempt last behaves other stood later = later
 
 -- an entry of another leaves no more files out that a writer claimed last
-others_leave : (file : ℕ) (files : List ℕ) (last : Option Claimant) (writer by : ℕ) (answer : Answer) → by ≢ writer
+pub others_leave : (file : ℕ) (files : List ℕ) (last : Option Claimant) (writer by : ℕ) (answer : Answer) → by ≢ writer
     → Among file (out_after files answer) → IsOwn writer (claim_after file last by answer) → Among file files × IsOwn writer last
 others_leave file files last writer by (Restarted count) other among own = absurd among
 others_leave file files last writer by (Submitted job id) other among own = (among, own)

@@ -60,6 +60,21 @@ abbrev pub AddsWork : ℕ → List Entry → Type 0
 AddsWork writer [] = Unit {0}
 AddsWork writer (entry ∷ entries) = (entry.writer ≡ writer → IsWork entry.command) × AddsWork writer entries
 
+-- a command is a client's: one of those that requests bring
+abbrev pub IsAsked : Command → Type 0
+IsAsked (Restart now settings) = ⊥
+IsAsked (Submit now job) = Unit {0}
+IsAsked (CancelJob now job) = Unit {0}
+IsAsked (CancelFile now job file) = Unit {0}
+IsAsked (SetPriority now job priority) = Unit {0}
+IsAsked (Claim now word) = ⊥
+IsAsked (Report now file attempt outcome) = ⊥
+
+-- each entry of a writer among these is a client's command
+abbrev pub AddsAsked : ℕ → List Entry → Type 0
+AddsAsked writer [] = Unit {0}
+AddsAsked writer (entry ∷ entries) = (entry.writer ≡ writer → IsAsked entry.command) × AddsAsked writer entries
+
 -- an entry takes a file from a writer that claimed it: it is a restart, or a report of the file by another
 abbrev pub Takes : ℕ → ℕ → Entry → Type 0
 Takes writer file entry = IsRestart entry.command ⊎ (IsReportOf file entry.command × (entry.writer ≢ writer))

@@ -1,12 +1,15 @@
 //! The laws over a worker's turns, of any list that its pass has then seen: it is told, and legal.
 //! A law is a function without parameters that does nothing: its clauses speak of every station. Who runs workers calls it.
 //! Each clause begins with a bench that fits its pass (`FitsPass`), as an empty one does before its pass has added anything (`begins`).
-ghost use Rattle.std.specs.Prelude.{◌≡◌, ◌≢◌, ℕ, ◌==◌, List, [], ◌∷◌, ◌++◌};
-ghost use Rattle.fts_tables.specs.History.{IsLegal, tables_of};
+ghost use Rattle.std.specs.Prelude.{◌≡◌, ◌≢◌, ◌⊎◌, ℕ, ◌==◌, List, [], ◌∷◌, ◌++◌, Some};
+ghost use Rattle.fts_tables.specs.SettingsData.{SettingsData};
+ghost use Rattle.fts_tables.specs.History.{IsLegal, out_of_list, tables_of};
 ghost use Rattle.fts_tables.specs.declared.commands.Entry.{Entry};
+ghost use Rattle.fts_tables.specs.declared.commands.Command.TheVariants.{Restart};
 ghost use Rattle.fts_turnstile.specs.declared.turn.Turn.{Turn};
 ghost use Rattle.fts_turnstile.specs.History.{AllNamed, NoneBy, items_of};
 ghost use Rattle.fts_turnstile.specs.Passes.{PassView, seen_list};
+ghost use Rattle.fts_keep.specs.Applied.{entry_by};
 ghost use Rattle.fts_workers.specs.Copies.{copies_from};
 ghost use Rattle.fts_workers.specs.declared.held.Held.{Held};
 ghost use Rattle.fts_shop.specs.Shops.{writer_of};
@@ -14,7 +17,8 @@ ghost use Rattle.fts_shop.specs.Looking.{NoneOf};
 ghost use Rattle.fts_shop.specs.Workers.{AreTurns, StationData, TakesOne, WorkerDone};
 ghost use Rattle.fts_shop.specs.declared.ends.Turn.{Turn as TurnEnd};
 ghost use Rattle.fts_shop.specs.declared.ends.Turn.TheVariants.{Stale};
-ghost use Rattle.fts_ledger.specs.Reports.{AddsWork, HasNoRestart, IsUndisturbed, ReportsOwn};
+ghost use Rattle.fts_ledger.specs.Claims.{IsOut, IsOwn, last_claim};
+ghost use Rattle.fts_ledger.specs.Reports.{AddsAsked, AddsWork, HasNoRestart, IsUndisturbed, ReportsOwn};
 ghost use Rattle.fts_ledger.specs.Fitting.{FitsPass};
 ghost use Rattle.fts_ledger.specs.Ledger.{AreFresh, FollowsOwn, KeepsItsFiles, KeepsLedger, MayKeep};
 
@@ -64,6 +68,26 @@ pub fn passes_see_one_list()
     ensures others { (writer : ℕ) (joined : List ℕ) (turns : List (Turn Entry)) → NoneBy (writer ∷ joined) turns → AllNamed writer_of turns
         → NoneOf writer (items_of turns) }
     ensures none { (writer : ℕ) (opening before entries : List Entry) → NoneOf writer entries → ReportsOwn writer opening before entries }
+{}
+
+/// Which files are out behind an opening list behind which none was, and whose they are. Each was claimed behind the opening list (`claimed`), and
+/// not by a writer whose entries are all a client's commands (`asked`). One that a writer claimed last was out, and the writer's, before entries of
+/// others too (`before`). Behind a restart no file is out (`restarted`), and its settings stay in force until the next one (`settings`). Where each
+/// writer's entries are all a client's commands, or all a worker's, none is a restart (`none`); a client's commands report nothing (`reports`).
+pub fn files_out_have_claimants()
+    ensures claimed { (opening entries : List Entry) (file : ℕ) → out_of_list opening ≡ [] → IsOut file (opening ++ entries)
+        → (writer : ℕ) × IsOwn writer (last_claim file opening entries) }
+    ensures asked { (writer file : ℕ) (opening entries : List Entry) → AddsAsked writer entries → IsOwn writer (last_claim file opening entries) → ⊥ }
+    ensures before { (writer file : ℕ) (opening entries later : List Entry) → NoneOf writer later → IsOut file (opening ++ (entries ++ later))
+        → IsOwn writer (last_claim file opening (entries ++ later))
+        → IsOut file (opening ++ entries) × IsOwn writer (last_claim file opening entries) }
+    ensures restarted { (entries : List Entry) (writer now : ℕ) (settings : SettingsData) → IsLegal (entries ++ entry_by writer (Restart now settings) ∷ [])
+        → out_of_list (entries ++ entry_by writer (Restart now settings) ∷ []) ≡ [] }
+    ensures settings { (entries : List Entry) (writer now : ℕ) (settings : SettingsData) (more : List Entry) → HasNoRestart more
+        → IsLegal ((entries ++ entry_by writer (Restart now settings) ∷ []) ++ more)
+        → (tables_of ((entries ++ entry_by writer (Restart now settings) ∷ []) ++ more)).settings ≡ Some settings }
+    ensures none { (entries : List Entry) → ((writer : ℕ) → AddsWork writer entries ⊎ AddsAsked writer entries) → HasNoRestart entries }
+    ensures reports { (writer : ℕ) (opening entries : List Entry) → AddsAsked writer entries → ReportsOwn writer opening [] entries }
 {}
 
 /// Where nobody takes a file from a pass, in what it has then seen, no turn of it is stale, and its station's store follows from the pass's own
