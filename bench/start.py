@@ -4,11 +4,16 @@
 Usage: start.py PROGRAM [JOBS]
 
 PROGRAM is `crates/fts/out/fts`. JOBS is 1 to 1,000, of 200 files each; 1,000 is the default, whose journal of 200,000 rows is just below its limit.
-Two folders are made below the system's one for temporary files. In the first this script writes the journal itself, by the format in docs/DEFINITIONS.md:
-a Restart, and for each job its submission and its cancellation. In the second the program makes it, from one connection with the same submissions and
-cancellations; a file of each job may be under way when its job is cancelled, and finds no source. Nothing is copied in either.
-It prints the seconds and the greatest resident size of the start, which has no input, and of the session, both in MiB, and how many lines `show` writes
-of each folder. Run it with nothing else running.
+Two folders are made below the system's one for temporary files. In the first this script writes the journal itself, by the format in
+docs/DEFINITIONS.md: a Restart, and for each job its submission and its cancellation. In the second the program makes it, from one connection with
+the same submissions and cancellations; a file of each job may be under way when its job is cancelled, and finds no source. Nothing is copied in
+either. It prints the seconds, the processor's seconds and the greatest resident size of the start, which has no input, and of the session, the size
+in MiB, and how many lines `show` writes of each folder. Run it with nothing else running.
+
+`start.py PROGRAM JOBS FILE` writes the journal to this file besides, for `crates/bench_keep`, and measures nothing.
+
+The system counts to a program's greatest size that of the process that it was started from, as that one was then. So what is large here is made by
+a process of its own, and programs are started from one that stays at some 10 MiB.
 """
 
 import os
@@ -90,36 +95,53 @@ def folder(root: str, name: str) -> str:
     return place
 
 
-def measured(program: str, place: str, given: str) -> tuple[int, float, float]:
-    """The status of a session over this input, its seconds, and its greatest resident size in MiB."""
+def apart(work, *given) -> None:
+    """Does this work in a process of its own, whose memory goes with it."""
+    child = os.fork()
+    if child == 0:
+        work(*given)
+        os._exit(0)
+    if os.waitpid(child, 0)[1] != 0:
+        raise SystemExit("a file was not written")
+
+
+def write(place: str, content, jobs: int) -> None:
+    with open(place, "wb") as file:
+        file.write(content(jobs))
+
+
+def measured(program: str, place: str, given: str) -> tuple[int, float, float, float]:
+    """The status of a session over this input, its seconds, those of the processor, and its greatest resident size in MiB."""
     with open(given, "rb") as source, open(os.devnull, "wb") as sink:
         begun = time.monotonic()
         child = subprocess.Popen([program, place, "session"], stdin=source, stdout=sink)
         _, status, usage = os.wait4(child.pid, 0)
         child.returncode = os.waitstatus_to_exitcode(status)
-        return child.returncode, time.monotonic() - begun, usage.ru_maxrss / 1024
+        return child.returncode, time.monotonic() - begun, usage.ru_utime + usage.ru_stime, usage.ru_maxrss / 1024
 
 
 def lines(program: str, place: str) -> int:
-    return subprocess.run([program, place, "show"], stdout=subprocess.PIPE, check=True).stdout.count(b"\n")
+    with subprocess.Popen([program, place, "show"], stdout=subprocess.PIPE) as shown:
+        return sum(piece.count(b"\n") for piece in iter(lambda: shown.stdout.read(65536), b""))
 
 
 def main() -> None:
     program = os.path.abspath(sys.argv[1])
     jobs = int(sys.argv[2]) if len(sys.argv) > 2 else 1000
+    if len(sys.argv) > 3:
+        write(sys.argv[3], journal, jobs)
+        return
     with tempfile.TemporaryDirectory() as root:
         started, made = folder(root, "started"), folder(root, "made")
-        content = journal(jobs)
-        with open(os.path.join(started, "fts.journal"), "wb") as file:
-            file.write(content)
+        kept = os.path.join(started, "fts.journal")
         given, nothing = os.path.join(root, "requests"), os.path.join(root, "nothing")
-        with open(given, "wb") as file:
-            file.write(requests(jobs))
+        apart(write, kept, journal, jobs)
+        apart(write, given, requests, jobs)
         open(nothing, "wb").close()
-        print(f"{jobs} jobs, {jobs * FILES} rows, a journal of {len(content)} bytes")
+        print(f"{jobs} jobs, {jobs * FILES} rows, a journal of {os.path.getsize(kept)} bytes")
         for name, place, source in (("start", started, nothing), ("session", made, given)):
-            status, seconds, size = measured(program, place, source)
-            print(f"{name}: status {status}, {seconds:.2f} s, {size:.1f} MiB, {lines(program, place)} lines")
+            status, seconds, worked, size = measured(program, place, source)
+            print(f"{name}: status {status}, {seconds:.2f} s, {worked:.2f} s of a processor, {size:.1f} MiB, {lines(program, place)} lines", flush=True)
 
 
 if __name__ == "__main__":

@@ -47,18 +47,18 @@ fn print_jobs(rt: &HostRuntime, keep: &Keep<FileDisk>) -> Result<()> {
 }
 
 /// The time of a start.
-fn start_once(rt: &HostRuntime) -> Result<Duration> {
+fn start_once(rt: &HostRuntime, path: &str) -> Result<Duration> {
     let settings = settings(rt.alloc())?;
     let begun = Instant::now(rt)?;
-    let keep = started_with(rt, PATH, settings)?;
+    let keep = started_with(rt, path, settings)?;
     let time = begun.elapsed(rt)?;
     print_jobs(rt, &keep)?;
     Ok(time)
 }
 
 /// The journal, opened to look.
-fn opened(rt: &HostRuntime) -> Result<Journal<FileDisk>> {
-    match Journal::load(rt.alloc(), FileDisk::view(rt, PATH)) {
+fn opened(rt: &HostRuntime, path: &str) -> Result<Journal<FileDisk>> {
+    match Journal::load(rt.alloc(), FileDisk::view(rt, path)) {
         Ok(journal) => Ok(journal),
         Err(_) => bail!("the journal is not opened"),
     }
@@ -76,9 +76,9 @@ fn is_read(alloc: Global, journal: &mut Journal<FileDisk>) -> bool {
 }
 
 /// The time in which the journal is opened and its entries are read alone.
-fn read_once(rt: &HostRuntime) -> Result<Duration> {
+fn read_once(rt: &HostRuntime, path: &str) -> Result<Duration> {
     let begun = Instant::now(rt)?;
-    let mut journal = opened(rt)?;
+    let mut journal = opened(rt, path)?;
     if !is_read(rt.alloc(), &mut journal) {
         bail!("an entry is not read");
     }
@@ -92,19 +92,27 @@ fn print(rt: &HostRuntime, starting: u128, reading: u128) -> Result<()> {
     Ok(())
 }
 
-/// Measures both sides once, on a new file.
-fn measure_once(rt: &HostRuntime, count: u32) -> Result<()> {
-    write_journal(rt, count)?;
-    let reading = read_once(rt)?;
-    let starting = start_once(rt)?;
+/// Measures both sides once.
+fn measure_once(rt: &HostRuntime, path: &str) -> Result<()> {
+    let reading = read_once(rt, path)?;
+    let starting = start_once(rt, path)?;
     print(rt, starting.as_micros(), reading.as_micros())
 }
 
-/// Prints how long a start takes and how long reading the entries takes.
+/// Prints how long a start takes and how long reading the entries takes, each time on a new file of so many jobs.
 pub fn measure(rt: &HostRuntime, count: u32) -> Result<()> {
     for _ in 0..TIMES {
-        measure_once(rt, count)?;
+        write_journal(rt, count)?;
+        measure_once(rt, PATH)?;
     }
     fs::remove_file(rt, PATH)?;
+    Ok(())
+}
+
+/// The same over a journal that is there. Each start puts one Restart more behind it.
+pub fn measure_file(rt: &HostRuntime, path: &str) -> Result<()> {
+    for _ in 0..TIMES {
+        measure_once(rt, path)?;
+    }
     Ok(())
 }

@@ -10,7 +10,7 @@ use std::{fs, io};
 /// The folder that an exchange is played in.
 const STAND: &str = "stand";
 
-const EXCHANGES: [&str; 24] = [
+const EXCHANGES: [&str; 27] = [
     "several-files",
     "checksum",
     "wrong-checksum",
@@ -33,8 +33,11 @@ const EXCHANGES: [&str; 24] = [
     "bad-head",
     "head-too-large",
     "bad-length",
+    "signed-length",
+    "long-length",
     "chunked",
     "body-too-large",
+    "deep-document",
 ];
 
 /// A file that is there from the start.

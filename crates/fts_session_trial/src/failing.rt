@@ -16,7 +16,8 @@ use fts_wire::{MemorySink, MemorySource};
 use std::alloc::Global;
 use std::io;
 
-const SETTINGS: &str =
+/// The settings of each session in memory.
+pub const SETTINGS: &str =
     "vo = \"demo\"\nworkers = 2\n[[storage]]\nurl = \"https://a.example\"\n[[storage]]\nurl = \"https://b.example\"\n";
 
 /// A number that no call reaches: from one on to this, all fail.
@@ -81,7 +82,7 @@ fn store(alloc: Global, fail: Vec<u32>) -> Result<MemoryStore, Memory> {
 }
 
 /// Sixteen hands, the first of which has the store with the files.
-fn hands(alloc: Global, fail: Vec<u32>) -> io::Result<Vec<StillHand<MemoryStore>>>
+pub fn hands(alloc: Global, fail: Vec<u32>) -> io::Result<Vec<StillHand<MemoryStore>>>
     ensures { IfOk result (λ hands. length hands.items ≡ 16) }
 {
     let mut stores = Vec::new(alloc);

@@ -13,7 +13,7 @@ use std::alloc::Global;
 use std::io;
 
 /// The moment of every command, in seconds since 1970.
-const NOW: u64 = 1_700_000_000;
+pub const NOW: u64 = 1_700_000_000;
 
 /// A hand whose clock stands still.
 pub type StillHand<E> = Hand<E, ListClock, ListWords>;
