@@ -1,0 +1,9 @@
+pub mod Lists
+pub mod NamedPlaces
+pub mod LeastKeys
+pub mod TiedRows
+pub mod Waiters
+pub mod TiedSlots
+pub mod BestLinks
+pub mod Picked
+pub mod PlacesInOrder

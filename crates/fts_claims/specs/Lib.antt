@@ -1,0 +1,4 @@
+pub mod BusyData
+pub mod Busy
+pub mod Ties
+pub mod Claims

@@ -1,0 +1,18 @@
+//! Which file a claim takes, found over the files that wait, the slots taken and the busy destinations, in place of a walk over all rows.
+//! `pick_waiter` is the machine's pick: exactly the file that the definition takes over all rows. What it needs is that its view is tied to these
+//! rows (`AreTied`): who keeps rows keeps the three beside them in step.
+//! `Busy` holds the destinations of the files that run, in order.
+//! For the desk's claims. It changes nothing, and knows nothing of commands and journals.
+#![tactic(auto)]
+
+mod busy;
+mod claim_view;
+mod links;
+mod open_files;
+mod pick;
+#[cfg(test)]
+mod tests;
+
+pub use busy::Busy;
+pub use claim_view::ClaimView;
+pub use pick::pick_waiter;

@@ -1,0 +1,1 @@
+//! Each call with ample memory.
