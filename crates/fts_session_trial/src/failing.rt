@@ -5,8 +5,8 @@ ghost use Rattle.std.specs.Prelude.{◌≡◌, length, IfOk};
 
 use crate::stand::{StillHand, hands_over, no_memory, session};
 use crate::wanted::{
-    ENDS, ENTRIES, Entry, INPUT, INPUT_WITH_RETRY, NOT_WRITTEN, NOTHING_READ, READ, READS, REPLIES,
-    REPLIES_WITH_RETRY, START, STORE, STORE_CALLS, STORE_WITH_RETRY,
+    ENDS, ENTRIES, Entry, INPUT, INPUT_WITH_RETRY, NOT_MADE, NOT_WRITTEN, NOTHING_READ, READ,
+    READS, REPLIES, REPLIES_WITH_RETRY, START, STORE, STORE_CALLS, STORE_WITH_RETRY,
 };
 use fts_disk::MemoryDisk;
 use fts_store::{MemoryStore, StoredFile};
@@ -114,7 +114,7 @@ fn source(alloc: Global, input: &str, read: Option<usize>) -> io::Result<MemoryS
 fn line_of(alloc: Global, ended: Ending, next: Ending) -> io::Result<String> {
     let (run, then) = (ended.tally, next.tally);
     if next.status != 0 {
-        return Ok(format!(in alloc; "the next run has status {}", next.status)?);
+        return Ok(format!(in alloc; "status {}, then status {}", ended.status, next.status)?);
     }
     let first = format!(in alloc;
         "status {}, claims {} finished {} failed {} waiting {}",
@@ -237,17 +237,27 @@ fn play_entry(rt: &HostRuntime, entry: &Entry) -> io::Result<u32> {
     Ok(same)
 }
 
-/// Each call of the start behind the making of the journal.
+/// Each call of the start: three that make the journal, and those of its Restart.
 fn play_start(rt: &HostRuntime) -> io::Result<u32> {
     let alloc = rt.alloc();
     let mut same: u32 = 0;
-    for (call, gate) in [(4, 0), (5, 0), (6, 0), (6, 1), (7, 0), (7, 1)] {
+    for (call, gate, wanted) in [
+        (1, 0, START),
+        (2, 0, NOT_MADE),
+        (3, 0, NOT_MADE),
+        (4, 0, START),
+        (5, 0, START),
+        (6, 0, START),
+        (6, 1, START),
+        (7, 0, START),
+        (7, 1, START),
+    ] {
         let case = format!(in alloc; "disk call {call} of the start")?;
         let trouble = Trouble {
             disk: numbers(alloc, call, call)?,
             ..no_trouble(alloc)
         };
-        let played = play(rt, case.as_str(), INPUT, trouble, gate, &[], START)?;
+        let played = play(rt, case.as_str(), INPUT, trouble, gate, &[], wanted)?;
         same = same.saturating_add(played);
     }
     Ok(same)

@@ -1,6 +1,6 @@
 //! A session that is stopped: behind each call of its disk, and between the move of a file and its report.
-//! What opens behind a stop is the list of what was acknowledged by then, or that and the entry under way, and a Restart behind it (`opens`). An entry
-//! has four calls: its body with a closed gate, a sync, its open gate, a sync. Only behind the third may it be there or not.
+//! What opens behind a stop is the list of what was acknowledged by then, or that and the entry under way, and a Restart behind it (`opens`). An
+//! entry has four calls: its body with a closed gate, a sync, its open gate, a sync. Only behind the third may it be there or not.
 //! A file that was moved and not reported is tried again by the next run, as its second attempt, which finds the destination.
 use crate::failing::{SETTINGS, hands};
 use crate::stand::{NOW, no_memory, session};

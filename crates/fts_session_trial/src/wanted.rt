@@ -57,7 +57,10 @@ pub const ENDS: [usize; 2] = [301, 360];
 /// Behind how many bytes a read fails: within each line and at its end, and around the end of each request.
 pub const READS: [usize; 12] = [0, 1, 20, 21, 43, 44, 45, 300, 301, 302, 359, 360];
 
-/// What is wanted of the start, behind the three calls that make the journal: a journal is there, with a Restart or without.
+/// What is wanted where the write that makes the journal, or the sync behind it, fails, and nine bytes of 0 are there: a next run finds no journal.
+pub const NOT_MADE: &str = "status 4, then status 7";
+
+/// What is wanted of the rest of the start: there is nothing, or a journal with a Restart or without.
 pub const START: &str =
     "status 4, claims 0 finished 0 failed 0 waiting 0, then claims 0 finished 0 failed 0";
 
