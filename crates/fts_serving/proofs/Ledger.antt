@@ -19,24 +19,36 @@ use Rattle.fts_turnstile.specs.Passes.{PassView, TurnstileView, pass_given, seen
 use Rattle.fts_passes.specs.Crews.{AreSeenBy, passes_given}
 use Rattle.fts_keep.specs.Keeps.{KeepData}
 use Rattle.fts_keep.specs.Applied.{entry_by}
+use Rattle.fts_keep.specs.declared.fault.KeepFault.{KeepFault}
+use Rattle.fts_keep.specs.declared.fault.KeepFault.TheVariants.{DiskFailed, JournalFull}
+use Rattle.fts_keep.specs.Keeps.{used_of}
+use Rattle.fts_workers.specs.Rounds.{applied_over}
+use Rattle.fts_tables.specs.Counts.{Rose}
 use Rattle.fts_workers.specs.declared.hand.Hand.{Hand}
 use Rattle.fts_workers.specs.declared.held.Held.{Held}
 use Rattle.fts_shop.specs.Many.{Each}
 use Rattle.fts_shop.specs.Looking.{LeaveLanes, NoneOf}
 use Rattle.fts_shop.specs.Looked.{items_on}
 use Rattle.fts_workers.proofs.Accepted.{legal_front}
-use Rattle.fts_shop.specs.Shops.{IsToldList, ShopData, lanes_shown, writer_of}
+use Rattle.fts_shop.specs.Shops.{IsToldList, ShopData, faults_shown, lanes_shown, writer_of}
+use Rattle.fts_shop.specs.Turns.{hand_data}
 use Rattle.fts_shop.specs.Workers.{StationData, WorkerDone, station_data, worker_end_of}
 use Rattle.fts_shop.specs.declared.ends.Turn.TheVariants.{Stale}
 use Rattle.fts_shop.specs.declared.ends.WorkerEnd.{WorkerEnd}
-use Rattle.fts_shop.specs.declared.ends.WorkerEnd.TheVariants.{Drained}
+use Rattle.fts_shop.specs.declared.ends.WorkerEnd.TheVariants.{Drained, DiskFailed as DiskFailedEnd, JournalFull as JournalFullEnd, Memory as MemoryEnd}
 use Rattle.fts_shop.specs.declared.station.Station.{Station}
 use Rattle.fts_top.specs.Doors.{DoorsData}
 use Rattle.fts_top.specs.Halls.{IsBoothServed, IsStationWorked}
 use Rattle.fts_top.specs.Lanes.{Sides}
 use Rattle.fts_top.specs.Seats.{booths_of, stations_of}
 use Rattle.fts_top.specs.Serves.{ClosesServed}
+use Rattle.fts_top.specs.Ends.{status_of}
+use Rattle.fts_top.specs.Openings.{SomeRose}
+use Rattle.fts_top.specs.Served.{are_doors_failed, end_when_served, worst_of}
+use Rattle.fts_top.specs.declared.lane.LaneStop.{LaneStop}
 use Rattle.fts_top.specs.declared.ends.RunEnd.{RunEnd}
+use Rattle.fts_top.specs.declared.ends.RunEnd.TheVariants.{Served}
+use Rattle.std.specs.List.{list_any}
 use Rattle.fts_top.specs.declared.lane.Booth.{Booth}
 use Rattle.fts_top.specs.declared.lane.Lane.{Lane}
 use Rattle.fts_ledger.specs.Claims.{IsOut, IsOwn, last_claim}
@@ -47,7 +59,10 @@ use Rattle.fts_serving.proofs.Last.{HasLast, IsBehind, IsLast, given_last, items
 use Rattle.fts_serving.proofs.Open.{LaneTurns, Rules, has_turn, none_open, open_all, open_behind, open_lanes, own_turn, there_behind}
 use Rattle.fts_serving.proofs.Own.{asked_none, named_back, none_items}
 use Rattle.fts_serving.proofs.Seats.{At, Seat, booths_given, drop_given, each_idle, each_weaker, each_with, giver_from, seat_at, seats, seen_behind, stations_given}
-use Rattle.fts_serving.proofs.Stations.{FindsNone, drained_finds_none, worker_leaves}
+use Rattle.fts_serving.specs.Finishes.{NoneRises, RecordPasses}
+use Rattle.fts_serving.proofs.Finishing.{doors_rose, ended_by, failed_doors, none_rises_at, rose_before, some_end}
+use Rattle.fts_serving.proofs.Faults.{Failed, full_by, last_fault, turn_fails, worker_fault}
+use Rattle.fts_serving.proofs.Stations.{FindsNone, between_same, drained_finds_none, worker_leaves}
 use Rattle.fts_serving.proofs.Whole.{Laws, OfLane, OfWorker, Sees, keeps, may, of_lane, of_worker, seen}
 
 -- the laws of lists that are cited here
@@ -293,13 +308,40 @@ module _ {D A E C W L : Type 0} (state : D → DiskState) (faults : D → ℕ) (
       not_ended : (ended : Option WorkerEnd) {of : Option WorkerEnd} → of ≡ None → ended ≡ of → IsSome ended → ⊥
       not_ended ended none is there = absurd (let e = is ∙ none in cc)
 
+  -- all seats of workers
+  pub station_seats : Each (Seat (λ (station : Station D E C W). station.pass) Worked turns first) (stations_of hands serves.benches passes_behind) serves.ran.stations
+  station_seats = seats (λ (station : Station D E C W). station.pass) Worked turns first (stations_of hands serves.benches passes_behind) serves.ran.stations []
+      (0 + length serves.rooms) (length serves.benches) stations_are worked stations_seen
+
+  -- the fault by which a worker ended, in the list of all turns
+  pub failed_of : (old new : Station D E C W) → Seat (λ (station : Station D E C W). station.pass) Worked turns first old new → (end : WorkerEnd) (fault : KeepFault)
+      → new.end ≡ Some end → worker_fault end ≡ Some fault → Failed first turns fault
+  failed_of old new seat ended fault end_is by =
+      let is = numbered (suc seat.given) seat.given old.pass refl seat.pass in
+      let done = seat.holds.0 in
+      let between = between_same store_state store_calls store_faults (station_data moments words old) (station_data moments words new) is.1.1.1 done in
+      let fails = turn_fails store_state store_calls store_faults done.between.pass new.pass done.between.hand (hand_data moments words new.hand) done.between.held done.last
+      new.bench.held fault (λ none. told (sym is.1.0 ∙ sym between.1 ∙ none)) done.ends (last_fault done.last ended fault (sym done.end_is ∙ end_is) by) in
+      let shows : new.pass.opening_shows ≡ first.opening_shows = done.same.2 ∙ is.1.1.0 in
+      let opens : new.pass.opening ≡ first.opening = done.same.1 ∙ is.1.0 in
+      record {
+        before = fails.tries.before;
+        turn = fails.tries.turn;
+        later = seat.since.0;
+        is = seat.since.1 ∙ ap (λ l. l ++ seat.since.0) fails.tries.seen ∙ append_assoc fails.tries.before (fails.tries.turn ∷ []) seat.since.0;
+        cause = λ disk. subst (λ l. Rose (faults_shown (shown_after l fails.tries.before)) (faults_shown fails.tries.turn.shows)) shows
+            (fails.tries.cause (fails.is ∙ ap (λ (f : KeepFault). Err f) disk));
+        entry = fails.tries.entry;
+        full = λ used full. subst (λ o. applied_over (o ++ items_of fails.tries.before) fails.tries.entry ≡ Err (JournalFull used)) opens
+            (fails.tries.full used (fails.is ∙ ap (λ (f : KeepFault). Err f) full));
+      }
+
   pub stations : Each (λ old new. KeepsOwn store_state store_calls store_faults (station_data moments words old) (station_data moments words new))
       (stations_of hands serves.benches passes_behind) serves.ran.stations
   stations = each_weaker (Seat (λ (station : Station D E C W). station.pass) Worked turns first)
       (λ old new. KeepsOwn store_state store_calls store_faults (station_data moments words old) (station_data moments words new)) keeps_own
       (stations_of hands serves.benches passes_behind) serves.ran.stations
-      (seats (λ (station : Station D E C W). station.pass) Worked turns first (stations_of hands serves.benches passes_behind) serves.ran.stations []
-      (0 + length serves.rooms) (length serves.benches) stations_are worked stations_seen)
+      station_seats
 
   -- where all ended drained
   module _ (drained : AreDrained state faults store_state store_calls store_faults sides doors door_faults moments words serves) where
@@ -476,3 +518,64 @@ module _ {D A E C W L : Type 0} (state : D → DiskState) (faults : D → ℕ) (
     stations = stations;
     nothing_left = nothing_left;
   }
+
+  -- how they ended that nothing was in the way of
+  module _ (doors_stay : SomeRose door_faults lanes_before after → ⊥) (none_rises : NoneRises first.opening_shows turns) where
+    abbrev lane_ends : List (Option LaneStop)
+    lane_ends = map (λ (booth : Booth D A C L). booth.end) serves.ran.booths
+
+    abbrev worker_ends : List (Option WorkerEnd)
+    worker_ends = map (λ (station : Station D E C W). station.end) serves.ran.stations
+
+    no_doors : list_any are_doors_failed lane_ends ≡ true → ⊥
+    no_doors is = doors_stay (rose_before D sides doors door_faults moments connections lanes lanes_before serves.opened after serves.opens
+        (subst (λ l. SomeRose door_faults serves.opened l) (sym serves.ran.lanes_are)
+        (doors_rose D sides doors door_faults moments connections serves.opened serves.rooms (passes_given (giver_from first 0) first.given) serves.ran.booths
+        (drop (length serves.rooms) serves.opened) serves.ran.served is)))
+
+    -- a worker that ended by a fault
+    failed_by : (found : WorkerEnd) (fault : KeepFault) → found ≢ Drained → worker_fault found ≡ Some fault → worst_of worker_ends ≡ found → Failed first turns fault
+    failed_by found fault unlike by worst =
+        let ended = ended_by (Seat (λ (station : Station D E C W). station.pass) Worked turns first) found (stations_of hands serves.benches passes_behind) serves.ran.stations
+        station_seats (some_end found worker_ends unlike worst) in
+        failed_of ended.old ended.new ended.holds found fault ended.ended by
+
+    unlike_disk : DiskFailedEnd ≢ Drained
+    unlike_disk is = absurd cc
+
+    unlike_full : (used : ℕ) → JournalFullEnd used ≢ Drained
+    unlike_full used is = absurd cc
+
+    no_disk : worst_of worker_ends ≡ DiskFailedEnd → ⊥
+    no_disk worst =
+        let at = failed_by DiskFailedEnd DiskFailed unlike_disk refl worst in
+        none_rises_at first.opening_shows at.before at.turn at.later (subst (NoneRises first.opening_shows) at.is none_rises) (at.cause refl)
+
+    record_passes : (used : ℕ) → worst_of worker_ends ≡ JournalFullEnd used → RecordPasses (keep.entries ++ items)
+    record_passes used worst =
+        let at = failed_by (JournalFullEnd used) (JournalFull used) (unlike_full used) refl worst in
+        let point = first.opening ++ items_of at.before in
+        let full = full_by (used_of point) used at.entry (step (tables_of point) at.entry.command) (at.full used refl) in
+        record {
+          entries = point;
+          more = items_of (at.turn ∷ at.later);
+          is = ap (λ o. o ++ items) (sym opening_is)
+              ∙ ap (λ l. first.opening ++ l) (ap items_of at.is ∙ items_on at.before (at.turn ∷ at.later))
+              ∙ sym (append_assoc first.opening (items_of at.before) (items_of (at.turn ∷ at.later)));
+          entry = at.entry;
+          accepted = full.0;
+          passes = full.1;
+        }
+
+    pub ends_well : (status_of end ≡ 0) ⊎ ((status_of end ≡ 1) ⊎ ((status_of end ≡ 11) × RecordPasses (keep.entries ++ items)))
+    ends_well = ⊎_elim
+        (λ failed. absurd (no_doors failed.0))
+        (λ ended. by (worst_of worker_ends) refl ended.1)
+        (failed_doors lane_ends worker_ends end (serves.ended ∙ ap end_when_served serves.ran.ended))
+      where
+        by : (worst : WorkerEnd) → worst_of worker_ends ≡ worst → end ≡ Served (worst_of worker_ends)
+            → (status_of end ≡ 0) ⊎ ((status_of end ≡ 1) ⊎ ((status_of end ≡ 11) × RecordPasses (keep.entries ++ items)))
+        by Drained is ended = inl (ap status_of (ended ∙ ap Served is))
+        by MemoryEnd is ended = inr (inl (ap status_of (ended ∙ ap Served is)))
+        by DiskFailedEnd is ended = absurd (no_disk is)
+        by (JournalFullEnd used) is ended = inr (inr (ap status_of (ended ∙ ap Served is), record_passes used is))

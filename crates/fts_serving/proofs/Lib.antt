@@ -6,5 +6,8 @@ mod Stations
 mod Seats
 mod Whole
 mod Last
+mod Faults
+mod Finishing
+mod Lines
 mod Ledger
 mod Runs

@@ -1,7 +1,7 @@
 -- A run that serves, from its start to its closed shop.
-use Rattle.std.proofs.Common.{◌≡◌, ◌≢◌, refl, sym, ap, ◌∙◌, subst, inl, inr, ⊎_elim, ℕ, zero, suc, ◌+◌, ◌<◌, ◌≤◌, Bool, true, false, cond, List, [], ◌∷◌, ◌++◌, length, map, All, Option, Some, None, arith, append-nil}
+use Rattle.std.proofs.Common.{◌≡◌, ◌≢◌, refl, sym, ap, ◌∙◌, subst, inl, inr, ⊎_elim, ℕ, zero, suc, ◌+◌, ◌<◌, ◌≤◌, Bool, true, false, cond, List, [], ◌∷◌, ◌++◌, length, map, All, Option, Some, None, Result, Err, arith, append-nil}
 use Rattle.std.proofs.lemmas.Bool.{leb-true, ltb-false, ltb-true}
-use Rattle.std.specs.Prelude.{◌⊎◌, ◌&&◌, nat_le, nat_lt, unwrap_or, IsSome, IsTrue}
+use Rattle.std.specs.Prelude.{◌⊎◌, ◌&&◌, nat_le, nat_lt, unwrap_or, IfSome, IsOk, IsSome, IsTrue}
 use Rattle.std.specs.List.{AllByRecursion, list_any}
 use Rattle.std.proofs.lemmas.List.Elements.{All-cons, All-nil}
 use Rattle.fts_tables.specs.Coming.{Coming}
@@ -13,7 +13,10 @@ use Rattle.fts_disk.specs.Disk.{DiskState, IsTold}
 use Rattle.fts_store.specs.Calls.{Call}
 use Rattle.fts_store.specs.Store.{StoreState}
 use Rattle.fts_turnstile.specs.History.{items_of}
-use Rattle.fts_keep.specs.Applied.{entry_by}
+use Rattle.fts_config.specs.Settings.{settings_of}
+use Rattle.fts_config.specs.declared.fault.SettingsFault.{SettingsFault}
+use Rattle.fts_keep.specs.Applied.{entry_by, fits}
+use Rattle.fts_keep.specs.Damage.{IsDamaged}
 use Rattle.fts_keep.specs.Keeps.{KeepData, with_doubt}
 use Rattle.fts_keep.specs.Started.{Starts, restarted, restart_at}
 use Rattle.fts_workers.proofs.Accepted.{legal_front}
@@ -27,7 +30,8 @@ use Rattle.fts_top.specs.Doors.{DoorsData}
 use Rattle.fts_top.specs.Ends.{status_of}
 use Rattle.fts_top.specs.Halls.{IsStationWorked}
 use Rattle.fts_top.specs.Lanes.{Sides}
-use Rattle.fts_top.specs.Openings.{AreOpened}
+use Rattle.fts_top.specs.Complete.{HasGoodSettings, IsUndamaged, RestartPasses, Stays}
+use Rattle.fts_top.specs.Openings.{AreOpened, SomeRose}
 use Rattle.fts_top.specs.Served.{end_when_served, served_end, severity_of, worse_of, worst_from, worst_of, are_doors_failed}
 use Rattle.fts_top.specs.Serves.{Closes, ClosesServed, ClosesUnserved, HoldsBehind, IsServingRun, ManyThreads, RunsServing, StopsUnstarted, WhyNoLane}
 use Rattle.fts_top.specs.Runs.{IsStop}
@@ -40,7 +44,8 @@ use Rattle.fts_top.specs.declared.tally.Tally.{Tally}
 use Rattle.fts_top.specs.declared.together.ServedEnd.{ServedEnd}
 use Rattle.fts_top.specs.declared.together.ServedEnd.TheVariants as served_ends
 use Rattle.fts_serving.specs.Ends.{IsOpenedBy, KeepTheLedger, KeptWhereServed, LeavesDisk, LeavesNothing, stations_before}
-use Rattle.fts_serving.proofs.Ledger.{ListLaws, StoreLaws, ledger}
+use Rattle.fts_serving.specs.Finishes.{BreaksNoRule, EndsWell, Finishes}
+use Rattle.fts_serving.proofs.Ledger.{ListLaws, StoreLaws, ends_well, ledger}
 
 -- opened lanes are as many
 pub opened_length : {A C L : Type 0} (doors : A → DoorsData L) (faults : A → ℕ) (count : ℕ) (olds news : List (Lane A C L)) → AreOpened doors faults count olds news
@@ -222,6 +227,86 @@ module _ {D A E C W L : Type 0} (state : D → DiskState) (faults : D → ℕ) (
               holds = behind.holds;
               nothing = subst LeavesNothing (sym (behind.listed ∙ ap (λ l. runs.keep.entries ++ l) served.1)) ((ledger_of serves served.1).nothing_left drained);
             }
+
+  -- what comes of a run that nothing was in the way of
+  module _ (lanes : ℕ) (connections : Option ℕ) (text : Option (List ℕ)) (before after : ManyThreads D A E C W L) (end : RunEnd) (tally : Tally)
+      (rules : BreaksNoRule text (state before.disk)) (disk_stays : Stays (faults before.disk) (faults after.disk))
+      (doors_stay : SomeRose door_faults before.lanes after.lanes → ⊥) (lanes_eight : length before.lanes ≡ 8) (few : lanes ≤ 8) (hands_sixteen : length before.hands ≡ 16)
+      (not_command : status_of end ≢ 2) (not_unread : status_of end ≢ 8) where
+    -- a text of settings that breaks no rule breaks none
+    not_broken : (given : Option (List ℕ)) (fault : SettingsFault) → HasGoodSettings given → IfSome given (λ bytes. settings_of bytes ≡ Err fault) → ⊥
+    not_broken None fault good is = good
+    not_broken (Some bytes) fault good is = clash (sym (subst (λ (r : Result SettingsData SettingsFault). IsOk r) is good))
+      where
+        clash : true ≡ false → ⊥
+        clash same = absurd cc
+
+    not_damaged : (offset : ℕ) → ((state before.disk).seen ≡ []) ⊎ IsUndamaged (state before.disk).seen
+        → (IsTold (state before.disk) → ((state before.disk).seen ≢ []) × IsDamaged (state before.disk).seen offset) → ⊥
+    not_damaged offset (inl empty) cause = (cause rules.told).0 empty
+    not_damaged offset (inr good) cause = good offset (cause rules.told).1
+
+    by_stop : (found : RunEnd) → end ≡ found → IsStop state faults text before.moments after.moments before.disk after.disk found
+        → (status_of end ≡ 1) ⊎ ((status_of end ≡ 11) × RestartPasses text (state before.disk) before.moments)
+    by_stop run_ends.NoCommand is stop = absurd (not_command (ap status_of is))
+    by_stop run_ends.SettingsUnread is stop = absurd (not_unread (ap status_of is))
+    by_stop (run_ends.SettingsRule rule) is stop = absurd (not_broken text stop.0.fault rules.settings stop.0.told)
+    by_stop run_ends.DiskFailed is stop = absurd (disk_stays stop.cause)
+    by_stop (run_ends.Damaged offset) is stop = absurd (not_damaged offset rules.journal stop.cause)
+    by_stop (run_ends.JournalFull used) is stop =
+        let own = stop.cause.1 rules.told in
+        inr (
+          ap status_of is,
+          record {
+            settings = stop.settings;
+            read = stop.read;
+            now = stop.now;
+            later = after.moments;
+            moment = stop.moment;
+            opening = own.0;
+            opens = own.1.0;
+            passes = subst (λ (n : ℕ). fits n (restart_at stop.now stop.settings) ≡ false) own.1.1 stop.cause.0;
+          },
+        )
+    by_stop run_ends.NoMemory is stop = inl (ap status_of is)
+    by_stop (run_ends.Session found) is stop = absurd stop
+    by_stop (run_ends.Shown whole) is stop = absurd stop
+    by_stop run_ends.SourcesUnmade is stop = absurd stop
+    by_stop run_ends.LineUnwritten is stop = absurd stop
+    by_stop run_ends.DoorsFailed is stop = absurd stop
+    by_stop (run_ends.Served found) is stop = absurd stop
+
+    by_unserved : (found : RunEnd) → end ≡ found → WhyNoLane door_faults before.lanes after.lanes found → status_of end ≡ 1
+    by_unserved run_ends.NoMemory is why = ap status_of is
+    by_unserved run_ends.DoorsFailed is why = absurd (doors_stay why)
+    by_unserved run_ends.NoCommand is why = absurd why
+    by_unserved run_ends.SettingsUnread is why = absurd why
+    by_unserved (run_ends.SettingsRule rule) is why = absurd why
+    by_unserved run_ends.DiskFailed is why = absurd why
+    by_unserved (run_ends.Damaged offset) is why = absurd why
+    by_unserved (run_ends.JournalFull used) is why = absurd why
+    by_unserved (run_ends.Session found) is why = absurd why
+    by_unserved (run_ends.Shown whole) is why = absurd why
+    by_unserved run_ends.SourcesUnmade is why = absurd why
+    by_unserved run_ends.LineUnwritten is why = absurd why
+    by_unserved (run_ends.Served found) is why = absurd why
+
+    pub finishes : (ran : IsServingRun state faults store_state store_calls store_faults sides doors door_faults moments words lanes connections end tally text before
+        after) → Finishes state faults store_state store_calls store_faults sides doors door_faults moments words ran
+    finishes (inl stops) = by_stop end refl stops.stop
+    finishes (inr runs) = by runs.serves.closes
+      where
+        by : (closes : Closes state faults store_state store_calls store_faults sides doors door_faults moments words lanes runs.settings.workers connections
+            runs.keep before.lanes before.hands after.lanes after.hands runs.serves.closed end runs.serves.added)
+            → EndsWell state faults store_state store_calls store_faults sides doors door_faults moments words closes
+        by (inl unserved) = by_unserved end refl unserved.0.why
+        by (inr served) = λ none_rises.
+            ends_well state faults store_state store_calls store_faults sides doors door_faults moments words lists laws served.0 runs.settings
+            (record { opening = runs.opening; now = runs.now; is = listed runs rules.told lanes_eight few hands_sixteen; kept = runs.kept })
+            (subst (λ l. IsLegal (runs.keep.entries ++ l)) served.1 (all_legal runs rules.told lanes_eight few hands_sixteen))
+            (omega (arith, few, lanes_eight, opened_length doors door_faults lanes before.lanes served.0.opened served.0.opens))
+            (omega (arith, (workers_range runs rules.told lanes_eight few hands_sixteen).1, hands_sixteen))
+            (workers_range runs rules.told lanes_eight few hands_sixteen).0 doors_stay none_rises
 
   pub run_leaves_disk : {lanes : ℕ} {connections : Option ℕ} {text : Option (List ℕ)} {before after : ManyThreads D A E C W L} {end : RunEnd} {tally : Tally}
       → IsServingRun state faults store_state store_calls store_faults sides doors door_faults moments words lanes connections end tally text before after

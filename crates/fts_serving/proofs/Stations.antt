@@ -108,6 +108,11 @@ module _ {E : Type 0} (store_state : E → StoreState) (store_calls : E → Opti
       turn_leaves_lanes old.pass done.between.pass new.pass done.between.hand new.hand done.between.held done.last new.held
       (turns_leave old.pass done.more old done.between (begun old.pass unseen) done.turns) done.ends
 
+  -- its pass is the same before its last turn
+  pub between_same : (old new : StationData E) → old.pass.seen ≡ [] → (done : WorkerDone store_state store_calls store_faults old new)
+      → IsSame old.pass done.between.pass
+  between_same old new unseen done = (turns_leave old.pass done.more old done.between (begun old.pass unseen) done.turns).same
+
 -- the last turn of a worker that ended drained: no lane was left, no row was eligible on the list so far, and nothing was added
 pub record FindsNone (pass : PassView Entry) : Type 0 where
   pub before : List (Turn Entry)

@@ -1,18 +1,21 @@
 //! The laws over lanes and workers that ran over one told list, as `fts_top` says what they did.
 //! A law is a function without parameters that does nothing: its clauses speak of every run. Who reads what `run` says of a run that serves calls it.
-ghost use Rattle.std.specs.Prelude.{◌≡◌, ◌≤◌, ℕ, List, ◌++◌, length, Option};
+ghost use Rattle.std.specs.Prelude.{◌≡◌, ◌≢◌, ◌⊎◌, ◌≤◌, ℕ, List, ◌++◌, length, Option};
 ghost use Rattle.fts_tables.specs.SettingsData.{SettingsData};
 ghost use Rattle.fts_tables.specs.History.{IsLegal};
 ghost use Rattle.fts_disk.specs.Disk.{IsTold};
 ghost use Rattle.fts_keep.specs.Keeps.{KeepData};
 ghost use Rattle.fts_shop.specs.Shops.{ShopData};
 ghost use Rattle.fts_workers.specs.declared.hand.Hand.{Hand};
+ghost use Rattle.fts_top.specs.Complete.{Stays};
 ghost use Rattle.fts_top.specs.Ends.{status_of};
+ghost use Rattle.fts_top.specs.Openings.{SomeRose};
 ghost use Rattle.fts_top.specs.Serves.{ClosesServed, IsServingRun, ManyThreads, RunsServing};
 ghost use Rattle.fts_top.specs.declared.ends.RunEnd.{RunEnd};
 ghost use Rattle.fts_top.specs.declared.lane.Lane.{Lane};
 ghost use Rattle.fts_top.specs.declared.tally.Tally.{Tally};
 ghost use Rattle.fts_serving.specs.Ends.{IsOpenedBy, KeepTheLedger, KeptWhereServed, LeavesDisk, entries_added};
+ghost use Rattle.fts_serving.specs.Finishes.{BreaksNoRule, DoorsRose, EachLane, Finishes, LinesAre};
 
 use fts_disk::Disk;
 use fts_idle::laws::idle_claims_find_none;
@@ -74,3 +77,52 @@ pub fn runs_that_serve_leave_nothing<D: Disk, E: Store, C: Clock, W: Words, A: D
     files_out_have_claimants();
     idle_claims_find_none();
 }
+
+/// A run that serves comes to its end: where what it is given is told and breaks no rule, no doors fail, the disk counts no failure at its start and
+/// none is shown in any turn, it ends with status 0; or memory was wanting, with status 1; or a record passes the journal's limit, with status 11. That
+/// the words are accepted and the settings could be read is what its status says, which is neither 2 nor 8.
+pub fn runs_that_serve_come_to_their_end<D: Disk, E: Store, C: Clock, W: Words, A: Doors>()
+    ensures ends { (lanes : ℕ) (connections : Option ℕ) (text : Option (List ℕ)) (before after : ManyThreads D A E C W A.Line) (end : RunEnd) (tally : Tally)
+        → BreaksNoRule text (D.state before.disk) → Stays (D.faults before.disk) (D.faults after.disk) → (SomeRose A.faults before.lanes after.lanes → ⊥)
+        → length before.lanes ≡ 8 → lanes ≤ 8 → length before.hands ≡ 16 → status_of end ≢ 2 → status_of end ≢ 8
+        → (ran : IsServingRun D.state D.faults E.state E.calls E.faults
+        (record { left = A.Line.Source.left; reads = A.Line.Source.reads; held = A.Line.Sink.held; read_faults = A.Line.Source.faults; write_faults = A.Line.Sink.faults })
+        A.doors A.faults C.moments W.words lanes connections end tally text before after)
+        → Finishes D.state D.faults E.state E.calls E.faults
+        (record { left = A.Line.Source.left; reads = A.Line.Source.reads; held = A.Line.Sink.held; read_faults = A.Line.Source.faults; write_faults = A.Line.Sink.faults })
+        A.doors A.faults C.moments W.words ran }
+{
+    turns_keep_the_ledger::<E>();
+    own_reports_disturb_nobody();
+    passes_see_one_list();
+    undisturbed_stores_follow::<E>();
+    files_out_have_claimants();
+    idle_claims_find_none();
+}
+
+/// Of each used lane whose doors' count didn't rise the lines are accounted for: its doors gave them in order and have them back, and none is to come, or
+/// they are as many as it may serve (`each`). So they are of every used lane, where the status is not 9 (`all`).
+pub fn lines_of_lanes_are_accounted_for<D: Disk, E: Store, C: Clock, W: Words, A: Doors>()
+    ensures each { (lanes workers : ℕ) (connections : Option ℕ) (keep : KeepData D) (before : List (Lane A C A.Line))
+        (hands : List (Hand E C W)) (after : List (Lane A C A.Line)) (hands_now : List (Hand E C W)) (closed : ShopData D) (end : RunEnd)
+        → (serves : ClosesServed D.state D.faults E.state E.calls E.faults
+        (record { left = A.Line.Source.left; reads = A.Line.Source.reads; held = A.Line.Sink.held; read_faults = A.Line.Source.faults; write_faults = A.Line.Sink.faults })
+        A.doors A.faults C.moments W.words lanes workers connections keep before hands after hands_now closed end)
+        → EachLane D.state D.faults E.state E.calls E.faults
+        (record { left = A.Line.Source.left; reads = A.Line.Source.reads; held = A.Line.Sink.held; read_faults = A.Line.Source.faults; write_faults = A.Line.Sink.faults })
+        A.doors A.faults C.moments W.words (λ old new. DoorsRose D.state D.faults E.state E.calls E.faults
+        (record { left = A.Line.Source.left; reads = A.Line.Source.reads; held = A.Line.Sink.held; read_faults = A.Line.Source.faults; write_faults = A.Line.Sink.faults })
+        A.doors A.faults C.moments W.words old new ⊎ LinesAre D.state D.faults E.state E.calls E.faults
+        (record { left = A.Line.Source.left; reads = A.Line.Source.reads; held = A.Line.Sink.held; read_faults = A.Line.Source.faults; write_faults = A.Line.Sink.faults })
+        A.doors A.faults C.moments W.words connections old new) serves }
+    ensures all { (lanes workers : ℕ) (connections : Option ℕ) (keep : KeepData D) (before : List (Lane A C A.Line))
+        (hands : List (Hand E C W)) (after : List (Lane A C A.Line)) (hands_now : List (Hand E C W)) (closed : ShopData D) (end : RunEnd)
+        → (serves : ClosesServed D.state D.faults E.state E.calls E.faults
+        (record { left = A.Line.Source.left; reads = A.Line.Source.reads; held = A.Line.Sink.held; read_faults = A.Line.Source.faults; write_faults = A.Line.Sink.faults })
+        A.doors A.faults C.moments W.words lanes workers connections keep before hands after hands_now closed end)
+        → status_of end ≢ 9 → EachLane D.state D.faults E.state E.calls E.faults
+        (record { left = A.Line.Source.left; reads = A.Line.Source.reads; held = A.Line.Sink.held; read_faults = A.Line.Source.faults; write_faults = A.Line.Sink.faults })
+        A.doors A.faults C.moments W.words (LinesAre D.state D.faults E.state E.calls E.faults
+        (record { left = A.Line.Source.left; reads = A.Line.Source.reads; held = A.Line.Sink.held; read_faults = A.Line.Source.faults; write_faults = A.Line.Sink.faults })
+        A.doors A.faults C.moments W.words connections) serves }
+{}

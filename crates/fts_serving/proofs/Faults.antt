@@ -1,0 +1,206 @@
+-- What a worker's last turn met, where it ended by the disk or by the journal's limit.
+use Rattle.std.proofs.Common.{◌≡◌, ◌≢◌, ◌⊎◌, refl, sym, ap, ◌∙◌, subst, inl, inr, ⊎_elim, ℕ, zero, suc, Bool, true, false, cond, List, [], ◌∷◌, ◌++◌, map, Option, Some, None, Result, Ok, Err, append_assoc}
+use Rattle.std.specs.Prelude.{IsOk, IsSome, if◌then◌else◌, nat_lt, unwrap_or}
+use Rattle.fts_tables.specs.Coming.{Coming}
+use Rattle.fts_tables.specs.Counts.{Rose}
+use Rattle.fts_tables.specs.Tables.{Tables}
+use Rattle.fts_tables.specs.Step.{Outcomes, step}
+use Rattle.fts_tables.specs.History.{tables_of}
+use Rattle.fts_tables.specs.declared.rows.FileState.{FileState}
+use Rattle.fts_tables.specs.declared.rows.FileState.TheVariants as state
+use Rattle.fts_tables.specs.declared.commands.Entry.{Entry}
+use Rattle.fts_tables.specs.declared.commands.Command.{Command}
+use Rattle.fts_tables.specs.declared.commands.Answer.{Answer}
+use Rattle.fts_tables.specs.declared.commands.Answer.TheVariants.{Restarted, Submitted, Cancelled, PrioritySet, Claimed, Reported}
+use Rattle.fts_store.specs.Calls.{Call}
+use Rattle.fts_store.specs.Store.{StoreState}
+use Rattle.fts_turnstile.specs.declared.turn.Turn.{Turn}
+use Rattle.fts_turnstile.specs.History.{items_of, shown_after}
+use Rattle.fts_turnstile.specs.Passes.{PassView, IsSame}
+use Rattle.fts_keep.specs.Keeps.{used_of}
+use Rattle.fts_keep.specs.Applied.{applied_by, entry_by, fits}
+use Rattle.fts_keep.specs.declared.fault.KeepFault.{KeepFault}
+use Rattle.fts_keep.specs.declared.fault.KeepFault.TheVariants.{Rule, DiskFailed, JournalFull, Damaged, Memory}
+use Rattle.fts_workers.specs.Rounds.{applied_over}
+use Rattle.fts_workers.specs.declared.held.Held.{Held}
+use Rattle.fts_shop.specs.Shops.{CameTo, HasFault, IsToldList, TriedInTurn, faults_shown, point}
+use Rattle.fts_shop.specs.Turns.{GoesOn, HandData, IsTurn, ReportsHeld, end_by_claim, end_by_fault, end_by_report, end_by_state, idle_end}
+use Rattle.fts_shop.specs.Workers.{end_without_lanes, worker_end_of}
+use Rattle.fts_shop.specs.declared.ends.Turn.{Turn as TurnEnd}
+use Rattle.fts_shop.specs.declared.ends.Turn.TheVariants as turn_ends
+use Rattle.fts_shop.specs.declared.ends.WorkerEnd.{WorkerEnd}
+use Rattle.fts_shop.specs.declared.ends.WorkerEnd.TheVariants as worker_ends
+
+-- a command was tried in the last turn that a pass has seen, over a told list
+pub record TriesLast (pass : PassView Entry) (result : Result Answer KeepFault) : Type 0 where
+  pub before : List (Turn Entry)
+  pub turn : Turn Entry
+  pub seen : pass.seen ≡ before ++ turn ∷ []
+  pub cause : result ≡ Err DiskFailed → Rose (faults_shown (shown_after pass.opening_shows before)) (faults_shown turn.shows)
+  pub entry : Entry
+  pub full : (used : ℕ) → result ≡ Err (JournalFull used) → applied_over (pass.opening ++ items_of before) entry ≡ Err (JournalFull used)
+
+-- so is each that is tried
+full_as : {old new : PassView Entry} {command : Command} {result : Result Answer KeepFault} {lanes : ℕ} (used : ℕ)
+    (tried : TriedInTurn old new command result lanes) → IsToldList old → result ≡ Err (JournalFull used)
+    → applied_over (point tried.taken) (entry_by old.number command) ≡ Err (JournalFull used)
+full_as {old} {command = command} used tried told is =
+    subst (λ (r : Result Answer KeepFault). CameTo (applied_over (point tried.taken) (entry_by old.number command)) (HasFault tried.taken) r) is (tried.came told)
+
+pub tries_last : {old new : PassView Entry} {command : Command} {result : Result Answer KeepFault} {lanes : ℕ} → IsToldList old
+    → TriedInTurn old new command result lanes → TriesLast new result
+tries_last {old} {new} {command} {result} {lanes} told tried = record {
+  before = old.seen ++ tried.taken.between;
+  turn = tried.taken.turn;
+  seen = tried.taken.seen;
+  cause = λ failed. subst (λ s. Rose (faults_shown (shown_after s (old.seen ++ tried.taken.between))) (faults_shown tried.taken.turn.shows))
+      (sym tried.taken.same.2) (tried.cause failed);
+  entry = entry_by old.number command;
+  full = λ used is. subst (λ o. applied_over (o ++ items_of (old.seen ++ tried.taken.between)) (entry_by old.number command) ≡ Err (JournalFull used))
+      (sym tried.taken.same.1) (full_as used tried told is);
+}
+
+-- the fault by which a turn ended
+abbrev pub fault_of : TurnEnd → Option KeepFault
+fault_of turn_ends.Idle = None
+fault_of turn_ends.Stopping = None
+fault_of (turn_ends.Done file) = None
+fault_of (turn_ends.Failed file) = None
+fault_of (turn_ends.Retried file) = None
+fault_of (turn_ends.Cancelled file) = None
+fault_of (turn_ends.Stale file) = None
+fault_of (turn_ends.DiskFailed lanes) = Some DiskFailed
+fault_of (turn_ends.JournalFull used lanes) = Some (JournalFull used)
+fault_of (turn_ends.Memory lanes) = None
+
+-- it is that of the command that was tried
+state_fault : (file : ℕ) (left : FileState) (fault : KeepFault) → fault_of (end_by_state file left) ≡ Some fault → ⊥
+state_fault file state.Finished fault is = absurd cc
+state_fault file state.Failed fault is = absurd cc
+state_fault file state.Submitted fault is = absurd cc
+state_fault file state.Canceled fault is = absurd cc
+state_fault file state.Active fault is = absurd cc
+state_fault file state.NotUsed fault is = absurd cc
+
+report_fault : (file lanes : ℕ) (result : Result Answer KeepFault) (fault : KeepFault) → fault_of (end_by_report file lanes result) ≡ Some fault
+    → result ≡ Err fault
+report_fault file lanes (Ok (Reported reported left)) fault is = absurd (state_fault file left fault is)
+report_fault file lanes (Ok (Restarted released)) fault is = absurd cc
+report_fault file lanes (Ok (Submitted job id)) fault is = absurd cc
+report_fault file lanes (Ok (Cancelled job)) fault is = absurd cc
+report_fault file lanes (Ok (PrioritySet job)) fault is = absurd cc
+report_fault file lanes (Ok (Claimed claimed attempt)) fault is = absurd cc
+report_fault file lanes (Err DiskFailed) fault is = cc
+report_fault file lanes (Err (JournalFull used)) fault is = cc
+report_fault file lanes (Err Memory) fault is = absurd cc
+report_fault file lanes (Err (Rule refusal)) fault is = absurd cc
+report_fault file lanes (Err (Damaged offset)) fault is = absurd cc
+
+idle_fault : (lanes : ℕ) (fault : KeepFault) → fault_of (idle_end lanes) ≡ Some fault → ⊥
+idle_fault zero fault is = absurd cc
+idle_fault (suc more) fault is = absurd cc
+
+claim_fault : (lanes : ℕ) (found fault : KeepFault) → fault_of (end_by_claim lanes found) ≡ Some fault
+    → ◌≡◌ {A = Result Answer KeepFault} (Err found) (Err fault)
+claim_fault lanes DiskFailed fault is = cc
+claim_fault lanes (JournalFull used) fault is = cc
+claim_fault lanes Memory fault is = absurd cc
+claim_fault lanes (Rule refusal) fault is = absurd (idle_fault lanes fault is)
+claim_fault lanes (Damaged offset) fault is = absurd cc
+
+-- the last command that was tried failed so
+pub record FailsLast (pass : PassView Entry) (fault : KeepFault) : Type 0 where
+  pub result : Result Answer KeepFault
+  pub tries : TriesLast pass result
+  pub is : result ≡ Err fault
+
+module _ {E : Type 0} (store_state : E → StoreState) (store_calls : E → Option (List Call)) (store_faults : E → ℕ) where
+  reports_fail : (old new : PassView Entry) (moments later : Option Coming) (held : List Held) (end : TurnEnd) (left : List Held) (fault : KeepFault)
+      → IsToldList old → ReportsHeld old new moments later held end left → fault_of end ≡ Some fault → FailsLast new fault
+  reports_fail old new moments later [] end left fault told reported is = absurd reported
+  reports_fail old new moments later (held ∷ []) end left fault told reported is = record {
+    result = reported.1.result;
+    tries = tries_last told reported.1.tried;
+    is = report_fault held.file reported.1.lanes reported.1.result fault (sym (ap fault_of reported.1.ends) ∙ is);
+  }
+  reports_fail old new moments later (held ∷ next ∷ others) end left fault told reported is = absurd reported
+
+  goes_fail : (old claimed new : PassView Entry) (command : Command) (lanes : ℕ) (result : Result Answer KeepFault) (hand after : HandData E) (end : TurnEnd) (left : List Held)
+      (fault : KeepFault) → IsToldList old → TriedInTurn old claimed command result lanes
+      → GoesOn store_state store_calls store_faults lanes result claimed new hand after end left → fault_of end ≡ Some fault → FailsLast new fault
+  goes_fail old claimed new command lanes (Ok (Claimed file attempt)) hand after end left fault told tried goes is = record {
+    result = goes.reported.result;
+    tries = tries_last (λ none. told (sym tried.taken.same.1 ∙ sym goes.copied.same.1 ∙ none)) goes.reported.tried;
+    is = report_fault file goes.reported.lanes goes.reported.result fault (sym (ap fault_of goes.reported.ends) ∙ is);
+  }
+  goes_fail old claimed new command lanes (Ok (Restarted released)) hand after end left fault told tried goes is = absurd goes
+  goes_fail old claimed new command lanes (Ok (Submitted job id)) hand after end left fault told tried goes is = absurd goes
+  goes_fail old claimed new command lanes (Ok (Cancelled job)) hand after end left fault told tried goes is = absurd goes
+  goes_fail old claimed new command lanes (Ok (PrioritySet job)) hand after end left fault told tried goes is = absurd goes
+  goes_fail old claimed new command lanes (Ok (Reported file left_in)) hand after end left fault told tried goes is = absurd goes
+  goes_fail old claimed new command lanes (Err found) hand after end left fault told tried goes is = record {
+    result = Err found;
+    tries = subst (λ pass. TriesLast pass (Err found)) (sym goes.1.pass) (tries_last told tried);
+    is = claim_fault lanes found fault (sym (ap fault_of goes.0) ∙ is);
+  }
+
+  -- a turn that ends by a fault
+  pub turn_fails : (old new : PassView Entry) (hand after : HandData E) (held : List Held) (end : TurnEnd) (left : List Held) (fault : KeepFault) → IsToldList old
+      → IsTurn store_state store_calls store_faults old new hand after held end left → fault_of end ≡ Some fault → FailsLast new fault
+  turn_fails old new hand after [] end left fault told turn is =
+      goes_fail old turn.claimed new _ turn.lanes turn.result turn.behind after end left fault told turn.tried turn.goes_on is
+  turn_fails old new hand after (held ∷ others) end left fault told turn is =
+      reports_fail old new hand.moments after.moments (held ∷ others) end left fault told turn.reported is
+
+-- the fault by which a worker ended, by its last turn
+abbrev pub worker_fault : WorkerEnd → Option KeepFault
+worker_fault worker_ends.Drained = None
+worker_fault worker_ends.Memory = None
+worker_fault worker_ends.DiskFailed = Some DiskFailed
+worker_fault (worker_ends.JournalFull used) = Some (JournalFull used)
+
+without_lanes : (lanes : ℕ) (end other : WorkerEnd) → end_without_lanes lanes end ≡ Some other → end ≡ other
+without_lanes zero end other is = cc
+without_lanes (suc more) end other is = absurd cc
+
+pub last_fault : (last : TurnEnd) (end : WorkerEnd) (fault : KeepFault) → worker_end_of last ≡ Some end → worker_fault end ≡ Some fault → fault_of last ≡ Some fault
+last_fault turn_ends.Idle end fault is by = absurd cc
+last_fault turn_ends.Stopping end fault is by =
+    let same : worker_ends.Drained ≡ end = cc in
+    absurd (none_some fault (ap worker_fault same ∙ by))
+  where
+    none_some : (fault : KeepFault) → ◌≡◌ {A = Option KeepFault} None (Some fault) → ⊥
+    none_some fault is = absurd cc
+last_fault (turn_ends.Done file) end fault is by = absurd cc
+last_fault (turn_ends.Failed file) end fault is by = absurd cc
+last_fault (turn_ends.Retried file) end fault is by = absurd cc
+last_fault (turn_ends.Cancelled file) end fault is by = absurd cc
+last_fault (turn_ends.Stale file) end fault is by = absurd cc
+last_fault (turn_ends.DiskFailed lanes) end fault is by = ap worker_fault (without_lanes lanes worker_ends.DiskFailed end is) ∙ by
+last_fault (turn_ends.JournalFull used lanes) end fault is by = ap worker_fault (without_lanes lanes (worker_ends.JournalFull used) end is) ∙ by
+last_fault (turn_ends.Memory lanes) end fault is by =
+    absurd (none_some fault (ap worker_fault (without_lanes lanes worker_ends.Memory end is) ∙ by))
+  where
+    none_some : (fault : KeepFault) → ◌≡◌ {A = Option KeepFault} None (Some fault) → ⊥
+    none_some fault is = absurd cc
+
+-- what didn't fit was accepted by the machine
+unfit : (fit : Bool) (used full : ℕ) (found : Tables × Answer)
+    → (if fit then Ok found else Err (JournalFull used)) ≡ Err (JournalFull full) → fit ≡ false
+unfit true used full found is = absurd cc
+unfit false used full found is = refl
+
+pub full_by : (used full : ℕ) (entry : Entry) (came : Outcomes) → applied_by used entry came ≡ Err (JournalFull full) → IsOk came × (fits used entry ≡ false)
+full_by used full entry (Ok found) is = (refl, unfit (fits used entry) used full found is)
+full_by used full entry (Err refusal) is = absurd cc
+
+-- a worker that ended by a fault, in the list of all turns
+pub record Failed (first : PassView Entry) (turns : List (Turn Entry)) (fault : KeepFault) : Type 0 where
+  pub before : List (Turn Entry)
+  pub turn : Turn Entry
+  pub later : List (Turn Entry)
+  pub is : turns ≡ before ++ turn ∷ later
+  pub cause : fault ≡ DiskFailed → Rose (faults_shown (shown_after first.opening_shows before)) (faults_shown turn.shows)
+  pub entry : Entry
+  pub full : (used : ℕ) → fault ≡ JournalFull used
+      → applied_over (first.opening ++ items_of before) entry ≡ Err (JournalFull used)
