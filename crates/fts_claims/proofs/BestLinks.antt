@@ -1,11 +1,11 @@
 -- The link of a claim: by the queues and by the rows it is the same.
-use Rattle.std.proofs.Common.{◌≡◌, ℕ, suc, ◌+◌, ◌<◌, ◌≤◌, Bool, true, false, cond, List, [], ◌∷◌, length, map, Option, Some, None, refl, ap, sym, ◌∙◌, subst, arith}
-use Rattle.std.specs.Prelude.{not, ◌&&◌, ◌||◌, ◌==◌, nat_lt, nat_le, bytes_eq, is_some, filter, find, option_map}
+use Rattle.std.proofs.Common.{◌≡◌, ℕ, ◌<◌, Bool, true, false, cond, List, [], ◌∷◌, length, Option, Some, None, refl, ap, sym, ◌∙◌, arith}
+use Rattle.std.specs.Prelude.{not, ◌&&◌, ◌||◌, ◌==◌, nat_le, bytes_eq, is_some, filter, find, option_map}
 use Rattle.std.specs.List.{list_any, AllByRecursion}
 use Rattle.std.specs.Option.{option_map_or}
 use Rattle.std.specs.declared.cmp.Ordering.{Ordering}
 use Rattle.std.specs.declared.cmp.Ordering.TheVariants.{Less, Equal, Greater}
-use Rattle.std.specs.Ordering.{nat_cmp, is_lt, is_eq, ordering_then}
+use Rattle.std.specs.Ordering.{nat_cmp, is_eq, ordering_then}
 use Rattle.std.specs.Cmp.{IsTotalOrder, on_total, then_total}
 use Rattle.std.specs.Cmp.Lexicographic.{slice_cmp, on_texts}
 use Rattle.std.proofs.lemmas.Cmp.{nat_cmp_total}
@@ -22,13 +22,13 @@ use Rattle.fts_slots.specs.SlotsData.{name_at}
 use Rattle.fts_queue.specs.declared.waiter.Waiter.{Waiter}
 use Rattle.fts_queue.specs.declared.rooms.Room.{Room}
 use Rattle.fts_queue.specs.WaitingData.{AreWaiting, in_order, is_in, waiting_in, is_room_of, room_of}
-use Rattle.fts_claims.specs.Ties.{ClaimData, AreTied, waiter_of, is_waiter, waiters_of, link_of, activity_of, endpoint_place}
+use Rattle.fts_claims.specs.Ties.{ClaimData, AreTied, waiter_of, is_waiter, waiters_of, link_of, activity_of}
 use Rattle.fts_claims.specs.Claims.{tables_of, is_inside, has_slots_between, may_start, is_open, is_on, is_under, is_open_in, has_chance, chances}
 use Rattle.fts_claims.specs.Claims.{is_link_before as is_place_link_before}
-use Rattle.fts_claims.proofs.Lists.{list_any-map, list_any-filter, any-weaker, all-weaker, all-filter, all-map, all-free, Stands, all-stand, or_true}
+use Rattle.fts_claims.proofs.Lists.{list_any-map, list_any-filter, any-weaker, all-weaker, all-filter, all-map, all-free, Stands, all-stand}
 use Rattle.fts_claims.proofs.LeastKeys.{least_keys}
-use Rattle.fts_claims.proofs.NamedPlaces.{text-same, text-refl, text-swap}
-use Rattle.fts_claims.proofs.TiedRows.{found_any, link_alike, activity_alike, known_place}
+use Rattle.fts_claims.proofs.NamedPlaces.{text-same, text-refl}
+use Rattle.fts_claims.proofs.TiedRows.{found_any, activity_alike, known_place}
 
 -- the names of a row's ends
 abbrev pub names_of_row : FileRow → LinkNames

@@ -2,8 +2,9 @@ pub mod Lists
 pub mod NamedPlaces
 pub mod LeastKeys
 pub mod TiedRows
-pub mod Waiters
+pub mod OpenWaiters
 pub mod TiedSlots
 pub mod BestLinks
 pub mod Picked
 pub mod PlacesInOrder
+pub mod OneMore

@@ -1,12 +1,12 @@
 -- The row that is picked on the best link is the one that the machine picks.
-use Rattle.std.proofs.Common.{◌≡◌, ℕ, ◌+◌, ◌<◌, Bool, true, false, cond, List, [], ◌∷◌, length, take, map, Option, Some, None, refl, ap, sym, ◌∙◌, subst, arith, inl, inr}
+use Rattle.std.proofs.Common.{◌≡◌, ℕ, ◌+◌, ◌<◌, Bool, true, false, cond, List, length, take, map, Option, Some, None, refl, ap, sym, ◌∙◌, subst, arith, inl, inr}
 use Rattle.std.specs.Prelude.{not, ◌&&◌, nat_le, bytes_eq, filter, slice_get, option_map, option_and_then, IfSome}
 use Rattle.std.specs.List.{list_any}
 use Rattle.std.proofs.Math.Path.{fun_ext}
 use Rattle.std.proofs.lemmas.Bool.{and_parts, and_right}
 use Rattle.std.specs.Option.{option_map_or}
 use Rattle.std.proofs.lemmas.Option.{same_Some, slice_get_cases, slice_get_within, get_or_from_slice_get}
-use Rattle.fts_tables.specs.SettingsData.{SettingsData, IsSettings}
+use Rattle.fts_tables.specs.SettingsData.{IsSettings}
 use Rattle.fts_tables.specs.Tables.{is_submitted, is_same_link}
 use Rattle.fts_tables.specs.Limits.{has_slots, has_known_ends, is_dest_busy, is_eligible, eligible_rows}
 use Rattle.fts_tables.specs.Choice.{least, draw, has_activity, is_row_before, is_link_before, pick_of_link, pick}
@@ -23,7 +23,7 @@ use Rattle.fts_claims.specs.Claims.{tables_of, is_inside, may_start, is_open, is
 use Rattle.fts_claims.specs.Claims.{is_link_before as is_place_link_before}
 use Rattle.fts_claims.proofs.Lists.{filter-filter, list_any-filter, filter-alike, all-free, least_more}
 use Rattle.fts_claims.proofs.NamedPlaces.{text-swap}
-use Rattle.fts_claims.proofs.BestLinks.{names_of_row, names_of_link, on_names, slots_on, best_link}
+use Rattle.fts_claims.proofs.BestLinks.{names_of_row, names_of_link, slots_on, best_link}
 
 -- on a link with slots it is all one whether slots are asked of its rows
 without_slots : (first slots known free on : Bool) → (on ≡ true → slots ≡ true) → ((((first && slots) && known) && free) && on) ≡ (((first && known) && free) && on)

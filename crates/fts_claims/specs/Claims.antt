@@ -1,21 +1,24 @@
 -- The search of a claim over queues: which rows a queue gives, which links have one, and which goes first.
-use Rattle.std.specs.Prelude.{ℕ, Bool, true, false, not, ◌&&◌, ◌-◌, nat_lt, nat_le, List, length, map, filter, slice_get, Option, Some, None, option_and_then}
+use Rattle.std.specs.Prelude.{◌≡◌, ◌+◌, count_by, if◌then◌else◌, ℕ, Bool, true, false, not, ◌&&◌, ◌-◌, nat_lt, nat_le, List, length, map, filter, slice_get, Option, Some, None, option_and_then}
 use Rattle.std.specs.List.{list_any}
 use Rattle.std.specs.Option.{option_map_or}
 use Rattle.std.specs.Ordering.{nat_cmp, ordering_then, is_lt}
 use Rattle.std.specs.Cmp.Lexicographic.{slice_cmp}
 use Rattle.fts_tables.specs.SettingsData.{SettingsData}
-use Rattle.fts_tables.specs.Tables.{Tables, is_submitted}
+use Rattle.fts_tables.specs.Tables.{Tables, is_submitted, is_active}
 use Rattle.fts_tables.specs.Limits.{held, out_of, into, link_limit, outbound_limit, inbound_limit, is_on_link, has_known_ends, is_dest_busy}
 use Rattle.fts_tables.specs.Choice.{least, draw, has_activity, is_row_before}
 use Rattle.fts_tables.specs.declared.settings.LinkAt.{LinkAt}
 use Rattle.fts_tables.specs.declared.settings.Weight.{Weight}
+use Rattle.fts_tables.specs.declared.places.Place.{Place}
 use Rattle.fts_tables.specs.declared.rows.FileRow.{FileRow}
 use Rattle.fts_tables.specs.declared.rows.JobRow.{JobRow}
 use Rattle.fts_slots.specs.SlotsData.{name_at}
+use Rattle.fts_queue.specs.WaitingData.{with_waiter}
 use Rattle.fts_claims.specs.BusyData.{is_busy}
-use Rattle.fts_claims.specs.Ties.{ClaimData}
+use Rattle.fts_claims.specs.Ties.{ClaimData, link_of, waiter_of, is_waiter}
 use Rattle.fts_claims.specs.declared.claim_view.ClaimView.{ClaimView}
+use Rattle.fts_claims.specs.declared.parts.ClaimParts.{ClaimParts}
 
 -- what contracts see of a view
 abbrev pub claim_data : ClaimView → ClaimData
@@ -27,6 +30,28 @@ claim_data view = record {
   jobs = view.jobs.now;
   settings = view.settings.now;
 }
+
+-- the same of what was made beside these rows, jobs and settings
+abbrev pub parts_data : ClaimParts → List FileRow → List JobRow → SettingsData → ClaimData
+parts_data parts rows jobs settings = record {
+  waiting = parts.waiting;
+  slots = parts.slots;
+  busy = parts.busy;
+  rows = rows;
+  jobs = jobs;
+  settings = settings;
+}
+
+-- a row's part was added: its file where it waits, its slot and its destination where it runs, and then its ends are listed
+pub record HasRow (settings : SettingsData) (jobs : List JobRow) (row : FileRow) (old new : ClaimParts) : Type 0 where
+  pub waiting : new.waiting.waiters
+      ≡ (if is_waiter settings row then with_waiter (waiter_of settings jobs row) old.waiting.waiters else old.waiting.waiters)
+  pub limits : new.slots.settings ≡ old.slots.settings
+  pub slots : (test : LinkAt → Bool)
+      → count_by test new.slots.links ≡ count_by test old.slots.links + (if is_active row.state && test (link_of settings row) then 1 else 0)
+  pub busy : (test : Place → Bool)
+      → count_by test new.busy.places ≡ count_by test old.busy.places + (if is_active row.state && test row.dest then 1 else 0)
+  pub known : is_active row.state ≡ true → has_known_ends (Some settings) row ≡ true
 
 -- the machine's tables of these rows, jobs and settings, at no moment: what a claim picks depends on no more of them
 abbrev pub tables_of : ClaimData → Tables

@@ -5,7 +5,6 @@ use Rattle.fts_tables.specs.SettingsData.{SettingsData}
 use Rattle.fts_tables.specs.Tables.{AreNumberedFrom, is_submitted, is_active}
 use Rattle.fts_tables.specs.Limits.{has_known_ends}
 use Rattle.fts_tables.specs.Choice.{counted_under, priority_of}
-use Rattle.fts_tables.specs.declared.places.Place.{Place}
 use Rattle.fts_tables.specs.declared.rows.FileRow.{FileRow}
 use Rattle.fts_tables.specs.declared.rows.JobRow.{JobRow}
 use Rattle.fts_tables.specs.declared.settings.LinkAt.{LinkAt}

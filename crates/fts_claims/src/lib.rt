@@ -1,6 +1,7 @@
 //! Which file a claim takes, found over the files that wait, the slots taken and the busy destinations, in place of a walk over all rows.
 //! `pick_waiter` is the machine's pick: exactly the file that the definition takes over all rows. What it needs is that its view is tied to these
 //! rows (`AreTied`): who keeps rows keeps the three beside them in step.
+//! `ClaimParts::of_rows` makes the three from rows, tied to them.
 //! `Busy` holds the destinations of the files that run, in order.
 //! For the desk's claims. It changes nothing, and knows nothing of commands and journals.
 #![tactic(auto)]
@@ -9,10 +10,11 @@ mod busy;
 mod claim_view;
 mod links;
 mod open_files;
+mod parts;
 mod pick;
-#[cfg(test)]
-mod tests;
+mod waiters;
 
 pub use busy::Busy;
 pub use claim_view::ClaimView;
+pub use parts::ClaimParts;
 pub use pick::pick_waiter;

@@ -1,5 +1,5 @@
 -- A turn of the loop over the queues, and its end.
-use Rattle.std.proofs.Common.{◌≡◌, ◌≤◌, Bool, cond, Some, Option, List, length, take, map, ap, sym, ◌∙◌, arith}
+use Rattle.std.proofs.Common.{◌≤◌, Bool, cond, Some, Option, List, length, map, ap, sym, ◌∙◌, arith}
 use Rattle.std.specs.Prelude.{filter}
 use Rattle.std.proofs.lemmas.List.{take_all}
 use Rattle.fts_tables.specs.Choice.{least}

@@ -1,1 +1,0 @@
-//! Each call with ample memory.
