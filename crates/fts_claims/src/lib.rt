@@ -12,6 +12,8 @@ mod links;
 mod open_files;
 mod parts;
 mod pick;
+#[cfg(test)]
+mod tests;
 mod waiters;
 
 pub use busy::Busy;
