@@ -9,17 +9,21 @@ seconds=${3:-3}
 work=$(mktemp -d "$(pwd)/submissions.XXXXXX")
 trap 'kill $(jobs -p) 2>/dev/null || true; wait; rm -rf "$work"' EXIT
 cd "$work"
-mkdir -p stand/grid
+mkdir -p stand/grid/https:,,a.example
+truncate -s 4G stand/grid/https:,,a.example/large
 printf 'vo = "demo"\nworkers = 1\n[[storage]]\nurl = "https://a.example"\n[[storage]]\nurl = "https://b.example"\n' > stand/fts.toml
-# of files that have no source, so that next to nothing is copied
+# the one worker copies a large file meanwhile, so that no other is claimed, and each submission is one entry of the journal
+large='{"files":[{"sources":["https://a.example/large"],"destinations":["https://b.example/large"]}]}'
 cat > post.lua <<'LUA'
 wrk.method = "POST"
 wrk.body = [[{"files":[{"sources":["https://a.example/none"],"destinations":["https://b.example/f1"]}]}]]
 LUA
 for round in 1 2 3; do
-    rm -f stand/fts.journal
+    rm -rf stand/fts.journal stand/grid/https:,,b.example
     "$program" stand serve --port 18080 --lanes 4 & service=$!
     for _ in $(seq 100); do curl -sf -m 2 -o /dev/null http://127.0.0.1:18080/jobs && break; sleep 0.05; done
+    curl -sS -o /dev/null http://127.0.0.1:18080/jobs -d "$large"
+    sleep 0.3
     ours=$(wrk -t4 -c4 -d"${seconds}s" -s post.lua http://127.0.0.1:18080/jobs | awk '/Requests\/sec/ { print $2 }')
     kill $service; wait $service 2>/dev/null || true
     theirs=$("$journal" 3000 | sed 's/.*journal \([0-9]*\),.*/\1/')
