@@ -15,27 +15,42 @@ use std::io;
 
 /// A submission of one file, a priority for it, a submission of two files, their cancellation, and a look at both jobs.
 const FIVE: &str =
-    "POST /jobs HTTP/1.1\r\nContent-Length: 93\r\n\r\n{\"files\":[{\"sources\":[\"https://a.example/data/f1\"],\"destinations\":[\"https://b.example/f1\"]}]}POST /jobs/00000000-0000-4000-8000-000000000001 HTTP/1.1\r\nContent-Length: 25\r\n\r\n{\"params\":{\"priority\":5}}POST /jobs HTTP/1.1\r\nContent-Length: 175\r\n\r\n{\"files\":[{\"sources\":[\"https://a.example/data/f2\"],\"destinations\":[\"https://b.example/f2\"]},{\"sources\":[\"https://a.example/data/f3\"],\"destinations\":[\"https://b.example/f3\"]}]}DELETE /jobs/00000000-0000-4000-8000-000000000002 HTTP/1.1\r\n\r\nGET /jobs HTTP/1.1\r\n\r\n";
+    "POST /jobs HTTP/1.1\r\nContent-Length: 93\r\n\r\n{\"files\":[{\"sources\":[\"https://a.example/data/f1\"],\
+     \"destinations\":[\"https://b.example/f1\"]}]}\
+     POST /jobs/00000000-0000-4000-8000-000000000001 HTTP/1.1\r\nContent-Length: 25\r\n\r\n{\"params\":{\"priority\":5}}\
+     POST /jobs HTTP/1.1\r\nContent-Length: 175\r\n\r\n{\"files\":[{\"sources\":[\"https://a.example/data/f2\"],\
+     \"destinations\":[\"https://b.example/f2\"]},{\"sources\":[\"https://a.example/data/f3\"],\
+     \"destinations\":[\"https://b.example/f3\"]}]}\
+     DELETE /jobs/00000000-0000-4000-8000-000000000002 HTTP/1.1\r\n\r\n\
+     GET /jobs HTTP/1.1\r\n\r\n";
 
 /// A submission of one file, without `overwrite`.
 const KEEPING: &str =
-    "POST /jobs HTTP/1.1\r\nContent-Length: 93\r\n\r\n{\"files\":[{\"sources\":[\"https://a.example/data/f1\"],\"destinations\":[\"https://b.example/f1\"]}]}";
+    "POST /jobs HTTP/1.1\r\nContent-Length: 93\r\n\r\n{\"files\":[{\"sources\":[\"https://a.example/data/f1\"],\
+     \"destinations\":[\"https://b.example/f1\"]}]}";
 
 /// The same with `overwrite`.
 const REPLACING: &str =
-    "POST /jobs HTTP/1.1\r\nContent-Length: 121\r\n\r\n{\"files\":[{\"sources\":[\"https://a.example/data/f1\"],\"destinations\":[\"https://b.example/f1\"]}],\"params\":{\"overwrite\":true}}";
+    "POST /jobs HTTP/1.1\r\nContent-Length: 121\r\n\r\n{\"files\":[{\"sources\":[\"https://a.example/data/f1\"],\
+     \"destinations\":[\"https://b.example/f1\"]}],\"params\":{\"overwrite\":true}}";
 
 /// A look at the file, three times: it waits, it is copied, and it is done.
-const LOOKS: &str =
-    "GET /jobs/00000000-0000-4000-8000-000000000001/files HTTP/1.1\r\n\r\nGET /jobs/00000000-0000-4000-8000-000000000001/files HTTP/1.1\r\n\r\nGET /jobs/00000000-0000-4000-8000-000000000001/files HTTP/1.1\r\n\r\n";
+const LOOKS: &str = "GET /jobs/00000000-0000-4000-8000-000000000001/files HTTP/1.1\r\n\r\n\
+     GET /jobs/00000000-0000-4000-8000-000000000001/files HTTP/1.1\r\n\r\n\
+     GET /jobs/00000000-0000-4000-8000-000000000001/files HTTP/1.1\r\n\r\n";
 
 /// How the last look shows it, where the destination may not be replaced.
 const EXISTS: &str =
-    "[{\"activity\":\"default\",\"attempt\":2,\"cancel_asked\":false,\"checksum\":\"\",\"dest_surl\":\"https://b.example/f1\",\"digest\":\"\",\"file_id\":1,\"file_index\":0,\"file_state\":\"FAILED\",\"filesize\":0,\"not_before\":0,\"reason\":\"destination exists\",\"source_surl\":\"https://a.example/data/f1\"}]";
+    "[{\"activity\":\"default\",\"attempt\":2,\"cancel_asked\":false,\"checksum\":\"\",\
+     \"dest_surl\":\"https://b.example/f1\",\"digest\":\"\",\"file_id\":1,\"file_index\":0,\"file_state\":\"FAILED\",\
+     \"filesize\":0,\"not_before\":0,\"reason\":\"destination exists\",\"source_surl\":\"https://a.example/data/f1\"}]";
 
 /// And where it may.
 const REPLACED: &str =
-    "[{\"activity\":\"default\",\"attempt\":2,\"cancel_asked\":false,\"checksum\":\"\",\"dest_surl\":\"https://b.example/f1\",\"digest\":\"900150983cd24fb0d6963f7d28e17f72\",\"file_id\":1,\"file_index\":0,\"file_state\":\"FINISHED\",\"filesize\":3,\"not_before\":0,\"reason\":\"\",\"source_surl\":\"https://a.example/data/f1\"}]";
+    "[{\"activity\":\"default\",\"attempt\":2,\"cancel_asked\":false,\"checksum\":\"\",\
+     \"dest_surl\":\"https://b.example/f1\",\"digest\":\"900150983cd24fb0d6963f7d28e17f72\",\"file_id\":1,\"file_index\":0,\
+     \"file_state\":\"FINISHED\",\"filesize\":3,\"not_before\":0,\"reason\":\"\",\
+     \"source_surl\":\"https://a.example/data/f1\"}]";
 
 /// The calls of the disk that make a journal, and those of each entry.
 const MADE: usize = 3;

@@ -25,16 +25,23 @@ const ACCEPTED: &str =
     "HTTP/1.1 200 OK\r\nContent-Type: application/json\r\nContent-Length: 49\r\n\r\n{\"job_id\":\"00000000-0000-4000-8000-000000000001\"}";
 
 const ACTIVE: &str =
-    "HTTP/1.1 200 OK\r\nContent-Type: application/json\r\nContent-Length: 166\r\n\r\n{\"job_id\":\"00000000-0000-4000-8000-000000000001\",\"job_state\":\"ACTIVE\",\"kind\":\"plain\",\"priority\":3,\"retry\":0,\"retry_delay\":0,\"submit_time\":1700000000,\"vo_name\":\"demo\"}";
+    "HTTP/1.1 200 OK\r\nContent-Type: application/json\r\nContent-Length: 166\r\n\r\n\
+     {\"job_id\":\"00000000-0000-4000-8000-000000000001\",\"job_state\":\"ACTIVE\",\"kind\":\"plain\",\"priority\":3,\
+     \"retry\":0,\"retry_delay\":0,\"submit_time\":1700000000,\"vo_name\":\"demo\"}";
 
 const RETRIED: &str =
-    "HTTP/1.1 200 OK\r\nContent-Type: application/json\r\nContent-Length: 166\r\n\r\n{\"job_id\":\"00000000-0000-4000-8000-000000000001\",\"job_state\":\"ACTIVE\",\"kind\":\"plain\",\"priority\":3,\"retry\":1,\"retry_delay\":0,\"submit_time\":1700000000,\"vo_name\":\"demo\"}";
+    "HTTP/1.1 200 OK\r\nContent-Type: application/json\r\nContent-Length: 166\r\n\r\n\
+     {\"job_id\":\"00000000-0000-4000-8000-000000000001\",\"job_state\":\"ACTIVE\",\"kind\":\"plain\",\"priority\":3,\
+     \"retry\":1,\"retry_delay\":0,\"submit_time\":1700000000,\"vo_name\":\"demo\"}";
 
 const SUBMITTED: &str =
-    "HTTP/1.1 200 OK\r\nContent-Type: application/json\r\nContent-Length: 169\r\n\r\n{\"job_id\":\"00000000-0000-4000-8000-000000000001\",\"job_state\":\"SUBMITTED\",\"kind\":\"plain\",\"priority\":3,\"retry\":0,\"retry_delay\":0,\"submit_time\":1700000000,\"vo_name\":\"demo\"}";
+    "HTTP/1.1 200 OK\r\nContent-Type: application/json\r\nContent-Length: 169\r\n\r\n\
+     {\"job_id\":\"00000000-0000-4000-8000-000000000001\",\"job_state\":\"SUBMITTED\",\"kind\":\"plain\",\"priority\":3,\
+     \"retry\":0,\"retry_delay\":0,\"submit_time\":1700000000,\"vo_name\":\"demo\"}";
 
 const DISK_FAILED: &str =
-    "HTTP/1.1 503 Service Unavailable\r\nContent-Type: application/json\r\nContent-Length: 48\r\n\r\n{\"message\":\"disk failed\",\"rule\":35,\"status\":503}";
+    "HTTP/1.1 503 Service Unavailable\r\nContent-Type: application/json\r\nContent-Length: 48\r\n\r\n\
+     {\"message\":\"disk failed\",\"rule\":35,\"status\":503}";
 
 const NO_JOB: &str =
     "HTTP/1.1 404 Not Found\r\nContent-Type: application/json\r\nContent-Length: 43\r\n\r\n{\"message\":\"no job\",\"rule\":31,\"status\":404}";
@@ -45,11 +52,19 @@ const DONE: &str =
 
 /// What is sent: the submission, and the look at its job.
 pub const INPUT: &str =
-    "POST /jobs HTTP/1.1\r\nContent-Length: 257\r\n\r\n{\"files\":[{\"sources\":[\"https://a.example/data/f1\"],\"destinations\":[\"https://b.example/f1\"]},{\"sources\":[\"https://a.example/data/f2\"],\"destinations\":[\"https://b.example/f2\"]},{\"sources\":[\"https://a.example/data/f3\"],\"destinations\":[\"https://b.example/f3\"]}]}GET /jobs/00000000-0000-4000-8000-000000000001 HTTP/1.1\r\n\r\n";
+    "POST /jobs HTTP/1.1\r\nContent-Length: 257\r\n\r\n{\"files\":[{\"sources\":[\"https://a.example/data/f1\"],\
+     \"destinations\":[\"https://b.example/f1\"]},{\"sources\":[\"https://a.example/data/f2\"],\
+     \"destinations\":[\"https://b.example/f2\"]},{\"sources\":[\"https://a.example/data/f3\"],\
+     \"destinations\":[\"https://b.example/f3\"]}]}\
+     GET /jobs/00000000-0000-4000-8000-000000000001 HTTP/1.1\r\n\r\n";
 
 /// The same with a retry.
 pub const INPUT_WITH_RETRY: &str =
-    "POST /jobs HTTP/1.1\r\nContent-Length: 278\r\n\r\n{\"files\":[{\"sources\":[\"https://a.example/data/f1\"],\"destinations\":[\"https://b.example/f1\"]},{\"sources\":[\"https://a.example/data/f2\"],\"destinations\":[\"https://b.example/f2\"]},{\"sources\":[\"https://a.example/data/f3\"],\"destinations\":[\"https://b.example/f3\"]}],\"params\":{\"retry\":1}}GET /jobs/00000000-0000-4000-8000-000000000001 HTTP/1.1\r\n\r\n";
+    "POST /jobs HTTP/1.1\r\nContent-Length: 278\r\n\r\n{\"files\":[{\"sources\":[\"https://a.example/data/f1\"],\
+     \"destinations\":[\"https://b.example/f1\"]},{\"sources\":[\"https://a.example/data/f2\"],\
+     \"destinations\":[\"https://b.example/f2\"]},{\"sources\":[\"https://a.example/data/f3\"],\
+     \"destinations\":[\"https://b.example/f3\"]}],\"params\":{\"retry\":1}}\
+     GET /jobs/00000000-0000-4000-8000-000000000001 HTTP/1.1\r\n\r\n";
 
 /// Where the submission ends in the input, and where the look at its job ends.
 pub const ENDS: [usize; 2] = [301, 360];
