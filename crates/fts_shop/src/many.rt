@@ -76,7 +76,7 @@ fn spread_both<W: Work<S, J> + Sync, S: Sync, J: Send, R: Threads + Wait + Sync>
     join_mut(rt, &mut first, &mut second);
 }
 
-/// Two kinds of work on two lists, at the same time.
+/// Two kinds of work on two lists, at the same time. Where no thread can be made, the others are done first: their work must not wait for the jobs'.
 pub fn beside<
     W: Work<S, J> + Sync,
     V: Work<S, K> + Sync,

@@ -60,6 +60,13 @@ impl Slots {
         })
     }
 
+    /// The settings whose limits these slots keep.
+    pub fn settings(&self) -> &Settings
+        ensures settings { result.now ≡ self.now.settings }
+    {
+        &self.settings
+    }
+
     /// The place of the endpoint with a name, from 0. None exactly where the settings don't list it.
     pub fn place(&self, name: &EndpointName) -> Option<u16>
         ensures place { result ≡ place_of_name self.now.settings name.now }

@@ -94,8 +94,8 @@ module _ {D E : Type 0} (state : D → DiskState) (faults : D → ℕ) (store_st
         (store_faults at.store) (store_faults made) (Ok tt)
     pub rest : Reading
     pub ran_end : RunEnd
-    pub serves : ServesKeep state faults store_state store_calls store_faults (record at { store = made }) at.bench.places left store later words_later kept input rest
-        None None ran_end tally
+    pub serves : ServesKeep state faults store_state store_calls store_faults (record at { store = made }) at.bench.places
+        left store later words_later kept input rest None None ran_end tally
     pub ends : EndsLoad (load_line tally) held now ran_end end
 
   -- what a load did over a keep that was started

@@ -59,6 +59,7 @@ impl<'a, D: Disk, E: Store, C: Clock, W: Words> Work<Hall<'a, D>, Station<D, E, 
 }
 
 /// Serves the lines of all booths, and takes the turns of all stations, at the same time. It waits for both.
+/// Where no thread can be made, the lines are served first: a station waits until all lines have ended, and a line for no station.
 pub fn serve_all<
     D: Disk + Send,
     A: Doors + Send,
@@ -76,7 +77,7 @@ where
         A.doors A.faults C.moments hall.now.connections) booths.old booths.new }
     ensures stations { Each (IsStationWorked E.state E.calls E.faults C.moments W.words) stations.old stations.new }
 {
-    beside::<AtBooths, AtStations, Hall<'_, D>, Booth<D, A, C>, Station<D, E, C, W>, R>(
-        rt, hall, booths, stations,
+    beside::<AtStations, AtBooths, Hall<'_, D>, Station<D, E, C, W>, Booth<D, A, C>, R>(
+        rt, hall, stations, booths,
     );
 }

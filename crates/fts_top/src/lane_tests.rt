@@ -25,11 +25,17 @@ const STAND: &str =
 
 /// A submission, a look at the job that it makes, and the end.
 const ASKED: &str =
-    "POST /jobs HTTP/1.1\r\nContent-Length: 93\r\n\r\n{\"files\":[{\"sources\":[\"https://a.example/data/f1\"],\"destinations\":[\"https://b.example/f1\"]}]}GET /jobs/00000000-0000-4000-8000-000000000001 HTTP/1.1\r\nConnection: close\r\n\r\n";
+    "POST /jobs HTTP/1.1\r\nContent-Length: 93\r\n\r\n\
+{\"files\":[{\"sources\":[\"https://a.example/data/f1\"],\"destinations\":[\"https://b.example/f1\"]}]}\
+GET /jobs/00000000-0000-4000-8000-000000000001 HTTP/1.1\r\nConnection: close\r\n\r\n";
 
 /// What is answered.
 const ANSWERED: &str =
-    "HTTP/1.1 200 OK\r\nContent-Type: application/json\r\nContent-Length: 49\r\n\r\n{\"job_id\":\"00000000-0000-4000-8000-000000000001\"}HTTP/1.1 200 OK\r\nContent-Type: application/json\r\nContent-Length: 169\r\nConnection: close\r\n\r\n{\"job_id\":\"00000000-0000-4000-8000-000000000001\",\"job_state\":\"SUBMITTED\",\"kind\":\"plain\",\"priority\":3,\"retry\":0,\"retry_delay\":0,\"submit_time\":1700000000,\"vo_name\":\"demo\"}";
+    "HTTP/1.1 200 OK\r\nContent-Type: application/json\r\nContent-Length: 49\r\n\r\n\
+{\"job_id\":\"00000000-0000-4000-8000-000000000001\"}\
+HTTP/1.1 200 OK\r\nContent-Type: application/json\r\nContent-Length: 169\r\nConnection: close\r\n\r\n\
+{\"job_id\":\"00000000-0000-4000-8000-000000000001\",\"job_state\":\"SUBMITTED\",\"kind\":\"plain\",\"priority\":3,\
+\"retry\":0,\"retry_delay\":0,\"submit_time\":1700000000,\"vo_name\":\"demo\"}";
 
 /// A lock over a new keep in memory, with one lane.
 fn open_shop(alloc: Global) -> Result<(Turnstile<Shop<MemoryDisk>>, Pass<Shop<MemoryDisk>>), Fail>

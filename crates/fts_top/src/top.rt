@@ -52,14 +52,14 @@ pub struct Outside<F, S, K, N, D, E: Store, C: Clock, W: Words, A: Doors> {
 }
 
 /// Does all that the program does for these words, and gives its exit status:
-/// 0 at the input's end between requests, once nothing is left to copy, or where a load ended so, or where the tables were shown, or where all lanes
-/// ended and all workers found nothing left; 1 for want of memory, 2 for words that are no command, 3 where the settings
-/// break a rule, 4 where the disk failed at the opening or in the last round, or in a worker's last turn, 5 and 6 where a read or a write failed,
-/// 7 where the journal is damaged, or is shown and has no byte,
-/// 8 where the settings could not be read, 9 where the doors of a lane failed, 10 where the input ended inside a request, 11 where the Restart or
-/// an entry of the last round or of a worker's last turn doesn't fit
-/// the journal, 12 where what came was refused, 13 where a call of the store failed while the files of a load were made, 14 after as many requests as a connection may have. There are 16 hands and 8 lanes; the disk is
-/// there before and after, and the hands and the lanes are in their order. It waits only where it serves.
+/// 0 at the input's end between requests, once nothing is left to copy, or where a load ended so, or where the tables were shown, or where
+/// all lanes ended and all workers found nothing left; 1 for want of memory, 2 for words that are no command, 3 where the settings break a rule,
+/// 4 where the disk failed at the opening or in the last round, or in a worker's last turn, 5 and 6 where a read or a write failed,
+/// 7 where the journal is damaged, or is shown and has no byte, 8 where the settings could not be read, 9 where the doors of a lane failed,
+/// 10 where the input ended inside a request, 11 where the Restart or an entry of the last round or of a worker's last turn doesn't fit the journal,
+/// 12 where what came was refused, 13 where a call of the store failed while the files of a load were made, 14 after as many requests as a
+/// connection may have. There are 16 hands and 8 lanes; the disk is there before and after, and the hands and the lanes are in their order.
+/// It waits only where it serves.
 pub fn run<
     F: Source,
     S: Source,

@@ -171,8 +171,18 @@ impl MemoryLine {
         ensures reads { ⟦<MemoryLine as Source>⟧.reads result ≡ ⟦<MemorySource as Source>⟧.reads source }
         ensures sink_faults { ⟦<MemoryLine as Sink>⟧.faults result ≡ ⟦<MemorySink as Sink>⟧.faults sink }
         ensures line { IsLine
-            (record { bytes = ⟦<MemoryLine as Source>⟧.left; faults = ⟦<MemoryLine as Source>⟧.faults; reads = ⟦<MemoryLine as Source>⟧.reads; beside = ⟦<MemoryLine as Source>⟧.beside })
-            (record { bytes = ⟦<MemoryLine as Sink>⟧.held; faults = ⟦<MemoryLine as Sink>⟧.faults; reads = λ _. 0; beside = ⟦<MemoryLine as Sink>⟧.beside }) }
+            (record {
+              bytes = ⟦<MemoryLine as Source>⟧.left;
+              faults = ⟦<MemoryLine as Source>⟧.faults;
+              reads = ⟦<MemoryLine as Source>⟧.reads;
+              beside = ⟦<MemoryLine as Source>⟧.beside;
+            })
+            (record {
+              bytes = ⟦<MemoryLine as Sink>⟧.held;
+              faults = ⟦<MemoryLine as Sink>⟧.faults;
+              reads = λ _. 0;
+              beside = ⟦<MemoryLine as Sink>⟧.beside;
+            }) }
     {
         MemoryLine { source, sink }
     }
