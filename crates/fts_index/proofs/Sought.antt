@@ -2,9 +2,9 @@
 use Rattle.std.proofs.Common.{◌≡◌, Bool, true, false, Option, Some, None, ℕ, zero, suc, ◌+◌, ◌<◌, ◌≤◌, List, [], ◌∷◌, length, take, drop, get_or, ap, sym, ◌∙◌, subst, arith}
 use Rattle.std.specs.Prelude.{IsTrue, is_some}
 use Rattle.std.specs.List.{concat}
-use Rattle.fts_index.specs.IdOrder.{id_at, id_in_order, AreRising, IsOrderOf, IsInOrderAt, IsPlaceOf, IsGapFor}
+use Rattle.fts_index.specs.IdOrder.{id_at, AreRising, IsInOrderAt, IsPlaceOf, IsGapFor}
 use Rattle.fts_index.specs.Order.{IsFit, IsSpare}
-use Rattle.fts_index.specs.PlaceLists.{PlaceLists, chunk_at, first_id, IsGapIn}
+use Rattle.fts_index.specs.PlaceLists.{chunk_at, first_id, IsGapIn}
 use Rattle.fts_index.proofs.InChunks.{place_in, rising_in, found_in, gap_in, concat-at, next_begins}
 
 -- what stands before a chunk is before it

@@ -1,4 +1,4 @@
-use Rattle.std.proofs.Common.{ℕ, ◌<◌, ◌≤◌, ◌-◌, length}
+use Rattle.std.proofs.Common.{◌<◌, ◌≤◌, ◌-◌, length}
 use Rattle.fts_index.specs.PlaceLists.{chunk_at, first_id}
 use Rattle.fts_index.proofs.order.chunk_for.Given as goal
 

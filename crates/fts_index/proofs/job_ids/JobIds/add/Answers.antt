@@ -1,8 +1,8 @@
-use Rattle.std.proofs.Common.{◌≡◌, ℕ, ◌+◌, ◌<◌, ◌≤◌, ◌++◌, ◌∷◌, [], List, length, insert, sym, ap, ◌∙◌, subst, arith, vec_capacity}
+use Rattle.std.proofs.Common.{◌≡◌, ℕ, ◌+◌, ◌<◌, ◌++◌, ◌∷◌, [], List, length, insert, sym, ap, ◌∙◌, subst, arith, vec_capacity}
 use Rattle.std.specs.List.{concat}
 use Rattle.fts_index.specs.Numbers.{IdList}
 use Rattle.fts_index.specs.IdOrder.{IsOrderOf, IsPlaceOf}
-use Rattle.fts_index.specs.PlaceLists.{PlaceLists, places_before, IsGapIn}
+use Rattle.fts_index.specs.PlaceLists.{places_before, IsGapIn}
 use Rattle.fts_index.specs.declared.job_ids.JobIds.TheInside.{Inside}
 use Rattle.fts_index.proofs.Ordered.{length-more, added_again, added_new}
 use Rattle.fts_index.proofs.job_ids.JobIds.add.Goals as goal

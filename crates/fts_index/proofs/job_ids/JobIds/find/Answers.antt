@@ -1,8 +1,7 @@
-use Rattle.std.proofs.Common.{◌≡◌, ◌+◌, ◌<◌, ℕ, List, Some, length, sym, ap, ◌∙◌, subst, arith}
+use Rattle.std.proofs.Common.{◌<◌, ℕ, List, length, subst, arith}
 use Rattle.std.specs.List.{concat}
-use Rattle.fts_index.specs.Numbers.{IdList, number_in}
 use Rattle.fts_index.specs.IdOrder.{IsOrderOf, IsPlaceOf}
-use Rattle.fts_index.proofs.Ordered.{inside_ids, number_at, no_number}
+use Rattle.fts_index.proofs.Ordered.{inside_ids}
 use Rattle.fts_index.proofs.job_ids.JobIds.find.Goals as goal
 
 -- the place of an id is one of the ids

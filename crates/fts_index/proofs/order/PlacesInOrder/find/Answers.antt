@@ -1,10 +1,10 @@
-use Rattle.std.proofs.Common.{◌≡◌, ℕ, ◌+◌, ◌<◌, ◌≤◌, List, [], length, get_or, ap, sym, ◌∙◌, subst, arith, vec_capacity}
+use Rattle.std.proofs.Common.{◌≡◌, ℕ, ◌+◌, ◌<◌, ◌≤◌, List, [], length, get_or, ap, sym, ◌∙◌, subst, arith}
 use Rattle.std.specs.Prelude.{is_some}
 use Rattle.std.specs.List.{concat}
 use Rattle.std.proofs.lemmas.List.{get_or_default}
 use Rattle.fts_index.specs.IdOrder.{AreRising, IsInOrderAt, IsPlaceOf, IsGapFor}
 use Rattle.fts_index.specs.PlaceLists.{PlaceLists, chunk_at, first_id, IsGapIn}
-use Rattle.fts_index.proofs.Sought.{rising_there, found_there, gap_there, gap_of_none}
+use Rattle.fts_index.proofs.Sought.{rising_there, found_there, gap_there}
 use Rattle.fts_index.proofs.order.PlacesInOrder.find.Goals as goal
 
 -- the places that were read are the chunk's

@@ -1,9 +1,9 @@
-use Rattle.std.proofs.Common.{◌≡◌, ℕ, ◌+◌, ◌-◌, ◌<◌, ◌≤◌, List, [], Some, None, length, take, drop, insert, get_or, refl, ap, sym, ◌∙◌, subst, arith, vec_capacity}
+use Rattle.std.proofs.Common.{◌≡◌, ℕ, ◌+◌, ◌<◌, ◌≤◌, List, [], length, take, drop, insert, get_or, ap, sym, ◌∙◌, subst, arith, vec_capacity}
 use Rattle.std.proofs.Math.ListN.{set}
 use Rattle.std.specs.List.{concat}
 use Rattle.std.proofs.lemmas.List.{get_or_default, get_or-set_same, length-set}
 use Rattle.std.proofs.lemmas.List.Edits.{length-insert}
-use Rattle.fts_index.specs.Order.{IsFit, IsSpare, AreInChunks}
+use Rattle.fts_index.specs.Order.{IsFit, IsSpare}
 use Rattle.fts_index.specs.PlaceLists.{PlaceLists, places_before}
 use Rattle.fts_index.proofs.InChunks.{set-again, concat-put, concat-halves, fit-set, fit-halves}
 use Rattle.fts_index.proofs.order.PlacesInOrder.insert.Goals as goal
