@@ -5,6 +5,7 @@ use Rattle.std.specs.List.{concat}
 use Rattle.std.proofs.lemmas.Bool.{cases_lt, cases_eq}
 use Rattle.std.proofs.lemmas.List.{get_or-append-add, set-get_or, length-append, length-take, length-drop, take-append-drop, append_assoc, get_or-set_same, get_or-set_other, length-set}
 use Rattle.std.proofs.lemmas.List.Edits.{insert-append_left, insert-append_right, length-insert, get_or-insert_below, get_or-insert_at, get_or-insert_above}
+use Rattle.fts_index.specs.declared.chunk.TheConstants.{CHUNK_ROOM, CHUNK_HALF}
 use Rattle.fts_index.specs.IdOrder.{id_at, id_in_order, AreRising, IsInOrderAt, IsGapFor}
 use Rattle.fts_index.specs.Order.{IsFit}
 use Rattle.fts_index.specs.PlaceLists.{places_before}
@@ -130,11 +131,11 @@ next_begins (chunk ∷ chunks) (suc at) filled some =
     record { inside = omega (arith, behind.inside); first = behind.first }
 
 -- chunks with one in place of another
-pub fit-set : (chunks : List (List ℕ)) (at : ℕ) (other : List ℕ) → IsFit chunks → at < length chunks → length other < 512 → (0 < at → 0 < length other)
+pub fit-set : (chunks : List (List ℕ)) (at : ℕ) (other : List ℕ) → IsFit chunks → at < length chunks → length other < CHUNK_ROOM → (0 < at → 0 < length other)
     → IsFit (set chunks at other)
 fit-set chunks at other fit inside small filled some within = by_side (cases_eq some at)
   where
-    by_side : (some ≡ at) ⊎ (some ≡ at → ⊥) → (length (get_or (set chunks at other) some []) < 512) × (0 < some → 0 < length (get_or (set chunks at other) some []))
+    by_side : (some ≡ at) ⊎ (some ≡ at → ⊥) → (length (get_or (set chunks at other) some []) < CHUNK_ROOM) × (0 < some → 0 < length (get_or (set chunks at other) some []))
     by_side (inl same) =
         let is : get_or (set chunks at other) some [] ≡ other = ap (λ place. get_or (set chunks at other) place []) same ∙ get_or-set_same chunks at other [] inside in
         let long = ap length is in
@@ -145,12 +146,12 @@ fit-set chunks at other fit inside small filled some within = by_side (cases_eq 
         (omega (arith, long, facts.0), λ above. omega (arith, long, facts.1 above))
 
 -- chunks with one more behind the first
-pub fit-insert : (chunks : List (List ℕ)) (at : ℕ) (other : List ℕ) → IsFit chunks → 0 < at → at ≤ length chunks → length other < 512 → 0 < length other
+pub fit-insert : (chunks : List (List ℕ)) (at : ℕ) (other : List ℕ) → IsFit chunks → 0 < at → at ≤ length chunks → length other < CHUNK_ROOM → 0 < length other
     → IsFit (insert chunks at other)
 fit-insert chunks at other fit above inside small filled some within = by_side (cases_lt some at) (cases_lt at some)
   where
     by_side : (some < at) ⊎ (at ≤ some) → (at < some) ⊎ (some ≤ at)
-        → (length (get_or (insert chunks at other) some []) < 512) × (0 < some → 0 < length (get_or (insert chunks at other) some []))
+        → (length (get_or (insert chunks at other) some []) < CHUNK_ROOM) × (0 < some → 0 < length (get_or (insert chunks at other) some []))
     by_side (inl lt) side =
         let long = ap length (get_or-insert_below chunks at other [] some lt inside) in
         let facts = fit some (omega (arith, lt, inside)) in
@@ -178,18 +179,18 @@ concat-put chunks at within place inside le =
 
 -- the halves of a chunk in its place are the same order
 pub concat-halves : (chunks : List (List ℕ)) (at : ℕ) (whole_chunk : List ℕ) → at < length chunks
-    → concat (insert (set chunks at (take 256 whole_chunk)) (at + 1) (drop 256 whole_chunk)) ≡ concat (set chunks at whole_chunk)
+    → concat (insert (set chunks at (take CHUNK_HALF whole_chunk)) (at + 1) (drop CHUNK_HALF whole_chunk)) ≡ concat (set chunks at whole_chunk)
 concat-halves chunks at whole_chunk inside =
-    ap (λ place. concat (insert (set chunks at (take 256 whole_chunk)) place (drop 256 whole_chunk))) {x = at + 1} {y = suc at} (omega arith)
-    ∙ (concat-split chunks at (take 256 whole_chunk) (drop 256 whole_chunk) inside
-    ∙ ap (λ chunk. concat (set chunks at chunk)) (take-append-drop 256 whole_chunk))
+    ap (λ place. concat (insert (set chunks at (take CHUNK_HALF whole_chunk)) place (drop CHUNK_HALF whole_chunk))) {x = at + 1} {y = suc at} (omega arith)
+    ∙ (concat-split chunks at (take CHUNK_HALF whole_chunk) (drop CHUNK_HALF whole_chunk) inside
+    ∙ ap (λ chunk. concat (set chunks at chunk)) (take-append-drop CHUNK_HALF whole_chunk))
 
 -- the halves of a full chunk in its place fit
-pub fit-halves : (chunks : List (List ℕ)) (at : ℕ) (full : List ℕ) → IsFit chunks → at < length chunks → length full ≡ 512
-    → IsFit (insert (set chunks at (take 256 full)) (at + 1) (drop 256 full))
+pub fit-halves : (chunks : List (List ℕ)) (at : ℕ) (full : List ℕ) → IsFit chunks → at < length chunks → length full ≡ CHUNK_ROOM
+    → IsFit (insert (set chunks at (take CHUNK_HALF full)) (at + 1) (drop CHUNK_HALF full))
 fit-halves chunks at full fit inside is =
-    let first : length (take 256 full) ≡ 256 = omega (arith, length-take 256 full, is) in
-    let second : length (drop 256 full) ≡ 256 = omega (arith, length-drop 256 full, is) in
-    fit-insert (set chunks at (take 256 full)) (at + 1) (drop 256 full)
-    (fit-set chunks at (take 256 full) fit inside (omega (arith, first)) (λ later. omega (arith, first)))
-    (omega arith) (omega (arith, inside, length-set chunks at (take 256 full))) (omega (arith, second)) (omega (arith, second))
+    let first : length (take CHUNK_HALF full) ≡ CHUNK_HALF = omega (arith, length-take CHUNK_HALF full, is) in
+    let second : length (drop CHUNK_HALF full) ≡ CHUNK_ROOM - CHUNK_HALF = omega (arith, length-drop CHUNK_HALF full, is) in
+    fit-insert (set chunks at (take CHUNK_HALF full)) (at + 1) (drop CHUNK_HALF full)
+    (fit-set chunks at (take CHUNK_HALF full) fit inside (omega (arith, first)) (λ later. omega (arith, first)))
+    (omega arith) (omega (arith, inside, length-set chunks at (take CHUNK_HALF full))) (omega (arith, second)) (omega (arith, second))

@@ -83,12 +83,8 @@ module _ (ids order : List ℕ) (is : IsOrderOf ids order) where
       let there = found_from (λ other. other == id_in_order ids order at) 1 ids (get_or order at 0 + 1) (is.least at inside) in
       omega (arith, there.is, there.inside)
 
-  -- the number of an id that stands in the order
-  pub number_at : (id at : ℕ) → IsInOrderAt ids order id at → number_in ids id ≡ Some (get_or order at 0 + 1)
-  number_at id at there = ap (number_in ids) (sym there.has) ∙ is.least at there.inside
-
   -- an id that has a gap has no number
-  pub no_number : (id at : ℕ) → IsGapFor ids order id at → number_in ids id ≡ None
+  no_number : (id at : ℕ) → IsGapFor ids order id at → number_in ids id ≡ None
   no_number id at gap = is.whole id (λ place inside same. grind (arith, gap.before place, gap.behind place))
 
   -- the ids of the order stay where an id follows

@@ -45,10 +45,10 @@ module _ (ids : List ℕ) (chunks : List (List ℕ)) (at : ℕ) (rising : AreRis
         (gap_in ids front chunk back id within (subst (AreRising ids) (concat-at chunks at inside) rising)
         (λ some. ((fit at inside).1 (front_some chunks at some), begins (front_some chunks at some)))
         (λ some.
-            let behind = next_begins chunks at (λ there. (fit (suc at) there).1 (omega arith)) some in
-            let same : first_id ids (chunk_at chunks (at + 1)) ≡ first_id ids (chunk_at chunks (suc at)) =
-            ap (λ place. first_id ids (chunk_at chunks place)) {x = at + 1} {y = suc at} (omega arith) in
-            omega (arith, next (omega (arith, behind.inside)), same, ap (id_at ids) behind.first))
+        let behind = next_begins chunks at (λ there. (fit (suc at) there).1 (omega arith)) some in
+        let same : first_id ids (chunk_at chunks (at + 1)) ≡ first_id ids (chunk_at chunks (suc at)) =
+        ap (λ place. first_id ids (chunk_at chunks place)) {x = at + 1} {y = suc at} (omega arith) in
+        omega (arith, next (omega (arith, behind.inside)), same, ap (id_at ids) behind.first))
         gap);
   }
 

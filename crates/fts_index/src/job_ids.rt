@@ -1,4 +1,4 @@
-//! The numbers of jobs by their ids: the ids in order of the jobs' numbers, and beside them their places in order of the ids.
+//! The numbers of jobs by their ids: the ids in order of the jobs' numbers, and beside them their places in order of the ids, in chunks (`order.rt`).
 //! Contracts see the ids in order of the jobs' numbers, and the room. Kept in its type (`AreJobIds`): a look-up is a search by halves.
 //! Order: `make_room` before `add`, which takes no memory.
 ghost use Rattle.std.specs.Prelude.{◌≡◌, ◌<◌, ◌+◌, ◌++◌, ◌∷◌, [], max, length, OnOk, OnErr};

@@ -1,14 +1,15 @@
 //! The places of ids in order of the ids, in chunks, so that one place more moves only those of its chunk.
-//! Contracts see the chunks, whose places one after the other are the order. Kept in its type (`AreInChunks`): no chunk is full, so that there
-//! is always memory to insert into one, and none but the first is empty. A chunk that gets full is split in halves, into a spare one.
-//! Order: `make_room` before `insert`, which takes no memory.
+//! Contracts see the chunks, whose places one after the other are the order. Kept in its type (`AreInChunks`): no chunk is full, so that each
+//! has memory for one place more, and none but the first is empty. A chunk that gets full is split in halves, into a spare one that waited.
+//! Order: `make_room` before `insert`, which takes no memory. Called by `JobIds` alone.
 ghost use Rattle.std.specs.Prelude.{◌≡◌, ◌<◌, ◌≤◌, ◌+◌, [], length, take, drop, insert, slice_set, IfOk, IfErr, OnOk, IsTrue, false, vec_capacity};
 ghost use Rattle.std.specs.List.{concat};
 ghost use Rattle.fts_index.specs.IdOrder.{id_at, AreRising, IsGapFor, IsInOrderAt, IsOrderOf, IsPlaceOf};
+ghost use Rattle.fts_index.specs.declared.chunk.TheConstants.{CHUNK_HALF};
 ghost use Rattle.fts_index.specs.Order.{IsFit};
 ghost use Rattle.fts_index.specs.PlaceLists.{PlaceLists, chunk_at, first_id, places_before, IsGapIn};
 
-use crate::chunk::{PlaceChunk, CHUNK_ROOM};
+use crate::chunk::{CHUNK_ROOM, PlaceChunk};
 use fts_tables::Memory;
 use std::alloc::Global;
 use std::marker::Model;
@@ -85,9 +86,8 @@ fn split(chunks: &mut Vec<PlaceChunk>, at: usize, mut spare: PlaceChunk)
     requires full { length (chunk_at chunks.old.items at) ≡ CHUNK_ROOM }
     requires empty { spare ≡ [] }
     requires memory { length chunks.old.items < vec_capacity chunks.old }
-    ensures halves {
-        chunks.new.items ≡ insert (slice_set chunks.old.items at (take 256 (chunk_at chunks.old.items at))) (at + 1) (drop 256 (chunk_at chunks.old.items at))
-    }
+    ensures halves { chunks.new.items ≡ insert (slice_set chunks.old.items at (take CHUNK_HALF (chunk_at chunks.old.items at))) (at + 1)
+        (drop CHUNK_HALF (chunk_at chunks.old.items at)) }
 {
     chunks[at].move_half(&mut spare);
     let _ = chunks.insert(at + 1, spare);

@@ -42,7 +42,11 @@ fn there_is_room_for_more_ids_than_a_chunk_holds(rt: HostRuntime) -> Result<(), 
         ids.add(u128::from(number) * 7919 % 1201);
     }
     for number in 1..=1200_u32 {
-        assert_eq!(rt; ids.find(u128::from(number) * 7919 % 1201).unwrap_or(0), number, "{number}");
+        assert_eq!(rt;
+            ids.find(u128::from(number) * 7919 % 1201).unwrap_or(0),
+            number,
+            "{number}"
+        );
     }
     Ok(())
 }

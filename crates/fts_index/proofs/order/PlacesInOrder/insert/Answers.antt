@@ -3,6 +3,7 @@ use Rattle.std.proofs.Math.ListN.{set}
 use Rattle.std.specs.List.{concat}
 use Rattle.std.proofs.lemmas.List.{get_or_default, get_or-set_same, length-set}
 use Rattle.std.proofs.lemmas.List.Edits.{length-insert}
+use Rattle.fts_index.specs.declared.chunk.TheConstants.{CHUNK_ROOM, CHUNK_HALF}
 use Rattle.fts_index.specs.Order.{IsFit, IsSpare}
 use Rattle.fts_index.specs.PlaceLists.{PlaceLists, places_before}
 use Rattle.fts_index.proofs.InChunks.{set-again, concat-put, concat-halves, fit-set, fit-halves}
@@ -38,11 +39,11 @@ module _ (chunks seen : List (List ℕ)) (at within place : ℕ) (was new read :
 
 -- the halves of the chunk that was put there
 halves_are : (chunks : List (List ℕ)) (at : ℕ) (full : List ℕ) → at < length chunks
-    → insert (set (set chunks at full) at (take 256 (get_or (set chunks at full) at []))) (at + 1) (drop 256 (get_or (set chunks at full) at []))
-    ≡ insert (set chunks at (take 256 full)) (at + 1) (drop 256 full)
+    → insert (set (set chunks at full) at (take CHUNK_HALF (get_or (set chunks at full) at []))) (at + 1) (drop CHUNK_HALF (get_or (set chunks at full) at []))
+    ≡ insert (set chunks at (take CHUNK_HALF full)) (at + 1) (drop CHUNK_HALF full)
 halves_are chunks at full within =
-    ap (λ some. insert (set (set chunks at full) at (take 256 some)) (at + 1) (drop 256 some)) (get_or-set_same chunks at full [] within)
-    ∙ ap (λ some. insert some (at + 1) (drop 256 full)) (set-again chunks at full (take 256 full))
+    ap (λ some. insert (set (set chunks at full) at (take CHUNK_HALF some)) (at + 1) (drop CHUNK_HALF some)) (get_or-set_same chunks at full [] within)
+    ∙ ap (λ some. insert some (at + 1) (drop CHUNK_HALF full)) (set-again chunks at full (take CHUNK_HALF full))
 
 pub invariant_of-self-else-as_slice-eq-CHUNK_ROOM : goal.invariant_of-self-else-as_slice-eq-CHUNK_ROOM
 invariant_of-self-else-as_slice-eq-CHUNK_ROOM c =
@@ -55,7 +56,7 @@ invariant_of-self-else-as_slice-eq-CHUNK_ROOM c =
     let read = read_is chunks c.args.self.now.chunks c.args.spot.chunk c.args.spot.at c.args.place c.index_mut.result.now c.insert.new.self c.index.result.now same
     c.requires.chunk c.requires.at c.index_mut.ensures.value c.insert.ensures.places c.index.ensures in
     let not_full = c.if-as_slice-eq-CHUNK_ROOM.false in
-    let small : length c.insert.new.self < 512 =
+    let small : length c.insert.new.self < CHUNK_ROOM =
     omega (arith, long, (c.self.invariant.fit c.args.spot.chunk within).0, not_full, ap length (c.as_slice.ensures.places ∙ read)) in
     record {
       fit = fit-set chunks c.args.spot.chunk c.insert.new.self c.self.invariant.fit within small (λ later. omega (arith, long));
@@ -80,8 +81,8 @@ invariant_of-self c =
     c.requires.chunk c.requires.at c.index_mut.ensures.value c.insert.ensures.places c.index.ensures in
     let read = read_is chunks c.args.self.now.chunks at c.args.spot.at c.args.place c.index_mut.result.now full c.index.result.now same
     c.requires.chunk c.requires.at c.index_mut.ensures.value c.insert.ensures.places c.index.ensures in
-    let long : length full ≡ 512 = omega (arith, c.if-as_slice-eq-CHUNK_ROOM.true, ap length (c.as_slice.ensures.places ∙ read)) in
-    let items : c.split.new.chunks.items ≡ insert (set chunks at (take 256 full)) (at + 1) (drop 256 full) =
+    let long : length full ≡ CHUNK_ROOM = omega (arith, c.if-as_slice-eq-CHUNK_ROOM.true, ap length (c.as_slice.ensures.places ∙ read)) in
+    let items : c.split.new.chunks.items ≡ insert (set chunks at (take CHUNK_HALF full)) (at + 1) (drop CHUNK_HALF full) =
     c.split.ensures.halves ∙ halves_are chunks at full within in
     record {
       fit = subst IsFit (sym items) (fit-halves chunks at full c.self.invariant.fit within long);
