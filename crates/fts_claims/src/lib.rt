@@ -7,11 +7,13 @@
 #![tactic(auto)]
 
 mod busy;
+mod changes;
 mod claim_view;
 mod links;
 mod open_files;
 mod parts;
 mod pick;
+mod rooms;
 #[cfg(test)]
 mod tests;
 mod waiters;
