@@ -8,7 +8,7 @@ ghost use Rattle.fts_claims.specs.Changes.{AreTiedTo, all_but, MayWait, MayRun, 
 
 use crate::ClaimParts;
 use crate::waiters::{link_of, waiter_of};
-use fts_tables::{FileRow, FileState, JobRow, LinkAt, Place};
+use fts_tables::{FileRow, JobRow, LinkAt, Place};
 
 impl ClaimParts {
     /// Takes the part of the row at a place out: its file where it waits, its slot and its destination where it runs.
@@ -69,5 +69,17 @@ impl ClaimParts {
             self.slots.take(link);
             self.busy.insert(dest);
         }
+    }
+}
+
+/// Takes out what a row on a link holds.
+fn leave_link(parts: &mut ClaimParts, jobs: &[JobRow], link: LinkAt, row: &FileRow) {
+    if row.state.is_submitted() {
+        let waiter = waiter_of(parts.slots.settings(), jobs, link, row);
+        parts.waiting.remove(waiter.file, link, waiter.activity);
+    }
+    if row.state.is_active() {
+        parts.slots.give(link);
+        parts.busy.remove(&row.dest);
     }
 }

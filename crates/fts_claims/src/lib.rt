@@ -9,16 +9,22 @@
 mod busy;
 mod changes;
 mod claim_view;
+mod laws;
 mod links;
 mod open_files;
 mod parts;
 mod pick;
+mod priority;
+mod released;
 mod rooms;
+mod submitted;
 #[cfg(test)]
 mod tests;
 mod waiters;
 
 pub use busy::Busy;
 pub use claim_view::ClaimView;
+pub use laws::{eligible_rows_may_run, same_parts_stay_tied, tied_rows_may_be_claimed};
 pub use parts::ClaimParts;
 pub use pick::pick_waiter;
+pub use submitted::jobs_more_stay_tied;

@@ -27,3 +27,13 @@ impl ClaimParts {
 }
 
 // Its file waits anew with the priority, where it waits: `remove`, then `insert` with `Waiter { priority, ..waiter_of(..) }`.
+
+fn wait_anew(parts: &mut ClaimParts, jobs: &[JobRow], row: &FileRow, priority: u32) {
+    if row.state.is_submitted() {
+        if let Some(link) = link_of(&parts.slots, row) {
+            let waiter = waiter_of(parts.slots.settings(), jobs, link, row);
+            parts.waiting.remove(waiter.file, link, waiter.activity);
+            parts.waiting.insert(Waiter { priority, ..waiter });
+        }
+    }
+}

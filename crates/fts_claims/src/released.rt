@@ -6,6 +6,10 @@ ghost use Rattle.fts_claims.specs.Changes.{AreTiedTo};
 
 use crate::ClaimParts;
 use fts_tables::{FileRow, JobRow, Memory, Settings};
+use crate::Busy;
+use crate::waiters::{link_of, waiter_of};
+use fts_queue::Waiting;
+use fts_slots::Slots;
 use std::alloc::Global;
 
 impl ClaimParts {
@@ -21,6 +25,20 @@ impl ClaimParts {
         ensures tied { IfOk result (λ parts. AreTiedTo jobs.now (map released rows.now) parts) }
         ensures settings { IfOk result (λ parts. parts.slots.settings ≡ settings.now) }
     {
-        // a row that waits, or runs with no cancellation asked, is among the files that wait
+        let mut parts = ClaimParts {
+            waiting: Waiting::new(alloc),
+            slots: Slots::new(alloc, settings)?,
+            busy: Busy::new(alloc),
+        };
+        for row in rows {
+            if row.state.is_submitted() || (row.state.is_active() && !row.cancel_asked) {
+                if let Some(link) = link_of(&parts.slots, row) {
+                    let waiter = waiter_of(settings, jobs, link, row);
+                    parts.waiting.make_room(link, waiter.activity, 1)?;
+                    parts.waiting.insert(waiter);
+                }
+            }
+        }
+        Ok(parts)
     }
 }

@@ -6,7 +6,7 @@ ghost use Rattle.fts_claims.specs.Changes.{HasQueueRoom, HasRoomForFiles, HasRoo
 
 use crate::ClaimParts;
 use crate::waiters::{activity_of, link_of};
-use fts_tables::{FileRow, Memory, NewFile};
+use fts_tables::{FileRow, LinkAt, Memory, NewFile};
 
 impl ClaimParts {
     /// Makes room in a row's queue for so many more, where the row's ends are known.
@@ -32,5 +32,16 @@ impl ClaimParts {
             make_room_for_file(self, files, place)?;
         }
         Ok(())
+    }
+}
+
+fn make_room_for_file(parts: &mut ClaimParts, files: &[NewFile], place: usize) -> Result<(), Memory> {
+    let file = &files[place];
+    match (parts.slots.place(&file.source.endpoint), parts.slots.place(&file.dest.endpoint)) {
+        (Some(source), Some(dest)) => {
+            let activity = crate::waiters::place_of_activity(parts.slots.settings(), file.activity.as_str());
+            parts.waiting.make_room(LinkAt { source, dest }, activity, place as u32 + 1)
+        }
+        _ => Ok(()),
     }
 }

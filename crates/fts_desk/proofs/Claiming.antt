@@ -13,9 +13,12 @@ use Rattle.fts_tables.specs.declared.rows.FileRow.{FileRow}
 use Rattle.fts_tables.specs.declared.rows.JobRow.{JobRow}
 use Rattle.fts_tables.specs.declared.commands.Answer.TheVariants.{Claimed}
 use Rattle.fts_tables.specs.declared.commands.Refusal.TheVariants.{Idle}
-use Rattle.fts_desk.specs.Claims.{tables_of_lists}
 use Rattle.fts_desk.specs.Prepared.{IsPrepared}
 use Rattle.fts_desk.specs.declared.desk.DeskFault.TheVariants.{Rule}
+
+-- tables of these jobs, rows and settings, at no moment: what a claim picks depends on no more of them
+abbrev pub tables_of_lists : List JobRow → List FileRow → SettingsData → Tables
+tables_of_lists jobs rows settings = record { jobs = jobs; rows = rows; moment = 0; settings = Some settings }
 
 -- the row at a place has the id behind it
 id_at : (first : ℕ) (rows : List FileRow) (place : ℕ) (other : FileRow) → AreNumberedFrom (λ row. row.id) first rows → place < length rows

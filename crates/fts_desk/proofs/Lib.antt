@@ -7,13 +7,10 @@ mod Follows
 mod Found
 mod Hops
 mod KeptFiles
-mod LinkNames
 mod NewRows
 mod Numbered
-mod Picks
 mod Released
 mod Reported
-mod RunningRows
 mod Sound
 mod JobIds
 mod Loaded

@@ -10,7 +10,7 @@ ghost use Rattle.fts_desk.specs.Prepared.{IsChecked};
 
 use crate::cancels::is_settled_job;
 use crate::kept::Kept;
-use crate::lookups::{find_job, rows_of_job, rows_stand_together};
+use crate::lookups::{find_job, job_place, rows_of_job, rows_stand_together};
 use fts_tables::{Answer, JobRow, Refusal};
 
 /// Whether another priority of a job is accepted, or why it is refused.
@@ -37,7 +37,12 @@ pub fn set_priority(kept: &mut Kept, now: u64, job: u32, priority: u32) -> Answe
     requires accepted { IsAccepted (step (tables_kept kept.old) (SetPriority now job priority)) }
     ensures step { step (tables_kept kept.old) (SetPriority now job priority) ≡ Ok (tables_kept kept.new, result) }
 {
+    rows_stand_together();
     kept.moment = now.max(kept.moment);
+    match (job_place(&kept.jobs, job), &mut kept.beside.parts) {
+        (Some(place), Some(parts)) => parts.prioritize(&kept.jobs, &kept.rows, &kept.jobs[place], priority),
+        _ => {}
+    }
     prioritize(&mut kept.jobs, job, priority);
     Answer::PrioritySet { job }
 }
