@@ -1,7 +1,7 @@
 //! Rows that change, with the files that wait, the slots and the busy destinations beside them.
 //! Order: a row is left before it changes (`leave`), and comes in again behind its change: `wait` where it doesn't run, `start` where it does.
 //! Keeps: what is tied to the rows (`AreTiedTo`); between the two calls it is tied to all rows but that one. No call takes memory.
-ghost use Rattle.std.specs.Prelude.{◌≡◌, ◌<◌, ◌×◌, Some, true, false, length, slice_get};
+ghost use Rattle.std.specs.Prelude.{◌≡◌, ◌<◌, Some, true, false, length, slice_get};
 ghost use Rattle.fts_tables.specs.Tables.{AreNumberedFrom, is_submitted, is_active};
 ghost use Rattle.fts_tables.specs.declared.rows.FileRow.{FileRow};
 ghost use Rattle.fts_claims.specs.Changes.{AreTiedTo, all_but, MayWait, MayRun, IsSameRoom, HaveAtMostMore};

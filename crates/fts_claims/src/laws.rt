@@ -1,5 +1,5 @@
 //! Laws on what is tied to rows, for who keeps them beside the rows. A crate above cites a law by calling it.
-ghost use Rattle.std.specs.Prelude.{◌≡◌, ◌×◌, ℕ, List, Some, true, IsTrue, IsFalse, slice_get};
+ghost use Rattle.std.specs.Prelude.{◌≡◌, ℕ, List, Some, true, IsTrue, IsFalse, slice_get};
 ghost use Rattle.fts_tables.specs.SettingsData.{IsSettings};
 ghost use Rattle.fts_tables.specs.Tables.{AreNumberedFrom};
 ghost use Rattle.fts_tables.specs.Limits.{has_known_ends, is_eligible};
