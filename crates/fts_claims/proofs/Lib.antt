@@ -8,3 +8,10 @@ pub mod BestLinks
 pub mod Picked
 pub mod PlacesInOrder
 pub mod OneMore
+pub mod Changed
+pub mod TiedLaws
+pub mod RaisedRooms
+pub mod RoomForFiles
+pub mod RowsComeIn
+pub mod ReleasedRows
+pub mod AnotherPriority

@@ -95,6 +95,12 @@ is_queue_of settings link activity source dest name =
 abbrev pub is_file_in : SettingsData → LinkAt → ℕ → NewFile → Bool
 is_file_in settings link activity file = is_queue_of settings link activity file.source.endpoint file.dest.endpoint file.activity
 
+-- whether a file goes between the endpoints of another, under the activity at a place
+abbrev pub is_like_file : SettingsData → NewFile → ℕ → NewFile → Bool
+is_like_file settings file activity other =
+    (bytes_eq other.source.endpoint file.source.endpoint && bytes_eq other.dest.endpoint file.dest.endpoint)
+    && (place_of_activity settings other.activity == activity)
+
 -- whether a row is of a queue
 abbrev pub is_row_in : SettingsData → LinkAt → ℕ → FileRow → Bool
 is_row_in settings link activity row = is_queue_of settings link activity row.source.endpoint row.dest.endpoint row.activity

@@ -12,6 +12,8 @@ ghost use Rattle.fts_claims.specs.Claims.{parts_data};
 ghost use Rattle.fts_claims.specs.Changes.{AreTiedTo, AreSameParts};
 ghost use Rattle.fts_claims.specs.declared.parts.ClaimParts.{ClaimParts};
 
+use fts_slots::limits_by_place_are_by_name;
+
 /// Where all is tied to rows in order of id, a row that may be claimed may run: its ends are known, its link has a slot and its destination isn't busy.
 pub fn eligible_rows_may_run()
     ensures may { (jobs : List JobRow) (rows : List FileRow) (parts : ClaimParts) (place moment now : ℕ) (row : FileRow)
@@ -20,7 +22,9 @@ pub fn eligible_rows_may_run()
         → IsTrue (is_eligible (record { jobs = jobs; rows = rows; moment = moment; settings = Some parts.slots.settings }) now row)
         → (has_known_ends (Some parts.slots.settings) row ≡ true) × IsTrue (is_free parts.slots (link_of parts.slots.settings row))
         × IsFalse (is_busy parts.busy.places row.dest) }
-{}
+{
+    limits_by_place_are_by_name();
+}
 
 /// Rows whose parts are those of others have the same files that wait, slots and busy destinations.
 pub fn same_parts_stay_tied()

@@ -1,5 +1,5 @@
 //! What no clause says: that runs succeed with ample memory, that the definitions mean what a client sends and reads, in which order reads,
-//! writes and looks at the clock come, and what is seen where a read, a write, a note or a call of the disk fails. Requests and responses are
+//! writes and looks at the clock come, and what is seen where a note fails or the settings can't be had. Requests and responses are
 //! written out; the first row has those of `examples/two-submissions.http` and `.reply.http`, byte for byte. The id of the client's own id is
 //! Python's, by `uuid.uuid5` twice.
 ghost use Rattle.std.specs.Prelude.{◌≡◌, ◌≤◌, [], length, IfOk, IsSome};
@@ -23,16 +23,14 @@ const CUTS: [usize; 12] = [0, 1, 19, 20, 21, 40, 41, 42, 43, 90, 135, 136];
 const STAND: &str =
     "vo = \"demo\"\nworkers = 2\n[[storage]]\nurl = \"https://a.example\"\n[[storage]]\nurl = \"https://b.example\"\n";
 
-/// A source whose first read takes so many bytes, and each later one up to a piece. Where its bytes end it fails, if it is to.
+/// A source whose first read takes so many bytes, and each later one up to a piece.
 #[derive(Drop)]
 struct Pieces {
     bytes: Vec<u8>,
     at: usize,
     first: usize,
     piece: usize,
-    fails: bool,
     reads: u64,
-    faults: u64,
     ghost within: { at ≤ length bytes.items },
 }
 
@@ -42,7 +40,7 @@ impl Source for Pieces {
 
     ghost left = { λ _. None };
 
-    ghost faults = { λ source. source.faults };
+    ghost faults = { λ _. 0 };
 
     ghost reads = { λ source. source.reads };
 
@@ -55,30 +53,23 @@ impl Source for Pieces {
         let end = self.at + n;
         into[..n].copy_from_slice(&self.bytes[self.at..end]);
         self.at = end;
-        if n == 0 && self.fails {
-            self.faults = self.faults.saturating_add(1);
-            return Err(SourceFailed);
-        }
         Ok(n)
     }
 }
 
-/// The bytes in pieces, and a fault behind them, if there is to be one.
+/// The bytes in pieces.
 fn source_of(
     alloc: Global,
     bytes: &[u8],
     first: usize,
     piece: usize,
-    fails: bool,
 ) -> Result<Pieces, Fail> {
     Ok(Pieces {
         bytes: Vec::from_slice(alloc, bytes)?,
         at: 0,
         first,
         piece,
-        fails,
         reads: 0,
-        faults: 0,
     })
 }
 
@@ -193,7 +184,7 @@ fn requests_are_answered_byte_for_byte_however_they_are_cut(rt: HostRuntime) -> 
         for cut in CUTS {
             let case = row.case;
             let piece = if cut == 0 { 1 } else { bytes.len() };
-            let input = source_of(rt.alloc(), bytes, cut.max(1), piece, false)?;
+            let input = source_of(rt.alloc(), bytes, cut.max(1), piece)?;
             let mut outside = outside_with(rt.alloc(), input, 0, 0)?;
             let ending = run_words(rt.alloc(), &["session"], &mut outside)?;
             assert_eq!(rt;
@@ -216,58 +207,6 @@ fn requests_are_answered_byte_for_byte_however_they_are_cut(rt: HostRuntime) -> 
                 "{case}, cut at {cut}"
             );
         }
-    }
-    Ok(())
-}
-
-#[test]
-fn requests_that_were_read_whole_are_answered_where_a_read_fails(
-    rt: HostRuntime,
-) -> Result<(), Fail> {
-    let input = ROWS[0].input.as_bytes();
-    for read in 0..input.len() + 1 {
-        let input = source_of(rt.alloc(), &input[..read], 1, 1, true)?;
-        let mut outside = outside_with(rt.alloc(), input, 0, 0)?;
-        let ending = run_words(rt.alloc(), &["session"], &mut outside)?;
-        let answered = read / 136;
-        let output = ROWS[0].output.as_bytes();
-        assert_eq!(rt;
-            outside.output.bytes(),
-            &output[..answered * 120],
-            "after {read} bytes"
-        );
-        assert_eq!(rt;
-            outside.notes.bytes(),
-            b"fts: input failed\n".as_slice(),
-            "after {read} bytes"
-        );
-        assert_eq!(rt; ending.status, 5, "after {read} bytes");
-        assert_eq!(rt;
-            ending.tally.claims as usize,
-            answered,
-            "after {read} bytes"
-        );
-    }
-    Ok(())
-}
-
-#[test]
-fn a_request_whose_response_could_not_be_written_is_the_last_one(
-    rt: HostRuntime,
-) -> Result<(), Fail> {
-    for (write, written, claims) in [(1, 0, 1), (2, 120, 2)] {
-        let input = source_of(rt.alloc(), ROWS[0].input.as_bytes(), 300, 1, false)?;
-        let mut outside = outside_with(rt.alloc(), input, write, 0)?;
-        let ending = run_words(rt.alloc(), &["session"], &mut outside)?;
-        let output = ROWS[0].output.as_bytes();
-        assert_eq!(rt; outside.output.bytes(), &output[..written], "write {write}");
-        assert_eq!(rt;
-            outside.notes.bytes(),
-            b"fts: output failed\n".as_slice(),
-            "write {write}"
-        );
-        assert_eq!(rt; ending.status, 6, "write {write}");
-        assert_eq!(rt; ending.tally.claims, claims, "write {write}");
     }
     Ok(())
 }
@@ -332,114 +271,9 @@ fn left_by(disk: &MemoryDisk, byte: u8) -> Result<Vec<u8>, Fail> {
     Ok(disk.after_stop(disk.calls(), byte)?)
 }
 
-/// How many rows stand on the disk of these bytes, by a session of no requests.
-fn rows_on(alloc: Global, bytes: Vec<u8>) -> Result<u32, Fail> {
-    let disk = MemoryDisk::holding(alloc, bytes, Vec::new(alloc));
-    let session = session_over(alloc, disk, "")?;
-    if session.ending.status != 0 {
-        return Err(Fail::new("what was left is no journal"));
-    }
-    Ok(
-        session
-            .ending
-            .tally
-            .finished
-            .saturating_add(session.ending.tally.failed),
-    )
-}
-
-const FAILED: &str =
-    "HTTP/1.1 503 Service Unavailable\r\nContent-Type: application/json\r\nContent-Length: 48\r\n\r\n{\"message\":\"disk failed\",\"rule\":35,\"status\":503}";
-
-const FIRST: &str =
-    "HTTP/1.1 200 OK\r\nContent-Type: application/json\r\nContent-Length: 49\r\n\r\n{\"job_id\":\"00000000-0000-4000-8000-000000000001\"}";
-
-const SECOND: &str =
-    "HTTP/1.1 200 OK\r\nContent-Type: application/json\r\nContent-Length: 49\r\n\r\n{\"job_id\":\"00000000-0000-4000-8000-000000000002\"}";
-
 /// A journal of one Restart of the stand's settings at 1,700,000,000, by the format of journals and entries.
 const RESTARTED: &[u8] =
     b"FTS3JRN1\x01\x42\0\0\0\x00\x01\x80\xe2\xcf\xaa\x06\x04demo\x02\x02\x02\x11https://a.example\x14\x14\x11https://b.example\x14\x14\x00\x01\x07default\x01\x00";
-
-/// The replies and the status of a session of two submissions in which this call of the disk fails, alone or with all that follow. With no failure
-/// the calls are 1 to 7 for the start, and four for each entry behind it: the first submission, its file's claim, the second submission, the first
-/// report, the second claim, and in the last rounds the second report.
-fn wanted(call: u32, alone: bool) -> (&'static [&'static str], u8) {
-    match (call, alone) {
-        (1..=7, _) => (&[], 4),
-        (8..=11, true) => (&[FAILED, FIRST], 0),
-        (8..=11, false) => (&[FAILED, FAILED], 0),
-        (12..=15, false) => (&[FIRST, FAILED], 4),
-        (16..=19, true) => (&[FIRST, FAILED], 0),
-        (16..=19, false) => (&[FIRST, FAILED], 4),
-        (12..=27, true) => (&[FIRST, SECOND], 0),
-        _ => (&[FIRST, SECOND], 4),
-    }
-}
-
-/// A session of two submissions over a new disk, whose calls from this one to the last one fail.
-fn session_failing(alloc: Global, call: u32, last: u32) -> Result<Session, Fail> {
-    let mut fail = Vec::new(alloc);
-    for number in call..=last {
-        fail.push(number)?;
-    }
-    session_over(alloc, MemoryDisk::new(alloc, fail), ROWS[0].input)
-}
-
-/// Replies one behind the other, and how many of them accept.
-fn joined(alloc: Global, replies: &[&str]) -> Result<(Vec<u8>, u32), Fail> {
-    let mut written = Vec::new(alloc);
-    let mut accepted = 0;
-    for reply in replies {
-        written.extend_from_slice(reply.as_bytes())?;
-        if *reply != FAILED {
-            accepted = u32::saturating_add(accepted, 1);
-        }
-    }
-    Ok((written, accepted))
-}
-
-#[test]
-fn a_call_of_the_disk_that_fails_is_answered(rt: HostRuntime) -> Result<(), Fail> {
-    for call in 1..=31 {
-        for last in [call, 90] {
-            let session = session_failing(rt.alloc(), call, last)?;
-            let (replies, status) = wanted(call, call == last);
-            let (written, _accepted) = joined(rt.alloc(), replies)?;
-            let written = written.as_slice();
-            assert_eq!(rt; session.output.bytes(), written, "{call} to {last}");
-            assert_eq!(rt; session.ending.status, status, "{call} to {last}");
-            let note = if status == 4 {
-                "fts: disk failed\n"
-            } else {
-                ""
-            };
-            let note = note.as_bytes();
-            assert_eq!(rt; session.notes.bytes(), note, "{call} to {last}");
-        }
-    }
-    Ok(())
-}
-
-// The first three calls make the journal. A reply of 503 may leave one entry in doubt, which the next one that is appended ends.
-#[test]
-fn a_call_of_the_disk_that_fails_loses_nothing(rt: HostRuntime) -> Result<(), Fail> {
-    for call in 4..=31 {
-        for last in [call, 90] {
-            let session = session_failing(rt.alloc(), call, last)?;
-            let (replies, _status) = wanted(call, call == last);
-            let (_written, accepted) = joined(rt.alloc(), replies)?;
-            let doubt = u32::from(call != last && replies.ends_with(&[FAILED]));
-            for byte in [0, 1] {
-                let found = rows_on(rt.alloc(), left_by(&session.disk, byte)?)?;
-                let most = accepted.saturating_add(doubt);
-                assert!(rt; found >= accepted, "{call} to {last}, {byte}");
-                assert!(rt; found <= most, "{call} to {last}, {byte}");
-            }
-        }
-    }
-    Ok(())
-}
 
 #[test]
 fn a_session_goes_on_where_the_last_one_ended(rt: HostRuntime) -> Result<(), Fail> {
@@ -470,7 +304,7 @@ fn an_empty_input_leaves_one_restart(rt: HostRuntime) -> Result<(), Fail> {
 #[test]
 fn a_file_is_copied_to_its_destination(rt: HostRuntime) -> Result<(), Fail> {
     let alloc = rt.alloc();
-    let input = source_of(alloc, ROWS[0].input.as_bytes(), 300, 300, false)?;
+    let input = source_of(alloc, ROWS[0].input.as_bytes(), 300, 300)?;
     let mut outside = outside_with(alloc, input, 0, 0)?;
     let ending = run_words(alloc, &["session"], &mut outside)?;
     assert_eq!(rt; (ending.tally.finished, ending.tally.failed), (1, 1));
@@ -567,7 +401,7 @@ const STOPS: [Stop; 6] = [
 fn settings_that_cannot_be_had_stop_the_run(rt: HostRuntime) -> Result<(), Fail> {
     for stop in &STOPS {
         let case = stop.case;
-        let input = source_of(rt.alloc(), ROWS[0].input.as_bytes(), 1, 1, false)?;
+        let input = source_of(rt.alloc(), ROWS[0].input.as_bytes(), 1, 1)?;
         let settings = (stop.text, stop.read);
         let mut outside = outside_under(rt.alloc(), settings, input, 0, stop.note)?;
         let ending = run_words(rt.alloc(), &["session"], &mut outside)?;
@@ -620,7 +454,7 @@ fn other_words_are_no_command(rt: HostRuntime) -> Result<(), Fail> {
     ];
     for words in lists {
         for (note, noted) in [(0, "fts: not a command\n"), (1, "")] {
-            let input = source_of(rt.alloc(), ROWS[0].input.as_bytes(), 1, 1, false)?;
+            let input = source_of(rt.alloc(), ROWS[0].input.as_bytes(), 1, 1)?;
             let mut outside = outside_under(rt.alloc(), ("[", 1), input, 0, note)?;
             let ending = run_words(rt.alloc(), words, &mut outside)?;
             assert_eq!(rt; ending.status, 2, "{words:?}");
