@@ -17,6 +17,7 @@ IsSpare chunks memory (Some spare) = (spare ≡ []) × (0 < chunks) × (chunks <
 abbrev pub IsFit : List (List ℕ) → Type 0
 IsFit chunks = (at : ℕ) → at < length chunks → (length (chunk_at chunks at) < CHUNK_ROOM) × (0 < at → 0 < length (chunk_at chunks at))
 
+-- what is kept of the chunks and of the spare one
 pub record AreInChunks (order : Inside) : Type 0 where
   pub fit : IsFit order.chunks.items
   pub spare : IsSpare (length order.chunks.items) (vec_capacity order.chunks) order.spare
