@@ -2,7 +2,7 @@ mod AddedRows
 mod Bounded
 mod ChangedRows
 mod Claiming
-mod FirstRows
+mod ClaimedParts
 mod Follows
 mod Found
 mod Hops
@@ -17,3 +17,6 @@ mod Loaded
 mod RowLinks
 mod KnownLinks
 mod CancelledRows
+mod RowsBeside
+mod CancelledParts
+mod SubmittedParts

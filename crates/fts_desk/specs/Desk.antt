@@ -47,9 +47,9 @@ pub record IsReleased (kept : Kept) (settings : SettingsData) (parts : ClaimPart
   pub limits : parts.slots.settings ≡ settings
 
 -- the place of the row that a claim picks, and that row's destination
-pub record IsClaimAt (kept : Kept) (now word place : ℕ) (dest : Place) : Type 0 where
+pub record IsClaimAt (kept : Kept) (now word place : ℕ) (copy : Place) : Type 0 where
   pub at : IsPickedAt (tables_kept kept) now word place
-  pub dest : (row : FileRow) → slice_get kept.rows.items place ≡ Some row → row.dest ≡ dest
+  pub dest : (row : FileRow) → slice_get kept.rows.items place ≡ Some row → row.dest ≡ copy
 
 -- what was decided for a command: of a claim the place of its row and that row's destination, of a restart what a claim looks at from then on
 abbrev pub IsDecided : Kept → Command → Decided → Type 0
@@ -66,10 +66,10 @@ IsDecided kept (Claim now word) (Restarted parts) = ⊥
 IsDecided kept (Report now file attempt outcome) decided = Unit {0}
 
 -- all that an accepted command needs besides: room, a job's files, and what was decided
-pub record IsPlanned (kept : Kept) (command : Command) (decided : Decided) : Type 0 where
+pub record IsPlanned (kept : Kept) (command : Command) (choice : Decided) : Type 0 where
   pub room : HasRoom kept command
   pub files : BringsFiles command
-  pub decided : IsDecided kept command decided
+  pub decided : IsDecided kept command choice
 
 -- all that committing a command needs, a number of commands that can still rise among it
 pub record IsReadyFor (kept : Kept) (commands : ℕ) (decided : Decided) (command : Command) : Type 0 where

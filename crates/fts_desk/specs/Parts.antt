@@ -1,5 +1,5 @@
 -- What a claim looks at, beside the rows: there from the first Restart on, tied to the rows and jobs, with room for what a command may add.
-use Rattle.std.specs.Prelude.{◌≡◌, ◌≢◌, ℕ, ◌+◌, ◌-◌, ◌<◌, ◌≤◌, true, List, map, length, slice_get, Option, Some, None, option_map}
+use Rattle.std.specs.Prelude.{◌≡◌, ◌≢◌, ℕ, ◌+◌, ◌-◌, ◌<◌, ◌≤◌, true, List, length, slice_get, Option, Some, None, option_map, IfSome}
 use Rattle.fts_tables.specs.SettingsData.{SettingsData}
 use Rattle.fts_tables.specs.Limits.{has_known_ends}
 use Rattle.fts_tables.specs.declared.rows.FileRow.{FileRow}
@@ -20,8 +20,7 @@ limits_of parts = option_map (λ (parts : ClaimParts). parts.slots.settings) par
 
 -- what a claim looks at is tied to these jobs and rows
 abbrev pub AreTiedParts : List JobRow → List FileRow → Option ClaimParts → Type 0
-AreTiedParts jobs rows None = Unit {0}
-AreTiedParts jobs rows (Some parts) = AreTiedTo jobs rows parts
+AreTiedParts jobs rows parts = IfSome parts (λ parts. AreTiedTo jobs rows parts)
 
 -- the loads are those of these rows, and what a claim looks at is tied to them and to the jobs
 pub record IsBeside (jobs : List JobRow) (rows : List FileRow) (beside : Beside) : Type 0 where

@@ -132,12 +132,7 @@ pub fn cancel_job(kept: &mut Kept, now: u64, job: u32) -> Answer
     match job_place(&kept.jobs, job) {
         Some(place) => {
             let found = kept.jobs[place];
-            cancel_all_of(
-                &mut kept.rows,
-                &found,
-                &mut kept.beside,
-                &kept.jobs,
-            );
+            cancel_all_of(&mut kept.rows, &found, &mut kept.beside, &kept.jobs);
         }
         None => unreachable!(),
     }
@@ -156,13 +151,7 @@ pub fn cancel_file(kept: &mut Kept, now: u64, job: u32, file: u32) -> Answer
     match job_place(&kept.jobs, job) {
         Some(place) => {
             let found = kept.jobs[place];
-            cancel_by_kind(
-                &mut kept.rows,
-                &found,
-                file,
-                &mut kept.beside,
-                &kept.jobs,
-            );
+            cancel_by_kind(&mut kept.rows, &found, file, &mut kept.beside, &kept.jobs);
         }
         None => unreachable!(),
     }
@@ -192,12 +181,7 @@ fn cancel_by_kind(
 }
 
 /// Cancels the row of an id.
-fn cancel_at(
-    rows: &mut [FileRow],
-    file: u32,
-    beside: &mut Beside,
-    jobs: &[JobRow],
-)
+fn cancel_at(rows: &mut [FileRow], file: u32, beside: &mut Beside, jobs: &[JobRow])
     requires jobs_numbered { AreNumberedFrom (λ job. job.number) 1 jobs.now }
     requires beside { IsBeside jobs.now rows.old beside.old }
     requires inside { IsInside rows.old file }
@@ -212,12 +196,7 @@ fn cancel_at(
 }
 
 /// Cancels each row of a job, and looks at no other.
-fn cancel_all_of(
-    rows: &mut [FileRow],
-    job: &JobRow,
-    beside: &mut Beside,
-    jobs: &[JobRow],
-)
+fn cancel_all_of(rows: &mut [FileRow], job: &JobRow, beside: &mut Beside, jobs: &[JobRow])
     requires jobs_numbered { AreNumberedFrom (λ job. job.number) 1 jobs.now }
     requires beside { IsBeside jobs.now rows.old beside.old }
     requires numbered { AreNumberedFrom (λ row. row.id) 1 rows.old }
@@ -233,13 +212,7 @@ fn cancel_all_of(
 }
 
 /// Cancels the row at a place where it is of a job.
-fn cancel_if_of(
-    rows: &mut [FileRow],
-    place: usize,
-    job: u32,
-    beside: &mut Beside,
-    jobs: &[JobRow],
-)
+fn cancel_if_of(rows: &mut [FileRow], place: usize, job: u32, beside: &mut Beside, jobs: &[JobRow])
     requires jobs_numbered { AreNumberedFrom (λ job. job.number) 1 jobs.now }
     requires numbered { AreNumberedFrom (λ row. row.id) 1 rows.old }
     requires beside { IsBeside jobs.now rows.old beside.old }
@@ -275,12 +248,7 @@ fn cancel_place_of(
 }
 
 /// Cancels the row at a place. One that runs keeps its slot and its destination; one that waits is taken out.
-fn cancel_place(
-    rows: &mut [FileRow],
-    place: usize,
-    parts: &mut Option<ClaimParts>,
-    jobs: &[JobRow],
-)
+fn cancel_place(rows: &mut [FileRow], place: usize, parts: &mut Option<ClaimParts>, jobs: &[JobRow])
     requires jobs_numbered { AreNumberedFrom (λ job. job.number) 1 jobs.now }
     requires numbered { AreNumberedFrom (λ row. row.id) 1 rows.old }
     requires tied { AreTiedParts jobs.now rows.old parts.old }

@@ -7,6 +7,8 @@ ghost use Rattle.std.specs.Prelude.{
   ◌-◌,
   ◌<◌,
   ℕ,
+  List,
+  false,
   max,
   length,
   slice_get,
@@ -17,24 +19,28 @@ ghost use Rattle.std.specs.Prelude.{
   IfSome,
   OnOk,
 };
-ghost use Rattle.fts_tables.specs.Tables.{AreNumberedFrom, AreWellFormed};
+ghost use Rattle.fts_tables.specs.SettingsData.{IsSettings};
+ghost use Rattle.fts_tables.specs.Tables.{AreNumberedFrom, AreWellFormed, is_active};
 ghost use Rattle.fts_tables.specs.Choice.{pick};
 ghost use Rattle.fts_tables.specs.Moves.{claimed};
 ghost use Rattle.fts_tables.specs.Step.{step};
 ghost use Rattle.fts_tables.specs.declared.commands.Command.TheVariants.{Claim};
 ghost use Rattle.fts_tables.specs.declared.commands.Answer.TheVariants.{Claimed};
 ghost use Rattle.fts_tables.specs.declared.rows.FileRow.{FileRow};
+ghost use Rattle.fts_tables.specs.declared.rows.JobRow.{JobRow};
 ghost use Rattle.fts_tables.specs.declared.limits.TheConstants.{MAX_COMMANDS};
-ghost use Rattle.fts_claims.specs.Changes.{AreTiedTo, HasRoomsRisen};
+ghost use Rattle.fts_claims.specs.Changes.{AreTiedTo};
 ghost use Rattle.fts_desk.specs.Kept.{tables_kept};
-ghost use Rattle.fts_desk.specs.Parts.{HasRoomToRun};
+ghost use Rattle.fts_desk.specs.Parts.{limits_of, AreTiedParts, HasRoomToRun, MayRunIn};
 ghost use Rattle.fts_desk.specs.Prepared.{IsPrepared};
 
 use crate::DeskFault;
 use crate::kept::Kept;
 use crate::loads::recount;
 use crate::parts::{leave, start};
-use fts_claims::{ClaimParts, ClaimView, eligible_rows_may_run, pick_waiter, tied_rows_may_be_claimed};
+use fts_claims::{
+    ClaimParts, ClaimView, eligible_rows_may_run, pick_waiter, tied_rows_may_be_claimed,
+};
 use fts_tables::laws::{picked_rows_are_eligible, picked_rows_stand};
 use fts_tables::{Answer, FileRow, FileState, JobRow, Memory, Place, Refusal, Settings};
 use std::alloc::Global;
@@ -68,9 +74,62 @@ fn pick_file(
     pick_waiter(&view, word)
 }
 
+/// The file that a claim takes now, over what stands beside these rows. None exactly where no row may be claimed; without settings none may.
+fn find_file(
+    parts: &mut Option<ClaimParts>,
+    settings: &Option<Settings>,
+    jobs: &[JobRow],
+    rows: &[FileRow],
+    moment: u64,
+    word: u64,
+) -> Option<u32>
+    requires numbered { AreNumberedFrom (λ row. row.id) 1 rows.now }
+    requires settings { limits_of parts.old ≡ settings.now }
+    requires tied { AreTiedParts jobs.now rows.now parts.old }
+    ensures tied { AreTiedParts jobs.now rows.now parts.new }
+    ensures settings { limits_of parts.new ≡ settings.now }
+    ensures file { option_map (λ row. row.id) (pick (record { jobs = jobs.now; rows = rows.now; moment = 0; settings = settings.now }) moment word) ≡ result }
+{
+    match settings {
+        Some(settings) => match parts {
+            Some(parts) => pick_file(parts, settings, jobs, rows, moment, word),
+            None => None,
+        },
+        None => None,
+    }
+}
+
+/// Room for one destination more among the busy ones.
+fn make_room_to_run(parts: &mut Option<ClaimParts>) -> Result<(), Memory>
+    ensures tied { (jobs : List JobRow) (rows : List FileRow) → AreTiedParts jobs rows parts.old → AreTiedParts jobs rows parts.new }
+    ensures settings { limits_of parts.new ≡ limits_of parts.old }
+    ensures room { OnOk result (HasRoomToRun parts.new) }
+{
+    match parts {
+        Some(parts) => parts.busy.make_room(1),
+        None => Ok(()),
+    }
+}
+
+/// A copy of a row's destination, and room for it among the busy ones.
+fn copy_dest(alloc: Global, parts: &mut Option<ClaimParts>, row: &FileRow) -> Result<Place, Memory>
+    ensures tied { (jobs : List JobRow) (rows : List FileRow) → AreTiedParts jobs rows parts.old → AreTiedParts jobs rows parts.new }
+    ensures settings { limits_of parts.new ≡ limits_of parts.old }
+    ensures room { OnOk result (HasRoomToRun parts.new) }
+    ensures dest { IfOk result (λ dest. row.now.dest ≡ dest) }
+{
+    make_room_to_run(parts)?;
+    row.dest.copy(alloc)
+}
+
 /// The place of the row that a claim takes now, and a copy of its destination, for which there is room among the busy ones.
 /// Idle exactly where no row may be claimed; there is none without settings.
-pub fn find_claim(alloc: Global, kept: &mut Kept, now: u64, word: u64) -> Result<(usize, Place), DeskFault>
+pub fn find_claim(
+    alloc: Global,
+    kept: &mut Kept,
+    now: u64,
+    word: u64,
+) -> Result<(usize, Place), DeskFault>
     requires formed { AreWellFormed (tables_kept kept.old) }
     ensures tables { tables_kept kept.new ≡ tables_kept kept.old }
     ensures answer { IsPrepared (step (tables_kept kept.old) (Claim now word)) result }
@@ -80,34 +139,23 @@ pub fn find_claim(alloc: Global, kept: &mut Kept, now: u64, word: u64) -> Result
     ensures room { IfOk result (λ found. HasRoomToRun kept.new.beside.parts) }
 {
     picked_rows_stand();
-    let settings = match &kept.settings {
-        Some(settings) => settings,
-        None => return Err(DeskFault::Rule(Refusal::Idle)),
-    };
-    let parts = match &mut kept.beside.parts {
-        Some(parts) => parts,
-        None => return Err(DeskFault::Rule(Refusal::Idle)),
-    };
     let moment = now.max(kept.moment);
-    let file = match pick_file(parts, settings, &kept.jobs, &kept.rows, moment, word) {
-        Some(file) => file,
+    let found = find_file(
+        &mut kept.beside.parts,
+        &kept.settings,
+        &kept.jobs,
+        &kept.rows,
+        moment,
+        word,
+    );
+    let place = match found {
+        Some(file) => file as usize - 1,
         None => return Err(DeskFault::Rule(Refusal::Idle)),
     };
-    let place = file as usize - 1;
-    match make_room_to_run(alloc, parts, &kept.rows[place]) {
+    match copy_dest(alloc, &mut kept.beside.parts, &kept.rows[place]) {
         Ok(dest) => Ok((place, dest)),
         Err(Memory) => Err(DeskFault::Memory),
     }
-}
-
-/// A copy of a row's destination, and room for it among the busy ones.
-fn make_room_to_run(alloc: Global, parts: &mut ClaimParts, row: &FileRow) -> Result<Place, Memory>
-    ensures risen { HasRoomsRisen parts.old parts.new }
-    ensures room { OnOk result (length parts.new.busy.places < parts.new.busy.room) }
-    ensures dest { IfOk result (λ dest. row.now.dest ≡ dest) }
-{
-    parts.busy.make_room(1)?;
-    row.dest.copy(alloc)
 }
 
 /// A row becomes ACTIVE, for one attempt more.
@@ -124,6 +172,31 @@ fn claim_row(row: &mut FileRow) -> Answer
     }
 }
 
+/// Settings keep their rules, where there are any.
+fn settings_keep_their_rules(settings: &Option<Settings>)
+    ensures rules { IfSome settings.now IsSettings }
+{
+    match settings {
+        Some(settings) => {
+            let _workers = settings.workers;
+        }
+        None => {}
+    }
+}
+
+/// A row that is picked doesn't run yet, and may.
+fn picked_rows_may_run(kept: &Kept)
+    requires formed { AreWellFormed (tables_kept kept.now) }
+    requires room { HasRoomToRun kept.now.beside.parts }
+    ensures idle { (now word : ℕ) (row : FileRow) → pick (tables_kept kept.now) now word ≡ Some row → is_active row.state ≡ false }
+    ensures may { (now word place : ℕ) (row : FileRow) → pick (tables_kept kept.now) now word ≡ Some row
+        → slice_get kept.now.rows.items place ≡ Some row → MayRunIn row kept.now.beside.parts }
+{
+    picked_rows_are_eligible();
+    eligible_rows_may_run();
+    settings_keep_their_rules(&kept.settings);
+}
+
 /// The row at a place that was picked becomes ACTIVE, for one attempt more.
 pub fn claim(kept: &mut Kept, now: u64, place: usize, dest: Place) -> Answer
     requires formed { AreWellFormed (tables_kept kept.old) }
@@ -135,6 +208,7 @@ pub fn claim(kept: &mut Kept, now: u64, place: usize, dest: Place) -> Answer
     ensures step { (word : ℕ) → pick (tables_kept kept.old) (max now kept.old.moment) word ≡ slice_get kept.old.rows.items place
         → step (tables_kept kept.old) (Claim now word) ≡ Ok (tables_kept kept.new, result) }
 {
+    picked_rows_may_run(kept);
     kept.moment = now.max(kept.moment);
     let was_live = kept.rows[place].state.is_live();
     leave(&mut kept.beside.parts, &kept.jobs, &kept.rows, place);

@@ -56,8 +56,10 @@ fn decide_restart(alloc: Global, kept: &Kept, settings: &Settings) -> Result<Dec
     ensures answer { (now : ℕ) → IsPrepared (step (tables_kept kept.now) (Restart now settings.now)) result }
     ensures decided { IfOk result (λ decided. (now : ℕ) → IsDecided kept.now (Restart now settings.now) decided) }
 {
-    let parts = restart::prepare_restart(alloc, kept, settings)?;
-    Ok(Decided::Restart { parts })
+    match restart::prepare_restart(alloc, kept, settings) {
+        Ok(parts) => Ok(Decided::Restart { parts }),
+        Err(fault) => Err(fault),
+    }
 }
 
 /// Decides a claim.

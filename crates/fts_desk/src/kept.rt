@@ -1,6 +1,7 @@
 //! The lists behind a desk's tables. `specs/Kept.antt` says which tables they are (`tables_kept`).
 //! Each command's module has a step over them, whose contract is the machine's step over those tables.
 ghost use Rattle.std.specs.Prelude.{◌≡◌, map};
+ghost use Rattle.std.proofs.Props.{props};
 ghost use Rattle.fts_desk.specs.Parts.{limits_of, IsBeside};
 
 use fts_claims::ClaimParts;
@@ -18,7 +19,7 @@ pub struct Kept {
     pub ids: JobIds,
     pub beside: Beside,
     ghost ids_of_jobs: { ids.ids ≡ map (λ job. job.id) jobs.items },
-    ghost beside_rows: { IsBeside jobs.items rows.items beside },
+    ghost beside_rows: { IsBeside jobs.items rows.items beside } by { Prim.hlevel props },
     ghost of_settings: { limits_of beside.parts ≡ settings },
 }
 

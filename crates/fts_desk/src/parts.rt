@@ -56,7 +56,13 @@ pub fn wait(parts: &mut Option<ClaimParts>, jobs: &[JobRow], rows: &[FileRow], p
 }
 
 /// Lets the row at a place run, whose destination this is.
-pub fn start(parts: &mut Option<ClaimParts>, jobs: &[JobRow], rows: &[FileRow], place: usize, dest: Place)
+pub fn start(
+    parts: &mut Option<ClaimParts>,
+    jobs: &[JobRow],
+    rows: &[FileRow],
+    place: usize,
+    dest: Place,
+)
     requires rows_numbered { AreNumberedFrom (λ row. row.id) 1 rows.now }
     requires inside { place < length rows.now }
     requires tied { AreTiedParts jobs.now (all_but place rows.now) parts.old }
@@ -90,7 +96,11 @@ pub fn wait_from(parts: &mut Option<ClaimParts>, jobs: &[JobRow], rows: &[FileRo
 }
 
 /// Makes room in a row's queue for so many more.
-pub fn make_room_to_wait(parts: &mut Option<ClaimParts>, row: &FileRow, more: u32) -> Result<(), Memory>
+pub fn make_room_to_wait(
+    parts: &mut Option<ClaimParts>,
+    row: &FileRow,
+    more: u32,
+) -> Result<(), Memory>
     ensures room { OnOk result (HasRoomToWait more row.now parts.new) }
     ensures risen { HaveRisenRooms parts.old parts.new }
 {

@@ -118,7 +118,12 @@ pub fn make_room(kept: &mut Kept, file: u32) -> Result<(), Memory>
     rows_stand_together();
     match row_place(&kept.rows, file) {
         Some(place) => match job_place(&kept.jobs, kept.rows[place].job) {
-            Some(number) => make_room_at(&mut kept.beside.parts, &kept.rows, place, &kept.jobs[number]),
+            Some(number) => make_room_at(
+                &mut kept.beside.parts,
+                &kept.rows,
+                place,
+                &kept.jobs[number],
+            ),
             None => Ok(()),
         },
         None => Ok(()),
@@ -126,7 +131,12 @@ pub fn make_room(kept: &mut Kept, file: u32) -> Result<(), Memory>
 }
 
 /// Makes room for the row at a place of a job, and for the job's others where it isn't a plain one.
-fn make_room_at(parts: &mut Option<ClaimParts>, rows: &[FileRow], place: usize, job: &JobRow) -> Result<(), Memory>
+fn make_room_at(
+    parts: &mut Option<ClaimParts>,
+    rows: &[FileRow],
+    place: usize,
+    job: &JobRow,
+) -> Result<(), Memory>
     requires inside { place < length rows.now }
     requires together { StandTogether rows.now job.now }
     ensures room { OnOk result (HasRoomToReport job.now place rows.now parts.new) }
@@ -137,7 +147,11 @@ fn make_room_at(parts: &mut Option<ClaimParts>, rows: &[FileRow], place: usize, 
 }
 
 /// Makes room for each row of a job that isn't a plain one.
-fn make_room_of_job(parts: &mut Option<ClaimParts>, rows: &[FileRow], job: &JobRow) -> Result<(), Memory>
+fn make_room_of_job(
+    parts: &mut Option<ClaimParts>,
+    rows: &[FileRow],
+    job: &JobRow,
+) -> Result<(), Memory>
     requires together { StandTogether rows.now job.now }
     ensures room { OnOk result (job.now.kind ≢ Plain → (other : ℕ) (row : FileRow) → job.now.first - 1 ≤ other → other < job.now.first - 1 + job.now.count
         → slice_get rows.now other ≡ Some row → HasRoomToWait 2 row parts.new) }
@@ -239,6 +253,7 @@ fn report_row(row: &mut FileRow, job: &JobRow, now: u64, outcome: &Outcome) -> A
     ensures row { row.new ≡ reported job.now now outcome.now row.old }
     ensures state { result.state ≡ row.new.state }
     ensures follow { (rows : List FileRow) → followed job.now row.new rows ≡ with_follow result.follow job.now row.old rows }
+    ensures kind { IsFollowOf job.now.kind result.follow }
 {
     let after = after_report(row, job, outcome, now);
     row.state = after.state;
@@ -279,13 +294,7 @@ fn follow(
 }
 
 /// Wakes the hop behind that at a place, where there is one.
-fn wake_hop(
-    rows: &mut [FileRow],
-    place: usize,
-    job: &JobRow,
-    beside: &mut Beside,
-    jobs: &[JobRow],
-)
+fn wake_hop(rows: &mut [FileRow], place: usize, job: &JobRow, beside: &mut Beside, jobs: &[JobRow])
     requires jobs_numbered { AreNumberedFrom (λ job. job.number) 1 jobs.now }
     requires beside { IsBeside jobs.now rows.old beside.old }
     requires room { HaveRoomToWait job.now rows.old beside.old.parts }
@@ -304,12 +313,7 @@ fn wake_hop(
 }
 
 /// Wakes the next alternative of a replica job, where there is one.
-fn wake_alternative(
-    rows: &mut [FileRow],
-    job: &JobRow,
-    beside: &mut Beside,
-    jobs: &[JobRow],
-)
+fn wake_alternative(rows: &mut [FileRow], job: &JobRow, beside: &mut Beside, jobs: &[JobRow])
     requires jobs_numbered { AreNumberedFrom (λ job. job.number) 1 jobs.now }
     requires beside { IsBeside jobs.now rows.old beside.old }
     requires room { HaveRoomToWait job.now rows.old beside.old.parts }

@@ -20,7 +20,11 @@ use fts_tables::{Answer, FileRow, Memory, Reason, Settings};
 use std::alloc::Global;
 
 /// What a claim looks at once the run has begun.
-pub fn prepare_restart(alloc: Global, kept: &Kept, settings: &Settings) -> Result<ClaimParts, DeskFault>
+pub fn prepare_restart(
+    alloc: Global,
+    kept: &Kept,
+    settings: &Settings,
+) -> Result<ClaimParts, DeskFault>
     requires formed { AreWellFormed (tables_kept kept.now) }
     ensures tied { IfOk result (λ parts. AreTiedTo kept.now.jobs.items (map released kept.now.rows.items) parts) }
     ensures settings { IfOk result (λ parts. parts.slots.settings ≡ settings.now) }

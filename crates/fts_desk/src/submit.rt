@@ -156,7 +156,14 @@ pub fn submit(kept: &mut Kept, now: u64, job: NewJob) -> Answer
     let id = id_of_new(id, number);
     let files = files.into_vec();
     let count = files.len() as u32;
-    add_rows_of_kind(&mut kept.rows, number, kind, strategy, files, &kept.beside.loads);
+    add_rows_of_kind(
+        &mut kept.rows,
+        number,
+        kind,
+        strategy,
+        files,
+        &kept.beside.loads,
+    );
     count_new(&mut kept.beside.loads, &kept.rows[first as usize - 1..]);
     kept.ids.add(id);
     jobs_more_stay_tied();
@@ -173,7 +180,12 @@ pub fn submit(kept: &mut Kept, now: u64, job: NewJob) -> Answer
         first,
         count,
     });
-    wait_from(&mut kept.beside.parts, &kept.jobs, &kept.rows, first as usize - 1);
+    wait_from(
+        &mut kept.beside.parts,
+        &kept.jobs,
+        &kept.rows,
+        first as usize - 1,
+    );
     Answer::Submitted { job: number, id }
 }
 

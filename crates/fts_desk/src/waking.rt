@@ -31,12 +31,7 @@ pub fn wake_at(rows: &mut [FileRow], place: usize)
 }
 
 /// The same of a row that stands beside others: it is counted among the loads, and waits among the files that wait.
-pub fn wake_counted(
-    rows: &mut [FileRow],
-    place: usize,
-    beside: &mut Beside,
-    jobs: &[JobRow],
-)
+pub fn wake_counted(rows: &mut [FileRow], place: usize, beside: &mut Beside, jobs: &[JobRow])
     requires jobs_numbered { AreNumberedFrom (λ job. job.number) 1 jobs.now }
     requires numbered { AreNumberedFrom (λ row. row.id) 1 rows.old }
     requires beside { IsBeside jobs.now rows.old beside.old }
