@@ -59,7 +59,8 @@ fn pick_file(
     requires tied { AreTiedTo jobs.now rows.now parts.old }
     ensures tied { AreTiedTo jobs.now rows.now parts.new }
     ensures settings { parts.new.slots.settings ≡ settings.now }
-    ensures file { option_map (λ row. row.id) (pick (record { jobs = jobs.now; rows = rows.now; moment = 0; settings = Some settings.now }) moment word) ≡ result }
+    ensures file { option_map (λ row. row.id)
+        (pick (record { jobs = jobs.now; rows = rows.now; moment = 0; settings = Some settings.now }) moment word) ≡ result }
 {
     tied_rows_may_be_claimed();
     parts.waiting.ripen(moment);
@@ -88,7 +89,8 @@ fn find_file(
     requires tied { AreTiedParts jobs.now rows.now parts.old }
     ensures tied { AreTiedParts jobs.now rows.now parts.new }
     ensures settings { limits_of parts.new ≡ settings.now }
-    ensures file { option_map (λ row. row.id) (pick (record { jobs = jobs.now; rows = rows.now; moment = 0; settings = settings.now }) moment word) ≡ result }
+    ensures file { option_map (λ row. row.id)
+        (pick (record { jobs = jobs.now; rows = rows.now; moment = 0; settings = settings.now }) moment word) ≡ result }
 {
     match settings {
         Some(settings) => match parts {

@@ -142,7 +142,7 @@ pub fn submit(kept: &mut Kept, now: u64, job: NewJob) -> Answer
 {
     kept.moment = kept.moment.max(now);
     let number = kept.jobs.len() as u32 + 1;
-    let first = kept.rows.len() as u32 + 1;
+    let from = kept.rows.len();
     let NewJob {
         id,
         kind,
@@ -156,15 +156,9 @@ pub fn submit(kept: &mut Kept, now: u64, job: NewJob) -> Answer
     let id = id_of_new(id, number);
     let files = files.into_vec();
     let count = files.len() as u32;
-    add_rows_of_kind(
-        &mut kept.rows,
-        number,
-        kind,
-        strategy,
-        files,
-        &kept.beside.loads,
-    );
-    count_new(&mut kept.beside.loads, &kept.rows[first as usize - 1..]);
+    let beside = &mut kept.beside;
+    add_rows_of_kind(&mut kept.rows, number, kind, strategy, files, &beside.loads);
+    count_new(&mut beside.loads, &kept.rows[from..]);
     kept.ids.add(id);
     jobs_more_stay_tied();
     kept.jobs.push_reserved(JobRow {
@@ -177,15 +171,10 @@ pub fn submit(kept: &mut Kept, now: u64, job: NewJob) -> Answer
         overwrite,
         strategy,
         submitted_at: kept.moment,
-        first,
+        first: from as u32 + 1,
         count,
     });
-    wait_from(
-        &mut kept.beside.parts,
-        &kept.jobs,
-        &kept.rows,
-        first as usize - 1,
-    );
+    wait_from(&mut beside.parts, &kept.jobs, &kept.rows, from);
     Answer::Submitted { job: number, id }
 }
 

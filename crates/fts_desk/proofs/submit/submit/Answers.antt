@@ -17,12 +17,12 @@ count_new-requires c =
     let lists = c.args.kept.now.beside.loads in
     let files : job.files ≡ c.into_vec-files.result.items = ap (λ (new : JobData). new.files) (sym c.job.view_is) ∙ sym c.into_vec-files.ensures in
     let rows = c.add_rows_of_kind.ensures.rows job files (ap (λ (new : JobData). new.strategy) (sym c.job.view_is)) in
-    let first : c.len-2.result + 1 - 1 ≡ length before = omega (arith, c.len-2.ensures, c.args.kept.now.rows.ok.0) in
+    let first : c.len-from.result ≡ length before = omega (arith, c.len-from.ensures, c.args.kept.now.rows.ok.0) in
     let known = ap (are_known lists) (links_of_kind c.job.inside.kind before (c.len.result + 1) (length before + 1) job) ∙ c.requires.room.links in
     let few : length c.deref.result.now ≤ 200000 =
     omega (arith, c.deref.ensures.len, ap length c.deref.ensures.value, c.add_rows_of_kind.ensures.count, ap length files, c.requires.room.count.row_limit) in
     record {
-      may = rest_may_count before (rows_of_kind c.job.inside.kind before (c.len.result + 1) (length before + 1) job) c.deref.result.now (c.len-2.result + 1 - 1)
+      may = rest_may_count before (rows_of_kind c.job.inside.kind before (c.len.result + 1) (length before + 1) job) c.deref.result.now (c.len-from.result)
           lists (c.deref.ensures.value ∙ rows) first c.args.kept.now.beside_rows.loads known few;
     }
 
@@ -32,9 +32,9 @@ wait_from-requires-clause-jobs_numbered c =
     let before = c.args.kept.now.rows.items in
     let files : job.files ≡ c.into_vec-files.result.items = ap (λ (new : JobData). new.files) (sym c.job.view_is) ∙ sym c.into_vec-files.ensures in
     let rows = c.add_rows_of_kind.ensures.rows job files (ap (λ (new : JobData). new.strategy) (sym c.job.view_is)) in
-    let from : c.len-2.result + 1 - 1 ≡ length before = omega (arith, c.len-2.ensures, c.args.kept.now.rows.ok.0) in
+    let from : c.len-from.result ≡ length before = omega (arith, c.len-from.ensures, c.args.kept.now.rows.ok.0) in
     let number : c.len.result + 1 ≡ length c.args.kept.now.jobs.items + 1 = omega (arith, c.len.ensures, c.args.kept.now.jobs.ok.0) in
-    submitted_jobs (tables_kept c.args.kept.now) c.requires.formed c.job.inside.kind (c.len.result + 1) (length before + 1) (c.len-2.result + 1 - 1) job _
+    submitted_jobs (tables_kept c.args.kept.now) c.requires.formed c.job.inside.kind (c.len.result + 1) (length before + 1) (c.len-from.result) job _
     c.deref-2.result.now c.deref-3.result.now c.args.kept.now.beside.parts (c.deref-2.ensures.value ∙ c.push_reserved.ensures.items)
     (c.deref-3.ensures.value ∙ rows) number refl from
 
@@ -44,9 +44,9 @@ wait_from-requires-clause-rows_numbered c =
     let before = c.args.kept.now.rows.items in
     let files : job.files ≡ c.into_vec-files.result.items = ap (λ (new : JobData). new.files) (sym c.job.view_is) ∙ sym c.into_vec-files.ensures in
     let rows = c.add_rows_of_kind.ensures.rows job files (ap (λ (new : JobData). new.strategy) (sym c.job.view_is)) in
-    let from : c.len-2.result + 1 - 1 ≡ length before = omega (arith, c.len-2.ensures, c.args.kept.now.rows.ok.0) in
+    let from : c.len-from.result ≡ length before = omega (arith, c.len-from.ensures, c.args.kept.now.rows.ok.0) in
     let number : c.len.result + 1 ≡ length c.args.kept.now.jobs.items + 1 = omega (arith, c.len.ensures, c.args.kept.now.jobs.ok.0) in
-    submitted_rows (tables_kept c.args.kept.now) c.requires.formed c.job.inside.kind (c.len.result + 1) (length before + 1) (c.len-2.result + 1 - 1) job _
+    submitted_rows (tables_kept c.args.kept.now) c.requires.formed c.job.inside.kind (c.len.result + 1) (length before + 1) (c.len-from.result) job _
     c.deref-2.result.now c.deref-3.result.now c.args.kept.now.beside.parts (c.deref-2.ensures.value ∙ c.push_reserved.ensures.items)
     (c.deref-3.ensures.value ∙ rows) number refl from
 
@@ -56,9 +56,9 @@ wait_from-requires-clause-tied c =
     let before = c.args.kept.now.rows.items in
     let files : job.files ≡ c.into_vec-files.result.items = ap (λ (new : JobData). new.files) (sym c.job.view_is) ∙ sym c.into_vec-files.ensures in
     let rows = c.add_rows_of_kind.ensures.rows job files (ap (λ (new : JobData). new.strategy) (sym c.job.view_is)) in
-    let from : c.len-2.result + 1 - 1 ≡ length before = omega (arith, c.len-2.ensures, c.args.kept.now.rows.ok.0) in
+    let from : c.len-from.result ≡ length before = omega (arith, c.len-from.ensures, c.args.kept.now.rows.ok.0) in
     let number : c.len.result + 1 ≡ length c.args.kept.now.jobs.items + 1 = omega (arith, c.len.ensures, c.args.kept.now.jobs.ok.0) in
-    submitted_tied (tables_kept c.args.kept.now) c.requires.formed c.job.inside.kind (c.len.result + 1) (length before + 1) (c.len-2.result + 1 - 1) job _
+    submitted_tied (tables_kept c.args.kept.now) c.requires.formed c.job.inside.kind (c.len.result + 1) (length before + 1) (c.len-from.result) job _
     c.deref-2.result.now c.deref-3.result.now c.args.kept.now.beside.parts (c.deref-2.ensures.value ∙ c.push_reserved.ensures.items)
     (c.deref-3.ensures.value ∙ rows) number refl from c.jobs_more_stay_tied.ensures.tied c.args.kept.now.beside_rows.parts
 
@@ -68,9 +68,9 @@ wait_from-requires-clause-idle c =
     let before = c.args.kept.now.rows.items in
     let files : job.files ≡ c.into_vec-files.result.items = ap (λ (new : JobData). new.files) (sym c.job.view_is) ∙ sym c.into_vec-files.ensures in
     let rows = c.add_rows_of_kind.ensures.rows job files (ap (λ (new : JobData). new.strategy) (sym c.job.view_is)) in
-    let from : c.len-2.result + 1 - 1 ≡ length before = omega (arith, c.len-2.ensures, c.args.kept.now.rows.ok.0) in
+    let from : c.len-from.result ≡ length before = omega (arith, c.len-from.ensures, c.args.kept.now.rows.ok.0) in
     let number : c.len.result + 1 ≡ length c.args.kept.now.jobs.items + 1 = omega (arith, c.len.ensures, c.args.kept.now.jobs.ok.0) in
-    submitted_idle (tables_kept c.args.kept.now) c.requires.formed c.job.inside.kind (c.len.result + 1) (length before + 1) (c.len-2.result + 1 - 1) job _
+    submitted_idle (tables_kept c.args.kept.now) c.requires.formed c.job.inside.kind (c.len.result + 1) (length before + 1) (c.len-from.result) job _
     c.deref-2.result.now c.deref-3.result.now c.args.kept.now.beside.parts (c.deref-2.ensures.value ∙ c.push_reserved.ensures.items)
     (c.deref-3.ensures.value ∙ rows) number refl from
 
@@ -80,9 +80,9 @@ wait_from-requires-clause-room c =
     let before = c.args.kept.now.rows.items in
     let files : job.files ≡ c.into_vec-files.result.items = ap (λ (new : JobData). new.files) (sym c.job.view_is) ∙ sym c.into_vec-files.ensures in
     let rows = c.add_rows_of_kind.ensures.rows job files (ap (λ (new : JobData). new.strategy) (sym c.job.view_is)) in
-    let from : c.len-2.result + 1 - 1 ≡ length before = omega (arith, c.len-2.ensures, c.args.kept.now.rows.ok.0) in
+    let from : c.len-from.result ≡ length before = omega (arith, c.len-from.ensures, c.args.kept.now.rows.ok.0) in
     let number : c.len.result + 1 ≡ length c.args.kept.now.jobs.items + 1 = omega (arith, c.len.ensures, c.args.kept.now.jobs.ok.0) in
-    submitted_room (tables_kept c.args.kept.now) c.requires.formed c.job.inside.kind (c.len.result + 1) (length before + 1) (c.len-2.result + 1 - 1) job _
+    submitted_room (tables_kept c.args.kept.now) c.requires.formed c.job.inside.kind (c.len.result + 1) (length before + 1) (c.len-from.result) job _
     c.deref-2.result.now c.deref-3.result.now c.args.kept.now.beside.parts (c.deref-2.ensures.value ∙ c.push_reserved.ensures.items)
     (c.deref-3.ensures.value ∙ rows) number refl from c.requires.room.queues
 
@@ -93,13 +93,13 @@ invariant_of-kept-clause-beside_rows c =
     let lists = c.args.kept.now.beside.loads in
     let files : job.files ≡ c.into_vec-files.result.items = ap (λ (new : JobData). new.files) (sym c.job.view_is) ∙ sym c.into_vec-files.ensures in
     let rows = c.add_rows_of_kind.ensures.rows job files (ap (λ (new : JobData). new.strategy) (sym c.job.view_is)) in
-    let first : c.len-2.result + 1 - 1 ≡ length before = omega (arith, c.len-2.ensures, c.args.kept.now.rows.ok.0) in
+    let first : c.len-from.result ≡ length before = omega (arith, c.len-from.ensures, c.args.kept.now.rows.ok.0) in
     let known = ap (are_known lists) (links_of_kind c.job.inside.kind before (c.len.result + 1) (length before + 1) job) ∙ c.requires.room.links in
     let few : length c.deref.result.now ≤ 200000 =
     omega (arith, c.deref.ensures.len, ap length c.deref.ensures.value, c.add_rows_of_kind.ensures.count, ap length files, c.requires.room.count.row_limit) in
     record {
       loads = subst (λ rows. AreLoadsOf rows c.count_new.new.loads) c.deref.ensures.value
-          (rest_counted before (rows_of_kind c.job.inside.kind before (c.len.result + 1) (length before + 1) job) c.deref.result.now (c.len-2.result + 1 - 1)
+          (rest_counted before (rows_of_kind c.job.inside.kind before (c.len.result + 1) (length before + 1) job) c.deref.result.now (c.len-from.result)
           lists (c.deref.ensures.value ∙ rows) first c.args.kept.now.beside_rows.loads known few c.count_new.new.loads c.count_new.ensures.counts
           c.count_new.ensures.known);
       parts = subst (λ jobs. AreTiedParts jobs c.add_rows_of_kind.new.rows.items c.wait_from.new.parts) c.deref-2.ensures.value
