@@ -99,7 +99,8 @@ module _ {D E : Type 0} (state : D → DiskState) (faults : D → ℕ) (store_st
     pub ends : EndsLoad (load_line tally) held now ran_end end
 
   -- what a load did over a keep that was started
-  abbrev pub LoadsKeep : ℕ → List ℕ → ThreadData D E → D → E → Option Coming → Option Coming → List ℕ → Reading → Option (List ℕ) → Option (List ℕ) → RunEnd → Tally → Type 0
+  abbrev pub LoadsKeep : ℕ → List ℕ → ThreadData D E → D → E → Option Coming → Option Coming → List ℕ → Reading → Option (List ℕ) → Option (List ℕ)
+      → RunEnd → Tally → Type 0
   LoadsKeep number source at left store later words_later kept input held now end tally =
       LeavesKeep number source at left store later words_later held now end tally
       ⊎ SessionOver number source at left store later words_later kept input held now end tally
