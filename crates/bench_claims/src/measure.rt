@@ -27,6 +27,15 @@ enum Timed {
     Cancellations,
 }
 
+/// Which of the files are ripe.
+#[derive(Clone, Copy)]
+enum Ripe {
+    /// All.
+    All,
+    /// Half of those of as many jobs: the others wait for their retry.
+    Half { jobs: u32 },
+}
+
 /// Claims a file.
 fn claim(desk: &mut Desk, word: u64) -> Result<Answer> {
     apply(desk, &Command::Claim { now: MOMENT, word })
@@ -68,11 +77,17 @@ fn make_way(desk: &mut Desk, claimed: &[Answer]) -> Result<()> {
     Ok(())
 }
 
+/// Claims a file, and lets it wait for its retry.
+fn retry(desk: &mut Desk) -> Result<()> {
+    let claimed = claim(desk, 0)?;
+    apply(desk, &report(&claimed, Outcome::StoreFailed)?)?;
+    Ok(())
+}
+
 /// Lets half of the files wait for their retry: they are not ripe.
 fn unripen_half(desk: &mut Desk, jobs: u32) -> Result<()> {
-    for word in 0..jobs.min(MOST_JOBS) * FILES / 2 {
-        let claimed = claim(desk, u64::from(word) * 7919)?;
-        apply(desk, &report(&claimed, Outcome::StoreFailed)?)?;
+    for _ in 0..jobs.min(MOST_JOBS) * FILES / 2 {
+        retry(desk)?;
     }
     Ok(())
 }
@@ -107,22 +122,43 @@ fn retries<R: Clock>(rt: &R, desk: &mut Desk) -> Result<f64> {
     Ok(seconds)
 }
 
-/// How many seconds the cancellations of files take, which are of all jobs in turn.
-fn cancellations<R: Clock>(rt: &R, desk: &mut Desk, jobs: u32) -> Result<f64> {
-    let jobs = jobs.clamp(1, MOST_JOBS);
+/// How many seconds the cancellations of files take, of the first ten jobs in turn.
+fn cancellations<R: Clock>(rt: &R, desk: &mut Desk) -> Result<f64> {
     let mut seconds = 0.0;
     for turn in 0..TIMED {
-        let job = turn % jobs;
         let command = Command::CancelFile {
             now: MOMENT,
-            job: job + 1,
-            file: job * FILES + turn / jobs % FILES + 1,
+            job: turn % 10 + 1,
+            file: turn % 10 * FILES + turn / 10 + 1,
         };
         let begun = rt.monotonic()?.as_secs_f64();
         apply(desk, &command)?;
         seconds += rt.monotonic()?.as_secs_f64() - begun;
     }
     Ok(seconds)
+}
+
+/// How many seconds the commands of a kind take on a desk.
+fn seconds<R: Clock>(rt: &R, alloc: Global, desk: &mut Desk, timed: Timed) -> Result<f64> {
+    match timed {
+        Timed::Claims => claims(rt, alloc, desk),
+        Timed::Retries => retries(rt, desk),
+        Timed::Cancellations => cancellations(rt, desk),
+    }
+}
+
+/// The same on a desk on which as many jobs wait, all ripe or half of them.
+fn seconds_among<R: Clock>(
+    rt: &R,
+    alloc: Global,
+    desk: &mut Desk,
+    timed: Timed,
+    ripe: Ripe,
+) -> Result<f64> {
+    if let Ripe::Half { jobs } = ripe {
+        unripen_half(desk, jobs)?;
+    }
+    seconds(rt, alloc, desk, timed)
 }
 
 /// How many microseconds one command takes while as many jobs wait, all ripe or half of them.
@@ -134,16 +170,12 @@ fn microseconds<R: Clock>(
     layout: Layout,
     half: bool,
 ) -> Result<f64> {
+    let ripe = if half { Ripe::Half { jobs } } else { Ripe::All };
     let mut desk = filled_desk(alloc, jobs, layout)?;
-    if half {
-        unripen_half(&mut desk, jobs)?;
+    match seconds_among(rt, alloc, &mut desk, timed, ripe) {
+        Ok(seconds) => Ok(seconds * 1_000_000.0 / f64::from(TIMED)),
+        Err(error) => Err(error),
     }
-    let seconds = match timed {
-        Timed::Claims => claims(rt, alloc, &mut desk)?,
-        Timed::Retries => retries(rt, &mut desk)?,
-        Timed::Cancellations => cancellations(rt, &mut desk, jobs)?,
-    };
-    Ok(seconds * 1_000_000.0 / f64::from(TIMED))
 }
 
 /// Prints how long one command takes at each number of waiting files, and what a hundred times the files cost.

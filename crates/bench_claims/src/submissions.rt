@@ -2,6 +2,7 @@
 //! All are spelled and read before the clock starts; timed are `prepare` and `commit`.
 use crate::waiting::{Kind, apply, begun_desk, submission};
 use anyhow::Result;
+use fts_desk::Desk;
 use fts_tables::Entry;
 use std::alloc::Global;
 use std::time::Clock;
@@ -15,15 +16,20 @@ fn submissions(alloc: Global, jobs: u32, kind: Kind) -> Result<Vec<Entry>> {
     Ok(entries)
 }
 
-/// How many seconds as many submissions take, from an empty desk on.
-fn seconds<R: Clock>(rt: &R, alloc: Global, jobs: u32, kind: Kind) -> Result<f64> {
-    let mut desk = begun_desk(alloc)?;
-    let entries = submissions(alloc, jobs, kind)?;
+/// How many seconds these submissions take on a desk.
+fn seconds_on<R: Clock>(rt: &R, desk: &mut Desk, entries: &[Entry]) -> Result<f64> {
     let begun = rt.monotonic()?.as_secs_f64();
-    for entry in &entries {
-        apply(&mut desk, &entry.command)?;
+    for entry in entries {
+        apply(desk, &entry.command)?;
     }
     Ok(rt.monotonic()?.as_secs_f64() - begun)
+}
+
+/// How many seconds as many submissions take, from an empty desk on.
+fn seconds<R: Clock>(rt: &R, alloc: Global, jobs: u32, kind: Kind) -> Result<f64> {
+    let entries = submissions(alloc, jobs, kind)?;
+    let mut desk = begun_desk(alloc)?;
+    seconds_on(rt, &mut desk, entries.as_slice())
 }
 
 /// Prints how long 10,000 and 100,000 submissions of a kind take, and their ratio.

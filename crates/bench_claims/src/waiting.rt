@@ -70,20 +70,20 @@ fn push_text(bytes: &mut Vec<u8>, text: &str) -> Result<()> {
     Ok(())
 }
 
-/// Adds a file of any size on the link of a number, with a destination that is the job's and the number's own.
+/// Adds a file of any size on the link of a number, with the job's path of a number at both ends.
 fn push_file(
     bytes: &mut Vec<u8>,
     alloc: Global,
     job: u32,
     index: u32,
     link: u32,
-    dest: u32,
+    path: u32,
 ) -> Result<()>
     requires { index < 16384 }
 {
     let from = format!(in alloc; "https://s{}", link % 4)?;
-    let to = format!(in alloc; "https://d{}", dest / 4 % 4)?;
-    let path = format!(in alloc; "data/{job}/{dest}")?;
+    let to = format!(in alloc; "https://d{}", link / 4 % 4)?;
+    let path = format!(in alloc; "data/{job}/{path}")?;
     push_number(bytes, index)?;
     push_text(bytes, from.as_str())?;
     push_text(bytes, path.as_str())?;
@@ -93,8 +93,8 @@ fn push_file(
     push_text(bytes, ACTIVITIES[index as usize / 16 % 4])
 }
 
-/// The submission of a plain job of `FILES` files, as an entry spells it. Links and priorities take turns.
-fn filling(alloc: Global, job: u32, layout: Layout) -> Result<Vec<u8>> {
+/// The submission of a plain job of `FILES` files. Links and priorities take turns.
+fn filling(alloc: Global, job: u32, layout: Layout) -> Result<Entry> {
     let mut bytes = SUBMIT.to_vec(alloc)?;
     bytes.extend_from_slice(b"\x00\x00\x00")?;
     bytes.push((1 + job % layout.priorities.clamp(1, 5)) as u8)?;
@@ -102,9 +102,9 @@ fn filling(alloc: Global, job: u32, layout: Layout) -> Result<Vec<u8>> {
     push_number(&mut bytes, FILES)?;
     for index in 0..FILES {
         let link = index % layout.links.max(1);
-        push_file(&mut bytes, alloc, job, index, link, link)?;
+        push_file(&mut bytes, alloc, job, index, link, index)?;
     }
-    Ok(bytes)
+    entry(alloc, bytes.as_slice())
 }
 
 /// Applies a command to a desk, which has to accept it.
@@ -127,12 +127,6 @@ fn entry(alloc: Global, bytes: &[u8]) -> Result<Entry> {
     }
 }
 
-/// Applies an entry that is spelled so.
-fn apply_entry(desk: &mut Desk, alloc: Global, bytes: &[u8]) -> Result<()> {
-    apply(desk, &entry(alloc, bytes)?.command)?;
-    Ok(())
-}
-
 /// The submission of a job of a kind. The ids of jobs that follow each other lie far apart, above and below.
 pub fn submission(alloc: Global, job: u32, kind: Kind) -> Result<Entry> {
     let mut bytes = SUBMIT.to_vec(alloc)?;
@@ -150,12 +144,12 @@ pub fn submission(alloc: Global, job: u32, kind: Kind) -> Result<Entry> {
     match kind {
         Kind::Plain | Kind::WithId => {
             bytes.push(1)?;
-            push_file(&mut bytes, alloc, job, 0, job % 16, job % 16)?;
+            push_file(&mut bytes, alloc, job, 0, job % 16, 0)?;
         }
         Kind::Replica => {
             bytes.push(2)?;
             push_file(&mut bytes, alloc, job, 0, job % 4, 0)?;
-            push_file(&mut bytes, alloc, job, 0, job % 4 + 1, 0)?;
+            push_file(&mut bytes, alloc, job, 0, (job % 4 + 1) % 4, 0)?;
         }
     }
     entry(alloc, bytes.as_slice())
@@ -163,17 +157,28 @@ pub fn submission(alloc: Global, job: u32, kind: Kind) -> Result<Entry> {
 
 /// A desk without jobs.
 pub fn begun_desk(alloc: Global) -> Result<Desk> {
+    let restart = entry(alloc, RESTART)?;
     let mut desk = Desk::empty(alloc);
-    apply_entry(&mut desk, alloc, RESTART)?;
-    Ok(desk)
+    match apply(&mut desk, &restart.command) {
+        Ok(_restarted) => Ok(desk),
+        Err(error) => Err(error),
+    }
+}
+
+/// Submits as many jobs that wait.
+fn fill(desk: &mut Desk, alloc: Global, jobs: u32, layout: Layout) -> Result<()> {
+    for job in 0..jobs {
+        let submission = filling(alloc, job, layout)?;
+        apply(desk, &submission.command)?;
+    }
+    Ok(())
 }
 
 /// A desk on which as many jobs wait.
 pub fn filled_desk(alloc: Global, jobs: u32, layout: Layout) -> Result<Desk> {
     let mut desk = begun_desk(alloc)?;
-    for job in 0..jobs {
-        let bytes = filling(alloc, job, layout)?;
-        apply_entry(&mut desk, alloc, bytes.as_slice())?;
+    match fill(&mut desk, alloc, jobs, layout) {
+        Ok(()) => Ok(desk),
+        Err(error) => Err(error),
     }
-    Ok(desk)
 }
