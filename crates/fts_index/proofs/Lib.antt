@@ -1,6 +1,4 @@
 mod Found
 mod Ordered
-mod InChunks
-mod Sought
 mod Counted
 mod TableLists
