@@ -24,8 +24,7 @@ const STAND: &str =
     "vo = \"demo\"\nworkers = 2\n[[storage]]\nurl = \"https://a.example\"\n[[storage]]\nurl = \"https://b.example\"\n";
 
 /// A submission, a look at the job that it makes, and the end.
-const ASKED: &str =
-    "POST /jobs HTTP/1.1\r\nContent-Length: 93\r\n\r\n\
+const ASKED: &str = "POST /jobs HTTP/1.1\r\nContent-Length: 93\r\n\r\n\
 {\"files\":[{\"sources\":[\"https://a.example/data/f1\"],\"destinations\":[\"https://b.example/f1\"]}]}\
 GET /jobs/00000000-0000-4000-8000-000000000001 HTTP/1.1\r\nConnection: close\r\n\r\n";
 

@@ -58,12 +58,7 @@ impl Source for Pieces {
 }
 
 /// The bytes in pieces.
-fn source_of(
-    alloc: Global,
-    bytes: &[u8],
-    first: usize,
-    piece: usize,
-) -> Result<Pieces, Fail> {
+fn source_of(alloc: Global, bytes: &[u8], first: usize, piece: usize) -> Result<Pieces, Fail> {
     Ok(Pieces {
         bytes: Vec::from_slice(alloc, bytes)?,
         at: 0,
