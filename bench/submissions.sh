@@ -1,5 +1,5 @@
 #!/bin/sh
-# Submissions over 4 connections beside the journal's appends alone, in turns, in one run: with nothing else to do, and while the one worker copies.
+# Submissions over 4 connections beside the journal's appends alone, in turns, in one run.
 #     bench/submissions.sh PROGRAM JOURNAL [SECONDS]
 # PROGRAM is fts, and JOURNAL the program of crates/bench_journal, as they were built. It needs Debian's wrk. Port 18080 of 127.0.0.1 is used.
 set -eu
@@ -12,23 +12,20 @@ cd "$work"
 mkdir -p stand/grid/https:,,a.example
 truncate -s 4G stand/grid/https:,,a.example/large
 printf 'vo = "demo"\nworkers = 1\n[[storage]]\nurl = "https://a.example"\n[[storage]]\nurl = "https://b.example"\n' > stand/fts.toml
+# the one worker copies a large file meanwhile, so that no other is claimed, and each submission is one entry of the journal
 large='{"files":[{"sources":["https://a.example/large"],"destinations":["https://b.example/large"]}]}'
-# alone: the files' storage isn't listed, so no worker claims them; copying: the worker copies a large file meanwhile, so that it claims no other.
-# Either way each submission is one entry of the journal, and no other entry stands between.
-for kind in alone copying; do
-    source=https://c.example/none
-    [ $kind = alone ] || source=https://a.example/none
-    printf 'wrk.method = "POST"\nwrk.body = [[{"files":[{"sources":["%s"],"destinations":["https://b.example/f1"]}]}]]\n' $source > post.lua
-    for round in 1 2 3; do
-        rm -rf stand/fts.journal stand/grid/https:,,b.example
-        "$program" stand serve --port 18080 --lanes 4 & service=$!
-        for _ in $(seq 100); do curl -sf -m 2 -o /dev/null http://127.0.0.1:18080/jobs && break; sleep 0.05; done
-        [ $kind = alone ] || curl -sS -o /dev/null http://127.0.0.1:18080/jobs -d "$large"
-        sleep 0.3
-        ours=$(wrk -t4 -c4 -d"${seconds}s" -s post.lua http://127.0.0.1:18080/jobs | awk '/Requests\/sec/ { print $2 }')
-        kill $service; wait $service 2>/dev/null || true
-        theirs=$("$journal" 3000 | sed 's/.*journal \([0-9]*\),.*/\1/')
-        awk -v kind=$kind -v round="$round" -v ours="$ours" -v theirs="$theirs" \
-            'BEGIN { printf "%s, round %s: %.0f submissions a second, %.0f appends a second alone, ratio %.2f\n", kind, round, ours, theirs, ours / theirs }'
-    done
+cat > post.lua <<'LUA'
+wrk.method = "POST"
+wrk.body = [[{"files":[{"sources":["https://a.example/none"],"destinations":["https://b.example/f1"]}]}]]
+LUA
+for round in 1 2 3; do
+    rm -rf stand/fts.journal stand/grid/https:,,b.example
+    "$program" stand serve --port 18080 --lanes 4 & service=$!
+    for _ in $(seq 100); do curl -sf -m 2 -o /dev/null http://127.0.0.1:18080/jobs && break; sleep 0.05; done
+    curl -sS -o /dev/null http://127.0.0.1:18080/jobs -d "$large"
+    sleep 0.3
+    ours=$(wrk -t4 -c4 -d"${seconds}s" -s post.lua http://127.0.0.1:18080/jobs | awk '/Requests\/sec/ { print $2 }')
+    kill $service; wait $service 2>/dev/null || true
+    theirs=$("$journal" 3000 | sed 's/.*journal \([0-9]*\),.*/\1/')
+    awk -v round="$round" -v ours="$ours" -v theirs="$theirs" 'BEGIN { printf "round %s: %.0f submissions a second, %.0f appends a second alone, ratio %.2f\n", round, ours, theirs, ours / theirs }'
 done
