@@ -1,4 +1,6 @@
 mod Found
 mod Ordered
+mod InChunks
+mod Sought
 mod Counted
 mod TableLists

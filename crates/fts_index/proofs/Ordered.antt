@@ -10,7 +10,7 @@ use Rattle.std.proofs.lemmas.List.Edits.{length-insert, get_or-insert_below, get
 use Rattle.std.proofs.lemmas.Bool.{eq-eqb, cases_lt}
 use Rattle.std.proofs.lemmas.Bool.Decides.{nat_tests}
 use Rattle.fts_index.specs.Numbers.{number_in}
-use Rattle.fts_index.specs.IdOrder.{id_at, id_in_order, IsOrderOf, IsInOrderAt, IsGapFor}
+use Rattle.fts_index.specs.IdOrder.{id_at, id_in_order, AreRising, IsOrderOf, IsInOrderAt, IsGapFor}
 use Rattle.fts_index.proofs.Found.{found_from}
 
 -- a place that was found stays where items follow
@@ -56,17 +56,11 @@ length-more (item ∷ items) last = omega (arith, length-more items last)
 not_equal : (one other : ℕ) → one ≢ other → (one == other) ≡ false
 not_equal one other apart = grind (arith, nat_tests, apart)
 
-module _ (ids order : List ℕ) (is : IsOrderOf ids order) where
-  -- each place of the order is one of the ids
-  pub inside_ids : (at : ℕ) → at < length order → get_or order at 0 < length ids
-  inside_ids at inside =
-      let there = found_from (λ other. other == id_in_order ids order at) 1 ids (get_or order at 0 + 1) (is.least at inside) in
-      omega (arith, there.is, there.inside)
-
+module _ (ids order : List ℕ) (rising : AreRising ids order) where
   -- the comparisons with an id rise along the order, as a search by halves asks
   comparisons_rise : (id : ℕ) → IsNonDecreasingBy (λ place. ordering_index (nat_cmp (id_at ids place) id)) order
   comparisons_rise id = IsNonDecreasingBy-from_default (λ place. ordering_index (nat_cmp (id_at ids place) id)) order 0 (λ at later before inside.
-      let ids_rise : id_in_order ids order at ≤ id_in_order ids order later = grind (arith, is.rising at later, λ (same : at ≡ later). ap (id_in_order ids order) same) in
+      let ids_rise : id_in_order ids order at ≤ id_in_order ids order later = grind (arith, rising at later, λ (same : at ≡ later). ap (id_in_order ids order) same) in
       grind (arith, nat_tests))
 
   -- a search by halves ends at the id, or at the gap for it
@@ -82,12 +76,15 @@ module _ (ids order : List ℕ) (is : IsOrderOf ids order) where
     };
   }
 
-  -- the number of an id that stands in the order
-  pub number_at : (id at : ℕ) → IsInOrderAt ids order id at → number_in ids id ≡ Some (get_or order at 0 + 1)
-  number_at id at there = ap (number_in ids) (sym there.has) ∙ is.least at there.inside
+module _ (ids order : List ℕ) (is : IsOrderOf ids order) where
+  -- each place of the order is one of the ids
+  pub inside_ids : (at : ℕ) → at < length order → get_or order at 0 < length ids
+  inside_ids at inside =
+      let there = found_from (λ other. other == id_in_order ids order at) 1 ids (get_or order at 0 + 1) (is.least at inside) in
+      omega (arith, there.is, there.inside)
 
   -- an id that has a gap has no number
-  pub no_number : (id at : ℕ) → IsGapFor ids order id at → number_in ids id ≡ None
+  no_number : (id at : ℕ) → IsGapFor ids order id at → number_in ids id ≡ None
   no_number id at gap = is.whole id (λ place inside same. grind (arith, gap.before place, gap.behind place))
 
   -- the ids of the order stay where an id follows

@@ -10,10 +10,14 @@ id_at ids place = slice_index_or ids place 0
 abbrev pub id_in_order : List ℕ → List ℕ → ℕ → ℕ
 id_in_order ids order at = id_at ids (slice_index_or order at 0)
 
+-- the ids rise along the places
+abbrev pub AreRising : List ℕ → List ℕ → Type 0
+AreRising ids places = (at later : ℕ) → at < later → later < length places → id_in_order ids places at < id_in_order ids places later
+
 -- the order has the place of each different id once, and that the least place, in rising order of the ids
 pub record IsOrderOf (ids order : List ℕ) : Type 0 where
   -- the ids rise along the order
-  pub rising : (at later : ℕ) → at < later → later < length order → id_in_order ids order at < id_in_order ids order later
+  pub rising : AreRising ids order
   -- each place is the least of its id: that of the number that the id has
   pub least : (at : ℕ) → at < length order → number_in ids (id_in_order ids order at) ≡ Some (slice_index_or order at 0 + 1)
   -- an id that stands nowhere in the order has no number
@@ -23,6 +27,12 @@ pub record IsOrderOf (ids order : List ℕ) : Type 0 where
 pub record IsInOrderAt (ids order : List ℕ) (id at : ℕ) : Type 0 where
   pub inside : at < length order
   pub has : id_in_order ids order at ≡ id
+
+-- the place stands in the order, and the id there
+pub record IsPlaceOf (ids order : List ℕ) (id place : ℕ) : Type 0 where
+  pub at : ℕ
+  pub there : IsInOrderAt ids order id at
+  pub is : slice_index_or order at 0 ≡ place
 
 -- the id would stand so far in the order: lesser ids before it, and greater ones from there on
 pub record IsGapFor (ids order : List ℕ) (id at : ℕ) : Type 0 where

@@ -1,5 +1,6 @@
 -- What a `JobIds` is to its callers, and what it keeps.
-use Rattle.std.specs.Prelude.{◌≤◌, ◌<◌, ◌+◌, ◌^◌, length, vec_capacity}
+use Rattle.std.specs.Prelude.{◌≤◌, ◌<◌, ◌+◌, ◌^◌, length, vec_capacity, IsTrue}
+use Rattle.std.specs.List.{concat}
 use Rattle.fts_index.specs.Numbers.{IdList}
 use Rattle.fts_index.specs.IdOrder.{IsOrderOf}
 use Rattle.fts_index.specs.declared.job_ids.JobIds.TheInside.{Inside}
@@ -8,10 +9,11 @@ use Rattle.fts_index.specs.declared.job_ids.JobIds.TheInside.{Inside}
 abbrev pub id_list : Inside → IdList
 id_list index = record { ids = index.ids.items; room = index.room }
 
--- there is a place for each id that there is room for, in the ids and in their order
+-- there is memory for each id that there is room for, and for its place in the order
 pub record AreJobIds (index : Inside) : Type 0 where
   pub inside : length index.ids.items ≤ index.room
+  pub near : index.room ≤ length index.ids.items + 1
   pub room : index.room ≤ vec_capacity index.ids
   pub few : index.room < 2 ^ 32
-  pub room_in_order : index.room + length index.order.items ≤ vec_capacity index.order + length index.ids.items
-  pub order : IsOrderOf index.ids.items index.order.items
+  pub ready : length index.ids.items < index.room → IsTrue index.order.ready
+  pub order : IsOrderOf index.ids.items (concat index.order.chunks)

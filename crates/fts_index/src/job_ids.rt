@@ -1,10 +1,10 @@
-//! The numbers of jobs by their ids: the ids in order of the jobs' numbers, and beside them their places in order of the ids.
+//! The numbers of jobs by their ids: the ids in order of the jobs' numbers, and beside them their places in order of the ids, in chunks (`order.rt`).
 //! Contracts see the ids in order of the jobs' numbers, and the room. Kept in its type (`AreJobIds`): a look-up is a search by halves.
 //! Order: `make_room` before `add`, which takes no memory.
-ghost use Rattle.std.specs.Prelude.{◌≡◌, ◌<◌, ◌+◌, ◌++◌, ◌∷◌, [], max, length, IfOk, IfErr, OnOk, OnErr};
-ghost use Rattle.fts_index.specs.IdOrder.{id_at, IsGapFor, IsInOrderAt, IsOrderOf};
+ghost use Rattle.std.specs.Prelude.{◌≡◌, ◌<◌, ◌+◌, ◌++◌, ◌∷◌, [], max, length, OnOk, OnErr};
 ghost use Rattle.fts_index.specs.Numbers.{IdList, number_in};
 
+use crate::order::PlacesInOrder;
 use fts_tables::Memory;
 use std::alloc::Global;
 use std::marker::Model;
@@ -13,8 +13,7 @@ use std::marker::Model;
 #[derive(Drop)]
 pub struct JobIds {
     ids: Vec<u128>,
-    /// The least place of each different id, in rising order of the ids.
-    order: Vec<u32>,
+    order: PlacesInOrder,
     room: u32,
 }
 
@@ -30,25 +29,6 @@ impl Model for JobIds {
     ghost invariant = { AreJobIds };
 }
 
-/// The id at a place, and 0 behind the end.
-fn id_at(ids: &[u128], place: u32) -> u128
-    ensures id { result ≡ id_at ids.now place }
-{
-    match ids.get(place as usize) {
-        Some(id) => *id,
-        None => 0,
-    }
-}
-
-/// How far in the order an id stands, or would stand.
-fn search(ids: &[u128], order: &[u32], id: u128) -> Result<usize, usize>
-    requires order { IsOrderOf ids.now order.now }
-    ensures found { IfOk result (IsInOrderAt ids.now order.now id) }
-    ensures absent { IfErr result (IsGapFor ids.now order.now id) }
-{
-    order.binary_search_by_key(&id, |place| id_at(ids, *place))
-}
-
 impl JobIds {
     /// No id, and no room. What grows later takes its memory from `alloc`.
     pub fn new(alloc: Global) -> JobIds
@@ -56,7 +36,7 @@ impl JobIds {
     {
         JobIds {
             ids: Vec::new(alloc),
-            order: Vec::new(alloc),
+            order: PlacesInOrder::new(alloc),
             room: 0,
         }
     }
@@ -73,7 +53,7 @@ impl JobIds {
             return Err(Memory);
         }
         self.ids.reserve(1)?;
-        self.order.reserve(1)?;
+        self.order.make_room()?;
         self.room += 1;
         Ok(())
     }
@@ -84,12 +64,10 @@ impl JobIds {
         ensures ids { self.new ≡ record self.old { ids = self.old.ids ++ id ∷ [] } }
     {
         let place = self.ids.len() as u32;
-        match search(self.ids.as_slice(), self.order.as_slice(), id) {
+        match self.order.find(self.ids.as_slice(), id) {
             // The id has a lesser number already.
-            Ok(_at) => {}
-            Err(at) => {
-                let _ = self.order.insert(at, place);
-            }
+            Ok(_place) => {}
+            Err(spot) => self.order.insert(spot, place),
         }
         self.ids.push_reserved(id);
     }
@@ -98,8 +76,8 @@ impl JobIds {
     pub fn find(&self, id: u128) -> Option<u32>
         ensures number { result ≡ number_in self.now.ids id }
     {
-        match search(self.ids.as_slice(), self.order.as_slice(), id) {
-            Ok(at) => Some(self.order[at] + 1),
+        match self.order.find(self.ids.as_slice(), id) {
+            Ok(place) => Some(place + 1),
             Err(_) => None,
         }
     }

@@ -50,6 +50,29 @@ pub record IsCountedNode (moment : ℕ) (node : Node) : Type 0 where
   pub left : IsCounted moment (out-Node node).left
   pub right : IsCounted moment (out-Node node).right
 
+-- one list is another without one of its files
+pub record IsWithout (waiter : Waiter) (whole rest : List Waiter) : Type 0 where
+  pub front : List Waiter
+  pub back : List Waiter
+  pub whole_is : whole ≡ front ++ waiter ∷ back
+  pub rest_is : rest ≡ front ++ back
+
+-- a node counts its files and one more
+pub record IsCountedWith (moment : ℕ) (waiter : Waiter) (node : Node) : Type 0 where
+  pub counted : List Waiter
+  pub counts : AreCounts moment (out-Node node).size (out-Node node).ripe (out-Node node).next counted
+  pub more : IsWithout waiter counted (waiters_of node)
+  pub left : IsCounted moment (out-Node node).left
+  pub right : IsCounted moment (out-Node node).right
+
+-- a node counts its files but one
+pub record IsCountedWithout (moment : ℕ) (waiter : Waiter) (node : Node) : Type 0 where
+  pub counted : List Waiter
+  pub counts : AreCounts moment (out-Node node).size (out-Node node).ripe (out-Node node).next counted
+  pub less : IsWithout waiter (waiters_of node) counted
+  pub left : IsCounted moment (out-Node node).left
+  pub right : IsCounted moment (out-Node node).right
+
 -- whether a file stands before a mark: a file, where a queue starts, or where it ends
 abbrev pub stands_before : Mark → Waiter → Bool
 stands_before (File bound) waiter = goes_before waiter bound

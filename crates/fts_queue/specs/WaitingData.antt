@@ -65,6 +65,10 @@ AreApart (waiter ∷ waiters) = (is_waiting waiter.file waiters ≡ false) × Ar
 abbrev pub is_in : LinkAt → ℕ → Waiter → Bool
 is_in link activity waiter = (waiter.link.source == link.source) && (waiter.link.dest == link.dest) && (waiter.activity == activity)
 
+-- whether a file stands at another's place of the order: in its queue, with its priority and its number
+abbrev pub is_same_place : Waiter → Waiter → Bool
+is_same_place one other = (other.file == one.file) && is_in one.link one.activity other && (other.priority == one.priority)
+
 -- the files of a queue
 abbrev pub waiting_in : LinkAt → ℕ → List Waiter → List Waiter
 waiting_in link activity waiters = filter (is_in link activity) waiters

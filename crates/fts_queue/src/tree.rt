@@ -1,6 +1,7 @@
 //! Files that wait as a search tree in their order. Each node counts its files and the ripe ones of them, and knows when the next one ripens.
 //! Contracts see a tree as the list of its files from left to right (`waiters_in`); that the counts are right is `IsCounted`, at a moment.
-//! `balanced` keeps it flat by the sizes, two rotations at most a level, so a way down is about as long as the logarithm of the size.
+//! `settled` keeps it flat by the sizes, two rotations at most a level, so a way down is about as long as the logarithm of the size.
+//! A way down reads the nodes on it alone: what is beside it follows from the counts, and is far away in memory where the tree is large.
 //! Nothing here takes or gives back memory: a node comes in and goes out in its box.
 ghost use Rattle.std.specs.Prelude.{
   ◌≡◌,
@@ -18,12 +19,13 @@ ghost use Rattle.std.specs.Prelude.{
   length,
   filter,
   slice_get,
-  remove,
   IfOk,
+  IsTrue,
 };
 ghost use Rattle.fts_queue.specs.declared.tree.Node.{out-Node};
 ghost use Rattle.fts_queue.specs.declared.tree.Tree.{Leaf};
-ghost use Rattle.fts_queue.specs.WaitingData.{AreSortedBy, goes_before, with_waiter, is_ripe, is_queue_before};
+ghost use Rattle.std.specs.List.{list_any};
+ghost use Rattle.fts_queue.specs.WaitingData.{AreSortedBy, goes_before, with_waiter, is_ripe, is_queue_before, is_same_place};
 ghost use Rattle.fts_queue.specs.Trees.{
   waiters_in,
   waiters_of,
@@ -32,6 +34,9 @@ ghost use Rattle.fts_queue.specs.Trees.{
   next_of,
   IsCounted,
   IsCountedNode,
+  IsCountedWith,
+  IsCountedWithout,
+  IsWithout,
   stands_before,
 };
 
@@ -253,6 +258,77 @@ fn balanced(mut node: Box<Node>, moment: u64) -> Box<Node>
     }
 }
 
+/// A node that is counted, whose sides have so many files: turned where one side is far the larger.
+fn settled(mut node: Box<Node>, left: u32, right: u32, moment: u64) -> Box<Node>
+    requires counted { IsCountedNode moment node.value }
+    requires fits { length (waiters_of node.value) < 2 ^ 32 }
+    ensures counted { IsCountedNode moment result.value }
+    ensures waiters { waiters_of result.value ≡ waiters_of node.value }
+{
+    if is_heavier(right, left) {
+        node.right = lean_right(mem::replace(&mut node.right, Tree::Leaf), moment);
+        recount(&mut node, moment);
+        turn_left(node, moment)
+    } else if is_heavier(left, right) {
+        node.left = lean_left(mem::replace(&mut node.left, Tree::Leaf), moment);
+        recount(&mut node, moment);
+        turn_right(node, moment)
+    } else {
+        node
+    }
+}
+
+/// A node whose left side has changed. What the right one has is what is left, so it is not read: it may be far away in memory.
+fn settled_by_left(node: Box<Node>, moment: u64) -> Box<Node>
+    requires counted { IsCountedNode moment node.value }
+    requires fits { length (waiters_of node.value) < 2 ^ 32 }
+    ensures counted { IsCountedNode moment result.value }
+    ensures waiters { waiters_of result.value ≡ waiters_of node.value }
+{
+    let left = size_of(&node.left);
+    let right = node.size - 1 - left;
+    settled(node, left, right, moment)
+}
+
+/// A node whose right side has changed. What the left one has is what is left, so it is not read.
+fn settled_by_right(node: Box<Node>, moment: u64) -> Box<Node>
+    requires counted { IsCountedNode moment node.value }
+    requires fits { length (waiters_of node.value) < 2 ^ 32 }
+    ensures counted { IsCountedNode moment result.value }
+    ensures waiters { waiters_of result.value ≡ waiters_of node.value }
+{
+    let right = size_of(&node.right);
+    let left = node.size - 1 - right;
+    settled(node, left, right, moment)
+}
+
+/// Counts a file that has come in on one side.
+fn count_in(node: &mut Node, waiter: &Waiter, moment: u64)
+    requires counted { IsCountedWithout moment waiter.now node.old }
+    requires fits { length (waiters_of node.old) < 2 ^ 32 }
+    ensures counted { IsCountedNode moment node.new }
+    ensures waiters { waiters_of node.new ≡ waiters_of node.old }
+{
+    node.size += 1;
+    if is_ripe(moment, waiter) {
+        node.ripe += 1;
+    } else {
+        node.next = node.next.min(waiter.not_before);
+    }
+}
+
+/// Counts no longer a file that was taken out on one side. The next moment may be that file's: it only has to be no later than the others'.
+fn count_out(node: &mut Node, waiter: &Waiter, moment: u64)
+    requires counted { IsCountedWith moment waiter.now node.old }
+    ensures counted { IsCountedNode moment node.new }
+    ensures waiters { waiters_of node.new ≡ waiters_of node.old }
+{
+    node.size -= 1;
+    if is_ripe(moment, waiter) {
+        node.ripe -= 1;
+    }
+}
+
 /// Puts a node with one file into a tree, at the file's place.
 pub fn put(tree: Tree, fresh: Box<Node>, moment: u64) -> Box<Node>
     requires counted { IsCounted moment tree }
@@ -266,14 +342,17 @@ pub fn put(tree: Tree, fresh: Box<Node>, moment: u64) -> Box<Node>
     match tree {
         Tree::Leaf => fresh,
         Tree::Branch(mut node) => {
-            if goes_before(&fresh.waiter, &node.waiter) {
+            let waiter = fresh.waiter;
+            if goes_before(&waiter, &node.waiter) {
                 let left = mem::replace(&mut node.left, Tree::Leaf);
                 node.left = Tree::Branch(put(left, fresh, moment));
-                balanced(node, moment)
+                count_in(&mut node, &waiter, moment);
+                settled_by_left(node, moment)
             } else {
                 let right = mem::replace(&mut node.right, Tree::Leaf);
                 node.right = Tree::Branch(put(right, fresh, moment));
-                balanced(node, moment)
+                count_in(&mut node, &waiter, moment);
+                settled_by_right(node, moment)
             }
         },
     }
@@ -300,8 +379,9 @@ fn take_first(mut node: Box<Node>, moment: u64) -> Taken
         Tree::Branch(left) => {
             let Taken { rest, node: first } = take_first(left, moment);
             node.left = rest;
+            count_out(&mut node, &first.waiter, moment);
             Taken {
-                rest: Tree::Branch(balanced(node, moment)),
+                rest: Tree::Branch(settled_by_left(node, moment)),
                 node: first,
             }
         },
@@ -330,45 +410,49 @@ fn join(left: Tree, right: Tree, moment: u64) -> Tree
     }
 }
 
-/// Takes the file at a place out, counted from 0.
-pub fn take_at(mut node: Box<Node>, place: u32, moment: u64) -> Taken
+/// Takes a file out whose place in the order is known.
+pub fn take(mut node: Box<Node>, waiter: &Waiter, moment: u64) -> Taken
     requires counted { IsCountedNode moment node.value }
-    requires inside { place < length (waiters_of node.value) }
+    requires order { AreSortedBy goes_before (waiters_of node.value) }
+    requires waits { IsTrue (list_any (is_same_place waiter.now) (waiters_of node.value)) }
     requires fits { length (waiters_of node.value) < 2 ^ 32 }
     ensures counted { IsCounted moment result.rest }
-    ensures waiters { waiters_in result.rest ≡ remove (waiters_of node.value) place }
+    ensures waiters { IsWithout (out-Node result.node.value).waiter (waiters_of node.value) (waiters_in result.rest) }
+    ensures file { (out-Node result.node.value).waiter.file ≡ waiter.now.file }
 {
-    let before = size_of(&node.left);
-    if place < before {
+    if node.waiter.file == waiter.file {
+        let left = mem::replace(&mut node.left, Tree::Leaf);
+        let right = mem::replace(&mut node.right, Tree::Leaf);
+        return Taken {
+            rest: join(left, right, moment),
+            node,
+        };
+    }
+    if goes_before(waiter, &node.waiter) {
         match mem::replace(&mut node.left, Tree::Leaf) {
             Tree::Leaf => unreachable!(),
             Tree::Branch(left) => {
-                let Taken { rest, node: taken } = take_at(left, place, moment);
+                let Taken { rest, node: taken } = take(left, waiter, moment);
                 node.left = rest;
+                count_out(&mut node, &taken.waiter, moment);
                 Taken {
-                    rest: Tree::Branch(balanced(node, moment)),
-                    node: taken,
-                }
-            },
-        }
-    } else if place > before {
-        match mem::replace(&mut node.right, Tree::Leaf) {
-            Tree::Leaf => unreachable!(),
-            Tree::Branch(right) => {
-                let Taken { rest, node: taken } = take_at(right, place - before - 1, moment);
-                node.right = rest;
-                Taken {
-                    rest: Tree::Branch(balanced(node, moment)),
+                    rest: Tree::Branch(settled_by_left(node, moment)),
                     node: taken,
                 }
             },
         }
     } else {
-        let left = mem::replace(&mut node.left, Tree::Leaf);
-        let right = mem::replace(&mut node.right, Tree::Leaf);
-        Taken {
-            rest: join(left, right, moment),
-            node,
+        match mem::replace(&mut node.right, Tree::Leaf) {
+            Tree::Leaf => unreachable!(),
+            Tree::Branch(right) => {
+                let Taken { rest, node: taken } = take(right, waiter, moment);
+                node.right = rest;
+                count_out(&mut node, &taken.waiter, moment);
+                Taken {
+                    rest: Tree::Branch(settled_by_right(node, moment)),
+                    node: taken,
+                }
+            },
         }
     }
 }
@@ -460,7 +544,7 @@ pub fn count_before(tree: &Tree, mark: Mark, moment: u64) -> u32
         Tree::Leaf => 0,
         Tree::Branch(node) => {
             if stands_before(mark, &node.waiter) {
-                size_of(&node.left) + 1 + count_before(&node.right, mark, moment)
+                node.size - size_of(&node.right) + count_before(&node.right, mark, moment)
             } else {
                 count_before(&node.left, mark, moment)
             }

@@ -12,7 +12,6 @@ ghost use Rattle.std.specs.Prelude.{
   [],
   length,
   slice_get,
-  remove,
   vec_capacity,
   option_map,
   Some,
@@ -29,6 +28,7 @@ ghost use Rattle.fts_queue.specs.WaitingData.{
   without_file,
   is_waiting,
   is_in,
+  is_same_place,
   waiting_in,
   room_of,
   with_room,
@@ -38,12 +38,13 @@ ghost use Rattle.fts_queue.specs.WaitingData.{
   goes_before,
   is_ripe,
 };
-ghost use Rattle.fts_queue.specs.Trees.{waiters_in, IsCounted};
+ghost use Rattle.fts_queue.specs.declared.tree.Node.{out-Node};
+ghost use Rattle.fts_queue.specs.Trees.{waiters_in, IsCounted, IsWithout};
 
 use crate::rooms::{Room, raise, room_of};
 use crate::spare::{fetch, grow, store};
 use crate::tree::{
-    Mark, Taken, Tree, count_before, filled, put, ripe_at, ripe_before, ripe_of, ripen, take_at,
+    Mark, Taken, Tree, count_before, filled, put, ripe_at, ripe_before, ripe_of, ripen, take,
     waiter_at,
 };
 use crate::waiter::{Waiter, is_in};
@@ -65,6 +66,8 @@ pub struct Waiting {
     whole: usize,
     alloc: Global,
 }
+
+unsafe impl Send for Waiting {}
 
 impl Model for Waiting {
     ghost use Rattle.fts_queue.specs.WaitingData.{WaitingData};
@@ -152,17 +155,19 @@ fn place_of_file(tree: &Tree, file: u32, link: LinkAt, activity: u16, moment: u6
     }
 }
 
-/// Takes the file at a place out of a tree.
-fn take_out(tree: Tree, place: u32, moment: u64) -> Taken
+/// Takes a file out of a tree.
+fn take_out(tree: Tree, waiter: &Waiter, moment: u64) -> Taken
     requires counted { IsCounted moment tree }
-    requires inside { place < length (waiters_in tree) }
+    requires order { AreSortedBy goes_before (waiters_in tree) }
+    requires waits { IsTrue (list_any (is_same_place waiter.now) (waiters_in tree)) }
     requires fits { length (waiters_in tree) < 2 ^ 32 }
     ensures counted { IsCounted moment result.rest }
-    ensures waiters { waiters_in result.rest ≡ remove (waiters_in tree) place }
+    ensures waiters { IsWithout (out-Node result.node.value).waiter (waiters_in tree) (waiters_in result.rest) }
+    ensures file { (out-Node result.node.value).waiter.file ≡ waiter.now.file }
 {
     match tree {
         Tree::Leaf => unreachable!(),
-        Tree::Branch(top) => take_at(top, place, moment),
+        Tree::Branch(top) => take(top, waiter, moment),
     }
 }
 
@@ -215,18 +220,29 @@ impl Waiting {
         self.tree = Tree::Branch(put(tree, node, self.moment));
     }
 
-    /// Takes a file out.
+    /// Takes a file out whose place in the order is known: by its queue, its priority and its number. It may ripen whenever.
+    pub fn remove_waiter(&mut self, waiter: &Waiter)
+        requires waits { IsTrue (list_any (is_same_place waiter.now) self.old.waiters) }
+        ensures waiting { self.new ≡ record self.old { waiters = without_file waiter.now.file self.old.waiters } }
+    {
+        let tree = mem::replace(&mut self.tree, Tree::Leaf);
+        let Taken { rest, node } = take_out(tree, waiter, self.moment);
+        self.tree = rest;
+        let taken = node.waiter;
+        let spare = mem::replace(&mut self.spare, Tree::Leaf);
+        self.spare = Tree::Branch(store(spare, filled(node, taken, self.moment)));
+    }
+
+    /// Takes a file out of its queue, whatever its priority.
     pub fn remove(&mut self, file: u32, link: LinkAt, activity: u16)
         requires waits { IsTrue (list_any (λ waiter. (waiter.file == file) && is_in link activity waiter) self.old.waiters) }
         ensures waiting { self.new ≡ record self.old { waiters = without_file file self.old.waiters } }
     {
         let place = place_of_file(&self.tree, file, link, activity, self.moment);
-        let tree = mem::replace(&mut self.tree, Tree::Leaf);
-        let Taken { rest, node } = take_out(tree, place, self.moment);
-        self.tree = rest;
-        let waiter = node.waiter;
-        let spare = mem::replace(&mut self.spare, Tree::Leaf);
-        self.spare = Tree::Branch(store(spare, filled(node, waiter, self.moment)));
+        match waiter_at(&self.tree, place, self.moment) {
+            Some(waiter) => self.remove_waiter(&waiter),
+            None => unreachable!(),
+        }
     }
 
     /// Ripens the files whose moment has come. Without one, and for a lesser moment, what was ripe may not be so afterwards.
