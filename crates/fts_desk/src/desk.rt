@@ -48,6 +48,8 @@ pub struct Desk {
     decided: Decided,
 }
 
+unsafe impl Send for Desk {}
+
 impl Model for Desk {
     ghost use Rattle.fts_desk.specs.DeskData.{DeskData};
 
