@@ -40,7 +40,7 @@ ghost use Rattle.fts_desk.specs.Loaded.{AreLoadsOf, are_known, link_of_file};
 ghost use Rattle.fts_desk.specs.Prepared.{IsPrepared};
 
 use crate::DeskFault;
-use crate::find::number_of_id;
+use crate::find::seek_number;
 use crate::kept::Kept;
 use crate::loads::count_new;
 use crate::parts::{make_room_for_files, wait_from};
@@ -79,12 +79,13 @@ pub fn make_room(kept: &mut Kept, job: &NewJob) -> Result<(), DeskFault>
 }
 
 /// The least number of a job with the id that a new job was given, where it was given one.
-fn number_of_given(kept: &Kept, id: Option<u128>) -> Option<u32>
-    requires numbered { AreNumberedFrom (λ job. job.number) 1 kept.now.jobs.items }
-    ensures number { result ≡ option_and_then (number_of_id kept.now.jobs.items) id }
+fn number_of_given(kept: &mut Kept, id: Option<u128>) -> Option<u32>
+    requires numbered { AreNumberedFrom (λ job. job.number) 1 kept.old.jobs.items }
+    ensures number { result ≡ option_and_then (number_of_id kept.old.jobs.items) id }
+    ensures same { kept.new ≡ kept.old }
 {
     match id {
-        Some(id) => number_of_id(kept, id),
+        Some(id) => seek_number(kept, id),
         None => None,
     }
 }
