@@ -3,9 +3,12 @@ use Rattle.std.proofs.Common.{◌≡◌, ℕ, ◌+◌, ◌≤◌, Bool, true, fa
 use Rattle.std.specs.Prelude.{filter}
 use Rattle.std.specs.List.{AllByRecursion}
 use Rattle.fts_queue.specs.declared.waiter.Waiter.{Waiter}
-use Rattle.fts_queue.specs.WaitingData.{is_ripe, goes_before, with_waiter}
-use Rattle.fts_queue.specs.Trees.{IsWithout, AreCounts}
+use Rattle.fts_queue.specs.declared.tree.Node.{Node, out-Node}
+use Rattle.fts_queue.specs.WaitingData.{AreSortedBy, is_ripe, goes_before, with_waiter}
+use Rattle.fts_queue.specs.Trees.{waiters_in, waiters_of, IsWithout, AreCounts}
+use Rattle.fts_queue.proofs.Orders.{waiting_order}
 use Rattle.fts_queue.proofs.TreeCounts.{filter_append, less_next, one_if}
+use Rattle.fts_queue.proofs.TreeOrder.{sorted_parts, put_in_front, put_in_back}
 
 -- the list with the file is one longer
 pub length_with : (waiter : Waiter) (whole rest : List Waiter) → IsWithout waiter whole rest → length whole ≡ length rest + 1
@@ -94,29 +97,38 @@ without_put waiter (first ∷ rest) = by_test (goes_before waiter first) (withou
       rest_is = ap (λ later. first ∷ later) behind.rest_is;
     }
 
--- the same around what both lists have in common in front
-pub without_behind : (waiter : Waiter) (ahead whole rest : List Waiter) → IsWithout waiter whole rest → IsWithout waiter (ahead ++ whole) (ahead ++ rest)
-without_behind waiter [] whole rest without = without
-without_behind waiter (first ∷ ahead) whole rest without =
-    let behind = without_behind waiter ahead whole rest without in
+-- equal counts count the same
+pub same_counts : (moment size ripe next other_size other_ripe other_next : ℕ) (waiters : List Waiter) → AreCounts moment size ripe next waiters
+    → other_size ≡ size → other_ripe ≡ ripe → other_next ≡ next → AreCounts moment other_size other_ripe other_next waiters
+same_counts moment size ripe next other_size other_ripe other_next waiters counts same_size same_ripe same_next =
     record {
-      front = first ∷ behind.front;
-      back = behind.back;
-      whole_is = ap (λ later. first ∷ later) behind.whole_is;
-      rest_is = ap (λ later. first ∷ later) behind.rest_is;
+      size = same_size ∙ counts.size;
+      ripe = same_ripe ∙ counts.ripe;
+      next = subst (λ next. AllByRecursion (IsBound moment next) waiters) (sym same_next) counts.next;
     }
 
--- joined lists, the front of the first one taken apart
-joined_twice : (front back after : List Waiter) → (front ++ back) ++ after ≡ front ++ (back ++ after)
-joined_twice [] back after = refl
-joined_twice (first ∷ front) back after = ap (λ later. first ∷ later) (joined_twice front back after)
+-- a file that comes in on the left side of a node comes in at its place of the whole
+pub comes_in_left : (waiter : Waiter) (now was : Node) (waiters : List Waiter) → waiters ≡ waiters_of was
+    → goes_before waiter (out-Node was).waiter ≡ true
+    → (out-Node now).waiter ≡ (out-Node was).waiter → (out-Node now).right ≡ (out-Node was).right
+    → waiters_in (out-Node now).left ≡ with_waiter waiter (waiters_in (out-Node was).left) → waiters_of now ≡ with_waiter waiter waiters
+comes_in_left waiter now was waiters whole goes own other side =
+    ap (λ waiters. waiters ++ (out-Node now).waiter ∷ waiters_in (out-Node now).right) side
+    ∙ (ap (λ middle. with_waiter waiter (waiters_in (out-Node was).left) ++ middle ∷ waiters_in (out-Node now).right) own
+    ∙ (ap (λ tree. with_waiter waiter (waiters_in (out-Node was).left) ++ (out-Node was).waiter ∷ waiters_in tree) other
+    ∙ (sym (put_in_front goes_before waiter (out-Node was).waiter (waiters_in (out-Node was).left) (waiters_in (out-Node was).right) goes)
+    ∙ ap (with_waiter waiter) (sym whole))))
 
--- the same in front of what both lists have in common behind
-pub without_ahead : (waiter : Waiter) (after whole rest : List Waiter) → IsWithout waiter whole rest → IsWithout waiter (whole ++ after) (rest ++ after)
-without_ahead waiter after whole rest without =
-    record {
-      front = without.front;
-      back = without.back ++ after;
-      whole_is = ap (λ waiters. waiters ++ after) without.whole_is ∙ joined_twice without.front (waiter ∷ without.back) after;
-      rest_is = ap (λ waiters. waiters ++ after) without.rest_is ∙ joined_twice without.front without.back after;
-    }
+-- and so does one that comes in on the right side
+pub comes_in_right : (waiter : Waiter) (now was : Node) (waiters : List Waiter) → waiters ≡ waiters_of was → AreSortedBy goes_before waiters
+    → goes_before waiter (out-Node was).waiter ≡ false
+    → (out-Node now).waiter ≡ (out-Node was).waiter → (out-Node now).left ≡ (out-Node was).left
+    → waiters_in (out-Node now).right ≡ with_waiter waiter (waiters_in (out-Node was).right) → waiters_of now ≡ with_waiter waiter waiters
+comes_in_right waiter now was waiters whole sorted goes own other side =
+    let parts = sorted_parts goes_before (waiters_in (out-Node was).left) (waiters_in (out-Node was).right) (out-Node was).waiter
+    (subst (AreSortedBy goes_before) whole sorted) in
+    ap (λ waiters. waiters_in (out-Node now).left ++ (out-Node now).waiter ∷ waiters) side
+    ∙ (ap (λ middle. waiters_in (out-Node now).left ++ middle ∷ with_waiter waiter (waiters_in (out-Node was).right)) own
+    ∙ (ap (λ tree. waiters_in tree ++ (out-Node was).waiter ∷ with_waiter waiter (waiters_in (out-Node was).right)) other
+    ∙ (sym (put_in_back goes_before waiting_order waiter (out-Node was).waiter (waiters_in (out-Node was).left) (waiters_in (out-Node was).right) goes
+    parts.sooner) ∙ ap (with_waiter waiter) (sym whole))))
