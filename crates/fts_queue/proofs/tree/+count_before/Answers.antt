@@ -16,9 +16,15 @@ count_before-requires t c =
     let whole : waiters_in c.args.tree.now ≡ waiters_of node = search rules in
     let parts = sorted_parts goes_before (waiters_in (out-Node node).left) (waiters_in (out-Node node).right) (out-Node node).waiter
     (subst (AreSortedBy goes_before) whole c.requires.order) in
-    let side : (out-Node c.deref-then-stands_before-3.result.now).right ≡ (out-Node node).right = ap (λ (node : Node). (out-Node node).right) c.deref-then-stands_before-3.ensures in
+    let side : (out-Node c.deref-then-stands_before-3.result.now).right ≡ (out-Node node).right =
+    ap (λ (node : Node). (out-Node node).right) c.deref-then-stands_before-3.ensures in
     let fewer : length (waiters_in (out-Node c.deref-then-stands_before-3.result.now).right) < length (waiters_in c.args.tree.now) =
-    omega (arith, ap length whole, ap (λ (tree : Tree). length (waiters_in tree)) side, length-append (waiters_in (out-Node node).left) ((out-Node node).waiter ∷ waiters_in (out-Node node).right)) in
+    omega (
+      arith,
+      ap length whole,
+      ap (λ (tree : Tree). length (waiters_in tree)) side,
+      length-append (waiters_in (out-Node node).left) ((out-Node node).waiter ∷ waiters_in (out-Node node).right),
+    ) in
     let counted : IsCounted c.args.moment (out-Node c.deref-then-stands_before-3.result.now).right = search rules in
     (search rules, (counted, (subst (λ tree. AreSortedBy goes_before (waiters_in tree)) (sym side) parts.back, omega (arith, fewer, c.requires.fits))))
 
@@ -28,9 +34,15 @@ count_before-requires-else-stands_before t c =
     let whole : waiters_in c.args.tree.now ≡ waiters_of node = search rules in
     let parts = sorted_parts goes_before (waiters_in (out-Node node).left) (waiters_in (out-Node node).right) (out-Node node).waiter
     (subst (AreSortedBy goes_before) whole c.requires.order) in
-    let side : (out-Node c.deref-else-stands_before.result.now).left ≡ (out-Node node).left = ap (λ (node : Node). (out-Node node).left) c.deref-else-stands_before.ensures in
+    let side : (out-Node c.deref-else-stands_before.result.now).left ≡ (out-Node node).left =
+    ap (λ (node : Node). (out-Node node).left) c.deref-else-stands_before.ensures in
     let fewer : length (waiters_in (out-Node c.deref-else-stands_before.result.now).left) < length (waiters_in c.args.tree.now) =
-    omega (arith, ap length whole, ap (λ (tree : Tree). length (waiters_in tree)) side, length-append (waiters_in (out-Node node).left) ((out-Node node).waiter ∷ waiters_in (out-Node node).right)) in
+    omega (
+      arith,
+      ap length whole,
+      ap (λ (tree : Tree). length (waiters_in tree)) side,
+      length-append (waiters_in (out-Node node).left) ((out-Node node).waiter ∷ waiters_in (out-Node node).right),
+    ) in
     let counted : IsCounted c.args.moment (out-Node c.deref-else-stands_before.result.now).left = search rules in
     (search rules, (counted, (subst (λ tree. AreSortedBy goes_before (waiters_in tree)) (sym side) parts.front, omega (arith, fewer, c.requires.fits))))
 
@@ -44,7 +56,8 @@ overflow_add-result t c =
     let all : (out-Node c.deref-then-stands_before.result.now).size ≡ size_of c.args.tree.now = search rules in
     let right_counted : IsCounted c.args.moment (out-Node node).right = search rules in
     let right = counts_of_tree c.args.moment (out-Node node).right right_counted in
-    let size : c.size_of.result ≡ size_of (out-Node node).right = c.size_of.ensures.size ∙ ap (λ (node : Node). size_of (out-Node node).right) c.deref-then-stands_before-2.ensures in
+    let size : c.size_of.result ≡ size_of (out-Node node).right =
+    c.size_of.ensures.size ∙ ap (λ (node : Node). size_of (out-Node node).right) c.deref-then-stands_before-2.ensures in
     let side : (out-Node c.deref-then-stands_before-3.result.now).right ≡ (out-Node node).right =
     ap (λ (node : Node). (out-Node node).right) c.deref-then-stands_before-3.ensures in
     omega (
@@ -74,7 +87,8 @@ returns-then-stands_before t c =
     let right = counts_of_tree c.args.moment (out-Node node).right right_counted in
     let stands : test (out-Node node).waiter ≡ true =
     ap (λ (node : Node). test (out-Node node).waiter) (sym c.deref.ensures) ∙ (sym c.stands_before.ensures.answer ∙ c.if-stands_before.true) in
-    let size : c.size_of.result ≡ size_of (out-Node node).right = c.size_of.ensures.size ∙ ap (λ (node : Node). size_of (out-Node node).right) c.deref-then-stands_before-2.ensures in
+    let size : c.size_of.result ≡ size_of (out-Node node).right =
+    c.size_of.ensures.size ∙ ap (λ (node : Node). size_of (out-Node node).right) c.deref-then-stands_before-2.ensures in
     let side : (out-Node c.deref-then-stands_before-3.result.now).right ≡ (out-Node node).right =
     ap (λ (node : Node). (out-Node node).right) c.deref-then-stands_before-3.ensures in
     record {

@@ -1,4 +1,4 @@
-use Rattle.std.proofs.Common.{rules, ◌≡◌, ◌<◌, ◌∷◌, ◌++◌, ◌∙◌, ap, sym, subst, arith, length, length-append, true, false}
+use Rattle.std.proofs.Common.{rules, ◌≡◌, ◌<◌, ◌∷◌, ◌∙◌, ap, sym, subst, arith, length, length-append, true, false}
 use Rattle.fts_queue.specs.declared.waiter.Waiter.{Waiter}
 use Rattle.fts_queue.specs.declared.tree.Node.{Node, out-Node}
 use Rattle.fts_queue.specs.declared.tree.Tree.{Tree}
@@ -12,7 +12,8 @@ use Rattle.fts_queue.proofs.tree.+put.Goals as goal
 pub put-requires : goal.put-requires
 put-requires t c =
     let node : Node = c.in-Branch.node.value in
-    let side : c.replace-left.result ≡ (out-Node node).left = c.replace-left.ensures.value ∙ ap (λ (node : Node). (out-Node node).left) c.deref_mut.ensures.value in
+    let side : c.replace-left.result ≡ (out-Node node).left =
+    c.replace-left.ensures.value ∙ ap (λ (node : Node). (out-Node node).left) c.deref_mut.ensures.value in
     let whole : waiters_in c.args.tree ≡ waiters_of node = search rules in
     let parts = sorted_parts goes_before (waiters_in (out-Node node).left) (waiters_in (out-Node node).right) (out-Node node).waiter
     (subst (AreSortedBy goes_before) whole c.requires.order) in
@@ -49,7 +50,8 @@ put-requires t c =
 pub put-requires-else-goes_before : goal.put-requires-else-goes_before
 put-requires-else-goes_before t c =
     let node : Node = c.in-Branch.node.value in
-    let side : c.replace-right.result ≡ (out-Node node).right = c.replace-right.ensures.value ∙ ap (λ (node : Node). (out-Node node).right) c.deref_mut-else-goes_before.ensures.value in
+    let side : c.replace-right.result ≡ (out-Node node).right =
+    c.replace-right.ensures.value ∙ ap (λ (node : Node). (out-Node node).right) c.deref_mut-else-goes_before.ensures.value in
     let whole : waiters_in c.args.tree ≡ waiters_of node = search rules in
     let parts = sorted_parts goes_before (waiters_in (out-Node node).left) (waiters_in (out-Node node).right) (out-Node node).waiter
     (subst (AreSortedBy goes_before) whole c.requires.order) in
@@ -93,10 +95,11 @@ count_in-requires-clause-counted t c =
     ap (λ (one : Node). goes_before (out-Node one).waiter (out-Node node).waiter) (sym c.deref.ensures)
     ∙ (ap (λ (other : Node). goes_before (out-Node c.deref.result.now).waiter (out-Node other).waiter) (sym c.deref-in-Branch.ensures)
     ∙ (sym c.goes_before.ensures.answer ∙ c.if-goes_before.true)) in
-    let own : (out-Node held).waiter ≡ (out-Node node).waiter = ap (λ (node : Node). (out-Node node).waiter) c.deref_mut-then-goes_before-2.ensures.value ∙ ap (λ (node : Node). (out-Node node).waiter) c.deref_mut-then-goes_before.ensures.value ∙ ap (λ (node : Node). (out-Node node).waiter) c.deref_mut.ensures.value in
-    let other : (out-Node held).right ≡ (out-Node node).right = ap (λ (node : Node). (out-Node node).right) c.deref_mut-then-goes_before-2.ensures.value ∙ ap (λ (node : Node). (out-Node node).right) c.deref_mut-then-goes_before.ensures.value ∙ ap (λ (node : Node). (out-Node node).right) c.deref_mut.ensures.value in
+    let own : (out-Node held).waiter ≡ (out-Node node).waiter = search rules in
+    let other : (out-Node held).right ≡ (out-Node node).right = search rules in
     let side : waiters_in (out-Node held).left ≡ with_waiter fresh (waiters_in (out-Node node).left) =
-    ap (λ (node : Node). waiters_in (out-Node node).left) c.deref_mut-then-goes_before-2.ensures.value ∙ (c.put.ensures.waiters ∙ ap (λ tree. with_waiter fresh (waiters_in tree))
+    ap (λ (node : Node). waiters_in (out-Node node).left) c.deref_mut-then-goes_before-2.ensures.value
+    ∙ (c.put.ensures.waiters ∙ ap (λ tree. with_waiter fresh (waiters_in tree))
     (c.replace-left.ensures.value ∙ ap (λ (node : Node). (out-Node node).left) c.deref_mut.ensures.value)) in
     let made : waiters_of held ≡ with_waiter fresh (waiters_in c.args.tree) =
     comes_in_left fresh held node (waiters_in c.args.tree) whole goes own other side in
@@ -126,10 +129,11 @@ count_in-requires-clause-fits t c =
     ap (λ (one : Node). goes_before (out-Node one).waiter (out-Node node).waiter) (sym c.deref.ensures)
     ∙ (ap (λ (other : Node). goes_before (out-Node c.deref.result.now).waiter (out-Node other).waiter) (sym c.deref-in-Branch.ensures)
     ∙ (sym c.goes_before.ensures.answer ∙ c.if-goes_before.true)) in
-    let own : (out-Node held).waiter ≡ (out-Node node).waiter = ap (λ (node : Node). (out-Node node).waiter) c.deref_mut-then-goes_before-2.ensures.value ∙ ap (λ (node : Node). (out-Node node).waiter) c.deref_mut-then-goes_before.ensures.value ∙ ap (λ (node : Node). (out-Node node).waiter) c.deref_mut.ensures.value in
-    let other : (out-Node held).right ≡ (out-Node node).right = ap (λ (node : Node). (out-Node node).right) c.deref_mut-then-goes_before-2.ensures.value ∙ ap (λ (node : Node). (out-Node node).right) c.deref_mut-then-goes_before.ensures.value ∙ ap (λ (node : Node). (out-Node node).right) c.deref_mut.ensures.value in
+    let own : (out-Node held).waiter ≡ (out-Node node).waiter = search rules in
+    let other : (out-Node held).right ≡ (out-Node node).right = search rules in
     let side : waiters_in (out-Node held).left ≡ with_waiter fresh (waiters_in (out-Node node).left) =
-    ap (λ (node : Node). waiters_in (out-Node node).left) c.deref_mut-then-goes_before-2.ensures.value ∙ (c.put.ensures.waiters ∙ ap (λ tree. with_waiter fresh (waiters_in tree))
+    ap (λ (node : Node). waiters_in (out-Node node).left) c.deref_mut-then-goes_before-2.ensures.value
+    ∙ (c.put.ensures.waiters ∙ ap (λ tree. with_waiter fresh (waiters_in tree))
     (c.replace-left.ensures.value ∙ ap (λ (node : Node). (out-Node node).left) c.deref_mut.ensures.value)) in
     let made : waiters_of held ≡ with_waiter fresh (waiters_in c.args.tree) =
     comes_in_left fresh held node (waiters_in c.args.tree) whole goes own other side in
@@ -145,10 +149,11 @@ settled_by_left-requires-clause-fits t c =
     ap (λ (one : Node). goes_before (out-Node one).waiter (out-Node node).waiter) (sym c.deref.ensures)
     ∙ (ap (λ (other : Node). goes_before (out-Node c.deref.result.now).waiter (out-Node other).waiter) (sym c.deref-in-Branch.ensures)
     ∙ (sym c.goes_before.ensures.answer ∙ c.if-goes_before.true)) in
-    let own : (out-Node held).waiter ≡ (out-Node node).waiter = ap (λ (node : Node). (out-Node node).waiter) c.deref_mut-then-goes_before-2.ensures.value ∙ ap (λ (node : Node). (out-Node node).waiter) c.deref_mut-then-goes_before.ensures.value ∙ ap (λ (node : Node). (out-Node node).waiter) c.deref_mut.ensures.value in
-    let other : (out-Node held).right ≡ (out-Node node).right = ap (λ (node : Node). (out-Node node).right) c.deref_mut-then-goes_before-2.ensures.value ∙ ap (λ (node : Node). (out-Node node).right) c.deref_mut-then-goes_before.ensures.value ∙ ap (λ (node : Node). (out-Node node).right) c.deref_mut.ensures.value in
+    let own : (out-Node held).waiter ≡ (out-Node node).waiter = search rules in
+    let other : (out-Node held).right ≡ (out-Node node).right = search rules in
     let side : waiters_in (out-Node held).left ≡ with_waiter fresh (waiters_in (out-Node node).left) =
-    ap (λ (node : Node). waiters_in (out-Node node).left) c.deref_mut-then-goes_before-2.ensures.value ∙ (c.put.ensures.waiters ∙ ap (λ tree. with_waiter fresh (waiters_in tree))
+    ap (λ (node : Node). waiters_in (out-Node node).left) c.deref_mut-then-goes_before-2.ensures.value
+    ∙ (c.put.ensures.waiters ∙ ap (λ tree. with_waiter fresh (waiters_in tree))
     (c.replace-left.ensures.value ∙ ap (λ (node : Node). (out-Node node).left) c.deref_mut.ensures.value)) in
     let made : waiters_of held ≡ with_waiter fresh (waiters_in c.args.tree) =
     comes_in_left fresh held node (waiters_in c.args.tree) whole goes own other side in
@@ -164,10 +169,11 @@ returns-then-goes_before-clause-waiters t c =
     ap (λ (one : Node). goes_before (out-Node one).waiter (out-Node node).waiter) (sym c.deref.ensures)
     ∙ (ap (λ (other : Node). goes_before (out-Node c.deref.result.now).waiter (out-Node other).waiter) (sym c.deref-in-Branch.ensures)
     ∙ (sym c.goes_before.ensures.answer ∙ c.if-goes_before.true)) in
-    let own : (out-Node held).waiter ≡ (out-Node node).waiter = ap (λ (node : Node). (out-Node node).waiter) c.deref_mut-then-goes_before-2.ensures.value ∙ ap (λ (node : Node). (out-Node node).waiter) c.deref_mut-then-goes_before.ensures.value ∙ ap (λ (node : Node). (out-Node node).waiter) c.deref_mut.ensures.value in
-    let other : (out-Node held).right ≡ (out-Node node).right = ap (λ (node : Node). (out-Node node).right) c.deref_mut-then-goes_before-2.ensures.value ∙ ap (λ (node : Node). (out-Node node).right) c.deref_mut-then-goes_before.ensures.value ∙ ap (λ (node : Node). (out-Node node).right) c.deref_mut.ensures.value in
+    let own : (out-Node held).waiter ≡ (out-Node node).waiter = search rules in
+    let other : (out-Node held).right ≡ (out-Node node).right = search rules in
     let side : waiters_in (out-Node held).left ≡ with_waiter fresh (waiters_in (out-Node node).left) =
-    ap (λ (node : Node). waiters_in (out-Node node).left) c.deref_mut-then-goes_before-2.ensures.value ∙ (c.put.ensures.waiters ∙ ap (λ tree. with_waiter fresh (waiters_in tree))
+    ap (λ (node : Node). waiters_in (out-Node node).left) c.deref_mut-then-goes_before-2.ensures.value
+    ∙ (c.put.ensures.waiters ∙ ap (λ tree. with_waiter fresh (waiters_in tree))
     (c.replace-left.ensures.value ∙ ap (λ (node : Node). (out-Node node).left) c.deref_mut.ensures.value)) in
     let made : waiters_of held ≡ with_waiter fresh (waiters_in c.args.tree) =
     comes_in_left fresh held node (waiters_in c.args.tree) whole goes own other side in
@@ -183,10 +189,11 @@ count_in-requires-else-goes_before-clause-counted t c =
     ap (λ (one : Node). goes_before (out-Node one).waiter (out-Node node).waiter) (sym c.deref.ensures)
     ∙ (ap (λ (other : Node). goes_before (out-Node c.deref.result.now).waiter (out-Node other).waiter) (sym c.deref-in-Branch.ensures)
     ∙ (sym c.goes_before.ensures.answer ∙ c.if-goes_before.false)) in
-    let own : (out-Node held).waiter ≡ (out-Node node).waiter = ap (λ (node : Node). (out-Node node).waiter) c.deref_mut-else-goes_before-3.ensures.value ∙ ap (λ (node : Node). (out-Node node).waiter) c.deref_mut-else-goes_before-2.ensures.value ∙ ap (λ (node : Node). (out-Node node).waiter) c.deref_mut-else-goes_before.ensures.value in
-    let other : (out-Node held).left ≡ (out-Node node).left = ap (λ (node : Node). (out-Node node).left) c.deref_mut-else-goes_before-3.ensures.value ∙ ap (λ (node : Node). (out-Node node).left) c.deref_mut-else-goes_before-2.ensures.value ∙ ap (λ (node : Node). (out-Node node).left) c.deref_mut-else-goes_before.ensures.value in
+    let own : (out-Node held).waiter ≡ (out-Node node).waiter = search rules in
+    let other : (out-Node held).left ≡ (out-Node node).left = search rules in
     let side : waiters_in (out-Node held).right ≡ with_waiter fresh (waiters_in (out-Node node).right) =
-    ap (λ (node : Node). waiters_in (out-Node node).right) c.deref_mut-else-goes_before-3.ensures.value ∙ (c.put-else-goes_before.ensures.waiters ∙ ap (λ tree. with_waiter fresh (waiters_in tree))
+    ap (λ (node : Node). waiters_in (out-Node node).right) c.deref_mut-else-goes_before-3.ensures.value
+    ∙ (c.put-else-goes_before.ensures.waiters ∙ ap (λ tree. with_waiter fresh (waiters_in tree))
     (c.replace-right.ensures.value ∙ ap (λ (node : Node). (out-Node node).right) c.deref_mut-else-goes_before.ensures.value)) in
     let made : waiters_of held ≡ with_waiter fresh (waiters_in c.args.tree) =
     comes_in_right fresh held node (waiters_in c.args.tree) whole c.requires.order goes own other side in
@@ -216,10 +223,11 @@ count_in-requires-else-goes_before-clause-fits t c =
     ap (λ (one : Node). goes_before (out-Node one).waiter (out-Node node).waiter) (sym c.deref.ensures)
     ∙ (ap (λ (other : Node). goes_before (out-Node c.deref.result.now).waiter (out-Node other).waiter) (sym c.deref-in-Branch.ensures)
     ∙ (sym c.goes_before.ensures.answer ∙ c.if-goes_before.false)) in
-    let own : (out-Node held).waiter ≡ (out-Node node).waiter = ap (λ (node : Node). (out-Node node).waiter) c.deref_mut-else-goes_before-3.ensures.value ∙ ap (λ (node : Node). (out-Node node).waiter) c.deref_mut-else-goes_before-2.ensures.value ∙ ap (λ (node : Node). (out-Node node).waiter) c.deref_mut-else-goes_before.ensures.value in
-    let other : (out-Node held).left ≡ (out-Node node).left = ap (λ (node : Node). (out-Node node).left) c.deref_mut-else-goes_before-3.ensures.value ∙ ap (λ (node : Node). (out-Node node).left) c.deref_mut-else-goes_before-2.ensures.value ∙ ap (λ (node : Node). (out-Node node).left) c.deref_mut-else-goes_before.ensures.value in
+    let own : (out-Node held).waiter ≡ (out-Node node).waiter = search rules in
+    let other : (out-Node held).left ≡ (out-Node node).left = search rules in
     let side : waiters_in (out-Node held).right ≡ with_waiter fresh (waiters_in (out-Node node).right) =
-    ap (λ (node : Node). waiters_in (out-Node node).right) c.deref_mut-else-goes_before-3.ensures.value ∙ (c.put-else-goes_before.ensures.waiters ∙ ap (λ tree. with_waiter fresh (waiters_in tree))
+    ap (λ (node : Node). waiters_in (out-Node node).right) c.deref_mut-else-goes_before-3.ensures.value
+    ∙ (c.put-else-goes_before.ensures.waiters ∙ ap (λ tree. with_waiter fresh (waiters_in tree))
     (c.replace-right.ensures.value ∙ ap (λ (node : Node). (out-Node node).right) c.deref_mut-else-goes_before.ensures.value)) in
     let made : waiters_of held ≡ with_waiter fresh (waiters_in c.args.tree) =
     comes_in_right fresh held node (waiters_in c.args.tree) whole c.requires.order goes own other side in
@@ -235,10 +243,11 @@ settled_by_right-requires-clause-fits t c =
     ap (λ (one : Node). goes_before (out-Node one).waiter (out-Node node).waiter) (sym c.deref.ensures)
     ∙ (ap (λ (other : Node). goes_before (out-Node c.deref.result.now).waiter (out-Node other).waiter) (sym c.deref-in-Branch.ensures)
     ∙ (sym c.goes_before.ensures.answer ∙ c.if-goes_before.false)) in
-    let own : (out-Node held).waiter ≡ (out-Node node).waiter = ap (λ (node : Node). (out-Node node).waiter) c.deref_mut-else-goes_before-3.ensures.value ∙ ap (λ (node : Node). (out-Node node).waiter) c.deref_mut-else-goes_before-2.ensures.value ∙ ap (λ (node : Node). (out-Node node).waiter) c.deref_mut-else-goes_before.ensures.value in
-    let other : (out-Node held).left ≡ (out-Node node).left = ap (λ (node : Node). (out-Node node).left) c.deref_mut-else-goes_before-3.ensures.value ∙ ap (λ (node : Node). (out-Node node).left) c.deref_mut-else-goes_before-2.ensures.value ∙ ap (λ (node : Node). (out-Node node).left) c.deref_mut-else-goes_before.ensures.value in
+    let own : (out-Node held).waiter ≡ (out-Node node).waiter = search rules in
+    let other : (out-Node held).left ≡ (out-Node node).left = search rules in
     let side : waiters_in (out-Node held).right ≡ with_waiter fresh (waiters_in (out-Node node).right) =
-    ap (λ (node : Node). waiters_in (out-Node node).right) c.deref_mut-else-goes_before-3.ensures.value ∙ (c.put-else-goes_before.ensures.waiters ∙ ap (λ tree. with_waiter fresh (waiters_in tree))
+    ap (λ (node : Node). waiters_in (out-Node node).right) c.deref_mut-else-goes_before-3.ensures.value
+    ∙ (c.put-else-goes_before.ensures.waiters ∙ ap (λ tree. with_waiter fresh (waiters_in tree))
     (c.replace-right.ensures.value ∙ ap (λ (node : Node). (out-Node node).right) c.deref_mut-else-goes_before.ensures.value)) in
     let made : waiters_of held ≡ with_waiter fresh (waiters_in c.args.tree) =
     comes_in_right fresh held node (waiters_in c.args.tree) whole c.requires.order goes own other side in
@@ -254,10 +263,11 @@ returns-else-goes_before-clause-waiters t c =
     ap (λ (one : Node). goes_before (out-Node one).waiter (out-Node node).waiter) (sym c.deref.ensures)
     ∙ (ap (λ (other : Node). goes_before (out-Node c.deref.result.now).waiter (out-Node other).waiter) (sym c.deref-in-Branch.ensures)
     ∙ (sym c.goes_before.ensures.answer ∙ c.if-goes_before.false)) in
-    let own : (out-Node held).waiter ≡ (out-Node node).waiter = ap (λ (node : Node). (out-Node node).waiter) c.deref_mut-else-goes_before-3.ensures.value ∙ ap (λ (node : Node). (out-Node node).waiter) c.deref_mut-else-goes_before-2.ensures.value ∙ ap (λ (node : Node). (out-Node node).waiter) c.deref_mut-else-goes_before.ensures.value in
-    let other : (out-Node held).left ≡ (out-Node node).left = ap (λ (node : Node). (out-Node node).left) c.deref_mut-else-goes_before-3.ensures.value ∙ ap (λ (node : Node). (out-Node node).left) c.deref_mut-else-goes_before-2.ensures.value ∙ ap (λ (node : Node). (out-Node node).left) c.deref_mut-else-goes_before.ensures.value in
+    let own : (out-Node held).waiter ≡ (out-Node node).waiter = search rules in
+    let other : (out-Node held).left ≡ (out-Node node).left = search rules in
     let side : waiters_in (out-Node held).right ≡ with_waiter fresh (waiters_in (out-Node node).right) =
-    ap (λ (node : Node). waiters_in (out-Node node).right) c.deref_mut-else-goes_before-3.ensures.value ∙ (c.put-else-goes_before.ensures.waiters ∙ ap (λ tree. with_waiter fresh (waiters_in tree))
+    ap (λ (node : Node). waiters_in (out-Node node).right) c.deref_mut-else-goes_before-3.ensures.value
+    ∙ (c.put-else-goes_before.ensures.waiters ∙ ap (λ tree. with_waiter fresh (waiters_in tree))
     (c.replace-right.ensures.value ∙ ap (λ (node : Node). (out-Node node).right) c.deref_mut-else-goes_before.ensures.value)) in
     let made : waiters_of held ≡ with_waiter fresh (waiters_in c.args.tree) =
     comes_in_right fresh held node (waiters_in c.args.tree) whole c.requires.order goes own other side in

@@ -1,6 +1,6 @@
-use Rattle.std.proofs.Common.{◌≡◌, ◌≤◌, ◌∙◌, ap, sym, arith, Bool, true, false, refl}
+use Rattle.std.proofs.Common.{◌≡◌, ◌∙◌, ap, sym, arith, true, false}
 use Rattle.std.proofs.lemmas.Bool.{false≢true}
-use Rattle.fts_queue.specs.Trees.{waiters_of, AreCounts}
+use Rattle.fts_queue.specs.Trees.{waiters_of}
 use Rattle.fts_queue.specs.WaitingData.{is_ripe}
 use Rattle.fts_queue.proofs.TreeCounts.{filter_fits, one_if}
 use Rattle.fts_queue.proofs.OneFile.{counts_with, length_with}

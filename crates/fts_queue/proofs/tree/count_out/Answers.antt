@@ -1,5 +1,5 @@
-use Rattle.std.proofs.Common.{◌≡◌, ◌+◌, ◌-◌, ◌∙◌, ap, sym, arith, Bool, true, false, length}
-use Rattle.fts_queue.specs.Trees.{waiters_of, AreCounts}
+use Rattle.std.proofs.Common.{◌≡◌, ◌-◌, ◌∙◌, ap, sym, arith, true, false}
+use Rattle.fts_queue.specs.Trees.{waiters_of}
 use Rattle.fts_queue.specs.WaitingData.{is_ripe}
 use Rattle.fts_queue.proofs.TreeCounts.{one_if}
 use Rattle.fts_queue.proofs.OneFile.{counts_without, length_with, passing_with}
