@@ -41,7 +41,7 @@ counts_of_tree moment Leaf counted = record { size = refl; ripe = refl; next = t
 counts_of_tree moment (Branch' p waiter size ripe next left right) counted = counted.0
 
 -- a lesser moment bounds what a greater one does
-less_next : (moment next least : ℕ) (waiters : List Waiter) → least ≤ next
+pub less_next : (moment next least : ℕ) (waiters : List Waiter) → least ≤ next
     → AllByRecursion (λ waiter. is_ripe moment waiter ≡ false → next ≤ waiter.not_before) waiters
     → AllByRecursion (λ waiter. is_ripe moment waiter ≡ false → least ≤ waiter.not_before) waiters
 less_next moment next least [] less all = tt

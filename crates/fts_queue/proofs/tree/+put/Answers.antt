@@ -1,17 +1,19 @@
-use Rattle.std.proofs.Common.{rules, ◌≡◌, ◌<◌, ◌∷◌, ◌++◌, ◌∙◌, ap, sym, subst, arith, length, length-append, true, false}
+use Rattle.std.proofs.Common.{rules, ◌≡◌, ◌<◌, ◌∷◌, ◌∙◌, ap, sym, subst, arith, length, length-append, true, false}
 use Rattle.fts_queue.specs.declared.waiter.Waiter.{Waiter}
 use Rattle.fts_queue.specs.declared.tree.Node.{Node, out-Node}
 use Rattle.fts_queue.specs.declared.tree.Tree.{Tree}
-use Rattle.fts_queue.specs.Trees.{waiters_in, waiters_of, IsCounted}
+use Rattle.fts_queue.specs.Trees.{waiters_in, waiters_of, size_of, ripe_of, next_of, IsWithout, IsCounted, IsCountedWithout}
 use Rattle.fts_queue.specs.WaitingData.{AreSortedBy, goes_before, with_waiter}
-use Rattle.fts_queue.proofs.Orders.{waiting_order}
-use Rattle.fts_queue.proofs.TreeOrder.{sorted_parts, put_in_front, put_in_back, length_put}
+use Rattle.fts_queue.proofs.TreeCounts.{counts_of_tree}
+use Rattle.fts_queue.proofs.TreeOrder.{sorted_parts, length_put}
+use Rattle.fts_queue.proofs.OneFile.{same_counts, without_put, comes_in_left, comes_in_right}
 use Rattle.fts_queue.proofs.tree.+put.Goals as goal
 
 pub put-requires : goal.put-requires
 put-requires t c =
     let node : Node = c.in-Branch.node.value in
-    let side : c.replace-left.result ≡ (out-Node node).left = c.replace-left.ensures.value ∙ ap (λ (node : Node). (out-Node node).left) c.deref_mut.ensures.value in
+    let side : c.replace-left.result ≡ (out-Node node).left =
+    c.replace-left.ensures.value ∙ ap (λ (node : Node). (out-Node node).left) c.deref_mut.ensures.value in
     let whole : waiters_in c.args.tree ≡ waiters_of node = search rules in
     let parts = sorted_parts goes_before (waiters_in (out-Node node).left) (waiters_in (out-Node node).right) (out-Node node).waiter
     (subst (AreSortedBy goes_before) whole c.requires.order) in
@@ -48,7 +50,8 @@ put-requires t c =
 pub put-requires-else-goes_before : goal.put-requires-else-goes_before
 put-requires-else-goes_before t c =
     let node : Node = c.in-Branch.node.value in
-    let side : c.replace-right.result ≡ (out-Node node).right = c.replace-right.ensures.value ∙ ap (λ (node : Node). (out-Node node).right) c.deref_mut-else-goes_before.ensures.value in
+    let side : c.replace-right.result ≡ (out-Node node).right =
+    c.replace-right.ensures.value ∙ ap (λ (node : Node). (out-Node node).right) c.deref_mut-else-goes_before.ensures.value in
     let whole : waiters_in c.args.tree ≡ waiters_of node = search rules in
     let parts = sorted_parts goes_before (waiters_in (out-Node node).left) (waiters_in (out-Node node).right) (out-Node node).waiter
     (subst (AreSortedBy goes_before) whole c.requires.order) in
@@ -82,88 +85,190 @@ put-requires-else-goes_before t c =
       ),
     )
 
-pub balanced-requires-clause-fits : goal.balanced-requires-clause-fits
-balanced-requires-clause-fits t c =
+pub count_in-requires-clause-counted : goal.count_in-requires-clause-counted
+count_in-requires-clause-counted t c =
     let node : Node = c.in-Branch.node.value in
-    let whole : waiters_in c.args.tree ≡ waiters_of node = search rules in
-    let side : c.replace-left.result ≡ (out-Node node).left = c.replace-left.ensures.value ∙ ap (λ (node : Node). (out-Node node).left) c.deref_mut.ensures.value in
-    let other : (out-Node c.deref_mut-then-goes_before.result.now).right ≡ (out-Node node).right =
-    ap (λ (node : Node). (out-Node node).right) c.deref_mut-then-goes_before.ensures.value ∙ ap (λ (node : Node). (out-Node node).right) c.deref_mut.ensures.value in
-    omega (
-      arith,
-      length-append (waiters_of c.put.result.value) ((out-Node c.deref_mut-then-goes_before.result.now).waiter ∷ waiters_in (out-Node c.deref_mut-then-goes_before.result.now).right),
-      ap length c.put.ensures.waiters,
-      length_put goes_before (out-Node c.args.fresh.value).waiter (waiters_in c.replace-left.result),
-      ap (λ (tree : Tree). length (waiters_in tree)) side,
-      ap (λ (tree : Tree). length (waiters_in tree)) other,
-      ap length whole,
-      length-append (waiters_in (out-Node node).left) ((out-Node node).waiter ∷ waiters_in (out-Node node).right),
-      c.requires.fits,
-    )
-
-pub returns-then-goes_before-clause-waiters : goal.returns-then-goes_before-clause-waiters
-returns-then-goes_before-clause-waiters t c =
-    let node : Node = c.in-Branch.node.value in
-    let whole : waiters_in c.args.tree ≡ waiters_of node = search rules in
+    let held : Node = c.deref_mut-then-goes_before-2.result.now in
     let fresh : Waiter = (out-Node c.args.fresh.value).waiter in
-    let side : c.replace-left.result ≡ (out-Node node).left = c.replace-left.ensures.value ∙ ap (λ (node : Node). (out-Node node).left) c.deref_mut.ensures.value in
-    let other : (out-Node c.deref_mut-then-goes_before.result.now).right ≡ (out-Node node).right =
-    ap (λ (node : Node). (out-Node node).right) c.deref_mut-then-goes_before.ensures.value ∙ ap (λ (node : Node). (out-Node node).right) c.deref_mut.ensures.value in
-    let waiter : (out-Node c.deref_mut-then-goes_before.result.now).waiter ≡ (out-Node node).waiter =
-    ap (λ (node : Node). (out-Node node).waiter) c.deref_mut-then-goes_before.ensures.value ∙ ap (λ (node : Node). (out-Node node).waiter) c.deref_mut.ensures.value in
+    let whole : waiters_in c.args.tree ≡ waiters_of node = search rules in
     let goes : goes_before fresh (out-Node node).waiter ≡ true =
     ap (λ (one : Node). goes_before (out-Node one).waiter (out-Node node).waiter) (sym c.deref.ensures)
     ∙ (ap (λ (other : Node). goes_before (out-Node c.deref.result.now).waiter (out-Node other).waiter) (sym c.deref-in-Branch.ensures)
     ∙ (sym c.goes_before.ensures.answer ∙ c.if-goes_before.true)) in
-    let made : waiters_of c.balanced.result.value ≡ with_waiter fresh (waiters_in (out-Node node).left) ++ (out-Node node).waiter ∷ waiters_in (out-Node node).right =
-    c.balanced.ensures.waiters
-    ∙ (ap (λ waiters. waiters ++ (out-Node c.deref_mut-then-goes_before.result.now).waiter ∷ waiters_in (out-Node c.deref_mut-then-goes_before.result.now).right)
-    (c.put.ensures.waiters ∙ ap (λ tree. with_waiter fresh (waiters_in tree)) side)
-    ∙ (ap (λ waiter. with_waiter fresh (waiters_in (out-Node node).left) ++ waiter ∷ waiters_in (out-Node c.deref_mut-then-goes_before.result.now).right) waiter
-    ∙ ap (λ tree. with_waiter fresh (waiters_in (out-Node node).left) ++ (out-Node node).waiter ∷ waiters_in tree) other)) in
-    made ∙ (sym (put_in_front goes_before fresh (out-Node node).waiter (waiters_in (out-Node node).left) (waiters_in (out-Node node).right) goes)
-    ∙ ap (with_waiter fresh) (sym whole))
+    let own : (out-Node held).waiter ≡ (out-Node node).waiter = search rules in
+    let other : (out-Node held).right ≡ (out-Node node).right = search rules in
+    let side : waiters_in (out-Node held).left ≡ with_waiter fresh (waiters_in (out-Node node).left) =
+    ap (λ (node : Node). waiters_in (out-Node node).left) c.deref_mut-then-goes_before-2.ensures.value
+    ∙ (c.put.ensures.waiters ∙ ap (λ tree. with_waiter fresh (waiters_in tree))
+    (c.replace-left.ensures.value ∙ ap (λ (node : Node). (out-Node node).left) c.deref_mut.ensures.value)) in
+    let made : waiters_of held ≡ with_waiter fresh (waiters_in c.args.tree) =
+    comes_in_left fresh held node (waiters_in c.args.tree) whole goes own other side in
+    let counts = counts_of_tree c.args.moment c.args.tree c.requires.counted in
+    let size : (out-Node held).size ≡ size_of c.args.tree = search rules in
+    let ripe : (out-Node held).ripe ≡ ripe_of c.args.tree = search rules in
+    let next : (out-Node held).next ≡ next_of c.args.tree = search rules in
+    let left : IsCounted c.args.moment (out-Node held).left = search rules in
+    let right : IsCounted c.args.moment (out-Node held).right = search rules in
+    let waiter : (out-Node c.deref.result.now).waiter ≡ fresh = ap (λ (node : Node). (out-Node node).waiter) c.deref.ensures in
+    subst (λ waiter. IsCountedWithout c.args.moment waiter held) (sym waiter) record {
+      counted = waiters_in c.args.tree;
+      counts = same_counts c.args.moment (size_of c.args.tree) (ripe_of c.args.tree) (next_of c.args.tree) (out-Node held).size (out-Node held).ripe
+          (out-Node held).next (waiters_in c.args.tree) counts size ripe next;
+      less = subst (λ waiters. IsWithout fresh waiters (waiters_in c.args.tree)) (sym made) (without_put fresh (waiters_in c.args.tree));
+      left = left;
+      right = right;
+    }
 
-pub balanced-requires-else-goes_before-clause-fits : goal.balanced-requires-else-goes_before-clause-fits
-balanced-requires-else-goes_before-clause-fits t c =
+pub count_in-requires-clause-fits : goal.count_in-requires-clause-fits
+count_in-requires-clause-fits t c =
     let node : Node = c.in-Branch.node.value in
-    let whole : waiters_in c.args.tree ≡ waiters_of node = search rules in
-    let side : c.replace-right.result ≡ (out-Node node).right = c.replace-right.ensures.value ∙ ap (λ (node : Node). (out-Node node).right) c.deref_mut-else-goes_before.ensures.value in
-    let other : (out-Node c.deref_mut-else-goes_before-2.result.now).left ≡ (out-Node node).left =
-    ap (λ (node : Node). (out-Node node).left) c.deref_mut-else-goes_before-2.ensures.value ∙ ap (λ (node : Node). (out-Node node).left) c.deref_mut-else-goes_before.ensures.value in
-    omega (
-      arith,
-      length-append (waiters_in (out-Node c.deref_mut-else-goes_before-2.result.now).left) ((out-Node c.deref_mut-else-goes_before-2.result.now).waiter ∷ waiters_of c.put-else-goes_before.result.value),
-      ap length c.put-else-goes_before.ensures.waiters,
-      length_put goes_before (out-Node c.args.fresh.value).waiter (waiters_in c.replace-right.result),
-      ap (λ (tree : Tree). length (waiters_in tree)) side,
-      ap (λ (tree : Tree). length (waiters_in tree)) other,
-      ap length whole,
-      length-append (waiters_in (out-Node node).left) ((out-Node node).waiter ∷ waiters_in (out-Node node).right),
-      c.requires.fits,
-    )
-
-pub returns-else-goes_before-clause-waiters : goal.returns-else-goes_before-clause-waiters
-returns-else-goes_before-clause-waiters t c =
-    let node : Node = c.in-Branch.node.value in
-    let whole : waiters_in c.args.tree ≡ waiters_of node = search rules in
+    let held : Node = c.deref_mut-then-goes_before-2.result.now in
     let fresh : Waiter = (out-Node c.args.fresh.value).waiter in
-    let side : c.replace-right.result ≡ (out-Node node).right = c.replace-right.ensures.value ∙ ap (λ (node : Node). (out-Node node).right) c.deref_mut-else-goes_before.ensures.value in
-    let other : (out-Node c.deref_mut-else-goes_before-2.result.now).left ≡ (out-Node node).left =
-    ap (λ (node : Node). (out-Node node).left) c.deref_mut-else-goes_before-2.ensures.value ∙ ap (λ (node : Node). (out-Node node).left) c.deref_mut-else-goes_before.ensures.value in
-    let waiter : (out-Node c.deref_mut-else-goes_before-2.result.now).waiter ≡ (out-Node node).waiter =
-    ap (λ (node : Node). (out-Node node).waiter) c.deref_mut-else-goes_before-2.ensures.value ∙ ap (λ (node : Node). (out-Node node).waiter) c.deref_mut-else-goes_before.ensures.value in
+    let whole : waiters_in c.args.tree ≡ waiters_of node = search rules in
+    let goes : goes_before fresh (out-Node node).waiter ≡ true =
+    ap (λ (one : Node). goes_before (out-Node one).waiter (out-Node node).waiter) (sym c.deref.ensures)
+    ∙ (ap (λ (other : Node). goes_before (out-Node c.deref.result.now).waiter (out-Node other).waiter) (sym c.deref-in-Branch.ensures)
+    ∙ (sym c.goes_before.ensures.answer ∙ c.if-goes_before.true)) in
+    let own : (out-Node held).waiter ≡ (out-Node node).waiter = search rules in
+    let other : (out-Node held).right ≡ (out-Node node).right = search rules in
+    let side : waiters_in (out-Node held).left ≡ with_waiter fresh (waiters_in (out-Node node).left) =
+    ap (λ (node : Node). waiters_in (out-Node node).left) c.deref_mut-then-goes_before-2.ensures.value
+    ∙ (c.put.ensures.waiters ∙ ap (λ tree. with_waiter fresh (waiters_in tree))
+    (c.replace-left.ensures.value ∙ ap (λ (node : Node). (out-Node node).left) c.deref_mut.ensures.value)) in
+    let made : waiters_of held ≡ with_waiter fresh (waiters_in c.args.tree) =
+    comes_in_left fresh held node (waiters_in c.args.tree) whole goes own other side in
+    omega (arith, ap length made, length_put goes_before fresh (waiters_in c.args.tree), c.requires.fits)
+
+pub settled_by_left-requires-clause-fits : goal.settled_by_left-requires-clause-fits
+settled_by_left-requires-clause-fits t c =
+    let node : Node = c.in-Branch.node.value in
+    let held : Node = c.deref_mut-then-goes_before-2.result.now in
+    let fresh : Waiter = (out-Node c.args.fresh.value).waiter in
+    let whole : waiters_in c.args.tree ≡ waiters_of node = search rules in
+    let goes : goes_before fresh (out-Node node).waiter ≡ true =
+    ap (λ (one : Node). goes_before (out-Node one).waiter (out-Node node).waiter) (sym c.deref.ensures)
+    ∙ (ap (λ (other : Node). goes_before (out-Node c.deref.result.now).waiter (out-Node other).waiter) (sym c.deref-in-Branch.ensures)
+    ∙ (sym c.goes_before.ensures.answer ∙ c.if-goes_before.true)) in
+    let own : (out-Node held).waiter ≡ (out-Node node).waiter = search rules in
+    let other : (out-Node held).right ≡ (out-Node node).right = search rules in
+    let side : waiters_in (out-Node held).left ≡ with_waiter fresh (waiters_in (out-Node node).left) =
+    ap (λ (node : Node). waiters_in (out-Node node).left) c.deref_mut-then-goes_before-2.ensures.value
+    ∙ (c.put.ensures.waiters ∙ ap (λ tree. with_waiter fresh (waiters_in tree))
+    (c.replace-left.ensures.value ∙ ap (λ (node : Node). (out-Node node).left) c.deref_mut.ensures.value)) in
+    let made : waiters_of held ≡ with_waiter fresh (waiters_in c.args.tree) =
+    comes_in_left fresh held node (waiters_in c.args.tree) whole goes own other side in
+    omega (arith, ap length c.count_in.ensures.waiters, ap length made, length_put goes_before fresh (waiters_in c.args.tree), c.requires.fits)
+
+pub returns-then-goes_before-clause-waiters : goal.returns-then-goes_before-clause-waiters
+returns-then-goes_before-clause-waiters t c =
+    let node : Node = c.in-Branch.node.value in
+    let held : Node = c.deref_mut-then-goes_before-2.result.now in
+    let fresh : Waiter = (out-Node c.args.fresh.value).waiter in
+    let whole : waiters_in c.args.tree ≡ waiters_of node = search rules in
+    let goes : goes_before fresh (out-Node node).waiter ≡ true =
+    ap (λ (one : Node). goes_before (out-Node one).waiter (out-Node node).waiter) (sym c.deref.ensures)
+    ∙ (ap (λ (other : Node). goes_before (out-Node c.deref.result.now).waiter (out-Node other).waiter) (sym c.deref-in-Branch.ensures)
+    ∙ (sym c.goes_before.ensures.answer ∙ c.if-goes_before.true)) in
+    let own : (out-Node held).waiter ≡ (out-Node node).waiter = search rules in
+    let other : (out-Node held).right ≡ (out-Node node).right = search rules in
+    let side : waiters_in (out-Node held).left ≡ with_waiter fresh (waiters_in (out-Node node).left) =
+    ap (λ (node : Node). waiters_in (out-Node node).left) c.deref_mut-then-goes_before-2.ensures.value
+    ∙ (c.put.ensures.waiters ∙ ap (λ tree. with_waiter fresh (waiters_in tree))
+    (c.replace-left.ensures.value ∙ ap (λ (node : Node). (out-Node node).left) c.deref_mut.ensures.value)) in
+    let made : waiters_of held ≡ with_waiter fresh (waiters_in c.args.tree) =
+    comes_in_left fresh held node (waiters_in c.args.tree) whole goes own other side in
+    c.settled_by_left.ensures.waiters ∙ (c.count_in.ensures.waiters ∙ made)
+
+pub count_in-requires-else-goes_before-clause-counted : goal.count_in-requires-else-goes_before-clause-counted
+count_in-requires-else-goes_before-clause-counted t c =
+    let node : Node = c.in-Branch.node.value in
+    let held : Node = c.deref_mut-else-goes_before-3.result.now in
+    let fresh : Waiter = (out-Node c.args.fresh.value).waiter in
+    let whole : waiters_in c.args.tree ≡ waiters_of node = search rules in
     let goes : goes_before fresh (out-Node node).waiter ≡ false =
     ap (λ (one : Node). goes_before (out-Node one).waiter (out-Node node).waiter) (sym c.deref.ensures)
     ∙ (ap (λ (other : Node). goes_before (out-Node c.deref.result.now).waiter (out-Node other).waiter) (sym c.deref-in-Branch.ensures)
     ∙ (sym c.goes_before.ensures.answer ∙ c.if-goes_before.false)) in
-    let made : waiters_of c.balanced-else-goes_before.result.value ≡ waiters_in (out-Node node).left ++ (out-Node node).waiter ∷ with_waiter fresh (waiters_in (out-Node node).right) =
-    c.balanced-else-goes_before.ensures.waiters
-    ∙ (ap (λ waiters. waiters_in (out-Node c.deref_mut-else-goes_before-2.result.now).left ++ (out-Node c.deref_mut-else-goes_before-2.result.now).waiter ∷ waiters)
-    (c.put-else-goes_before.ensures.waiters ∙ ap (λ tree. with_waiter fresh (waiters_in tree)) side)
-    ∙ (ap (λ waiter. waiters_in (out-Node c.deref_mut-else-goes_before-2.result.now).left ++ waiter ∷ with_waiter fresh (waiters_in (out-Node node).right)) waiter
-    ∙ ap (λ tree. waiters_in tree ++ (out-Node node).waiter ∷ with_waiter fresh (waiters_in (out-Node node).right)) other)) in
-    let parts = sorted_parts goes_before (waiters_in (out-Node node).left) (waiters_in (out-Node node).right) (out-Node node).waiter
-    (subst (AreSortedBy goes_before) whole c.requires.order) in
-    made ∙ (sym (put_in_back goes_before waiting_order fresh (out-Node node).waiter (waiters_in (out-Node node).left) (waiters_in (out-Node node).right) goes
-    parts.sooner) ∙ ap (with_waiter fresh) (sym whole))
+    let own : (out-Node held).waiter ≡ (out-Node node).waiter = search rules in
+    let other : (out-Node held).left ≡ (out-Node node).left = search rules in
+    let side : waiters_in (out-Node held).right ≡ with_waiter fresh (waiters_in (out-Node node).right) =
+    ap (λ (node : Node). waiters_in (out-Node node).right) c.deref_mut-else-goes_before-3.ensures.value
+    ∙ (c.put-else-goes_before.ensures.waiters ∙ ap (λ tree. with_waiter fresh (waiters_in tree))
+    (c.replace-right.ensures.value ∙ ap (λ (node : Node). (out-Node node).right) c.deref_mut-else-goes_before.ensures.value)) in
+    let made : waiters_of held ≡ with_waiter fresh (waiters_in c.args.tree) =
+    comes_in_right fresh held node (waiters_in c.args.tree) whole c.requires.order goes own other side in
+    let counts = counts_of_tree c.args.moment c.args.tree c.requires.counted in
+    let size : (out-Node held).size ≡ size_of c.args.tree = search rules in
+    let ripe : (out-Node held).ripe ≡ ripe_of c.args.tree = search rules in
+    let next : (out-Node held).next ≡ next_of c.args.tree = search rules in
+    let left : IsCounted c.args.moment (out-Node held).left = search rules in
+    let right : IsCounted c.args.moment (out-Node held).right = search rules in
+    let waiter : (out-Node c.deref.result.now).waiter ≡ fresh = ap (λ (node : Node). (out-Node node).waiter) c.deref.ensures in
+    subst (λ waiter. IsCountedWithout c.args.moment waiter held) (sym waiter) record {
+      counted = waiters_in c.args.tree;
+      counts = same_counts c.args.moment (size_of c.args.tree) (ripe_of c.args.tree) (next_of c.args.tree) (out-Node held).size (out-Node held).ripe
+          (out-Node held).next (waiters_in c.args.tree) counts size ripe next;
+      less = subst (λ waiters. IsWithout fresh waiters (waiters_in c.args.tree)) (sym made) (without_put fresh (waiters_in c.args.tree));
+      left = left;
+      right = right;
+    }
+
+pub count_in-requires-else-goes_before-clause-fits : goal.count_in-requires-else-goes_before-clause-fits
+count_in-requires-else-goes_before-clause-fits t c =
+    let node : Node = c.in-Branch.node.value in
+    let held : Node = c.deref_mut-else-goes_before-3.result.now in
+    let fresh : Waiter = (out-Node c.args.fresh.value).waiter in
+    let whole : waiters_in c.args.tree ≡ waiters_of node = search rules in
+    let goes : goes_before fresh (out-Node node).waiter ≡ false =
+    ap (λ (one : Node). goes_before (out-Node one).waiter (out-Node node).waiter) (sym c.deref.ensures)
+    ∙ (ap (λ (other : Node). goes_before (out-Node c.deref.result.now).waiter (out-Node other).waiter) (sym c.deref-in-Branch.ensures)
+    ∙ (sym c.goes_before.ensures.answer ∙ c.if-goes_before.false)) in
+    let own : (out-Node held).waiter ≡ (out-Node node).waiter = search rules in
+    let other : (out-Node held).left ≡ (out-Node node).left = search rules in
+    let side : waiters_in (out-Node held).right ≡ with_waiter fresh (waiters_in (out-Node node).right) =
+    ap (λ (node : Node). waiters_in (out-Node node).right) c.deref_mut-else-goes_before-3.ensures.value
+    ∙ (c.put-else-goes_before.ensures.waiters ∙ ap (λ tree. with_waiter fresh (waiters_in tree))
+    (c.replace-right.ensures.value ∙ ap (λ (node : Node). (out-Node node).right) c.deref_mut-else-goes_before.ensures.value)) in
+    let made : waiters_of held ≡ with_waiter fresh (waiters_in c.args.tree) =
+    comes_in_right fresh held node (waiters_in c.args.tree) whole c.requires.order goes own other side in
+    omega (arith, ap length made, length_put goes_before fresh (waiters_in c.args.tree), c.requires.fits)
+
+pub settled_by_right-requires-clause-fits : goal.settled_by_right-requires-clause-fits
+settled_by_right-requires-clause-fits t c =
+    let node : Node = c.in-Branch.node.value in
+    let held : Node = c.deref_mut-else-goes_before-3.result.now in
+    let fresh : Waiter = (out-Node c.args.fresh.value).waiter in
+    let whole : waiters_in c.args.tree ≡ waiters_of node = search rules in
+    let goes : goes_before fresh (out-Node node).waiter ≡ false =
+    ap (λ (one : Node). goes_before (out-Node one).waiter (out-Node node).waiter) (sym c.deref.ensures)
+    ∙ (ap (λ (other : Node). goes_before (out-Node c.deref.result.now).waiter (out-Node other).waiter) (sym c.deref-in-Branch.ensures)
+    ∙ (sym c.goes_before.ensures.answer ∙ c.if-goes_before.false)) in
+    let own : (out-Node held).waiter ≡ (out-Node node).waiter = search rules in
+    let other : (out-Node held).left ≡ (out-Node node).left = search rules in
+    let side : waiters_in (out-Node held).right ≡ with_waiter fresh (waiters_in (out-Node node).right) =
+    ap (λ (node : Node). waiters_in (out-Node node).right) c.deref_mut-else-goes_before-3.ensures.value
+    ∙ (c.put-else-goes_before.ensures.waiters ∙ ap (λ tree. with_waiter fresh (waiters_in tree))
+    (c.replace-right.ensures.value ∙ ap (λ (node : Node). (out-Node node).right) c.deref_mut-else-goes_before.ensures.value)) in
+    let made : waiters_of held ≡ with_waiter fresh (waiters_in c.args.tree) =
+    comes_in_right fresh held node (waiters_in c.args.tree) whole c.requires.order goes own other side in
+    omega (arith, ap length c.count_in-else-goes_before.ensures.waiters, ap length made, length_put goes_before fresh (waiters_in c.args.tree), c.requires.fits)
+
+pub returns-else-goes_before-clause-waiters : goal.returns-else-goes_before-clause-waiters
+returns-else-goes_before-clause-waiters t c =
+    let node : Node = c.in-Branch.node.value in
+    let held : Node = c.deref_mut-else-goes_before-3.result.now in
+    let fresh : Waiter = (out-Node c.args.fresh.value).waiter in
+    let whole : waiters_in c.args.tree ≡ waiters_of node = search rules in
+    let goes : goes_before fresh (out-Node node).waiter ≡ false =
+    ap (λ (one : Node). goes_before (out-Node one).waiter (out-Node node).waiter) (sym c.deref.ensures)
+    ∙ (ap (λ (other : Node). goes_before (out-Node c.deref.result.now).waiter (out-Node other).waiter) (sym c.deref-in-Branch.ensures)
+    ∙ (sym c.goes_before.ensures.answer ∙ c.if-goes_before.false)) in
+    let own : (out-Node held).waiter ≡ (out-Node node).waiter = search rules in
+    let other : (out-Node held).left ≡ (out-Node node).left = search rules in
+    let side : waiters_in (out-Node held).right ≡ with_waiter fresh (waiters_in (out-Node node).right) =
+    ap (λ (node : Node). waiters_in (out-Node node).right) c.deref_mut-else-goes_before-3.ensures.value
+    ∙ (c.put-else-goes_before.ensures.waiters ∙ ap (λ tree. with_waiter fresh (waiters_in tree))
+    (c.replace-right.ensures.value ∙ ap (λ (node : Node). (out-Node node).right) c.deref_mut-else-goes_before.ensures.value)) in
+    let made : waiters_of held ≡ with_waiter fresh (waiters_in c.args.tree) =
+    comes_in_right fresh held node (waiters_in c.args.tree) whole c.requires.order goes own other side in
+    c.settled_by_right.ensures.waiters ∙ (c.count_in-else-goes_before.ensures.waiters ∙ made)
