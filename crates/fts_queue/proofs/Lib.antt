@@ -8,3 +8,4 @@ mod TreeOrder
 mod TreePlaces
 mod QueueParts
 mod FileSearch
+mod TakenFile
