@@ -1,12 +1,13 @@
 -- A file that goes out of a list at its place of the order: on which side of another it stands, and what is left.
-use Rattle.std.proofs.Common.{◌≡◌, ℕ, zero, suc, ◌+◌, Bool, true, false, cond, List, [], ◌∷◌, ◌++◌, length, Some, refl, ap, sym, subst, ◌∙◌, arith, length-append}
-use Rattle.std.specs.Prelude.{not, ◌||◌, ◌&&◌, ◌==◌, nat_lt, slice_get}
+use Rattle.std.proofs.Common.{◌≡◌, ℕ, zero, suc, ◌+◌, Bool, true, false, cond, List, [], ◌∷◌, ◌++◌, Some, refl, ap, sym, subst, ◌∙◌}
+use Rattle.std.specs.Prelude.{not, ◌||◌, ◌&&◌, ◌==◌, slice_get}
 use Rattle.std.specs.List.{list_any, AllByRecursion}
 use Rattle.std.proofs.lemmas.Bool.{false≢true, and_parts, or_right, or_left, eq-eqb, eqb-true, ne_eqb, false_from_ne_true}
 use Rattle.std.proofs.lemmas.List.{append_assoc}
 use Rattle.fts_queue.specs.declared.waiter.Waiter.{Waiter}
-use Rattle.fts_queue.specs.WaitingData.{AreSortedBy, goes_before, is_first_by, is_in, is_same_place, is_waiting, AreApart, without_file}
-use Rattle.fts_queue.specs.Trees.{IsWithout}
+use Rattle.fts_queue.specs.declared.tree.Node.{Node, out-Node}
+use Rattle.fts_queue.specs.WaitingData.{AreSortedBy, goes_before, is_in, is_same_place, AreApart, without_file}
+use Rattle.fts_queue.specs.Trees.{waiters_in, waiters_of, IsWithout}
 use Rattle.fts_queue.proofs.Orders.{waiting_order}
 use Rattle.fts_queue.proofs.QueueRooms.{three_same}
 use Rattle.fts_queue.proofs.Sorting.{apart_middle, without_stranger}
@@ -137,17 +138,8 @@ stands_in_back waiter middle front back sorted apart goes any =
     elsewhere other before = false_from_ne_true (is_same_place waiter other) (λ same.
         false≢true (sym goes ∙ (sym (alike_goes waiter other middle same) ∙ before)))
 
--- a file less in the front, and in the back, is a file less in all
-pub without_in_front : (waiter middle : Waiter) (front rest back : List Waiter) → IsWithout waiter front rest
-    → IsWithout waiter (front ++ middle ∷ back) (rest ++ middle ∷ back)
-without_in_front waiter middle front rest back less = record {
-  front = less.front;
-  back = less.back ++ middle ∷ back;
-  whole_is = ap (λ waiters. waiters ++ middle ∷ back) less.whole_is ∙ append_assoc less.front (waiter ∷ less.back) (middle ∷ back);
-  rest_is = ap (λ waiters. waiters ++ middle ∷ back) less.rest_is ∙ append_assoc less.front less.back (middle ∷ back);
-}
-
-pub without_in_back : (waiter middle : Waiter) (front back rest : List Waiter) → IsWithout waiter back rest
+-- a file less in the back is a file less in all
+without_in_back : (waiter middle : Waiter) (front back rest : List Waiter) → IsWithout waiter back rest
     → IsWithout waiter (front ++ middle ∷ back) (front ++ middle ∷ rest)
 without_in_back waiter middle front back rest less = record {
   front = front ++ middle ∷ less.front;
@@ -156,16 +148,14 @@ without_in_back waiter middle front back rest less = record {
   rest_is = ap (λ waiters. front ++ middle ∷ waiters) less.rest_is ∙ sym (append_assoc front (middle ∷ less.front) less.back);
 }
 
--- it is one less
-pub length_without : (waiter : Waiter) (whole rest : List Waiter) → IsWithout waiter whole rest → length rest + 1 ≡ length whole
-length_without waiter whole rest less =
-    omega (
-      arith,
-      ap length less.whole_is,
-      ap length less.rest_is,
-      length-append less.front (waiter ∷ less.back),
-      length-append less.front less.back,
-    )
+-- and so it is of a node whose right side has one less
+pub right_has_less : (taken : Waiter) (was now : Node) → (out-Node now).left ≡ (out-Node was).left → (out-Node now).waiter ≡ (out-Node was).waiter
+    → IsWithout taken (waiters_in (out-Node was).right) (waiters_in (out-Node now).right) → IsWithout taken (waiters_of was) (waiters_of now)
+right_has_less taken was now left waiter less =
+    subst (IsWithout taken (waiters_of was))
+    (ap (λ tree. waiters_in tree ++ (out-Node was).waiter ∷ waiters_in (out-Node now).right) (sym left)
+    ∙ ap (λ waiter. waiters_in (out-Node now).left ++ waiter ∷ waiters_in (out-Node now).right) (sym waiter))
+    (without_in_back taken (out-Node was).waiter (waiters_in (out-Node was).left) (waiters_in (out-Node was).right) (waiters_in (out-Node now).right) less)
 
 -- where no file waits twice, it is the list without that file
 pub without_taken : (waiter : Waiter) (whole rest : List Waiter) → AreApart whole → IsWithout waiter whole rest → rest ≡ without_file waiter.file whole

@@ -1,4 +1,4 @@
-use Rattle.std.proofs.Common.{rules, ◌≡◌, ◌<◌, ◌∷◌, ◌++◌, ◌∙◌, ap, sym, subst, arith, length, length-append, true, false}
+use Rattle.std.proofs.Common.{rules, ◌≡◌, ◌<◌, ◌∷◌, ◌∙◌, ap, sym, subst, arith, length, length-append, true, false}
 use Rattle.std.specs.Prelude.{IsTrue}
 use Rattle.std.specs.List.{list_any}
 use Rattle.std.proofs.lemmas.Bool.{false≢true}
@@ -8,7 +8,7 @@ use Rattle.fts_queue.specs.declared.tree.Tree.{Tree, Leaf}
 use Rattle.fts_queue.specs.Trees.{waiters_in, waiters_of, IsCountedNode, IsWithout}
 use Rattle.fts_queue.specs.WaitingData.{AreSortedBy, goes_before, is_same_place}
 use Rattle.fts_queue.proofs.TreeOrder.{sorted_parts}
-use Rattle.fts_queue.proofs.TakenFile.{stands_in_front, stands_in_back, without_in_back}
+use Rattle.fts_queue.proofs.TakenFile.{stands_in_front, stands_in_back, right_has_less}
 use Rattle.fts_queue.proofs.tree.+take.Goals as goal
 
 pub unreachable-requires : goal.unreachable-requires
@@ -112,14 +112,9 @@ count_out-requires-in-Branch-replace t c =
     let less : IsWithout taken (waiters_in (out-Node node).right) (waiters_in (out-Node last).right) =
     subst (λ rest. IsWithout taken (waiters_in (out-Node node).right) rest) (sym rest)
     (subst (λ whole. IsWithout taken whole (waiters_in c.take-rest-in-Branch-replace.result.rest)) right c.take-rest-in-Branch-replace.ensures.waiters) in
-    let in_all : IsWithout taken (waiters_of node) (waiters_in (out-Node node).left ++ (out-Node node).waiter ∷ waiters_in (out-Node last).right) =
-    without_in_back taken (out-Node node).waiter (waiters_in (out-Node node).left) (waiters_in (out-Node node).right) (waiters_in (out-Node last).right) less in
-    let now : waiters_in (out-Node node).left ++ (out-Node node).waiter ∷ waiters_in (out-Node last).right ≡ waiters_of last =
-    ap (λ tree. waiters_in tree ++ (out-Node node).waiter ∷ waiters_in (out-Node last).right) (sym left_stays)
-    ∙ ap (λ waiter. waiters_in (out-Node last).left ++ waiter ∷ waiters_in (out-Node last).right) (sym waiter_stays) in
     let more : IsWithout (out-Node c.deref-in-Branch-replace.result.now).waiter (waiters_of node) (waiters_of last) =
     subst (λ (one : Node). IsWithout (out-Node one).waiter (waiters_of node) (waiters_of last)) (sym c.deref-in-Branch-replace.ensures)
-    (subst (λ waiters. IsWithout taken (waiters_of node) waiters) now in_all) in
+    (right_has_less taken node last left_stays waiter_stays less) in
     record { counted = record { counted = waiters_of node; counts = search rules; more = more; left = search rules; right = search rules } }
 
 pub returns-in-Branch-replace-clause-waiters : goal.returns-in-Branch-replace-clause-waiters
@@ -143,10 +138,5 @@ returns-in-Branch-replace-clause-waiters t c =
     let less : IsWithout taken (waiters_in (out-Node node).right) (waiters_in (out-Node last).right) =
     subst (λ rest. IsWithout taken (waiters_in (out-Node node).right) rest) (sym rest)
     (subst (λ whole. IsWithout taken whole (waiters_in c.take-rest-in-Branch-replace.result.rest)) right c.take-rest-in-Branch-replace.ensures.waiters) in
-    let in_all : IsWithout taken (waiters_of node) (waiters_in (out-Node node).left ++ (out-Node node).waiter ∷ waiters_in (out-Node last).right) =
-    without_in_back taken (out-Node node).waiter (waiters_in (out-Node node).left) (waiters_in (out-Node node).right) (waiters_in (out-Node last).right) less in
-    let now : waiters_in (out-Node node).left ++ (out-Node node).waiter ∷ waiters_in (out-Node last).right ≡ waiters_of last =
-    ap (λ tree. waiters_in tree ++ (out-Node node).waiter ∷ waiters_in (out-Node last).right) (sym left_stays)
-    ∙ ap (λ waiter. waiters_in (out-Node last).left ++ waiter ∷ waiters_in (out-Node last).right) (sym waiter_stays) in
-    subst (λ waiters. IsWithout taken (waiters_of node) waiters)
-    (now ∙ sym (c.settled_by_right.ensures.waiters ∙ c.count_out-in-Branch-replace.ensures.waiters)) in_all
+    subst (IsWithout taken (waiters_of node)) (sym (c.settled_by_right.ensures.waiters ∙ c.count_out-in-Branch-replace.ensures.waiters))
+    (right_has_less taken node last left_stays waiter_stays less)
