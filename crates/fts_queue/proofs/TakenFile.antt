@@ -114,7 +114,8 @@ pub stands_in_front : (waiter middle : Waiter) (front back : List Waiter) → Ar
     → list_any (is_same_place waiter) (front ++ middle ∷ back) ≡ true → list_any (is_same_place waiter) front ≡ true
 stands_in_front waiter middle front back sorted apart goes any =
     any_in_front (is_same_place waiter) front back middle any (other_place waiter middle apart)
-    (none_of (is_same_place waiter) back (all_from (λ other. goes_before middle other ≡ true) (λ other. is_same_place waiter other ≡ false) elsewhere back parts.later))
+    (none_of (is_same_place waiter) back
+    (all_from (λ other. goes_before middle other ≡ true) (λ other. is_same_place waiter other ≡ false) elsewhere back parts.later))
   where
     parts : AreParts goes_before front back middle
     parts = sorted_parts goes_before front back middle sorted
@@ -129,7 +130,8 @@ pub stands_in_back : (waiter middle : Waiter) (front back : List Waiter) → Are
     → list_any (is_same_place waiter) (front ++ middle ∷ back) ≡ true → list_any (is_same_place waiter) back ≡ true
 stands_in_back waiter middle front back sorted apart goes any =
     any_in_back (is_same_place waiter) front back middle any (other_place waiter middle apart)
-    (none_of (is_same_place waiter) front (all_from (λ other. goes_before other middle ≡ true) (λ other. is_same_place waiter other ≡ false) elsewhere front parts.sooner))
+    (none_of (is_same_place waiter) front
+    (all_from (λ other. goes_before other middle ≡ true) (λ other. is_same_place waiter other ≡ false) elsewhere front parts.sooner))
   where
     parts : AreParts goes_before front back middle
     parts = sorted_parts goes_before front back middle sorted

@@ -45,7 +45,12 @@ take-rest-requires t c =
           subst (AreSortedBy goes_before) left parts.front,
           (
             subst (λ waiters. IsTrue (list_any (is_same_place waiter) waiters)) left stands,
-            omega (arith, ap length left, length-append (waiters_in (out-Node node).left) ((out-Node node).waiter ∷ waiters_in (out-Node node).right), c.requires.fits),
+            omega (
+              arith,
+              ap length left,
+              length-append (waiters_in (out-Node node).left) ((out-Node node).waiter ∷ waiters_in (out-Node node).right),
+              c.requires.fits,
+            ),
           ),
         ),
       ),
@@ -60,7 +65,8 @@ unreachable-requires-in-Leaf-replace t c =
     let stands = stands_in_back waiter (out-Node node).waiter (waiters_in (out-Node node).left) (waiters_in (out-Node node).right) c.requires.order
     (λ same. c.if-deref-waiter.false (ap (λ (node : Node). (out-Node node).waiter.file) c.deref.ensures ∙ same)) goes c.requires.waits in
     let none : (out-Node node).right ≡ Leaf =
-    sym (c.replace-else-goes_before.ensures.value ∙ ap (λ (node : Node). (out-Node node).right) c.deref_mut-else-goes_before.ensures.value) ∙ c.in-Leaf-replace.is in
+    sym (c.replace-else-goes_before.ensures.value ∙ ap (λ (node : Node). (out-Node node).right) c.deref_mut-else-goes_before.ensures.value)
+    ∙ c.in-Leaf-replace.is in
     false≢true (subst (λ (tree : Tree). list_any (is_same_place waiter) (waiters_in tree) ≡ true) none stands)
 
 pub take-rest-requires-in-Branch-replace : goal.take-rest-requires-in-Branch-replace
@@ -69,7 +75,8 @@ take-rest-requires-in-Branch-replace t c =
     let waiter : Waiter = c.args.waiter.now in
     let right : (waiters_in (out-Node node).right) ≡ waiters_of c.in-Branch-replace.right.value =
     sym (sym (ap waiters_in c.in-Branch-replace.is)
-    ∙ (ap waiters_in c.replace-else-goes_before.ensures.value ∙ ap (λ (node : Node). waiters_in (out-Node node).right) c.deref_mut-else-goes_before.ensures.value)) in
+    ∙ (ap waiters_in c.replace-else-goes_before.ensures.value
+    ∙ ap (λ (node : Node). waiters_in (out-Node node).right) c.deref_mut-else-goes_before.ensures.value)) in
     let goes : goes_before waiter (out-Node node).waiter ≡ false =
     ap (λ (one : Node). goes_before waiter (out-Node one).waiter) (sym c.deref-2.ensures) ∙ (sym c.goes_before.ensures.answer ∙ c.if-goes_before.false) in
     let stands = stands_in_back waiter (out-Node node).waiter (waiters_in (out-Node node).left) (waiters_in (out-Node node).right) c.requires.order
@@ -85,7 +92,12 @@ take-rest-requires-in-Branch-replace t c =
           subst (AreSortedBy goes_before) right parts.back,
           (
             subst (λ waiters. IsTrue (list_any (is_same_place waiter) waiters)) right stands,
-            omega (arith, ap length right, length-append (waiters_in (out-Node node).left) ((out-Node node).waiter ∷ waiters_in (out-Node node).right), c.requires.fits),
+            omega (
+              arith,
+              ap length right,
+              length-append (waiters_in (out-Node node).left) ((out-Node node).waiter ∷ waiters_in (out-Node node).right),
+              c.requires.fits,
+            ),
           ),
         ),
       ),
@@ -98,7 +110,8 @@ count_out-requires-in-Branch-replace t c =
     let taken : Waiter = (out-Node c.take-rest-in-Branch-replace.result.node.value).waiter in
     let right : waiters_of c.in-Branch-replace.right.value ≡ waiters_in (out-Node node).right =
     sym (ap waiters_in c.in-Branch-replace.is)
-    ∙ (ap waiters_in c.replace-else-goes_before.ensures.value ∙ ap (λ (node : Node). waiters_in (out-Node node).right) c.deref_mut-else-goes_before.ensures.value) in
+    ∙ (ap waiters_in c.replace-else-goes_before.ensures.value
+    ∙ ap (λ (node : Node). waiters_in (out-Node node).right) c.deref_mut-else-goes_before.ensures.value) in
     let left_stays : (out-Node last).left ≡ (out-Node node).left =
     ap (λ (node : Node). (out-Node node).left) c.deref_mut-in-Branch-replace-2.ensures.value
     ∙ (ap (λ (node : Node). (out-Node node).left) c.deref_mut-in-Branch-replace.ensures.value
@@ -124,7 +137,8 @@ returns-in-Branch-replace-clause-waiters t c =
     let taken : Waiter = (out-Node c.take-rest-in-Branch-replace.result.node.value).waiter in
     let right : waiters_of c.in-Branch-replace.right.value ≡ waiters_in (out-Node node).right =
     sym (ap waiters_in c.in-Branch-replace.is)
-    ∙ (ap waiters_in c.replace-else-goes_before.ensures.value ∙ ap (λ (node : Node). waiters_in (out-Node node).right) c.deref_mut-else-goes_before.ensures.value) in
+    ∙ (ap waiters_in c.replace-else-goes_before.ensures.value
+    ∙ ap (λ (node : Node). waiters_in (out-Node node).right) c.deref_mut-else-goes_before.ensures.value) in
     let left_stays : (out-Node last).left ≡ (out-Node node).left =
     ap (λ (node : Node). (out-Node node).left) c.deref_mut-in-Branch-replace-2.ensures.value
     ∙ (ap (λ (node : Node). (out-Node node).left) c.deref_mut-in-Branch-replace.ensures.value
