@@ -15,12 +15,12 @@ use Rattle.fts_queue.proofs.TreeCounts.{filter_append}
 use Rattle.fts_queue.proofs.TreeOrder.{AreParts, sorted_parts}
 use Rattle.fts_queue.proofs.TreePlaces.{all_from}
 
--- what no item passes, none of them does
+-- where each item fails, none passes
 none_of : {A : Type 0} (passes : A → Bool) (items : List A) → AllByRecursion (λ item. passes item ≡ false) items → list_any passes items ≡ false
 none_of passes [] all = refl
 none_of passes (first ∷ rest) all = ap (λ test. test || list_any passes rest) all.0 ∙ none_of passes rest all.1
 
--- what neither the middle nor the back passes, the front does; and the other way round
+-- where some item passes, and neither the middle nor any of the back does, one of the front does; and the other way round
 any_in_front : {A : Type 0} (passes : A → Bool) (front back : List A) (middle : A) → list_any passes (front ++ middle ∷ back) ≡ true
     → passes middle ≡ false → list_any passes back ≡ false → list_any passes front ≡ true
 any_in_front passes [] back middle any here behind = absurd (false≢true (sym (ap (λ test. test || list_any passes back) here ∙ behind) ∙ any))
