@@ -1,16 +1,15 @@
 -- The search for a file of a queue: from one place to the next at which it may stand, each in a lesser priority or behind a lesser file.
-use Rattle.std.proofs.Common.{◌≡◌, ℕ, zero, suc, ◌+◌, ◌-◌, ◌<◌, ◌≤◌, Bool, true, false, cond, List, [], ◌∷◌, length, Option, Some, None, refl, ap, sym, ◌∙◌, arith, inl, inr, ⊎_elim, add-one}
-use Rattle.std.specs.Prelude.{not, ◌⊎◌, ◌&&◌, ◌==◌, nat_lt, filter, slice_get, remove, option_map}
+use Rattle.std.proofs.Common.{◌≡◌, ℕ, zero, suc, ◌-◌, ◌<◌, ◌≤◌, Bool, true, false, cond, List, [], ◌∷◌, length, Some, None, refl, ap, sym, ◌∙◌, arith, inl, inr, ⊎_elim}
+use Rattle.std.specs.Prelude.{◌⊎◌, ◌&&◌, ◌==◌, nat_lt, filter, slice_get}
 use Rattle.std.specs.List.{list_any}
-use Rattle.std.proofs.lemmas.Bool.{false≢true, cases_Bool, false_from_ne_true, and_parts, or_cases, or_left, or_right, eq-eqb, eqb-true, cases_order, ltb-true, lt-ltb, le-ltb}
+use Rattle.std.proofs.lemmas.Bool.{false≢true, cases_Bool, false_from_ne_true, and_parts, or_cases, eqb-true, cases_order, ltb-true, lt-ltb, le-ltb}
 use Rattle.fts_tables.specs.declared.settings.LinkAt.{LinkAt}
 use Rattle.fts_queue.specs.declared.waiter.Waiter.{Waiter}
 use Rattle.fts_queue.specs.declared.tree.Mark.TheVariants.{File, Start}
-use Rattle.fts_queue.specs.WaitingData.{AreSortedBy, goes_before, is_in, is_first_by, is_queue_before, next_bound, is_waiting, AreApart, without_file}
+use Rattle.fts_queue.specs.WaitingData.{AreSortedBy, goes_before, is_in, is_first_by, is_queue_before, next_bound}
 use Rattle.fts_queue.specs.Trees.{stands_before}
 use Rattle.fts_queue.proofs.Orders.{first_equal, first_less, first_why, first_greater}
 use Rattle.fts_queue.proofs.QueueRooms.{three_same}
-use Rattle.fts_queue.proofs.Sorting.{without_stranger}
 use Rattle.fts_queue.proofs.Numbers.{sooner_goes_before, all_at}
 use Rattle.fts_queue.proofs.TreePlaces.{GoesDown, mark_goes_down, all_from, none_pass, queue_after_on}
 use Rattle.fts_queue.proofs.QueueParts.{earlier, later_queue, own_queue}
@@ -222,54 +221,3 @@ step waiters file link activity place found sorted ahead here other = record {
         by_answer false above (inl lesser) = not_behind (found.priority - 1) (omega arith)
         by_answer false above (inr same) =
             absurd (false≢true (sym above ∙ (ap (nat_lt found.file) (sym ahead.named) ∙ same.1)))
-
--- what stands at a place waits
-waiting_at : (waiters : List Waiter) (n : ℕ) (waiter : Waiter) → slice_get waiters n ≡ Some waiter → is_waiting waiter.file waiters ≡ true
-waiting_at [] n waiter at = cc
-waiting_at (first ∷ rest) zero waiter at =
-    let same : first ≡ waiter = cc in
-    or_left (first.file == waiter.file) (is_waiting waiter.file rest) (eq-eqb first.file waiter.file (ap (λ (one : Waiter). one.file) same))
-waiting_at (first ∷ rest) (suc n) waiter at = or_right (first.file == waiter.file) (is_waiting waiter.file rest) (waiting_at rest n waiter at)
-
--- without the file at a place, where none waits twice
-pub without_at : (waiters : List Waiter) (n : ℕ) (waiter : Waiter) → AreApart waiters → slice_get waiters n ≡ Some waiter
-    → remove waiters n ≡ without_file waiter.file waiters
-without_at [] n waiter apart at = cc
-without_at (first ∷ rest) zero waiter apart at =
-    let same : first ≡ waiter = cc in
-    let named : first.file ≡ waiter.file = ap (λ (one : Waiter). one.file) same in
-    let none : is_waiting waiter.file rest ≡ false = ap (λ file. is_waiting file rest) (sym named) ∙ apart.0 in
-    sym (ap (λ test. cond (not test) (first ∷ without_file waiter.file rest) (without_file waiter.file rest)) (eq-eqb first.file waiter.file named)
-    ∙ without_stranger waiter.file rest none)
-without_at (first ∷ rest) (suc n) waiter apart at =
-    let differs : (first.file == waiter.file) ≡ false =
-    false_from_ne_true (first.file == waiter.file)
-    (λ same. false≢true (sym apart.0 ∙ (ap (λ file. is_waiting file rest) (eqb-true first.file waiter.file same) ∙ waiting_at rest n waiter at))) in
-    ap (λ later. first ∷ later) (without_at rest n waiter apart.1 at)
-    ∙ sym (ap (λ test. cond (not test) (first ∷ without_file waiter.file rest) (without_file waiter.file rest)) differs)
-
--- one less
-pub length_removed : {A : Type 0} (items : List A) (n : ℕ) → n < length items → length (remove items n) + 1 ≡ length items
-length_removed [] n less = absurd (omega arith)
-length_removed (first ∷ rest) zero less = add-one (length rest)
-length_removed (first ∷ rest) (suc n) less =
-    let behind = length_removed rest n (omega arith) in
-    omega (arith, behind)
-
--- a place with a file is inside
-pub inside_at : (waiters : List Waiter) (n file : ℕ) → option_map (λ waiter. waiter.file) (slice_get waiters n) ≡ Some file → n < length waiters
-inside_at [] n file at = cc
-inside_at (first ∷ rest) zero file at = omega arith
-inside_at (first ∷ rest) (suc n) file at = let behind = inside_at rest n file at in omega (arith, behind)
-
--- without a file, by its place
-pub without_named : (waiters : List Waiter) (n file : ℕ) → AreApart waiters → option_map (λ waiter. waiter.file) (slice_get waiters n) ≡ Some file
-    → remove waiters n ≡ without_file file waiters
-without_named waiters n file apart at = by_found (slice_get waiters n) refl at
-  where
-    by_found : (found : Option Waiter) → slice_get waiters n ≡ found → option_map (λ waiter. waiter.file) found ≡ Some file
-        → remove waiters n ≡ without_file file waiters
-    by_found None is at = cc
-    by_found (Some waiter) is at =
-        let named : waiter.file ≡ file = cc in
-        without_at waiters n waiter apart is ∙ ap (λ file. without_file file waiters) named

@@ -6,6 +6,7 @@ mod Places
 mod TreeCounts
 mod TreeOrder
 mod TreePlaces
+mod TakenFile
 mod QueueParts
 mod FileSearch
 mod OneFile

@@ -1,6 +1,6 @@
 -- Places in the list of a tree: what stands at one, what goes without it, and how many pass a test that goes down along the list.
 use Rattle.std.proofs.Common.{◌≡◌, ℕ, zero, suc, ◌+◌, ◌<◌, ◌≤◌, Bool, true, false, cond, List, [], ◌∷◌, ◌++◌, length, refl, ap, sym, ◌∙◌, arith, inl, inr, length-append}
-use Rattle.std.specs.Prelude.{◌⊎◌, nat_lt, filter, slice_get, remove}
+use Rattle.std.specs.Prelude.{◌⊎◌, nat_lt, filter, slice_get}
 use Rattle.std.specs.List.{AllByRecursion}
 use Rattle.std.proofs.lemmas.Bool.{false≢true, cases_Bool, leb-true, le-leb, lt-leb, false_from_ne_true, not_from_false, not-true, ltb-true, lt-ltb}
 use Rattle.fts_queue.specs.declared.waiter.Waiter.{Waiter}
@@ -26,19 +26,6 @@ get_back [] back n m at =
     ap (slice_get back) same
 get_back (first ∷ front) back zero m at = absurd (omega arith)
 get_back (first ∷ front) back (suc n) m at = get_back front back n m (omega arith)
-
--- without what stands in the front of joined lists, and in the back
-pub remove_front : {A : Type 0} (front back : List A) (n : ℕ) → n < length front → remove (front ++ back) n ≡ remove front n ++ back
-remove_front [] back n less = absurd (omega arith)
-remove_front (first ∷ front) back zero less = refl
-remove_front (first ∷ front) back (suc n) less = ap (λ later. first ∷ later) (remove_front front back n (omega arith))
-
-pub remove_back : {A : Type 0} (front back : List A) (n m : ℕ) → n ≡ length front + m → remove (front ++ back) n ≡ front ++ remove back m
-remove_back [] back n m at =
-    let same : n ≡ m = omega arith in
-    ap (remove back) same
-remove_back (first ∷ front) back zero m at = absurd (omega arith)
-remove_back (first ∷ front) back (suc n) m at = ap (λ later. first ∷ later) (remove_back front back n m (omega arith))
 
 -- a list of which all pass, and one of which none does
 pub all_pass : {A : Type 0} (passes : A → Bool) (items : List A) → AllByRecursion (λ item. passes item ≡ true) items → filter passes items ≡ items

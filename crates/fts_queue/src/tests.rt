@@ -56,5 +56,11 @@ fn a_better_file_goes_first_once_its_moment_has_come(rt: HostRuntime) -> Result<
     assert_eq!(rt; waiting.nth(LINK, 5, 0), None, "another activity");
     assert_eq!(rt; waiting.queues(), 1);
     assert_eq!(rt; waiting.queue(0), (LINK, 4));
+    waiting.remove_waiter(&waiter(1, 3, 0));
+    assert_eq!(rt;
+        ripe(&waiting),
+        [Some(3), None, None, None],
+        "without file 1"
+    );
     Ok(())
 }
