@@ -1,18 +1,21 @@
 #!/bin/sh
 # Submissions over 4 connections beside the journal's appends alone, in turns, in one run.
 #     bench/submissions.sh PROGRAM JOURNAL [SECONDS]
-# PROGRAM is fts, and JOURNAL the program of crates/bench_journal, as they were built. It needs Debian's wrk. Port 18080 of 127.0.0.1 is used.
+# PROGRAM is fts, and JOURNAL the program of crates/bench_journal, as they were built. It needs Debian's wrk and gcc. Port 18080 of 127.0.0.1 is used.
 set -eu
 program=$(realpath "$1")
 journal=$(realpath "$2")
 seconds=${3:-3}
+here=$(realpath "$(dirname "$0")")
 work=$(mktemp -d "$(pwd)/submissions.XXXXXX")
 trap 'kill $(jobs -p) 2>/dev/null || true; wait; rm -rf "$work"' EXIT
 cd "$work"
+gcc -O2 -shared -fPIC -o slow_reads.so "$here/slow_reads.c"
 mkdir -p stand/grid/https:,,a.example
 truncate -s 4G stand/grid/https:,,a.example/large
 printf 'vo = "demo"\nworkers = 1\n[[storage]]\nurl = "https://a.example"\n[[storage]]\nurl = "https://b.example"\n' > stand/fts.toml
-# the one worker copies a large file meanwhile, so that no other is claimed, and each submission is one entry of the journal
+# the one worker waits in the first read of a large file meanwhile: no other file is claimed, so each submission is one entry of the journal,
+# and the worker, which asks behind each piece whether its file was cancelled, takes no turn
 large='{"files":[{"sources":["https://a.example/large"],"destinations":["https://b.example/large"]}]}'
 cat > post.lua <<'LUA'
 wrk.method = "POST"
@@ -20,7 +23,7 @@ wrk.body = [[{"files":[{"sources":["https://a.example/none"],"destinations":["ht
 LUA
 for round in 1 2 3; do
     rm -rf stand/fts.journal stand/grid/https:,,b.example
-    "$program" stand serve --port 18080 --lanes 4 & service=$!
+    LD_PRELOAD="$work/slow_reads.so" "$program" stand serve --port 18080 --lanes 4 & service=$!
     for _ in $(seq 100); do curl -sf -m 2 -o /dev/null http://127.0.0.1:18080/jobs && break; sleep 0.05; done
     curl -sS -o /dev/null http://127.0.0.1:18080/jobs -d "$large"
     sleep 0.3
