@@ -86,11 +86,11 @@ module _ (front chunk back : List PlacedId) where
               subst (λ (some : ℕ). id < id_in_order whole some) {x = length front + (length chunk + 0)} (omega (arith, same, ge)) first
 
   -- an id put into the chunk is put into the whole
-  pub put_in : (at : ℕ) (place : PlacedId) → at ≤ length chunk → front ++ (insert chunk at place ++ back) ≡ insert whole (length front + at) place
-  put_in at place inside =
-      ap (λ behind. front ++ behind) (sym (insert-append_left chunk back at place inside))
-      ∙ (ap (λ some. front ++ insert (chunk ++ back) some place) {x = at} {y = length front + at - length front} (omega arith)
-      ∙ sym (insert-append_right front (chunk ++ back) (length front) (length front + at) place refl (omega arith)))
+  pub put_in : (at : ℕ) (entry : PlacedId) → at ≤ length chunk → front ++ (insert chunk at entry ++ back) ≡ insert whole (length front + at) entry
+  put_in at entry inside =
+      ap (λ behind. front ++ behind) (sym (insert-append_left chunk back at entry inside))
+      ∙ (ap (λ some. front ++ insert (chunk ++ back) some entry) {x = at} {y = length front + at - length front} (omega arith)
+      ∙ sym (insert-append_right front (chunk ++ back) (length front) (length front + at) entry refl (omega arith)))
 
 -- the later of two in one place
 pub set-again : {Item : Type 0} (items : List Item) (at : ℕ) (one other : Item) → set (set items at one) at other ≡ set items at other
@@ -121,7 +121,8 @@ order_of-split (chunk ∷ chunks) (suc at) half other inside = ap (λ behind. ch
 
 -- what stands behind a chunk begins as the next chunk, which is not empty
 pub next_begins : (chunks : List (List PlacedId)) (at : ℕ) → (suc at < length chunks → 0 < length (get_or chunks (suc at) []))
-    → 0 < length (order_of (drop (suc at) chunks)) → record { inside : suc at < length chunks; first : get_or (order_of (drop (suc at) chunks)) 0 no_id ≡ get_or (get_or chunks (suc at) []) 0 no_id }
+    → 0 < length (order_of (drop (suc at) chunks))
+    → record { inside : suc at < length chunks; first : get_or (order_of (drop (suc at) chunks)) 0 no_id ≡ get_or (get_or chunks (suc at) []) 0 no_id }
 next_begins [] at filled some = absurd (omega (arith, some))
 next_begins (chunk ∷ []) zero filled some = absurd (omega (arith, some))
 next_begins (chunk ∷ next ∷ chunks) zero filled some = record { inside = omega arith; first = get_or-append next (order_of chunks) no_id 0 (filled (omega arith)) }
@@ -169,12 +170,12 @@ fit-insert chunks at other fit above inside small filled some within = by_side (
         (omega (arith, long, small), λ later. omega (arith, long, filled))
 
 -- an id put into a chunk is put into the order
-pub order_of-put : (chunks : List (List PlacedId)) (at within : ℕ) (place : PlacedId) → at < length chunks → within ≤ length (get_or chunks at [])
-    → order_of (set chunks at (insert (get_or chunks at []) within place)) ≡ insert (order_of chunks) (places_before chunks at + within) place
-order_of-put chunks at within place inside le =
-    order_of-set chunks at (insert (get_or chunks at []) within place) inside
-    ∙ (put_in (order_of (take at chunks)) (get_or chunks at []) (order_of (drop (suc at) chunks)) within place le
-    ∙ ap (λ some. insert some (places_before chunks at + within) place) (sym (order_of-at chunks at inside)))
+pub order_of-put : (chunks : List (List PlacedId)) (at within : ℕ) (entry : PlacedId) → at < length chunks → within ≤ length (get_or chunks at [])
+    → order_of (set chunks at (insert (get_or chunks at []) within entry)) ≡ insert (order_of chunks) (places_before chunks at + within) entry
+order_of-put chunks at within entry inside le =
+    order_of-set chunks at (insert (get_or chunks at []) within entry) inside
+    ∙ (put_in (order_of (take at chunks)) (get_or chunks at []) (order_of (drop (suc at) chunks)) within entry le
+    ∙ ap (λ some. insert some (places_before chunks at + within) entry) (sym (order_of-at chunks at inside)))
 
 -- the halves of a chunk in its place are the same order
 pub order_of-halves : (chunks : List (List PlacedId)) (at : ℕ) (whole_chunk : List PlacedId) → at < length chunks

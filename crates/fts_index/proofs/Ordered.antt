@@ -1,5 +1,5 @@
 -- What an id added to ids in order leaves of the order.
-use Rattle.std.proofs.Common.{◌≡◌, ◌≢◌, ◌⊎◌, inl, inr, ℕ, zero, suc, ◌+◌, ◌-◌, ◌<◌, ◌≤◌, ◌^◌, Bool, true, false, cond, List, [], ◌∷◌, ◌++◌, length, get_or, Some, None, refl, ap, sym, ◌∙◌, subst, arith}
+use Rattle.std.proofs.Common.{◌≡◌, ◌≢◌, ◌⊎◌, inl, inr, ℕ, ◌+◌, ◌-◌, ◌<◌, ◌≤◌, ◌^◌, Bool, true, false, cond, List, [], ◌∷◌, ◌++◌, length, get_or, Some, None, refl, ap, sym, ◌∙◌, subst, arith}
 use Rattle.std.specs.Prelude.{◌==◌, insert}
 use Rattle.std.specs.List.{position_from}
 use Rattle.std.proofs.lemmas.List.Edits.{length-insert, get_or-insert_below, get_or-insert_at, get_or-insert_above}
@@ -51,11 +51,6 @@ module _ (ids : List ℕ) (order : List PlacedId) (is : IsOrderOf ids order) whe
   inside_ids at inside =
       let there = found_from (λ other. other == id_in_order order at) 1 ids (place_in_order order at + 1) (is.least at inside) in
       omega (arith, there.is, there.inside)
-
-  -- an id that stands in the order has its place's number
-  pub number_of : (id place : ℕ) → IsPlaceOf order id place → number_in ids id ≡ Some (place + 1)
-  number_of id place found =
-      ap (number_in ids) (sym found.there.has) ∙ (is.least found.at found.there.inside ∙ ap (λ some. Some (some + 1)) found.is)
 
   -- an id that has a gap has no number
   pub no_number : (id at : ℕ) → IsGapFor order id at → number_in ids id ≡ None

@@ -1,12 +1,13 @@
 -- The ids of a chunk with their places, against the two lists that hold them.
-use Rattle.std.proofs.Common.{◌≡◌, ℕ, zero, suc, ◌+◌, ◌-◌, ◌<◌, ◌≤◌, List, [], ◌∷◌, ◌++◌, length, take, drop, get_or, insert, Result, Ok, Err, IfOk, IfErr, refl, ap, sym, ◌∙◌, arith}
+use Rattle.std.proofs.Common.{◌≡◌, ℕ, zero, suc, ◌<◌, ◌≤◌, List, [], ◌∷◌, length, take, drop, get_or, insert, Result, Ok, Err, IfOk, IfErr, refl, ap, sym, ◌∙◌, arith}
 use Rattle.std.specs.List.Sorted.{IsSearchInRange, IsBinarySearchResult, IsNonDecreasingBy}
 use Rattle.std.specs.Ordering.{nat_cmp, ordering_index}
 use Rattle.std.proofs.lemmas.Cmp.{ranked}
 use Rattle.std.proofs.lemmas.List.Sorted.{IsNonDecreasingBy-from_default}
 use Rattle.std.proofs.lemmas.Bool.Decides.{nat_tests}
-use Rattle.fts_index.specs.Chunk.{placed}
-use Rattle.fts_index.specs.IdOrder.{PlacedId, no_id, id_in_order, place_in_order, AreRising, IsInOrderAt, IsGapFor}
+use Rattle.fts_index.specs.Chunk.{placed, IsChunk}
+use Rattle.fts_index.specs.declared.chunk.PlaceChunk.TheInside.{Inside}
+use Rattle.fts_index.specs.IdOrder.{PlacedId, id_in_order, place_in_order, AreRising, IsInOrderAt, IsGapFor}
 
 -- as many as there are places
 pub length-placed : (ids places : List ℕ) → length ids ≡ length places → length (placed ids places) ≡ length places
@@ -14,6 +15,13 @@ length-placed [] [] even = refl
 length-placed [] (place ∷ places) even = absurd (omega (arith, even))
 length-placed (id ∷ ids) [] even = absurd (omega (arith, even))
 length-placed (id ∷ ids) (place ∷ places) even = ap suc (length-placed ids places (omega (arith, even)))
+
+-- a chunk that is seen as some ids with their places has as many ids, and as many places
+pub lengths : (chunk : Inside) (seen : List PlacedId) → IsChunk chunk → placed chunk.ids.items chunk.places.items ≡ seen
+    → (length chunk.ids.items ≡ length seen) × (length chunk.places.items ≡ length seen)
+lengths chunk seen is same =
+    let count = length-placed chunk.ids.items chunk.places.items is.even in
+    (omega (arith, count, is.even, ap length same), omega (arith, count, ap length same))
 
 -- the id and the place that stand so far behind the first
 pub id_of : (ids places : List ℕ) → length ids ≡ length places → (at : ℕ) → id_in_order (placed ids places) at ≡ get_or ids at 0
@@ -61,7 +69,15 @@ module _ (ids places : List ℕ) (even : length ids ≡ length places) (rising :
   comparisons_rise id = IsNonDecreasingBy-from_default (λ some. ordering_index (nat_cmp some id)) ids 0 (λ at later before inside.
       let count = length-placed ids places even in
       let ids_rise : get_or ids at 0 ≤ get_or ids later 0 =
-      grind (arith, count, even, id_of ids places even at, id_of ids places even later, rising at later, λ (same : at ≡ later). ap (λ some. get_or ids some 0) same) in
+      grind (
+        arith,
+        count,
+        even,
+        id_of ids places even at,
+        id_of ids places even later,
+        rising at later,
+        λ (same : at ≡ later). ap (λ some. get_or ids some 0) same,
+      ) in
       grind (arith, nat_tests))
 
   -- a search by halves ends at the id, or at the gap for it
@@ -82,7 +98,8 @@ module _ (ids places : List ℕ) (even : length ids ≡ length places) (rising :
           let lesser : get_or ids some 0 < id = ranked _ id _ (sym ((parted (comparisons_rise id)).0 some 0 (omega arith) lt)) in
           omega (arith, lesser, id_of ids places even some);
       behind = λ some le lt.
-          let greater : id < get_or ids some 0 = ranked _ id _ (sym ((parted (comparisons_rise id)).1 some 0 le (omega (arith, lt, even, length-placed ids places even)))) in
+          let inside : some < length ids = omega (arith, lt, even, length-placed ids places even) in
+          let greater : id < get_or ids some 0 = ranked _ id _ (sym ((parted (comparisons_rise id)).1 some 0 le inside)) in
           omega (arith, greater, id_of ids places even some);
     };
   }

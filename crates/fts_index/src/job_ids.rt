@@ -41,7 +41,7 @@ impl Model for JobIds {
 }
 
 /// The least place of an id, or where in the order the id would stand. An id that was sought isn't searched again.
-fn find(order: &PlacesInOrder, sought: Option<Sought>, id: u128) -> Result<u32, Spot>
+fn find_unless_sought(order: &PlacesInOrder, sought: Option<Sought>, id: u128) -> Result<u32, Spot>
     requires rising { AreRising (order_of order.now.chunks) }
     requires sought { IfSome sought (λ sought. IsGapIn order.now sought.id sought.spot.chunk sought.spot.at) }
     ensures found { IfOk result (IsPlaceOf (order_of order.now.chunks) id) }
@@ -103,7 +103,7 @@ impl JobIds {
         ensures ids { self.new ≡ record self.old { ids = self.old.ids ++ id ∷ [] } }
     {
         let place = self.ids.len() as u32;
-        match find(&self.order, self.sought.take(), id) {
+        match find_unless_sought(&self.order, self.sought.take(), id) {
             // The id has a lesser number already.
             Ok(_place) => {}
             Err(spot) => self.order.insert(spot, id, place),

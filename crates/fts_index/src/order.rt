@@ -141,7 +141,8 @@ impl PlacesInOrder {
         requires ready { IsTrue self.old.ready }
         requires chunk { spot.chunk < length self.old.chunks }
         requires at { spot.at ≤ length (chunk_at self.old.chunks spot.chunk) }
-        ensures order { order_of self.new.chunks ≡ insert (order_of self.old.chunks) (places_before self.old.chunks spot.chunk + spot.at) (record { id = id; place = place }) }
+        ensures order { order_of self.new.chunks ≡ insert (order_of self.old.chunks) (places_before self.old.chunks spot.chunk + spot.at)
+            (record { id = id; place = place }) }
     {
         let at = spot.chunk;
         self.chunks[at].insert(spot.at, id, place);

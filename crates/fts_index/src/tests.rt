@@ -43,7 +43,11 @@ fn there_is_room_for_more_ids_than_a_chunk_holds(rt: HostRuntime) -> Result<(), 
             assert_eq!(rt; ids.seek(id).unwrap_or(0), 0, "{number} is new");
         }
         if number % 3 > 1 {
-            assert_eq!(rt; ids.seek(1201).unwrap_or(0), 0, "another id, which is not added");
+            assert_eq!(rt;
+                ids.seek(1201).unwrap_or(0),
+                0,
+                "another id, which is not added"
+            );
         }
         ids.make_room()?;
         ids.add(id);

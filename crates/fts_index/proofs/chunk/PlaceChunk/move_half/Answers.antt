@@ -5,15 +5,13 @@ use Rattle.fts_index.specs.Chunk.{placed, IsChunk}
 use Rattle.fts_index.specs.IdOrder.{PlacedId}
 use Rattle.fts_index.specs.declared.chunk.TheConstants.{CHUNK_ROOM, CHUNK_HALF}
 use Rattle.fts_index.specs.declared.chunk.PlaceChunk.TheInside.{Inside}
-use Rattle.fts_index.proofs.Placed.{length-placed, placed-take, placed-drop}
+use Rattle.fts_index.proofs.Placed.{lengths, placed-take, placed-drop}
 use Rattle.fts_index.proofs.chunk.PlaceChunk.move_half.Goals as goal
 
 -- a full chunk has as many ids, and as many places
 both_full : (chunk : Inside) (seen : List PlacedId) → IsChunk chunk → placed chunk.ids.items chunk.places.items ≡ seen → length seen ≡ CHUNK_ROOM
     → (length chunk.ids.items ≡ CHUNK_ROOM) × (length chunk.places.items ≡ CHUNK_ROOM)
-both_full chunk seen is same full =
-    let count = length-placed chunk.ids.items chunk.places.items is.even in
-    (omega (arith, count, is.even, ap length same, full), omega (arith, count, ap length same, full))
+both_full chunk seen is same full = let long = lengths chunk seen is same in (long.0 ∙ full, long.1 ∙ full)
 
 -- one without ids has neither
 none_of : (items : List ℕ) → length items ≡ 0 → items ≡ []
@@ -23,8 +21,8 @@ none_of (item ∷ items) none = absurd (omega (arith, none))
 both_empty : (chunk : Inside) (seen : List PlacedId) → IsChunk chunk → placed chunk.ids.items chunk.places.items ≡ seen → seen ≡ []
     → (chunk.ids.items ≡ []) × (chunk.places.items ≡ [])
 both_empty chunk seen is same empty =
-    let count = length-placed chunk.ids.items chunk.places.items is.even in
-    (none_of chunk.ids.items (omega (arith, count, is.even, ap length same, ap length empty)), none_of chunk.places.items (omega (arith, count, ap length same, ap length empty)))
+    let long = lengths chunk seen is same in
+    (none_of chunk.ids.items (long.0 ∙ ap length empty), none_of chunk.places.items (long.1 ∙ ap length empty))
 
 -- how much is moved
 few : (seen items : List ℕ) → seen ≡ items → length items ≡ CHUNK_ROOM → length (take (length seen - CHUNK_HALF) (drop CHUNK_HALF seen)) ≤ CHUNK_ROOM

@@ -1,4 +1,4 @@
-use Rattle.std.proofs.Common.{◌≡◌, ℕ, List, length, IfOk, IfErr, subst, sym, ap, ◌∙◌}
+use Rattle.std.proofs.Common.{ℕ, List, length, IfOk, IfErr, subst, sym}
 use Rattle.std.specs.List.Sorted.{IsSearchInRange, IsBinarySearchResult}
 use Rattle.std.specs.Ordering.{nat_cmp}
 use Rattle.fts_index.specs.IdOrder.{PlacedId, AreRising, IsInOrderAt, IsGapFor}
@@ -12,7 +12,8 @@ returns-clause-found c =
     subst (λ (order : List PlacedId). IfOk c.binary_search.result (IsInOrderAt order c.args.id)) c.self.view_is
     (searched ids c.self.inside.places.items c.self.invariant.even (subst AreRising (sym c.self.view_is) c.requires.rising) c.args.id c.binary_search.result
     (subst (λ (some : List ℕ). IsSearchInRange c.binary_search.result (length some)) same c.binary_search.ensures.bound)
-    (subst (λ (some : List ℕ). IsBinarySearchResult (λ other. nat_cmp other c.args.id) some c.binary_search.result) same c.binary_search.ensures.position)).found
+    (subst (λ (some : List ℕ). IsBinarySearchResult (λ other. nat_cmp other c.args.id) some c.binary_search.result) same
+    c.binary_search.ensures.position)).found
 
 pub returns-clause-absent : goal.returns-clause-absent
 returns-clause-absent c =
@@ -21,4 +22,5 @@ returns-clause-absent c =
     subst (λ (order : List PlacedId). IfErr c.binary_search.result (IsGapFor order c.args.id)) c.self.view_is
     (searched ids c.self.inside.places.items c.self.invariant.even (subst AreRising (sym c.self.view_is) c.requires.rising) c.args.id c.binary_search.result
     (subst (λ (some : List ℕ). IsSearchInRange c.binary_search.result (length some)) same c.binary_search.ensures.bound)
-    (subst (λ (some : List ℕ). IsBinarySearchResult (λ other. nat_cmp other c.args.id) some c.binary_search.result) same c.binary_search.ensures.position)).absent
+    (subst (λ (some : List ℕ). IsBinarySearchResult (λ other. nat_cmp other c.args.id) some c.binary_search.result) same
+    c.binary_search.ensures.position)).absent

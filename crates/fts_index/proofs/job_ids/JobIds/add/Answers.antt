@@ -11,7 +11,7 @@ use Rattle.fts_index.proofs.job_ids.JobIds.add.Goals.{in-Ok, in-Err}
 
 -- an id that is there has its place in the order already, and a new one takes it in its gap; nothing is remembered then
 pub invariant_of-self : goal.invariant_of-self
-invariant_of-self c = elim c.match-find.branch [
+invariant_of-self c = elim c.match-find_unless_sought.branch [
   | in-Ok w ↦
       let ids : List ℕ = c.self.inside.ids.items in
       let order : List PlacedId = order_of c.self.inside.order.chunks in
@@ -21,7 +21,8 @@ invariant_of-self c = elim c.match-find.branch [
       c.push_reserved.ensures.items ∙ ap (λ (inside : Inside). inside.ids.items ++ c.args.id ∷ []) w.self-inside-is in
       let count = ap length items ∙ length-more ids c.args.id in
       let room = ap (λ (inside : Inside). inside.room) w.self-inside-is in
-      let same : order_of c.match-find.self-inside.order.chunks ≡ order = ap (λ (inside : Inside). order_of inside.order.chunks) w.self-inside-is in
+      let same : order_of c.match-find_unless_sought.self-inside.order.chunks ≡ order =
+      ap (λ (inside : Inside). order_of inside.order.chunks) w.self-inside-is in
       let found = w.in-Ok.ensures.found in
       record {
         inside = omega (arith, count, room, fewer);
@@ -31,7 +32,8 @@ invariant_of-self c = elim c.match-find.branch [
         ready = λ less. absurd (omega (arith, less, count, room, c.self.invariant.near));
         order = subst (λ some. IsOrderOf c.push_reserved.new.self.items some) (sym same)
             (subst (λ some. IsOrderOf some order) (sym items) (added_again ids order c.self.invariant.order c.args.id found.at found.there));
-        sought = subst (λ (some : Option Sought). IfSome some (λ sought. IsGapIn c.match-find.self-inside.order sought.id sought.spot.chunk sought.spot.at))
+        sought = subst
+            (λ (some : Option Sought). IfSome some (λ sought. IsGapIn c.match-find_unless_sought.self-inside.order sought.id sought.spot.chunk sought.spot.at))
             (sym (ap (λ (inside : Inside). inside.sought) w.self-inside-is ∙ c.take.ensures.after)) tt;
       }
   | in-Err w ↦
@@ -45,7 +47,7 @@ invariant_of-self c = elim c.match-find.branch [
       let room = ap (λ (inside : Inside). inside.room) w.self-inside-is in
       let at : ℕ = places_before c.self.inside.order.chunks w.in-Err.spot.chunk + w.in-Err.spot.at in
       let place : c.len-place.result ≡ length ids = omega (arith, c.len-place.ensures) in
-      let same : order_of c.match-find.self-inside.order.chunks ≡ insert order at (record { id = c.args.id; place = length ids }) =
+      let same : order_of c.match-find_unless_sought.self-inside.order.chunks ≡ insert order at (record { id = c.args.id; place = length ids }) =
       ap (λ (inside : Inside). order_of inside.order.chunks) w.self-inside-is
       ∙ (w.insert.ensures.order ∙ ap (λ some. insert order at (record { id = c.args.id; place = some })) place) in
       record {
@@ -57,7 +59,8 @@ invariant_of-self c = elim c.match-find.branch [
         order = subst (λ some. IsOrderOf c.push_reserved.new.self.items some) (sym same)
             (subst (λ some. IsOrderOf some (insert order at (record { id = c.args.id; place = length ids }))) (sym items)
             (added_new ids order c.self.invariant.order c.args.id at w.in-Err.ensures.absent.gap));
-        sought = subst (λ (some : Option Sought). IfSome some (λ sought. IsGapIn c.match-find.self-inside.order sought.id sought.spot.chunk sought.spot.at))
+        sought = subst
+            (λ (some : Option Sought). IfSome some (λ sought. IsGapIn c.match-find_unless_sought.self-inside.order sought.id sought.spot.chunk sought.spot.at))
             (sym (ap (λ (inside : Inside). inside.sought) w.self-inside-is ∙ c.take.ensures.after)) tt;
       }
 ]

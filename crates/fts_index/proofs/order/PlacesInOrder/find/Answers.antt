@@ -1,4 +1,4 @@
-use Rattle.std.proofs.Common.{◌≡◌, ℕ, ◌+◌, ◌<◌, ◌≤◌, List, [], length, get_or, ap, sym, ◌∙◌, subst, arith}
+use Rattle.std.proofs.Common.{◌≡◌, ℕ, ◌+◌, ◌<◌, ◌≤◌, List, [], length, ap, sym, ◌∙◌, subst, arith}
 use Rattle.std.specs.Prelude.{is_some}
 use Rattle.std.proofs.lemmas.List.{get_or_default}
 use Rattle.fts_index.specs.IdOrder.{PlacedId, place_in_order, AreRising, IsInOrderAt, IsPlaceOf, IsGapFor}
@@ -38,6 +38,7 @@ returns-in-Err-clause-absent c =
     let read = c.index.ensures ∙ get_or_default chunks at c.index.result.now [] inside in
     let gap = subst (λ chunk. IsGapFor chunk c.args.id c.in-Err.at) read c.in-Err.ensures.absent in
     let begins = subst (λ (some : List (List PlacedId)). 0 < at → first_id (chunk_at some at) ≤ c.args.id) same c.chunk_for-chunk.ensures.begins in
-    let next = subst (λ (some : List (List PlacedId)). at + 1 < length some → c.args.id < first_id (chunk_at some (at + 1))) same c.chunk_for-chunk.ensures.next in
+    let next = subst (λ (some : List (List PlacedId)). at + 1 < length some → c.args.id < first_id (chunk_at some (at + 1))) same
+    c.chunk_for-chunk.ensures.next in
     subst (λ (lists : PlaceLists). IsGapIn lists c.args.id at c.in-Err.at) c.self.view_is
     (gap_there chunks at rising inside c.args.id c.in-Err.at c.self.invariant.fit begins next gap (is_some c.self.inside.spare))

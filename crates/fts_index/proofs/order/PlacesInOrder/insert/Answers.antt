@@ -16,7 +16,8 @@ record IsPut (chunks seen : List (List PlacedId)) (at within : ℕ) (entry : Pla
   pub read_is : read ≡ new
   pub order : order_of (set chunks at new) ≡ insert (order_of seen) (places_before seen at + within) entry
 
-put_of : (chunks seen : List (List PlacedId)) (at within : ℕ) (entry : PlacedId) (was new read : List PlacedId) → chunks ≡ seen → at < length seen → within ≤ length (get_or seen at [])
+put_of : (chunks seen : List (List PlacedId)) (at within : ℕ) (entry : PlacedId) (was new read : List PlacedId) → chunks ≡ seen
+    → at < length seen → within ≤ length (get_or seen at [])
     → was ≡ get_or chunks at was → new ≡ insert was within entry → read ≡ get_or (set chunks at new) at read → IsPut chunks seen at within entry new read
 put_of chunks seen at within entry was new read same at_seen within_seen is_was is_new is_read =
     let inside : at < length chunks = omega (arith, at_seen, ap length same) in
@@ -46,7 +47,8 @@ invariant_of-self-else-len-eq-CHUNK_ROOM c =
     let chunks : List (List PlacedId) = c.self.inside.chunks.items in
     let at : ℕ = c.args.spot.chunk in
     let new : List PlacedId = c.insert.new.self in
-    let put = put_of chunks c.args.self.now.chunks at c.args.spot.at (record { id = c.args.id; place = c.args.place }) c.index_mut.result.now new c.index.result.now
+    let put = put_of chunks c.args.self.now.chunks at c.args.spot.at (record { id = c.args.id; place = c.args.place })
+    c.index_mut.result.now new c.index.result.now
     (ap (λ (lists : PlaceLists). lists.chunks) c.self.view_is) c.requires.chunk c.requires.at c.index_mut.ensures.value c.insert.ensures.ids c.index.ensures in
     let small : length new < CHUNK_ROOM =
     omega (
@@ -63,8 +65,8 @@ invariant_of-self-else-len-eq-CHUNK_ROOM c =
 
 pub returns-else-len-eq-CHUNK_ROOM : goal.returns-else-len-eq-CHUNK_ROOM
 returns-else-len-eq-CHUNK_ROOM c =
-    let put = put_of c.self.inside.chunks.items c.args.self.now.chunks c.args.spot.chunk c.args.spot.at (record { id = c.args.id; place = c.args.place }) c.index_mut.result.now c.insert.new.self
-    c.index.result.now (ap (λ (lists : PlaceLists). lists.chunks) c.self.view_is) c.requires.chunk c.requires.at c.index_mut.ensures.value
+    let put = put_of c.self.inside.chunks.items c.args.self.now.chunks c.args.spot.chunk c.args.spot.at (record { id = c.args.id; place = c.args.place })
+    c.index_mut.result.now c.insert.new.self c.index.result.now (ap (λ (lists : PlaceLists). lists.chunks) c.self.view_is) c.requires.chunk c.requires.at c.index_mut.ensures.value
     c.insert.ensures.ids c.index.ensures in
     record { order = put.order }
 
@@ -74,7 +76,8 @@ invariant_of-self c =
     let chunks : List (List PlacedId) = c.self.inside.chunks.items in
     let at : ℕ = c.args.spot.chunk in
     let full : List PlacedId = c.insert.new.self in
-    let put = put_of chunks c.args.self.now.chunks at c.args.spot.at (record { id = c.args.id; place = c.args.place }) c.index_mut.result.now full c.index.result.now
+    let put = put_of chunks c.args.self.now.chunks at c.args.spot.at (record { id = c.args.id; place = c.args.place })
+    c.index_mut.result.now full c.index.result.now
     (ap (λ (lists : PlaceLists). lists.chunks) c.self.view_is) c.requires.chunk c.requires.at c.index_mut.ensures.value c.insert.ensures.ids c.index.ensures in
     let long : length full ≡ CHUNK_ROOM = omega (arith, c.if-len-eq-CHUNK_ROOM.true, c.len.ensures.len ∙ ap length put.read_is) in
     record {
@@ -87,7 +90,8 @@ returns-in-Some c =
     let chunks : List (List PlacedId) = c.self.inside.chunks.items in
     let at : ℕ = c.args.spot.chunk in
     let full : List PlacedId = c.insert.new.self in
-    let put = put_of chunks c.args.self.now.chunks at c.args.spot.at (record { id = c.args.id; place = c.args.place }) c.index_mut.result.now full c.index.result.now
+    let put = put_of chunks c.args.self.now.chunks at c.args.spot.at (record { id = c.args.id; place = c.args.place })
+    c.index_mut.result.now full c.index.result.now
     (ap (λ (lists : PlaceLists). lists.chunks) c.self.view_is) c.requires.chunk c.requires.at c.index_mut.ensures.value c.insert.ensures.ids c.index.ensures in
     record {
       order = ap order_of (c.split.ensures.halves ∙ halves_are chunks at full put.inside) ∙ (order_of-halves chunks at full put.inside ∙ put.order);
