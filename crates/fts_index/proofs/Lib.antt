@@ -1,4 +1,5 @@
 mod Found
+mod Placed
 mod Ordered
 mod InChunks
 mod Sought

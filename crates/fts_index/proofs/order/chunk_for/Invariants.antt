@@ -7,8 +7,8 @@ abbrev pub invariant-loop-to : goal.invariant-loop-to
 invariant-loop-to l =
     (l.from < l.to)
     × (l.to ≤ length l.chunks)
-    × (0 < l.from → first_id l.ids (chunk_at l.chunks l.from) ≤ l.id)
-    × (l.to < length l.chunks → l.id < first_id l.ids (chunk_at l.chunks l.to))
+    × (0 < l.from → first_id (chunk_at l.chunks l.from) ≤ l.id)
+    × (l.to < length l.chunks → l.id < first_id (chunk_at l.chunks l.to))
 
 abbrev pub decreases-loop-to : goal.decreases-loop-to
 decreases-loop-to l = l.to - l.from
