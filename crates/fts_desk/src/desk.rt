@@ -13,15 +13,14 @@ ghost use Rattle.fts_desk.specs.Prepared.{IsPrepared};
 
 use crate::answers::{held_on_link, rows_of_number, state_of};
 use crate::bounds::steps_keep_bounds;
-use crate::commands::{Decided, decide, make_step};
+use crate::commands::{decide, make_step};
 use crate::find::number_of_id;
-use crate::kept::{Beside, Kept};
+use crate::kept::Kept;
 use fts_index::{JobIds, Loads};
 use fts_tables::laws::steps_keep_standing;
 use fts_tables::{Answer, Command, FileRow, JobRow, JobState, LinkAt, Memory, Refusal, Settings};
 use std::alloc::Global;
 use std::marker::Model;
-use std::mem;
 
 /// The mark of a command that was prepared. It holds nothing.
 #[derive(Drop)]
@@ -45,10 +44,8 @@ pub struct Desk {
     kept: Kept,
     commands: u32,
     planned: Option<Command>,
-    decided: Decided,
+    place: usize,
 }
-
-unsafe impl Send for Desk {}
 
 impl Model for Desk {
     ghost use Rattle.fts_desk.specs.DeskData.{DeskData};
@@ -77,14 +74,11 @@ impl Desk {
                 moment: 0,
                 settings: None,
                 ids: JobIds::new(alloc),
-                beside: Beside {
-                    loads: Loads::new(alloc),
-                    parts: None,
-                },
+                loads: Loads::new(alloc),
             },
             commands: 0,
             planned: None,
-            decided: Decided::Nothing,
+            place: 0,
         }
     }
 
@@ -99,13 +93,13 @@ impl Desk {
         ensures none { OnErr result (self.new.planned ≡ None) }
     {
         self.planned = None;
-        let decided = match decide(self.alloc, &mut self.kept, command) {
-            Ok(decided) => decided,
+        let place = match decide(self.alloc, &mut self.kept, command) {
+            Ok(place) => place,
             Err(fault) => return Err(fault),
         };
         match command.copy(self.alloc) {
             Ok(copy) => {
-                self.decided = decided;
+                self.place = place;
                 self.planned = Some(copy);
                 Ok(Plan { mark: () })
             }
@@ -126,10 +120,7 @@ impl Desk {
         self.commands += 1;
         match self.planned.take() {
             None => unreachable!(),
-            Some(command) => {
-                let decided = mem::replace(&mut self.decided, Decided::Nothing);
-                make_step(&mut self.kept, decided, command)
-            }
+            Some(command) => make_step(&mut self.kept, self.place, command),
         }
     }
 

@@ -20,7 +20,7 @@ ghost use Rattle.std.specs.Prelude.{
   OnOk,
 };
 ghost use Rattle.fts_tables.specs.JobData.{JobData};
-ghost use Rattle.fts_tables.specs.Tables.{AreNumberedFrom, AreWellFormed, number_of_id};
+ghost use Rattle.fts_tables.specs.Tables.{AreNumberedFrom, number_of_id};
 ghost use Rattle.fts_tables.specs.Moves.{
   new_row,
   new_rows,
@@ -40,13 +40,11 @@ ghost use Rattle.fts_desk.specs.Loaded.{AreLoadsOf, are_known, link_of_file};
 ghost use Rattle.fts_desk.specs.Prepared.{IsPrepared};
 
 use crate::DeskFault;
-use crate::find::seek_number;
+use crate::find::number_of_id;
 use crate::kept::Kept;
 use crate::loads::count_new;
-use crate::parts::{make_room_for_files, wait_from};
 use crate::sources::next_source;
 use crate::waking::wake_at;
-use fts_claims::jobs_more_stay_tied;
 use fts_index::Loads;
 use fts_tables::limits::{MAX_JOBS, MAX_ROWS};
 use fts_tables::{
@@ -79,13 +77,12 @@ pub fn make_room(kept: &mut Kept, job: &NewJob) -> Result<(), DeskFault>
 }
 
 /// The least number of a job with the id that a new job was given, where it was given one.
-fn number_of_given(kept: &mut Kept, id: Option<u128>) -> Option<u32>
-    requires numbered { AreNumberedFrom (λ job. job.number) 1 kept.old.jobs.items }
-    ensures number { result ≡ option_and_then (number_of_id kept.old.jobs.items) id }
-    ensures same { kept.new ≡ kept.old }
+fn number_of_given(kept: &Kept, id: Option<u128>) -> Option<u32>
+    requires numbered { AreNumberedFrom (λ job. job.number) 1 kept.now.jobs.items }
+    ensures number { result ≡ option_and_then (number_of_id kept.now.jobs.items) id }
 {
     match id {
-        Some(id) => seek_number(kept, id),
+        Some(id) => number_of_id(kept, id),
         None => None,
     }
 }
@@ -110,13 +107,10 @@ fn make_room_for(kept: &mut Kept, files: &[NewFile]) -> Result<(), DeskFault>
     if kept.jobs.reserve(1).is_err() || kept.rows.reserve(files.len()).is_err() {
         return Err(DeskFault::Memory);
     }
-    if kept.ids.make_room().is_err() || know_links(&mut kept.beside.loads, files).is_err() {
+    if kept.ids.make_room().is_err() || know_links(&mut kept.loads, files).is_err() {
         return Err(DeskFault::Memory);
     }
-    match make_room_for_files(&mut kept.beside.parts, files) {
-        Ok(()) => Ok(()),
-        Err(Memory) => Err(DeskFault::Memory),
-    }
+    Ok(())
 }
 
 /// Makes room for the links of files among the loads. What is counted, and what there was room for, stays.
@@ -134,7 +128,6 @@ fn know_links(loads: &mut Loads, files: &[NewFile]) -> Result<(), Memory>
 /// Adds a job of any kind, for which there is room, at a moment in whole seconds, or at the last one where that is later.
 /// It takes no memory and can't fail, and answers the job's number and id.
 pub fn submit(kept: &mut Kept, now: u64, job: NewJob) -> Answer
-    requires formed { AreWellFormed (tables_kept kept.old) }
     requires room { HasRoomForFiles kept.old job.files }
     requires accepted { IsAccepted (step (tables_kept kept.old) (Submit now job)) }
     ensures step { step (tables_kept kept.old) (Submit now job) ≡ Ok (tables_kept kept.new, result) }
@@ -143,7 +136,7 @@ pub fn submit(kept: &mut Kept, now: u64, job: NewJob) -> Answer
 {
     kept.moment = kept.moment.max(now);
     let number = kept.jobs.len() as u32 + 1;
-    let from = kept.rows.len();
+    let first = kept.rows.len() as u32 + 1;
     let NewJob {
         id,
         kind,
@@ -157,11 +150,9 @@ pub fn submit(kept: &mut Kept, now: u64, job: NewJob) -> Answer
     let id = id_of_new(id, number);
     let files = files.into_vec();
     let count = files.len() as u32;
-    let beside = &mut kept.beside;
-    add_rows_of_kind(&mut kept.rows, number, kind, strategy, files, &beside.loads);
-    count_new(&mut beside.loads, &kept.rows[from..]);
+    add_rows_of_kind(&mut kept.rows, number, kind, strategy, files, &kept.loads);
+    count_new(&mut kept.loads, &kept.rows[first as usize - 1..]);
     kept.ids.add(id);
-    jobs_more_stay_tied();
     kept.jobs.push_reserved(JobRow {
         number,
         id,
@@ -172,10 +163,9 @@ pub fn submit(kept: &mut Kept, now: u64, job: NewJob) -> Answer
         overwrite,
         strategy,
         submitted_at: kept.moment,
-        first: from as u32 + 1,
+        first,
         count,
     });
-    wait_from(&mut beside.parts, &kept.jobs, &kept.rows, from);
     Answer::Submitted { job: number, id }
 }
 

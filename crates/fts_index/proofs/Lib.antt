@@ -1,7 +1,4 @@
 mod Found
-mod Placed
 mod Ordered
-mod InChunks
-mod Sought
 mod Counted
 mod TableLists

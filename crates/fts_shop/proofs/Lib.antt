@@ -1,4 +1,3 @@
-pub mod Sending
 pub mod Rows
 pub mod Answered
 pub mod Claims
