@@ -39,7 +39,6 @@ pub enum DeskFault {
 }
 
 /// The machine's tables, and the command that it has room for.
-#[derive(Drop)]
 pub struct Desk {
     alloc: Global,
     kept: Kept,
@@ -48,7 +47,18 @@ pub struct Desk {
     decided: Decided,
 }
 
-unsafe impl Send for Desk {}
+// Written out, so that who lets a desk go calls this, and has no copy of what it takes to let each part go.
+impl Drop for Desk {
+    fn drop(self) {
+        let Desk {
+            alloc: _,
+            kept: _,
+            commands: _,
+            planned: _,
+            decided: _,
+        } = self;
+    }
+}
 
 impl Model for Desk {
     ghost use Rattle.fts_desk.specs.DeskData.{DeskData};

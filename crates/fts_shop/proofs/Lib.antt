@@ -1,4 +1,4 @@
-pub mod Sending
+pub mod Crosses
 pub mod Rows
 pub mod Answered
 pub mod Claims

@@ -1,4 +1,5 @@
 -- A desk may go to another thread.
+use denote.RattleType.{RattleType}
 use denote.Param.Send.{IsSend, sendable}
 use Rattle.std.proofs.Crossing.{crosses}
 use Rattle.fts_queue.proofs.tree.Tree.TheLaws.TheKnot as knot
@@ -14,6 +15,9 @@ use Rattle.fts_tables.proofs.settings.Settings.TheSendSync as settings
 use Rattle.fts_tables.proofs.commands.Command.TheSendSync as command
 use Rattle.fts_tables.proofs.places.Place.TheSendSync as place
 use Rattle.fts_desk.specs.contracts.desk.Desk as Desk
+use Rattle.fts_disk.specs.declared.disk.Disk as disk
+use Rattle.fts_journal.proofs.journal.Journal.TheSendSync as journal
+use Rattle.fts_keep.specs.contracts.keep.Keep as Keep
 use Rattle.fts_desk.specs.contracts.kept.Kept as Kept
 use Rattle.fts_desk.specs.contracts.kept.Beside as Beside
 use Rattle.fts_desk.specs.contracts.commands.Decided as Decided
@@ -55,3 +59,6 @@ decided-field-send = search (crosses, parts-send, parts-field-send, place.the_se
 
 pub desk-send : IsSend Desk.the_row
 desk-send = search (crosses, kept-field-send, decided-send, decided-field-send, command.the_send, command.the_field_send, sendable) depth 60 fits 20000
+
+pub keep-send : (T : RattleType) (ghosts : disk.Ghosts T.Denot) → IsSend T → IsSend (Keep.the_row T ghosts)
+keep-send T ghosts disk-send = search (crosses, desk-send, journal.the_send, sendable) depth 60 fits 20000
