@@ -16,8 +16,6 @@ pub struct ClaimParts {
     pub busy: Busy,
 }
 
-unsafe impl Send for ClaimParts {}
-
 /// Files wait in their order.
 pub fn files_wait_in_order(waiting: &Waiting)
     ensures waiting { AreWaiting waiting.now }

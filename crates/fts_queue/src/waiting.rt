@@ -67,8 +67,6 @@ pub struct Waiting {
     alloc: Global,
 }
 
-unsafe impl Send for Waiting {}
-
 impl Model for Waiting {
     ghost use Rattle.fts_queue.specs.WaitingData.{WaitingData};
 
