@@ -1,7 +1,9 @@
 #!/bin/sh
-# Submissions over 4 connections beside the journal's appends alone, in turns, in one run.
+# Submissions over 4 connections beside the journal's appends alone, and beside a C program that makes an append's calls and nothing else between
+# request and answer (submit_peer.c), in turns, in one run.
 #     bench/submissions.sh PROGRAM JOURNAL [SECONDS]
-# PROGRAM is fts, and JOURNAL the program of crates/bench_journal, as they were built. It needs Debian's wrk and gcc. Port 18080 of 127.0.0.1 is used.
+# PROGRAM is fts, and JOURNAL the program of crates/bench_journal, as they were built. It needs Debian's wrk and gcc. Ports 18080 and 18081
+# of 127.0.0.1 are used.
 set -eu
 program=$(realpath "$1")
 journal=$(realpath "$2")
@@ -11,6 +13,7 @@ work=$(mktemp -d "$(pwd)/submissions.XXXXXX")
 trap 'kill $(jobs -p) 2>/dev/null || true; wait; rm -rf "$work"' EXIT
 cd "$work"
 gcc -O2 -shared -fPIC -o slow_reads.so "$here/slow_reads.c"
+gcc -O2 -pthread -o submit_peer "$here/submit_peer.c"
 mkdir -p stand/grid/https:,,a.example
 truncate -s 4G stand/grid/https:,,a.example/large
 printf 'vo = "demo"\nworkers = 1\n[[storage]]\nurl = "https://a.example"\n[[storage]]\nurl = "https://b.example"\n' > stand/fts.toml
@@ -21,14 +24,21 @@ cat > post.lua <<'LUA'
 wrk.method = "POST"
 wrk.body = [[{"files":[{"sources":["https://a.example/none"],"destinations":["https://b.example/f1"]}]}]]
 LUA
+rate() { wrk -t4 -c4 -d"${seconds}s" -s post.lua "http://127.0.0.1:$1/jobs" | awk '/Requests\/sec/ { print $2 }'; }
 for round in 1 2 3; do
     rm -rf stand/fts.journal stand/grid/https:,,b.example
     LD_PRELOAD="$work/slow_reads.so" "$program" stand serve --port 18080 --lanes 4 & service=$!
     for _ in $(seq 100); do curl -sf -m 2 -o /dev/null http://127.0.0.1:18080/jobs && break; sleep 0.05; done
     curl -sS -o /dev/null http://127.0.0.1:18080/jobs -d "$large"
     sleep 0.3
-    ours=$(wrk -t4 -c4 -d"${seconds}s" -s post.lua http://127.0.0.1:18080/jobs | awk '/Requests\/sec/ { print $2 }')
+    ours=$(rate 18080)
     kill $service; wait $service 2>/dev/null || true
+    ./submit_peer 18081 peer.journal & peer=$!
+    for _ in $(seq 100); do curl -sf -m 2 -o /dev/null http://127.0.0.1:18081/ && break; sleep 0.05; done
+    plain=$(rate 18081)
+    kill $peer; wait $peer 2>/dev/null || true
     theirs=$("$journal" 3000 | sed 's/.*journal \([0-9]*\),.*/\1/')
-    awk -v round="$round" -v ours="$ours" -v theirs="$theirs" 'BEGIN { printf "round %s: %.0f submissions a second, %.0f appends a second alone, ratio %.2f\n", round, ours, theirs, ours / theirs }'
+    awk -v round="$round" -v ours="$ours" -v plain="$plain" -v theirs="$theirs" 'BEGIN {
+        printf "round %s: %.0f submissions a second, %.0f of the C program, %.0f appends a second alone, ratios to appends %.2f and %.2f, ours to C %.2f\n",
+            round, ours, plain, theirs, ours / theirs, plain / theirs, ours / plain }'
 done

@@ -1,4 +1,4 @@
-//! Measures how many claims a desk answers a second, at 2,000 and at 20,000 files that wait, and how long 10,000 and 100,000 submissions with ids take.
+//! Measures how long a desk takes for claims, reports and cancellations while 2,000, 20,000 and 200,000 files wait, and for 10,000 and 100,000 submissions.
 //! Without an argument it prints nothing and ends, so that it runs alike each time; with any argument it measures and prints.
 //! Command: `rt run -- measure` in this folder. Results with their machine and date: docs/BENCHMARKS.md.
 #![tactic(auto)]

@@ -1,5 +1,4 @@
-//! A desk on which files wait: eight endpoints, sixteen links and three activities, and plain jobs of 200 files, each file with a destination of its own.
-//! Or an empty desk, and submissions of one file each whose ids the clients chose.
+//! Desks on which files wait, and submissions. Eight endpoints, sixteen links and three activities; each file has a destination of its own.
 //! Settings and jobs are spelled as entries and read back, so this program needs no proof that they keep their rules.
 ghost use Rattle.std.specs.Prelude.{◌<◌};
 
@@ -12,8 +11,8 @@ use std::alloc::Global;
 /// The moment of each command.
 pub const MOMENT: u64 = 1_700_000_000;
 
-/// How many files a job has.
-const FILES: u32 = 200;
+/// How many files a plain job has that fills a desk.
+pub const FILES: u32 = 200;
 
 /// A restart: eight endpoints with limits of 1,000 both ways, a limit of 100 on each link, and three activities.
 const RESTART: &[u8] = b"\x00\x01\x80\xe2\xcf\xaa\x06\x02vo\x10\x64\x08\
@@ -21,20 +20,32 @@ const RESTART: &[u8] = b"\x00\x01\x80\xe2\xcf\xaa\x06\x02vo\x10\x64\x08\
     \x0ahttps://d0\xe8\x07\xe8\x07\x0ahttps://d1\xe8\x07\xe8\x07\x0ahttps://d2\xe8\x07\xe8\x07\x0ahttps://d3\xe8\x07\xe8\x07\
     \x00\x03\x07default\x01\x06urgent\x05\x04bulk\x02";
 
-/// What stands before a job's priority: the submission of a plain job without an id.
-const SUBMIT: &[u8] = b"\x00\x02\x80\xe2\xcf\xaa\x06\x00\x00\x00";
+/// What stands before the kind of a job.
+const SUBMIT: &[u8] = b"\x00\x02\x80\xe2\xcf\xaa\x06";
 
-/// What stands before the id of a job that has one: the submission of a plain job.
-const SUBMIT_WITH_ID: &[u8] = b"\x00\x02\x80\xe2\xcf\xaa\x06\x00\x00\x01";
-
-/// What stands behind that id: priority 3, no retry, no delay, no overwriting, and one file.
-const OPTIONS_OF_ONE: &[u8] = b"\x03\x00\x00\x00\x01";
-
-/// What stands between a job's priority and its files: no retry, no delay, no overwriting, and 200 files.
-const OPTIONS: &[u8] = b"\x00\x00\x00\xc8\x01";
+/// What stands between a job's priority and the number of its files: three retries, a delay of 86,400 seconds, no overwriting.
+const OPTIONS: &[u8] = b"\x03\x80\xa3\x05\x00";
 
 /// The activities of a job's files, in turn.
 const ACTIVITIES: [&str; 4] = ["default", "urgent", "bulk", "default"];
+
+/// Which jobs fill a desk: on how many links their files go, and how many priorities they have.
+#[derive(Clone, Copy)]
+pub struct Layout {
+    pub links: u32,
+    pub priorities: u32,
+}
+
+/// What is submitted, of each job alike.
+#[derive(Clone, Copy)]
+pub enum Kind {
+    /// One file, and no id.
+    Plain,
+    /// One file, and an id that the client chose.
+    WithId,
+    /// Two sources of one destination, and no id.
+    Replica,
+}
 
 /// Adds a number below 16,384, as an entry spells it.
 fn push_number(bytes: &mut Vec<u8>, number: u32) -> Result<()>
@@ -59,31 +70,41 @@ fn push_text(bytes: &mut Vec<u8>, text: &str) -> Result<()> {
     Ok(())
 }
 
-/// Adds a file of any size, whose links take turns.
-fn push_file(bytes: &mut Vec<u8>, alloc: Global, job: u32, index: u32) -> Result<()>
+/// Adds a file of any size on the link of a number, with the job's path of a number at both ends.
+fn push_file(
+    bytes: &mut Vec<u8>,
+    alloc: Global,
+    job: u32,
+    index: u32,
+    link: u32,
+    path: u32,
+) -> Result<()>
     requires { index < 16384 }
 {
-    let source = format!(in alloc; "https://s{}", index % 4)?;
-    let dest = format!(in alloc; "https://d{}", index / 4 % 4)?;
-    let path = format!(in alloc; "data/{job}/{index}")?;
+    let from = format!(in alloc; "https://s{}", link % 4)?;
+    let to = format!(in alloc; "https://d{}", link / 4 % 4)?;
+    let path = format!(in alloc; "data/{job}/{path}")?;
     push_number(bytes, index)?;
-    push_text(bytes, source.as_str())?;
+    push_text(bytes, from.as_str())?;
     push_text(bytes, path.as_str())?;
-    push_text(bytes, dest.as_str())?;
+    push_text(bytes, to.as_str())?;
     push_text(bytes, path.as_str())?;
     bytes.extend_from_slice(b"\x00\x00")?;
     push_text(bytes, ACTIVITIES[index as usize / 16 % 4])
 }
 
-/// The submission of a job, as an entry spells it. Priorities from 1 to 5 take turns.
-fn submission(alloc: Global, job: u32) -> Result<Vec<u8>> {
+/// The submission of a plain job of `FILES` files. Links and priorities take turns.
+fn filling(alloc: Global, job: u32, layout: Layout) -> Result<Entry> {
     let mut bytes = SUBMIT.to_vec(alloc)?;
-    push_number(&mut bytes, 1 + job % 5)?;
+    bytes.extend_from_slice(b"\x00\x00\x00")?;
+    bytes.push((1 + job % layout.priorities.clamp(1, 5)) as u8)?;
     bytes.extend_from_slice(OPTIONS)?;
+    push_number(&mut bytes, FILES)?;
     for index in 0..FILES {
-        push_file(&mut bytes, alloc, job, index)?;
+        let link = index % layout.links.max(1);
+        push_file(&mut bytes, alloc, job, index, link, index)?;
     }
-    Ok(bytes)
+    entry(alloc, bytes.as_slice())
 }
 
 /// Applies a command to a desk, which has to accept it.
@@ -106,35 +127,58 @@ fn entry(alloc: Global, bytes: &[u8]) -> Result<Entry> {
     }
 }
 
-/// Applies an entry that is spelled so.
-fn apply_entry(desk: &mut Desk, alloc: Global, bytes: &[u8]) -> Result<()> {
-    apply(desk, &entry(alloc, bytes)?.command)?;
-    Ok(())
-}
-
-/// The submission of a job of one file, with an id. The ids of jobs that follow each other lie far apart, above and below.
-pub fn submission_with_id(alloc: Global, job: u32) -> Result<Entry> {
-    let mut bytes = SUBMIT_WITH_ID.to_vec(alloc)?;
-    let id = (job as u128 + 1).wrapping_mul(0xb504_f333_f9de_6484_597d_89b3_754a_be9f);
-    bytes.extend_from_slice(&id.to_be_bytes())?;
-    bytes.extend_from_slice(OPTIONS_OF_ONE)?;
-    push_file(&mut bytes, alloc, job, 0)?;
+/// The submission of a job of a kind. The ids of jobs that follow each other lie far apart, above and below.
+pub fn submission(alloc: Global, job: u32, kind: Kind) -> Result<Entry> {
+    let mut bytes = SUBMIT.to_vec(alloc)?;
+    match kind {
+        Kind::Plain => bytes.extend_from_slice(b"\x00\x00\x00\x03")?,
+        Kind::WithId => {
+            let id = (job as u128 + 1).wrapping_mul(0xb504_f333_f9de_6484_597d_89b3_754a_be9f);
+            bytes.extend_from_slice(b"\x00\x00\x01")?;
+            bytes.extend_from_slice(&id.to_be_bytes())?;
+            bytes.push(3)?;
+        }
+        Kind::Replica => bytes.extend_from_slice(b"\x01\x00\x00\x03")?,
+    }
+    bytes.extend_from_slice(OPTIONS)?;
+    match kind {
+        Kind::Plain | Kind::WithId => {
+            bytes.push(1)?;
+            push_file(&mut bytes, alloc, job, 0, job % 16, 0)?;
+        }
+        Kind::Replica => {
+            bytes.push(2)?;
+            push_file(&mut bytes, alloc, job, 0, job % 4, 0)?;
+            push_file(&mut bytes, alloc, job, 0, (job % 4 + 1) % 4, 0)?;
+        }
+    }
     entry(alloc, bytes.as_slice())
 }
 
 /// A desk without jobs.
 pub fn begun_desk(alloc: Global) -> Result<Desk> {
+    let restart = entry(alloc, RESTART)?;
     let mut desk = Desk::empty(alloc);
-    apply_entry(&mut desk, alloc, RESTART)?;
-    Ok(desk)
+    match apply(&mut desk, &restart.command) {
+        Ok(_restarted) => Ok(desk),
+        Err(error) => Err(error),
+    }
+}
+
+/// Submits as many jobs that wait.
+fn fill(desk: &mut Desk, alloc: Global, jobs: u32, layout: Layout) -> Result<()> {
+    for job in 0..jobs {
+        let submission = filling(alloc, job, layout)?;
+        apply(desk, &submission.command)?;
+    }
+    Ok(())
 }
 
 /// A desk on which as many jobs wait.
-pub fn filled_desk(alloc: Global, jobs: u32) -> Result<Desk> {
+pub fn filled_desk(alloc: Global, jobs: u32, layout: Layout) -> Result<Desk> {
     let mut desk = begun_desk(alloc)?;
-    for job in 0..jobs {
-        let bytes = submission(alloc, job)?;
-        apply_entry(&mut desk, alloc, bytes.as_slice())?;
+    match fill(&mut desk, alloc, jobs, layout) {
+        Ok(()) => Ok(desk),
+        Err(error) => Err(error),
     }
-    Ok(desk)
 }

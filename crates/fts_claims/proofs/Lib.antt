@@ -15,4 +15,4 @@ pub mod RoomForFiles
 pub mod RowsComeIn
 pub mod ReleasedRows
 pub mod AnotherPriority
-pub mod RunTogether
+pub mod Crosses

@@ -1,11 +1,10 @@
 -- The search of a claim over queues: which rows a queue gives, which links have one, and which goes first.
-use Rattle.std.specs.Prelude.{◌≡◌, ◌+◌, count_by, if◌then◌else◌, ℕ, Bool, true, false, not, ◌&&◌, ◌-◌, nat_lt, nat_le, List, [], ◌∷◌, length, map, filter, slice_get, Option, Some, None, option_and_then, IsTrue, IsFalse}
-use Rattle.std.specs.List.{list_any, AllByRecursion}
+use Rattle.std.specs.Prelude.{◌≡◌, ◌+◌, count_by, if◌then◌else◌, ℕ, Bool, true, false, not, ◌&&◌, ◌-◌, nat_lt, nat_le, List, length, map, filter, slice_get, Option, Some, None, option_and_then}
+use Rattle.std.specs.List.{list_any}
 use Rattle.std.specs.Option.{option_map_or}
 use Rattle.std.specs.Ordering.{nat_cmp, ordering_then, is_lt}
 use Rattle.std.specs.Cmp.Lexicographic.{slice_cmp}
 use Rattle.fts_tables.specs.SettingsData.{SettingsData}
-use Rattle.fts_tables.specs.Places.{is_same_place}
 use Rattle.fts_tables.specs.Tables.{Tables, is_submitted, is_active}
 use Rattle.fts_tables.specs.Limits.{held, out_of, into, link_limit, outbound_limit, inbound_limit, is_on_link, has_known_ends, is_dest_busy}
 use Rattle.fts_tables.specs.Choice.{least, draw, has_activity, is_row_before}
@@ -14,10 +13,10 @@ use Rattle.fts_tables.specs.declared.settings.Weight.{Weight}
 use Rattle.fts_tables.specs.declared.places.Place.{Place}
 use Rattle.fts_tables.specs.declared.rows.FileRow.{FileRow}
 use Rattle.fts_tables.specs.declared.rows.JobRow.{JobRow}
-use Rattle.fts_slots.specs.SlotsData.{AreWithin, is_free, name_at}
+use Rattle.fts_slots.specs.SlotsData.{name_at}
 use Rattle.fts_queue.specs.WaitingData.{with_waiter}
 use Rattle.fts_claims.specs.BusyData.{is_busy}
-use Rattle.fts_claims.specs.Ties.{ClaimData, link_of, waiter_of, is_waiter, active_rows}
+use Rattle.fts_claims.specs.Ties.{ClaimData, link_of, waiter_of, is_waiter}
 use Rattle.fts_claims.specs.declared.claim_view.ClaimView.{ClaimView}
 use Rattle.fts_claims.specs.declared.parts.ClaimParts.{ClaimParts}
 
@@ -53,26 +52,6 @@ pub record HasRow (settings : SettingsData) (jobs : List JobRow) (row : FileRow)
   pub busy : (test : Place → Bool)
       → count_by test new.busy.places ≡ count_by test old.busy.places + (if is_active row.state && test row.dest then 1 else 0)
   pub known : is_active row.state ≡ true → has_known_ends (Some settings) row ≡ true
-
--- whether a link has a slot left and a destination isn't busy
-abbrev pub may_take : ClaimParts → LinkAt → Place → Bool
-may_take parts link dest = is_free parts.slots link && not (is_busy parts.busy.places dest)
-
--- a row takes more than there is: it runs, and where its ends are known its link has no slot left or its destination is busy
-pub record IsRefused (settings : SettingsData) (row : FileRow) (parts : ClaimParts) : Type 0 where
-  pub runs : is_active row.state ≡ true
-  pub taken : has_known_ends (Some settings) row ≡ true → may_take parts (link_of settings row) row.dest ≡ false
-
--- no place stands twice among these
-abbrev pub AreOnce : List Place → Type 0
-AreOnce [] = Unit {0}
-AreOnce (place ∷ places) = AllByRecursion (λ other. IsFalse (is_same_place place other)) places × AreOnce places
-
--- the rows that run may do so together: the settings list their ends, no slot is taken past its limit, and no two have one destination
-pub record MayRunTogether (settings : SettingsData) (rows : List FileRow) : Type 0 where
-  pub known : AllByRecursion (λ row. IsTrue (has_known_ends (Some settings) row)) (active_rows rows)
-  pub within : AreWithin (record { settings = settings; links = map (link_of settings) (active_rows rows) })
-  pub dests : AreOnce (map (λ row. row.dest) (active_rows rows))
 
 -- the machine's tables of these rows, jobs and settings, at no moment: what a claim picks depends on no more of them
 abbrev pub tables_of : ClaimData → Tables

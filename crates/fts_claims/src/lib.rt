@@ -1,8 +1,8 @@
 //! Which file a claim takes, found over the files that wait, the slots taken and the busy destinations, in place of a walk over all rows.
 //! `pick_waiter` is the machine's pick: exactly the file that the definition takes over all rows. What it needs is that its view is tied to these
 //! rows (`AreTied`): who keeps rows keeps the three beside them in step.
-//! `ClaimParts` are the three, made from rows (`of_rows`) or by a restart (`of_released`), and moved by the calls on rows that change.
-//! `Busy` holds the destinations of the files that run, in order.
+//! `ClaimParts` are the three, made from rows by a restart, and moved by the calls on rows that change. `Busy` holds the destinations of the files
+//! that run, in order.
 //! For the desk. It knows nothing of commands and journals.
 #![tactic(auto)]
 
@@ -18,8 +18,6 @@ mod priority;
 mod released;
 mod rooms;
 mod submitted;
-#[cfg(test)]
-mod tests;
 mod waiters;
 
 pub use busy::Busy;

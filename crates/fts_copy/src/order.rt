@@ -11,7 +11,6 @@ use std::marker::Model;
 const MAX_PART_BYTES: usize = 20;
 
 /// What is to be copied.
-#[derive(Drop)]
 pub struct Loaded {
     source_endpoint: ArrayString<MAX_NAME_BYTES>,
     source_path: ArrayString<MAX_NAME_BYTES>,
@@ -22,6 +21,22 @@ pub struct Loaded {
     size: u64,
     wanted: Option<[u8; 16]>,
     overwrite: bool,
+}
+
+impl Drop for Loaded {
+    fn drop(self) {
+        let Loaded {
+            source_endpoint: _,
+            source_path: _,
+            dest_endpoint: _,
+            dest_path: _,
+            part_path: _,
+            file: _,
+            size: _,
+            wanted: _,
+            overwrite: _,
+        } = self;
+    }
 }
 
 impl Model for Loaded {

@@ -9,11 +9,20 @@ use std::alloc::Global;
 use std::marker::Model;
 
 /// The room of a copy.
-#[derive(Drop)]
 pub struct CopyRoom {
     pub(crate) order: Option<Loaded>,
     pub(crate) first: Vec<u8>,
     pub(crate) second: Vec<u8>,
+}
+
+impl Drop for CopyRoom {
+    fn drop(self) {
+        let CopyRoom {
+            order: _,
+            first: _,
+            second: _,
+        } = self;
+    }
 }
 
 impl Model for CopyRoom {

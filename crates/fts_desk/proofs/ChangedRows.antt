@@ -1,11 +1,12 @@
 -- A row changed at its place: by writing there, by its id, and behind other rows.
-use Rattle.std.proofs.Common.{◌≡◌, ℕ, zero, suc, ◌+◌, ◌<◌, ◌≤◌, true, false, cond, List, [], ◌∷◌, ◌++◌, length, get_or, set, Option, Some, None, refl, ap, sym, ◌∙◌, arith, add-zero, inl, inr}
+use Rattle.std.proofs.Common.{◌≡◌, ℕ, zero, suc, ◌+◌, ◌<◌, ◌≤◌, true, false, cond, List, [], ◌∷◌, ◌++◌, length, get_or, set, take, drop, Option, Some, None, refl, ap, sym, ◌∙◌, arith, add-zero, inl, inr}
 use Rattle.std.specs.Prelude.{◌==◌, ◌⊎◌, slice_get}
 use Rattle.std.proofs.lemmas.Bool.{ne_eqb, eq-eqb}
 use Rattle.std.proofs.lemmas.Option.{same_Some, slice_get_cases}
 use Rattle.fts_tables.specs.Tables.{AreNumberedFrom}
 use Rattle.fts_tables.specs.Moves.{change_row, submit_chosen}
 use Rattle.fts_tables.specs.declared.rows.FileRow.{FileRow}
+use Rattle.fts_claims.specs.Changes.{all_but}
 use Rattle.fts_desk.specs.Places.{change_at, woken}
 
 -- what was written at a place is a change of the row that stood there
@@ -95,3 +96,16 @@ pub change_row-set : (rows : List FileRow) (place : ℕ) (change : FileRow → F
 change_row-set rows place change default changed numbered inside is =
     let next : place + 1 ≡ 1 + place = omega arith in
     change_at-set rows place change default changed inside is ∙ sym (change_row-place 1 rows place (place + 1) change numbered next)
+
+-- the rows but that at a place behind the first
+all_but-cons : (place : ℕ) (first : FileRow) (rows : List FileRow) → all_but (suc place) (first ∷ rows) ≡ first ∷ all_but place rows
+all_but-cons place first rows =
+    let next : suc place + 1 ≡ suc (place + 1) = omega arith in
+    ap (λ from. take (suc place) (first ∷ rows) ++ drop from (first ∷ rows)) next
+
+-- the rows but that at a place are as they were, whatever is written there
+pub all_but-set : (rows : List FileRow) (place : ℕ) (row : FileRow) → all_but place (set rows place row) ≡ all_but place rows
+all_but-set [] place row = refl
+all_but-set (first ∷ rows) zero row = refl
+all_but-set (first ∷ rows) (suc place) row =
+    all_but-cons place first (set rows place row) ∙ ap (λ others. first ∷ others) (all_but-set rows place row) ∙ sym (all_but-cons place first rows)

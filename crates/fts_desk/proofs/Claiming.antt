@@ -3,17 +3,14 @@ use Rattle.std.proofs.Common.{◌≡◌, ℕ, zero, suc, ◌+◌, ◌<◌, Bool,
 use Rattle.std.specs.Prelude.{◌==◌, ◌&&◌, not, nat_le, slice_get, filter, option_and_then}
 use Rattle.std.proofs.lemmas.Bool.{ne_eqb, eq-eqb}
 use Rattle.std.proofs.lemmas.Option.{slice_get-get_or}
-use Rattle.fts_tables.specs.SettingsData.{SettingsData}
 use Rattle.fts_tables.specs.Tables.{Tables, AreNumberedFrom, is_submitted, is_same_link}
 use Rattle.fts_tables.specs.Limits.{has_slots, has_known_ends, is_dest_busy, is_eligible}
 use Rattle.fts_tables.specs.Choice.{least, is_link_before, pick_of_link, weights_of, pick}
 use Rattle.fts_tables.specs.Moves.{change_row, claimed}
 use Rattle.fts_tables.specs.Step.{claim, with_rows}
 use Rattle.fts_tables.specs.declared.rows.FileRow.{FileRow}
-use Rattle.fts_tables.specs.declared.rows.JobRow.{JobRow}
 use Rattle.fts_tables.specs.declared.commands.Answer.TheVariants.{Claimed}
 use Rattle.fts_tables.specs.declared.commands.Refusal.TheVariants.{Idle}
-use Rattle.fts_desk.specs.Claims.{tables_of_lists}
 use Rattle.fts_desk.specs.Prepared.{IsPrepared}
 use Rattle.fts_desk.specs.declared.desk.DeskFault.TheVariants.{Rule}
 
@@ -86,26 +83,10 @@ no_pick tables now word none =
     (filter_nothing (is_eligible tables now) (never_eligible tables now none) tables.rows)
 
 -- where none is picked, the machine is idle
-pub idle_after : (tables : Tables) (now : ℕ) (picked : Option FileRow) → picked ≡ None → IsPrepared {T = ℕ} (claim tables now picked) (Err (Rule Idle))
-idle_after tables now picked none = subst (λ found. IsPrepared {T = ℕ} (claim tables now found) (Err (Rule Idle))) (sym none) refl
-
--- what is picked depends on jobs, rows and settings alone
-pick_lists : (tables : Tables) (settings : SettingsData) (now word : ℕ) → tables.settings ≡ Some settings
-    → pick tables now word ≡ pick (tables_of_lists tables.jobs tables.rows settings) now word
-pick_lists tables settings now word is = ap (λ settings. pick (record tables { settings = settings }) now word) is
-
--- what was picked of lists that are the tables' is the machine's pick
-pub picked_of_lists : (tables : Tables) (jobs : List JobRow) (rows : List FileRow) (settings : SettingsData) (now moment word : ℕ) (found : Option FileRow)
-    → jobs ≡ tables.jobs → rows ≡ tables.rows → tables.settings ≡ Some settings → moment ≡ now → found ≡ pick (tables_of_lists jobs rows settings) moment word
-    → pick tables now word ≡ found
-picked_of_lists tables jobs rows settings now moment word found same_jobs same_rows is same_moment picked =
-    pick_lists tables settings now word is
-    ∙ sym (picked
-    ∙ (ap (λ moment. pick (tables_of_lists jobs rows settings) moment word) same_moment
-    ∙ (ap (λ rows. pick (tables_of_lists jobs rows settings) now word) same_rows
-    ∙ ap (λ jobs. pick (tables_of_lists jobs tables.rows settings) now word) same_jobs)))
+pub idle_after : (T : Type 0) (tables : Tables) (now : ℕ) (picked : Option FileRow) → picked ≡ None → IsPrepared {T = T} (claim tables now picked) (Err (Rule Idle))
+idle_after T tables now picked none = subst (λ found. IsPrepared {T = T} (claim tables now found) (Err (Rule Idle))) (sym none) refl
 
 -- the machine accepts the claim of a row that is picked
-pub accepted : (tables : Tables) (now word place : ℕ) (row : FileRow) → pick tables now word ≡ Some row
-    → IsPrepared {T = ℕ} (claim tables now (pick tables now word)) (Ok place)
-accepted tables now word place row picked = subst (λ found. IsPrepared {T = ℕ} (claim tables now found) (Ok place)) (sym picked) tt
+pub accepted : {T : Type 0} (tables : Tables) (now word : ℕ) (made : T) (row : FileRow) → pick tables now word ≡ Some row
+    → IsPrepared {T = T} (claim tables now (pick tables now word)) (Ok made)
+accepted {T} tables now word made row picked = subst (λ found. IsPrepared {T = T} (claim tables now found) (Ok made)) (sym picked) tt

@@ -75,7 +75,7 @@ stands_inside rows job place row numbered stand at of_job =
     (omega (arith, bounds.0, id), omega (arith, bounds.1, id))
 
 -- a change that leaves the row at a place leaves all
-change_at-same : (rows : List FileRow) (place : ℕ) (change : FileRow → FileRow) (row : FileRow) → slice_get rows place ≡ Some row → change row ≡ row
+pub change_at-same : (rows : List FileRow) (place : ℕ) (change : FileRow → FileRow) (row : FileRow) → slice_get rows place ≡ Some row → change row ≡ row
     → change_at place change rows ≡ rows
 change_at-same [] place change row at same = refl
 change_at-same (head ∷ rows) zero change row at same =

@@ -2,21 +2,22 @@ mod AddedRows
 mod Bounded
 mod ChangedRows
 mod Claiming
-mod FirstRows
+mod ClaimedParts
 mod Follows
 mod Found
 mod Hops
 mod KeptFiles
-mod LinkNames
 mod NewRows
 mod Numbered
-mod Picks
 mod Released
 mod Reported
-mod RunningRows
 mod Sound
 mod JobIds
 mod Loaded
 mod RowLinks
 mod KnownLinks
 mod CancelledRows
+mod RowsBeside
+mod CancelledParts
+mod SubmittedParts
+pub mod Crosses

@@ -1,8 +1,9 @@
 -- What a desk's fields mean, and what it keeps true of them.
-use Rattle.std.specs.Prelude.{◌≡◌, ℕ, max, ◌<◌, length, slice_get, Option, Some, None}
+use Rattle.std.specs.Prelude.{◌≡◌, ℕ, max, ◌<◌, map, length, slice_get, Option, Some, None}
 use Rattle.fts_tables.specs.Tables.{Tables}
 use Rattle.fts_tables.specs.Choice.{pick}
-use Rattle.fts_tables.specs.Step.{step}
+use Rattle.fts_tables.specs.SettingsData.{SettingsData}
+use Rattle.fts_tables.specs.Step.{step, released}
 use Rattle.fts_tables.specs.History.{IsAccepted}
 use Rattle.fts_tables.specs.Laws.{IsStanding}
 use Rattle.fts_tables.specs.declared.limits.TheConstants.{MAX_COMMANDS}
@@ -12,6 +13,12 @@ use Rattle.fts_desk.specs.DeskData.{DeskData}
 use Rattle.fts_desk.specs.Kept.{tables_kept, HasRoom}
 use Rattle.fts_desk.specs.Bounds.{AreBounded, BringsFiles}
 use Rattle.fts_desk.specs.declared.kept.Kept.{Kept}
+use Rattle.fts_desk.specs.declared.commands.Decided.{Decided}
+use Rattle.fts_desk.specs.declared.commands.Decided.TheVariants.{Nothing, Claim as Claimed, Restart as Restarted}
+use Rattle.fts_claims.specs.Changes.{AreTiedTo}
+use Rattle.fts_claims.specs.declared.parts.ClaimParts.{ClaimParts}
+use Rattle.fts_tables.specs.declared.places.Place.{Place}
+use Rattle.fts_tables.specs.declared.rows.FileRow.{FileRow}
 use Rattle.fts_desk.specs.declared.desk.Desk.TheInside.{Inside}
 
 -- what contracts see of these fields
@@ -34,34 +41,48 @@ pub record IsPickedAt (tables : Tables) (now word place : ℕ) : Type 0 where
   pub inside : place < length tables.rows
   pub picked : pick tables (max now tables.moment) word ≡ slice_get tables.rows place
 
--- what was decided for a command: of a claim, the place of its row
-abbrev pub IsDecided : Tables → Command → ℕ → Type 0
-IsDecided tables (Restart now settings) place = Unit {0}
-IsDecided tables (Submit now job) place = Unit {0}
-IsDecided tables (CancelJob now job) place = Unit {0}
-IsDecided tables (CancelFile now job file) place = Unit {0}
-IsDecided tables (SetPriority now job priority) place = Unit {0}
-IsDecided tables (Claim now word) place = IsPickedAt tables now word place
-IsDecided tables (Report now file attempt outcome) place = Unit {0}
+-- what a claim looks at after a restart
+pub record IsReleased (kept : Kept) (settings : SettingsData) (parts : ClaimParts) : Type 0 where
+  pub tied : AreTiedTo kept.jobs.items (map released kept.rows.items) parts
+  pub limits : parts.slots.settings ≡ settings
+
+-- the place of the row that a claim picks, and that row's destination
+pub record IsClaimAt (kept : Kept) (now word place : ℕ) (copy : Place) : Type 0 where
+  pub at : IsPickedAt (tables_kept kept) now word place
+  pub dest : (row : FileRow) → slice_get kept.rows.items place ≡ Some row → row.dest ≡ copy
+
+-- what was decided for a command: of a claim the place of its row and that row's destination, of a restart what a claim looks at from then on
+abbrev pub IsDecided : Kept → Command → Decided → Type 0
+IsDecided kept (Restart now settings) Nothing = ⊥
+IsDecided kept (Restart now settings) (Claimed place dest) = ⊥
+IsDecided kept (Restart now settings) (Restarted parts) = IsReleased kept settings parts
+IsDecided kept (Submit now job) decided = Unit {0}
+IsDecided kept (CancelJob now job) decided = Unit {0}
+IsDecided kept (CancelFile now job file) decided = Unit {0}
+IsDecided kept (SetPriority now job priority) decided = Unit {0}
+IsDecided kept (Claim now word) Nothing = ⊥
+IsDecided kept (Claim now word) (Claimed place dest) = IsClaimAt kept now word place dest
+IsDecided kept (Claim now word) (Restarted parts) = ⊥
+IsDecided kept (Report now file attempt outcome) decided = Unit {0}
 
 -- all that an accepted command needs besides: room, a job's files, and what was decided
-pub record IsPlanned (kept : Kept) (command : Command) (place : ℕ) : Type 0 where
+pub record IsPlanned (kept : Kept) (command : Command) (choice : Decided) : Type 0 where
   pub room : HasRoom kept command
   pub files : BringsFiles command
-  pub decided : IsDecided (tables_kept kept) command place
+  pub decided : IsDecided kept command choice
 
 -- all that committing a command needs, a number of commands that can still rise among it
-pub record IsReadyFor (kept : Kept) (commands place : ℕ) (command : Command) : Type 0 where
+pub record IsReadyFor (kept : Kept) (commands : ℕ) (decided : Decided) (command : Command) : Type 0 where
   pub few : commands < MAX_COMMANDS
   pub accepted : IsAccepted (step (tables_kept kept) command)
-  pub planned : IsPlanned kept command place
+  pub planned : IsPlanned kept command decided
 
 -- ready for the command that was prepared, where one was
-abbrev pub IsReady : Kept → ℕ → ℕ → Option Command → Type 0
-IsReady kept commands place None = Unit {0}
-IsReady kept commands place (Some command) = IsReadyFor kept commands place command
+abbrev pub IsReady : Kept → ℕ → Decided → Option Command → Type 0
+IsReady kept commands decided None = Unit {0}
+IsReady kept commands decided (Some command) = IsReadyFor kept commands decided command
 
 -- sound tables, and ready for what was prepared
 pub record IsDesk (desk : Inside) : Type 0 where
   pub sound : IsSound (tables_kept desk.kept) desk.commands
-  pub ready : IsReady desk.kept desk.commands desk.place desk.planned
+  pub ready : IsReady desk.kept desk.commands desk.decided desk.planned

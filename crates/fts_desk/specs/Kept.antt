@@ -1,12 +1,15 @@
 -- The lists behind a desk's tables: which tables they are, their limits, and the room in them.
-use Rattle.std.specs.Prelude.{◌≡◌, ℕ, ◌+◌, ◌<◌, ◌≤◌, true, List, length, map, vec_capacity, Result, Ok, Err}
-use Rattle.fts_tables.specs.Tables.{Tables}
+use Rattle.std.specs.Prelude.{◌≡◌, ℕ, ◌+◌, ◌-◌, ◌<◌, ◌≤◌, true, List, length, map, vec_capacity, Some, Result, Ok, Err}
+use Rattle.fts_tables.specs.Tables.{Tables, job_at, row_at}
 use Rattle.fts_tables.specs.declared.limits.TheConstants.{MAX_JOBS, MAX_ROWS}
 use Rattle.fts_tables.specs.declared.commands.Command.{Command}
 use Rattle.fts_tables.specs.declared.commands.Command.TheVariants.{Restart, Submit, CancelJob, CancelFile, SetPriority, Claim, Report}
 use Rattle.fts_tables.specs.declared.commands.Refusal.TheVariants.{JobsFull, RowsFull}
 use Rattle.fts_desk.specs.Loaded.{are_known, link_of_file}
 use Rattle.fts_tables.specs.declared.rows.NewFile.{NewFile}
+use Rattle.fts_tables.specs.declared.rows.FileRow.{FileRow}
+use Rattle.fts_tables.specs.declared.rows.JobRow.{JobRow}
+use Rattle.fts_desk.specs.Parts.{HaveRoomForFiles, HasRoomToRun, HasRoomToReport}
 use Rattle.fts_desk.specs.declared.kept.Kept.{Kept}
 use Rattle.fts_desk.specs.declared.desk.DeskFault.{DeskFault}
 use Rattle.fts_desk.specs.declared.desk.DeskFault.TheVariants.{Rule, Memory}
@@ -28,10 +31,11 @@ pub record HasRoomFor (kept : Kept) (count : ℕ) : Type 0 where
   pub job_limit : length kept.jobs.items < MAX_JOBS
   pub row_limit : length kept.rows.items + count ≤ MAX_ROWS
 
--- room for one job more of these files, and for the link of each among the loads
+-- room for one job more of these files, for the link of each among the loads, and for each among the files that wait
 pub record HasRoomForFiles (kept : Kept) (files : List NewFile) : Type 0 where
   pub count : HasRoomFor kept (length files)
-  pub links : are_known kept.loads (map link_of_file files) ≡ true
+  pub links : are_known kept.beside.loads (map link_of_file files) ≡ true
+  pub queues : HaveRoomForFiles files kept.beside.parts
 
 -- room for what a command adds
 abbrev pub HasRoom : Kept → Command → Type 0
@@ -40,8 +44,9 @@ HasRoom kept (Submit now job) = HasRoomForFiles kept job.files
 HasRoom kept (CancelJob now job) = Unit {0}
 HasRoom kept (CancelFile now job file) = Unit {0}
 HasRoom kept (SetPriority now job priority) = Unit {0}
-HasRoom kept (Claim now word) = Unit {0}
-HasRoom kept (Report now file attempt outcome) = Unit {0}
+HasRoom kept (Claim now word) = HasRoomToRun kept.beside.parts
+HasRoom kept (Report now file attempt outcome) = (row : FileRow) (job : JobRow) → row_at kept.rows.items file ≡ Some row
+    → job_at kept.jobs.items row.job ≡ Some job → HasRoomToReport job (file - 1) kept.rows.items kept.beside.parts
 
 -- the limits on the numbers of jobs and rows, in the order of the machine's refusals; want of memory where both leave room
 abbrev pub IsRoomFor : ℕ → ℕ → ℕ → Result (Unit {0}) DeskFault → Type 0

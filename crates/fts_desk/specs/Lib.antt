@@ -1,10 +1,10 @@
 pub mod Bounds
 pub mod Cancels
-pub mod Claims
 pub mod Desk
 pub mod DeskData
 pub mod Kept
 pub mod Loaded
+pub mod Parts
 pub mod Places
 pub mod Prepared
 pub mod Reports

@@ -6,7 +6,7 @@ use Rattle.fts_tables.specs.declared.commands.Refusal.TheVariants.{NoJob, NoFile
 use Rattle.fts_desk.specs.declared.desk.DeskFault.{DeskFault}
 use Rattle.fts_desk.specs.declared.desk.DeskFault.TheVariants.{Rule, Memory}
 
--- where want of memory may come: where the machine accepts, and where no row may be claimed, since a claim lists the rows that run before it knows
+-- where want of memory may come: where the machine accepts, and where no row may be claimed; in place of no other refusal
 abbrev pub MayWantMemory : Outcomes → Type 0
 MayWantMemory (Ok done) = Unit {0}
 MayWantMemory (Err NoJob) = ⊥

@@ -9,16 +9,17 @@ ghost use Rattle.fts_tables.specs.Step.{step, cancel_rows, cancel_row, cancel_on
 ghost use Rattle.fts_desk.specs.Cancels.{cancelled_of, after_file, IsInside};
 ghost use Rattle.fts_tables.specs.History.{IsAccepted};
 ghost use Rattle.fts_tables.specs.declared.commands.Command.TheVariants.{CancelJob, CancelFile};
-ghost use Rattle.fts_desk.specs.Loaded.{AreLoadsOf};
+ghost use Rattle.fts_desk.specs.Parts.{limits_of, AreTiedParts, IsBeside};
 ghost use Rattle.fts_desk.specs.Places.{change_at};
 ghost use Rattle.fts_desk.specs.Kept.{tables_kept};
 ghost use Rattle.fts_desk.specs.Standing.{StandTogether};
 ghost use Rattle.fts_desk.specs.Prepared.{IsChecked};
 
-use crate::kept::Kept;
+use crate::kept::{Beside, Kept};
 use crate::loads::recount;
 use crate::lookups::{find_job, find_row, job_place, rows_of_job, rows_stand_together};
-use fts_index::Loads;
+use crate::parts::{leave, wait};
+use fts_claims::{ClaimParts, same_parts_stay_tied};
 use fts_states::{CancelStep, after_cancel};
 use fts_tables::laws::found_rows_stand;
 use fts_tables::{Answer, FileRow, FileState, JobKind, JobRow, Reason, Refusal};
@@ -131,7 +132,7 @@ pub fn cancel_job(kept: &mut Kept, now: u64, job: u32) -> Answer
     match job_place(&kept.jobs, job) {
         Some(place) => {
             let found = kept.jobs[place];
-            cancel_all_of(&mut kept.rows, &found, &mut kept.loads);
+            cancel_all_of(&mut kept.rows, &found, &mut kept.beside, &kept.jobs);
         }
         None => unreachable!(),
     }
@@ -150,7 +151,7 @@ pub fn cancel_file(kept: &mut Kept, now: u64, job: u32, file: u32) -> Answer
     match job_place(&kept.jobs, job) {
         Some(place) => {
             let found = kept.jobs[place];
-            cancel_by_kind(&mut kept.rows, &found, file, &mut kept.loads);
+            cancel_by_kind(&mut kept.rows, &found, file, &mut kept.beside, &kept.jobs);
         }
         None => unreachable!(),
     }
@@ -158,65 +159,112 @@ pub fn cancel_file(kept: &mut Kept, now: u64, job: u32, file: u32) -> Answer
 }
 
 /// Cancels a file's row, or all rows of its job, by the job's kind.
-fn cancel_by_kind(rows: &mut [FileRow], job: &JobRow, file: u32, loads: &mut Loads)
-    requires loaded { AreLoadsOf rows.old loads.old }
+fn cancel_by_kind(
+    rows: &mut [FileRow],
+    job: &JobRow,
+    file: u32,
+    beside: &mut Beside,
+    jobs: &[JobRow],
+)
+    requires jobs_numbered { AreNumberedFrom (λ job. job.number) 1 jobs.now }
+    requires beside { IsBeside jobs.now rows.old beside.old }
     requires together { StandTogether rows.old job.now }
     requires inside { IsInside rows.old file }
     ensures rows { rows.new ≡ after_file (Some job.now.kind) job.now.number file rows.old }
-    ensures loaded { AreLoadsOf rows.new loads.new }
+    ensures beside { IsBeside jobs.now rows.new beside.new }
+    ensures limits { limits_of beside.new.parts ≡ limits_of beside.old.parts }
 {
     match job.kind {
-        JobKind::Plain => cancel_at(rows, file, loads),
-        JobKind::Replica | JobKind::Multihop => cancel_all_of(rows, job, loads),
+        JobKind::Plain => cancel_at(rows, file, beside, jobs),
+        JobKind::Replica | JobKind::Multihop => cancel_all_of(rows, job, beside, jobs),
     }
 }
 
 /// Cancels the row of an id.
-fn cancel_at(rows: &mut [FileRow], file: u32, loads: &mut Loads)
-    requires loaded { AreLoadsOf rows.old loads.old }
+fn cancel_at(rows: &mut [FileRow], file: u32, beside: &mut Beside, jobs: &[JobRow])
+    requires jobs_numbered { AreNumberedFrom (λ job. job.number) 1 jobs.now }
+    requires beside { IsBeside jobs.now rows.old beside.old }
     requires inside { IsInside rows.old file }
     ensures rows { rows.new ≡ change_row file cancelled rows.old }
-    ensures loaded { AreLoadsOf rows.new loads.new }
+    ensures beside { IsBeside jobs.now rows.new beside.new }
+    ensures limits { limits_of beside.new.parts ≡ limits_of beside.old.parts }
 {
     let place = file as usize - 1;
     let was_live = rows[place].state.is_live();
-    cancel(&mut rows[place]);
-    recount(loads, was_live, &rows[place]);
+    cancel_place(rows, place, &mut beside.parts, jobs);
+    recount(&mut beside.loads, was_live, &rows[place]);
 }
 
 /// Cancels each row of a job, and looks at no other.
-fn cancel_all_of(rows: &mut [FileRow], job: &JobRow, loads: &mut Loads)
-    requires loaded { AreLoadsOf rows.old loads.old }
+fn cancel_all_of(rows: &mut [FileRow], job: &JobRow, beside: &mut Beside, jobs: &[JobRow])
+    requires jobs_numbered { AreNumberedFrom (λ job. job.number) 1 jobs.now }
+    requires beside { IsBeside jobs.now rows.old beside.old }
     requires numbered { AreNumberedFrom (λ row. row.id) 1 rows.old }
     requires together { StandTogether rows.old job.now }
     ensures rows { rows.new ≡ map (cancelled_of job.now.number) rows.old }
-    ensures loaded { AreLoadsOf rows.new loads.new }
+    ensures beside { IsBeside jobs.now rows.new beside.new }
+    ensures limits { limits_of beside.new.parts ≡ limits_of beside.old.parts }
 {
     let from = job.first as usize - 1;
     for place in from..from + job.count as usize {
-        cancel_if_of(rows, place, job.number, loads);
+        cancel_if_of(rows, place, job.number, beside, jobs);
     }
 }
 
 /// Cancels the row at a place where it is of a job.
-fn cancel_if_of(rows: &mut [FileRow], place: usize, job: u32, loads: &mut Loads)
-    requires loaded { AreLoadsOf rows.old loads.old }
+fn cancel_if_of(rows: &mut [FileRow], place: usize, job: u32, beside: &mut Beside, jobs: &[JobRow])
+    requires jobs_numbered { AreNumberedFrom (λ job. job.number) 1 jobs.now }
+    requires numbered { AreNumberedFrom (λ row. row.id) 1 rows.old }
+    requires beside { IsBeside jobs.now rows.old beside.old }
     requires inside { place < length rows.old }
     ensures rows { rows.new ≡ change_at place (cancelled_of job) rows.old }
-    ensures loaded { AreLoadsOf rows.new loads.new }
+    ensures beside { IsBeside jobs.now rows.new beside.new }
+    ensures limits { limits_of beside.new.parts ≡ limits_of beside.old.parts }
 {
     let was_live = rows[place].state.is_live();
-    cancel_of(&mut rows[place], job);
-    recount(loads, was_live, &rows[place]);
+    cancel_place_of(rows, place, job, &mut beside.parts, jobs);
+    recount(&mut beside.loads, was_live, &rows[place]);
 }
 
-/// Cancels a row where it is of a job.
-fn cancel_of(row: &mut FileRow, job: u32)
-    ensures row { row.new ≡ cancelled_of job row.old }
+/// Cancels the row at a place where it is of a job, whatever it counts for.
+fn cancel_place_of(
+    rows: &mut [FileRow],
+    place: usize,
+    job: u32,
+    parts: &mut Option<ClaimParts>,
+    jobs: &[JobRow],
+)
+    requires jobs_numbered { AreNumberedFrom (λ job. job.number) 1 jobs.now }
+    requires numbered { AreNumberedFrom (λ row. row.id) 1 rows.old }
+    requires tied { AreTiedParts jobs.now rows.old parts.old }
+    requires inside { place < length rows.old }
+    ensures rows { rows.new ≡ change_at place (cancelled_of job) rows.old }
+    ensures tied { AreTiedParts jobs.now rows.new parts.new }
+    ensures limits { limits_of parts.new ≡ limits_of parts.old }
 {
-    if row.job == job {
-        cancel(row);
+    if rows[place].job == job {
+        cancel_place(rows, place, parts, jobs);
     }
+}
+
+/// Cancels the row at a place. One that runs keeps its slot and its destination; one that waits is taken out.
+fn cancel_place(rows: &mut [FileRow], place: usize, parts: &mut Option<ClaimParts>, jobs: &[JobRow])
+    requires jobs_numbered { AreNumberedFrom (λ job. job.number) 1 jobs.now }
+    requires numbered { AreNumberedFrom (λ row. row.id) 1 rows.old }
+    requires tied { AreTiedParts jobs.now rows.old parts.old }
+    requires inside { place < length rows.old }
+    ensures rows { rows.new ≡ change_at place cancelled rows.old }
+    ensures tied { AreTiedParts jobs.now rows.new parts.new }
+    ensures limits { limits_of parts.new ≡ limits_of parts.old }
+{
+    same_parts_stay_tied();
+    if rows[place].state.is_active() {
+        cancel(&mut rows[place]);
+        return;
+    }
+    leave(parts, jobs, rows, place);
+    cancel(&mut rows[place]);
+    wait(parts, jobs, rows, place);
 }
 
 /// Cancels a row.

@@ -1,23 +1,38 @@
 //! Each command by its own module: `decide` checks it and makes its room, `make_step` does it once it was decided.
-//! `decide` leaves the tables as they are. What it decides, the place of the row that a claim takes, holds while they stay so.
+//! `decide` leaves the tables as they are. What it decides holds while they stay so.
 //! Called by the desk alone, which keeps the decided command between the two.
 ghost use Rattle.std.specs.Prelude.{◌≡◌, ℕ, Ok, IfOk, length};
 ghost use Rattle.fts_tables.specs.Tables.{AreNumberedFrom, AreWellFormed};
 ghost use Rattle.fts_tables.specs.Step.{Outcomes, step};
 ghost use Rattle.fts_tables.specs.History.{IsAccepted};
-ghost use Rattle.fts_tables.specs.declared.commands.Command.TheVariants.{Submit};
-ghost use Rattle.fts_desk.specs.Kept.{tables_kept, IsWithinLimits, HasRoomForFiles};
+ghost use Rattle.fts_tables.specs.declared.commands.Command.TheVariants.{Restart, Submit, Claim, Report};
+ghost use Rattle.fts_desk.specs.Kept.{tables_kept, IsWithinLimits, HasRoom, HasRoomForFiles};
 ghost use Rattle.fts_desk.specs.Bounds.{IsFileCount};
-ghost use Rattle.fts_desk.specs.Desk.{IsPlanned, IsSoundEnough};
+ghost use Rattle.fts_tables.specs.declared.rows.Outcome.{Outcome};
+ghost use Rattle.fts_desk.specs.Parts.{HasRoomToRun};
+ghost use Rattle.fts_desk.specs.Desk.{IsPlanned, IsDecided, IsSoundEnough};
+ghost use Rattle.fts_desk.specs.declared.commands.Decided.TheVariants.{Nothing};
 ghost use Rattle.fts_desk.specs.Prepared.{IsPrepared, IsChecked};
 
 use crate::kept::Kept;
 use crate::{DeskFault, cancels, claims, priority, reports, restart, submit};
-use fts_tables::{Answer, Command, NewJob, Refusal};
+use fts_claims::ClaimParts;
+use fts_tables::{Answer, Command, Memory, NewJob, Place, Refusal, Settings};
 use std::alloc::Global;
 
-/// Checks a command and makes room for it, or says why the machine refuses it. Of a claim it gives the place of the row.
-pub fn decide(alloc: Global, kept: &mut Kept, command: &Command) -> Result<usize, DeskFault>
+/// What was decided for a command, beside the command itself.
+#[derive(Drop)]
+pub enum Decided {
+    /// Nothing.
+    Nothing,
+    /// Of a claim the place of its row, and a copy of the row's destination.
+    Claim { place: usize, dest: Place },
+    /// Of a restart what a claim looks at from then on.
+    Restart { parts: ClaimParts },
+}
+
+/// Checks a command and makes room for it, or says why the machine refuses it.
+pub fn decide(alloc: Global, kept: &mut Kept, command: &Command) -> Result<Decided, DeskFault>
     requires formed { AreWellFormed (tables_kept kept.old) }
     requires limits { IsWithinLimits kept.old }
     ensures tables { tables_kept kept.new ≡ tables_kept kept.old }
@@ -25,30 +40,69 @@ pub fn decide(alloc: Global, kept: &mut Kept, command: &Command) -> Result<usize
     ensures planned { IfOk result (IsPlanned kept.new command.now) }
 {
     match command {
-        Command::Restart { .. } => Ok(0),
+        Command::Restart { settings, .. } => decide_restart(alloc, kept, settings),
         Command::Submit { job, .. } => make_room(kept, job),
         Command::CancelJob { job, .. } => ruled(cancels::check_job(kept, *job)),
         Command::CancelFile { job, file, .. } => ruled(cancels::check_file(kept, *job, *file)),
         Command::SetPriority { job, .. } => ruled(priority::check_priority(kept, *job)),
-        Command::Claim { now, word } => claims::find_claim(alloc, kept, *now, *word),
-        Command::Report { file, attempt, .. } => ruled(reports::check_report(
-            kept, *file, *attempt,
-        )),
+        Command::Claim { now, word } => decide_claim(alloc, kept, *now, *word),
+        Command::Report { file, attempt, .. } => decide_report(kept, *file, *attempt),
     }
 }
 
-/// A check's answer as that of a preparation. Where nothing is decided, the place is 0.
-fn ruled(checked: Result<(), Refusal>) -> Result<usize, DeskFault>
+/// Decides a restart.
+fn decide_restart(alloc: Global, kept: &Kept, settings: &Settings) -> Result<Decided, DeskFault>
+    requires formed { AreWellFormed (tables_kept kept.now) }
+    ensures answer { (now : ℕ) → IsPrepared (step (tables_kept kept.now) (Restart now settings.now)) result }
+    ensures decided { IfOk result (λ decided. (now : ℕ) → IsDecided kept.now (Restart now settings.now) decided) }
+{
+    match restart::prepare_restart(alloc, kept, settings) {
+        Ok(parts) => Ok(Decided::Restart { parts }),
+        Err(fault) => Err(fault),
+    }
+}
+
+/// Decides a claim.
+fn decide_claim(alloc: Global, kept: &mut Kept, now: u64, word: u64) -> Result<Decided, DeskFault>
+    requires formed { AreWellFormed (tables_kept kept.old) }
+    ensures tables { tables_kept kept.new ≡ tables_kept kept.old }
+    ensures answer { IsPrepared (step (tables_kept kept.old) (Claim now word)) result }
+    ensures decided { IfOk result (IsDecided kept.new (Claim now word)) }
+    ensures room { IfOk result (λ decided. HasRoomToRun kept.new.beside.parts) }
+{
+    let (place, dest) = claims::find_claim(alloc, kept, now, word)?;
+    Ok(Decided::Claim { place, dest })
+}
+
+/// Checks a report, and makes room for it.
+fn decide_report(kept: &mut Kept, file: u32, attempt: u32) -> Result<Decided, DeskFault>
+    requires formed { AreWellFormed (tables_kept kept.old) }
+    ensures tables { tables_kept kept.new ≡ tables_kept kept.old }
+    ensures answer { (now : ℕ) (outcome : Outcome) → IsPrepared (step (tables_kept kept.old) (Report now file attempt outcome)) result }
+    ensures room { IfOk result (λ decided. (now : ℕ) (outcome : Outcome) → HasRoom kept.new (Report now file attempt outcome)) }
+    ensures nothing { IfOk result (λ decided. decided ≡ Nothing) }
+{
+    if let Err(refusal) = reports::check_report(kept, file, attempt) {
+        return Err(DeskFault::Rule(refusal));
+    }
+    match reports::make_room(kept, file) {
+        Ok(()) => Ok(Decided::Nothing),
+        Err(Memory) => Err(DeskFault::Memory),
+    }
+}
+
+/// A check's answer as that of a preparation for which nothing is decided.
+fn ruled(checked: Result<(), Refusal>) -> Result<Decided, DeskFault>
     ensures answer { (outcome : Outcomes) → IsChecked outcome checked → IsPrepared outcome result }
 {
     match checked {
-        Ok(()) => Ok(0),
+        Ok(()) => Ok(Decided::Nothing),
         Err(refusal) => Err(DeskFault::Rule(refusal)),
     }
 }
 
 /// Makes room for a new job, whose type says how many files it may have.
-fn make_room(kept: &mut Kept, job: &NewJob) -> Result<usize, DeskFault>
+fn make_room(kept: &mut Kept, job: &NewJob) -> Result<Decided, DeskFault>
     requires numbered { AreNumberedFrom (λ job. job.number) 1 kept.old.jobs.items }
     requires limits { IsWithinLimits kept.old }
     ensures tables { tables_kept kept.new ≡ tables_kept kept.old }
@@ -58,27 +112,33 @@ fn make_room(kept: &mut Kept, job: &NewJob) -> Result<usize, DeskFault>
 {
     let _priority = job.priority;
     match submit::make_room(kept, job) {
-        Ok(()) => Ok(0),
+        Ok(()) => Ok(Decided::Nothing),
         Err(fault) => Err(fault),
     }
 }
 
 /// Does a command that was decided, as the machine does it.
-pub fn make_step(kept: &mut Kept, place: usize, command: Command) -> Answer
+pub fn make_step(kept: &mut Kept, decided: Decided, command: Command) -> Answer
     requires sound { IsSoundEnough (tables_kept kept.old) }
-    requires planned { IsPlanned kept.old command place }
+    requires planned { IsPlanned kept.old command decided }
     requires accepted { IsAccepted (step (tables_kept kept.old) command) }
     ensures step { step (tables_kept kept.old) command ≡ Ok (tables_kept kept.new, result) }
 {
     match command {
-        Command::Restart { now, settings } => restart::restart(kept, now, settings),
+        Command::Restart { now, settings } => match decided {
+            Decided::Restart { parts } => restart::restart(kept, now, settings, parts),
+            Decided::Nothing | Decided::Claim { .. } => unreachable!(),
+        },
         Command::Submit { now, job } => submit::submit(kept, now, job),
         Command::CancelJob { now, job } => cancels::cancel_job(kept, now, job),
         Command::CancelFile { now, job, file } => cancels::cancel_file(kept, now, job, file),
         Command::SetPriority { now, job, priority } => priority::set_priority(
             kept, now, job, priority,
         ),
-        Command::Claim { now, word: _ } => claims::claim(kept, now, place),
+        Command::Claim { now, word: _ } => match decided {
+            Decided::Claim { place, dest } => claims::claim(kept, now, place, dest),
+            Decided::Nothing | Decided::Restart { .. } => unreachable!(),
+        },
         Command::Report {
             now,
             file,

@@ -13,14 +13,15 @@ ghost use Rattle.fts_desk.specs.Prepared.{IsPrepared};
 
 use crate::answers::{held_on_link, rows_of_number, state_of};
 use crate::bounds::steps_keep_bounds;
-use crate::commands::{decide, make_step};
+use crate::commands::{Decided, decide, make_step};
 use crate::find::number_of_id;
-use crate::kept::Kept;
+use crate::kept::{Beside, Kept};
 use fts_index::{JobIds, Loads};
 use fts_tables::laws::steps_keep_standing;
 use fts_tables::{Answer, Command, FileRow, JobRow, JobState, LinkAt, Memory, Refusal, Settings};
 use std::alloc::Global;
 use std::marker::Model;
+use std::mem;
 
 /// The mark of a command that was prepared. It holds nothing.
 #[derive(Drop)]
@@ -38,13 +39,24 @@ pub enum DeskFault {
 }
 
 /// The machine's tables, and the command that it has room for.
-#[derive(Drop)]
 pub struct Desk {
     alloc: Global,
     kept: Kept,
     commands: u32,
     planned: Option<Command>,
-    place: usize,
+    decided: Decided,
+}
+
+impl Drop for Desk {
+    fn drop(self) {
+        let Desk {
+            alloc: _,
+            kept: _,
+            commands: _,
+            planned: _,
+            decided: _,
+        } = self;
+    }
 }
 
 impl Model for Desk {
@@ -74,11 +86,14 @@ impl Desk {
                 moment: 0,
                 settings: None,
                 ids: JobIds::new(alloc),
-                loads: Loads::new(alloc),
+                beside: Beside {
+                    loads: Loads::new(alloc),
+                    parts: None,
+                },
             },
             commands: 0,
             planned: None,
-            place: 0,
+            decided: Decided::Nothing,
         }
     }
 
@@ -93,13 +108,13 @@ impl Desk {
         ensures none { OnErr result (self.new.planned ≡ None) }
     {
         self.planned = None;
-        let place = match decide(self.alloc, &mut self.kept, command) {
-            Ok(place) => place,
+        let decided = match decide(self.alloc, &mut self.kept, command) {
+            Ok(decided) => decided,
             Err(fault) => return Err(fault),
         };
         match command.copy(self.alloc) {
             Ok(copy) => {
-                self.place = place;
+                self.decided = decided;
                 self.planned = Some(copy);
                 Ok(Plan { mark: () })
             }
@@ -120,7 +135,10 @@ impl Desk {
         self.commands += 1;
         match self.planned.take() {
             None => unreachable!(),
-            Some(command) => make_step(&mut self.kept, self.place, command),
+            Some(command) => {
+                let decided = mem::replace(&mut self.decided, Decided::Nothing);
+                make_step(&mut self.kept, decided, command)
+            }
         }
     }
 

@@ -1,21 +1,48 @@
 //! The lists behind a desk's tables. `specs/Kept.antt` says which tables they are (`tables_kept`).
 //! Each command's module has a step over them, whose contract is the machine's step over those tables.
 ghost use Rattle.std.specs.Prelude.{◌≡◌, map};
-ghost use Rattle.fts_desk.specs.Loaded.{AreLoadsOf};
+ghost use Rattle.std.proofs.Props.{props};
+ghost use Rattle.fts_desk.specs.Parts.{limits_of, IsBeside};
 
+use fts_claims::ClaimParts;
 use fts_index::{JobIds, Loads};
 use fts_tables::{FileRow, JobRow, Settings};
 
-/// What the machine's tables are made of, and beside them the jobs' ids and the loads of the links: a job is found, and an alternative chosen,
-/// without a walk over all jobs or rows.
-#[derive(Drop)]
+/// What the machine's tables are made of, and beside them the jobs' ids, the loads of the links, and from the first Restart on what a claim looks
+/// at: a job is found, an alternative chosen and a file claimed without a walk over all jobs or rows.
 pub struct Kept {
     pub jobs: Vec<JobRow>,
     pub rows: Vec<FileRow>,
     pub moment: u64,
     pub settings: Option<Settings>,
     pub ids: JobIds,
-    pub loads: Loads,
+    pub beside: Beside,
     ghost ids_of_jobs: { ids.ids ≡ map (λ job. job.id) jobs.items },
-    ghost loads_of_rows: { AreLoadsOf rows.items loads },
+    ghost beside_rows: { IsBeside jobs.items rows.items beside } by { Prim.hlevel props },
+    ghost of_settings: { limits_of beside.parts ≡ settings },
+}
+
+impl Drop for Kept {
+    fn drop(self) {
+        let Kept {
+            jobs: _,
+            rows: _,
+            moment: _,
+            settings: _,
+            ids: _,
+            beside: _,
+        } = self;
+    }
+}
+
+/// What stands beside the rows: the loads of the links, and from the first Restart on what a claim looks at.
+pub struct Beside {
+    pub loads: Loads,
+    pub parts: Option<ClaimParts>,
+}
+
+impl Drop for Beside {
+    fn drop(self) {
+        let Beside { loads: _, parts: _ } = self;
+    }
 }

@@ -1,17 +1,19 @@
 //! Another priority for a job that isn't settled.
-ghost use Rattle.std.specs.Prelude.{◌≡◌, ℕ, ◌≤◌, length, map, Ok};
-ghost use Rattle.fts_tables.specs.Tables.{AreNumberedFrom, AreWellFormed};
+ghost use Rattle.std.specs.Prelude.{◌≡◌, ℕ, ◌≤◌, length, map, Some, Ok};
+ghost use Rattle.fts_tables.specs.Tables.{AreNumberedFrom, AreWellFormed, job_at};
 ghost use Rattle.fts_tables.specs.Step.{step};
 ghost use Rattle.fts_tables.specs.History.{IsAccepted};
 ghost use Rattle.fts_tables.specs.declared.commands.Command.TheVariants.{SetPriority};
 ghost use Rattle.fts_desk.specs.Kept.{tables_kept};
-ghost use Rattle.fts_desk.specs.Standing.{prioritized};
+ghost use Rattle.fts_desk.specs.Parts.{limits_of, AreTiedParts};
+ghost use Rattle.fts_desk.specs.Standing.{prioritized, StandTogether};
 ghost use Rattle.fts_desk.specs.Prepared.{IsChecked};
 
 use crate::cancels::is_settled_job;
 use crate::kept::Kept;
-use crate::lookups::{find_job, rows_of_job, rows_stand_together};
-use fts_tables::{Answer, JobRow, Refusal};
+use crate::lookups::{find_job, job_place, rows_of_job, rows_stand_together};
+use fts_claims::ClaimParts;
+use fts_tables::{Answer, FileRow, JobRow, Refusal};
 
 /// Whether another priority of a job is accepted, or why it is refused.
 pub fn check_priority(kept: &Kept, job: u32) -> Result<(), Refusal>
@@ -37,9 +39,45 @@ pub fn set_priority(kept: &mut Kept, now: u64, job: u32, priority: u32) -> Answe
     requires accepted { IsAccepted (step (tables_kept kept.old) (SetPriority now job priority)) }
     ensures step { step (tables_kept kept.old) (SetPriority now job priority) ≡ Ok (tables_kept kept.new, result) }
 {
+    rows_stand_together();
     kept.moment = now.max(kept.moment);
+    match job_place(&kept.jobs, job) {
+        Some(place) => {
+            let found = kept.jobs[place];
+            prioritize_waiting(
+                &mut kept.beside.parts,
+                &kept.jobs,
+                &kept.rows,
+                &found,
+                priority,
+            );
+        }
+        None => unreachable!(),
+    }
     prioritize(&mut kept.jobs, job, priority);
     Answer::PrioritySet { job }
+}
+
+/// Gives the files of a job that wait a priority. The jobs are those before the change; afterwards all is tied to the jobs with it.
+fn prioritize_waiting(
+    parts: &mut Option<ClaimParts>,
+    jobs: &[JobRow],
+    rows: &[FileRow],
+    job: &JobRow,
+    priority: u32,
+)
+    requires jobs_numbered { AreNumberedFrom (λ job. job.number) 1 jobs.now }
+    requires rows_numbered { AreNumberedFrom (λ row. row.id) 1 rows.now }
+    requires job { job_at jobs.now job.now.number ≡ Some job.now }
+    requires together { StandTogether rows.now job.now }
+    requires tied { AreTiedParts jobs.now rows.now parts.old }
+    ensures tied { AreTiedParts (map (prioritized job.now.number priority) jobs.now) rows.now parts.new }
+    ensures limits { limits_of parts.new ≡ limits_of parts.old }
+{
+    match parts {
+        Some(parts) => parts.prioritize(jobs, rows, job, priority),
+        None => {}
+    }
 }
 
 /// Gives the job of a number a priority.

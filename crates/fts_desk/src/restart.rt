@@ -1,28 +1,54 @@
-//! Restart: each ACTIVE row is given up, and the settings are the new ones. It is never refused and needs no room.
-ghost use Rattle.std.specs.Prelude.{◌≡◌, ◌≤◌, length, map, count_by, Ok};
-ghost use Rattle.fts_tables.specs.Tables.{is_active};
+//! Restart: each ACTIVE row is given up, and the settings are the new ones. It is never refused.
+//! `prepare_restart` makes what a claim looks at anew, over the rows as they will stand and under the new settings; `restart` takes no memory.
+ghost use Rattle.std.specs.Prelude.{◌≡◌, ◌≤◌, ℕ, length, map, count_by, Ok, IfOk};
+ghost use Rattle.fts_tables.specs.Tables.{AreWellFormed, is_active};
 ghost use Rattle.fts_tables.specs.Step.{step, released};
 ghost use Rattle.fts_tables.specs.declared.commands.Command.TheVariants.{Restart};
 ghost use Rattle.fts_tables.specs.declared.limits.TheConstants.{MAX_ROWS};
 ghost use Rattle.fts_desk.specs.Loaded.{AreLoadsOf};
+ghost use Rattle.fts_claims.specs.Changes.{AreTiedTo};
 ghost use Rattle.fts_desk.specs.Kept.{tables_kept};
+ghost use Rattle.fts_desk.specs.Prepared.{IsPrepared};
 
+use crate::DeskFault;
 use crate::kept::Kept;
 use crate::loads::recount;
+use fts_claims::ClaimParts;
 use fts_index::Loads;
 use fts_states::after_restart;
-use fts_tables::{Answer, FileRow, Reason, Settings};
+use fts_tables::{Answer, FileRow, Memory, Reason, Settings};
+use std::alloc::Global;
 
-/// Begins a run with these settings.
-pub fn restart(kept: &mut Kept, now: u64, settings: Settings) -> Answer
-    requires { length kept.old.rows.items ≤ MAX_ROWS }
+/// What a claim looks at once the run has begun.
+pub fn prepare_restart(
+    alloc: Global,
+    kept: &Kept,
+    settings: &Settings,
+) -> Result<ClaimParts, DeskFault>
+    requires formed { AreWellFormed (tables_kept kept.now) }
+    ensures tied { IfOk result (λ parts. AreTiedTo kept.now.jobs.items (map released kept.now.rows.items) parts) }
+    ensures settings { IfOk result (λ parts. parts.slots.settings ≡ settings.now) }
+    ensures answer { (now : ℕ) → IsPrepared (step (tables_kept kept.now) (Restart now settings.now)) result }
+{
+    match ClaimParts::of_released(alloc, settings, &kept.jobs, &kept.rows) {
+        Ok(parts) => Ok(parts),
+        Err(Memory) => Err(DeskFault::Memory),
+    }
+}
+
+/// Begins a run with these settings, and with what a claim looks at.
+pub fn restart(kept: &mut Kept, now: u64, settings: Settings, parts: ClaimParts) -> Answer
+    requires few { length kept.old.rows.items ≤ MAX_ROWS }
+    requires tied { AreTiedTo kept.old.jobs.items (map released kept.old.rows.items) parts }
+    requires settings { parts.slots.settings ≡ settings }
     ensures step { step (tables_kept kept.old) (Restart now settings) ≡ Ok (tables_kept kept.new, result) }
     ensures jobs { kept.new.jobs.items ≡ kept.old.jobs.items }
     ensures rows { length kept.new.rows.items ≡ length kept.old.rows.items }
 {
-    let released = release(&mut kept.rows, &mut kept.loads);
+    let released = release(&mut kept.rows, &mut kept.beside.loads);
     kept.moment = kept.moment.max(now);
     kept.settings = Some(settings);
+    kept.beside.parts = Some(parts);
     Answer::Restarted { released }
 }
 

@@ -20,7 +20,7 @@ ghost use Rattle.std.specs.Prelude.{
   OnOk,
 };
 ghost use Rattle.fts_tables.specs.JobData.{JobData};
-ghost use Rattle.fts_tables.specs.Tables.{AreNumberedFrom, number_of_id};
+ghost use Rattle.fts_tables.specs.Tables.{AreNumberedFrom, AreWellFormed, number_of_id};
 ghost use Rattle.fts_tables.specs.Moves.{
   new_row,
   new_rows,
@@ -40,11 +40,13 @@ ghost use Rattle.fts_desk.specs.Loaded.{AreLoadsOf, are_known, link_of_file};
 ghost use Rattle.fts_desk.specs.Prepared.{IsPrepared};
 
 use crate::DeskFault;
-use crate::find::number_of_id;
+use crate::find::seek_number;
 use crate::kept::Kept;
 use crate::loads::count_new;
+use crate::parts::{make_room_for_files, wait_from};
 use crate::sources::next_source;
 use crate::waking::wake_at;
+use fts_claims::jobs_more_stay_tied;
 use fts_index::Loads;
 use fts_tables::limits::{MAX_JOBS, MAX_ROWS};
 use fts_tables::{
@@ -77,12 +79,13 @@ pub fn make_room(kept: &mut Kept, job: &NewJob) -> Result<(), DeskFault>
 }
 
 /// The least number of a job with the id that a new job was given, where it was given one.
-fn number_of_given(kept: &Kept, id: Option<u128>) -> Option<u32>
-    requires numbered { AreNumberedFrom (λ job. job.number) 1 kept.now.jobs.items }
-    ensures number { result ≡ option_and_then (number_of_id kept.now.jobs.items) id }
+fn number_of_given(kept: &mut Kept, id: Option<u128>) -> Option<u32>
+    requires numbered { AreNumberedFrom (λ job. job.number) 1 kept.old.jobs.items }
+    ensures number { result ≡ option_and_then (number_of_id kept.old.jobs.items) id }
+    ensures same { kept.new ≡ kept.old }
 {
     match id {
-        Some(id) => number_of_id(kept, id),
+        Some(id) => seek_number(kept, id),
         None => None,
     }
 }
@@ -107,10 +110,13 @@ fn make_room_for(kept: &mut Kept, files: &[NewFile]) -> Result<(), DeskFault>
     if kept.jobs.reserve(1).is_err() || kept.rows.reserve(files.len()).is_err() {
         return Err(DeskFault::Memory);
     }
-    if kept.ids.make_room().is_err() || know_links(&mut kept.loads, files).is_err() {
+    if kept.ids.make_room().is_err() || know_links(&mut kept.beside.loads, files).is_err() {
         return Err(DeskFault::Memory);
     }
-    Ok(())
+    match make_room_for_files(&mut kept.beside.parts, files) {
+        Ok(()) => Ok(()),
+        Err(Memory) => Err(DeskFault::Memory),
+    }
 }
 
 /// Makes room for the links of files among the loads. What is counted, and what there was room for, stays.
@@ -128,6 +134,7 @@ fn know_links(loads: &mut Loads, files: &[NewFile]) -> Result<(), Memory>
 /// Adds a job of any kind, for which there is room, at a moment in whole seconds, or at the last one where that is later.
 /// It takes no memory and can't fail, and answers the job's number and id.
 pub fn submit(kept: &mut Kept, now: u64, job: NewJob) -> Answer
+    requires formed { AreWellFormed (tables_kept kept.old) }
     requires room { HasRoomForFiles kept.old job.files }
     requires accepted { IsAccepted (step (tables_kept kept.old) (Submit now job)) }
     ensures step { step (tables_kept kept.old) (Submit now job) ≡ Ok (tables_kept kept.new, result) }
@@ -136,7 +143,7 @@ pub fn submit(kept: &mut Kept, now: u64, job: NewJob) -> Answer
 {
     kept.moment = kept.moment.max(now);
     let number = kept.jobs.len() as u32 + 1;
-    let first = kept.rows.len() as u32 + 1;
+    let from = kept.rows.len();
     let NewJob {
         id,
         kind,
@@ -150,9 +157,11 @@ pub fn submit(kept: &mut Kept, now: u64, job: NewJob) -> Answer
     let id = id_of_new(id, number);
     let files = files.into_vec();
     let count = files.len() as u32;
-    add_rows_of_kind(&mut kept.rows, number, kind, strategy, files, &kept.loads);
-    count_new(&mut kept.loads, &kept.rows[first as usize - 1..]);
+    let beside = &mut kept.beside;
+    add_rows_of_kind(&mut kept.rows, number, kind, strategy, files, &beside.loads);
+    count_new(&mut beside.loads, &kept.rows[from..]);
     kept.ids.add(id);
+    jobs_more_stay_tied();
     kept.jobs.push_reserved(JobRow {
         number,
         id,
@@ -163,9 +172,10 @@ pub fn submit(kept: &mut Kept, now: u64, job: NewJob) -> Answer
         overwrite,
         strategy,
         submitted_at: kept.moment,
-        first,
+        first: from as u32 + 1,
         count,
     });
+    wait_from(&mut beside.parts, &kept.jobs, &kept.rows, from);
     Answer::Submitted { job: number, id }
 }
 

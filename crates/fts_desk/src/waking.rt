@@ -1,13 +1,16 @@
 //! Rows that begin to wait: the row at a place, where its turn hadn't come. `wake_counted` counts it among the loads too; a submission, whose rows
 //! count once they all stand, uses `wake_at`.
 //! Places count from 0, so the row at a place has the id behind it (`change_at-by_id`).
-ghost use Rattle.std.specs.Prelude.{◌≡◌};
-ghost use Rattle.fts_desk.specs.Loaded.{AreLoadsOf};
+ghost use Rattle.std.specs.Prelude.{◌≡◌, Some, slice_get};
+ghost use Rattle.fts_tables.specs.Tables.{AreNumberedFrom};
+ghost use Rattle.fts_tables.specs.declared.rows.FileRow.{FileRow};
+ghost use Rattle.fts_desk.specs.Parts.{limits_of, IsBeside, HasRoomToWait};
 ghost use Rattle.fts_desk.specs.Places.{change_at, woken};
 
+use crate::kept::Beside;
 use crate::loads::recount;
-use fts_index::Loads;
-use fts_tables::{FileRow, FileState};
+use crate::parts::{leave, wait};
+use fts_tables::{FileRow, FileState, JobRow};
 
 /// Lets a row wait from now on, where its turn hadn't come.
 fn wake(row: &mut FileRow)
@@ -27,15 +30,20 @@ pub fn wake_at(rows: &mut [FileRow], place: usize)
     }
 }
 
-/// The same of a row that is counted among the loads, which stay those of the rows.
-pub fn wake_counted(rows: &mut [FileRow], place: usize, loads: &mut Loads)
-    requires loaded { AreLoadsOf rows.old loads.old }
+/// The same of a row that stands beside others: it is counted among the loads, and waits among the files that wait.
+pub fn wake_counted(rows: &mut [FileRow], place: usize, beside: &mut Beside, jobs: &[JobRow])
+    requires jobs_numbered { AreNumberedFrom (λ job. job.number) 1 jobs.now }
+    requires numbered { AreNumberedFrom (λ row. row.id) 1 rows.old }
+    requires beside { IsBeside jobs.now rows.old beside.old }
+    requires room { (row : FileRow) → slice_get rows.old place ≡ Some row → HasRoomToWait 1 row beside.old.parts }
     ensures rows { rows.new ≡ change_at place woken rows.old }
-    ensures loaded { AreLoadsOf rows.new loads.new }
+    ensures beside { IsBeside jobs.now rows.new beside.new }
+    ensures limits { limits_of beside.new.parts ≡ limits_of beside.old.parts }
 {
-    if place < rows.len() {
-        let was_live = rows[place].state.is_live();
+    if place < rows.len() && rows[place].state.is_not_used() {
+        leave(&mut beside.parts, jobs, rows, place);
         wake(&mut rows[place]);
-        recount(loads, was_live, &rows[place]);
+        wait(&mut beside.parts, jobs, rows, place);
+        recount(&mut beside.loads, false, &rows[place]);
     }
 }

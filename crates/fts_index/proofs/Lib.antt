@@ -1,4 +1,7 @@
 mod Found
+mod Placed
 mod Ordered
+mod InChunks
+mod Sought
 mod Counted
 mod TableLists

@@ -1,5 +1,8 @@
 pub mod Numbers
 pub mod IdOrder
+pub mod PlaceLists
+pub mod Chunk
+pub mod Order
 pub mod JobIds
 pub mod Links
 pub mod Loads

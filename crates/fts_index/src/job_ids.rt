@@ -1,21 +1,41 @@
-//! The numbers of jobs by their ids: the ids in order of the jobs' numbers, and beside them their places in order of the ids.
-//! Contracts see the ids in order of the jobs' numbers, and the room. Kept in its type (`AreJobIds`): a look-up is a search by halves.
-//! Order: `make_room` before `add`, which takes no memory.
-ghost use Rattle.std.specs.Prelude.{◌≡◌, ◌<◌, ◌+◌, ◌++◌, ◌∷◌, [], max, length, IfOk, IfErr, OnOk, OnErr};
-ghost use Rattle.fts_index.specs.IdOrder.{id_at, IsGapFor, IsInOrderAt, IsOrderOf};
+//! The numbers of jobs by their ids: the ids in order of the jobs' numbers, and beside them each different id with its place, in chunks (`order.rt`).
+//! Contracts see the ids in order of the jobs' numbers, and the room. Kept in its type (`AreJobIds`): a look-up is a search by halves,
+//! and what `seek` remembers of one is still true.
+//! Order: `make_room` before `add`, which takes no memory; before it `seek`, where the answer matters too, so that both cost one search.
+ghost use Rattle.std.specs.Prelude.{◌≡◌, ◌<◌, ◌+◌, ◌++◌, ◌∷◌, [], max, length, OnOk, OnErr, IfOk, IfErr, IfSome, IsTrue};
 ghost use Rattle.fts_index.specs.Numbers.{IdList, number_in};
+ghost use Rattle.fts_index.specs.IdOrder.{AreRising, IsPlaceOf};
+ghost use Rattle.fts_index.specs.PlaceLists.{IsGapIn, order_of};
 
+use crate::order::{PlacesInOrder, Spot};
 use fts_tables::Memory;
 use std::alloc::Global;
 use std::marker::Model;
 
+/// An id that no job has, and where in the order it would stand.
+#[derive(Clone, Copy)]
+struct Sought {
+    id: u128,
+    spot: Spot,
+}
+
 /// The ids of jobs 1, 2, 3 and so on, with the least number of each.
-#[derive(Drop)]
 pub struct JobIds {
     ids: Vec<u128>,
-    /// The least place of each different id, in rising order of the ids.
-    order: Vec<u32>,
+    order: PlacesInOrder,
     room: u32,
+    sought: Option<Sought>,
+}
+
+impl Drop for JobIds {
+    fn drop(self) {
+        let JobIds {
+            ids: _,
+            order: _,
+            room: _,
+            sought: _,
+        } = self;
+    }
 }
 
 impl Model for JobIds {
@@ -30,23 +50,31 @@ impl Model for JobIds {
     ghost invariant = { AreJobIds };
 }
 
-/// The id at a place, and 0 behind the end.
-fn id_at(ids: &[u128], place: u32) -> u128
-    ensures id { result ≡ id_at ids.now place }
+/// The least place of an id, or where in the order the id would stand. An id that was sought isn't searched again.
+fn find_unless_sought(order: &PlacesInOrder, sought: Option<Sought>, id: u128) -> Result<u32, Spot>
+    requires rising { AreRising (order_of order.now.chunks) }
+    requires sought { IfSome sought (λ sought. IsGapIn order.now sought.id sought.spot.chunk sought.spot.at) }
+    ensures found { IfOk result (IsPlaceOf (order_of order.now.chunks) id) }
+    ensures absent { IfErr result (λ spot. IsGapIn order.now id spot.chunk spot.at) }
 {
-    match ids.get(place as usize) {
-        Some(id) => *id,
-        None => 0,
+    match sought {
+        Some(sought) if sought.id == id => Err(sought.spot),
+        _ => order.find(id),
     }
 }
 
-/// How far in the order an id stands, or would stand.
-fn search(ids: &[u128], order: &[u32], id: u128) -> Result<usize, usize>
-    requires order { IsOrderOf ids.now order.now }
-    ensures found { IfOk result (IsInOrderAt ids.now order.now id) }
-    ensures absent { IfErr result (IsGapFor ids.now order.now id) }
+/// Makes memory for one id more in the order, where there is none, and forgets what was sought only then.
+fn make_ready(order: &mut PlacesInOrder, sought: &mut Option<Sought>) -> Result<(), Memory>
+    requires sought { IfSome sought.old (λ sought. IsGapIn order.old sought.id sought.spot.chunk sought.spot.at) }
+    ensures ok { OnOk result (IsTrue order.new.ready) }
+    ensures order { order_of order.new.chunks ≡ order_of order.old.chunks }
+    ensures sought { IfSome sought.new (λ sought. IsGapIn order.new sought.id sought.spot.chunk sought.spot.at) }
 {
-    order.binary_search_by_key(&id, |place| id_at(ids, *place))
+    if order.is_ready() {
+        return Ok(());
+    }
+    *sought = None;
+    order.make_room()
 }
 
 impl JobIds {
@@ -56,8 +84,9 @@ impl JobIds {
     {
         JobIds {
             ids: Vec::new(alloc),
-            order: Vec::new(alloc),
+            order: PlacesInOrder::new(alloc),
             room: 0,
+            sought: None,
         }
     }
 
@@ -73,7 +102,7 @@ impl JobIds {
             return Err(Memory);
         }
         self.ids.reserve(1)?;
-        self.order.reserve(1)?;
+        make_ready(&mut self.order, &mut self.sought)?;
         self.room += 1;
         Ok(())
     }
@@ -84,12 +113,10 @@ impl JobIds {
         ensures ids { self.new ≡ record self.old { ids = self.old.ids ++ id ∷ [] } }
     {
         let place = self.ids.len() as u32;
-        match search(self.ids.as_slice(), self.order.as_slice(), id) {
+        match find_unless_sought(&self.order, self.sought.take(), id) {
             // The id has a lesser number already.
-            Ok(_at) => {}
-            Err(at) => {
-                let _ = self.order.insert(at, place);
-            }
+            Ok(_place) => {}
+            Err(spot) => self.order.insert(spot, id, place),
         }
         self.ids.push_reserved(id);
     }
@@ -98,9 +125,23 @@ impl JobIds {
     pub fn find(&self, id: u128) -> Option<u32>
         ensures number { result ≡ number_in self.now.ids id }
     {
-        match search(self.ids.as_slice(), self.order.as_slice(), id) {
-            Ok(at) => Some(self.order[at] + 1),
+        match self.order.find(id) {
+            Ok(place) => Some(place + 1),
             Err(_) => None,
+        }
+    }
+
+    /// As `find`, before an `add` of the same id: where no job has it, what the search found is remembered, and `add` needs none of its own.
+    pub fn seek(&mut self, id: u128) -> Option<u32>
+        ensures number { result ≡ number_in self.old.ids id }
+        ensures same { self.new ≡ self.old }
+    {
+        match self.order.find(id) {
+            Ok(least) => Some(least + 1),
+            Err(spot) => {
+                self.sought = Some(Sought { id, spot });
+                None
+            }
         }
     }
 }

@@ -3,9 +3,11 @@
 //! Called by the desk, which keeps both in step with its tables. Nothing here knows of states, limits or commands.
 #![tactic(auto)]
 
+mod chunk;
 mod job_ids;
 pub mod laws;
 mod loads;
+mod order;
 
 pub use job_ids::JobIds;
 pub use loads::Loads;

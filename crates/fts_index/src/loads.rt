@@ -18,10 +18,15 @@ pub struct Known {
 }
 
 /// The links of rows that wait or run, each as often as it has such rows, and the links that there is room for.
-#[derive(Drop)]
 pub struct Loads {
     alloc: Global,
     known: Vec<Known>,
+}
+
+impl Drop for Loads {
+    fn drop(self) {
+        let Loads { alloc: _, known: _ } = self;
+    }
 }
 
 impl Model for Loads {

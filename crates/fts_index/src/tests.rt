@@ -35,6 +35,34 @@ fn an_id_has_the_least_of_its_numbers(rt: HostRuntime) -> Result<(), Fail> {
 }
 
 #[test]
+fn there_is_room_for_more_ids_than_a_chunk_holds(rt: HostRuntime) -> Result<(), Fail> {
+    let mut ids = JobIds::new(rt.alloc());
+    for number in 1..=1200_u32 {
+        let id = u128::from(number) * 7919 % 1201;
+        if number % 3 > 0 {
+            assert_eq!(rt; ids.seek(id).unwrap_or(0), 0, "{number} is new");
+        }
+        if number % 3 > 1 {
+            assert_eq!(rt;
+                ids.seek(1201).unwrap_or(0),
+                0,
+                "another id, which is not added"
+            );
+        }
+        ids.make_room()?;
+        ids.add(id);
+    }
+    for number in 1..=1200_u32 {
+        assert_eq!(rt;
+            ids.find(u128::from(number) * 7919 % 1201).unwrap_or(0),
+            number,
+            "{number}"
+        );
+    }
+    Ok(())
+}
+
+#[test]
 fn a_link_counts_in_its_own_direction(rt: HostRuntime) -> Result<(), Fail> {
     let here = name(rt.alloc(), "https://a.example")?;
     let there = name(rt.alloc(), "https://b.example")?;

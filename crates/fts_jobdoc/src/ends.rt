@@ -20,10 +20,18 @@ use serde_json::Value;
 use std::alloc::Global;
 
 /// Where a file comes from, and where it goes to. The document has a list of destinations, in which rule 7 wants one.
-#[derive(Drop)]
 pub struct FileEnds {
     pub sources: Items<Place>,
     pub dests: Items<Place>,
+}
+
+impl Drop for FileEnds {
+    fn drop(self) {
+        let FileEnds {
+            sources: _,
+            dests: _,
+        } = self;
+    }
 }
 
 /// Reads the URLs of all files.

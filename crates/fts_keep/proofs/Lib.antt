@@ -1,3 +1,4 @@
+pub mod Crosses
 mod Rows
 pub mod Moments
 pub mod Lists

@@ -22,11 +22,20 @@ use std::marker::Model;
 
 /// A list of entries on a disk, and the desk that it makes. Contracts see the list, the entry in doubt or none, the tables, the number of bytes
 /// used, and the disk; over a disk that doesn't tell its contents they see the list empty, and the rest all the same.
-#[derive(Drop)]
 pub struct Keep<D: Disk> {
     alloc: Global,
     desk: Desk,
     journal: Journal<D>,
+}
+
+impl<D: Disk + Drop> Drop for Keep<D> {
+    fn drop(self) {
+        let Keep {
+            alloc: _,
+            desk: _,
+            journal: _,
+        } = self;
+    }
 }
 
 impl<D: Disk> Model for Keep<D> {

@@ -10,3 +10,4 @@ mod TakenFile
 mod QueueParts
 mod FileSearch
 mod OneFile
+pub mod Crosses

@@ -1,7 +1,8 @@
 //! Files that wait as a search tree in their order. Each node counts its files and the ripe ones of them, and knows when the next one ripens.
 //! Contracts see a tree as the list of its files from left to right (`waiters_in`); that the counts are right is `IsCounted`, at a moment.
 //! `settled` keeps it flat by the sizes, two rotations at most a level, so a way down is about as long as the logarithm of the size.
-//! A way down reads the nodes on it alone: what is beside it follows from the counts, and is far away in memory where the tree is large.
+//! Where a file comes in or goes out, the nodes on its way alone are read: what is beside them follows from the counts, and is far away in
+//! memory where the tree is large.
 //! Nothing here takes or gives back memory: a node comes in and goes out in its box.
 ghost use Rattle.std.specs.Prelude.{
   ◌≡◌,
@@ -234,30 +235,6 @@ fn is_heavier(one: u32, other: u32) -> bool {
     u64::from(one) > 3 * u64::from(other) + 1
 }
 
-/// A node whose sides are about even: counted anew, and turned where one side is far the larger.
-fn balanced(mut node: Box<Node>, moment: u64) -> Box<Node>
-    requires left { IsCounted moment (out-Node node.value).left }
-    requires right { IsCounted moment (out-Node node.value).right }
-    requires fits { length (waiters_of node.value) < 2 ^ 32 }
-    ensures counted { IsCountedNode moment result.value }
-    ensures waiters { waiters_of result.value ≡ waiters_of node.value }
-{
-    let left = size_of(&node.left);
-    let right = size_of(&node.right);
-    if is_heavier(right, left) {
-        node.right = lean_right(mem::replace(&mut node.right, Tree::Leaf), moment);
-        recount(&mut node, moment);
-        turn_left(node, moment)
-    } else if is_heavier(left, right) {
-        node.left = lean_left(mem::replace(&mut node.left, Tree::Leaf), moment);
-        recount(&mut node, moment);
-        turn_right(node, moment)
-    } else {
-        recount(&mut node, moment);
-        node
-    }
-}
-
 /// A node that is counted, whose sides have so many files: turned where one side is far the larger.
 fn settled(mut node: Box<Node>, left: u32, right: u32, moment: u64) -> Box<Node>
     requires counted { IsCountedNode moment node.value }
@@ -276,6 +253,20 @@ fn settled(mut node: Box<Node>, left: u32, right: u32, moment: u64) -> Box<Node>
     } else {
         node
     }
+}
+
+/// A node whose sides are about even: counted anew, and turned where one side is far the larger.
+fn balanced(mut node: Box<Node>, moment: u64) -> Box<Node>
+    requires left { IsCounted moment (out-Node node.value).left }
+    requires right { IsCounted moment (out-Node node.value).right }
+    requires fits { length (waiters_of node.value) < 2 ^ 32 }
+    ensures counted { IsCountedNode moment result.value }
+    ensures waiters { waiters_of result.value ≡ waiters_of node.value }
+{
+    recount(&mut node, moment);
+    let left = size_of(&node.left);
+    let right = size_of(&node.right);
+    settled(node, left, right, moment)
 }
 
 /// A node whose left side has changed. What the right one has is what is left, so it is not read: it may be far away in memory.

@@ -57,7 +57,6 @@ use std::mem;
 const MOST_ROOM: usize = 4_294_967_295;
 
 /// The files that wait, by link and activity.
-#[derive(Drop)]
 pub struct Waiting {
     tree: Tree,
     spare: Tree,
@@ -65,6 +64,19 @@ pub struct Waiting {
     rooms: Vec<Room>,
     whole: usize,
     alloc: Global,
+}
+
+impl Drop for Waiting {
+    fn drop(self) {
+        let Waiting {
+            tree: _,
+            spare: _,
+            moment: _,
+            rooms: _,
+            whole: _,
+            alloc: _,
+        } = self;
+    }
 }
 
 impl Model for Waiting {

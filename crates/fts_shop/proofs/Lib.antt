@@ -1,3 +1,4 @@
+pub mod Crosses
 pub mod Rows
 pub mod Answered
 pub mod Claims

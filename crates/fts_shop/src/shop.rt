@@ -11,10 +11,15 @@ use fts_turnstile::Logged;
 use std::marker::Model;
 
 /// A keep, and the number of lanes that are left.
-#[derive(Drop)]
 pub struct Shop<D: Disk> {
     keep: Keep<D>,
     lanes: u32,
+}
+
+impl<D: Disk + Drop> Drop for Shop<D> {
+    fn drop(self) {
+        let Shop { keep: _, lanes: _ } = self;
+    }
 }
 
 impl<D: Disk> Model for Shop<D> {

@@ -27,11 +27,20 @@ use std::alloc::Global;
 use std::marker::Model;
 
 /// The slots that ACTIVE files take, with the settings whose limits they keep.
-#[derive(Drop)]
 pub struct Slots {
     settings: Settings,
     links: Vec<LinkAt>,
     counts: Counts,
+}
+
+impl Drop for Slots {
+    fn drop(self) {
+        let Slots {
+            settings: _,
+            links: _,
+            counts: _,
+        } = self;
+    }
 }
 
 impl Model for Slots {

@@ -101,10 +101,8 @@ fn a_failure_waits_for_the_delay_and_counts(rt: HostRuntime) -> Result<(), Fail>
         (JobKind::Replica, Follow::NextAlternative),
         (JobKind::Multihop, Follow::Nothing),
     ] {
-        let again = FileRow {
-            retries: 1,
-            ..row(rt.alloc(), FileState::Active)?
-        };
+        let mut again = row(rt.alloc(), FileState::Active)?;
+        again.retries = 1;
         let after = after_report(&again, &job(kind), &Outcome::StoreFailed, 1_060);
         assert_eq!(rt; after.state, FileState::Failed, "{kind:?}");
         assert_eq!(rt; after.follow, follow, "{kind:?}");
@@ -117,10 +115,8 @@ fn a_cancelled_copy_ends_by_its_report_or_a_restart(rt: HostRuntime) -> Result<(
     let row = row(rt.alloc(), FileState::Active)?;
     assert_eq!(rt; after_cancel(&row), CancelStep::Asked);
     assert_eq!(rt; after_restart(&row), FileState::Submitted);
-    let asked = FileRow {
-        cancel_asked: true,
-        ..row
-    };
+    let mut asked = row;
+    asked.cancel_asked = true;
     assert_eq!(rt; after_cancel(&asked), CancelStep::Stays);
     assert_eq!(rt; after_restart(&asked), FileState::Canceled);
     let verified = Outcome::Verified {

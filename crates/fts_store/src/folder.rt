@@ -34,7 +34,6 @@ struct Opened {
 }
 
 /// Files in folders.
-#[derive(Drop)]
 pub struct FolderStore<R> {
     rt: R,
     alloc: Global,
@@ -48,6 +47,22 @@ pub struct FolderStore<R> {
     /// Folders whose names, and those of the folders above them, are stable.
     stable: Vec<String>,
     pub(crate) faults: u64,
+}
+
+impl<R: Drop> Drop for FolderStore<R> {
+    fn drop(self) {
+        let FolderStore {
+            rt: _,
+            alloc: _,
+            root: _,
+            reading: _,
+            writing: _,
+            found: _,
+            free: _,
+            stable: _,
+            faults: _,
+        } = self;
+    }
 }
 
 fn is_path(known: &Option<String>, path: &str) -> bool {

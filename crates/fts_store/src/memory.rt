@@ -15,7 +15,6 @@ use fts_tables::{Items, PlaceRef};
 use std::alloc::Global;
 
 /// Files in memory.
-#[derive(Drop)]
 pub struct MemoryStore {
     pub(crate) held: Held,
     pub(crate) fail: Vec<u32>,
@@ -23,6 +22,19 @@ pub struct MemoryStore {
     pub(crate) number: u64,
     pub(crate) appends: u64,
     pub(crate) faults: u64,
+}
+
+impl Drop for MemoryStore {
+    fn drop(self) {
+        let MemoryStore {
+            held: _,
+            fail: _,
+            drop: _,
+            number: _,
+            appends: _,
+            faults: _,
+        } = self;
+    }
 }
 
 impl MemoryStore {

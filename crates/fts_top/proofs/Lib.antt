@@ -1,3 +1,4 @@
+pub mod Crosses
 pub mod Phrases
 pub mod Keeping
 pub mod Saying

@@ -16,7 +16,6 @@ use std::collections::VecDeque;
 use std::marker::Model;
 
 /// Doors that give listed lines.
-#[derive(Drop)]
 pub struct MemoryDoors {
     coming: VecDeque<MemoryLine>,
     back: Vec<MemoryLine>,
@@ -24,6 +23,19 @@ pub struct MemoryDoors {
     fail: Vec<u64>,
     calls: u64,
     faults: u64,
+}
+
+impl Drop for MemoryDoors {
+    fn drop(self) {
+        let MemoryDoors {
+            coming: _,
+            back: _,
+            out: _,
+            fail: _,
+            calls: _,
+            faults: _,
+        } = self;
+    }
 }
 
 impl Model for MemoryDoors {

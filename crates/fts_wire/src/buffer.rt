@@ -20,11 +20,20 @@ pub const PIECE_BYTES: usize = 65_536;
 pub const BUFFER_BYTES: usize = MAX_HEAD_BYTES + MAX_CONTENT_BYTES + PIECE_BYTES;
 
 /// The bytes at hand.
-#[derive(Drop)]
 pub struct Buffer {
     bytes: Vec<u8>,
     start: usize,
     piece: Vec<u8>,
+}
+
+impl Drop for Buffer {
+    fn drop(self) {
+        let Buffer {
+            bytes: _,
+            start: _,
+            piece: _,
+        } = self;
+    }
 }
 
 impl Model for Buffer {

@@ -12,13 +12,24 @@ use std::alloc::Global;
 use std::marker::Model;
 
 /// A source of given bytes.
-#[derive(Drop)]
 pub struct MemorySource {
     bytes: Vec<u8>,
     at: usize,
     fail: Vec<u64>,
     reads: u64,
     faults: u64,
+}
+
+impl Drop for MemorySource {
+    fn drop(self) {
+        let MemorySource {
+            bytes: _,
+            at: _,
+            fail: _,
+            reads: _,
+            faults: _,
+        } = self;
+    }
 }
 
 impl Model for MemorySource {
@@ -83,12 +94,22 @@ impl Source for MemorySource {
 }
 
 /// A sink that keeps what it is handed.
-#[derive(Drop)]
 pub struct MemorySink {
     bytes: Vec<u8>,
     fail: Vec<u64>,
     writes: u64,
     faults: u64,
+}
+
+impl Drop for MemorySink {
+    fn drop(self) {
+        let MemorySink {
+            bytes: _,
+            fail: _,
+            writes: _,
+            faults: _,
+        } = self;
+    }
 }
 
 impl Model for MemorySink {
@@ -156,10 +177,15 @@ impl Sink for MemorySink {
 }
 
 /// A line: a source and a sink, each beside the other.
-#[derive(Drop)]
 pub struct MemoryLine {
     source: MemorySource,
     sink: MemorySink,
+}
+
+impl Drop for MemoryLine {
+    fn drop(self) {
+        let MemoryLine { source: _, sink: _ } = self;
+    }
 }
 
 impl MemoryLine {

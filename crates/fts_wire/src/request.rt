@@ -30,10 +30,15 @@ use std::marker::Model;
 use std::str;
 
 /// The room of a connection: its buffers, and the request that was loaded last. It keeps the bytes that were read past a request.
-#[derive(Drop)]
 pub struct Room {
     buffer: Buffer,
     head: Head,
+}
+
+impl Drop for Room {
+    fn drop(self) {
+        let Room { buffer: _, head: _ } = self;
+    }
 }
 
 impl Model for Room {

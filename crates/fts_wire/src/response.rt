@@ -33,11 +33,20 @@ pub enum Allow {
 }
 
 /// What is answered: a status that has a phrase, on 405 the methods that are allowed, and a body of JSON.
-#[derive(Drop)]
 pub struct Reply {
     pub status: u16,
     pub allow: Allow,
     pub body: Items<u8>,
+}
+
+impl Drop for Reply {
+    fn drop(self) {
+        let Reply {
+            status: _,
+            allow: _,
+            body: _,
+        } = self;
+    }
 }
 
 /// Writes a response: `head_only` leaves out its body, and `close` says that the connection ends behind it.
@@ -57,11 +66,25 @@ pub fn write_response<K: Sink>(
     let body = body_bytes(reply, head_only);
     let head = response_head(reply.status, body.len(), reply.allow, close);
     if head.len() + body.len() > SHORT_BYTES && head.len() + body.len() <= ONE_PIECE_BYTES {
-        return send_all(sink, joined::<ONE_PIECE_BYTES>(&head, body).as_slice());
+        return send_joined(sink, &head, body);
     }
     let first = body.len().min(SHORT_BYTES - head.len());
     let piece = joined::<SHORT_BYTES>(&head, &body[..first]);
     send_parts(sink, &[piece.as_slice(), &body[first..]])
+}
+
+/// Sends a head and a body in one piece. Apart, since a call begins by clearing the room for such a piece, which a short response needs not.
+fn send_joined<K: Sink>(
+    sink: &mut K,
+    head: &ArrayString<HEAD_BYTES>,
+    body: &[u8],
+) -> Result<(), SinkFailed>
+    requires fits { length head.now.bytes + length body.now ≤ 65536 }
+    ensures sent { Sends (K.held sink.old) (K.held sink.new) (head.now.bytes ++ body.now) result }
+    ensures cause { CountsFaults (K.faults sink.old) (K.faults sink.new) result }
+    ensures beside { K.beside sink.new ≡ K.beside sink.old }
+{
+    send_all(sink, joined::<ONE_PIECE_BYTES>(head, body).as_slice())
 }
 
 /// The body that is sent.

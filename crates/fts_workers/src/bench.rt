@@ -19,11 +19,20 @@ use std::alloc::Global;
 use std::marker::Model;
 
 /// The files that one thread holds, in order of their claims, and the room of their copies.
-#[derive(Drop)]
 pub struct Bench {
     room: CopyRoom,
     held: Vec<Held>,
     places: u32,
+}
+
+impl Drop for Bench {
+    fn drop(self) {
+        let Bench {
+            room: _,
+            held: _,
+            places: _,
+        } = self;
+    }
 }
 
 impl Model for Bench {

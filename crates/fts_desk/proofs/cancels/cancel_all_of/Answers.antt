@@ -1,7 +1,10 @@
 -- A turn of the loop that cancels a job's rows, and what it leaves.
-use Rattle.std.proofs.Common.{List, refl, ap, ◌∙◌}
+use Rattle.std.proofs.Common.{List, refl, ap, sym, ◌∙◌, subst}
 use Rattle.std.specs.Prelude.{slice_get}
+use Rattle.fts_tables.specs.Tables.{AreNumberedFrom}
 use Rattle.fts_tables.specs.declared.rows.FileRow.{FileRow}
+use Rattle.fts_desk.specs.Cancels.{cancelled_of}
+use Rattle.fts_desk.proofs.CancelledParts.{id_cancelled_of, numbered-change}
 use Rattle.fts_desk.proofs.CancelledRows.{cancelled_before, cancelled_turn_done, cancelled_turn_rest, cancelled_all}
 use Rattle.fts_desk.proofs.cancels.cancel_all_of.Goals as goal
 
@@ -9,7 +12,9 @@ pub loop-place-init : goal.loop-place-init
 loop-place-init c = record {
   done = cancelled_before c.args.rows.now c.args.job.now c.requires.numbered c.requires.together;
   rest = λ at behind. refl;
-  loaded = c.requires.loaded;
+  numbered = c.requires.numbered;
+  beside = c.requires.beside;
+  limits = refl;
 }
 
 pub loop-place-preserved : goal.loop-place-preserved
@@ -22,7 +27,10 @@ loop-place-preserved c =
           ∙ cancelled_turn_done rows c.loop-place.rows number place c.loop-place.invariant.done c.loop-place.invariant.rest at before;
       rest = λ at behind. ap (λ (after : List FileRow). slice_get after at) c.cancel_if_of.ensures.rows
           ∙ cancelled_turn_rest rows c.loop-place.rows number place c.loop-place.invariant.rest at behind;
-      loaded = c.cancel_if_of.ensures.loaded;
+      numbered = subst (λ (rows : List FileRow). AreNumberedFrom (λ row. row.id) 1 rows) (sym c.cancel_if_of.ensures.rows)
+          (numbered-change 1 c.loop-place.rows place (cancelled_of number) (id_cancelled_of number) c.loop-place.invariant.numbered);
+      beside = c.cancel_if_of.ensures.beside;
+      limits = c.cancel_if_of.ensures.limits ∙ c.loop-place.invariant.limits;
     }
 
 pub returns-clause-rows : goal.returns-clause-rows

@@ -11,7 +11,7 @@ use Rattle.fts_tables.specs.declared.rows.FileRow.{FileRow}
 use Rattle.fts_tables.specs.declared.rows.JobRow.{JobRow}
 use Rattle.fts_tables.specs.declared.commands.Answer.TheVariants.{Cancelled}
 use Rattle.fts_desk.specs.Kept.{tables_kept}
-use Rattle.fts_desk.specs.Loaded.{AreLoadsOf}
+use Rattle.fts_desk.specs.Parts.{IsBeside}
 use Rattle.fts_desk.specs.Cancels.{after_file, IsInside}
 use Rattle.fts_desk.specs.Standing.{StandTogether}
 use Rattle.fts_desk.proofs.Found.{on_option, file_found, file_cancelled, rows_done}
@@ -61,9 +61,9 @@ returns c =
           (with_items c.args.kept.now.rows c.cancel_by_kind.new.rows).items (sym c.max-kept.ensures) rows;
     }
 
-pub invariant_of-kept : goal.invariant_of-kept
-invariant_of-kept c = record {
-  ids_of_jobs = c.args.kept.now.ids_of_jobs;
-  loads_of_rows = subst (λ (rows : List FileRow). AreLoadsOf rows c.cancel_by_kind.new.loads)
-      (sym (with_items_is c.args.kept.now.rows c.cancel_by_kind.new.rows (c.cancel_by_kind.auto.rows ∙ c.deref_mut.ensures.len))) c.cancel_by_kind.ensures.loaded;
-}
+pub invariant_of-kept-clause-beside_rows : goal.invariant_of-kept-clause-beside_rows
+invariant_of-kept-clause-beside_rows c =
+    subst (λ (rows : List FileRow). IsBeside c.args.kept.now.jobs.items rows c.cancel_by_kind.new.beside)
+    (sym (with_items_is c.args.kept.now.rows c.cancel_by_kind.new.rows (c.cancel_by_kind.auto.rows ∙ c.deref_mut.ensures.len)))
+    (subst (λ (jobs : List JobRow). IsBeside jobs c.cancel_by_kind.new.rows c.cancel_by_kind.new.beside) c.deref-in-Some.ensures.value
+    c.cancel_by_kind.ensures.beside)

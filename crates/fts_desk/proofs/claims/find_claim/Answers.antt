@@ -1,52 +1,61 @@
--- The row that was found is the one that the machine picks, and stands at the place before its id. Without settings none is picked.
-use Rattle.std.proofs.Common.{Some, None, sym, ◌∙◌}
+-- The file that was found is that of the row that the machine picks, and stands at the place before its id.
+use Rattle.std.proofs.Common.{ℕ, ◌-◌, length, Some, None, ap, sym, ◌∙◌, arith}
 use Rattle.std.specs.Prelude.{max}
-use Rattle.std.proofs.lemmas.Option.{slice_get_within}
+use Rattle.std.proofs.lemmas.Option.{same_Some, slice_get_within, slice_get-get_or}
+use Rattle.fts_tables.specs.declared.places.Place.{Place}
+use Rattle.fts_tables.specs.declared.rows.FileRow.{FileRow}
 use Rattle.fts_desk.specs.Kept.{tables_kept}
-use Rattle.fts_desk.proofs.Claiming.{picked_of_lists, accepted, idle_after, no_pick}
+use Rattle.fts_desk.proofs.Claiming.{accepted, idle_after}
+use Rattle.fts_desk.proofs.ClaimedParts.{file_of, no_file, found_at}
 use Rattle.fts_desk.proofs.claims.find_claim.Goals as goal
 
-pub overflow_sub-result : goal.overflow_sub-result
-overflow_sub-result c =
+pub overflow_sub-place : goal.overflow_sub-place
+overflow_sub-place c =
     let tables = tables_kept c.args.kept.now in
     let now = max c.args.now tables.moment in
-    let row = c.in-Some-pick_row.row.now in
-    let picked = picked_of_lists tables c.deref-4.result.now c.deref-3.result.now c.in-Some.settings now c.max.result c.args.word (Some row)
-    c.deref-4.ensures.value c.deref-3.ensures.value c.in-Some.is c.max.ensures c.in-Some-pick_row.ensures.row in
-    (c.picked_rows_stand.ensures.place tables now c.args.word row c.requires.formed picked).0
+    let file = file_of tables c.deref.result.now c.deref-2.result.now now c.max-moment.result c.args.word (Some c.in-Some.file) c.deref.ensures.value
+    c.deref-2.ensures.value c.max-moment.ensures (c.find_file-found.ensures.file ∙ c.in-Some.is) in
+    let found = found_at tables now c.args.word c.in-Some.file (λ row picked. c.picked_rows_stand.ensures.place tables now c.args.word row c.requires.formed picked) file in
+    found.first
 
-pub returns-in-Some-pick_row-clause-answer : goal.returns-in-Some-pick_row-clause-answer
-returns-in-Some-pick_row-clause-answer c =
+pub index-requires : goal.index-requires
+index-requires c =
     let tables = tables_kept c.args.kept.now in
     let now = max c.args.now tables.moment in
-    let row = c.in-Some-pick_row.row.now in
-    accepted tables now c.args.word _ row
-    (picked_of_lists tables c.deref-4.result.now c.deref-3.result.now c.in-Some.settings now c.max.result c.args.word (Some row)
-    c.deref-4.ensures.value c.deref-3.ensures.value c.in-Some.is c.max.ensures c.in-Some-pick_row.ensures.row)
+    let file = file_of tables c.deref.result.now c.deref-2.result.now now c.max-moment.result c.args.word (Some c.in-Some.file) c.deref.ensures.value
+    c.deref-2.ensures.value c.max-moment.ensures (c.find_file-found.ensures.file ∙ c.in-Some.is) in
+    let found = found_at tables now c.args.word c.in-Some.file (λ row picked. c.picked_rows_stand.ensures.place tables now c.args.word row c.requires.formed picked) file in
+    omega (arith, slice_get_within tables.rows (c.in-Some.file - 1) found.row found.there, ap length c.deref-2.ensures.value, c.deref-2.ensures.len)
 
-pub returns-in-Some-pick_row-clause-picked : goal.returns-in-Some-pick_row-clause-picked
-returns-in-Some-pick_row-clause-picked c =
+pub returns-in-None-clause-answer : goal.returns-in-None-clause-answer
+returns-in-None-clause-answer c =
     let tables = tables_kept c.args.kept.now in
     let now = max c.args.now tables.moment in
-    let row = c.in-Some-pick_row.row.now in
-    let picked = picked_of_lists tables c.deref-4.result.now c.deref-3.result.now c.in-Some.settings now c.max.result c.args.word (Some row)
-    c.deref-4.ensures.value c.deref-3.ensures.value c.in-Some.is c.max.ensures c.in-Some-pick_row.ensures.row in
-    let there = (c.picked_rows_stand.ensures.place tables now c.args.word row c.requires.formed picked).1 in
-    (slice_get_within tables.rows _ row there, picked ∙ sym there)
+    let none = file_of tables c.deref.result.now c.deref-2.result.now now c.max-moment.result c.args.word None c.deref.ensures.value
+    c.deref-2.ensures.value c.max-moment.ensures (c.find_file-found.ensures.file ∙ c.in-None.is) in
+    idle_after (ℕ × Place) tables now _ (no_file _ none)
 
-pub returns-clause-answer : goal.returns-clause-answer
-returns-clause-answer c =
+pub returns-in-Ok-clause-answer : goal.returns-in-Ok-clause-answer
+returns-in-Ok-clause-answer c =
     let tables = tables_kept c.args.kept.now in
     let now = max c.args.now tables.moment in
-    idle_after tables now _
-    (picked_of_lists tables c.deref-4.result.now c.deref-3.result.now c.in-Some.settings now c.max.result c.args.word None
-    c.deref-4.ensures.value c.deref-3.ensures.value c.in-Some.is c.max.ensures c.in-None-pick_row.ensures.row)
+    let file = file_of tables c.deref.result.now c.deref-2.result.now now c.max-moment.result c.args.word (Some c.in-Some.file) c.deref.ensures.value
+    c.deref-2.ensures.value c.max-moment.ensures (c.find_file-found.ensures.file ∙ c.in-Some.is) in
+    let found = found_at tables now c.args.word c.in-Some.file (λ row picked. c.picked_rows_stand.ensures.place tables now c.args.word row c.requires.formed picked) file in
+    accepted {T = ℕ × Place} tables now c.args.word (c.in-Some.file - 1, c.in-Ok.dest) found.row found.picked
 
-pub returns-in-None : goal.returns-in-None
-returns-in-None c =
+pub returns-in-Ok-clause-picked : goal.returns-in-Ok-clause-picked
+returns-in-Ok-clause-picked c =
     let tables = tables_kept c.args.kept.now in
     let now = max c.args.now tables.moment in
-    record {
-      answer = idle_after tables now _ (no_pick tables now c.args.word c.in-None.is);
-      picked = tt;
-    }
+    let file = file_of tables c.deref.result.now c.deref-2.result.now now c.max-moment.result c.args.word (Some c.in-Some.file) c.deref.ensures.value
+    c.deref-2.ensures.value c.max-moment.ensures (c.find_file-found.ensures.file ∙ c.in-Some.is) in
+    let found = found_at tables now c.args.word c.in-Some.file (λ row picked. c.picked_rows_stand.ensures.place tables now c.args.word row c.requires.formed picked) file in
+    (slice_get_within tables.rows (c.in-Some.file - 1) found.row found.there, found.picked ∙ sym found.there)
+
+pub returns-in-Ok-clause-dest : goal.returns-in-Ok-clause-dest
+returns-in-Ok-clause-dest c = λ row at.
+    let rows = c.args.kept.now.rows.items in
+    let inside = slice_get_within rows (c.in-Some.file - 1) row at in
+    let same = same_Some row c.index.result.now (sym at ∙ (slice_get-get_or rows (c.in-Some.file - 1) _ inside ∙ ap (λ row. Some row) (sym c.index.ensures))) in
+    ap (λ (row : FileRow). row.dest) same ∙ c.in-Ok.ensures.dest

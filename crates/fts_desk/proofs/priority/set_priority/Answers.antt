@@ -2,12 +2,17 @@ use Rattle.std.proofs.Common.{◌≤◌, List, length, map, ap, sym, ◌∙◌, 
 use Rattle.std.specs.Prelude.{max}
 use Rattle.std.specs.Vec.{with_items}
 use Rattle.std.proofs.lemmas.List.{with_items_is}
+use Rattle.fts_tables.specs.Tables.{job_at}
 use Rattle.fts_tables.specs.declared.commands.Answer.TheVariants.{PrioritySet}
+use Rattle.fts_tables.specs.declared.rows.FileRow.{FileRow}
 use Rattle.fts_tables.specs.declared.rows.JobRow.{JobRow}
 use Rattle.fts_desk.specs.Kept.{tables_kept}
-use Rattle.fts_desk.specs.Standing.{prioritized}
+use Rattle.fts_desk.specs.Parts.{AreTiedParts}
+use Rattle.fts_desk.specs.Standing.{prioritized, StandTogether}
 use Rattle.fts_desk.proofs.JobIds.{ids-prioritized}
 use Rattle.fts_desk.proofs.Found.{priority_set, jobs_done, job_inside}
+use Rattle.fts_desk.proofs.Numbered.{number_at}
+use Rattle.fts_desk.proofs.Reported.{found_there}
 use Rattle.fts_desk.proofs.priority.set_priority.Goals as goal
 
 pub returns : goal.returns
@@ -31,13 +36,40 @@ pub prioritize-requires-clause-last : goal.prioritize-requires-clause-last
 prioritize-requires-clause-last c = subst (λ (jobs : List JobRow). c.args.job ≤ length jobs) (sym c.deref_mut.ensures.value)
     (job_inside (tables_kept c.args.kept.now) (max c.args.now c.args.kept.now.moment) c.args.job c.args.priority c.requires.formed.jobs c.requires.accepted).1
 
+pub prioritize_waiting-requires-clause-job : goal.prioritize_waiting-requires-clause-job
+prioritize_waiting-requires-clause-job c =
+    let job = c.index.result.now in
+    let found = found_there (λ (jobs : List JobRow). job_at jobs c.args.job) c.deref.result.now c.args.kept.now.jobs.items c.in-Some.place job
+    c.deref.ensures.value c.in-Some.ensures.job c.in-Some.ensures.inside.0 c.index.ensures in
+    ap (λ (jobs : List JobRow). job_at jobs job.number) c.deref-in-Some.ensures.value
+    ∙ ap (job_at c.args.kept.now.jobs.items) (number_at c.args.kept.now.jobs.items c.args.job job found) ∙ found
+
+pub prioritize_waiting-requires-clause-together : goal.prioritize_waiting-requires-clause-together
+prioritize_waiting-requires-clause-together c =
+    let job = c.index.result.now in
+    let found = found_there (λ (jobs : List JobRow). job_at jobs c.args.job) c.deref.result.now c.args.kept.now.jobs.items c.in-Some.place job
+    c.deref.ensures.value c.in-Some.ensures.job c.in-Some.ensures.inside.0 c.index.ensures in
+    subst (λ (rows : List FileRow). StandTogether rows job) (sym c.deref-in-Some-2.ensures.value)
+    (c.rows_stand_together.ensures.together (tables_kept c.args.kept.now) c.args.job job c.requires.formed found)
+
 pub invariant_of-kept : goal.invariant_of-kept
 invariant_of-kept c =
     let jobs = c.args.kept.now.jobs.items in
+    let job = c.index.result.now in
+    let found = found_there (λ (jobs : List JobRow). job_at jobs c.args.job) c.deref.result.now c.args.kept.now.jobs.items c.in-Some.place job
+    c.deref.ensures.value c.in-Some.ensures.job c.in-Some.ensures.inside.0 c.index.ensures in
     let change = prioritized c.args.job c.args.priority in
+    let changed = ap (map change) (sym c.deref_mut.ensures.value) ∙ sym c.prioritize.ensures.jobs
+    ∙ sym (with_items_is c.args.kept.now.jobs c.prioritize.new.jobs (c.prioritize.auto.jobs ∙ c.deref_mut.ensures.len)) in
     record {
-      loads_of_rows = c.args.kept.now.loads_of_rows;
-      ids_of_jobs = c.args.kept.now.ids_of_jobs ∙ sym (ids-prioritized c.args.job c.args.priority jobs)
-          ∙ ap (map (λ (job : JobRow). job.id)) (ap (map change) (sym c.deref_mut.ensures.value) ∙ sym c.prioritize.ensures.jobs
-          ∙ sym (with_items_is c.args.kept.now.jobs c.prioritize.new.jobs (c.prioritize.auto.jobs ∙ c.deref_mut.ensures.len)));
+      beside_rows = record {
+        loads = c.args.kept.now.beside_rows.loads;
+        parts = subst (λ (jobs : List JobRow). AreTiedParts jobs c.args.kept.now.rows.items c.prioritize_waiting.new.parts)
+            (ap (map (prioritized job.number c.args.priority)) c.deref-in-Some.ensures.value
+            ∙ ap (λ number. map (prioritized number c.args.priority) jobs) (number_at jobs c.args.job job found) ∙ changed)
+            (subst (λ (rows : List FileRow). AreTiedParts (map (prioritized job.number c.args.priority) c.deref-in-Some.result.now) rows
+            c.prioritize_waiting.new.parts) c.deref-in-Some-2.ensures.value c.prioritize_waiting.ensures.tied);
+      };
+      of_settings = c.prioritize_waiting.ensures.limits ∙ c.args.kept.now.of_settings;
+      ids_of_jobs = c.args.kept.now.ids_of_jobs ∙ sym (ids-prioritized c.args.job c.args.priority jobs) ∙ ap (map (λ (job : JobRow). job.id)) changed;
     }

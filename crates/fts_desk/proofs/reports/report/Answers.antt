@@ -1,5 +1,5 @@
 -- The row and its job are there, and what `report_at` leaves is the machine's step.
-use Rattle.std.proofs.Common.{◌≡◌, ◌<◌, List, length, Some, refl, ap, sym, ◌∙◌, subst, arith}
+use Rattle.std.proofs.Common.{◌≡◌, ◌-◌, ◌<◌, List, length, Some, refl, ap, sym, ◌∙◌, subst, arith}
 use Rattle.std.specs.Prelude.{max, slice_get}
 use Rattle.std.specs.Vec.{with_items}
 use Rattle.std.proofs.lemmas.List.{with_items_is}
@@ -11,6 +11,7 @@ use Rattle.fts_tables.specs.History.{IsAccepted}
 use Rattle.fts_tables.specs.declared.rows.FileRow.{FileRow}
 use Rattle.fts_tables.specs.declared.rows.JobRow.{JobRow}
 use Rattle.fts_desk.specs.Kept.{tables_kept}
+use Rattle.fts_desk.specs.Parts.{HasRoomToReport}
 use Rattle.fts_desk.specs.Standing.{StandTogether}
 use Rattle.fts_desk.proofs.ChangedRows.{number_at_place}
 use Rattle.fts_desk.proofs.Hops.{stands_inside}
@@ -45,6 +46,22 @@ report_at-requires-clause-owned c =
     (slice_get_read jobs (length jobs) number job refl among c.index-in-Some-job_place.ensures) in
     let owner : row.job ≡ job.number = omega (arith, numbered, c.in-Some-job_place.ensures.inside.1) in
     stands_inside rows job place row c.requires.formed.rows stand at owner
+
+pub report_at-requires-clause-room : goal.report_at-requires-clause-room
+report_at-requires-clause-room c =
+    let rows = c.args.kept.now.rows.items in
+    let parts = c.args.kept.now.beside.parts in
+    let row = c.index.result.now in
+    let job = c.index-in-Some-job_place.result.now in
+    let found = found_there (λ (some : List FileRow). row_at some c.args.file) c.deref.result.now rows c.in-Some.place row c.deref.ensures.value
+    c.in-Some.ensures.row
+    c.in-Some.ensures.inside.0 c.index.ensures in
+    let of_job = found_there (λ (jobs : List JobRow). job_at jobs row.job) c.deref-in-Some.result.now c.args.kept.now.jobs.items c.in-Some-job_place.number job
+    c.deref-in-Some.ensures.value
+    c.in-Some-job_place.ensures.job c.in-Some-job_place.ensures.inside.0 c.index-in-Some-job_place.ensures in
+    let place : c.args.file - 1 ≡ c.in-Some.place = omega (arith, c.in-Some.ensures.inside.1) in
+    subst (λ (some : List FileRow). HasRoomToReport job c.in-Some.place some parts) (sym c.deref_mut.ensures.value)
+    (subst (λ at. HasRoomToReport job at rows parts) place (c.requires.room row job found of_job))
 
 pub unreachable-requires : goal.unreachable-requires
 unreachable-requires c =

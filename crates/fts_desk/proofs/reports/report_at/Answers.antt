@@ -12,6 +12,7 @@ use Rattle.fts_desk.proofs.ChangedRows.{change_row-set, id_at}
 use Rattle.fts_desk.proofs.KeptFiles.{reported_file, one_file, numbered-map, together-map}
 use Rattle.fts_desk.proofs.Loaded.{site_may, site_done}
 use Rattle.fts_desk.proofs.RowLinks.{link_reported}
+use Rattle.fts_desk.proofs.RowsBeside.{room_fewer, reported_idle, room_to_follow, site_stood, site_file, site_numbered, site_idle, site_room}
 use Rattle.fts_desk.proofs.reports.report_at.Goals as goal
 
 pub follow-requires-clause-numbered : goal.follow-requires-clause-numbered
@@ -58,19 +59,60 @@ returns-clause-answer c = λ row at.
     ap (λ (other : FileRow). Reported other.id c.report_row-after.result.state) here
     ∙ ap (Reported row.id) (c.report_row-after.ensures.state ∙ ap (λ (other : FileRow). other.state) (c.report_row-after.ensures.row ∙ ap change there))
 
+pub wait-requires-clause-rows_numbered : goal.wait-requires-clause-rows_numbered
+wait-requires-clause-rows_numbered c =
+    let job = c.args.job.now in
+    site_numbered c.args.rows.now c.args.place (reported job c.args.now c.args.outcome.now) (reported_file job c.args.now c.args.outcome.now)
+    c.index-rows-place-3.result c.report_row-after.new.row c.requires.inside c.report_row-after.ensures.row c.requires.numbered
+
+pub wait-requires-clause-idle : goal.wait-requires-clause-idle
+wait-requires-clause-idle c = λ row at.
+    let job = c.args.job.now in
+    site_idle c.args.rows.now c.args.place (reported job c.args.now c.args.outcome.now) (reported_file job c.args.now c.args.outcome.now)
+    c.index-rows-place-3.result c.report_row-after.new.row c.requires.inside c.report_row-after.ensures.row
+    (reported_idle job c.args.now c.args.outcome.now (get_or c.args.rows.now c.args.place c.index-rows-place-3.result)) row at
+
+pub wait-requires-clause-room : goal.wait-requires-clause-room
+wait-requires-clause-room c = λ row at.
+    let rows = c.args.rows.now in
+    let place = c.args.place in
+    let job = c.args.job.now in
+    let before = get_or rows place c.index-rows-place-3.result in
+    let stood = site_stood rows place (reported job c.args.now c.args.outcome.now) (reported_file job c.args.now c.args.outcome.now)
+    c.index-rows-place-3.result c.report_row-after.new.row c.requires.inside c.report_row-after.ensures.row in
+    site_room rows place (reported job c.args.now c.args.outcome.now) (reported_file job c.args.now c.args.outcome.now)
+    c.index-rows-place-3.result c.report_row-after.new.row c.requires.inside c.report_row-after.ensures.row c.args.beside.now.parts c.leave.new.parts
+    c.leave.ensures.same (room_fewer 1 2 before c.args.beside.now.parts (omega arith) (c.requires.room.own before stood)) row at
+
 pub recount-requires : goal.recount-requires
 recount-requires c =
     let change = reported c.args.job.now c.args.now c.args.outcome.now in
     record {
       may = site_may c.args.rows.now c.args.place change (link_reported c.args.job.now c.args.now c.args.outcome.now) c.index-rows-place-2.result
           c.index-rows-place-3.result c.report_row-after.new.row c.is_live-was_live.result c.requires.inside c.is_live-was_live.ensures
-          c.report_row-after.ensures.row c.args.loads.now c.requires.loaded c.index-rows-place-4.result;
+          c.report_row-after.ensures.row c.args.beside.now.loads c.requires.beside.loads c.index-rows-place-4.result;
     }
 
-pub follow-requires-clause-loaded : goal.follow-requires-clause-loaded
-follow-requires-clause-loaded c =
+pub follow-requires-clause-beside : goal.follow-requires-clause-beside
+follow-requires-clause-beside c =
     let change = reported c.args.job.now c.args.now c.args.outcome.now in
-    site_done c.args.rows.now c.args.place change (link_reported c.args.job.now c.args.now c.args.outcome.now) c.index-rows-place-2.result
-    c.index-rows-place-3.result c.report_row-after.new.row c.is_live-was_live.result c.requires.inside c.is_live-was_live.ensures
-    c.report_row-after.ensures.row c.args.loads.now c.requires.loaded c.index-rows-place-4.result c.recount.new.loads c.recount.ensures.counts
-    c.recount.ensures.known
+    record {
+      loads = site_done c.args.rows.now c.args.place change (link_reported c.args.job.now c.args.now c.args.outcome.now) c.index-rows-place-2.result
+          c.index-rows-place-3.result c.report_row-after.new.row c.is_live-was_live.result c.requires.inside c.is_live-was_live.ensures
+          c.report_row-after.ensures.row c.args.beside.now.loads c.requires.beside.loads c.index-rows-place-4.result c.recount.new.loads
+          c.recount.ensures.counts c.recount.ensures.known;
+      parts = c.wait.ensures.tied;
+    }
+
+pub follow-requires-clause-room : goal.follow-requires-clause-room
+follow-requires-clause-room c =
+    let rows = c.args.rows.now in
+    let place = c.args.place in
+    let job = c.args.job.now in
+    let change = reported job c.args.now c.args.outcome.now in
+    let stood = site_stood rows place change (reported_file job c.args.now c.args.outcome.now) c.index-rows-place-3.result c.report_row-after.new.row
+    c.requires.inside c.report_row-after.ensures.row in
+    let same = site_file rows place change (reported_file job c.args.now c.args.outcome.now) c.index-rows-place-3.result c.report_row-after.new.row
+    c.requires.inside c.report_row-after.ensures.row in
+    room_to_follow job place rows (get_or rows place c.index-rows-place-3.result) c.report_row-after.new.row c.args.beside.now.parts c.leave.new.parts
+    c.wait.new.parts c.requires.room stood same c.leave.ensures.same c.wait.ensures.same

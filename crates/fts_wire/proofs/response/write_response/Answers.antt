@@ -9,7 +9,7 @@ returns-clause-sent g c =
     let reply = c.args.reply.now in
     let body = c.body_bytes-body.result.now in
     let first = c.min-first.result in
-    let piece = c.as_slice-2.ensures.value ∙ c.joined-piece.ensures in
+    let piece = c.as_slice.ensures.value ∙ c.joined-piece.ensures in
     let whole = ap (λ xs. xs ++ (take (length body - first) (drop first body) ++ [])) piece ∙ in_two c.response_head-head.result.bytes body first
     ∙ ap (λ head. head ++ body) c.response_head-head.ensures
     ∙ ap (λ b. head_of reply.status (length b) reply.allow c.args.close ++ b) c.body_bytes-body.ensures in

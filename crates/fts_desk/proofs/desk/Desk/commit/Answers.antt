@@ -10,7 +10,7 @@ invariant_of-self c =
     let tables = tables_kept inside.kept in
     let command = c.in-Some.command in
     let planned = sym c.take.ensures.value ∙ c.in-Some.is in
-    let ready = ready_for inside.kept inside.commands inside.place inside.planned command c.self.invariant.ready planned in
+    let ready = ready_for inside.kept inside.commands inside.decided inside.planned command c.self.invariant.ready planned in
     record {
       sound = sound_after tables (tables_kept c.make_step.new.kept) inside.commands command c.make_step.result c.self.invariant.sound ready.planned.files
           c.make_step.ensures.step

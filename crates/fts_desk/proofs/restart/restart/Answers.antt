@@ -1,0 +1,21 @@
+-- What a claim looks at is that of the rows as they were released, and of the new settings.
+use Rattle.std.proofs.Common.{Some, List, map, ap, sym, ◌∙◌, subst}
+use Rattle.std.proofs.lemmas.List.{with_items_is}
+use Rattle.fts_tables.specs.Step.{released}
+use Rattle.fts_tables.specs.declared.rows.FileRow.{FileRow}
+use Rattle.fts_claims.specs.Changes.{AreTiedTo}
+use Rattle.fts_desk.specs.Loaded.{AreLoadsOf}
+use Rattle.fts_desk.proofs.restart.restart.Goals as goal
+
+pub invariant_of-kept : goal.invariant_of-kept
+invariant_of-kept c =
+    let stay = with_items_is c.args.kept.now.rows c.release-released.new.rows (c.release-released.auto.rows ∙ c.deref_mut.ensures.len) in
+    let left = stay ∙ (c.release-released.ensures.rows ∙ ap (map released) c.deref_mut.ensures.value) in
+    record {
+      ids_of_jobs = c.args.kept.now.ids_of_jobs;
+      beside_rows = record {
+        loads = subst (λ (rows : List FileRow). AreLoadsOf rows c.release-released.new.loads) (sym stay) c.release-released.ensures.loaded;
+        parts = subst (λ (rows : List FileRow). AreTiedTo c.args.kept.now.jobs.items rows c.args.parts) (sym left) c.requires.tied;
+      };
+      of_settings = ap (λ settings. Some settings) c.requires.settings;
+    }

@@ -1,0 +1,100 @@
+-- What a claim looks at, beside the rows: there from the first Restart on, tied to the rows and jobs, with room for what a command may add.
+use Rattle.std.specs.Prelude.{◌≡◌, ◌≢◌, ℕ, ◌+◌, ◌-◌, ◌<◌, ◌≤◌, true, List, length, slice_get, Option, Some, None, option_map, IfSome}
+use Rattle.fts_tables.specs.SettingsData.{SettingsData}
+use Rattle.fts_tables.specs.Limits.{has_known_ends}
+use Rattle.fts_tables.specs.declared.rows.FileRow.{FileRow}
+use Rattle.fts_tables.specs.declared.rows.JobRow.{JobRow}
+use Rattle.fts_tables.specs.declared.rows.NewFile.{NewFile}
+use Rattle.fts_tables.specs.declared.rows.JobKind.{JobKind}
+use Rattle.fts_tables.specs.declared.rows.JobKind.TheVariants.{Plain}
+use Rattle.fts_states.specs.declared.reports.Follow.{Follow}
+use Rattle.fts_states.specs.declared.reports.Follow.TheVariants.{Nothing, NextHop, NextAlternative}
+use Rattle.fts_claims.specs.Changes.{AreTiedTo, HasQueueRoom, IsSameRoom, HaveAtMostMore, HasRoomForFiles, HasRoomForRows, HasRoomsRisen, MayWait, MayRun}
+use Rattle.fts_claims.specs.declared.parts.ClaimParts.{ClaimParts}
+use Rattle.fts_desk.specs.Loaded.{AreLoadsOf}
+use Rattle.fts_desk.specs.declared.kept.Beside.{Beside}
+
+-- the settings that the slots are of, where there are any
+abbrev pub limits_of : Option ClaimParts → Option SettingsData
+limits_of parts = option_map (λ (parts : ClaimParts). parts.slots.settings) parts
+
+-- what a claim looks at is tied to these jobs and rows
+abbrev pub AreTiedParts : List JobRow → List FileRow → Option ClaimParts → Type 0
+AreTiedParts jobs rows parts = IfSome parts (λ parts. AreTiedTo jobs rows parts)
+
+-- the loads are those of these rows, and what a claim looks at is tied to them and to the jobs
+pub record IsBeside (jobs : List JobRow) (rows : List FileRow) (beside : Beside) : Type 0 where
+  pub loads : AreLoadsOf rows beside.loads
+  pub parts : AreTiedParts jobs rows beside.parts
+
+-- the queue of a row has room for so many more, where its ends are known
+abbrev pub HasRoomToWait : ℕ → FileRow → Option ClaimParts → Type 0
+HasRoomToWait more row None = Unit {0}
+HasRoomToWait more row (Some parts) = has_known_ends (Some parts.slots.settings) row ≡ true → HasQueueRoom parts.slots.settings more row parts.waiting
+
+-- a row may come in that doesn't run: there is room, where it waits and its ends are known
+abbrev pub MayWaitIn : FileRow → Option ClaimParts → Type 0
+MayWaitIn row None = Unit {0}
+MayWaitIn row (Some parts) = MayWait row parts
+
+-- limits and rooms stay, and no queue has more than so many files more
+abbrev pub HaveSameRooms : ℕ → Option ClaimParts → Option ClaimParts → Type 0
+HaveSameRooms more None None = Unit {0}
+HaveSameRooms more None (Some new) = ⊥
+HaveSameRooms more (Some old) None = ⊥
+HaveSameRooms more (Some old) (Some new) = IsSameRoom old new × HaveAtMostMore more old.waiting new.waiting
+
+-- slots and busy destinations stay too
+abbrev pub HaveSameSlots : Option ClaimParts → Option ClaimParts → Type 0
+HaveSameSlots None None = Unit {0}
+HaveSameSlots None (Some new) = ⊥
+HaveSameSlots (Some old) None = ⊥
+HaveSameSlots (Some old) (Some new) = (new.slots ≡ old.slots) × (new.busy ≡ old.busy)
+
+-- rooms may have risen, and all else stays
+abbrev pub HaveRisenRooms : Option ClaimParts → Option ClaimParts → Type 0
+HaveRisenRooms None None = Unit {0}
+HaveRisenRooms None (Some new) = ⊥
+HaveRisenRooms (Some old) None = ⊥
+HaveRisenRooms (Some old) (Some new) = HasRoomsRisen old new
+
+-- a row may run
+abbrev pub MayRunIn : FileRow → Option ClaimParts → Type 0
+MayRunIn row None = Unit {0}
+MayRunIn row (Some parts) = MayRun row parts
+
+-- there is room for the destination of one row more that runs
+abbrev pub HasRoomToRun : Option ClaimParts → Type 0
+HasRoomToRun None = Unit {0}
+HasRoomToRun (Some parts) = length parts.busy.places < parts.busy.room
+
+-- each queue has room for these files
+abbrev pub HaveRoomForFiles : List NewFile → Option ClaimParts → Type 0
+HaveRoomForFiles files None = Unit {0}
+HaveRoomForFiles files (Some parts) = HasRoomForFiles files parts
+
+-- each queue has room for the files of these rows
+abbrev pub HaveRoomForRows : List FileRow → Option ClaimParts → Type 0
+HaveRoomForRows rows None = Unit {0}
+HaveRoomForRows rows (Some parts) = HasRoomForRows rows parts
+
+-- each row of a job may come among the files that wait
+abbrev pub HaveRoomToWait : JobRow → List FileRow → Option ClaimParts → Type 0
+HaveRoomToWait job rows parts = (place : ℕ) (row : FileRow) → job.first - 1 ≤ place → place < job.first - 1 + job.count
+    → slice_get rows place ≡ Some row → HasRoomToWait 1 row parts
+
+-- the same of what may follow a report: of a plain job nothing does
+abbrev pub HasRoomToFollow : JobRow → List FileRow → Option ClaimParts → Type 0
+HasRoomToFollow job rows parts = job.kind ≢ Plain → HaveRoomToWait job rows parts
+
+-- what may follow a report, by the kind of the job
+abbrev pub IsFollowOf : JobKind → Follow → Type 0
+IsFollowOf kind Nothing = Unit {0}
+IsFollowOf kind NextHop = kind ≢ Plain
+IsFollowOf kind NextAlternative = kind ≢ Plain
+
+-- after a report of the row at a place of a job that row may wait again, or another of its job where that isn't a plain one
+pub record HasRoomToReport (job : JobRow) (place : ℕ) (rows : List FileRow) (parts : Option ClaimParts) : Type 0 where
+  pub own : (row : FileRow) → slice_get rows place ≡ Some row → HasRoomToWait 2 row parts
+  pub others : job.kind ≢ Plain → (other : ℕ) (row : FileRow) → job.first - 1 ≤ other → other < job.first - 1 + job.count
+      → slice_get rows other ≡ Some row → HasRoomToWait 2 row parts

@@ -1,0 +1,122 @@
+//! What a claim looks at, beside the rows, from the first Restart on: before there is none, each of these does nothing.
+//! Order: a row is left before it changes, and comes in again behind its change, by `wait` or by `start`. Room is made as a command is prepared.
+ghost use Rattle.std.specs.Prelude.{◌≡◌, ◌<◌, ◌≤◌, Some, true, false, length, slice_get, take, drop, OnOk};
+ghost use Rattle.std.specs.List.{AllByRecursion};
+ghost use Rattle.fts_tables.specs.Tables.{AreNumberedFrom, is_active};
+ghost use Rattle.fts_tables.specs.declared.rows.FileRow.{FileRow};
+ghost use Rattle.fts_claims.specs.Changes.{all_but};
+ghost use Rattle.fts_desk.specs.Parts.{
+  limits_of,
+  AreTiedParts,
+  HasRoomToWait,
+  MayWaitIn,
+  HaveSameRooms,
+  HaveSameSlots,
+  HaveRisenRooms,
+  MayRunIn,
+  HasRoomToRun,
+  HaveRoomForFiles,
+  HaveRoomForRows,
+};
+
+use fts_claims::ClaimParts;
+use fts_tables::{FileRow, JobRow, Memory, NewFile, Place};
+
+/// Takes out the part of the row at a place.
+pub fn leave(parts: &mut Option<ClaimParts>, jobs: &[JobRow], rows: &[FileRow], place: usize)
+    requires jobs_numbered { AreNumberedFrom (λ job. job.number) 1 jobs.now }
+    requires rows_numbered { AreNumberedFrom (λ row. row.id) 1 rows.now }
+    requires inside { place < length rows.now }
+    requires tied { AreTiedParts jobs.now rows.now parts.old }
+    ensures tied { AreTiedParts jobs.now (all_but place rows.now) parts.new }
+    ensures same { HaveSameRooms 0 parts.old parts.new }
+    ensures slots { (row : FileRow) → slice_get rows.now place ≡ Some row → is_active row.state ≡ false → HaveSameSlots parts.old parts.new }
+{
+    match parts {
+        Some(parts) => parts.leave(jobs, rows, place),
+        None => {}
+    }
+}
+
+/// Lets the row at a place come in that doesn't run.
+pub fn wait(parts: &mut Option<ClaimParts>, jobs: &[JobRow], rows: &[FileRow], place: usize)
+    requires jobs_numbered { AreNumberedFrom (λ job. job.number) 1 jobs.now }
+    requires rows_numbered { AreNumberedFrom (λ row. row.id) 1 rows.now }
+    requires inside { place < length rows.now }
+    requires tied { AreTiedParts jobs.now (all_but place rows.now) parts.old }
+    requires idle { (row : FileRow) → slice_get rows.now place ≡ Some row → is_active row.state ≡ false }
+    requires room { (row : FileRow) → slice_get rows.now place ≡ Some row → MayWaitIn row parts.old }
+    ensures tied { AreTiedParts jobs.now rows.now parts.new }
+    ensures same { HaveSameRooms 1 parts.old parts.new }
+{
+    match parts {
+        Some(parts) => parts.wait(jobs, rows, place),
+        None => {}
+    }
+}
+
+/// Lets the row at a place run, whose destination this is.
+pub fn start(
+    parts: &mut Option<ClaimParts>,
+    jobs: &[JobRow],
+    rows: &[FileRow],
+    place: usize,
+    dest: Place,
+)
+    requires rows_numbered { AreNumberedFrom (λ row. row.id) 1 rows.now }
+    requires inside { place < length rows.now }
+    requires tied { AreTiedParts jobs.now (all_but place rows.now) parts.old }
+    requires runs { (row : FileRow) → slice_get rows.now place ≡ Some row → is_active row.state ≡ true }
+    requires may { (row : FileRow) → slice_get rows.now place ≡ Some row → MayRunIn row parts.old }
+    requires dest { (row : FileRow) → slice_get rows.now place ≡ Some row → row.dest ≡ dest }
+    ensures tied { AreTiedParts jobs.now rows.now parts.new }
+    ensures same { HaveSameRooms 0 parts.old parts.new }
+{
+    match parts {
+        Some(parts) => parts.start(jobs, rows, place, dest),
+        None => {}
+    }
+}
+
+/// Lets the rows from a place on come in, none of which runs.
+pub fn wait_from(parts: &mut Option<ClaimParts>, jobs: &[JobRow], rows: &[FileRow], from: usize)
+    requires jobs_numbered { AreNumberedFrom (λ job. job.number) 1 jobs.now }
+    requires rows_numbered { AreNumberedFrom (λ row. row.id) 1 rows.now }
+    requires inside { from ≤ length rows.now }
+    requires tied { AreTiedParts jobs.now (take from rows.now) parts.old }
+    requires idle { AllByRecursion (λ row. is_active row.state ≡ false) (drop from rows.now) }
+    requires room { HaveRoomForRows (drop from rows.now) parts.old }
+    ensures tied { AreTiedParts jobs.now rows.now parts.new }
+    ensures limits { limits_of parts.new ≡ limits_of parts.old }
+{
+    match parts {
+        Some(parts) => parts.wait_from(jobs, rows, from),
+        None => {}
+    }
+}
+
+/// Makes room in a row's queue for so many more.
+pub fn make_room_to_wait(
+    parts: &mut Option<ClaimParts>,
+    row: &FileRow,
+    more: u32,
+) -> Result<(), Memory>
+    ensures room { OnOk result (HasRoomToWait more row.now parts.new) }
+    ensures risen { HaveRisenRooms parts.old parts.new }
+{
+    match parts {
+        Some(parts) => parts.make_room_to_wait(row, more),
+        None => Ok(()),
+    }
+}
+
+/// Makes room for the files of a submission.
+pub fn make_room_for_files(parts: &mut Option<ClaimParts>, files: &[NewFile]) -> Result<(), Memory>
+    ensures room { OnOk result (HaveRoomForFiles files.now parts.new) }
+    ensures risen { HaveRisenRooms parts.old parts.new }
+{
+    match parts {
+        Some(parts) => parts.make_room_for_files(files),
+        None => Ok(()),
+    }
+}

@@ -1,0 +1,6 @@
+use Rattle.std.proofs.Common.{arith}
+use Rattle.fts_index.proofs.Ordered.{place_fits}
+use Rattle.fts_index.proofs.job_ids.JobIds.seek.Goals as goal
+
+pub overflow_add-result : goal.overflow_add-result
+overflow_add-result c = omega (arith, place_fits c.self.inside c.self.invariant c.args.id c.in-Ok.least c.in-Ok.ensures.found)
