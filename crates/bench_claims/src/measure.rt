@@ -7,7 +7,7 @@ use fts_tables::{Answer, Command, Outcome};
 use std::alloc::Global;
 use std::time::Clock;
 
-/// How many commands of a kind are timed.
+/// How many commands of a kind are timed, but for the cancellations of many files.
 const TIMED: u32 = 500;
 
 /// Each size is timed so often, in turn with the others, and the least time counts: a processor's speed may change meanwhile.
@@ -26,17 +26,19 @@ enum Timed {
     Claims,
     /// Reports after which the file waits again.
     Retries,
-    /// Cancellations of single files.
-    Cancellations,
+    /// Cancellations of single files, in an order.
+    Cancellations(Order),
 }
 
-/// Which of the files are ripe.
-#[derive(Clone, Copy)]
-enum Ripe {
-    /// All.
-    All,
-    /// Half of those of as many jobs: the others wait for their retry.
-    Half { jobs: u32 },
+/// In which order single files are cancelled.
+#[derive(Clone, Copy, PartialEq, Eq)]
+enum Order {
+    /// Every second file, in the order of their numbers.
+    Rising,
+    /// Half of all files, anywhere.
+    Anywhere,
+    /// The first fifty files of ten jobs, in turn: few, so each meets memory that nothing has touched since the desk was filled.
+    FirstFew,
 }
 
 /// Claims a file.
@@ -125,14 +127,33 @@ fn retries<R: Clock>(rt: &R, desk: &mut Desk) -> Result<f64> {
     Ok(seconds)
 }
 
-/// How many seconds the cancellations of files take, of the first ten jobs in turn.
-fn cancellations<R: Clock>(rt: &R, desk: &mut Desk) -> Result<f64> {
+/// How many files are cancelled of so many jobs.
+fn cancelled(jobs: u32, order: Order) -> u32 {
+    match order {
+        Order::Rising | Order::Anywhere => jobs.min(MOST_JOBS) * FILES / 2,
+        Order::FirstFew => TIMED,
+    }
+}
+
+/// The place of the file, from 0, that is cancelled in a turn.
+fn place_of_turn(jobs: u32, order: Order, turn: u32) -> u32 {
+    let files = jobs.clamp(1, MOST_JOBS) * FILES;
+    match order {
+        Order::Rising => (u64::from(turn) * 2 % u64::from(files)) as u32,
+        Order::Anywhere => (u64::from(turn) * 7919 % u64::from(files)) as u32,
+        Order::FirstFew => turn % 10 * FILES + turn / 10 % FILES,
+    }
+}
+
+/// How many seconds cancellations of files take, of so many jobs.
+fn cancellations<R: Clock>(rt: &R, desk: &mut Desk, jobs: u32, order: Order) -> Result<f64> {
     let mut seconds = 0.0;
-    for turn in 0..TIMED {
+    for turn in 0..cancelled(jobs, order) {
+        let place = place_of_turn(jobs, order, turn);
         let command = Command::CancelFile {
             now: MOMENT,
-            job: turn % 10 + 1,
-            file: turn % 10 * FILES + turn / 10 + 1,
+            job: place / FILES + 1,
+            file: place.saturating_add(1),
         };
         let begun = rt.monotonic()?.as_secs_f64();
         apply(desk, &command)?;
@@ -141,81 +162,84 @@ fn cancellations<R: Clock>(rt: &R, desk: &mut Desk) -> Result<f64> {
     Ok(seconds)
 }
 
-/// How many seconds the commands of a kind take on a desk.
-fn seconds<R: Clock>(rt: &R, alloc: Global, desk: &mut Desk, timed: Timed) -> Result<f64> {
+/// One measurement: commands of a kind while as many jobs wait, all ripe or half of them.
+#[derive(Clone, Copy)]
+struct Measured {
+    timed: Timed,
+    layout: Layout,
+    half: bool,
+}
+
+/// How many commands are timed while as many jobs wait.
+fn timed_commands(timed: Timed, jobs: u32) -> u32 {
     match timed {
-        Timed::Claims => claims(rt, alloc, desk),
-        Timed::Retries => retries(rt, desk),
-        Timed::Cancellations => cancellations(rt, desk),
+        Timed::Claims | Timed::Retries => TIMED,
+        Timed::Cancellations(order) => cancelled(jobs, order),
     }
 }
 
-/// The same on a desk on which as many jobs wait, all ripe or half of them.
-fn seconds_among<R: Clock>(
+/// How many seconds the commands take on a desk on which as many jobs wait.
+fn seconds<R: Clock>(
     rt: &R,
     alloc: Global,
     desk: &mut Desk,
-    timed: Timed,
-    ripe: Ripe,
+    measured: Measured,
+    jobs: u32,
 ) -> Result<f64> {
-    if let Ripe::Half { jobs } = ripe {
+    if measured.half {
         unripen_half(desk, jobs)?;
     }
-    seconds(rt, alloc, desk, timed)
+    match measured.timed {
+        Timed::Claims => claims(rt, alloc, desk),
+        Timed::Retries => retries(rt, desk),
+        Timed::Cancellations(order) => cancellations(rt, desk, jobs, order),
+    }
 }
 
-/// How many microseconds one command takes while as many jobs wait, all ripe or half of them.
-fn microseconds<R: Clock>(
-    rt: &R,
-    alloc: Global,
-    timed: Timed,
-    jobs: u32,
-    layout: Layout,
-    half: bool,
-) -> Result<f64> {
-    let ripe = if half { Ripe::Half { jobs } } else { Ripe::All };
-    let mut desk = filled_desk(alloc, jobs, layout)?;
-    match seconds_among(rt, alloc, &mut desk, timed, ripe) {
-        Ok(seconds) => Ok(seconds * 1_000_000.0 / f64::from(TIMED)),
+/// How many microseconds one command takes while as many jobs wait.
+fn microseconds<R: Clock>(rt: &R, alloc: Global, measured: Measured, jobs: u32) -> Result<f64> {
+    let mut desk = filled_desk(alloc, jobs, measured.layout)?;
+    let commands = timed_commands(measured.timed, jobs);
+    match seconds(rt, alloc, &mut desk, measured, jobs) {
+        Ok(seconds) => Ok(seconds * 1_000_000.0 / f64::from(commands)),
         Err(error) => Err(error),
     }
 }
 
 /// The least microseconds that one command takes at each number of waiting files.
-fn least_microseconds<R: Clock>(
-    rt: &R,
-    alloc: Global,
-    timed: Timed,
-    layout: Layout,
-    half: bool,
-) -> Result<[f64; 3]> {
+fn least_microseconds<R: Clock>(rt: &R, alloc: Global, measured: Measured) -> Result<[f64; 3]> {
     let mut least = [f64::INFINITY; 3];
     for _ in 0..ROUNDS {
         least = [
-            least[0].min(microseconds(rt, alloc, timed, JOBS[0], layout, half)?),
-            least[1].min(microseconds(rt, alloc, timed, JOBS[1], layout, half)?),
-            least[2].min(microseconds(rt, alloc, timed, JOBS[2], layout, half)?),
+            least[0].min(microseconds(rt, alloc, measured, JOBS[0])?),
+            least[1].min(microseconds(rt, alloc, measured, JOBS[1])?),
+            least[2].min(microseconds(rt, alloc, measured, JOBS[2])?),
         ];
     }
     Ok(least)
 }
 
-/// Prints how long one command takes at each number of waiting files, and what a hundred times the files cost.
-fn print_times<R: Clock + Print>(
-    rt: &R,
-    alloc: Global,
-    timed: Timed,
-    layout: Layout,
-    half: bool,
-) -> Result<()> {
-    let [few, more, most] = least_microseconds(rt, alloc, timed, layout, half)?;
-    let what = match timed {
+/// What is measured, in words.
+fn name_of(timed: Timed) -> &'static str {
+    match timed {
         Timed::Claims => "claim",
         Timed::Retries => "report with a retry",
-        Timed::Cancellations => "cancellation of a file",
+        Timed::Cancellations(Order::Rising) => "cancellation, every second file in turn",
+        Timed::Cancellations(Order::Anywhere) => "cancellation, half of the files anywhere",
+        Timed::Cancellations(Order::FirstFew) => "cancellation, the first 500",
+    }
+}
+
+/// Prints how long one command takes at each number of waiting files, and what a hundred times the files cost.
+fn print_times<R: Clock + Print>(rt: &R, alloc: Global, measured: Measured) -> Result<()> {
+    let [few, more, most] = least_microseconds(rt, alloc, measured)?;
+    let what = name_of(measured.timed);
+    let ripe = if measured.half {
+        "half ripe"
+    } else {
+        "all ripe"
     };
-    let ripe = if half { "half ripe" } else { "all ripe" };
-    let (links, priorities) = (layout.links, layout.priorities);
+    let Layout { links, priorities } = measured.layout;
     println!(rt;
         "{what}, links {links}, priorities {priorities}, {ripe}: {few:.2}, {more:.2}, {most:.2} us at 2,000, 20,000, 200,000; ratio {:.2}",
         most / few
@@ -223,19 +247,53 @@ fn print_times<R: Clock + Print>(
     Ok(())
 }
 
-/// Prints the times of claims on one link and on sixteen, with one priority and with five, all ripe and half of them, and then of the others.
+/// What is measured on sixteen links with five priorities, beside claims.
+const OTHERS: [Timed; 4] = [
+    Timed::Retries,
+    Timed::Cancellations(Order::Rising),
+    Timed::Cancellations(Order::Anywhere),
+    Timed::Cancellations(Order::FirstFew),
+];
+
+/// Prints the times of claims, all files ripe and half of them.
+fn print_claims<R: Clock + Print>(rt: &R, alloc: Global, layout: Layout) -> Result<()> {
+    for half in [false, true] {
+        let timed = Timed::Claims;
+        print_times(
+            rt,
+            alloc,
+            Measured {
+                timed,
+                layout,
+                half,
+            },
+        )?;
+    }
+    Ok(())
+}
+
+/// Prints the times of claims on one link and on sixteen, with one priority and with five, and then of the others.
 pub fn measure<R: Clock + Print>(rt: &R, alloc: Global) -> Result<()> {
     for links in [1, 16] {
         for priorities in [1, 5] {
-            let layout = Layout { links, priorities };
-            print_times(rt, alloc, Timed::Claims, layout, false)?;
-            print_times(rt, alloc, Timed::Claims, layout, true)?;
+            print_claims(rt, alloc, Layout { links, priorities })?;
         }
     }
     let layout = Layout {
         links: 16,
         priorities: 5,
     };
-    print_times(rt, alloc, Timed::Retries, layout, false)?;
-    print_times(rt, alloc, Timed::Cancellations, layout, false)
+    for timed in OTHERS {
+        let half = false;
+        print_times(
+            rt,
+            alloc,
+            Measured {
+                timed,
+                layout,
+                half,
+            },
+        )?;
+    }
+    Ok(())
 }

@@ -5,7 +5,7 @@ use Rattle.std.specs.List.{list_any}
 use Rattle.std.proofs.lemmas.Bool.{false≢true, cases_Bool, false_from_ne_true, and_parts, or_cases, eqb-true, cases_order, ltb-true, lt-ltb, le-ltb}
 use Rattle.fts_tables.specs.declared.settings.LinkAt.{LinkAt}
 use Rattle.fts_queue.specs.declared.waiter.Waiter.{Waiter}
-use Rattle.fts_queue.specs.declared.tree.Mark.TheVariants.{File, Start}
+use Rattle.fts_queue.specs.declared.waiter.Mark.TheVariants.{File, Start}
 use Rattle.fts_queue.specs.WaitingData.{AreSortedBy, goes_before, is_in, is_first_by, is_queue_before, next_bound}
 use Rattle.fts_queue.specs.Trees.{stands_before}
 use Rattle.fts_queue.proofs.Orders.{first_equal, first_less, first_why, first_greater}

@@ -3,6 +3,8 @@ use Rattle.std.proofs.Common.{
   ◌≡◌,
   ℕ,
   ◌+◌,
+  ◌^◌,
+  ◌<◌,
   ◌≤◌,
   Bool,
   true,
@@ -25,11 +27,10 @@ use Rattle.std.specs.Prelude.{filter}
 use Rattle.std.specs.List.{AllByRecursion}
 use Rattle.fts_queue.specs.declared.waiter.Waiter.{Waiter}
 use Rattle.fts_queue.specs.declared.tree.Node.{Node, out-Node}
-use Rattle.fts_queue.specs.WaitingData.{AreSortedBy, is_ripe, goes_before, with_waiter}
-use Rattle.fts_queue.specs.Trees.{waiters_in, waiters_of, IsWithout, AreCounts}
-use Rattle.fts_queue.proofs.Orders.{waiting_order}
+use Rattle.fts_queue.specs.WaitingData.{is_ripe, goes_before, with_waiter}
+use Rattle.fts_queue.specs.Trees.{waiters_of, IsWithout, AreCounts, IsCounted, IsCountedWithout}
 use Rattle.fts_queue.proofs.TreeCounts.{filter_append, less_next, one_if}
-use Rattle.fts_queue.proofs.TreeOrder.{sorted_parts, put_in_front, put_in_back}
+use Rattle.fts_queue.proofs.TreeOrder.{length_put}
 
 -- the list with the file is one longer
 pub length_with : (waiter : Waiter) (whole rest : List Waiter) → IsWithout waiter whole rest → length whole ≡ length rest + 1
@@ -128,28 +129,21 @@ same_counts moment size ripe next other_size other_ripe other_next waiters count
       next = subst (λ next. AllByRecursion (IsBound moment next) waiters) (sym same_next) counts.next;
     }
 
--- a file that comes in on the left side of a node comes in at its place of the whole
-pub comes_in_left : (waiter : Waiter) (now was : Node) (waiters : List Waiter) → waiters ≡ waiters_of was
-    → goes_before waiter (out-Node was).waiter ≡ true
-    → (out-Node now).waiter ≡ (out-Node was).waiter → (out-Node now).right ≡ (out-Node was).right
-    → waiters_in (out-Node now).left ≡ with_waiter waiter (waiters_in (out-Node was).left) → waiters_of now ≡ with_waiter waiter waiters
-comes_in_left waiter now was waiters whole goes own other side =
-    ap (λ waiters. waiters ++ (out-Node now).waiter ∷ waiters_in (out-Node now).right) side
-    ∙ (ap (λ middle. with_waiter waiter (waiters_in (out-Node was).left) ++ middle ∷ waiters_in (out-Node now).right) own
-    ∙ (ap (λ tree. with_waiter waiter (waiters_in (out-Node was).left) ++ (out-Node was).waiter ∷ waiters_in tree) other
-    ∙ (sym (put_in_front goes_before waiter (out-Node was).waiter (waiters_in (out-Node was).left) (waiters_in (out-Node was).right) goes)
-    ∙ ap (with_waiter waiter) (sym whole))))
+-- a node with a file more whose counts are those without it
+pub counted_put : (moment : ℕ) (waiter : Waiter) (now : Node) (was : List Waiter)
+    → AreCounts moment (out-Node now).size (out-Node now).ripe (out-Node now).next was
+    → waiters_of now ≡ with_waiter waiter was → 0 < length (out-Node now).waiters.items → IsCounted moment (out-Node now).left
+    → IsCounted moment (out-Node now).right → IsCountedWithout moment waiter now
+counted_put moment waiter now was counts made filled left right =
+    record {
+      counted = was;
+      counts = counts;
+      less = subst (λ waiters. IsWithout waiter waiters was) (sym made) (without_put waiter was);
+      filled = filled;
+      left = left;
+      right = right;
+    }
 
--- and so does one that comes in on the right side
-pub comes_in_right : (waiter : Waiter) (now was : Node) (waiters : List Waiter) → waiters ≡ waiters_of was → AreSortedBy goes_before waiters
-    → goes_before waiter (out-Node was).waiter ≡ false
-    → (out-Node now).waiter ≡ (out-Node was).waiter → (out-Node now).left ≡ (out-Node was).left
-    → waiters_in (out-Node now).right ≡ with_waiter waiter (waiters_in (out-Node was).right) → waiters_of now ≡ with_waiter waiter waiters
-comes_in_right waiter now was waiters whole sorted goes own other side =
-    let parts = sorted_parts goes_before (waiters_in (out-Node was).left) (waiters_in (out-Node was).right) (out-Node was).waiter
-    (subst (AreSortedBy goes_before) whole sorted) in
-    ap (λ waiters. waiters_in (out-Node now).left ++ (out-Node now).waiter ∷ waiters) side
-    ∙ (ap (λ middle. waiters_in (out-Node now).left ++ middle ∷ with_waiter waiter (waiters_in (out-Node was).right)) own
-    ∙ (ap (λ tree. waiters_in tree ++ (out-Node was).waiter ∷ with_waiter waiter (waiters_in (out-Node was).right)) other
-    ∙ (sym (put_in_back goes_before waiting_order waiter (out-Node was).waiter (waiters_in (out-Node was).left) (waiters_in (out-Node was).right) goes
-    parts.sooner) ∙ ap (with_waiter waiter) (sym whole))))
+-- it has room
+pub fits_put : (waiter : Waiter) (now was : List Waiter) → now ≡ with_waiter waiter was → length was + 1 < 2 ^ 32 → length now < 2 ^ 32
+fits_put waiter now was made fits = omega (arith, ap length made, length_put goes_before waiter was)

@@ -5,7 +5,7 @@ use Rattle.std.specs.List.{AllByRecursion}
 use Rattle.std.proofs.lemmas.Bool.{false≢true, false_from_ne_true, and_from, eq-eqb}
 use Rattle.fts_tables.specs.declared.settings.LinkAt.{LinkAt}
 use Rattle.fts_queue.specs.declared.waiter.Waiter.{Waiter}
-use Rattle.fts_queue.specs.declared.tree.Mark.TheVariants.{Start, End}
+use Rattle.fts_queue.specs.declared.waiter.Mark.TheVariants.{Start, End}
 use Rattle.fts_queue.specs.WaitingData.{AreSortedBy, goes_before, is_in, is_first_by, is_queue_before}
 use Rattle.fts_queue.specs.Trees.{stands_before}
 use Rattle.fts_queue.proofs.QueueRooms.{queues_pass_on, queues_decide, queue_not_before, three_same}

@@ -2,6 +2,7 @@
 use Rattle.std.proofs.Common.{◌≡◌, ℕ, ◌+◌, ◌≤◌, Bool, true, false, cond, List, [], ◌∷◌, ◌++◌, length, refl, ap, arith, length-append}
 use Rattle.std.specs.Prelude.{filter}
 use Rattle.std.specs.List.{AllByRecursion}
+use Rattle.fts_queue.proofs.TreeOrder.{all_append}
 use Rattle.fts_queue.specs.declared.waiter.Waiter.{Waiter}
 use Rattle.fts_queue.specs.declared.tree.Tree.{Tree, Leaf, Branch'}
 use Rattle.fts_queue.specs.WaitingData.{is_ripe}
@@ -28,12 +29,6 @@ filter_append passes (first ∷ front) back = by_test (passes first) (filter_app
     by_test true behind = ap (λ later. first ∷ later) behind
     by_test false behind = behind
 
--- what holds of both lists and of what stands between them holds of all
-all_joined : {A : Type 0} (P : A → Type 0) (front back : List A) (item : A) → AllByRecursion P front → P item → AllByRecursion P back
-    → AllByRecursion P (front ++ item ∷ back)
-all_joined P [] back item all here behind = (here, behind)
-all_joined P (first ∷ front) back item all here behind = (all.0, all_joined P front back item all.1 here behind)
-
 -- the counts of a tree are those of its list
 pub counts_of_tree : (moment : ℕ) (tree : Tree) → IsCounted moment tree
     → AreCounts moment (size_of tree) (ripe_of tree) (next_of tree) (waiters_in tree)
@@ -52,30 +47,49 @@ less_next moment next least (first ∷ rest) less all =
 abbrev pub one_if : Bool → ℕ
 one_if passes = cond passes 1 0
 
--- the counts of a node, from those of its sides
-pub counts_joined : (moment : ℕ) (left right : Tree) (waiter : Waiter) (next : ℕ) → IsCounted moment left → IsCounted moment right
-    → next ≤ next_of left → next ≤ next_of right → (is_ripe moment waiter ≡ false → next ≤ waiter.not_before)
-    → AreCounts moment (size_of left + 1 + size_of right) (ripe_of left + one_if (is_ripe moment waiter) + ripe_of right) next
-    (waiters_in left ++ waiter ∷ waiters_in right)
-counts_joined moment left right waiter next of_left of_right by_left by_right by_waiter =
+-- the ripe files of a node, from those of its sides and its own
+ripe_joined : (moment : ℕ) (left right : Tree) (chunk : List Waiter) → IsCounted moment left → IsCounted moment right
+    → ripe_of left + length (filter (is_ripe moment) chunk) + ripe_of right
+    ≡ length (filter (is_ripe moment) (waiters_in left ++ chunk ++ waiters_in right))
+ripe_joined moment left right chunk of_left of_right =
+    omega (
+      arith,
+      (counts_of_tree moment left of_left).ripe,
+      (counts_of_tree moment right of_right).ripe,
+      ap length (filter_append (is_ripe moment) (waiters_in left ++ chunk) (waiters_in right)),
+      ap length (filter_append (is_ripe moment) (waiters_in left) chunk),
+      length-append (filter (is_ripe moment) (waiters_in left ++ chunk)) (filter (is_ripe moment) (waiters_in right)),
+      length-append (filter (is_ripe moment) (waiters_in left)) (filter (is_ripe moment) chunk),
+    )
+
+-- there are no more of them than files
+pub ripe_fits : (moment : ℕ) (left right : Tree) (chunk : List Waiter) → IsCounted moment left → IsCounted moment right
+    → ripe_of left + length (filter (is_ripe moment) chunk) + ripe_of right ≤ length (waiters_in left ++ chunk ++ waiters_in right)
+ripe_fits moment left right chunk of_left of_right =
+    let joined = ripe_joined moment left right chunk of_left of_right in
+    omega (arith, joined, filter_fits (is_ripe moment) (waiters_in left ++ chunk ++ waiters_in right))
+
+-- the counts of a node, from those of its sides and of its own files
+pub counts_joined : (moment : ℕ) (left right : Tree) (chunk : List Waiter) (chunk_next next : ℕ) → IsCounted moment left → IsCounted moment right
+    → next ≤ next_of left → next ≤ next_of right → next ≤ chunk_next
+    → AllByRecursion (λ waiter. is_ripe moment waiter ≡ false → chunk_next ≤ waiter.not_before) chunk
+    → AreCounts moment (size_of left + length chunk + size_of right) (ripe_of left + length (filter (is_ripe moment) chunk) + ripe_of right) next
+    (waiters_in left ++ chunk ++ waiters_in right)
+counts_joined moment left right chunk chunk_next next of_left of_right by_left by_right by_chunk own =
     let l = counts_of_tree moment left of_left in
     let r = counts_of_tree moment right of_right in
+    let P = λ (waiter : Waiter). is_ripe moment waiter ≡ false → next ≤ waiter.not_before in
     record {
-      size = omega (arith, length-append (waiters_in left) (waiter ∷ waiters_in right), l.size, r.size);
-      ripe = omega (
+      size = omega (
         arith,
-        ap length (filter_append (is_ripe moment) (waiters_in left) (waiter ∷ waiters_in right)),
-        length-append (filter (is_ripe moment) (waiters_in left)) (filter (is_ripe moment) (waiter ∷ waiters_in right)),
-        l.ripe,
-        r.ripe,
-        one_more (is_ripe moment waiter),
+        length-append (waiters_in left ++ chunk) (waiters_in right),
+        length-append (waiters_in left) chunk,
+        l.size,
+        r.size,
       );
-      next = all_joined (λ waiter. is_ripe moment waiter ≡ false → next ≤ waiter.not_before) (waiters_in left) (waiters_in right) waiter
-          (less_next moment (next_of left) next (waiters_in left) by_left l.next) by_waiter
+      ripe = ripe_joined moment left right chunk of_left of_right;
+      next = all_append P (waiters_in left ++ chunk) (waiters_in right)
+          (all_append P (waiters_in left) chunk (less_next moment (next_of left) next (waiters_in left) by_left l.next)
+          (less_next moment chunk_next next chunk by_chunk own))
           (less_next moment (next_of right) next (waiters_in right) by_right r.next);
     }
-  where
-    one_more : (answer : Bool) → length (cond answer (waiter ∷ filter (is_ripe moment) (waiters_in right)) (filter (is_ripe moment) (waiters_in right)))
-        ≡ one_if answer + length (filter (is_ripe moment) (waiters_in right))
-    one_more true = omega arith
-    one_more false = omega arith

@@ -65,3 +65,34 @@ length_put before item (first ∷ rest) = by_test (before item first) (length_pu
         → length (cond answer (item ∷ first ∷ rest) (first ∷ put_by before item rest)) ≡ length (first ∷ rest) + 1
     by_test true behind = omega arith
     by_test false behind = omega arith
+
+-- what holds of joined lists holds of both
+pub all_front : {A : Type 0} (P : A → Type 0) (front back : List A) → AllByRecursion P (front ++ back) → AllByRecursion P front
+all_front P [] back all = tt
+all_front P (first ∷ front) back all = (all.0, all_front P front back all.1)
+
+pub all_back : {A : Type 0} (P : A → Type 0) (front back : List A) → AllByRecursion P (front ++ back) → AllByRecursion P back
+all_back P [] back all = all
+all_back P (first ∷ front) back all = all_back P front back all.1
+
+-- and what holds of both holds of the joined
+pub all_append : {A : Type 0} (P : A → Type 0) (front back : List A) → AllByRecursion P front → AllByRecursion P back
+    → AllByRecursion P (front ++ back)
+all_append P [] back all behind = behind
+all_append P (first ∷ front) back all behind = (all.0, all_append P front back all.1 behind)
+
+-- both parts of a sorted list are sorted
+pub sorted_front : {A : Type 0} (before : A → A → Bool) (front back : List A) → AreSortedBy before (front ++ back) → AreSortedBy before front
+sorted_front before [] back sorted = tt
+sorted_front before (first ∷ front) back sorted =
+    (all_front (λ later. before first later ≡ true) front back sorted.0, sorted_front before front back sorted.1)
+
+pub sorted_back : {A : Type 0} (before : A → A → Bool) (front back : List A) → AreSortedBy before (front ++ back) → AreSortedBy before back
+sorted_back before [] back sorted = sorted
+sorted_back before (first ∷ front) back sorted = sorted_back before front back sorted.1
+
+-- so are both sides of a middle
+pub sorted_sides : {A : Type 0} (before : A → A → Bool) (left own right : List A) → AreSortedBy before (left ++ own ++ right)
+    → AreSortedBy before left × AreSortedBy before right
+sorted_sides before left own right sorted =
+    (sorted_front before left own (sorted_front before (left ++ own) right sorted), sorted_back before (left ++ own) right sorted)

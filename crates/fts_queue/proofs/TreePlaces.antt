@@ -1,18 +1,16 @@
--- Places in the list of a tree: what stands at one, what goes without it, and how many pass a test that goes down along the list.
-use Rattle.std.proofs.Common.{◌≡◌, ℕ, zero, suc, ◌+◌, ◌<◌, ◌≤◌, Bool, true, false, cond, List, [], ◌∷◌, ◌++◌, length, refl, ap, sym, ◌∙◌, arith, inl, inr, length-append}
+-- Places in the list of a tree: what stands at one, tests that go down along the list, and the ripe ones from one moment to another.
+use Rattle.std.proofs.Common.{◌≡◌, ℕ, zero, suc, ◌+◌, ◌<◌, ◌≤◌, Bool, true, false, cond, List, [], ◌∷◌, ◌++◌, length, refl, ap, sym, ◌∙◌, arith, inl, inr}
 use Rattle.std.specs.Prelude.{◌⊎◌, nat_lt, filter, slice_get}
 use Rattle.std.specs.List.{AllByRecursion}
 use Rattle.std.proofs.lemmas.Bool.{false≢true, cases_Bool, leb-true, le-leb, lt-leb, false_from_ne_true, not_from_false, not-true, ltb-true, lt-ltb}
 use Rattle.fts_queue.specs.declared.waiter.Waiter.{Waiter}
-use Rattle.fts_queue.specs.declared.tree.Tree.{Tree, Leaf, Branch'}
 use Rattle.fts_tables.specs.declared.settings.LinkAt.{LinkAt}
-use Rattle.fts_queue.specs.declared.tree.Mark.{Mark}
-use Rattle.fts_queue.specs.declared.tree.Mark.TheVariants.{File, Start, End}
-use Rattle.fts_queue.specs.WaitingData.{is_ripe, goes_before, AreSortedBy, is_first_by, is_queue_before}
-use Rattle.fts_queue.specs.Trees.{waiters_in, IsCounted, stands_before}
+use Rattle.fts_queue.specs.declared.waiter.Mark.{Mark}
+use Rattle.fts_queue.specs.declared.waiter.Mark.TheVariants.{File, Start, End}
+use Rattle.fts_queue.specs.WaitingData.{is_ripe, goes_before, is_first_by, is_queue_before}
+use Rattle.fts_queue.specs.Trees.{stands_before}
 use Rattle.fts_queue.proofs.Orders.{waiting_order, first_passes_on, first_why}
-use Rattle.fts_queue.proofs.TreeCounts.{filter_append, filter_fits, one_if}
-use Rattle.fts_queue.proofs.TreeOrder.{sorted_parts, all_parts}
+use Rattle.fts_queue.proofs.TreeCounts.{filter_fits}
 
 -- what stands in the front of joined lists, and what in the back
 pub get_front : {A : Type 0} (front back : List A) (n : ℕ) → n < length front → slice_get (front ++ back) n ≡ slice_get front n
@@ -46,34 +44,6 @@ all_from P Q from (first ∷ rest) all = (from first all.0, all_from P Q from re
 -- a test that goes down along the order of files
 abbrev pub GoesDown : (Waiter → Bool) → Type 0
 GoesDown test = (one other : Waiter) → goes_before one other ≡ true → test other ≡ true → test one ≡ true
-
--- where the middle passes, all of the front do; where it fails, so does all of the back
-pub passes_to : (test : Waiter → Bool) → GoesDown test → (front back : List Waiter) (middle : Waiter) → AreSortedBy goes_before (front ++ middle ∷ back)
-    → test middle ≡ true → length (filter test (front ++ middle ∷ back)) ≡ length front + 1 + length (filter test back)
-passes_to test down front back middle sorted is =
-    let parts = sorted_parts goes_before front back middle sorted in
-    let all = all_from (λ other. goes_before other middle ≡ true) (λ other. test other ≡ true) (λ other goes. down other middle goes is) front parts.sooner in
-    omega (
-      arith,
-      ap length (filter_append test front (middle ∷ back)),
-      length-append (filter test front) (filter test (middle ∷ back)),
-      ap length (all_pass test front all),
-      ap (λ answer. length (cond answer (middle ∷ filter test back) (filter test back))) is,
-    )
-
-pub fails_from : (test : Waiter → Bool) → GoesDown test → (front back : List Waiter) (middle : Waiter) → AreSortedBy goes_before (front ++ middle ∷ back)
-    → test middle ≡ false → length (filter test (front ++ middle ∷ back)) ≡ length (filter test front)
-fails_from test down front back middle sorted is =
-    let parts = sorted_parts goes_before front back middle sorted in
-    let none = all_from (λ other. goes_before middle other ≡ true) (λ other. test other ≡ false)
-    (λ other goes. false_from_ne_true (test other) (λ passes. false≢true (sym is ∙ down middle other goes passes))) back parts.later in
-    omega (
-      arith,
-      ap length (filter_append test front (middle ∷ back)),
-      length-append (filter test front) (filter test (middle ∷ back)),
-      ap (λ answer. length (cond answer (middle ∷ filter test back) (filter test back))) is,
-      ap length (none_pass test back none),
-    )
 
 -- what goes before a file of an earlier queue is of an earlier one itself
 queue_before_on : (one other : Waiter) (link : LinkAt) (activity : ℕ) → goes_before one other ≡ true
@@ -139,79 +109,19 @@ filter_twice one other (first ∷ rest) = by_tests (one first) (other first) ref
     by_tests false true isa isb behind = simp (isa, isb) behind
     by_tests false false isa isb behind = simp (isa, isb) behind
 
--- the ripe files before a bound, on both sides of a middle
-pub ripe_to : (moment : ℕ) (test : Waiter → Bool) → GoesDown test → (front back : List Waiter) (middle : Waiter) → AreSortedBy goes_before (front ++ middle ∷ back)
-    → test middle ≡ true → length (filter test (filter (is_ripe moment) (front ++ middle ∷ back)))
-    ≡ length (filter (is_ripe moment) front) + one_if (is_ripe moment middle) + length (filter test (filter (is_ripe moment) back))
-ripe_to moment test down front back middle sorted is =
-    let parts = sorted_parts goes_before front back middle sorted in
-    let all = all_from (λ other. goes_before other middle ≡ true) (λ other. test other ≡ true) (λ other goes. down other middle goes is) front parts.sooner in
-    omega (
-      arith,
-      ap length (filter_twice test (is_ripe moment) (front ++ middle ∷ back)),
-      ap (λ waiters. length (filter (is_ripe moment) waiters)) (filter_append test front (middle ∷ back)),
-      ap length (filter_append (is_ripe moment) (filter test front) (filter test (middle ∷ back))),
-      length-append (filter (is_ripe moment) (filter test front)) (filter (is_ripe moment) (filter test (middle ∷ back))),
-      ap (λ waiters. length (filter (is_ripe moment) waiters)) (all_pass test front all),
-      ap (λ answer. length (filter (is_ripe moment) (cond answer (middle ∷ filter test back) (filter test back)))) is,
-      one_more (is_ripe moment middle),
-      ap length (filter_twice test (is_ripe moment) back),
-    )
-  where
-    one_more : (answer : Bool) → length (cond answer (middle ∷ filter (is_ripe moment) (filter test back)) (filter (is_ripe moment) (filter test back)))
-        ≡ one_if answer + length (filter (is_ripe moment) (filter test back))
-    one_more true = omega arith
-    one_more false = omega arith
-
-pub ripe_from : (moment : ℕ) (test : Waiter → Bool) → GoesDown test → (front back : List Waiter) (middle : Waiter) → AreSortedBy goes_before (front ++ middle ∷ back)
-    → test middle ≡ false → length (filter test (filter (is_ripe moment) (front ++ middle ∷ back))) ≡ length (filter test (filter (is_ripe moment) front))
-ripe_from moment test down front back middle sorted is =
-    let parts = sorted_parts goes_before front back middle sorted in
-    let none = all_from (λ other. goes_before middle other ≡ true) (λ other. test other ≡ false)
-    (λ other goes. false_from_ne_true (test other) (λ passes. false≢true (sym is ∙ down middle other goes passes))) back parts.later in
-    omega (
-      arith,
-      ap length (filter_twice test (is_ripe moment) (front ++ middle ∷ back)),
-      ap (λ waiters. length (filter (is_ripe moment) waiters)) (filter_append test front (middle ∷ back)),
-      ap length (filter_append (is_ripe moment) (filter test front) (filter test (middle ∷ back))),
-      length-append (filter (is_ripe moment) (filter test front)) (filter (is_ripe moment) (filter test (middle ∷ back))),
-      ap (λ answer. length (filter (is_ripe moment) (cond answer (middle ∷ filter test back) (filter test back)))) is,
-      ap (λ waiters. length (filter (is_ripe moment) waiters)) (none_pass test back none),
-      ap length (filter_twice test (is_ripe moment) front),
-    )
-
--- what stands at a place among the ripe ones, around a middle
-pub ripe_place : (moment : ℕ) (front back : List Waiter) (middle : Waiter)
-    → filter (is_ripe moment) (front ++ middle ∷ back) ≡ filter (is_ripe moment) front ++ filter (is_ripe moment) (middle ∷ back)
-ripe_place moment front back middle = filter_append (is_ripe moment) front (middle ∷ back)
-
 -- where the ripe ones stay the same, the counts do
-alike_filter : (moment was : ℕ) (waiters : List Waiter) → AllByRecursion (λ waiter. is_ripe moment waiter ≡ is_ripe was waiter) waiters
+pub alike_filter : (moment was : ℕ) (waiters : List Waiter) → AllByRecursion (λ waiter. is_ripe moment waiter ≡ is_ripe was waiter) waiters
     → filter (is_ripe was) waiters ≡ filter (is_ripe moment) waiters
 alike_filter moment was [] all = refl
 alike_filter moment was (first ∷ rest) all =
     ap (λ test. cond test (first ∷ filter (is_ripe was) rest) (filter (is_ripe was) rest)) (sym all.0)
     ∙ ap (λ behind. cond (is_ripe moment first) (first ∷ behind) behind) (alike_filter moment was rest all.1)
 
-alike_next : (moment was next : ℕ) (waiters : List Waiter) → AllByRecursion (λ waiter. is_ripe moment waiter ≡ is_ripe was waiter) waiters
+pub alike_next : (moment was next : ℕ) (waiters : List Waiter) → AllByRecursion (λ waiter. is_ripe moment waiter ≡ is_ripe was waiter) waiters
     → AllByRecursion (λ waiter. is_ripe was waiter ≡ false → next ≤ waiter.not_before) waiters
     → AllByRecursion (λ waiter. is_ripe moment waiter ≡ false → next ≤ waiter.not_before) waiters
 alike_next moment was next [] all bounds = tt
 alike_next moment was next (first ∷ rest) all bounds = ((λ unripe. bounds.0 (sym all.0 ∙ unripe)), alike_next moment was next rest all.1 bounds.1)
-
-pub still_counted : (moment was : ℕ) (tree : Tree) → AllByRecursion (λ waiter. is_ripe moment waiter ≡ is_ripe was waiter) (waiters_in tree)
-    → IsCounted was tree → IsCounted moment tree
-still_counted moment was Leaf all counted = tt
-still_counted moment was (Branch' p waiter size ripe next left right) all counted =
-    let parts = all_parts (λ waiter. is_ripe moment waiter ≡ is_ripe was waiter) (waiters_in left) (waiters_in right) waiter all in (
-      record {
-        size = counted.0.size;
-        ripe = counted.0.ripe ∙ ap length (alike_filter moment was (waiters_in left ++ waiter ∷ waiters_in right) all);
-        next = alike_next moment was next (waiters_in left ++ waiter ∷ waiters_in right) all counted.0.next;
-      },
-      still_counted moment was left parts.0 counted.1,
-      still_counted moment was right parts.2 counted.2,
-    )
 
 -- before the next one ripens, the ripe ones stay the same
 pub not_yet : (moment was next : ℕ) (waiters : List Waiter) → was ≤ moment → moment < next

@@ -5,9 +5,14 @@
 //! For the desk's claims. It knows nothing of slots, states and tables.
 #![tactic(auto)]
 
+mod chunk;
 mod laws;
+mod lookup;
+mod pack;
+mod put;
 mod rooms;
 mod spare;
+mod take;
 #[cfg(test)]
 mod tests;
 mod tree;

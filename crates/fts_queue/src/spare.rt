@@ -1,17 +1,16 @@
 //! Spare nodes: what `make_room` made and no file takes. They stand in a tree that stays flat by turning its sides at each step;
 //! which files they still show means nothing, and contracts count them alone.
-ghost use Rattle.std.specs.Prelude.{◌≡◌, ◌<◌, ◌≤◌, ◌+◌, length, OnOk, OnErr};
-ghost use Rattle.fts_queue.specs.Trees.{waiters_in, waiters_of};
+ghost use Rattle.std.specs.Prelude.{◌≡◌, ◌<◌, ◌≤◌, ◌+◌, OnOk, OnErr};
+ghost use Rattle.fts_queue.specs.Trees.{nodes_in, nodes_of};
 
-use crate::tree::{Node, Taken, Tree, new_node};
+use crate::tree::{Node, Tree, new_node};
 use fts_tables::Memory;
 use std::alloc::Global;
 use std::mem;
 
 /// Puts a node away.
 pub fn store(tree: Tree, node: Box<Node>) -> Box<Node>
-    requires single { length (waiters_of node.value) ≡ 1 }
-    ensures count { length (waiters_of result.value) ≡ length (waiters_in tree) + 1 }
+    ensures count { nodes_of result.value ≡ nodes_in tree + nodes_of node.value }
 {
     match tree {
         Tree::Leaf => node,
@@ -25,20 +24,27 @@ pub fn store(tree: Tree, node: Box<Node>) -> Box<Node>
     }
 }
 
+/// Spare nodes without one, and that one.
+struct Fetched {
+    rest: Tree,
+    node: Box<Node>,
+}
+
 /// Takes a node out from under another, or that one.
-fn fetch_below(mut top: Box<Node>) -> Taken
-    ensures count { length (waiters_in result.rest) + 1 ≡ length (waiters_of top.value) }
+fn fetch_below(mut top: Box<Node>) -> Fetched
+    ensures count { nodes_in result.rest + 1 ≡ nodes_of top.value }
+    ensures single { nodes_of result.node.value ≡ 1 }
 {
     match mem::replace(&mut top.left, Tree::Leaf) {
         Tree::Leaf => {
             let rest = mem::replace(&mut top.right, Tree::Leaf);
-            Taken { rest, node: top }
+            Fetched { rest, node: top }
         },
         Tree::Branch(left) => {
-            let Taken { rest, node } = fetch_below(left);
+            let Fetched { rest, node } = fetch_below(left);
             top.left = mem::replace(&mut top.right, Tree::Leaf);
             top.right = rest;
-            Taken {
+            Fetched {
                 rest: Tree::Branch(top),
                 node,
             }
@@ -47,20 +53,25 @@ fn fetch_below(mut top: Box<Node>) -> Taken
 }
 
 /// Takes a node back.
-pub fn fetch(tree: Tree) -> Taken
-    requires some { 0 < length (waiters_in tree) }
-    ensures count { length (waiters_in result.rest) + 1 ≡ length (waiters_in tree) }
+pub fn fetch(spare: &mut Tree) -> Box<Node>
+    requires some { 0 < nodes_in spare.old }
+    ensures count { nodes_in spare.new + 1 ≡ nodes_in spare.old }
+    ensures single { nodes_of result.value ≡ 1 }
 {
-    match tree {
+    match mem::replace(spare, Tree::Leaf) {
         Tree::Leaf => unreachable!(),
-        Tree::Branch(top) => fetch_below(top),
+        Tree::Branch(top) => {
+            let Fetched { rest, node } = fetch_below(top);
+            *spare = rest;
+            node
+        },
     }
 }
 
 /// Makes so many nodes more. What was there stays, also where memory is wanting.
 pub fn grow(spare: &mut Tree, alloc: Global, count: usize) -> Result<(), Memory>
-    ensures ok { OnOk result (length (waiters_in spare.new) ≡ length (waiters_in spare.old) + count) }
-    ensures err { OnErr result (length (waiters_in spare.old) ≤ length (waiters_in spare.new)) }
+    ensures ok { OnOk result (nodes_in spare.new ≡ nodes_in spare.old + count) }
+    ensures err { OnErr result (nodes_in spare.old ≤ nodes_in spare.new) }
 {
     let mut made: usize = 0;
     while made < count {

@@ -1,6 +1,7 @@
-//! A file that waits, and the order of such files. `Waiting` alone calls the tests; their words are in `specs/WaitingData.antt`.
+//! A file that waits, the order of such files, and marks in it. `Waiting` alone calls the tests; their words are in `specs/WaitingData.antt`.
 ghost use Rattle.std.specs.Prelude.{◌≡◌, ◌&&◌};
-ghost use Rattle.fts_queue.specs.WaitingData.{is_first_by, goes_before, is_in, is_ripe};
+ghost use Rattle.fts_queue.specs.WaitingData.{is_first_by, goes_before, is_in, is_ripe, is_queue_before};
+ghost use Rattle.fts_queue.specs.Trees.{stands_before};
 
 use fts_tables::LinkAt;
 
@@ -12,6 +13,19 @@ pub struct Waiter {
     pub activity: u16,
     pub priority: u32,
     pub not_before: u64,
+}
+
+impl Default for Waiter {
+    /// What an unused place of a chunk holds.
+    fn default() -> Waiter {
+        Waiter {
+            file: 0,
+            link: LinkAt { source: 0, dest: 0 },
+            activity: 0,
+            priority: 0,
+            not_before: 0,
+        }
+    }
 }
 
 /// The lesser number first; of equal ones the rest decides.
@@ -58,4 +72,36 @@ pub fn is_ripe(moment: u64, waiter: &Waiter) -> bool
     ensures answer { result ≡ is_ripe moment waiter.now }
 {
     waiter.not_before <= moment
+}
+
+/// A mark in the order: a file's place, or where a queue starts or ends.
+#[derive(Clone, Copy)]
+pub enum Mark {
+    File(Waiter),
+    Start(LinkAt, u16),
+    End(LinkAt, u16),
+}
+
+/// Whether a queue stands before another.
+fn is_queue_before(link: LinkAt, activity: u16, other: LinkAt, other_activity: u16) -> bool
+    ensures answer { result ≡ is_queue_before link activity other other_activity }
+{
+    link.source < other.source
+        || (link.source == other.source
+            && (link.dest < other.dest || (link.dest == other.dest && activity < other_activity)))
+}
+
+/// Whether a file stands before a mark.
+pub fn stands_before(mark: Mark, waiter: &Waiter) -> bool
+    ensures answer { result ≡ stands_before mark waiter.now }
+{
+    match mark {
+        Mark::File(bound) => goes_before(waiter, &bound),
+        Mark::Start(link, activity) => {
+            is_queue_before(waiter.link, waiter.activity, link, activity)
+        },
+        Mark::End(link, activity) => {
+            !is_queue_before(link, activity, waiter.link, waiter.activity)
+        },
+    }
 }

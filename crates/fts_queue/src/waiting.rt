@@ -5,6 +5,7 @@ ghost use Rattle.std.specs.Prelude.{
   ◌<◌,
   ◌≤◌,
   ◌+◌,
+  ◌*◌,
   ◌^◌,
   filter,
   ◌&&◌,
@@ -12,7 +13,6 @@ ghost use Rattle.std.specs.Prelude.{
   [],
   length,
   slice_get,
-  vec_capacity,
   option_map,
   Some,
   IsTrue,
@@ -38,16 +38,19 @@ ghost use Rattle.fts_queue.specs.WaitingData.{
   goes_before,
   is_ripe,
 };
-ghost use Rattle.fts_queue.specs.declared.tree.Node.{out-Node};
-ghost use Rattle.fts_queue.specs.Trees.{waiters_in, IsCounted, IsWithout};
+ghost use Rattle.fts_queue.specs.Trees.{waiters_in, nodes_in, IsCounted, IsWithout};
+ghost use Rattle.fts_queue.specs.Waiting.{nodes_for};
+ghost use Rattle.fts_queue.specs.declared.chunk.TheConstants.{CHUNK_ROOM};
 
+use crate::chunk::CHUNK_ROOM;
+use crate::lookup::{count_before, ripe_at, ripe_before, ripen, waiter_at};
+use crate::pack::{Packed, pack};
+use crate::put::put;
 use crate::rooms::{Room, raise, room_of};
-use crate::spare::{fetch, grow, store};
-use crate::tree::{
-    Mark, Taken, Tree, count_before, filled, put, ripe_at, ripe_before, ripe_of, ripen, take,
-    waiter_at,
-};
-use crate::waiter::{Waiter, is_in};
+use crate::spare::{grow, store};
+use crate::take::{Taken, take};
+use crate::tree::{Tree, is_leaf, ripe_of};
+use crate::waiter::{Mark, Waiter, is_in};
 use fts_tables::{LinkAt, Memory};
 use std::alloc::Global;
 use std::marker::Model;
@@ -55,6 +58,20 @@ use std::mem;
 
 /// How many files may have room in all: as many as a node can count.
 const MOST_ROOM: usize = 4_294_967_295;
+
+/// How many files a node is made for. It has room for twice as many, so files can always move together where no node is spare.
+const FILES_A_NODE: usize = CHUNK_ROOM / 2;
+
+/// How many nodes there are for so many files: none for none, else two more than these fill by half.
+fn nodes_for(files: usize) -> usize
+    ensures nodes { result ≡ nodes_for files }
+{
+    if files == 0 {
+        0
+    } else {
+        files / FILES_A_NODE + 2
+    }
+}
 
 /// The files that wait, by link and activity.
 pub struct Waiting {
@@ -165,6 +182,43 @@ fn place_of_file(tree: &Tree, file: u32, link: LinkAt, activity: u16, moment: u6
     }
 }
 
+/// Lets a node be spare. Where none is, files move together.
+fn keep_spare(tree: &mut Tree, spare: &mut Tree, moment: u64)
+    requires counted { IsCounted moment tree.old }
+    requires fits { length (waiters_in tree.old) < 2 ^ 32 }
+    requires enough { length (waiters_in tree.old) + CHUNK_ROOM ≤ CHUNK_ROOM * (nodes_in tree.old + nodes_in spare.old) }
+    ensures counted { IsCounted moment tree.new }
+    ensures waiters { waiters_in tree.new ≡ waiters_in tree.old }
+    ensures some { 0 < nodes_in spare.new }
+    ensures nodes { nodes_in tree.new + nodes_in spare.new ≡ nodes_in tree.old + nodes_in spare.old }
+{
+    if is_leaf(spare) {
+        let Packed {
+            tree: packed,
+            spare: freed,
+        } = pack(
+            mem::replace(tree, Tree::Leaf),
+            mem::replace(spare, Tree::Leaf),
+            moment,
+        );
+        *tree = packed;
+        *spare = freed;
+    }
+}
+
+/// Puts a node away, where there is one.
+fn store_back(spare: &mut Tree, freed: Tree)
+    ensures nodes { nodes_in spare.new ≡ nodes_in spare.old + nodes_in freed }
+{
+    match freed {
+        Tree::Leaf => {},
+        Tree::Branch(node) => {
+            let rest = mem::replace(spare, Tree::Leaf);
+            *spare = Tree::Branch(store(rest, node));
+        },
+    }
+}
+
 /// Takes a file out of a tree.
 fn take_out(tree: Tree, waiter: &Waiter, moment: u64) -> Taken
     requires counted { IsCounted moment tree }
@@ -172,8 +226,9 @@ fn take_out(tree: Tree, waiter: &Waiter, moment: u64) -> Taken
     requires waits { IsTrue (list_any (is_same_place waiter.now) (waiters_in tree)) }
     requires fits { length (waiters_in tree) < 2 ^ 32 }
     ensures counted { IsCounted moment result.rest }
-    ensures waiters { IsWithout (out-Node result.node.value).waiter (waiters_in tree) (waiters_in result.rest) }
-    ensures file { (out-Node result.node.value).waiter.file ≡ waiter.now.file }
+    ensures waiters { IsWithout result.waiter (waiters_in tree) (waiters_in result.rest) }
+    ensures file { result.waiter.file ≡ waiter.now.file }
+    ensures nodes { nodes_in result.rest + nodes_in result.freed ≡ nodes_in tree }
 {
     match tree {
         Tree::Leaf => unreachable!(),
@@ -209,7 +264,8 @@ impl Waiting {
         if whole > MOST_ROOM {
             return Err(Memory);
         }
-        grow(&mut self.spare, self.alloc, more_room)?;
+        let more_nodes = nodes_for(whole) - nodes_for(self.whole);
+        grow(&mut self.spare, self.alloc, more_nodes)?;
         self.rooms.reserve(1)?;
         raise(&mut self.rooms, link, activity, wanted);
         self.whole = whole;
@@ -222,12 +278,9 @@ impl Waiting {
         requires fresh { IsFalse (is_waiting waiter.file self.old.waiters) }
         ensures waiting { self.new ≡ record self.old { waiters = with_waiter waiter self.old.waiters } }
     {
-        let spare = mem::replace(&mut self.spare, Tree::Leaf);
-        let Taken { rest, node } = fetch(spare);
-        self.spare = rest;
+        keep_spare(&mut self.tree, &mut self.spare, self.moment);
         let tree = mem::replace(&mut self.tree, Tree::Leaf);
-        let node = filled(node, waiter, self.moment);
-        self.tree = Tree::Branch(put(tree, node, self.moment));
+        self.tree = Tree::Branch(put(tree, waiter, &mut self.spare, self.moment));
     }
 
     /// Takes a file out whose place in the order is known: by its queue, its priority and its number. It may ripen whenever.
@@ -236,11 +289,13 @@ impl Waiting {
         ensures waiting { self.new ≡ record self.old { waiters = without_file waiter.now.file self.old.waiters } }
     {
         let tree = mem::replace(&mut self.tree, Tree::Leaf);
-        let Taken { rest, node } = take_out(tree, waiter, self.moment);
+        let Taken {
+            rest,
+            waiter: _,
+            freed,
+        } = take_out(tree, waiter, self.moment);
         self.tree = rest;
-        let taken = node.waiter;
-        let spare = mem::replace(&mut self.spare, Tree::Leaf);
-        self.spare = Tree::Branch(store(spare, filled(node, taken, self.moment)));
+        store_back(&mut self.spare, freed);
     }
 
     /// Takes a file out of its queue, whatever its priority.

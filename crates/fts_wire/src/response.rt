@@ -6,6 +6,7 @@
 ghost use Rattle.std.specs.Prelude.{◌≡◌, ◌+◌, ◌≤◌, ◌++◌, length, map, IsTrue};
 ghost use Rattle.std.specs.List.{concat};
 ghost use Rattle.fts_tables.specs.Counts.{CountsFaults};
+ghost use Rattle.fts_wire.specs.declared.response.TheConstants.{ONE_PIECE_BYTES};
 ghost use Rattle.fts_wire.specs.Response.{phrase_of, has_phrase, has_methods, allow_line_of, close_line_of, head_of, body_of, response_of, Sends};
 
 use crate::{Sink, SinkFailed, statuses};
@@ -79,7 +80,7 @@ fn send_joined<K: Sink>(
     head: &ArrayString<HEAD_BYTES>,
     body: &[u8],
 ) -> Result<(), SinkFailed>
-    requires fits { length head.now.bytes + length body.now ≤ 65536 }
+    requires fits { length head.now.bytes + length body.now ≤ ONE_PIECE_BYTES }
     ensures sent { Sends (K.held sink.old) (K.held sink.new) (head.now.bytes ++ body.now) result }
     ensures cause { CountsFaults (K.faults sink.old) (K.faults sink.new) result }
     ensures beside { K.beside sink.new ≡ K.beside sink.old }

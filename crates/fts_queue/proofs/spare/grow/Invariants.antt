@@ -1,10 +1,10 @@
-use Rattle.std.proofs.Common.{◌≡◌, ◌≤◌, ◌+◌, ◌-◌, length}
-use Rattle.fts_queue.specs.Trees.{waiters_in}
+use Rattle.std.proofs.Common.{◌≡◌, ◌≤◌, ◌+◌, ◌-◌}
+use Rattle.fts_queue.specs.Trees.{nodes_in}
 use Rattle.fts_queue.proofs.spare.grow.Given as goal
 
 abbrev pub invariant-loop-made : goal.invariant-loop-made
 invariant-loop-made l = record {
-  nodes : length (waiters_in l.spare) ≡ length (waiters_in l.initial.spare) + l.made;
+  nodes : nodes_in l.spare ≡ nodes_in l.initial.spare + l.made;
   below : l.made ≤ l.count;
 }
 

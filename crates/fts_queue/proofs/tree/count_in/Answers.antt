@@ -24,6 +24,7 @@ returns-then-is_ripe-clause-counted c =
     (λ unripe. absurd (false≢true (sym unripe ∙ ripe))) in
     record {
       counts = record { size = counts.size; ripe = omega (arith, counts.ripe, ap one_if ripe); next = counts.next };
+      filled = c.requires.counted.filled;
       left = c.requires.counted.left;
       right = c.requires.counted.right;
     }
@@ -36,6 +37,7 @@ returns-else-is_ripe-clause-counted c =
     (λ unripe. omega (arith, c.min-node.ensures)) in
     record {
       counts = record { size = counts.size; ripe = omega (arith, counts.ripe, ap one_if unripe); next = counts.next };
+      filled = c.requires.counted.filled;
       left = c.requires.counted.left;
       right = c.requires.counted.right;
     }

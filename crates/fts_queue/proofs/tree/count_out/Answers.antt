@@ -24,6 +24,7 @@ returns-then-is_ripe-clause-counted c =
             );
             next = c.requires.counted.counts.next;
           };
+      filled = c.requires.counted.filled;
       left = c.requires.counted.left;
       right = c.requires.counted.right;
     }
@@ -42,6 +43,7 @@ returns-else-is_ripe-clause-counted c =
             ripe = omega (arith, c.requires.counted.counts.ripe, ap one_if unripe);
             next = c.requires.counted.counts.next;
           };
+      filled = c.requires.counted.filled;
       left = c.requires.counted.left;
       right = c.requires.counted.right;
     }

@@ -2,7 +2,7 @@ use Rattle.std.proofs.Common.{◌≡◌, ◌+◌, ◌≤◌, ◌∙◌, ℕ, ap,
 use Rattle.std.specs.Prelude.{filter, slice_get, option_map, ◌&&◌}
 use Rattle.fts_tables.specs.declared.settings.LinkAt.{LinkAt}
 use Rattle.fts_queue.specs.declared.waiter.Waiter.{Waiter}
-use Rattle.fts_queue.specs.declared.tree.Mark.TheVariants.{Start}
+use Rattle.fts_queue.specs.declared.waiter.Mark.TheVariants.{Start}
 use Rattle.fts_queue.specs.WaitingData.{AreSortedBy, goes_before, is_in, is_ripe}
 use Rattle.fts_queue.specs.Trees.{waiters_in, stands_before}
 use Rattle.fts_queue.proofs.Sorting.{filter_sorted}

@@ -1,7 +1,7 @@
 use Rattle.std.proofs.Common.{◌∙◌, ap, sym, arith, length}
 use Rattle.std.specs.Prelude.{filter}
 use Rattle.fts_queue.specs.declared.waiter.Waiter.{Waiter}
-use Rattle.fts_queue.specs.declared.tree.Mark.TheVariants.{File}
+use Rattle.fts_queue.specs.declared.waiter.Mark.TheVariants.{File}
 use Rattle.fts_queue.specs.Trees.{waiters_in, stands_before}
 use Rattle.fts_queue.specs.WaitingData.{next_bound}
 use Rattle.fts_queue.proofs.TreeCounts.{filter_fits}

@@ -1,22 +1,17 @@
 use Rattle.std.proofs.Common.{◌≡◌, ◌+◌, ◌∙◌, sym, ap, subst, arith, List, ℕ}
 use Rattle.fts_queue.specs.declared.rooms.Room.{Room}
 use Rattle.fts_queue.specs.WaitingData.{WaitingData, AreWaiting, with_room, room_of}
-use Rattle.fts_queue.specs.Trees.{waiters_in}
-use Rattle.fts_queue.proofs.QueueRooms.{waiting_raised, whole_raised, whole_room, all_fit}
+use Rattle.fts_queue.specs.Waiting.{waiting_data}
+use Rattle.fts_queue.proofs.QueueRooms.{waiting_raised, whole_raised, whole_room}
+use Rattle.fts_queue.proofs.Packing.{few_enough}
 use Rattle.fts_queue.proofs.waiting.Waiting.make_room.Goals as goal
 
 pub count_in-requires-clause-fits : goal.count_in-requires-clause-fits
-count_in-requires-clause-fits c =
-    omega (
-      arith,
-      all_fit c.self.inside.rooms.items (waiters_in c.self.inside.tree) c.self.invariant.waiters.rooms,
-      c.self.invariant.whole,
-      c.self.invariant.fits,
-    )
+count_in-requires-clause-fits c = few_enough c.self.inside c.self.invariant
 
 pub invariant_of-self-2 : goal.invariant_of-self-2
 invariant_of-self-2 c =
-    let inside : WaitingData = record { waiters = waiters_in c.self.inside.tree; moment = c.self.inside.moment; rooms = c.self.inside.rooms.items } in
+    let inside : WaitingData = waiting_data c.self.inside in
     let wanted : ℕ = c.count_in.result + c.args.more in
     let rooms : c.raise.new.rooms.items ≡ with_room c.args.link c.args.activity wanted inside.rooms =
     c.raise.ensures.rooms ∙ ap (with_room c.args.link c.args.activity wanted) c.in_ok-reserve.ensures.items in
@@ -33,6 +28,6 @@ invariant_of-self-2 c =
         ap (room_of c.args.link c.args.activity) c.as_slice.ensures.value,
         c.self.invariant.whole,
       );
-      nodes = omega (arith, c.in_ok-grow.ensures.ok, c.self.invariant.nodes);
+      nodes = omega (arith, c.nodes_for.ensures.nodes, c.nodes_for-2.ensures.nodes, c.in_ok-grow.ensures.ok, c.self.invariant.nodes);
       fits = omega (arith, c.if-whole-gt-MOST_ROOM.false);
     }

@@ -1,20 +1,14 @@
-use Rattle.std.proofs.Common.{sym, subst, arith}
+use Rattle.std.proofs.Common.{sym, subst}
 use Rattle.std.specs.Prelude.{IsTrue}
 use Rattle.std.specs.List.{list_any}
 use Rattle.fts_queue.specs.WaitingData.{WaitingData, is_same_place}
 use Rattle.fts_queue.specs.Trees.{waiters_in}
-use Rattle.fts_queue.proofs.QueueRooms.{all_fit}
 use Rattle.fts_queue.proofs.TakenFile.{stands_at}
+use Rattle.fts_queue.proofs.Packing.{few_enough}
 use Rattle.fts_queue.proofs.waiting.Waiting.remove.Goals as goal
 
 pub place_of_file-place-requires-clause-fits : goal.place_of_file-place-requires-clause-fits
-place_of_file-place-requires-clause-fits c =
-    omega (
-      arith,
-      all_fit c.self.inside.rooms.items (waiters_in c.self.inside.tree) c.self.invariant.waiters.rooms,
-      c.self.invariant.whole,
-      c.self.invariant.fits,
-    )
+place_of_file-place-requires-clause-fits c = few_enough c.self.inside c.self.invariant
 
 pub remove_waiter-requires : goal.remove_waiter-requires
 remove_waiter-requires c = record {

@@ -3,10 +3,11 @@ use Rattle.fts_queue.specs.declared.tree.Tree.{Tree}
 use Rattle.fts_queue.specs.Trees.{waiters_in, size_of, ripe_of, next_of, IsCounted}
 use Rattle.fts_queue.specs.WaitingData.{is_ripe}
 use Rattle.fts_queue.proofs.TreeCounts.{counts_of_tree}
-use Rattle.fts_queue.proofs.TreePlaces.{not_yet, all_ripe, still_counted}
+use Rattle.fts_queue.proofs.TreePlaces.{not_yet, all_ripe}
+use Rattle.fts_queue.proofs.ChunkPlaces.{still_counted}
 use Rattle.std.specs.List.{AllByRecursion}
 use Rattle.std.proofs.Common.{inl, inr}
-use Rattle.fts_queue.proofs.tree.+ripen.Goals as goal
+use Rattle.fts_queue.proofs.lookup.+ripen.Goals as goal
 
 pub returns-else-may_change-clause-counted : goal.returns-else-may_change-clause-counted
 returns-else-may_change-clause-counted t c =
