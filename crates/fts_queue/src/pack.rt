@@ -24,7 +24,7 @@ use crate::tree::{Node, Tree};
 /// A tree whose nodes are full, the node that is filled next, and spare nodes.
 struct Packing {
     full: Tree,
-    open: Box<Node>,
+    filling: Box<Node>,
     spare: Tree,
 }
 
@@ -38,31 +38,31 @@ pub struct Packed {
 fn pack_next(packing: Packing, mut next: Box<Node>, moment: u64) -> Packing
     requires counted { IsCounted moment packing.full }
     requires full { CHUNK_ROOM * nodes_in packing.full ≤ length (waiters_in packing.full) }
-    requires open { 0 < length (out-Node packing.open.value).waiters.items }
-    requires singles { (nodes_of packing.open.value ≡ 1) × (nodes_of next.value ≡ 1) }
-    requires fits { length (waiters_in packing.full ++ (out-Node packing.open.value).waiters.items ++ (out-Node next.value).waiters.items) < 2 ^ 32 }
+    requires filling { 0 < length (out-Node packing.filling.value).waiters.items }
+    requires singles { (nodes_of packing.filling.value ≡ 1) × (nodes_of next.value ≡ 1) }
+    requires fits { length (waiters_in packing.full ++ (out-Node packing.filling.value).waiters.items ++ (out-Node next.value).waiters.items) < 2 ^ 32 }
     ensures counted { IsCounted moment result.full }
     ensures full { CHUNK_ROOM * nodes_in result.full ≤ length (waiters_in result.full) }
-    ensures open { 0 < length (out-Node result.open.value).waiters.items }
-    ensures single { nodes_of result.open.value ≡ 1 }
-    ensures waiters { waiters_in result.full ++ (out-Node result.open.value).waiters.items
-        ≡ waiters_in packing.full ++ (out-Node packing.open.value).waiters.items ++ (out-Node next.value).waiters.items }
+    ensures filling { 0 < length (out-Node result.filling.value).waiters.items }
+    ensures single { nodes_of result.filling.value ≡ 1 }
+    ensures waiters { waiters_in result.full ++ (out-Node result.filling.value).waiters.items
+        ≡ waiters_in packing.full ++ (out-Node packing.filling.value).waiters.items ++ (out-Node next.value).waiters.items }
     ensures nodes { nodes_in result.full + nodes_in result.spare ≡ nodes_in packing.full + nodes_in packing.spare + 1 }
 {
     let Packing {
         full,
-        mut open,
+        mut filling,
         spare,
     } = packing;
-    pour(&mut next.waiters, &mut open.waiters);
+    pour(&mut next.waiters, &mut filling.waiters);
     if next.waiters.is_empty() {
         let spare = Tree::Branch(store(spare, next));
-        return Packing { full, open, spare };
+        return Packing { full, filling, spare };
     }
-    let full = Tree::Branch(put_last(full, open, moment));
+    let full = Tree::Branch(put_last(full, filling, moment));
     Packing {
         full,
-        open: next,
+        filling: next,
         spare,
     }
 }
@@ -87,11 +87,11 @@ pub fn pack(tree: Tree, spare: Tree, moment: u64) -> Packed
     };
     let First {
         mut rest,
-        node: open,
+        node: filling,
     } = take_first(top, moment);
     let mut packing = Packing {
         full: Tree::Leaf,
-        open,
+        filling,
         spare,
     };
     loop {
@@ -104,9 +104,9 @@ pub fn pack(tree: Tree, spare: Tree, moment: u64) -> Packed
             },
         }
     }
-    let Packing { full, open, spare } = packing;
+    let Packing { full, filling, spare } = packing;
     Packed {
-        tree: Tree::Branch(put_last(full, open, moment)),
+        tree: Tree::Branch(put_last(full, filling, moment)),
         spare,
     }
 }
