@@ -12,7 +12,7 @@ use Rattle.fts_tables.specs.declared.rows.FileRow.{FileRow}
 use Rattle.fts_tables.specs.declared.commands.Answer.TheVariants.{Claimed}
 use Rattle.fts_tables.specs.declared.commands.Refusal.TheVariants.{Idle}
 use Rattle.fts_desk.specs.Prepared.{IsPrepared}
-use Rattle.fts_desk.specs.declared.desk.DeskFault.TheVariants.{Rule}
+use Rattle.fts_desk.specs.declared.desk.DeskFault.TheVariants.{Rule, Memory}
 
 -- the row at a place has the id behind it
 id_at : (first : ℕ) (rows : List FileRow) (place : ℕ) (other : FileRow) → AreNumberedFrom (λ row. row.id) first rows → place < length rows
@@ -90,3 +90,8 @@ idle_after T tables now picked none = subst (λ found. IsPrepared {T = T} (claim
 pub accepted : {T : Type 0} (tables : Tables) (now word : ℕ) (made : T) (row : FileRow) → pick tables now word ≡ Some row
     → IsPrepared {T = T} (claim tables now (pick tables now word)) (Ok made)
 accepted {T} tables now word made row picked = subst (λ found. IsPrepared {T = T} (claim tables now found) (Ok made)) (sym picked) tt
+
+-- where a row is picked, memory may be short
+pub short_of_memory : (T : Type 0) (tables : Tables) (now word : ℕ) (row : FileRow) → pick tables now word ≡ Some row
+    → IsPrepared {T = T} (claim tables now (pick tables now word)) (Err Memory)
+short_of_memory T tables now word row picked = subst (λ found. IsPrepared {T = T} (claim tables now found) (Err Memory)) (sym picked) tt

@@ -54,7 +54,8 @@ made_as T U (Err refusal) made other prepared = absurd prepared
 
 -- and refused is refused
 pub refused_as : (T U : Type 0) (outcome : Outcomes) (fault : DeskFault) → IsPrepared {T = T} outcome (Err fault) → IsPrepared {T = U} outcome (Err fault)
-refused_as T U outcome Memory prepared = prepared
+refused_as T U (Ok done) Memory prepared = prepared
+refused_as T U (Err refusal) Memory prepared = prepared
 refused_as T U (Ok done) (Rule rule) prepared = prepared
 refused_as T U (Err refusal) (Rule rule) prepared = prepared
 

@@ -5,7 +5,7 @@ use Rattle.std.proofs.lemmas.Option.{same_Some, slice_get_within, slice_get-get_
 use Rattle.fts_tables.specs.declared.places.Place.{Place}
 use Rattle.fts_tables.specs.declared.rows.FileRow.{FileRow}
 use Rattle.fts_desk.specs.Kept.{tables_kept}
-use Rattle.fts_desk.proofs.Claiming.{accepted, idle_after}
+use Rattle.fts_desk.proofs.Claiming.{accepted, idle_after, short_of_memory}
 use Rattle.fts_desk.proofs.ClaimedParts.{file_of, no_file, found_at}
 use Rattle.fts_desk.proofs.claims.find_claim.Goals as goal
 
@@ -59,3 +59,12 @@ returns-in-Ok-clause-dest c = λ row at.
     let inside = slice_get_within rows (c.in-Some.file - 1) row at in
     let same = same_Some row c.index.result.now (sym at ∙ (slice_get-get_or rows (c.in-Some.file - 1) _ inside ∙ ap (λ row. Some row) (sym c.index.ensures))) in
     ap (λ (row : FileRow). row.dest) same ∙ c.in-Ok.ensures.dest
+
+pub returns-in-Err-clause-answer : goal.returns-in-Err-clause-answer
+returns-in-Err-clause-answer c =
+    let tables = tables_kept c.args.kept.now in
+    let now = max c.args.now tables.moment in
+    let file = file_of tables c.deref.result.now c.deref-2.result.now now c.max-moment.result c.args.word (Some c.in-Some.file) c.deref.ensures.value
+    c.deref-2.ensures.value c.max-moment.ensures (c.find_file-found.ensures.file ∙ c.in-Some.is) in
+    let found = found_at tables now c.args.word c.in-Some.file (λ row picked. c.picked_rows_stand.ensures.place tables now c.args.word row c.requires.formed picked) file in
+    short_of_memory (ℕ × Place) tables now c.args.word found.row found.picked
