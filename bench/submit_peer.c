@@ -1,7 +1,8 @@
 /* The peer of submissions over kept connections: four threads on one listener of 127.0.0.1, each of which serves one connection after another. To each
  * request it answers one fixed text, behind the calls that an entry of the journal costs and nothing else: two positioned writes of 200 bytes and of one, each
  * followed by fdatasync, under one lock, on a file with zeros ahead. So it says what four connections can reach beside appends alone on a machine.
- * Build: cc -O2 -pthread -o submit_peer submit_peer.c. Run: submit_peer PORT PATH. */
+ * Where INSIDE is named, it keeps a processor busy for so many microseconds within the lock, before and behind these calls by halves.
+ * Build: cc -O2 -pthread -o submit_peer submit_peer.c. Run: submit_peer PORT PATH [INSIDE]. */
 #define _GNU_SOURCE
 #include <arpa/inet.h>
 #include <fcntl.h>
@@ -12,6 +13,7 @@
 #include <stdlib.h>
 #include <string.h>
 #include <sys/socket.h>
+#include <time.h>
 #include <unistd.h>
 
 enum { LANES = 4, REQUEST_BYTES = 16384, ENTRY_BYTES = 200, JOURNAL_BYTES = 1 << 26 };
@@ -23,6 +25,18 @@ static const char answer[] =
 static pthread_mutex_t turn = PTHREAD_MUTEX_INITIALIZER;
 static int journal;
 static off_t end;
+static long inside;
+
+static long nanoseconds(void) {
+    struct timespec now;
+    clock_gettime(CLOCK_MONOTONIC, &now);
+    return now.tv_sec * 1000000000L + now.tv_nsec;
+}
+
+static void work(long nanos) {
+    long until = nanoseconds() + nanos;
+    while (nanos > 0 && nanoseconds() < until) {}
+}
 
 static int synced(const char *bytes, size_t count, off_t at) {
     return pwrite(journal, bytes, count, at) == (ssize_t)count && fdatasync(journal) == 0;
@@ -31,9 +45,11 @@ static int synced(const char *bytes, size_t count, off_t at) {
 static int append(void) {
     static const char entry[ENTRY_BYTES] = {7};
     pthread_mutex_lock(&turn);
+    work(inside / 2);
     if (end + ENTRY_BYTES + 1 > JOURNAL_BYTES) end = 0;
     int done = synced(entry, ENTRY_BYTES, end + 1) && synced("\1", 1, end);
     end += ENTRY_BYTES + 1;
+    work(inside / 2);
     pthread_mutex_unlock(&turn);
     return done;
 }
@@ -86,7 +102,8 @@ static int made(const char *path) {
 }
 
 int main(int count, char **words) {
-    if (count != 3) return fprintf(stderr, "submit_peer PORT PATH\n"), 2;
+    if (count < 3) return fprintf(stderr, "submit_peer PORT PATH [INSIDE]\n"), 2;
+    inside = count > 3 ? 1000 * atol(words[3]) : 0;
     if (!made(words[2])) return perror("submit_peer"), 1;
     int listener = socket(AF_INET, SOCK_STREAM, 0), one = 1;
     struct sockaddr_in at = {.sin_family = AF_INET, .sin_port = htons((unsigned short)atoi(words[1])), .sin_addr = {htonl(INADDR_LOOPBACK)}};
