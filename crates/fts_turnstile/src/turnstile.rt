@@ -1,7 +1,7 @@
 //! The lock: one value, one list of turns, and passes that know what they have seen and what they added.
 //! Keeps: the table has three words and one slot (the invariant below), and the rule of `specs/Rule.antt` between any two steps.
 //! Order of a turn: take a ticket, look until the turn is that ticket's, take the value, work, put the value back, pass the turn on.
-//! The value is back before the turn moves, and the turn moves before those who sleep are woken.
+//! The value is back before the turn moves, and the turn moves before the next in line is woken. Who sleeps does so on a bell of its ticket's own.
 //! For threads that share one value, one pass a thread. Its caller today is `bench_turnstile`. `with_turn` waits; nothing else does.
 ghost use Rattle.std.specs.Prelude.{◌≡◌, ◌≢◌, ◌+◌, ◌%◌, ◌<◌, [], ◌∷◌, Some, None, IfOk, IfErr};
 ghost use Rattle.std.specs.Fn.{FnOnceReturnsAtMut};
@@ -10,6 +10,7 @@ ghost use Rattle.fts_turnstile.specs.Views.{Rests, IsWaiting, IsServed, view_tol
 ghost use Rattle.fts_turnstile.specs.Steps.{Served, Entered, MayLeave, Left};
 ghost use Rattle.fts_turnstile.specs.Passes.{IsOf, IsSame, numbers_of, seen_list, own_items, Appends, TookTurn, first_pass, pass_after_split, pass_given, with_seen, pass_after_join, HasAll};
 
+use crate::bells::Bells;
 use crate::logged::Logged;
 use crate::memory::Memory;
 use crate::pass::Pass;
@@ -25,13 +26,14 @@ use std::marker::Model;
 use std::snapshot::Snapshot;
 use std::sync::Wait;
 
-/// How often a pass looks at the turn before it sleeps until the turn moves.
+/// How often a pass looks at the turn before it sleeps until its bell is rung.
 const LOOKS_BEFORE_SLEEP: u32 = 100;
 
 /// A ticket lock over one value.
 #[derive(Drop)]
 pub struct Turnstile<T: Logged> {
     table: Table<Option<T>, View<T::Item>, Snapshot<T>, TurnstileRule<T>, Global>,
+    bells: Bells,
 }
 
 impl<T: Logged> Model for Turnstile<T> {
@@ -62,7 +64,10 @@ impl<T: Logged> Turnstile<T> {
             Err(value) => return Err((Memory, value)),
         };
         match Table::new(alloc, &[0, 0, 1], slots, &key) {
-            Ok((table, seat)) => Ok((Turnstile { table }, Pass { seat, number: 0 })),
+            Ok((table, seat)) => {
+                let bells = Bells::new();
+                Ok((Turnstile { table, bells }, Pass { seat, number: 0 }))
+            }
             Err(Refused { slots }) => Err((Memory, value_of(slots))),
         }
     }
@@ -152,7 +157,7 @@ impl<T: Logged> Turnstile<T> {
         ensures named { AllNamed T.names pass.seen }
         ensures takers { AllGiven pass.given pass.seen }
     {
-        let Turnstile { table } = self;
+        let Turnstile { table, bells: _ } = self;
         let Pass { seat, number: _ } = pass;
         let mut closed = table.close_with(seat);
         let value = closed.take(VALUE);
@@ -190,6 +195,7 @@ impl<T: Logged> Turnstile<T> {
     {
         let mut looks = 0;
         for _ in rt.forever() {
+            let heard = self.bells.heard(ticket);
             let turn = self.table.shared.load::<LookAtTurn<T>>(seat, TURN);
             if turn == ticket {
                 return;
@@ -197,19 +203,13 @@ impl<T: Logged> Turnstile<T> {
             if looks < LOOKS_BEFORE_SLEEP {
                 looks += 1;
             } else {
-                self.sleep_until_moved(rt, turn);
+                self.bells.sleep(rt, ticket, heard);
             }
         }
         unreachable!()
     }
 
-    // Sleeps unless the turn has moved since this look, until it moves. It may also return for no reason.
-    // Fewer than 2^32 turns pass while a pass waits, so the low half of the word tells each of them.
-    fn sleep_until_moved<W: Wait>(&self, rt: &W, turn: u64) {
-        self.table.shared.park(rt, TURN, (turn % 4294967296) as u32);
-    }
-
-    // Puts the value back, passes the turn on, and wakes whoever waits.
+    // Puts the value back, passes the turn on, and wakes the next in line.
     fn leave(&self, seat: &mut Seat<Option<T>, View<T::Item>>, value: T)
         requires own { seat.old.table_id ≡ self.now.table }
         requires served { IsServed seat.old.me.0 × (seat.old.me.1 ≡ (0, None) ∷ []) }
@@ -222,14 +222,13 @@ impl<T: Logged> Turnstile<T> {
             Some(_) => unreachable!(),
         }
         let turn = self.table.shared.fetch_add::<PassTurn<T>>(seat, TURN, 1);
-        self.wake_waiting(turn);
+        self.wake_next(turn.wrapping_add(1));
     }
 
-    // Wakes those who sleep. Where no ticket follows that of the turn just passed, nobody does:
-    // who takes one later looks at the turn after that, and finds it moved.
-    fn wake_waiting(&self, turn: u64) {
-        if self.table.shared.peek(TICKET) != turn.wrapping_add(1) {
-            self.table.shared.wake_all(TURN);
+    // Wakes the holder of a ticket. Where that ticket isn't drawn yet nobody has it: who draws it later looks at the turn after that, and finds it moved.
+    fn wake_next(&self, ticket: u64) {
+        if self.table.shared.peek(TICKET) != ticket {
+            self.bells.ring(ticket);
         }
     }
 
