@@ -66,47 +66,68 @@ def job(number):
     return json.dumps({"files": files, "params": {"priority": 1 + number % 5, "retry": 3}}).encode()
 
 
-def seconds(program, preload, order, jobs):
-    """How long the cancellations of an order take, one of them, on a service on which so many jobs wait."""
-    place, count = ORDERS[order]
-    folder = pathlib.Path(tempfile.mkdtemp(dir="/dev/shm"))
-    large = folder / "grid" / "https:,,s0.example" / "large"
-    large.parent.mkdir(parents=True)
-    with open(large, "wb") as file:
-        file.truncate(1 << 32)
-    (folder / "fts.toml").write_text(SETTINGS)
-    with socket.create_server(("127.0.0.1", 0)) as server:
-        port = server.getsockname()[1]
-    words = [program, str(folder), "serve", "--port", str(port), "--lanes", "2"]
-    process = subprocess.Popen(words, stdin=subprocess.DEVNULL, env=dict(os.environ, LD_PRELOAD=preload))
-    try:
+class Service:
+    """A service over a folder in memory whose one worker is kept in the read of a large file, so nothing else is claimed."""
+
+    def __init__(self, program, preload):
+        self.folder = pathlib.Path(tempfile.mkdtemp(dir="/dev/shm"))
+        large = self.folder / "grid" / "https:,,s0.example" / "large"
+        large.parent.mkdir(parents=True)
+        with open(large, "wb") as file:
+            file.truncate(1 << 32)
+        (self.folder / "fts.toml").write_text(SETTINGS)
+        with socket.create_server(("127.0.0.1", 0)) as server:
+            self.port = server.getsockname()[1]
+        words = [program, str(self.folder), "serve", "--port", str(self.port), "--lanes", "2"]
+        self.process = subprocess.Popen(words, stdin=subprocess.DEVNULL, env=dict(os.environ, LD_PRELOAD=preload))
+
+    def client(self):
         for _ in range(200):
             try:
-                client = Client(port)
-                break
+                return Client(self.port)
             except OSError:
                 time.sleep(0.02)
-        held = json.dumps({"files": [{"sources": [f"{ENDPOINTS[0]}/large"], "destinations": [f"{ENDPOINTS[4]}/large"]}]}).encode()
-        client.ask([request(b"POST", b"/jobs", held)])
-        time.sleep(0.3)
-        ids = []
-        for number in range(jobs):
-            ids += re.findall(rb'"job_id":"([^"]+)"', client.ask([request(b"POST", b"/jobs", job(number))]))
-        batches, batch = [], []
-        for turn in range(count(jobs)):
-            at = place(jobs, turn)
-            batch.append(request(b"DELETE", b"/jobs/%s/files/%d" % (ids[at // FILES], at + 2)))
-            if len(batch) == BATCH:
-                batches.append(batch)
-                batch = []
+        raise SystemExit("it does not listen")
+
+    def end(self):
+        self.process.send_signal(signal.SIGKILL)
+        self.process.wait()
+        shutil.rmtree(self.folder)
+
+
+def fill(client, jobs):
+    """The ids of so many jobs, behind the one that keeps the worker."""
+    held = json.dumps({"files": [{"sources": [f"{ENDPOINTS[0]}/large"], "destinations": [f"{ENDPOINTS[4]}/large"]}]}).encode()
+    client.ask([request(b"POST", b"/jobs", held)])
+    time.sleep(0.3)
+    ids = []
+    for number in range(jobs):
+        ids += re.findall(rb'"job_id":"([^"]+)"', client.ask([request(b"POST", b"/jobs", job(number))]))
+    return ids
+
+
+def batches(ids, order):
+    """The cancellations of an order, so many at a time. The first file of the first job is file 2, behind that of the worker's."""
+    place, count = ORDERS[order]
+    requests = []
+    for turn in range(count(len(ids))):
+        at = place(len(ids), turn)
+        requests.append(request(b"DELETE", b"/jobs/%s/files/%d" % (ids[at // FILES], at + 2)))
+    return [requests[first : first + BATCH] for first in range(0, len(requests), BATCH)]
+
+
+def seconds(program, preload, order, jobs):
+    """How long one cancellation of an order takes on a service on which so many jobs wait."""
+    service = Service(program, preload)
+    try:
+        client = service.client()
+        asked = batches(fill(client, jobs), order)
         begun = time.perf_counter()
-        for batch in batches:
+        for batch in asked:
             client.ask(batch)
-        return (time.perf_counter() - begun) / (len(batches) * BATCH)
+        return (time.perf_counter() - begun) / sum(len(batch) for batch in asked)
     finally:
-        process.send_signal(signal.SIGKILL)
-        process.wait()
-        shutil.rmtree(folder)
+        service.end()
 
 
 def main():
@@ -117,8 +138,8 @@ def main():
         preload = f"{work}/slow_reads.so"
         subprocess.run(["gcc", "-O2", "-shared", "-fPIC", "-o", preload, str(here / "slow_reads.c")], check=True)
         for order in ORDERS:
-            least = {jobs: min(seconds(program, preload, order, jobs) for _ in range(1)) for jobs in SIZES}
-            for _ in range(rounds - 1):
+            least = dict.fromkeys(SIZES, float("inf"))
+            for _ in range(rounds):
                 for jobs in SIZES:
                     least[jobs] = min(least[jobs], seconds(program, preload, order, jobs))
             few, more, most = (least[jobs] * 1e6 for jobs in SIZES)
