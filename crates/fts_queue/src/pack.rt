@@ -57,7 +57,11 @@ fn pack_next(packing: Packing, mut next: Box<Node>, moment: u64) -> Packing
     pour(&mut next.waiters, &mut filling.waiters);
     if next.waiters.is_empty() {
         let spare = Tree::Branch(store(spare, next));
-        return Packing { full, filling, spare };
+        return Packing {
+            full,
+            filling,
+            spare,
+        };
     }
     let full = Tree::Branch(put_last(full, filling, moment));
     Packing {
@@ -104,7 +108,11 @@ pub fn pack(tree: Tree, spare: Tree, moment: u64) -> Packed
             },
         }
     }
-    let Packing { full, filling, spare } = packing;
+    let Packing {
+        full,
+        filling,
+        spare,
+    } = packing;
     Packed {
         tree: Tree::Branch(put_last(full, filling, moment)),
         spare,
