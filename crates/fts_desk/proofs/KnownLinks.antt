@@ -1,15 +1,15 @@
 -- Links that there is room for: one more, and the loads of rows where others are known too.
 use Rattle.std.proofs.Common.{◌≡◌, ℕ, zero, suc, ◌+◌, ◌-◌, ◌≤◌, Bool, true, false, cond, List, [], ◌∷◌, ◌++◌, length, map, take, drop, Some, refl, ap, sym, ◌∙◌, subst, arith, length-append}
-use Rattle.std.specs.Prelude.{◌&&◌, ◌||◌, count_by, slice_get}
-use Rattle.std.specs.List.{list_all}
+use Rattle.std.specs.Prelude.{◌&&◌, ◌||◌, count_by, slice_get, insert}
+use Rattle.std.specs.List.{list_all, prefix_len}
 use Rattle.std.proofs.lemmas.Bool.{and_parts}
 use Rattle.std.proofs.lemmas.List.{length-map, map-append}
-use Rattle.std.proofs.lemmas.List.Folds.{list_any-append, list_all-append}
+use Rattle.std.proofs.lemmas.List.Folds.{list_all-append}
 use Rattle.std.proofs.lemmas.Option.{same_Some}
 use Rattle.fts_tables.specs.Choice.{load}
 use Rattle.fts_tables.specs.declared.rows.NewFile.{NewFile}
 use Rattle.fts_tables.specs.declared.rows.FileRow.{FileRow}
-use Rattle.fts_index.specs.Links.{Link, LinkLists, is_link, count_of, is_among, with_link}
+use Rattle.fts_index.specs.Links.{Link, LinkLists, is_link, is_link_before, count_of, is_among, with_link}
 use Rattle.fts_index.specs.LiveLinks.{link_of_row, live_links}
 use Rattle.fts_desk.specs.Loaded.{link_of_file, load_in, are_known, AreLoadsOf, MayCount}
 use Rattle.fts_desk.proofs.AddedRows.{rows_behind}
@@ -27,22 +27,45 @@ or_right false other is = is
 both : (one other : Bool) → one ≡ true → other ≡ true → (one && other) ≡ true
 both one other is_one is_other = ap (λ answer. answer && other) is_one ∙ is_other
 
+-- a link that is put in somewhere leaves the others there, and is there itself
+any_insert : (links : List Link) (number : ℕ) (more link : Link) → is_among links link ≡ true → is_among (insert links number more) link ≡ true
+any_insert [] number more link is = cc
+any_insert (first ∷ rest) zero more link is = or_right (is_link link more) (is_link link first || is_among rest link) is
+any_insert (first ∷ rest) (suc number) more link is = by_head (any_insert rest number more link) (is_link link first) is
+  where
+    by_head : (is_among rest link ≡ true → is_among (insert rest number more) link ≡ true) → (answer : Bool)
+        → (answer || is_among rest link) ≡ true → (answer || is_among (insert rest number more) link) ≡ true
+    by_head behind true is = refl
+    by_head behind false is = behind is
+
+itself_inserted : (links : List Link) (number : ℕ) (more : Link) → is_among (insert links number more) more ≡ true
+itself_inserted [] zero more = or_left (is_link more more) false (is_link-refl more)
+itself_inserted [] (suc number) more = or_left (is_link more more) false (is_link-refl more)
+itself_inserted (first ∷ rest) zero more = or_left (is_link more more) (is_among (first ∷ rest) more) (is_link-refl more)
+itself_inserted (first ∷ rest) (suc number) more =
+    or_right (is_link more first) (is_among (insert rest number more) more) (itself_inserted rest number more)
+
 -- what was known stays known with one link more
 known-more : (known : List Link) (more link : Link) → is_among known link ≡ true → is_among (with_link known more) link ≡ true
 known-more known more link is = by_test (is_among known more)
   where
-    by_test : (answer : Bool) → is_among (cond answer known (known ++ more ∷ [])) link ≡ true
+    number : ℕ
+    number = prefix_len (λ other. is_link_before other more) known
+
+    by_test : (answer : Bool) → is_among (cond answer known (insert known number more)) link ≡ true
     by_test true = is
-    by_test false = list_any-append (is_link link) known (more ∷ []) ∙ or_left (is_among known link) (is_among (more ∷ []) link) is
+    by_test false = any_insert known number more link is
 
 -- the link itself is known then
 known-itself : (known : List Link) (more : Link) → is_among (with_link known more) more ≡ true
 known-itself known more = by_test (is_among known more) refl
   where
-    by_test : (answer : Bool) → is_among known more ≡ answer → is_among (cond answer known (known ++ more ∷ [])) more ≡ true
+    number : ℕ
+    number = prefix_len (λ other. is_link_before other more) known
+
+    by_test : (answer : Bool) → is_among known more ≡ answer → is_among (cond answer known (insert known number more)) more ≡ true
     by_test true is = is
-    by_test false is = list_any-append (is_link more) known (more ∷ [])
-        ∙ or_right (is_among known more) (is_among (more ∷ []) more) (or_left (is_link more more) false (is_link-refl more))
+    by_test false is = itself_inserted known number more
 
 -- so all that were known stay known
 pub all_known-more : (known : List Link) (more : Link) (links : List Link) → list_all (is_among known) links ≡ true

@@ -1,7 +1,6 @@
 //! The transfer machine's tables, as a running service keeps them.
 //! A command is applied in two steps: `Desk::prepare` refuses it or makes room for it, and `Desk::commit` does it, takes no memory and can't fail.
-//! A caller that keeps a journal writes the command to it once it is prepared, and commits it once it is written. `fts_top`, which calls the desk
-//! today, keeps none.
+//! A caller that keeps a journal writes the command to it once it is prepared, and commits it once it is written, as `fts_keep` does.
 //! Each command is a module of its own: a check that answers as the machine's step would, and the step. `commands.rt` brings them together.
 #![tactic(auto)]
 

@@ -1,14 +1,19 @@
 -- Entries of links, and the list of links that they count.
 use Rattle.std.proofs.Common.{◌≡◌, ℕ, zero, suc, ◌+◌, ◌<◌, Bool, true, false, cond, List, [], ◌∷◌, ◌++◌, length, Some, None, refl, ap, sym, ◌∙◌, arith, subst, append_assoc, get_or}
-use Rattle.std.specs.Prelude.{◌&&◌, ◌||◌, bytes_eq, map, replicate, slice_get}
+use Rattle.std.specs.Prelude.{◌&&◌, ◌||◌, bytes_eq, map, replicate, slice_get, insert}
 use Rattle.std.specs.List.{position_from}
 use Rattle.std.proofs.Math.ListN.{set}
 use Rattle.std.proofs.lemmas.Bool.{and_parts, or_parts, eqb-true, eq-eqb}
 use Rattle.fts_index.specs.Links.{Link, HasOneMore, is_link, is_among, count_of}
-use Rattle.fts_index.specs.Loads.{link_of_known, links_counted, AreApart}
+use Rattle.fts_index.specs.Loads.{link_of_known, links_counted}
 use Rattle.fts_index.specs.declared.loads.Known.{Known}
 use Rattle.fts_index.proofs.TableLists.{count_by-cons, count_by-append}
 use Rattle.fts_index.proofs.Found.{any_at, found_from, none_from, split_at, get_or-at}
+
+-- links that each stand there once
+abbrev pub AreApart : List Link → Type 0
+AreApart [] = Unit {0}
+AreApart (link ∷ links) = (is_among links link ≡ false) × AreApart links
 
 -- the link of an entry stands at the entry's place
 pub slice_get-map : {known : Known} → (entries : List Known) (place : ℕ) → slice_get entries place ≡ Some known
@@ -61,7 +66,7 @@ pub is_link-refl : (link : Link) → is_link link link ≡ true
 is_link-refl link = ap (λ answer. answer && bytes_eq link.dest link.dest) (bytes_eq-refl link.source) ∙ bytes_eq-refl link.dest
 
 -- the test goes both ways
-is_link-sym : (one other : Link) → is_link one other ≡ true → is_link other one ≡ true
+pub is_link-sym : (one other : Link) → is_link one other ≡ true → is_link other one ≡ true
 is_link-sym one other is = subst (λ some. is_link some one ≡ true) (same_link one other is) (is_link-refl one)
 
 -- both answers alike
@@ -193,44 +198,24 @@ known_at (first ∷ entries) link (suc place) new entry same =
     ap (λ tail. link_of_known first ∷ tail)
     (known_at entries link place new (record { known = entry.known; at = entry.at; inside = omega (arith, entry.inside); named = entry.named }) same)
 
--- a link is among links with it at their end
-apart_push : (links : List Link) (link : Link) → AreApart links → is_among links link ≡ false → AreApart (links ++ link ∷ [])
-apart_push [] link apart absent = (refl, tt)
-apart_push (first ∷ links) link apart absent =
-    let parts = or_parts (is_link link first) (is_among links link) absent in
-    (is_among-push links link first apart.0 (by_answer (is_link first link) refl parts.0), apart_push links link apart.1 parts.1)
-  where
-    by_answer : (answer : Bool) → is_link first link ≡ answer → is_link link first ≡ false → is_link first link ≡ false
-    by_answer true is other = let clash : true ≡ false = sym (is_link-sym first link is) ∙ other in cc
-    by_answer false is other = is
+-- a new entry that counts nothing, at any place
+pub record IsNewEntry (entries : List Known) (number : ℕ) (new : Known) : Type 0 where
+  pub links : links_counted (insert entries number new) ≡ links_counted entries
+  pub known : map link_of_known (insert entries number new) ≡ insert (map link_of_known entries) number (link_of_known new)
 
-    is_among-push : (some : List Link) (new asked : Link) → is_among some asked ≡ false → is_link asked new ≡ false → is_among (some ++ new ∷ []) asked ≡ false
-    is_among-push [] new asked absent_there other = ap (λ answer. answer || false) other
-    is_among-push (head ∷ some) new asked absent_there other =
-        let both = or_parts (is_link asked head) (is_among some asked) absent_there in
-        ap (λ answer. answer || is_among (some ++ new ∷ []) asked) both.0 ∙ is_among-push some new asked both.1 other
-
--- a new entry that counts nothing
-pub record IsNewEntry (entries : List Known) (new : Known) : Type 0 where
-  pub links : links_counted (entries ++ new ∷ []) ≡ links_counted entries
-  pub known : map link_of_known (entries ++ new ∷ []) ≡ map link_of_known entries ++ link_of_known new ∷ []
-
-pub new_entry : (entries : List Known) (new : Known) → new.count ≡ 0 → IsNewEntry entries new
-new_entry [] new none = record { links = ap (λ count. replicate count (link_of_known new) ++ []) none; known = refl }
-new_entry (first ∷ entries) new none =
-    let behind = new_entry entries new none in
+pub new_entry : (entries : List Known) (number : ℕ) (new : Known) → new.count ≡ 0 → IsNewEntry entries number new
+new_entry [] zero new none = record { links = ap (λ count. replicate count (link_of_known new) ++ []) none; known = refl }
+new_entry [] (suc number) new none = record { links = ap (λ count. replicate count (link_of_known new) ++ []) none; known = refl }
+new_entry (first ∷ entries) zero new none = record {
+  links = ap (λ count. replicate count (link_of_known new) ++ links_counted (first ∷ entries)) none;
+  known = refl;
+}
+new_entry (first ∷ entries) (suc number) new none =
+    let behind = new_entry entries number new none in
     record {
       links = ap (λ tail. replicate first.count (link_of_known first) ++ tail) behind.links;
       known = ap (λ tail. link_of_known first ∷ tail) behind.known;
     }
-
--- a new entry of a link that had none leaves each link with one
-pub apart_with : (entries : List Known) (links : List Link) (new : Known) → map link_of_known entries ≡ links → AreApart (map link_of_known entries)
-    → new.count ≡ 0 → None ≡ position_from (is_link (link_of_known new)) 0 links → AreApart (map link_of_known (entries ++ new ∷ []))
-apart_with entries links new are apart empty none =
-    subst AreApart (sym (new_entry entries new empty).known)
-    (apart_push (map link_of_known entries) (link_of_known new) apart
-    (ap (λ some. is_among some (link_of_known new)) are ∙ none_from (is_link (link_of_known new)) 0 links (sym none)))
 
 -- what is read at an entry's place is the entry
 pub entry_is : (entries : List Known) (link : Link) (place : ℕ) (read : Known) → (entry : IsEntryOf entries link place) → read ≡ get_or entries place read

@@ -4,4 +4,5 @@ mod Ordered
 mod InChunks
 mod Sought
 mod Counted
+mod LinksInOrder
 mod TableLists

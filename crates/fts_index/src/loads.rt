@@ -1,9 +1,34 @@
-//! How many rows wait or run on each link, by the names of the link's ends.
-//! Contracts see the list of links counted and that of the links known. Kept in its type (`AreLoads`): each link has one entry.
+//! How many rows wait or run on each link, by the names of the link's ends, in their order, so that a link is found by a binary search.
+//! Contracts see the list of links counted and that of the links known. Kept in its type (`AreLoads`): each link goes before those behind it.
 //! Order: `make_room` for a link before `add`, which takes no memory. A link that was known stays known.
-ghost use Rattle.std.specs.Prelude.{◌≡◌, ◌<◌, ◌&&◌, [], bytes_eq, position, IsTrue, OnOk, OnErr};
-ghost use Rattle.std.specs.List.{position_from};
-ghost use Rattle.fts_index.specs.Links.{Link, LinkLists, HasOneMore, link_between, is_link, count_of, is_among, with_link};
+ghost use Rattle.std.specs.Prelude.{
+  ◌≡◌,
+  ◌<◌,
+  ◌≤◌,
+  [],
+  length,
+  map,
+  false,
+  slice_get,
+  IsTrue,
+  OnOk,
+  OnErr,
+};
+ghost use Rattle.std.specs.List.{prefix_len, position_from};
+ghost use Rattle.std.specs.Option.{option_map_or};
+ghost use Rattle.fts_index.specs.Links.{
+  Link,
+  LinkLists,
+  HasOneMore,
+  link_between,
+  is_link,
+  is_link_before,
+  count_of,
+  is_among,
+  with_link,
+  AreInOrder,
+};
+ghost use Rattle.fts_index.specs.Loads.{link_of_known};
 
 use fts_tables::{EndpointName, Memory};
 use std::alloc::Global;
@@ -41,12 +66,36 @@ impl Model for Loads {
     ghost invariant = { AreLoads };
 }
 
-/// The first place of a link's entry.
-fn first_place(known: &[Known], source: &EndpointName, dest: &EndpointName) -> Option<usize>
-    ensures place { result ≡ position (λ entry. bytes_eq source.now entry.source && bytes_eq dest.now entry.dest) known.now }
+/// Whether an entry's link goes before another: by the source's name, then by the destination's.
+fn is_before(entry: &Known, source: &EndpointName, dest: &EndpointName) -> bool
+    ensures answer { result ≡ is_link_before (link_of_known entry.now) (link_between source.now dest.now) }
 {
-    known.iter().position(|entry| source.as_str() == entry.source.as_str()
-        && dest.as_str() == entry.dest.as_str())
+    entry
+        .source
+        .as_str()
+        .cmp(source.as_str())
+        .then(entry.dest.as_str().cmp(dest.as_str()))
+        .is_lt()
+}
+
+/// How many entries go before a link.
+fn count_before(known: &[Known], source: &EndpointName, dest: &EndpointName) -> usize
+    requires order { AreInOrder (map link_of_known known.now) }
+    ensures count { result ≡ prefix_len (λ other. is_link_before other (link_between source.now dest.now)) (map link_of_known known.now) }
+    ensures inside { result ≤ length known.now }
+{
+    known.partition_point(|entry| is_before(entry, source, dest))
+}
+
+/// Whether the entry at a place is a link's.
+fn is_at(known: &[Known], place: usize, source: &EndpointName, dest: &EndpointName) -> bool
+    ensures answer { result ≡ option_map_or (is_link (link_between source.now dest.now)) (slice_get (map link_of_known known.now) place) false }
+{
+    match known.get(place) {
+        Some(entry) => source.as_str() == entry.source.as_str()
+            && dest.as_str() == entry.dest.as_str(),
+        None => false,
+    }
 }
 
 impl Loads {
@@ -64,7 +113,13 @@ impl Loads {
     fn place(&self, source: &EndpointName, dest: &EndpointName) -> Option<usize>
         ensures place { result ≡ position_from (is_link (link_between source.now dest.now)) 0 self.now.known }
     {
-        first_place(self.known.as_slice(), source, dest)
+        let known = self.known.as_slice();
+        let place = count_before(known, source, dest);
+        if is_at(known, place, source, dest) {
+            Some(place)
+        } else {
+            None
+        }
     }
 
     /// Makes room for the rows of a link: it is known from then on. At an `Err` all stays as it is.
@@ -81,7 +136,8 @@ impl Loads {
             dest: dest.copy(self.alloc)?,
             count: 0,
         };
-        self.known.push_reserved(entry);
+        let place = count_before(self.known.as_slice(), source, dest);
+        let _ = self.known.insert(place, entry);
         Ok(())
     }
 

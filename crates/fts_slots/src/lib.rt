@@ -2,8 +2,8 @@
 //! `link_limit`, `outbound_limit`, `inbound_limit` and `endpoint_at` go by the names of endpoints. The desk calls them: a limit is decided here alone.
 //! Contracts see a `Slots` as its settings and the list of links held; what is held, inbound and outbound are counts of that list.
 //! Kept in its type (`AreSlots`): no count of the list passes its limit, and there is room for all that the limits allow, so `take` needs no memory.
-//! `Slots` waits for a caller: the desk counts the ACTIVE rows themselves. It is for one that keeps counts between claims: `free` before a claim,
-//! `take` with it, `give` at the report. It knows nothing of rows and jobs.
+//! For who keeps counts between claims, as `fts_claims` does: `free` before a claim, `take` with it, `give` at the report. It knows nothing of rows
+//! and jobs.
 #![tactic(auto)]
 
 mod counts;

@@ -36,7 +36,7 @@ impl Bells {
     /// Sleeps until the bell of a ticket is rung, unless it was rung since this was heard. It may also return for no reason.
     /// Fewer than 2^32 rings come in between, so the low half of the number tells each of them.
     pub fn sleep<W: Wait>(&self, rt: &W, ticket: u64, heard: u64) {
-        self.bell(ticket).park(rt, (heard % 4294967296) as u32);
+        self.bell(ticket).park(rt, (heard % (1 << 32)) as u32);
     }
 
     /// Rings the bell of a ticket, and wakes who sleeps on it.

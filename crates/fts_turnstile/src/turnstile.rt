@@ -1,8 +1,8 @@
 //! The lock: one value, one list of turns, and passes that know what they have seen and what they added.
 //! Keeps: the table has three words and one slot (the invariant below), and the rule of `specs/Rule.antt` between any two steps.
 //! Order of a turn: take a ticket, look until the turn is that ticket's, take the value, work, put the value back, pass the turn on.
-//! The value is back before the turn moves, and the turn moves before the next in line is woken. Who sleeps does so on a bell of its ticket's own.
-//! For threads that share one value, one pass a thread. Its caller today is `bench_turnstile`. `with_turn` waits; nothing else does.
+//! The value is back before the turn moves, and the turn moves before the next in line is woken. Who sleeps does so on the bell of its ticket.
+//! For threads that share one value, one pass a thread. `with_turn` waits; nothing else does.
 ghost use Rattle.std.specs.Prelude.{◌≡◌, ◌≢◌, ◌+◌, ◌%◌, ◌<◌, [], ◌∷◌, Some, None, IfOk, IfErr};
 ghost use Rattle.std.specs.Fn.{FnOnceReturnsAtMut};
 ghost use Rattle.fts_turnstile.specs.History.{Begins, OnlyOthersSince, shown_after, longer_of, items_by, AllNamed, AllGiven, NoneTwice};

@@ -1,10 +1,12 @@
 use Rattle.std.proofs.Common.{◌≡◌, ◌+◌, sym, ap, ◌∙◌, subst, arith}
 use Rattle.std.proofs.Math.ListN.{set}
-use Rattle.fts_index.specs.Links.{LinkLists, HasOneMore, count_of, is_link, link_between}
-use Rattle.fts_index.specs.Loads.{link_of_known, links_counted, AreApart}
+use Rattle.std.specs.Prelude.{map}
+use Rattle.fts_index.specs.Links.{LinkLists, HasOneMore, count_of, is_link, link_between, AreInOrder}
+use Rattle.fts_index.specs.Loads.{link_of_known, links_counted}
 use Rattle.fts_index.specs.declared.loads.Known.{Known}
 use Rattle.fts_index.proofs.Found.{some_from}
 use Rattle.fts_index.proofs.Counted.{IsEntryOf, entry_of, entry_is, counted, more_at, known_at}
+use Rattle.fts_index.proofs.LinksInOrder.{apart_of}
 use Rattle.fts_index.proofs.loads.Loads.add.Goals as goal
 use Rattle.fts_index.proofs.loads.Loads.add.Goals.{In-Some}
 
@@ -22,7 +24,7 @@ overflow_add-index_mut c =
     let link = link_between c.args.source.now c.args.dest.now in
     let entries = c.self.inside.known.items in
     let is = entry_is entries link c.in-Some.place c.index_mut.result.now entry c.index_mut.ensures.value in
-    let counts = counted entries link c.in-Some.place c.self.invariant.apart entry in
+    let counts = counted entries link c.in-Some.place (apart_of (map link_of_known entries) c.self.invariant.order) entry in
     let counts_seen : count_of c.args.self.now.links link ≡ entry.known.count = ap (λ (lists : LinkLists). count_of lists.links link) (sym c.self.view_is) ∙ counts in
     let read : c.index_mut.result.now.count ≡ entry.known.count = ap (λ (known : Known). known.count) is in
     omega (arith, c.requires.fewer, counts_seen, read)
@@ -33,12 +35,12 @@ invariant_of-self c =
     let link = link_between c.args.source.now c.args.dest.now in
     let entries = c.self.inside.known.items in
     let is = entry_is entries link c.in-Some.place c.index_mut.result.now entry c.index_mut.ensures.value in
-    let counts = counted entries link c.in-Some.place c.self.invariant.apart entry in
+    let counts = counted entries link c.in-Some.place (apart_of (map link_of_known entries) c.self.invariant.order) entry in
     let counts_seen : count_of c.args.self.now.links link ≡ entry.known.count = ap (λ (lists : LinkLists). count_of lists.links link) (sym c.self.view_is) ∙ counts in
     let read : c.index_mut.result.now.count ≡ entry.known.count = ap (λ (known : Known). known.count) is in
     let new : Known = record { source = c.index_mut.result.now.source; dest = c.index_mut.result.now.dest; count = c.index_mut.result.now.count + 1 } in
     let same : link_of_known new ≡ link = ap link_of_known is ∙ entry.named in
-    record { apart = subst AreApart (sym (known_at entries link c.in-Some.place new entry same)) c.self.invariant.apart }
+    record { order = subst AreInOrder (sym (known_at entries link c.in-Some.place new entry same)) c.self.invariant.order }
 
 pub returns-in-Some-clause-more : goal.returns-in-Some-clause-more
 returns-in-Some-clause-more c =
@@ -46,7 +48,7 @@ returns-in-Some-clause-more c =
     let link = link_between c.args.source.now c.args.dest.now in
     let entries = c.self.inside.known.items in
     let is = entry_is entries link c.in-Some.place c.index_mut.result.now entry c.index_mut.ensures.value in
-    let counts = counted entries link c.in-Some.place c.self.invariant.apart entry in
+    let counts = counted entries link c.in-Some.place (apart_of (map link_of_known entries) c.self.invariant.order) entry in
     let counts_seen : count_of c.args.self.now.links link ≡ entry.known.count = ap (λ (lists : LinkLists). count_of lists.links link) (sym c.self.view_is) ∙ counts in
     let read : c.index_mut.result.now.count ≡ entry.known.count = ap (λ (known : Known). known.count) is in
     let new : Known = record { source = c.index_mut.result.now.source; dest = c.index_mut.result.now.dest; count = c.index_mut.result.now.count + 1 } in
@@ -60,7 +62,7 @@ returns-in-Some-clause-known c =
     let link = link_between c.args.source.now c.args.dest.now in
     let entries = c.self.inside.known.items in
     let is = entry_is entries link c.in-Some.place c.index_mut.result.now entry c.index_mut.ensures.value in
-    let counts = counted entries link c.in-Some.place c.self.invariant.apart entry in
+    let counts = counted entries link c.in-Some.place (apart_of (map link_of_known entries) c.self.invariant.order) entry in
     let counts_seen : count_of c.args.self.now.links link ≡ entry.known.count = ap (λ (lists : LinkLists). count_of lists.links link) (sym c.self.view_is) ∙ counts in
     let read : c.index_mut.result.now.count ≡ entry.known.count = ap (λ (known : Known). known.count) is in
     let new : Known = record { source = c.index_mut.result.now.source; dest = c.index_mut.result.now.dest; count = c.index_mut.result.now.count + 1 } in
