@@ -1,7 +1,8 @@
 // What cancellations of single files cost a plain C++ program: rows with their texts on the heap, and the files that wait in a std::set in the
 // order of queue, priority and number, without counts. The jobs, links, activities, priorities and orders are those of crates/bench_claims.
 // "rows alone" looks the row's link, activity and priority up and changes the row, and takes nothing out of the set.
-// Build and run: g++ -O2 -o /tmp/cancellations_peer bench/cancellations_peer.cpp && /tmp/cancellations_peer
+// Where Abseil is there (Debian's libabsl-dev), its B-tree is a third side, absl::btree_set.
+// Build and run: g++ -O2 -std=c++17 -o /tmp/cancellations_peer bench/cancellations_peer.cpp && /tmp/cancellations_peer
 #include <algorithm>
 #include <chrono>
 #include <cstdint>
@@ -10,6 +11,10 @@
 #include <string>
 #include <tuple>
 #include <vector>
+#if __has_include("absl/container/btree_set.h")
+#include "absl/container/btree_set.h"
+#define HAS_ABSEIL 1
+#endif
 
 using Waiter = std::tuple<uint16_t, uint16_t, uint16_t, int64_t, uint32_t>;
 
@@ -33,10 +38,10 @@ static uint16_t place(const std::vector<std::string> &names, const std::string &
     return uint16_t(std::find(names.begin(), names.end(), name) - names.begin());
 }
 
-struct Desk {
+template <typename Set> struct Desk {
     std::vector<std::string> ends, activities;
     std::vector<Row> rows;
-    std::set<Waiter> waiting;
+    Set waiting;
 
     explicit Desk(uint32_t jobs) : activities{"default", "urgent", "bulk"} {
         for (const char *side : {"https://s", "https://d"})
@@ -74,8 +79,8 @@ static uint32_t file_of(int order, uint32_t files, uint32_t turn) {
     return turn % 10 * FILES + turn / 10;
 }
 
-static double measured(int order, bool takes_out, uint32_t jobs) {
-    Desk desk(jobs);
+template <typename Set> static double measured(int order, bool takes_out, uint32_t jobs) {
+    Desk<Set> desk(jobs);
     uint32_t count = order == 2 ? 500 : jobs * FILES / 2;
     double spent = 0;
     for (uint32_t turn = 0; turn < count; turn++) {
@@ -86,17 +91,22 @@ static double measured(int order, bool takes_out, uint32_t jobs) {
     return spent / count / 1000;
 }
 
-static void print_times(int order, bool takes_out) {
+template <typename Set> static void print_times(const char *side, int order, bool takes_out) {
     static const char *const names[] = {"every second file in turn", "half of the files anywhere", "the first 500"};
     static const uint32_t jobs[] = {10, 100, 1000};
     double least[3] = {1e9, 1e9, 1e9};
     for (int round = 0; round < ROUNDS; round++)
-        for (int size = 0; size < 3; size++) least[size] = std::min(least[size], measured(order, takes_out, jobs[size]));
-    printf("%s, %s: %.2f, %.2f, %.2f us at 2,000, 20,000, 200,000; ratio %.2f\n", takes_out ? "std::set" : "rows alone", names[order],
+        for (int size = 0; size < 3; size++) least[size] = std::min(least[size], measured<Set>(order, takes_out, jobs[size]));
+    printf("%s, %s: %.2f, %.2f, %.2f us at 2,000, 20,000, 200,000; ratio %.2f\n", side, names[order],
            least[0], least[1], least[2], least[2] / least[0]);
 }
 
 int main() {
-    for (int order = 0; order < 3; order++)
-        for (bool takes_out : {false, true}) print_times(order, takes_out);
+    for (int order = 0; order < 3; order++) {
+        print_times<std::set<Waiter>>("rows alone", order, false);
+        print_times<std::set<Waiter>>("std::set", order, true);
+#ifdef HAS_ABSEIL
+        print_times<absl::btree_set<Waiter>>("absl::btree_set", order, true);
+#endif
+    }
 }

@@ -2,6 +2,7 @@ mod Sorting
 mod Orders
 mod Numbers
 mod QueueRooms
+mod RoomThere
 mod Places
 mod TreeCounts
 mod TreeOrder

@@ -128,7 +128,7 @@ is_own link activity room =
     (eq-eqb activity activity refl)
 
 -- a queue that isn't before and isn't the first room's, of rooms in order, has none of them
-no_room : (link : LinkAt) (activity : ℕ) (first : Room) (rest : List Room) → is_queue_before first.link first.activity link activity ≡ false
+pub no_room : (link : LinkAt) (activity : ℕ) (first : Room) (rest : List Room) → is_queue_before first.link first.activity link activity ≡ false
     → is_room_of link activity first ≡ false
     → AllByRecursion (λ later. is_queue_before first.link first.activity later.link later.activity ≡ true) rest
     → room_of link activity rest ≡ 0

@@ -5,8 +5,8 @@ ghost use Rattle.std.specs.Prelude.{
   ◌<◌,
   ◌^◌,
   length,
-  find,
-  option_map,
+  slice_get,
+  if◌then◌else◌,
   vec_len,
   vec_capacity,
   sum_by,
@@ -48,30 +48,6 @@ fn is_room_of(room: &Room, link: LinkAt, activity: u16) -> bool
     room.link.source == link.source && room.link.dest == link.dest && room.activity == activity
 }
 
-/// The room of a queue, where there is one.
-fn room_at(rooms: &[Room], link: LinkAt, activity: u16) -> Option<&Room>
-    ensures room { option_map (λ room. room.now) result ≡ find (is_room_of link activity) rooms.now }
-{
-    rooms.iter().find(|room| is_room_of(room, link, activity))
-}
-
-/// How many files a room is for, and 0 where there is none.
-fn number_of(room: Option<&Room>) -> usize
-    ensures room { result ≡ option_map_or (λ room. room.now.room) room.entry 0 }
-{
-    match room {
-        Some(room) => room.room,
-        None => 0,
-    }
-}
-
-/// How many files a queue has room for.
-pub fn room_of(rooms: &[Room], link: LinkAt, activity: u16) -> usize
-    ensures room { result ≡ room_of link activity rooms.now }
-{
-    number_of(room_at(rooms, link, activity))
-}
-
 /// How many queues stand before one.
 fn place_of(rooms: &[Room], link: LinkAt, activity: u16) -> usize
     requires order { AreQueuesInOrder rooms.now }
@@ -79,6 +55,30 @@ fn place_of(rooms: &[Room], link: LinkAt, activity: u16) -> usize
     ensures inside { result ≤ length rooms.now }
 {
     rooms.partition_point(|room| is_queue_before(room, link, activity))
+}
+
+/// How many files the room at a place is for, where it is a queue's, and 0 where it isn't or there is none.
+fn room_at(rooms: &[Room], place: usize, link: LinkAt, activity: u16) -> usize
+    ensures room { result ≡ option_map_or (λ room. if is_room_of link activity room then room.room else 0) (slice_get rooms.now place) 0 }
+{
+    match rooms.get(place) {
+        Some(room) => {
+            if is_room_of(room, link, activity) {
+                room.room
+            } else {
+                0
+            }
+        },
+        None => 0,
+    }
+}
+
+/// How many files a queue has room for.
+pub fn room_of(rooms: &[Room], link: LinkAt, activity: u16) -> usize
+    requires order { AreQueuesInOrder rooms.now }
+    ensures room { result ≡ room_of link activity rooms.now }
+{
+    room_at(rooms, place_of(rooms, link, activity), link, activity)
 }
 
 /// Raises the room of a queue to a number, or puts it in, in memory that is there.

@@ -1,6 +1,6 @@
 use Rattle.std.proofs.Common.{◌≡◌, ◌+◌, ◌∙◌, sym, ap, subst, arith, List, ℕ}
 use Rattle.fts_queue.specs.declared.rooms.Room.{Room}
-use Rattle.fts_queue.specs.WaitingData.{WaitingData, AreWaiting, with_room, room_of}
+use Rattle.fts_queue.specs.WaitingData.{WaitingData, AreWaiting, AreQueuesInOrder, with_room, room_of}
 use Rattle.fts_queue.specs.Waiting.{waiting_data}
 use Rattle.fts_queue.proofs.QueueRooms.{waiting_raised, whole_raised, whole_room}
 use Rattle.fts_queue.proofs.Packing.{few_enough}
@@ -8,6 +8,9 @@ use Rattle.fts_queue.proofs.waiting.Waiting.make_room.Goals as goal
 
 pub count_in-requires-clause-fits : goal.count_in-requires-clause-fits
 count_in-requires-clause-fits c = few_enough c.self.inside c.self.invariant
+
+pub room_of-requires : goal.room_of-requires
+room_of-requires c = record { order = subst AreQueuesInOrder (sym c.as_slice.ensures.value) c.self.invariant.waiters.queues }
 
 pub invariant_of-self-2 : goal.invariant_of-self-2
 invariant_of-self-2 c =
