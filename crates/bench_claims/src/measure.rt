@@ -1,6 +1,6 @@
 //! The measurement of claims, reports and cancellations at three numbers of waiting files: each command of a kind is timed alone, `prepare` and `commit`.
 //! Sixteen files run: the oldest is reported before the next is claimed, so the slots never run out.
-use crate::waiting::{FILES, Layout, MOMENT, apply, filled_desk};
+use crate::waiting::{ENDS, FILES, Layout, MOMENT, apply, filled_desk};
 use anyhow::{Result, bail};
 use fts_desk::Desk;
 use fts_tables::{Answer, Command, Outcome};
@@ -239,7 +239,11 @@ fn print_times<R: Clock + Print>(rt: &R, alloc: Global, measured: Measured) -> R
     } else {
         "all ripe"
     };
-    let Layout { links, priorities } = measured.layout;
+    let Layout {
+        ends: _,
+        links,
+        priorities,
+    } = measured.layout;
     println!(rt;
         "{what}, links {links}, priorities {priorities}, {ripe}: {few:.2}, {more:.2}, {most:.2} us at 2,000, 20,000, 200,000; ratio {:.2}",
         most / few
@@ -276,10 +280,20 @@ fn print_claims<R: Clock + Print>(rt: &R, alloc: Global, layout: Layout) -> Resu
 pub fn measure<R: Clock + Print>(rt: &R, alloc: Global) -> Result<()> {
     for links in [1, 16] {
         for priorities in [1, 5] {
-            print_claims(rt, alloc, Layout { links, priorities })?;
+            let ends = ENDS;
+            print_claims(
+                rt,
+                alloc,
+                Layout {
+                    ends,
+                    links,
+                    priorities,
+                },
+            )?;
         }
     }
     let layout = Layout {
+        ends: ENDS,
         links: 16,
         priorities: 5,
     };

@@ -1,7 +1,10 @@
-//! The measurement of submissions: plain ones, ones with ids that the clients chose, and ones of two sources, of which the less loaded is taken.
+//! The measurement of submissions: plain ones, ones with ids that the clients chose, ones of two sources, of which the less loaded is taken; and of
+//! many files on few links and on many.
 //! All are spelled and read before the clock starts; timed are `prepare` and `commit`.
 use crate::measure::ROUNDS;
-use crate::waiting::{Kind, apply, begun_desk, submission};
+use crate::waiting::{
+    ENDS, FILES, Kind, Layout, apply, begun_desk, filled_desk, filling, submission,
+};
 use anyhow::Result;
 use fts_desk::Desk;
 use fts_tables::Entry;
@@ -29,7 +32,7 @@ fn seconds_on<R: Clock>(rt: &R, desk: &mut Desk, entries: &[Entry]) -> Result<f6
 /// How many seconds as many submissions take, from an empty desk on.
 fn seconds<R: Clock>(rt: &R, alloc: Global, jobs: u32, kind: Kind) -> Result<f64> {
     let entries = submissions(alloc, jobs, kind)?;
-    let mut desk = begun_desk(alloc)?;
+    let mut desk = begun_desk(alloc, ENDS)?;
     seconds_on(rt, &mut desk, entries.as_slice())
 }
 
@@ -57,9 +60,50 @@ fn print_times<R: Clock + Print>(rt: &R, alloc: Global, what: &str, kind: Kind) 
     Ok(())
 }
 
-/// Prints the times of each kind.
+/// How many jobs of 200 files have gone over the links before, and how many are timed.
+const JOBS: u32 = 100;
+
+/// How many sources there are, and how many destinations: with 16, 256 and 4,096 links.
+const SIDES: [u32; 3] = [4, 16, 64];
+
+/// How many microseconds a file of a submission takes on all links of as many ends.
+fn microseconds<R: Clock>(rt: &R, alloc: Global, ends: u32) -> Result<f64> {
+    let layout = Layout {
+        ends,
+        links: ends.wrapping_mul(ends),
+        priorities: 5,
+    };
+    let mut entries: Vec<Entry> = Vec::new(alloc);
+    for job in JOBS..2 * JOBS {
+        entries.push(filling(alloc, job, layout)?)?;
+    }
+    let mut desk = filled_desk(alloc, JOBS, layout)?;
+    let seconds = seconds_on(rt, &mut desk, entries.as_slice())?;
+    Ok(seconds * 1_000_000.0 / f64::from(JOBS * FILES))
+}
+
+/// Prints how long a file of a submission takes on 16, 256 and 4,096 links, and what the most links cost.
+fn print_links<R: Clock + Print>(rt: &R, alloc: Global) -> Result<()> {
+    let mut least = [f64::INFINITY; 3];
+    for _ in 0..ROUNDS {
+        least = [
+            least[0].min(microseconds(rt, alloc, SIDES[0])?),
+            least[1].min(microseconds(rt, alloc, SIDES[1])?),
+            least[2].min(microseconds(rt, alloc, SIDES[2])?),
+        ];
+    }
+    let [few, more, most] = least;
+    println!(rt;
+        "submissions of 200 files: {few:.2}, {more:.2}, {most:.2} us a file on 16, 256, 4,096 links; ratio {:.2}",
+        most / few
+    )?;
+    Ok(())
+}
+
+/// Prints the times of each kind, and of many links.
 pub fn measure<R: Clock + Print>(rt: &R, alloc: Global) -> Result<()> {
     print_times(rt, alloc, "of one file", Kind::Plain)?;
     print_times(rt, alloc, "with ids", Kind::WithId)?;
-    print_times(rt, alloc, "of two sources", Kind::Replica)
+    print_times(rt, alloc, "of two sources", Kind::Replica)?;
+    print_links(rt, alloc)
 }

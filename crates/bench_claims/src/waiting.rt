@@ -1,4 +1,4 @@
-//! Desks on which files wait, and submissions. Eight endpoints, sixteen links and three activities; each file has a destination of its own.
+//! Desks on which files wait, and submissions. Three activities, and as many sources as destinations; each file has a destination of its own.
 //! Settings and jobs are spelled as entries and read back, so this program needs no proof that they keep their rules.
 ghost use Rattle.std.specs.Prelude.{◌<◌};
 
@@ -14,11 +14,20 @@ pub const MOMENT: u64 = 1_700_000_000;
 /// How many files a plain job has that fills a desk.
 pub const FILES: u32 = 200;
 
-/// A restart: eight endpoints with limits of 1,000 both ways, a limit of 100 on each link, and three activities.
-const RESTART: &[u8] = b"\x00\x01\x80\xe2\xcf\xaa\x06\x02vo\x10\x64\x08\
-    \x0ahttps://s0\xe8\x07\xe8\x07\x0ahttps://s1\xe8\x07\xe8\x07\x0ahttps://s2\xe8\x07\xe8\x07\x0ahttps://s3\xe8\x07\xe8\x07\
-    \x0ahttps://d0\xe8\x07\xe8\x07\x0ahttps://d1\xe8\x07\xe8\x07\x0ahttps://d2\xe8\x07\xe8\x07\x0ahttps://d3\xe8\x07\xe8\x07\
-    \x00\x03\x07default\x01\x06urgent\x05\x04bulk\x02";
+/// How many sources there are, and how many destinations, where links are few: sixteen.
+pub const ENDS: u32 = 4;
+
+/// What stands in a restart before its endpoints: a limit of 100 on each link.
+const RESTART: &[u8] = b"\x00\x01\x80\xe2\xcf\xaa\x06\x02vo\x10\x64";
+
+/// What stands behind an endpoint's name: limits of 1,000 both ways.
+const END_LIMITS: &[u8] = b"\xe8\x07\xe8\x07";
+
+/// What stands behind the endpoints: no limits of links alone, and three activities.
+const SHARES: &[u8] = b"\x00\x03\x07default\x01\x06urgent\x05\x04bulk\x02";
+
+/// As many sources there may be here, and as many destinations.
+const MOST_ENDS: u32 = 64;
 
 /// What stands before the kind of a job.
 const SUBMIT: &[u8] = b"\x00\x02\x80\xe2\xcf\xaa\x06";
@@ -29,11 +38,19 @@ const OPTIONS: &[u8] = b"\x03\x80\xa3\x05\x00";
 /// The activities of a job's files, in turn.
 const ACTIVITIES: [&str; 4] = ["default", "urgent", "bulk", "default"];
 
-/// Which jobs fill a desk: on how many links their files go, and how many priorities they have.
+/// Which jobs fill a desk: how many sources and destinations there are, on how many links files go, and how many priorities jobs have.
 #[derive(Clone, Copy)]
 pub struct Layout {
+    pub ends: u32,
     pub links: u32,
     pub priorities: u32,
+}
+
+/// The numbers of a file's ends.
+#[derive(Clone, Copy)]
+struct Ends {
+    source: u32,
+    dest: u32,
 }
 
 /// What is submitted, of each job alike.
@@ -70,19 +87,37 @@ fn push_text(bytes: &mut Vec<u8>, text: &str) -> Result<()> {
     Ok(())
 }
 
-/// Adds a file of any size on the link of a number, with the job's path of a number at both ends.
+/// The ends of the link of a number.
+fn ends_of(link: u32, ends: u32) -> Ends {
+    let ends = ends.clamp(1, MOST_ENDS);
+    Ends {
+        source: link % ends,
+        dest: link / ends % ends,
+    }
+}
+
+/// The link of a job's file. Each job goes over the links from the first one on, or goes on from the job before where they are more than its files.
+fn link_of(job: u32, index: u32, links: u32) -> u32 {
+    if links > FILES {
+        job.wrapping_mul(FILES).wrapping_add(index) % links
+    } else {
+        index % links.max(1)
+    }
+}
+
+/// Adds a file of any size between these ends, with the job's path of a number at both.
 fn push_file(
     bytes: &mut Vec<u8>,
     alloc: Global,
     job: u32,
     index: u32,
-    link: u32,
+    ends: Ends,
     path: u32,
 ) -> Result<()>
     requires { index < 16384 }
 {
-    let from = format!(in alloc; "https://s{}", link % 4)?;
-    let to = format!(in alloc; "https://d{}", link / 4 % 4)?;
+    let from = format!(in alloc; "https://s{}", ends.source)?;
+    let to = format!(in alloc; "https://d{}", ends.dest)?;
     let path = format!(in alloc; "data/{job}/{path}")?;
     push_number(bytes, index)?;
     push_text(bytes, from.as_str())?;
@@ -94,15 +129,16 @@ fn push_file(
 }
 
 /// The submission of a plain job of `FILES` files. Links and priorities take turns.
-fn filling(alloc: Global, job: u32, layout: Layout) -> Result<Entry> {
+pub fn filling(alloc: Global, job: u32, layout: Layout) -> Result<Entry> {
     let mut bytes = SUBMIT.to_vec(alloc)?;
     bytes.extend_from_slice(b"\x00\x00\x00")?;
     bytes.push((1 + job % layout.priorities.clamp(1, 5)) as u8)?;
     bytes.extend_from_slice(OPTIONS)?;
     push_number(&mut bytes, FILES)?;
     for index in 0..FILES {
-        let link = index % layout.links.max(1);
-        push_file(&mut bytes, alloc, job, index, link, index)?;
+        let link = link_of(job, index, layout.links);
+        let ends = ends_of(link, layout.ends);
+        push_file(&mut bytes, alloc, job, index, ends, index)?;
     }
     entry(alloc, bytes.as_slice())
 }
@@ -144,20 +180,48 @@ pub fn submission(alloc: Global, job: u32, kind: Kind) -> Result<Entry> {
     match kind {
         Kind::Plain | Kind::WithId => {
             bytes.push(1)?;
-            push_file(&mut bytes, alloc, job, 0, job % 16, 0)?;
+            push_file(&mut bytes, alloc, job, 0, ends_of(job % 16, ENDS), 0)?;
         }
         Kind::Replica => {
             bytes.push(2)?;
-            push_file(&mut bytes, alloc, job, 0, job % 4, 0)?;
-            push_file(&mut bytes, alloc, job, 0, (job % 4 + 1) % 4, 0)?;
+            push_file(&mut bytes, alloc, job, 0, ends_of(job % 4, ENDS), 0)?;
+            push_file(
+                &mut bytes,
+                alloc,
+                job,
+                0,
+                ends_of((job % 4 + 1) % 4, ENDS),
+                0,
+            )?;
         }
     }
     entry(alloc, bytes.as_slice())
 }
 
-/// A desk without jobs.
-pub fn begun_desk(alloc: Global) -> Result<Desk> {
-    let restart = entry(alloc, RESTART)?;
+/// Adds endpoints whose names begin alike.
+fn push_ends(bytes: &mut Vec<u8>, alloc: Global, begin: &str, ends: u32) -> Result<()> {
+    for end in 0..ends {
+        let name = format!(in alloc; "{begin}{end}")?;
+        push_text(bytes, name.as_str())?;
+        bytes.extend_from_slice(END_LIMITS)?;
+    }
+    Ok(())
+}
+
+/// A restart with as many sources and destinations.
+fn restart(alloc: Global, ends: u32) -> Result<Entry> {
+    let ends = ends.clamp(1, MOST_ENDS);
+    let mut bytes = RESTART.to_vec(alloc)?;
+    push_number(&mut bytes, 2 * ends)?;
+    push_ends(&mut bytes, alloc, "https://s", ends)?;
+    push_ends(&mut bytes, alloc, "https://d", ends)?;
+    bytes.extend_from_slice(SHARES)?;
+    entry(alloc, bytes.as_slice())
+}
+
+/// A desk without jobs, with as many sources and destinations.
+pub fn begun_desk(alloc: Global, ends: u32) -> Result<Desk> {
+    let restart = restart(alloc, ends)?;
     let mut desk = Desk::empty(alloc);
     match apply(&mut desk, &restart.command) {
         Ok(_restarted) => Ok(desk),
@@ -176,7 +240,7 @@ fn fill(desk: &mut Desk, alloc: Global, jobs: u32, layout: Layout) -> Result<()>
 
 /// A desk on which as many jobs wait.
 pub fn filled_desk(alloc: Global, jobs: u32, layout: Layout) -> Result<Desk> {
-    let mut desk = begun_desk(alloc)?;
+    let mut desk = begun_desk(alloc, layout.ends)?;
     match fill(&mut desk, alloc, jobs, layout) {
         Ok(()) => Ok(desk),
         Err(error) => Err(error),
