@@ -8,8 +8,6 @@
 mod alternatives;
 mod hops;
 mod links;
-#[cfg(test)]
-mod tests;
 mod weights;
 
 pub use alternatives::next_alternative;

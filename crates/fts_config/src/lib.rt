@@ -12,8 +12,6 @@ mod reading;
 mod rules;
 mod settings;
 mod tables;
-#[cfg(test)]
-mod tests;
 mod types;
 
 pub use fault::SettingsFault;

@@ -3,10 +3,6 @@
 //! wanted. What a copy is, and what each of its ends leaves, is `specs/Copy.antt`.
 #![tactic(auto)]
 
-#[cfg(test)]
-mod changing;
-#[cfg(test)]
-mod changing_tests;
 mod copy;
 mod differences;
 mod order;
@@ -14,8 +10,6 @@ mod pieces;
 mod read_back;
 mod reading;
 mod room;
-#[cfg(test)]
-mod tests;
 mod watch;
 mod writing;
 

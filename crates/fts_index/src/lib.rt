@@ -11,6 +11,3 @@ mod order;
 
 pub use job_ids::JobIds;
 pub use loads::Loads;
-
-#[cfg(test)]
-mod tests;

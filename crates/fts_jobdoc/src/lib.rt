@@ -4,8 +4,6 @@
 //! Called by fts_top, for the body of a submission, and by fts_machine_trial. Nothing here knows of HTTP, or of the rows that a job becomes.
 #![tactic(auto)]
 
-#[cfg(test)]
-mod cases;
 mod checksum;
 mod ends;
 mod fault;
@@ -15,8 +13,6 @@ mod job;
 mod json;
 mod params;
 mod rules;
-#[cfg(test)]
-mod tests;
 
 pub use fault::{DocFault, Unoffered};
 pub use ids::sid_id;

@@ -8,8 +8,6 @@ mod checks;
 mod fault;
 mod parts;
 mod read;
-#[cfg(test)]
-mod tests;
 
 pub use fault::UrlFault;
 pub use read::{Surl, read_endpoint, read_surl};

@@ -10,8 +10,6 @@ mod folding;
 mod keep;
 mod laws;
 mod opening;
-#[cfg(test)]
-mod tests;
 
 pub use fault::KeepFault;
 pub use keep::Keep;

@@ -8,8 +8,6 @@
 mod input;
 mod requests;
 mod sources;
-#[cfg(test)]
-mod tests;
 
 pub use input::{DroppingSink, LoadInput};
 pub use requests::make_requests;

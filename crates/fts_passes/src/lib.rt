@@ -6,6 +6,3 @@
 mod crew;
 
 pub use crew::{close_with, split_passes};
-
-#[cfg(test)]
-mod tests;

@@ -13,8 +13,6 @@ mod put;
 mod rooms;
 mod spare;
 mod take;
-#[cfg(test)]
-mod tests;
 mod tree;
 mod waiter;
 mod waiting;

@@ -6,8 +6,6 @@
 #![tactic(auto)]
 
 mod answers;
-#[cfg(test)]
-mod cases;
 mod changes;
 mod looks;
 mod named;
@@ -17,8 +15,6 @@ mod planned;
 mod queries;
 mod replies;
 mod routes;
-#[cfg(test)]
-mod tests;
 mod texts;
 
 pub use answers::answer;

@@ -8,4 +8,8 @@ mod bed;
 #[cfg(test)]
 mod holding;
 #[cfg(test)]
+mod passes;
+#[cfg(test)]
 mod tests;
+#[cfg(test)]
+mod turnstile;

@@ -9,8 +9,6 @@
 mod counts;
 mod limits;
 mod slots;
-#[cfg(test)]
-mod tests;
 
 pub use limits::{
     endpoint_at, inbound_limit, limits_by_place_are_by_name, link_limit, outbound_limit,

@@ -8,8 +8,6 @@ mod cancels;
 mod jobs;
 mod reports;
 mod restarts;
-#[cfg(test)]
-mod tests;
 
 pub use cancels::{CancelStep, after_cancel};
 pub use jobs::job_state;

@@ -8,8 +8,6 @@ mod held;
 mod inside;
 mod memory;
 mod store;
-#[cfg(test)]
-mod tests;
 
 pub use folder::FolderStore;
 pub use held::StoredFile;

@@ -7,8 +7,6 @@
 //! the journal behind the settings.
 #![tactic(auto)]
 
-#[cfg(test)]
-mod cases;
 mod connection;
 mod crew;
 mod done;
@@ -16,11 +14,7 @@ mod doors;
 mod ends;
 mod hall;
 mod lane;
-#[cfg(test)]
-mod lane_tests;
 mod lanes;
-#[cfg(test)]
-mod load_tests;
 mod loads;
 mod locked;
 mod looks;
@@ -33,11 +27,7 @@ mod seats;
 mod service;
 mod session;
 mod shown;
-#[cfg(test)]
-mod stands;
 mod tally;
-#[cfg(test)]
-mod tests;
 mod together;
 mod top;
 

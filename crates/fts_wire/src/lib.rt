@@ -15,8 +15,6 @@ mod request;
 mod response;
 mod standard;
 pub mod statuses;
-#[cfg(test)]
-mod tests;
 mod whole_input;
 
 pub use fault::WireFault;

@@ -1,0 +1,392 @@
+//! What no clause says: that the definitions are the format, by entries spelled by hand, with the place of each kind of broken field.
+ghost use Rattle.std.specs.Prelude.{IsTrue};
+ghost use Rattle.fts_record.specs.Proper.{has_priority};
+
+use fts_record::{ReadFault, read_entry, write_entry};
+use fts_tables::{Command, Endpoint, Entry, Memory, NewFile, NewJob, Outcome, Settings};
+use std::alloc::{AllocError, Global};
+use std::process::Abort;
+use std::test::Fail;
+
+const CANCEL: &[u8] = b"\x03\x03\x80\xe2\xcf\xaa\x06\x01";
+
+const CLAIM: &[u8] = b"\x00\x06\x80\xe2\xcf\xaa\x06\x45\x00\x00\x00\x00\x00\x00\x00";
+
+const REPORT: &[u8] =
+    b"\x00\x07\x80\xe2\xcf\xaa\x06\x01\x01\x00\x03\x90\x01\x50\x98\x3c\xd2\x4f\xb0\xd6\x96\x3f\x7d\x28\xe1\x7f\x72";
+
+/// A restart with one endpoint, one link and one activity.
+const RESTART: &[u8] =
+    b"\x00\x01\x80\xe2\xcf\xaa\x06\x04demo\x02\x07\x01\x05a://a\x03\x04\x01\x01l\x05a://a\x05a://a\x05\x01\x07default\x01";
+
+/// A plain job with an id and one file, of 129 bytes and with a digest.
+const SUBMIT: &[u8] =
+    b"\x01\x02\x80\xe2\xcf\xaa\x06\x00\x01\x01\x00\x01\x02\x03\x04\x05\x06\x07\x08\x09\x0a\x0b\x0c\x0d\x0e\x0f\x03\x02\xac\x02\x01\x01\x00\x05a://a\x01s\x05a://a\x01d\x81\x01\x01\x90\x01\x50\x98\x3c\xd2\x4f\xb0\xd6\x96\x3f\x7d\x28\xe1\x7f\x72\x07default";
+
+/// The bytes that are written of the entry that is read.
+fn again(alloc: Global, bytes: &[u8]) -> Result<Vec<u8>, ReadFault> {
+    let entry = read_entry(alloc, bytes)?;
+    let mut out = Vec::new(alloc);
+    match write_entry(&entry, &mut out) {
+        Ok(()) => Ok(out),
+        Err(Memory) => Err(ReadFault::Memory),
+    }
+}
+
+/// The place that reading names, where it names one.
+fn place(alloc: Global, bytes: &[u8]) -> Option<usize> {
+    match read_entry(alloc, bytes) {
+        Err(ReadFault::BadEntry { at }) => Some(at),
+        Ok(_) | Err(ReadFault::Memory) => None,
+    }
+}
+
+#[test]
+fn a_worked_cancellation_is_read_field_by_field(rt: HostRuntime) -> Result<(), Fail> {
+    let cancel = read_entry(rt.alloc(), CANCEL)?;
+    assert_eq!(rt; cancel.writer, 3);
+    assert!(rt;
+        matches!(
+            &cancel.command,
+            Command::CancelJob {
+                now: 1_700_000_000,
+                job: 1
+            }
+        )
+    );
+    Ok(())
+}
+
+#[test]
+fn a_worked_claim_is_read_field_by_field(rt: HostRuntime) -> Result<(), Fail> {
+    let claim = read_entry(rt.alloc(), CLAIM)?;
+    assert_eq!(rt; claim.writer, 0);
+    assert!(rt;
+        matches!(
+            &claim.command,
+            Command::Claim {
+                now: 1_700_000_000,
+                word: 69
+            }
+        )
+    );
+    Ok(())
+}
+
+#[test]
+fn a_worked_report_is_read_field_by_field(rt: HostRuntime) -> Result<(), Fail> {
+    let report = read_entry(rt.alloc(), REPORT)?;
+    match &report.command {
+        Command::Report {
+            now: 1_700_000_000,
+            file: 1,
+            attempt: 1,
+            outcome: Outcome::Verified { size: 3, digest },
+        } => assert_eq!(rt; digest.as_slice(), &REPORT[11..]),
+        _ => assert!(rt; false, "a report of a verified file"),
+    }
+    Ok(())
+}
+
+fn is_worked_endpoint(rt: &impl Abort, endpoint: &Endpoint) {
+    assert_eq!(rt; endpoint.name.as_str(), "a://a");
+    assert_eq!(rt; (endpoint.inbound, endpoint.outbound), (3, 4));
+}
+
+fn are_worked_settings(rt: &impl Abort, settings: &Settings) {
+    assert_eq!(rt; settings.vo.as_str(), "demo");
+    assert_eq!(rt; (settings.workers, settings.default_max_active), (2, 7));
+    for endpoint in settings.endpoints.as_slice() {
+        is_worked_endpoint(rt, endpoint);
+    }
+}
+
+#[test]
+fn worked_settings_are_read_field_by_field(rt: HostRuntime) -> Result<(), Fail> {
+    let restart = read_entry(rt.alloc(), RESTART)?;
+    match &restart.command {
+        Command::Restart { settings, .. } => are_worked_settings(&rt, settings),
+        _ => assert!(rt; false, "a restart"),
+    }
+    Ok(())
+}
+
+fn is_worked_file(rt: &impl Abort, file: &NewFile) {
+    assert_eq!(rt; file.source.path.as_str(), "s");
+    assert_eq!(rt; file.dest.path.as_str(), "d");
+    assert_eq!(rt; file.size, 129);
+}
+
+fn is_worked_job(rt: &impl Abort, job: &NewJob) {
+    assert_eq!(rt; job.id, Some(0x0001_0203_0405_0607_0809_0a0b_0c0d_0e0f));
+    assert_eq!(rt; (job.priority, job.retry, job.delay), (3, 2, 300));
+    for file in job.files.as_slice() {
+        is_worked_file(rt, file);
+    }
+}
+
+#[test]
+fn a_worked_job_is_read_field_by_field(rt: HostRuntime) -> Result<(), Fail> {
+    let submit = read_entry(rt.alloc(), SUBMIT)?;
+    match &submit.command {
+        Command::Submit { job, .. } => is_worked_job(&rt, job),
+        _ => assert!(rt; false, "a submission"),
+    }
+    Ok(())
+}
+
+/// Each front of an entry is a broken one.
+fn fronts_are_broken(rt: &impl Abort, alloc: Global, bytes: &[u8]) {
+    for end in 0..bytes.len() {
+        assert!(rt;
+            place(alloc, &bytes[..end]).is_some(),
+            "{end} bytes are a front alone"
+        );
+    }
+}
+
+#[test]
+fn worked_entries_are_written_byte_by_byte(rt: HostRuntime) -> Result<(), Fail> {
+    for bytes in [CANCEL, CLAIM, REPORT, RESTART, SUBMIT] {
+        assert_eq!(rt; again(rt.alloc(), bytes)?.as_slice(), bytes);
+        fronts_are_broken(&rt, rt.alloc(), bytes);
+    }
+    Ok(())
+}
+
+/// The place that reading names once one byte is changed.
+fn place_broken(
+    alloc: Global,
+    bytes: &[u8],
+    changed: usize,
+    byte: u8,
+) -> Result<Option<usize>, AllocError> {
+    let mut broken = Vec::from_slice(alloc, bytes)?;
+    if let Some(slot) = broken.get_mut(changed) {
+        *slot = byte;
+    }
+    Ok(place(alloc, &broken))
+}
+
+/// An entry of which one byte is another is broken at this place.
+fn breaks_at(
+    rt: &impl Abort,
+    alloc: Global,
+    bytes: &[u8],
+    broken: (usize, u8),
+    want: usize,
+    case: &str,
+) -> Result<(), AllocError> {
+    let found = place_broken(alloc, bytes, broken.0, broken.1)?;
+    assert_eq!(rt; found, Some(want), "{case}");
+    Ok(())
+}
+
+#[test]
+fn a_broken_head_of_a_job_is_named_by_its_place(rt: HostRuntime) -> Result<(), Fail> {
+    for (case, changed, byte, want) in [
+        ("a command byte past the last", 1, 0x08, 1),
+        ("a moment with a needless byte", 6, 0x00, 2),
+        ("a kind past the last", 7, 0x03, 7),
+        ("a strategy past the last", 8, 0x02, 8),
+        ("an id behind the flag 02", 9, 0x02, 9),
+    ] {
+        breaks_at(&rt, rt.alloc(), SUBMIT, (changed, byte), want, case)?;
+    }
+    Ok(())
+}
+
+#[test]
+fn a_broken_number_of_a_job_is_named_by_its_place(rt: HostRuntime) -> Result<(), Fail> {
+    for (case, changed, byte, want) in [
+        ("a priority past its range", 26, 0x06, 26),
+        ("a retry past its range", 27, 0x0b, 27),
+        ("a delay with a needless byte", 29, 0x00, 28),
+        ("a flag 02", 30, 0x02, 30),
+        ("no file", 31, 0x00, 31),
+    ] {
+        breaks_at(&rt, rt.alloc(), SUBMIT, (changed, byte), want, case)?;
+    }
+    Ok(())
+}
+
+#[test]
+fn a_broken_place_of_a_file_is_named_by_its_place(rt: HostRuntime) -> Result<(), Fail> {
+    for (case, changed, byte, want) in [
+        ("a first file with index 1", 32, 0x01, 7),
+        ("a name that is no UTF-8", 34, 0xff, 33),
+        ("a name in capitals", 34, 0x41, 33),
+        ("a path that is a slash", 40, 0x2f, 39),
+        ("a file copied onto itself", 48, 0x73, 7),
+    ] {
+        breaks_at(&rt, rt.alloc(), SUBMIT, (changed, byte), want, case)?;
+    }
+    Ok(())
+}
+
+#[test]
+fn a_broken_end_of_a_file_is_named_by_its_place(rt: HostRuntime) -> Result<(), Fail> {
+    for (case, changed, byte, want) in [
+        ("a size with a needless byte", 50, 0x00, 49),
+        ("a digest behind the flag 02", 51, 0x02, 51),
+        ("an activity past the end", 68, 0x08, 68),
+        ("a byte behind the last field", 68, 0x06, 75),
+    ] {
+        breaks_at(&rt, rt.alloc(), SUBMIT, (changed, byte), want, case)?;
+    }
+    Ok(())
+}
+
+#[test]
+fn a_broken_head_of_settings_is_named_by_its_place(rt: HostRuntime) -> Result<(), Fail> {
+    for (case, changed, byte, want) in [
+        ("an empty VO", 7, 0x00, 7),
+        ("17 workers", 12, 0x11, 12),
+        ("no default limit", 13, 0x00, 13),
+        ("no endpoint", 14, 0x00, 14),
+        ("no inbound limit", 21, 0x00, 21),
+        ("an empty label", 24, 0x00, 24),
+    ] {
+        breaks_at(&rt, rt.alloc(), RESTART, (changed, byte), want, case)?;
+    }
+    Ok(())
+}
+
+#[test]
+fn a_broken_link_or_activity_is_named_by_its_place(rt: HostRuntime) -> Result<(), Fail> {
+    for (case, changed, byte, want) in [
+        ("a link from an unknown endpoint", 31, 0x62, 7),
+        ("a link without a limit", 38, 0x00, 38),
+        ("65 activities", 39, 0x41, 39),
+        ("no default activity", 41, 0x44, 7),
+        ("no weight", 48, 0x00, 48),
+    ] {
+        breaks_at(&rt, rt.alloc(), RESTART, (changed, byte), want, case)?;
+    }
+    Ok(())
+}
+
+#[test]
+fn a_broken_outcome_is_named_by_its_place(rt: HostRuntime) -> Result<(), Fail> {
+    let case = "an outcome past the last";
+    breaks_at(&rt, rt.alloc(), REPORT, (9, 0x08), 9, case)?;
+    Ok(())
+}
+
+/// These bytes are no entry, from this place on.
+fn is_broken(rt: &impl Abort, alloc: Global, bytes: &[u8], want: usize, case: &str) {
+    assert_eq!(rt; place(alloc, bytes), Some(want), "{case}");
+}
+
+#[test]
+fn too_few_or_many_bytes_are_no_entry(rt: HostRuntime) {
+    let alloc = rt.alloc();
+    is_broken(&rt, alloc, b"", 0, "the empty list");
+    let behind = b"\x03\x03\x80\xe2\xcf\xaa\x06\x01\x00";
+    is_broken(&rt, alloc, behind, 8, "a byte behind the entry");
+    is_broken(
+        &rt,
+        alloc,
+        b"\x00\x06\x00\x45\x00\x00\x00",
+        3,
+        "half a word",
+    );
+    let half = b"\x00\x07\x00\x01\x01\x04\x90\x01";
+    is_broken(&rt, alloc, half, 6, "half a digest");
+}
+
+#[test]
+fn other_numbers_are_no_entry(rt: HostRuntime) {
+    let alloc = rt.alloc();
+    let needless = b"\x03\x03\x80\xe2\xcf\xaa\x86\x00\x01";
+    is_broken(&rt, alloc, needless, 2, "a moment that ends in 00");
+    let writer = b"\x80\x80\x80\x80\x10\x03\x00\x01";
+    is_broken(&rt, alloc, writer, 0, "a writer of 33 bits");
+    let moment = b"\x00\x03\x80\x80\x80\x80\x80\x80\x80\x80\x80\x02\x01";
+    is_broken(&rt, alloc, moment, 2, "a moment of 65 bits");
+}
+
+fn draw(state: &mut u64) -> u64 {
+    *state = state
+        .wrapping_mul(6_364_136_223_846_793_005)
+        .wrapping_add(1_442_695_040_888_963_407);
+    *state >> (*state % 61)
+}
+
+fn small(state: &mut u64) -> u32 {
+    (draw(state) % 4_294_967_296) as u32
+}
+
+fn outcome(state: &mut u64) -> Outcome {
+    let digest = draw(state).to_le_bytes();
+    let [a, b, c, d, e, f, g, h] = digest;
+    match draw(state) % 8 {
+        0 => Outcome::Verified {
+            size: draw(state),
+            digest: [a, b, c, d, e, f, g, h, h, g, f, e, d, c, b, a],
+        },
+        1 => Outcome::SourceMissing,
+        2 => Outcome::DestinationExists,
+        3 => Outcome::SourceSize { seen: draw(state) },
+        4 => Outcome::SourceDigest {
+            seen: [h, g, f, e, d, c, b, a, a, b, c, d, e, f, g, h],
+        },
+        5 => Outcome::ReadBackDiffers { at: draw(state) },
+        6 => Outcome::StoreFailed,
+        _ => Outcome::Stopped,
+    }
+}
+
+fn command(state: &mut u64) -> Command
+    ensures { IsTrue (has_priority result) }
+{
+    let now = draw(state);
+    let job = small(state);
+    match draw(state) % 5 {
+        0 => Command::CancelJob { now, job },
+        1 => Command::CancelFile {
+            now,
+            job,
+            file: small(state),
+        },
+        2 => Command::SetPriority {
+            now,
+            job,
+            priority: 3,
+        },
+        3 => Command::Claim {
+            now,
+            word: draw(state),
+        },
+        _ => Command::Report {
+            now,
+            file: job,
+            attempt: small(state),
+            outcome: outcome(state),
+        },
+    }
+}
+
+/// What is written of an entry is read and written again the same.
+fn comes_back(rt: &impl Abort, alloc: Global, entry: &Entry, number: u32) -> Result<(), Fail>
+    requires { IsTrue (has_priority entry.now.command) }
+{
+    let mut out = Vec::new(alloc);
+    write_entry(entry, &mut out)?;
+    let back = again(alloc, &out)?;
+    assert_eq!(rt; back.as_slice(), out.as_slice(), "entry {number}");
+    Ok(())
+}
+
+#[test]
+fn generated_entries_come_back(rt: HostRuntime) -> Result<(), Fail> {
+    let mut state = 2026;
+    for number in 0..300 {
+        let entry = Entry {
+            writer: small(&mut state),
+            command: command(&mut state),
+        };
+        comes_back(&rt, rt.alloc(), &entry, number)?;
+    }
+    Ok(())
+}

@@ -1,0 +1,597 @@
+//! What no clause says: copies with ample memory and digests that another program gave, failures and noes one by one, files that change
+//! while they are copied, and real folders.
+use crate::copy_changing::WritingWatch;
+use fts_copy::{CopyRoom, CountingWatch, copy_verified};
+use fts_store::{FolderStore, MemoryStore, Store, StoredFile};
+use fts_tables::{
+    EndpointName, FileRow, FileState, Items, Label, Memory, Outcome, PathKey, Place, PlaceRef,
+    Reason,
+};
+use md5::{Digest, Md5};
+use std::alloc::{Alloc, AllocError, Global};
+use std::fs::{self, File, Files, OpenOptions};
+use std::io::Write;
+use std::process::Abort;
+use std::test::Fail;
+use std::thread::join;
+
+const EMPTY: [u8; 16] = *b"\xd4\x1d\x8c\xd9\x8f\x00\xb2\x04\xe9\x80\x09\x98\xec\xf8\x42\x7e";
+
+pub(crate) const ABC: [u8; 16] =
+    *b"\x90\x01\x50\x98\x3c\xd2\x4f\xb0\xd6\x96\x3f\x7d\x28\xe1\x7f\x72";
+
+pub(crate) const AB: [u8; 16] =
+    *b"\x18\x7e\xf4\x43\x61\x22\xd1\xcc\x2f\x40\xdc\x2b\x92\xf0\xeb\xa0";
+
+pub(crate) const ABC_PLUS: [u8; 16] =
+    *b"\x2c\xa4\x3d\x97\x24\xdd\x4a\xb5\x6e\x3e\xe7\x1c\xad\x1d\x6c\x42";
+
+pub(crate) const AB_PLUS: [u8; 16] =
+    *b"\xb7\x1a\x12\x24\x21\x99\xbd\x3a\xe7\xc0\x7d\xda\xee\xcd\xfc\x16";
+
+const OTHER: [u8; 16] = *b"\x90\x01\x50\x98\x3c\xd2\x4f\xb0\xd6\x96\x3f\x7d\x28\xe1\x7f\x73";
+
+fn place(alloc: Global, endpoint: &str, path: &str) -> Result<Place, Memory> {
+    let endpoint = EndpointName::read(alloc, endpoint)?;
+    let path = PathKey::read(alloc, path)?;
+    match (endpoint, path) {
+        (Some(endpoint), Some(path)) => Ok(Place { endpoint, path }),
+        _ => Err(Memory),
+    }
+}
+
+// A row of file 1, from `data/f1` on A to `store/f1` on B.
+pub(crate) fn row(alloc: Global, size: u64, wanted: Option<[u8; 16]>) -> Result<FileRow, Memory> {
+    Ok(FileRow {
+        id: 1,
+        job: 1,
+        index: 0,
+        source: place(alloc, "https://a.example", "data/f1")?,
+        dest: place(alloc, "https://b.example", "store/f1")?,
+        size,
+        wanted,
+        activity: Label::new(alloc, "default")?,
+        state: FileState::Active,
+        retries: 0,
+        attempt: 1,
+        not_before: 0,
+        cancel_asked: false,
+        reason: Reason::None,
+        digest: None,
+    })
+}
+
+fn dest() -> PlaceRef<'static> {
+    PlaceRef {
+        endpoint: "https://b.example",
+        path: "store/f1",
+    }
+}
+
+fn add(files: &mut Vec<StoredFile>, place: Place, bytes: Vec<u8>) -> Result<(), Memory> {
+    let file = StoredFile {
+        place,
+        bytes: Items::from_vec(bytes),
+    };
+    match files.push(file) {
+        Ok(()) => Ok(()),
+        Err(_) => Err(Memory),
+    }
+}
+
+// A store whose source holds these bytes. The call of the one number fails, the append of the other loses a byte; both are numbered from 1.
+fn holding(alloc: Global, bytes: Vec<u8>, fails: u32, loses: u32) -> Result<MemoryStore, Memory> {
+    let mut files = Vec::new(alloc);
+    let source = place(alloc, "https://a.example", "data/f1")?;
+    add(&mut files, source, bytes)?;
+    let fail = [fails].to_vec(alloc)?;
+    let drop = [loses].to_vec(alloc)?;
+    Ok(MemoryStore::new(alloc, Items::from_vec(files), fail, drop))
+}
+
+fn holding_abc(alloc: Global, fails: u32, loses: u32) -> Result<MemoryStore, Memory> {
+    holding(alloc, b"abc".to_vec(alloc)?, fails, loses)
+}
+
+// A copy that is called off after so many pieces, and how often its watch was asked.
+pub(crate) fn copied<E: Store>(
+    store: &mut E,
+    room: &mut CopyRoom,
+    row: &FileRow,
+    overwrite: bool,
+    yeses: u64,
+) -> (Outcome, u64) {
+    let mut watch = CountingWatch::new(yeses);
+    room.load(row, overwrite);
+    let outcome = copy_verified(store, room, &mut watch);
+    (outcome, watch.askings())
+}
+
+// A room, and the row that is copied in it.
+#[derive(Drop)]
+struct Copier {
+    room: CopyRoom,
+    row: FileRow,
+}
+
+fn copier_of(alloc: Global, size: u64, wanted: Option<[u8; 16]>) -> Result<Copier, Memory> {
+    Ok(Copier {
+        room: CopyRoom::new(alloc)?,
+        row: row(alloc, size, wanted)?,
+    })
+}
+
+fn never_stopped<E: Store>(store: &mut E, copier: &mut Copier, overwrite: bool) -> (Outcome, u64) {
+    copied(store, &mut copier.room, &copier.row, overwrite, u64::MAX)
+}
+
+pub(crate) fn verified(size: u64, digest: [u8; 16]) -> Outcome {
+    Outcome::Verified { size, digest }
+}
+
+fn ends(rt: &impl Abort, found: (Outcome, u64), want: (Outcome, u64), case: &str) {
+    assert_eq!(rt; found, want, "{case}");
+}
+
+// A copy of `abc` whose append of this number loses a byte: its end, and the size of what is at the destination then.
+fn end_of_abc(
+    alloc: Global,
+    room: &mut CopyRoom,
+    row: &FileRow,
+    loses: u32,
+) -> Result<(Outcome, Option<u64>), Fail> {
+    let mut store = holding_abc(alloc, 0, loses)?;
+    let (outcome, _) = copied(&mut store, room, row, false, u64::MAX);
+    Ok((outcome, store.size(dest())?))
+}
+
+// A copy of `abc`, of which this size and digest are wanted, ends so.
+fn abc_ends(
+    alloc: Global,
+    room: &mut CopyRoom,
+    wants: (u64, Option<[u8; 16]>),
+    loses: u32,
+    want: Outcome,
+) -> Result<bool, Fail> {
+    let row = row(alloc, wants.0, wants.1)?;
+    let there = if want == verified(3, ABC) {
+        Some(3)
+    } else {
+        None
+    };
+    Ok(end_of_abc(alloc, room, &row, loses)? == (want, there))
+}
+
+#[test]
+fn each_end_of_a_copy_of_three_bytes(rt: HostRuntime) -> Result<(), Fail> {
+    let mut room = CopyRoom::new(rt.alloc())?;
+    for (case, wants, loses, want) in [
+        ("any size and digest", (0, None), 0, verified(3, ABC)),
+        (
+            "the size and the digest",
+            (3, Some(ABC)),
+            0,
+            verified(3, ABC),
+        ),
+        (
+            "another size",
+            (4, Some(OTHER)),
+            0,
+            Outcome::SourceSize { seen: 3 },
+        ),
+        (
+            "another digest",
+            (0, Some(OTHER)),
+            1,
+            Outcome::SourceDigest { seen: ABC },
+        ),
+        (
+            "a lost byte",
+            (3, Some(ABC)),
+            1,
+            Outcome::ReadBackDiffers { at: 2 },
+        ),
+    ] {
+        let is_so = abc_ends(rt.alloc(), &mut room, wants, loses, want)?;
+        assert!(rt; is_so, "{case} {want:?}");
+    }
+    Ok(())
+}
+
+fn copies_an_empty_file(rt: &impl Abort, alloc: Global, copier: &mut Copier) -> Result<(), Fail> {
+    let mut store = holding(alloc, Vec::new(alloc), 0, 0)?;
+    let first = never_stopped(&mut store, copier, false);
+    ends(rt, first, (verified(0, EMPTY), 1), "an empty file");
+    let second = never_stopped(&mut store, copier, false);
+    ends(rt, second, (Outcome::DestinationExists, 0), "it is there");
+    let third = never_stopped(&mut store, copier, true);
+    ends(rt, third, (verified(0, EMPTY), 1), "it is replaced");
+    Ok(())
+}
+
+fn misses_a_source(rt: &impl Abort, alloc: Global, copier: &mut Copier) {
+    let none = Items::from_vec(Vec::new(alloc));
+    let mut store = MemoryStore::new(alloc, none, Vec::new(alloc), Vec::new(alloc));
+    let found = never_stopped(&mut store, copier, false);
+    ends(rt, found, (Outcome::SourceMissing, 0), "no source");
+}
+
+#[test]
+fn what_is_missing_or_there_ends_a_copy(rt: HostRuntime) -> Result<(), Fail> {
+    let mut copier = copier_of(rt.alloc(), 0, Some(EMPTY))?;
+    copies_an_empty_file(&rt, rt.alloc(), &mut copier)?;
+    misses_a_source(&rt, rt.alloc(), &mut copier);
+    Ok(())
+}
+
+// A copy of `abc` whose call of this number fails ends so; the call behind the last of a copy is the look at what it left.
+fn ends_at_call(
+    rt: &impl Abort,
+    alloc: Global,
+    copier: &mut Copier,
+    call: u32,
+) -> Result<(), Memory> {
+    let mut store = holding_abc(alloc, call, 0)?;
+    let (outcome, _) = never_stopped(&mut store, copier, false);
+    let has_failed = outcome == Outcome::StoreFailed;
+    let is_told = store.size(dest()).is_ok();
+    let is_early = call != 11;
+    assert_eq!(rt; (has_failed, is_told), (is_early, is_early), "call {call}");
+    Ok(())
+}
+
+#[test]
+fn each_call_that_fails_ends_a_copy(rt: HostRuntime) -> Result<(), Fail> {
+    let mut copier = copier_of(rt.alloc(), 3, Some(ABC))?;
+    // two looks, the part made, a read and an append, two reads, two at the ends, the rename
+    for call in 1..=11 {
+        ends_at_call(&rt, rt.alloc(), &mut copier, call)?;
+    }
+    Ok(())
+}
+
+// Bytes of which no two neighbours are equal.
+fn pattern(alloc: Global, size: usize) -> Result<Vec<u8>, AllocError> {
+    let mut bytes = vec![in alloc; 0; size]?;
+    for (at, byte) in bytes.iter_mut().enumerate() {
+        *byte = (at % 251) as u8;
+    }
+    Ok(bytes)
+}
+
+// A copy of so many bytes, whose append of this number loses one and 0 loses none, ends so.
+fn pattern_ends(
+    rt: &impl Abort,
+    alloc: Global,
+    copier: &mut Copier,
+    size: usize,
+    loses: u32,
+    want: (Outcome, u64),
+) -> Result<(), Memory> {
+    let mut store = holding(alloc, pattern(alloc, size)?, 0, loses)?;
+    let found = never_stopped(&mut store, copier, false);
+    assert_eq!(rt; found, want, "{size} {loses}");
+    Ok(())
+}
+
+#[test]
+fn sizes_around_a_piece(rt: HostRuntime) -> Result<(), Fail> {
+    let mut copier = copier_of(rt.alloc(), 0, None)?;
+    for (size, digest, askings) in [
+        (0, &EMPTY, 1),
+        (
+            1,
+            b"\x93\xb8\x85\xad\xfe\x0d\xa0\x89\xcd\xf6\x34\x90\x4f\xd5\x9f\x71",
+            3,
+        ),
+        (
+            65_535,
+            b"\x89\x37\x8b\xe9\x3d\x51\xbb\xd3\xa9\xaa\x65\xe9\x20\x10\x36\x92",
+            3,
+        ),
+        (
+            65_536,
+            b"\x9c\xc6\x07\x13\x92\x35\x28\xa1\xdd\x94\xe1\xc1\xab\x0e\xbc\x9e",
+            3,
+        ),
+        (
+            65_537,
+            b"\x4c\x26\x41\xc7\xfe\x5c\x93\xd3\xae\xd7\xc4\x06\x62\x9f\xf0\xab",
+            5,
+        ),
+        (
+            131_072,
+            b"\xd0\x21\x99\xa1\x97\xfb\x4b\x17\x77\x52\x5f\xe3\x75\xf9\xf5\xf1",
+            5,
+        ),
+    ] {
+        let want = (verified(size as u64, *digest), askings);
+        pattern_ends(&rt, rt.alloc(), &mut copier, size, 0, want)?;
+    }
+    Ok(())
+}
+
+#[test]
+fn a_lost_byte_of_sizes_around_a_piece(rt: HostRuntime) -> Result<(), Fail> {
+    let mut copier = copier_of(rt.alloc(), 0, None)?;
+    for (size, loses, at, askings) in [
+        (1, 1, 0, 2),
+        (65_535, 1, 65_534, 2),
+        (65_536, 1, 65_535, 2),
+        (65_537, 1, 65_535, 3),
+        (65_537, 2, 65_536, 4),
+        (131_072, 1, 65_535, 3),
+        (131_072, 2, 131_071, 4),
+    ] {
+        let want = (Outcome::ReadBackDiffers { at }, askings);
+        pattern_ends(&rt, rt.alloc(), &mut copier, size, loses, want)?;
+    }
+    Ok(())
+}
+
+// A copy that is called off after so many pieces is stopped, and leaves nothing.
+fn stops_after(
+    rt: &impl Abort,
+    alloc: Global,
+    copier: &mut Copier,
+    yeses: u64,
+) -> Result<(), Memory> {
+    let mut store = holding(alloc, pattern(alloc, 65_537)?, 0, 0)?;
+    let ended = copied(&mut store, &mut copier.room, &copier.row, false, yeses);
+    let want = (Outcome::Stopped, yeses.saturating_add(1));
+    ends(rt, ended, want, "it is stopped");
+    assert_eq!(rt; store.size(dest()), Ok(None));
+    Ok(())
+}
+
+#[test]
+fn each_no_ends_a_copy(rt: HostRuntime) -> Result<(), Fail> {
+    let mut copier = copier_of(rt.alloc(), 0, None)?;
+    for yeses in 0..5 {
+        stops_after(&rt, rt.alloc(), &mut copier, yeses)?;
+    }
+    Ok(())
+}
+
+fn clear<R: Files<File = File> + Alloc>(rt: &R, root: &str) {
+    let _old = fs::remove_dir_all(rt, root);
+}
+
+// The bytes of a real file; none where it can't be read.
+fn bytes_at<R: Files<File = File> + Alloc>(rt: &R, path: &str) -> Vec<u8, R::A> {
+    match fs::read(rt, path) {
+        Ok(bytes) => bytes,
+        Err(_) => Vec::new(rt.alloc()),
+    }
+}
+
+fn holds<R: Files<File = File> + Alloc + Abort>(rt: &R, path: &str, want: &str, case: &str) {
+    let bytes = bytes_at(rt, path);
+    assert_eq!(rt; bytes.as_slice(), want.as_bytes(), "{case}");
+}
+
+const HELD: &str = "grid-of-a-copy/https:,,b.example/store/f1";
+
+type Folders = FolderStore<HostRuntime>;
+
+// A store of real folders, and what copies in it.
+#[derive(Drop)]
+struct Grid {
+    store: Folders,
+    copier: Copier,
+}
+
+fn grid_at(rt: HostRuntime, root: &str, wanted: Option<[u8; 16]>) -> Result<Grid, Fail> {
+    let alloc = rt.alloc();
+    let root = String::from_str(alloc, root)?;
+    let copier = copier_of(alloc, 0, wanted)?;
+    Ok(Grid {
+        store: FolderStore::new(rt, alloc, root),
+        copier,
+    })
+}
+
+fn copies_once<R: Files<File = File> + Alloc + Abort>(
+    rt: &R,
+    store: &mut Folders,
+    copier: &mut Copier,
+) -> Result<(), Fail> {
+    let missing = never_stopped(store, copier, false);
+    ends(rt, missing, (Outcome::SourceMissing, 0), "no source");
+    fs::create_dir_all(rt, "grid-of-a-copy/https:,,a.example/data")?;
+    fs::write(rt, "grid-of-a-copy/https:,,a.example/data/f1", "abc")?;
+    let first = never_stopped(store, copier, false);
+    ends(rt, first, (verified(3, ABC), 3), "a source");
+    let second = never_stopped(store, copier, false);
+    ends(rt, second, (Outcome::DestinationExists, 0), "it is there");
+    Ok(())
+}
+
+fn replaces_a_file<R: Files<File = File> + Alloc + Abort>(
+    rt: &R,
+    store: &mut Folders,
+    copier: &mut Copier,
+) -> Result<(), Fail> {
+    fs::write(rt, HELD, "other")?;
+    let found = never_stopped(store, copier, true);
+    ends(rt, found, (verified(3, ABC), 3), "it is replaced");
+    holds(rt, HELD, "abc", "it is replaced");
+    Ok(())
+}
+
+fn spares_a_folder<R: Files<File = File> + Alloc + Abort>(
+    rt: &R,
+    store: &mut Folders,
+    copier: &mut Copier,
+) -> Result<(), Fail> {
+    fs::remove_file(rt, HELD)?;
+    fs::create_dir_all(rt, HELD)?;
+    let found = never_stopped(store, copier, true);
+    ends(rt, found, (Outcome::StoreFailed, 3), "a folder is there");
+    assert!(rt; fs::exists(rt, HELD)?, "it is there still");
+    Ok(())
+}
+
+fn copies_between_folders<R: Files<File = File> + Alloc + Abort>(
+    rt: &R,
+    grid: &mut Grid,
+) -> Result<(), Fail> {
+    copies_once(rt, &mut grid.store, &mut grid.copier)?;
+    replaces_a_file(rt, &mut grid.store, &mut grid.copier)?;
+    spares_a_folder(rt, &mut grid.store, &mut grid.copier)
+}
+
+#[test]
+fn a_file_is_copied_between_real_folders(rt: HostRuntime) -> Result<(), Fail> {
+    let root = "grid-of-a-copy";
+    clear(&rt, root);
+    let mut grid = grid_at(rt, root, Some(ABC))?;
+    let ended = copies_between_folders(&rt, &mut grid);
+    clear(&rt, root);
+    ended
+}
+
+const CHANGED_SOURCE: &str = "grid-of-a-change/https:,,a.example/data/f1";
+
+const CHANGED_DEST: &str = "grid-of-a-change/https:,,b.example/store/f1";
+
+fn clear_dest<R: Files<File = File>>(rt: &R) -> Result<(), Fail> {
+    let _old = fs::remove_file(rt, CHANGED_DEST);
+    fs::write(rt, CHANGED_SOURCE, "abc")?;
+    Ok(())
+}
+
+// A copy whose watch writes these bytes into a file, before the first piece is read, ends so and leaves this at the destination.
+fn written_ends<R: Files<File = File> + Alloc + Abort>(
+    rt: &R,
+    stand: (&mut Folders, &mut Copier),
+    written: (&str, &str),
+    want: Outcome,
+    there: &str,
+) -> Result<(), Fail> {
+    clear_dest(rt)?;
+    let (path, bytes) = written;
+    let mut watch = WritingWatch {
+        rt,
+        path,
+        bytes,
+        askings: 0,
+    };
+    let (store, copier) = stand;
+    copier.room.load(&copier.row, false);
+    let found = copy_verified(store, &mut copier.room, &mut watch);
+    assert_eq!(rt; found, want, "{bytes}");
+    holds(rt, CHANGED_DEST, there, bytes);
+    Ok(())
+}
+
+fn make_folders(rt: HostRuntime, root: &str) -> Result<(), Fail> {
+    clear(&rt, root);
+    fs::create_dir_all(&rt, "grid-of-a-change/https:,,a.example/data")?;
+    fs::create_dir_all(&rt, "grid-of-a-change/https:,,b.example/store")?;
+    Ok(())
+}
+
+fn each_written_ends<R: Files<File = File> + Alloc + Abort>(
+    rt: &R,
+    store: &mut Folders,
+    copier: &mut Copier,
+) -> Result<(), Fail> {
+    for (path, bytes, want, there) in [
+        (CHANGED_SOURCE, "abc", verified(3, ABC), "abc"),
+        (CHANGED_SOURCE, "ab", Outcome::SourceSize { seen: 2 }, ""),
+        (
+            CHANGED_SOURCE,
+            "abc+",
+            Outcome::ReadBackDiffers { at: 3 },
+            "",
+        ),
+        (CHANGED_SOURCE, "ab+", verified(3, AB_PLUS), "ab+"),
+        (CHANGED_DEST, "other", Outcome::StoreFailed, "other"),
+    ] {
+        written_ends(rt, (store, copier), (path, bytes), want, there)?;
+    }
+    Ok(())
+}
+
+#[test]
+fn a_real_file_that_changes_during_a_copy(rt: HostRuntime) -> Result<(), Fail> {
+    let root = "grid-of-a-change";
+    make_folders(rt, root)?;
+    let mut grid = grid_at(rt, root, None)?;
+    let ended = each_written_ends(&rt, &mut grid.store, &mut grid.copier);
+    clear(&rt, root);
+    ended
+}
+
+// Cuts a file, makes it as long as it was, writes other bytes into it and makes it longer, so often.
+fn cut_and_lengthen<R: Files<File = File>>(rt: &R, path: &str) {
+    for _ in 0..100 {
+        if let Ok(mut file) = OpenOptions::new().write(true).open(rt, path) {
+            let _cut = file.set_len(66_000);
+            let _whole = file.set_len(70_000);
+            let _other = file.write_all(b"other bytes at its start");
+            let _longer = file.set_len(80_000);
+        }
+    }
+}
+
+// Whether a file holds what this end of a copy says.
+fn is_as_said<R: Files<File = File> + Alloc>(rt: &R, outcome: Outcome, path: &str) -> bool {
+    let Outcome::Verified { size, digest } = outcome else {
+        return true;
+    };
+    match fs::read(rt, path) {
+        Ok(bytes) => {
+            let mut hasher = Md5::new();
+            hasher.update(bytes.as_slice());
+            bytes.len() as u64 == size && hasher.finalize() == digest
+        }
+        Err(_) => false,
+    }
+}
+
+const CUT_SOURCE: &str = "grid-of-a-cut/https:,,a.example/data/f1";
+
+const CUT_DEST: &str = "grid-of-a-cut/https:,,b.example/store/f1";
+
+fn make_source(rt: HostRuntime, root: &str) -> Result<(), Fail> {
+    clear(&rt, root);
+    fs::create_dir_all(&rt, "grid-of-a-cut/https:,,a.example/data")?;
+    let bytes = pattern(rt.alloc(), 70_000)?;
+    fs::write(&rt, CUT_SOURCE, bytes.as_slice())?;
+    Ok(())
+}
+
+// A copy that nobody disturbs.
+fn ends_alone<R: Files<File = File> + Alloc + Abort>(
+    rt: &R,
+    store: &mut Folders,
+    copier: &mut Copier,
+) {
+    let (outcome, _) = never_stopped(store, copier, true);
+    assert!(rt;
+        outcome != Outcome::StoreFailed && is_as_said(rt, outcome, CUT_DEST),
+        "{outcome:?}"
+    );
+}
+
+#[test]
+fn a_source_that_another_thread_changes_is_never_verified_as_another(
+    rt: HostRuntime,
+) -> Result<(), Fail> {
+    let root = "grid-of-a-cut";
+    make_source(rt, root)?;
+    let mut grid = grid_at(rt, root, None)?;
+    for _ in 0..5_u32 {
+        let ((outcome, _), _) = join(
+            &rt,
+            || never_stopped(&mut grid.store, &mut grid.copier, true),
+            || cut_and_lengthen(&rt, CUT_SOURCE),
+        );
+        assert!(rt; is_as_said(&rt, outcome, CUT_DEST), "{outcome:?}");
+    }
+    ends_alone(&rt, &mut grid.store, &mut grid.copier);
+    clear(&rt, root);
+    Ok(())
+}

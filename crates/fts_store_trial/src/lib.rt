@@ -1,0 +1,13 @@
+//! What no clause says of stores and copies: that each call succeeds with ample memory, over memory and over real folders, and what a copy leaves
+//! where a call fails or its files change meanwhile. A module a crate: `store`, `copy`; `copy_changes` has the files that change.
+//! Tests stand here and not in the crates, so that a changed row builds no library again, and many tests share one check.
+#![tactic(auto)]
+
+#[cfg(test)]
+mod copy;
+#[cfg(test)]
+mod copy_changes;
+#[cfg(test)]
+mod copy_changing;
+#[cfg(test)]
+mod store;
