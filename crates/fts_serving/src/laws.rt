@@ -18,7 +18,7 @@ ghost use Rattle.fts_serving.specs.Ends.{IsOpenedBy, KeepTheLedger, KeptWhereSer
 ghost use Rattle.fts_serving.specs.Finishes.{BreaksNoRule, DoorsRose, EachLane, Finishes, LinesAre};
 
 use fts_disk::Disk;
-use fts_idle::laws::idle_claims_find_none;
+use fts_laws::idle_claims_find_none;
 use fts_ledger::laws::{
     files_out_have_claimants, own_reports_disturb_nobody, passes_see_one_list,
     turns_keep_the_ledger, undisturbed_stores_follow,

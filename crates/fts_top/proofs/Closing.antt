@@ -5,7 +5,7 @@ use Rattle.fts_tables.specs.Coming.{Coming, Gives}
 use Rattle.fts_tables.specs.SettingsData.{SettingsData, IsSettings}
 use Rattle.fts_tables.specs.History.{tables_of, IsLegal}
 use Rattle.fts_tables.specs.declared.commands.Entry.{Entry}
-use Rattle.fts_attempts.specs.Attempts.{attempts_in, claims_in}
+use Rattle.fts_laws.specs.Attempts.{attempts_in, claims_in}
 use Rattle.fts_disk.specs.Disk.{DiskState, IsTold}
 use Rattle.fts_turnstile.specs.declared.turn.Turn.{Turn}
 use Rattle.fts_turnstile.specs.History.{items_of, items_by, AllNamed}

@@ -19,7 +19,7 @@ use Rattle.fts_workers.specs.Copies.{Copy, copies_from, copies_kept, FollowsRepo
 use Rattle.fts_workers.specs.Rounds.{IsWorkedOver}
 use Rattle.fts_workers.specs.declared.held.Held.{Held}
 use Rattle.fts_top.specs.Connections.{Reading}
-use Rattle.fts_attempts.specs.Attempts.{claims_in}
+use Rattle.fts_laws.specs.Attempts.{claims_in}
 use Rattle.fts_top.specs.Tallies.{tally_with, no_tally}
 use Rattle.fts_top.specs.Sessions.{IsSession, IsOver, IsReady, walk_of, kept_at, thread}
 use Rattle.fts_top.specs.Runs.{one_thread, begun_with, AreRead, HasNoSettings, IsStop, StartsWith, LeavesList, ServesKeep, StopsEarly, RunsSession, IsSessionRun, start_end}

@@ -22,7 +22,7 @@ use Rattle.fts_workers.specs.declared.ends.RoundEnd.{RoundEnd}
 use Rattle.fts_wire.specs.RequestData.{RequestData}
 use Rattle.fts_wire.specs.declared.response.Reply.{Reply}
 use Rattle.fts_routes.specs.Replies.{Answers, said, said_so, IsInsteadOf}
-use Rattle.fts_attempts.specs.Attempts.{claims_in, is_claim}
+use Rattle.fts_laws.specs.Attempts.{claims_in, is_claim}
 use Rattle.fts_top.specs.Sessions.{AnswersNext, ThreadData, IsOver, IsReady, walk_of, kept_at, Works}
 use Rattle.fts_top.proofs.Keeping.{none_more, tables_from-append, legal_behind, extends_none, extends_more}
 use Rattle.fts_top.proofs.Saying.{AddsWell, said_well}

@@ -6,7 +6,7 @@ use Rattle.fts_tables.specs.Coming.{Coming, Gives}
 use Rattle.fts_tables.specs.SettingsData.{SettingsData, IsSettings}
 use Rattle.fts_tables.specs.History.{tables_of}
 use Rattle.fts_tables.specs.declared.commands.Entry.{Entry}
-use Rattle.fts_attempts.specs.Attempts.{attempts_in}
+use Rattle.fts_laws.specs.Attempts.{attempts_in}
 use Rattle.fts_disk.specs.Disk.{DiskState, IsTold}
 use Rattle.fts_turnstile.specs.History.{items_of, items_by}
 use Rattle.fts_turnstile.specs.Passes.{TurnstileView, PassView}

@@ -16,7 +16,7 @@ use Rattle.fts_workers.specs.Rounds.{Walk, IsRound, IsWorkedOver, walk_over}
 use Rattle.fts_workers.specs.declared.ends.RoundEnd.{RoundEnd}
 use Rattle.fts_workers.specs.declared.ends.RoundEnd.TheVariants.{Busy}
 use Rattle.fts_routes.specs.Replies.{Way, Said, said, said_so, CausedBy, IsInsteadOf}
-use Rattle.fts_attempts.specs.Attempts.{claims_in}
+use Rattle.fts_laws.specs.Attempts.{claims_in}
 use Rattle.fts_top.specs.Connections.{Reading, IsConnection}
 use Rattle.fts_top.specs.declared.ends.SessionEnd.{SessionEnd}
 

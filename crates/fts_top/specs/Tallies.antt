@@ -2,7 +2,7 @@
 use Rattle.std.specs.Prelude.{ℕ, List, count_by}
 use Rattle.fts_tables.specs.Tables.{Tables, is_submitted, is_finished, is_failed, is_canceled}
 use Rattle.fts_tables.specs.declared.commands.Entry.{Entry}
-use Rattle.fts_attempts.specs.Attempts.{claims_in}
+use Rattle.fts_laws.specs.Attempts.{claims_in}
 use Rattle.fts_top.specs.declared.tally.Tally.{Tally}
 
 -- the tally of tables, after so many claims

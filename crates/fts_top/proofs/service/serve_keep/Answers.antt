@@ -1,6 +1,6 @@
 -- A keep that was served and closed.
 use Rattle.std.proofs.Common.{◌≡◌, ◌+◌, ◌-◌, List, length, refl, sym, ap, ◌∙◌, subst, arith}
-use Rattle.fts_attempts.specs.Attempts.{attempts_in}
+use Rattle.fts_laws.specs.Attempts.{attempts_in}
 use Rattle.fts_shop.specs.Shops.{ShopData, shop_of}
 use Rattle.fts_top.specs.Locked.{IsLocked, IsUntouched}
 use Rattle.fts_top.specs.Serves.{WhyNoLane}

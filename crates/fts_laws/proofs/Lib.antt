@@ -1,0 +1,10 @@
+mod Changes
+mod Claimed
+mod Steps
+mod AttemptLists
+mod EligibleLists
+mod Drawn
+mod Picks
+mod Worked
+pub mod Cut
+pub mod Standing
