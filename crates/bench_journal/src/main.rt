@@ -1,7 +1,7 @@
 //! Measures appends of the journal beside a floor of the same calls in the same run: two positioned writes and two fdatasyncs each, on a file
 //! that grows, where the journal's has zeros ahead.
 //! With no word it prints nothing, so that its run in the gate is the same each time. `rt run -- 500` makes 500 appends of each.
-//! `append PATH COUNT` and `list PATH` make a journal of numbered bodies and print those of one, for `bench/failing-disk.sh`.
+//! `append PATH COUNT` and `list PATH` make a journal of numbered bodies and print those of one, for `acceptance/failing-disk.sh`.
 //! Both write to files in the folder where it runs, and take turns in batches, so that the device's moods fall on both.
 #![tactic(auto)]
 

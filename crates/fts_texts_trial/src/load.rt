@@ -1,4 +1,4 @@
-//! What no clause says: calls with ample memory, and files and requests by their digests, which an independent program gave (`bench/load.py`).
+//! What no clause says: calls with ample memory, and files and requests by their digests, which an independent program gave (`acceptance/load.py`).
 use fts_load::{DroppingSink, LoadInput, make_requests, make_sources};
 use fts_store::{MemoryStore, Store, StoreFailed};
 use fts_tables::{Items, PlaceRef};

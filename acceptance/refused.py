@@ -1,8 +1,8 @@
 #!/usr/bin/env python3
 """Each allocation of a run refused in turn, one a run: what is answered, how the run ends, and what its journal and its files are behind it.
 
-bench/refused.py PROGRAM [ROW [STEP]]: PROGRAM is fts as it was built. ROW is `job` (a session of three files), `workers` (a service over real
-sockets with two workers and two files) or `load` (2,000 files by `load --number 7`); all of them where none is named. bench/refuse_memory.c is
+acceptance/refused.py PROGRAM [ROW [STEP]]: PROGRAM is fts as it was built. ROW is `job` (a session of three files), `workers` (a service over real
+sockets with two workers and two files) or `load` (2,000 files by `load --number 7`); all of them where none is named. acceptance/refuse_memory.c is
 built by cc and preloaded; it counts the calls that take memory, over all threads, and refuses one. Folders are made below /dev/shm.
 
 `job` and `workers` refuse each call, from the first on, until runs refuse none. A load makes some 140,000 calls: each is known by the places in the
@@ -11,7 +11,8 @@ program that led to it, and refused are the first, the second, the middle and th
 Wanted of each run: it ends by itself, by no signal, with status 0 or 1, or, where a load's store had no memory for a file, 13; each reply is the
 one of a run that nothing is refused in, or 500; a file is FINISHED, with the bytes of its source, or it is FAILED with `store failed`; the journal
 opens, and its jobs are those that were answered 200, where the run came so far. Then a run in which nothing is refused ends with status 0, and
-settles every file. Printed is how many runs ended in each way, and each that is otherwise.
+settles every file. Printed is how many runs ended in each way, and each that is otherwise. A row of which no call was refused is otherwise too: then
+the program's calls for memory do not come to refuse_memory.c.
 """
 import collections
 import json
@@ -276,7 +277,7 @@ def try_row(program, preload, name, step):
     for ended, count in sorted(ends.items()):
         print(f"  {count:6} {ended}")
     print(f"{name}: {runs} runs with a refused call, otherwise than wanted {wrong}", flush=True)
-    return wrong
+    return wrong + (runs == 0)
 
 
 def main(words):

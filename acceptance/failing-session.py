@@ -1,7 +1,8 @@
 #!/usr/bin/env python3
 """Submissions of one session on a device that fails, or is full, for a moment: each job that was acknowledged has to be there after the next mount.
 
-bench/failing-session.py PROGRAM [fails|full] [RUNS [SUBMISSIONS]]: PROGRAM is fts as it was built; 10 runs of 3,000 submissions. Root only, since it mounts.
+acceptance/failing-session.py PROGRAM [fails|full [RUNS [SUBMISSIONS]]]: PROGRAM is fts as it was built; 10 runs of 3,000 submissions. Root only, since it
+mounts. Status 1 where a job was lost or not answered, where a next start failed, and where no reply at all was 503: then nothing was tried.
 The device is a loop over a sparse file in a small tmpfs. `fails`: while the tmpfs is full each write of a new block fails, and the sync with it; the first
 2,065 blocks, in which the file system keeps its log, are there from the start, or it would end read-only. The image is so large that the journal's data
 lie behind them: where a write of several blocks begins in one that is there and ends in one that is not, the loop takes the short write for a whole one,
@@ -11,6 +12,7 @@ the dropping of all pages, a mount, a count of the journal's submissions, and a 
 """
 import os
 import re
+import shutil
 import struct
 import subprocess
 import sys
@@ -48,8 +50,12 @@ class Device:
     def again(self):
         shell(f"umount {self.mount}; echo 3 >/proc/sys/vm/drop_caches; mount {self.loop} {self.mount}")
 
-    def end(self):
+    def __enter__(self):
+        return self
+
+    def __exit__(self, *_):
         shell(f"umount {self.mount}; losetup -d {self.loop}; umount {self.place}/back")
+        shutil.rmtree(self.place)
 
 
 class Session:
@@ -103,30 +109,35 @@ def submissions_in(journal):
     return count
 
 
-def run(program, kind, submissions, begin):
-    device = Device(tempfile.mkdtemp(), kind)
-    with open(f"{device.mount}/fts.toml", "w") as settings:
-        settings.write(SETTINGS)
-    os.sync()
-    session = Session(program, device.mount, submissions)
-    while len(session.answers) < begin:
+def meet_trouble(session, device, kind, begin):
+    """Begins the trouble behind so many answers, and ends it 20 ms after the first failure that is answered. The status of the session."""
+    while len(session.answers) < begin and session.writer.is_alive():
         time.sleep(0.002)
     filler = device.trouble(kind)
     while session.writer.is_alive() and not any(status == 503 for status, _ in session.answers):
         time.sleep(0.002)
     time.sleep(0.02)
     os.remove(filler)
-    status = session.end()
-    device.again()
-    ids = [int(re.search(rb'-([0-9a-f]{12})"', body)[1], 16) for status, body in session.answers if status == 200]
-    with open(f"{device.mount}/fts.journal", "rb") as journal:
-        found = submissions_in(journal.read())
-    started = subprocess.run([program, device.mount, "session"], stdin=subprocess.DEVNULL, capture_output=True).returncode
-    device.end()
+    return session.end()
+
+
+def run(program, kind, submissions, begin):
+    """How much is otherwise than wanted, and how many submissions were answered 503."""
+    with Device(tempfile.mkdtemp(), kind) as device:
+        with open(f"{device.mount}/fts.toml", "w") as settings:
+            settings.write(SETTINGS)
+        os.sync()
+        session = Session(program, device.mount, submissions)
+        status = meet_trouble(session, device, kind, begin)
+        device.again()
+        ids = [int(re.search(rb'-([0-9a-f]{12})"', body)[1], 16) for status, body in session.answers if status == 200]
+        with open(f"{device.mount}/fts.journal", "rb") as journal:
+            found = submissions_in(journal.read())
+        started = subprocess.run([program, device.mount, "session"], stdin=subprocess.DEVNULL, capture_output=True).returncode
     failed = sum(status == 503 for status, _ in session.answers)
     lost = sum(number > found for number in ids)
-    print(f"begun at {begin}: status {status}, acknowledged {len(ids)}, 503 {failed}, found {found}, lost {lost}, next start {started}")
-    return lost + (started != 0) + (len(ids) + failed != submissions)
+    print(f"begun at {begin}: status {status}, acknowledged {len(ids)}, 503 {failed}, found {found}, lost {lost}, next start {started}", flush=True)
+    return lost + (started != 0) + (len(ids) + failed != submissions), failed
 
 
 def main():
@@ -134,9 +145,10 @@ def main():
     kind = sys.argv[2] if len(sys.argv) > 2 else "fails"
     runs = int(sys.argv[3]) if len(sys.argv) > 3 else 10
     submissions = int(sys.argv[4]) if len(sys.argv) > 4 else 3000
-    wrong = sum(run(program, kind, submissions, number * submissions * 8 // runs // 10) for number in range(runs))
-    print(f"wrong in all: {wrong}")
-    return 1 if wrong else 0
+    came = [run(program, kind, submissions, number * submissions * 8 // runs // 10) for number in range(runs)]
+    wrong, failed = (sum(column) for column in zip(*came))
+    print(f"wrong in all: {wrong}, answered 503: {failed}")
+    return 1 if wrong or not failed else 0
 
 
 if __name__ == "__main__":

@@ -2,8 +2,8 @@
 """Inputs that are hostile by size, depth, number or repetition, for each kind of text that comes from outside: heads, JSON documents, URLs,
 queries, settings and journals.
 
-bench/hostile.py PROGRAM [KIND]: PROGRAM is fts as it was built; KIND is one of head, document, url, query, settings and journal. Heads, documents,
-URLs and queries are handed to `PROGRAM - session`, which keeps its stand in memory; settings lie in a folder that a session is begun over, and
+acceptance/hostile.py PROGRAM [KIND]: PROGRAM is fts as it was built; KIND is one of head, document, url, query, settings and journal. Heads,
+documents, URLs and queries are handed to `PROGRAM - session`, which keeps its stand in memory; settings lie in a folder that a session is begun over, and
 journals in one whose tables are shown. Each input is tried, and one of the same kind that is twice as large. Every reply has to have the status and
 the rule that docs/API.md has for it, the process its status, and its note the rule of settings or the offset of damage of docs/OPERATING.md.
 
@@ -21,7 +21,7 @@ import tempfile
 
 RATIO = 2.5
 # so many runs of both sizes, and as many again where they differ by more, up to so often
-RUNS, TRIES = 3, 4
+RUNS, TRIES = 3, 10
 # MiB of a process at most, by the kind of its text: start, room of a connection and what is read there
 MOST = {"head": 16, "document": 32, "url": 16, "query": 16, "settings": 48, "journal": 256}
 # a request behind one that ends the connection: it is not answered
@@ -197,7 +197,8 @@ def documents():
     yield row("many sources", lambda n: b'{"files":[{"sources":[' + many(b'""', n) + b"]}]}", 160_000, 6)
     yield row("many destinations", lambda n: b'{"files":[{"sources":["a"],"destinations":[' + many(b'""', n) + b"]}]}", 160_000, 7)
     yield row("files of an unknown endpoint", lambda n: b'{"files":[' + many(b"{" + URLS % b"https://x.example/a" + b"}", n) + b"]}", 100, 9, times=100)
-    yield row("files that are copied onto themselves", lambda n: b'{"files":[' + many(b"{" + URLS % b"https://b.example/b" + b"}", n) + b"]}", 100, 10, times=100)
+    itself = b"{" + URLS % b"https://b.example/b" + b"}"
+    yield row("files that are copied onto themselves", lambda n: b'{"files":[' + many(itself, n) + b"]}", 100, 10, times=100)
     yield Row("document", "a document for a job that is not there", lambda n: post(b"[" * n, b"/jobs/x"), 500_000, 8, 404, 31)
 
 

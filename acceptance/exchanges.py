@@ -1,7 +1,7 @@
 #!/usr/bin/env python3
 """The exchanges of crates/fts_session_trial/data by the program as it was built, each in a new folder, compared byte for byte.
 
-bench/exchanges.py PROGRAM: PROGRAM is fts as it was built. For each NAME.http the replies are compared with NAME.reply.http, and with NAME.after the
+acceptance/exchanges.py PROGRAM: PROGRAM is fts as it was built. For each NAME.http the replies are compared with NAME.reply.http, and with NAME.after the
 status of the process and the files of the grid: `DEST = SOURCE` for two that are equal, `DEST = nothing` for one that is not there. The moments are
 the machine's own: each submit_time, and each not_before but 0, is taken for the one that is written. crates/fts_session_trial plays the same files
 with a clock that stands still.
@@ -35,7 +35,7 @@ def holds(grid, line):
     dest, source = line.split(" = ")
     if source == "nothing":
         return not (grid / dest).exists()
-    return (grid / dest).read_bytes() == (grid / source).read_bytes()
+    return (grid / dest).exists() and (grid / dest).read_bytes() == (grid / source).read_bytes()
 
 
 def play(program, name):

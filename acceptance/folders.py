@@ -1,8 +1,9 @@
 #!/usr/bin/env python3
 """Each kind of job over a folder of its own, by the program as it was built: what GET says of the rows, and the files byte for byte.
 
-bench/folders.py PROGRAM [SEED]: PROGRAM is fts as it was built. Contents are of a generator with this seed. A kind is one session with the submission,
-and one with a look at its files. The last kinds have more sessions: a retry whose moment has not come and has, and an end by a signal within a copy.
+acceptance/folders.py PROGRAM [SEED]: PROGRAM is fts as it was built. Contents are of a generator with this seed. A kind is one session with the
+submission, and one with a look at its files. The last kinds have more sessions: a retry whose moment has not come and has, and an end by a signal
+within a copy. Wanted of each are the states and reasons beside it in `KINDS`, which are those of docs/API.md. Status 1 where one is otherwise.
 """
 import hashlib
 import json
@@ -53,7 +54,7 @@ class Stand:
 
     def submit(self, document):
         status, replies = self.session(("POST /jobs", json.dumps(document)))
-        assert status == 0 and replies[0][0] == 200, (status, replies)
+        assert status == 0 and [code for code, _ in replies] == [200], (status, replies)
 
     def look(self):
         """The state of the job, and the rows, as the next run answers them before it copies anything."""
@@ -105,9 +106,9 @@ def checksum(stand):
 
 
 def wrong_checksum(stand):
-    stand.source(f"{A}/f", 70000)
+    content = stand.source(f"{A}/f", 70000)
     stand.submit(document([([f"{A}/f"], f"{B}/f")], {"checksum": "MD5:" + 32 * "0"}, verify_checksum=True, retry=3))
-    return told(stand, {f"{B}/f": None})
+    return told(stand, {f"{B}/f": None}).replace(hashlib.md5(content).hexdigest(), "of its bytes")
 
 
 def empty(stand):
@@ -152,6 +153,7 @@ def ended_within_a_copy(stand):
     run.stdin.close()
     part = stand.at(f"{B}/.fts/part-1")
     while not (part.is_file() and part.stat().st_size > 1 << 20):
+        assert run.poll() is None, "the run ended first"
         time.sleep(0.001)
     run.send_signal(signal.SIGKILL)
     run.wait()
@@ -162,26 +164,38 @@ def ended_within_a_copy(stand):
     return f"{end}, attempt 2"
 
 
+FINISHED = "FINISHED: FINISHED"
 KINDS = {
-    "plain, seven files of 0 to 5 MiB": plain,
-    "replicas, the first missing": replicas,
-    "three hops": three_hops,
-    "a wanted checksum": checksum,
-    "another checksum than the wanted one": wrong_checksum,
-    "an empty file": empty,
-    "a destination that is there, without overwrite": overwrite_off,
-    "a destination that is there, with overwrite": overwrite_on,
-    "a retry after 4 seconds": retry_with_delay,
-    "a run that is killed within a copy, and the next one": ended_within_a_copy,
+    "plain, seven files of 0 to 5 MiB": (plain, FINISHED + ", FINISHED" * 6),
+    "replicas, the first missing": (replicas, "FINISHED: FAILED (source missing), FINISHED, NOT_USED"),
+    "three hops": (three_hops, FINISHED + ", FINISHED, FINISHED"),
+    "a wanted checksum": (checksum, FINISHED),
+    "another checksum than the wanted one": (wrong_checksum, "FAILED: FAILED (source digest of its bytes)"),
+    "an empty file": (empty, FINISHED),
+    "a destination that is there, without overwrite": (overwrite_off, "FAILED: FAILED (destination exists)"),
+    "a destination that is there, with overwrite": (overwrite_on, FINISHED),
+    "a retry after 4 seconds": (retry_with_delay, f"SUBMITTED: SUBMITTED (store failed), and behind its moment {FINISHED}, attempt 2"),
+    "a run that is killed within a copy, and the next one": (ended_within_a_copy, f"{FINISHED}, attempt 2"),
 }
+
+
+def is_as_wanted(kind, stand):
+    play, wanted = KINDS[kind]
+    try:
+        found = play(stand)
+    except AssertionError as error:
+        found = f"not so: {error}"
+    print(f"{kind}: {found}" + ("" if found == wanted else f"; wanted: {wanted}"), flush=True)
+    return found == wanted
 
 
 def main():
     program = pathlib.Path(sys.argv[1]).resolve()
     seed = int(sys.argv[2]) if len(sys.argv) > 2 else 1
-    for kind, play in KINDS.items():
-        print(f"{kind}: {play(Stand(program, seed))}", flush=True)
+    wrong = sum(1 for kind in KINDS if not is_as_wanted(kind, Stand(program, seed)))
+    print(f"kinds {len(KINDS)}, otherwise than wanted {wrong}")
+    return 1 if wrong else 0
 
 
 if __name__ == "__main__":
-    main()
+    sys.exit(main())

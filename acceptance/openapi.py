@@ -1,7 +1,7 @@
 #!/usr/bin/env python3
 """The exchanges of crates/fts_session_trial/data by docs/openapi.yaml: each request and reply stands there, and each body is what its schema says.
 
-bench/openapi.py needs PyYAML and jsonschema. A reply that no operation lists is looked for among the responses that every request can get: NoRoute,
+acceptance/openapi.py needs PyYAML and jsonschema. A reply that no operation lists is looked for among the responses that every request can get: NoRoute,
 NoMethod, and the faults of the framing. A document that was accepted has to fit its schema.
 """
 import json

@@ -1,4 +1,4 @@
-/* Refuses one allocation of a program, by its number: for bench/refused.py, which says how it is built and used.
+/* Refuses one allocation of a program, by its number: for acceptance/refused.py, which says how it is built and used.
 
    Preloaded, it stands before malloc, calloc, realloc, posix_memalign and aligned_alloc of the C library. Calls are counted over all threads, from
    1; the one whose number is in REFUSE_AT answers that there is no memory, and with REFUSE_ON=1 each one behind it too. Where REFUSE_SEEN names a
