@@ -3,10 +3,13 @@
 //! What no clause says is that the definitions mean what a client and an operator expect, over real files and two compilers. The program prints what
 //! is otherwise than wanted, and then for each kind how many there were. The exchanges are files of `data/`, and examples for users.
 //! Order: the exchanges, the failing calls, the stops.
+//! Before these are requests alone, and their replies over a keep in memory.
 #![tactic(auto)]
 
 mod exchanges;
 mod failing;
+mod replies;
+mod reply_rows;
 mod stand;
 mod stops;
 mod wanted;
@@ -14,6 +17,7 @@ mod wanted;
 use std::io;
 
 fn main(rt: HostRuntime) -> io::Result<()> {
+    replies::play_all(&rt)?;
     exchanges::play_all(&rt)?;
     failing::play_all(&rt)?;
     stops::play_all(&rt)
