@@ -99,7 +99,7 @@ fn are_worked_settings(settings: &Settings) -> bool {
     settings.vo.as_str() == "demo"
         && settings.workers == 2
         && settings.default_max_active == 7
-        && settings.endpoints.len() == 1
+        && settings.endpoints.as_slice().len() == 1
         && settings.endpoints.as_slice().iter().all(is_worked_endpoint)
 }
 
@@ -123,7 +123,7 @@ fn is_worked_job(job: &NewJob) -> bool {
         && job.priority == 3
         && job.retry == 2
         && job.delay == 300
-        && job.files.len() == 1
+        && job.files.as_slice().len() == 1
         && job.files.as_slice().iter().all(is_worked_file)
 }
 
