@@ -5,8 +5,13 @@
 //! Order: the exchanges, the failing calls, the stops.
 #![tactic(auto)]
 
+mod cuts;
 mod exchanges;
 mod failing;
+mod journals;
+mod loads;
+mod order;
+mod refused;
 mod stand;
 mod stops;
 mod wanted;
@@ -15,6 +20,11 @@ use std::io;
 
 fn main(rt: HostRuntime) -> io::Result<()> {
     exchanges::play_all(&rt)?;
+    cuts::play_all(&rt)?;
+    journals::play_all(&rt)?;
+    refused::play_all(&rt)?;
+    order::play_all(&rt)?;
+    loads::play_all(&rt)?;
     failing::play_all(&rt)?;
     stops::play_all(&rt)
 }
