@@ -1,8 +1,8 @@
-//! Whole sessions by worked rows: exchanges over a folder, a session in which each call of disk, store, source and sink fails once, and one that is
-//! stopped behind each call of its disk.
+//! Whole runs by worked rows: exchanges over a folder, connections in pieces, runs over one journal, loads, a session in which each call of disk,
+//! store, source and sink fails once, and one that is stopped behind each call of its disk.
 //! What no clause says is that the definitions mean what a client and an operator expect, over real files and two compilers. The program prints what
 //! is otherwise than wanted, and then for each kind how many there were. The exchanges are files of `data/`, and examples for users.
-//! Order: the exchanges, the failing calls, the stops.
+//! Order: the exchanges, the connections in pieces, runs over a journal, refused runs, the order of reads, loads, the failing calls, the stops.
 #![tactic(auto)]
 
 mod cuts;
