@@ -1,5 +1,5 @@
-//! Whole sessions by worked rows: exchanges over a folder, a session in which each call of disk, store, source and sink fails once, and one that is
-//! stopped behind each call of its disk.
+//! Whole runs by worked rows: exchanges over a folder, connections in pieces, runs over one journal, loads, a session in which each call of disk,
+//! store, source and sink fails once, and one that is stopped behind each call of its disk.
 //! What no clause says is that the definitions mean what a client and an operator expect, over real files and two compilers. The program prints what
 //! is otherwise than wanted, and then for each kind how many there were. The exchanges are files of `data/`, and examples for users.
 //! Order: requests alone with their replies over a keep in memory (`replies`), the exchanges (`exchanges`), inputs that are cut (`cuts`), journals that
