@@ -1,5 +1,7 @@
 //! Of `fts_states`: that the rules give what operators expect, by rows written by hand.
 use crate::made::row;
+use FileState::{Active, Canceled, Failed, Finished, NotUsed, Submitted};
+use JobKind::{Multihop, Plain, Replica};
 use fts_states::{CancelStep, Follow, after_cancel, after_report, after_restart, job_state};
 use fts_tables::{FileState, JobKind, JobRow, JobState, Outcome, Reason, Strategy};
 use std::test::Fail;
@@ -21,118 +23,122 @@ fn job(kind: JobKind) -> JobRow {
     }
 }
 
+/// A row: a sentence, a kind, the states of two rows, and the state of their job.
+type JobCase = (&'static str, JobKind, FileState, FileState, JobState);
+
+/// Jobs of two rows.
+const JOBS: [JobCase; 16] = [
+    (
+        "both files wait",
+        Plain,
+        Submitted,
+        Submitted,
+        JobState::Submitted,
+    ),
+    (
+        "one waits, one is there",
+        Plain,
+        Submitted,
+        Finished,
+        JobState::Active,
+    ),
+    (
+        "one runs, one is cancelled",
+        Plain,
+        Active,
+        Canceled,
+        JobState::Active,
+    ),
+    (
+        "both are there",
+        Plain,
+        Finished,
+        Finished,
+        JobState::Finished,
+    ),
+    (
+        "one is there, one failed",
+        Plain,
+        Finished,
+        Failed,
+        JobState::FinishedDirty,
+    ),
+    ("both failed", Plain, Failed, Failed, JobState::Failed),
+    (
+        "one is there, one is cancelled",
+        Plain,
+        Finished,
+        Canceled,
+        JobState::Canceled,
+    ),
+    (
+        "one replica waits",
+        Replica,
+        NotUsed,
+        Submitted,
+        JobState::Submitted,
+    ),
+    (
+        "the second replica is there",
+        Replica,
+        Failed,
+        Finished,
+        JobState::Finished,
+    ),
+    (
+        "the first replica is there",
+        Replica,
+        Finished,
+        NotUsed,
+        JobState::Finished,
+    ),
+    (
+        "both replicas failed",
+        Replica,
+        Failed,
+        Failed,
+        JobState::Failed,
+    ),
+    (
+        "the first hop waits",
+        Multihop,
+        Submitted,
+        NotUsed,
+        JobState::Submitted,
+    ),
+    (
+        "the second hop waits",
+        Multihop,
+        Finished,
+        Submitted,
+        JobState::Active,
+    ),
+    (
+        "the second hop failed",
+        Multihop,
+        Finished,
+        Failed,
+        JobState::Failed,
+    ),
+    (
+        "the first hop failed",
+        Multihop,
+        Failed,
+        NotUsed,
+        JobState::Failed,
+    ),
+    (
+        "both hops are there",
+        Multihop,
+        Finished,
+        Finished,
+        JobState::Finished,
+    ),
+];
+
 #[test]
 fn the_state_of_a_job_follows_from_its_rows(rt: HostRuntime) -> Result<(), Fail> {
-    use FileState::{Active, Canceled, Failed, Finished, NotUsed, Submitted};
-    use JobKind::{Multihop, Plain, Replica};
-    for (case, kind, first, second, want) in [
-        (
-            "both files wait",
-            Plain,
-            Submitted,
-            Submitted,
-            JobState::Submitted,
-        ),
-        (
-            "one waits, one is there",
-            Plain,
-            Submitted,
-            Finished,
-            JobState::Active,
-        ),
-        (
-            "one runs, one is cancelled",
-            Plain,
-            Active,
-            Canceled,
-            JobState::Active,
-        ),
-        (
-            "both are there",
-            Plain,
-            Finished,
-            Finished,
-            JobState::Finished,
-        ),
-        (
-            "one is there, one failed",
-            Plain,
-            Finished,
-            Failed,
-            JobState::FinishedDirty,
-        ),
-        ("both failed", Plain, Failed, Failed, JobState::Failed),
-        (
-            "one is there, one is cancelled",
-            Plain,
-            Finished,
-            Canceled,
-            JobState::Canceled,
-        ),
-        (
-            "one replica waits",
-            Replica,
-            NotUsed,
-            Submitted,
-            JobState::Submitted,
-        ),
-        (
-            "the second replica is there",
-            Replica,
-            Failed,
-            Finished,
-            JobState::Finished,
-        ),
-        (
-            "the first replica is there",
-            Replica,
-            Finished,
-            NotUsed,
-            JobState::Finished,
-        ),
-        (
-            "both replicas failed",
-            Replica,
-            Failed,
-            Failed,
-            JobState::Failed,
-        ),
-        (
-            "the first hop waits",
-            Multihop,
-            Submitted,
-            NotUsed,
-            JobState::Submitted,
-        ),
-        (
-            "the second hop waits",
-            Multihop,
-            Finished,
-            Submitted,
-            JobState::Active,
-        ),
-        (
-            "the second hop failed",
-            Multihop,
-            Finished,
-            Failed,
-            JobState::Failed,
-        ),
-        (
-            "the first hop failed",
-            Multihop,
-            Failed,
-            NotUsed,
-            JobState::Failed,
-        ),
-        (
-            "both hops are there",
-            Multihop,
-            Finished,
-            Finished,
-            JobState::Finished,
-        ),
-    ] {
+    for (case, kind, first, second, want) in JOBS {
         let rows = [row(rt.alloc(), first)?, row(rt.alloc(), second)?];
         let is_so = job_state(&rows, kind) == want;
         assert!(rt; is_so, "{case}");
