@@ -247,43 +247,46 @@ fn pattern_ends(
     Ok(never_stopped(&mut store, copier, false) == want)
 }
 
+/// Sizes, the digests of so much of the pattern, and how often the watch is asked: by another program.
+const SIZES: [(&str, usize, [u8; 16], u64); 6] = [
+    ("no byte", 0, EMPTY, 1),
+    (
+        "one byte",
+        1,
+        *b"\x93\xb8\x85\xad\xfe\x0d\xa0\x89\xcd\xf6\x34\x90\x4f\xd5\x9f\x71",
+        3,
+    ),
+    (
+        "a piece but a byte",
+        65_535,
+        *b"\x89\x37\x8b\xe9\x3d\x51\xbb\xd3\xa9\xaa\x65\xe9\x20\x10\x36\x92",
+        3,
+    ),
+    (
+        "a piece",
+        65_536,
+        *b"\x9c\xc6\x07\x13\x92\x35\x28\xa1\xdd\x94\xe1\xc1\xab\x0e\xbc\x9e",
+        3,
+    ),
+    (
+        "a piece and a byte",
+        65_537,
+        *b"\x4c\x26\x41\xc7\xfe\x5c\x93\xd3\xae\xd7\xc4\x06\x62\x9f\xf0\xab",
+        5,
+    ),
+    (
+        "two pieces",
+        131_072,
+        *b"\xd0\x21\x99\xa1\x97\xfb\x4b\x17\x77\x52\x5f\xe3\x75\xf9\xf5\xf1",
+        5,
+    ),
+];
+
 #[test]
 fn sizes_around_a_piece(rt: HostRuntime) -> Result<(), Fail> {
     let mut copier = copier_of(rt.alloc(), 0, None)?;
-    for (case, size, digest, askings) in [
-        ("no byte", 0, &EMPTY, 1),
-        (
-            "one byte",
-            1,
-            b"\x93\xb8\x85\xad\xfe\x0d\xa0\x89\xcd\xf6\x34\x90\x4f\xd5\x9f\x71",
-            3,
-        ),
-        (
-            "a piece but a byte",
-            65_535,
-            b"\x89\x37\x8b\xe9\x3d\x51\xbb\xd3\xa9\xaa\x65\xe9\x20\x10\x36\x92",
-            3,
-        ),
-        (
-            "a piece",
-            65_536,
-            b"\x9c\xc6\x07\x13\x92\x35\x28\xa1\xdd\x94\xe1\xc1\xab\x0e\xbc\x9e",
-            3,
-        ),
-        (
-            "a piece and a byte",
-            65_537,
-            b"\x4c\x26\x41\xc7\xfe\x5c\x93\xd3\xae\xd7\xc4\x06\x62\x9f\xf0\xab",
-            5,
-        ),
-        (
-            "two pieces",
-            131_072,
-            b"\xd0\x21\x99\xa1\x97\xfb\x4b\x17\x77\x52\x5f\xe3\x75\xf9\xf5\xf1",
-            5,
-        ),
-    ] {
-        let want = (verified(size as u64, *digest), askings);
+    for (case, size, digest, askings) in SIZES {
+        let want = (verified(size as u64, digest), askings);
         let ends_so = pattern_ends(rt.alloc(), &mut copier, size, 0, want)?;
         assert!(rt; ends_so, "{case}");
     }
@@ -477,46 +480,21 @@ fn each_written_ends<R: Files<File = File> + Alloc + Abort>(
     store: &mut Folders,
     copier: &mut Copier,
 ) -> Result<(), Fail> {
-    for (case, path, bytes, want, there) in [
-        (
-            "the same bytes",
-            CHANGED_SOURCE,
-            "abc",
-            verified(3, ABC),
-            "abc",
-        ),
-        (
-            "a byte less",
-            CHANGED_SOURCE,
-            "ab",
-            Outcome::SourceSize { seen: 2 },
-            "",
-        ),
-        (
-            "a byte more",
-            CHANGED_SOURCE,
-            "abc+",
-            Outcome::ReadBackDiffers { at: 3 },
-            "",
-        ),
-        (
-            "another byte",
-            CHANGED_SOURCE,
-            "ab+",
-            verified(3, AB_PLUS),
-            "ab+",
-        ),
-        (
-            "a destination",
-            CHANGED_DEST,
-            "other",
-            Outcome::StoreFailed,
-            "other",
-        ),
+    let shorter = Outcome::SourceSize { seen: 2 };
+    let longer = Outcome::ReadBackDiffers { at: 3 };
+    for (case, bytes, want, there) in [
+        ("the same bytes", "abc", verified(3, ABC), "abc"),
+        ("a byte less", "ab", shorter, ""),
+        ("a byte more", "abc+", longer, ""),
+        ("another byte", "ab+", verified(3, AB_PLUS), "ab+"),
     ] {
-        let ends_so = written_ends(rt, (store, copier), (path, bytes), want, there)?;
-        assert!(rt; ends_so, "{case}");
+        let source = (CHANGED_SOURCE, bytes);
+        let ends_so = written_ends(rt, (store, copier), source, want, there)?;
+        assert!(rt; ends_so, "the source becomes {case}");
     }
+    let dest = (CHANGED_DEST, "other");
+    let is_spared = written_ends(rt, (store, copier), dest, Outcome::StoreFailed, "other")?;
+    assert!(rt; is_spared, "a destination appears");
     Ok(())
 }
 

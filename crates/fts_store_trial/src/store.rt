@@ -81,24 +81,25 @@ fn listed_calls_fail_and_listed_appends_lose_a_byte(rt: HostRuntime) -> Result<(
     Ok(())
 }
 
-/// Whether each of five calls is done.
-fn is_round_done(store: &mut MemoryStore) -> bool {
-    store.create(at("part")).is_ok()
-        && store.append(at("part"), b"ab").is_ok()
-        && store.rename(at("part"), at("file")).is_ok()
-        && store.remove(at("other")).is_ok()
-        && store.size(at("file")) == Ok(Some(2))
-}
-
-/// Whether so many rounds are done after so many looks.
-fn are_rounds_done(store: &mut MemoryStore, looks: u32, rounds: u32) -> bool {
+/// Whether each of so many looks finds the three bytes.
+fn are_looks_done(store: &mut MemoryStore, looks: u32) -> bool {
     for _ in 0..looks {
         if store.size(at("data/f1")) != Ok(Some(3)) {
             return false;
         }
     }
+    true
+}
+
+/// Whether each of so many rounds of five calls is done.
+fn are_rounds_done(store: &mut MemoryStore, rounds: u32) -> bool {
     for _ in 0..rounds {
-        if !is_round_done(store) {
+        let is_done = store.create(at("part")).is_ok()
+            && store.append(at("part"), b"ab").is_ok()
+            && store.rename(at("part"), at("file")).is_ok()
+            && store.remove(at("other")).is_ok()
+            && store.size(at("file")) == Ok(Some(2));
+        if !is_done {
             return false;
         }
     }
@@ -110,7 +111,8 @@ fn are_rounds_done(store: &mut MemoryStore, looks: u32, rounds: u32) -> bool {
 fn calls_that_no_number_lists_are_done(rt: HostRuntime) -> Result<(), Fail> {
     for looks in [0, 1, 2, 3, 4] {
         let mut store = holding(rt.alloc(), &[], &[])?;
-        assert!(rt; are_rounds_done(&mut store, looks, 4), "{looks} looks");
+        let are_done = are_looks_done(&mut store, looks) && are_rounds_done(&mut store, 4);
+        assert!(rt; are_done, "four rounds behind {looks} looks");
     }
     Ok(())
 }
