@@ -323,6 +323,7 @@ def tried(program, kind):
 
 def change_bytes(program, made):
     """Each byte that is in use, once with one bit changed and once as 01: how many journals, and what is otherwise."""
+    sys.dont_write_bytecode = True
     module = importlib.util.spec_from_file_location("journal_gates", SCRIPT)
     script = importlib.util.module_from_spec(module)
     module.loader.exec_module(script)
