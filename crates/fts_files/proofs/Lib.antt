@@ -1,0 +1,6 @@
+mod Playing
+mod Writings
+mod Readings
+mod Syncings
+mod Makings
+mod Moves
