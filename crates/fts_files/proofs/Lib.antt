@@ -1,6 +1,7 @@
-mod Playing
-mod Writings
-mod Readings
+pub mod Playing
+pub mod Writings
+pub mod Readings
+pub mod Fillings
 mod Syncings
 mod Makings
 mod Moves

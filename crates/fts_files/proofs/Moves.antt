@@ -1,13 +1,13 @@
 -- What a script that ended well has made of the calls.
-use Rattle.std.proofs.Common.{◌≡◌, ℕ, Bool, true, false, Option, Some, None, Result, Ok, Err, OnOk, List, [], ◌∷◌, ◌++◌, refl, sym, ◌∙◌, ap, subst, append_assoc, inl, inr}
-use Rattle.std.specs.Prelude.{◌⊎◌, if◌then◌else◌}
+use Rattle.std.proofs.Common.{◌≡◌, ℕ, Bool, true, false, Option, Some, Result, Ok, Err, OnOk, List, [], ◌∷◌, ◌++◌, refl, ◌∙◌, ap, subst, append_assoc, inl, inr}
+use Rattle.std.specs.Prelude.{if◌then◌else◌}
 use Rattle.fts_files.specs.declared.files.Seen.{Seen}
 use Rattle.fts_files.specs.declared.files.Way.TheVariants.{Read}
 use Rattle.fts_files.specs.Calls.{Call, Asked, Answer, Done, Opened, Saw, Gave, Counted, Failed, Open, LookAtName, LookAtOpen, SyncData, SyncAll, Link, Rename, Unlink}
 use Rattle.fts_files.specs.Errno.{is_missing, lacks_links}
 use Rattle.fts_files.specs.Script.{Script, Ends, Does, Plays, done_end, fails, unless_failed, with_open, with_seen}
 use Rattle.fts_files.specs.Moving.{is_same_file, syncs, checks, takes_back, settles, replaces, if_missing, by_link, links, moves}
-use Rattle.fts_files.specs.Moved.{answered, Then, AreSynced, IsItsName, IsReplaced, IsLinked, IsUnlinked, IsPut, IsMoved, GrewBy}
+use Rattle.fts_files.specs.Moved.{answered, Then, AreSynced, IsItsName, IsReplaced, IsPut, IsMoved, GrewBy}
 
 -- each play of a script that ends well makes calls of which this holds
 pub record Makes (script : Script) (P : List Call → Type 0) : Type 0 where

@@ -1,5 +1,5 @@
 -- A script that is played goes on call by call, and what it leads to at last is where it leads from the start.
-use Rattle.std.proofs.Common.{◌≡◌, ℕ, Bool, true, false, Option, Some, None, Result, Ok, Err, IsErr, List, refl, sym, ◌∙◌, ap, subst}
+use Rattle.std.proofs.Common.{◌≡◌, ℕ, Bool, true, false, Option, Some, None, Result, Ok, Err, IsErr, List, refl, subst}
 use Rattle.std.specs.Prelude.{if◌then◌else◌}
 use Rattle.fts_files.specs.declared.errno.Refused.{Refused}
 use Rattle.fts_files.specs.declared.files.Seen.{Seen}

@@ -1,6 +1,5 @@
 -- A read that is made again where it was interrupted.
-use Rattle.std.proofs.Common.{◌≡◌, ℕ, zero, suc, Option, Result, List, refl, subst, arith}
-use Rattle.fts_files.specs.declared.errno.Refused.{Refused}
+use Rattle.std.proofs.Common.{◌≡◌, ℕ, zero, suc, Option, List, refl, subst, arith}
 use Rattle.fts_files.specs.Calls.{Call, Answer, ReadAt, with_call}
 use Rattle.fts_files.specs.Script.{Script, LeadsTo}
 use Rattle.fts_files.specs.Reading.{reads_once, by_read}

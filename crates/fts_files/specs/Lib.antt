@@ -1,8 +1,9 @@
 pub mod Errno
 pub mod Calls
 pub mod Script
+pub mod Reach
 pub mod Writing
 pub mod Reading
+pub mod Making
 pub mod Moving
 pub mod Moved
-pub mod Making

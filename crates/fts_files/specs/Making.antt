@@ -1,5 +1,5 @@
 -- How a part is made and held, and how a name is taken away.
-use Rattle.std.specs.Prelude.{ℕ, Option, if◌then◌else◌, List}
+use Rattle.std.specs.Prelude.{ℕ, if◌then◌else◌, List}
 use Rattle.fts_files.specs.declared.files.Kind.{Kind}
 use Rattle.fts_files.specs.declared.files.Kind.TheVariants.{File, Folder, Other}
 use Rattle.fts_files.specs.declared.files.Way.TheVariants.{Write, New}

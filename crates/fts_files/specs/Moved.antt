@@ -1,5 +1,5 @@
 -- Which calls a move that succeeded has made, with their answers, in order: no other, and none of them otherwise.
-use Rattle.std.specs.Prelude.{◌≡◌, ◌⊎◌, ℕ, Bool, true, false, Option, Some, Result, OnOk, List, [], ◌∷◌, ◌++◌}
+use Rattle.std.specs.Prelude.{◌≡◌, ◌⊎◌, ℕ, Bool, true, false, Option, Some, List, [], ◌∷◌, ◌++◌}
 use Rattle.fts_files.specs.declared.files.Seen.{Seen}
 use Rattle.fts_files.specs.declared.files.Way.TheVariants.{Read}
 use Rattle.fts_files.specs.Calls.{Call, Asked, Answer, Done, Opened, Saw, Failed, Open, LookAtName, LookAtOpen, SyncData, SyncAll, Link, Rename, Unlink}

@@ -1,11 +1,10 @@
 -- How a part becomes its destination, by calls.
-use Rattle.std.specs.Prelude.{ℕ, ◌==◌, ◌&&◌, Bool, Some, if◌then◌else◌, List, [], ◌∷◌}
+use Rattle.std.specs.Prelude.{ℕ, ◌==◌, ◌&&◌, Bool, if◌then◌else◌, List, [], ◌∷◌}
 use Rattle.fts_files.specs.declared.files.Seen.{Seen}
-use Rattle.fts_files.specs.declared.files.Way.{Way}
 use Rattle.fts_files.specs.declared.files.Way.TheVariants.{Read}
 use Rattle.fts_files.specs.Calls.{Answer, Done, Opened, Saw, Gave, Counted, Failed, Open, LookAtName, LookAtOpen, SyncData, SyncAll, Link, Rename, Unlink}
 use Rattle.fts_files.specs.Errno.{is_missing, lacks_links}
-use Rattle.fts_files.specs.Script.{Script, Ends, Does, fails, unless_failed, with_open, with_seen}
+use Rattle.fts_files.specs.Script.{Script, Does, fails, unless_failed, with_open, with_seen}
 
 -- two looks saw one file
 abbrev pub is_same_file : Seen → Seen → Bool

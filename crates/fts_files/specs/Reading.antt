@@ -1,11 +1,11 @@
 -- How a file is looked at, opened and read.
-use Rattle.std.specs.Prelude.{ℕ, zero, suc, Option, Some, None, if◌then◌else◌, List}
-use Rattle.fts_files.specs.declared.files.Seen.{Seen}
+use Rattle.std.specs.Prelude.{ℕ, zero, suc, ◌+◌, ◌-◌, Option, Some, None, if◌then◌else◌, List, [], ◌∷◌, ◌++◌, length}
 use Rattle.fts_files.specs.declared.files.Kind.{Kind}
 use Rattle.fts_files.specs.declared.files.Kind.TheVariants.{File, Folder, Other}
 use Rattle.fts_files.specs.declared.files.Way.TheVariants.{Read}
 use Rattle.fts_files.specs.Calls.{Answer, Done, Opened, Saw, Gave, Counted, Failed, Open, Look, LookAtOpen, ReadAt}
 use Rattle.fts_files.specs.Errno.{is_interrupted, is_missing}
+use Rattle.fts_files.specs.Reach.{fits_file}
 use Rattle.fts_files.specs.Script.{Script, Does, fails, with_open, with_seen, with_value}
 
 -- the length of a plain file
@@ -53,3 +53,19 @@ by_read next again (Counted count) = fails
 unfoldable pub reads_once : ℕ → ℕ → ℕ → (List ℕ → Script) → ℕ → Script
 reads_once file offset wanted next zero = fails
 reads_once file offset wanted next (suc times) = Does (ReadAt file offset wanted) (by_read next (reads_once file offset wanted next times))
+
+-- the end of a file is where a read gives nothing
+abbrev pub by_end : Script → (List ℕ → Script) → List ℕ → Script
+by_end ended goes [] = ended
+by_end ended goes (byte ∷ bytes) = goes (byte ∷ bytes)
+
+-- reads so many bytes behind those that it had, or to the end of the file, in at most so many reads
+unfoldable pub reads_on : ℕ → (List ℕ → Script) → ℕ → ℕ → ℕ → List ℕ → Script
+reads_on file next times offset zero had = next had
+reads_on file next zero offset (suc wanted) had = fails
+reads_on file next (suc times) offset (suc wanted) had =
+    reads_once file offset (suc wanted) (by_end (next had) (λ bytes. reads_on file next times (offset + length bytes) (suc wanted - length bytes) (had ++ bytes))) 1000
+
+-- reads so many bytes from an offset on, or to the end of the file, unless no file is so long; each read gives one at least
+unfoldable pub reads_whole : ℕ → ℕ → ℕ → (List ℕ → Script) → Script
+reads_whole file offset wanted next = if fits_file offset wanted then reads_on file next wanted offset wanted [] else fails

@@ -3,6 +3,7 @@ use Rattle.std.specs.Prelude.{ℕ, zero, suc, ◌+◌, min, Option, Some, None, 
 use Rattle.std.specs.List.{starts_with}
 use Rattle.fts_files.specs.Calls.{Asked, Answer, Done, Opened, Saw, Gave, Counted, Failed, ReadAt, WriteAt}
 use Rattle.fts_files.specs.Errno.{is_interrupted}
+use Rattle.fts_files.specs.Reach.{fits_file}
 use Rattle.fts_files.specs.Script.{Script, Does, fails, with_value}
 
 -- nothing was done where a call was interrupted, and any other refusal is a failure
@@ -47,3 +48,11 @@ writes_on file next times offset bytes = goes_over (WriteAt file) (λ left. take
 -- reads what is at an offset, which has to be these bytes
 abbrev pub matches_on : ℕ → Script → ℕ → ℕ → List ℕ → Script
 matches_on file next times offset bytes = goes_over (λ from left. ReadAt file from (min (length left) 4096)) matched next times offset bytes
+
+-- writes all of these bytes at an offset, unless no file is so long; at most a thousand calls more than there are bytes
+unfoldable pub writes_whole : ℕ → ℕ → List ℕ → Script → Script
+writes_whole file offset bytes next = if fits_file offset (length bytes) then writes_on file next (length bytes + 1000) offset bytes else fails
+
+-- all bytes at an offset are these
+unfoldable pub matches_whole : ℕ → ℕ → List ℕ → Script → Script
+matches_whole file offset bytes next = if fits_file offset (length bytes) then matches_on file next (length bytes + 1000) offset bytes else fails

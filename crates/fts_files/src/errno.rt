@@ -1,9 +1,10 @@
-//! Why the system refused a call, by its own numbers (POSIX's errno as Linux numbers it).
-//! What each means for a file is decided here and nowhere below: a number that isn't named is a fault, and never an absence.
+//! Why the system refused a call, by its own number (errno of POSIX, as Linux numbers it).
+//! What each number means for a file is decided here and nowhere else, by equations over literals (`specs/Errno.antt`): one that no function
+//! names is a failure, and never an absence. Called by the steps of reading, writing, making and moving.
 ghost use Rattle.std.specs.Prelude.{◌≡◌};
 ghost use Rattle.fts_files.specs.Errno.{is_interrupted, is_missing, is_taken, lacks_links};
 
-/// A call was refused. Its number is 0 where the system gave none.
+/// A call was refused, with the system's number. It is 0 where the system gave none, which no function names.
 #[derive(Clone, Copy, Debug, PartialEq, Eq)]
 pub struct Refused {
     pub errno: u32,
@@ -17,7 +18,7 @@ impl Refused {
         self.errno == 4
     }
 
-    /// Nothing has this name.
+    /// Nothing has this name, or what should be a folder on the way to it isn't one.
     pub fn is_missing(self) -> bool
         ensures { result ≡ is_missing self.errno }
     {
@@ -39,7 +40,7 @@ impl Refused {
     }
 }
 
-/// A step failed.
+/// A step failed: a call of it was refused, or answered what the step can't go on with.
 #[derive(Clone, Copy, Debug, PartialEq, Eq)]
 pub struct Failed;
 

@@ -1,5 +1,7 @@
-//! How a part is made, so that no other run writes it: exclusively, locked by its handle, and its name still its own; and how a file is removed.
-//! What has the name is no part of another run that still goes on: that one holds its lock, and the making fails.
+//! How a part is made, so that no other run writes it; and how a file is removed.
+//! Keeps: a part that was made is new, locked by its handle, and its name still its own (`makes_part`). What has the name loses it first; a
+//! plain file only once it is locked here: a run that still writes it holds its lock, and the making fails.
+//! Order: made where nothing is, locked, looked at by the handle, and the look at the name compared. Called by `OpenPart`, and by a store.
 ghost use Rattle.std.specs.Prelude.{◌≡◌, ℕ};
 ghost use Rattle.fts_files.specs.Script.{Script, LeadsTo, either, fails};
 ghost use Rattle.fts_files.specs.Making.{holds, clears, makes_part, removes};
@@ -7,6 +9,7 @@ ghost use Rattle.fts_files.specs.Making.{holds, clears, makes_part, removes};
 use crate::moving::check_name;
 use crate::{Failed, FileSystem, Kind, Way};
 
+// Locks an open file, whose name has to be its own still.
 fn hold<F: FileSystem>(files: &mut F, path: &str, file: &F::Handle) -> Result<(), Failed>
     ensures { (next : Script) → LeadsTo (holds path.now (F.number file.now) next) (F.calls files.old) (either (λ done. next) fails result) (F.calls files.new) }
 {
@@ -15,7 +18,7 @@ fn hold<F: FileSystem>(files: &mut F, path: &str, file: &F::Handle) -> Result<()
     check_name(files, path, seen)
 }
 
-// The file that is cleared away stays locked until its name is gone.
+// Takes a name away from what has it. A plain file stays locked until its name is gone.
 fn clear<F: FileSystem>(files: &mut F, path: &str) -> Result<(), Failed>
     ensures { (next : Script) → LeadsTo (clears path.now next) (F.calls files.old) (either (λ done. next) fails result) (F.calls files.new) }
 {
@@ -31,8 +34,9 @@ fn clear<F: FileSystem>(files: &mut F, path: &str) -> Result<(), Failed>
     Ok(())
 }
 
-/// Makes a part, and holds it.
-pub(crate) fn make_part<F: FileSystem>(files: &mut F, path: &str) -> Result<F::Handle, Failed>
+/// Makes a file of no bytes and locks it. What has its name loses it first. Fails where another run holds that file, where the name is another
+/// file's by the end, and where the system refuses a call.
+pub fn make_part<F: FileSystem>(files: &mut F, path: &str) -> Result<F::Handle, Failed>
     ensures { (next : ℕ → Script) → LeadsTo (makes_part path.now next) (F.calls files.old) (either (λ file. next (F.number file)) fails result) (F.calls files.new) }
 {
     match files.open(path, Way::New) {
@@ -50,8 +54,8 @@ pub(crate) fn make_part<F: FileSystem>(files: &mut F, path: &str) -> Result<F::H
     }
 }
 
-/// Removes a file. Where nothing has the name, that is done.
-pub(crate) fn remove<F: FileSystem>(files: &mut F, path: &str) -> Result<(), Failed>
+/// Removes a file. Where nothing has the name, that is done. Fails where the system refuses for another reason.
+pub fn remove<F: FileSystem>(files: &mut F, path: &str) -> Result<(), Failed>
     ensures { (next : Script) → LeadsTo (removes path.now next) (F.calls files.old) (either (λ done. next) fails result) (F.calls files.new) }
 {
     match files.unlink(path) {

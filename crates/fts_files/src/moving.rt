@@ -1,6 +1,9 @@
-//! How a part becomes its destination, so that no crash undoes it and only what was read back is there.
+//! How a part becomes its destination, so that no crash undoes it and what is there is the file that was open.
 //! Order: the part's data synced, the name made, the name checked against the open file, the part's own name taken away, the folders synced
-//! from the lowest up. Without leave to replace, the name is made by a link, and a failure behind it takes it back.
+//! from the lowest up. Without leave to replace, the name is made by a link, and a failure behind it takes it back (`moves`).
+//! The part's own name goes before the folders are synced: a failure there leaves the next try a free destination, and a file that was told
+//! as done has no second name. A name that is taken back isn't synced away: a crash may leave it, and it is then the whole file.
+//! Called by `OpenPart`, and by a store. A list of folders is the caller's: those whose names a crash must leave.
 ghost use Rattle.std.specs.Prelude.{◌≡◌, map, string_bytes, IsErr};
 ghost use Rattle.fts_files.specs.Calls.{saw_of, done_of};
 ghost use Rattle.fts_files.specs.Script.{Script, LeadsTo, Plays, either, fails, done_end, value_of};
@@ -8,13 +11,14 @@ ghost use Rattle.fts_files.specs.Moving.{is_same_file, syncs, checks, takes_back
 
 use crate::{Failed, FileSystem, Seen, Way};
 
+// Whether two looks saw one file.
 fn is_same_file(one: Seen, other: Seen) -> bool
     ensures { result ≡ is_same_file one other }
 {
     one.device == other.device && one.inode == other.inode
 }
 
-/// Syncs each of these folders.
+// Syncs each of these folders, one after the other.
 fn sync_folders<F: FileSystem>(files: &mut F, folders: &[String]) -> Result<(), Failed>
     ensures { (next ended : Script) → LeadsTo (syncs (map string_bytes folders.now) next ended)
         (F.calls files.old) (either (λ done. next) ended result) (F.calls files.new) }
@@ -39,7 +43,7 @@ pub(crate) fn check_name<F: FileSystem>(files: &mut F, path: &str, seen: Seen) -
     }
 }
 
-/// Takes a name away that was made, and fails.
+// Takes a name away that was made, and fails.
 fn take_back<F: FileSystem>(files: &mut F, path: &str) -> Result<(), Failed>
     ensures failed { IsErr result }
     ensures script { LeadsTo (takes_back path.now) (F.calls files.old) fails (F.calls files.new) }
@@ -48,6 +52,7 @@ fn take_back<F: FileSystem>(files: &mut F, path: &str) -> Result<(), Failed>
     Err(Failed)
 }
 
+// What is left to do behind a link: the new name checked, the part's own taken away, the folders synced.
 fn settle<F: FileSystem>(
     files: &mut F,
     part: &str,
@@ -63,6 +68,7 @@ fn settle<F: FileSystem>(
     sync_folders(files, folders)
 }
 
+// Moves by a rename, which takes the name from what has it. Both names are checked; one that is another file's then is taken away.
 fn replace<F: FileSystem>(
     files: &mut F,
     part: &str,
@@ -81,6 +87,7 @@ fn replace<F: FileSystem>(
     }
 }
 
+// Moves to where nothing is. Where no second name can be given, the name is looked at just before it is taken.
 fn link<F: FileSystem>(
     files: &mut F,
     part: &str,
@@ -104,8 +111,9 @@ fn link<F: FileSystem>(
     }
 }
 
-/// Moves an open part to its destination.
-pub(crate) fn put_in_place<F: FileSystem>(
+/// Moves an open part to its destination, and syncs these folders in their order. Without leave to replace it fails where something has the name,
+/// and takes the new name back where a call behind the link fails. It fails too where a name is another file's, and where the system refuses.
+pub fn put_in_place<F: FileSystem>(
     files: &mut F,
     file: &F::Handle,
     part: &str,

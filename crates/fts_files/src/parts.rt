@@ -1,7 +1,8 @@
-//! A part that is open: bytes are put behind it, and it is moved to its destination. Each failure is counted.
-ghost use Rattle.std.specs.Prelude.{◌≡◌, IfOk, IsErr};
-ghost use Rattle.fts_tables.specs.Counts.{CountsFaults};
-
+//! A part that is open: it is made, bytes are put behind it, and it is moved to its destination.
+//! Keeps: its handle is the one that was locked, and its end is that of the bytes that were put (`end`); what a failed append has left there
+//! is written over by the next one. What a move that succeeded has done is said without a script by `moved`.
+//! Order: `make`, `append` piece by piece, `put_in_place`. Called by fts_store for each file that it is told to make.
+use crate::making::make_part;
 use crate::moving::put_in_place;
 use crate::writing::write_whole;
 use crate::{Failed, FileSystem};
@@ -9,61 +10,56 @@ use crate::{Failed, FileSystem};
 /// An open part of a file system.
 #[derive(Drop)]
 pub struct OpenPart<F: FileSystem> {
-    files: F,
     file: F::Handle,
     end: u64,
-    faults: u64,
-}
-
-// Counts a failure.
-fn count<T: Drop>(faults: &mut u64, answer: Result<T, Failed>) -> Result<T, Failed>
-    ensures same { result ≡ answer }
-    ensures cause { CountsFaults faults.old faults.new result }
-{
-    if answer.is_err() {
-        *faults = faults.saturating_add(1);
-    }
-    answer
 }
 
 impl<F: FileSystem> OpenPart<F> {
-    ghost use Rattle.std.specs.Prelude.{◌≡◌, ◌+◌, ◌^◌, ◌<◌, Some, length, map, string_bytes, OnOk};
-    ghost use Rattle.fts_tables.specs.Counts.{CountsFaults};
+    ghost use Rattle.std.specs.Prelude.{◌≡◌, ◌+◌, Some, ℕ, length, map, string_bytes, IfOk, OnOk, OnErr};
     ghost use Rattle.fts_files.specs.Calls.{Done};
-    ghost use Rattle.fts_files.specs.Script.{Ends, Plays, done_end};
-    ghost use Rattle.fts_files.specs.Writing.{writes_on};
+    ghost use Rattle.fts_files.specs.Script.{Script, Ends, LeadsTo, Plays, either, fails, done_end};
+    ghost use Rattle.fts_files.specs.Writing.{writes_whole};
+    ghost use Rattle.fts_files.specs.Making.{makes_part};
     ghost use Rattle.fts_files.specs.Moving.{moves};
     ghost use Rattle.fts_files.specs.Moved.{IsMoved, GrewBy};
 
-    /// Puts bytes behind the part.
-    pub fn append(&mut self, bytes: &[u8]) -> Result<(), Failed>
-        requires { self.old.end + length bytes.now < 2 ^ 62 }
-        ensures script { Plays (writes_on (F.number self.old.file) (Ends (Some Done)) (length bytes.now + 1000) self.old.end bytes.now)
-            (F.calls self.old.files) (F.calls self.new.files) (done_end result) }
-        ensures end { OnOk result (self.new.end ≡ self.old.end + length bytes.now) }
-        ensures cause { CountsFaults self.old.faults self.new.faults result }
+    /// Makes a part of no bytes and locks it. What has its name loses it first, unless another run holds it: then this fails, and so it does
+    /// where the system refuses a call or the name is another file's by then.
+    pub fn make(files: &mut F, path: &str) -> Result<OpenPart<F>, Failed>
+        ensures script { (next : ℕ → Script) → LeadsTo (makes_part path.now next) (F.calls files.old) (either (λ part. next (F.number part.file)) fails result) (F.calls files.new) }
+        ensures end { IfOk result (λ part. part.end ≡ 0) }
     {
-        let answer = write_whole(&mut self.files, &self.file, self.end, bytes);
-        count(&mut self.faults, answer)?;
+        let file = make_part(files, path)?;
+        Ok(OpenPart { file, end: 0 })
+    }
+
+    /// Puts bytes behind the part. Fails where the system refuses a call, takes no bytes, or no file would be so long.
+    pub fn append(&mut self, files: &mut F, bytes: &[u8]) -> Result<(), Failed>
+        ensures script { (next : Script) → LeadsTo (writes_whole (F.number self.old.file) self.old.end bytes.now next)
+            (F.calls files.old) (either (λ done. next) fails result) (F.calls files.new) }
+        ensures file { self.new.file ≡ self.old.file }
+        ensures end { OnOk result (self.new.end ≡ self.old.end + length bytes.now) }
+        ensures failed { OnErr result (self.new.end ≡ self.old.end) }
+    {
+        write_whole(files, &self.file, self.end, bytes)?;
         self.end += bytes.len() as u64;
         Ok(())
     }
 
-    /// Moves the part to its destination, and syncs these folders.
+    /// Moves the part to its destination, and syncs these folders, from the lowest up. With leave to replace, what has the name loses it;
+    /// without, a name that something has is a failure. After a failure behind the move the name is taken back.
     pub fn put_in_place(
-        &mut self,
+        &self,
+        files: &mut F,
         part: &str,
         dest: &str,
         folders: &[String],
         overwrite: bool,
     ) -> Result<(), Failed>
-        ensures script { Plays (moves (F.number self.old.file) part.now dest.now (map string_bytes folders.now) overwrite (Ends (Some Done)))
-            (F.calls self.old.files) (F.calls self.new.files) (done_end result) }
-        ensures moved { OnOk result (GrewBy (IsMoved (F.number self.old.file) part.now dest.now (map string_bytes folders.now) overwrite)
-            (F.calls self.old.files) (F.calls self.new.files)) }
-        ensures cause { CountsFaults self.old.faults self.new.faults result }
+        ensures script { (next : Script) → LeadsTo (moves (F.number self.now.file) part.now dest.now (map string_bytes folders.now) overwrite next)
+            (F.calls files.old) (either (λ done. next) fails result) (F.calls files.new) }
+        ensures moved { OnOk result (GrewBy (IsMoved (F.number self.now.file) part.now dest.now (map string_bytes folders.now) overwrite) (F.calls files.old) (F.calls files.new)) }
     {
-        let answer = put_in_place(&mut self.files, &self.file, part, dest, folders, overwrite);
-        count(&mut self.faults, answer)
+        put_in_place(files, &self.file, part, dest, folders, overwrite)
     }
 }

@@ -1,9 +1,13 @@
 //! How a file is looked at, opened and read: what isn't there, what isn't a plain file, and what the system refuses are three things.
-ghost use Rattle.std.specs.Prelude.{◌≡◌, ◌≤◌, ℕ, Option, List, length, take, IfOk};
+//! Keeps: nothing is taken for absent or for its end but by the answer that says so (`size_seen`, `reads_once`, `reads_whole`); an
+//! interrupted read is made again. A pipe isn't opened, since its opening waits: what has the name is looked at before, and by its handle
+//! behind. Called by who looks for a file or reads one; `read_some` gives what one read gives, `read_whole` goes on to the end.
+ghost use Rattle.std.specs.Prelude.{◌≡◌, ◌+◌, ◌-◌, ◌^◌, ◌≤◌, ℕ, Option, List, [], length, take, drop, IfOk};
 ghost use Rattle.fts_files.specs.Calls.{saw_of};
 ghost use Rattle.fts_files.specs.Script.{Script, LeadsTo, either, fails, value_of};
-ghost use Rattle.fts_files.specs.Reading.{size_seen, sizes, opens_plain, reads_once, if_plain};
+ghost use Rattle.fts_files.specs.Reading.{size_seen, sizes, opens_plain, reads_once, reads_on, reads_whole, if_plain};
 
+use crate::reach::fits_file;
 use crate::{Failed, FileSystem, Kind, Refused, Seen, Way};
 
 /// So often a read that is interrupted is made.
@@ -23,13 +27,15 @@ fn size_seen(answer: Result<Seen, Refused>) -> Result<Option<u64>, Failed>
     }
 }
 
-/// The length of a file; none where nothing has the name.
-pub(crate) fn size<F: FileSystem>(files: &mut F, path: &str) -> Result<Option<u64>, Failed>
+/// The length of a file in bytes, through links; none where nothing has the name. Fails where it is no plain file, and where the system refuses
+/// the look for another reason.
+pub fn size<F: FileSystem>(files: &mut F, path: &str) -> Result<Option<u64>, Failed>
     ensures { (next : Option ℕ → Script) → LeadsTo (sizes path.now next) (F.calls files.old) (either next fails result) (F.calls files.new) }
 {
     size_seen(files.look(path))
 }
 
+// Whether it is a file that can be opened without waiting.
 fn is_plain(kind: Kind) -> Result<(), Failed>
     ensures { (next : Script) → if_plain next kind ≡ either (λ done. next) fails result }
 {
@@ -39,8 +45,8 @@ fn is_plain(kind: Kind) -> Result<(), Failed>
     }
 }
 
-/// Opens a plain file to be read.
-pub(crate) fn open_plain<F: FileSystem>(files: &mut F, path: &str) -> Result<F::Handle, Failed>
+/// Opens a plain file to be read, through links. Fails where nothing has the name, where it is no plain file, and where the system refuses a call.
+pub fn open_plain<F: FileSystem>(files: &mut F, path: &str) -> Result<F::Handle, Failed>
     ensures { (next : ℕ → Script) → LeadsTo (opens_plain path.now next) (F.calls files.old) (either (λ file. next (F.number file)) fails result) (F.calls files.new) }
 {
     let seen = files.look(path)?;
@@ -51,8 +57,9 @@ pub(crate) fn open_plain<F: FileSystem>(files: &mut F, path: &str) -> Result<F::
     Ok(file)
 }
 
-/// Reads bytes from an offset on, as many as are there or fewer. Gives how many.
-pub(crate) fn read_some<F: FileSystem>(
+/// Reads bytes from an offset on, as many as are there or fewer, and none only at the end of the file. Gives how many. Fails where the system
+/// refuses the read, or interrupts a thousand.
+pub fn read_some<F: FileSystem>(
     files: &mut F,
     file: &F::Handle,
     offset: u64,
@@ -71,4 +78,66 @@ pub(crate) fn read_some<F: FileSystem>(
         }
     }
     Err(Failed)
+}
+
+// One read into what is left of a buffer.
+fn read_behind<F: FileSystem>(
+    files: &mut F,
+    file: &F::Handle,
+    offset: u64,
+    into: &mut [u8],
+    done: usize,
+) -> Result<usize, Failed>
+    requires { done ≤ length into.old }
+    ensures within { IfOk result (λ count. done + count ≤ length into.new) }
+    ensures kept { take done into.new ≡ take done into.old }
+    ensures script { (next : List ℕ → Script) → LeadsTo (reads_once (F.number file.now) offset (length into.old - done) next READ_TRIES)
+        (F.calls files.old) (either (λ count. next (take count (drop done into.new))) fails result) (F.calls files.new) }
+{
+    read_some(files, file, offset, &mut into[done..])
+}
+
+// Fills a buffer, which lies in a file.
+fn read_pieces<F: FileSystem>(
+    files: &mut F,
+    file: &F::Handle,
+    offset: u64,
+    into: &mut [u8],
+) -> Result<usize, Failed>
+    requires { offset + length into.old ≤ 2 ^ 62 }
+    ensures within { IfOk result (λ count. count ≤ length into.new) }
+    ensures script { (next : List ℕ → Script) → LeadsTo (reads_on (F.number file.now) next (length into.old) offset (length into.old) [])
+        (F.calls files.old) (either (λ count. next (take count into.new)) fails result) (F.calls files.new) }
+{
+    let mut done = 0;
+    'reads: for i in 0..into.len() {
+        let _reads = i;
+        if done == into.len() {
+            return Ok(done);
+        }
+        let count = read_behind(files, file, offset + done as u64, into, done)?;
+        if count == 0 {
+            return Ok(done);
+        }
+        done += count;
+    }
+    Ok(done)
+}
+
+/// Fills a buffer with the bytes from an offset on, or to the end of the file, and gives how many these are. Fails where the system refuses a
+/// read, and where no file would be so long.
+pub fn read_whole<F: FileSystem>(
+    files: &mut F,
+    file: &F::Handle,
+    offset: u64,
+    into: &mut [u8],
+) -> Result<usize, Failed>
+    ensures within { IfOk result (λ count. count ≤ length into.new) }
+    ensures script { (next : List ℕ → Script) → LeadsTo (reads_whole (F.number file.now) offset (length into.old) next)
+        (F.calls files.old) (either (λ count. next (take count into.new)) fails result) (F.calls files.new) }
+{
+    if !fits_file(offset, into.len()) {
+        return Err(Failed);
+    }
+    read_pieces(files, file, offset, into)
 }

@@ -1,13 +1,16 @@
 //! Bytes that are put into a file, and compared with it: a short call goes on behind, and an interrupted one is made again.
-ghost use Rattle.std.specs.Prelude.{◌≡◌, ◌+◌, ◌^◌, ◌<◌, ◌≤◌, ℕ, min, length, drop, IfOk};
+//! Keeps: all bytes are dealt with where a function answers Ok, and a call that takes none, gives others or is refused is its failure
+//! (`writes_whole`, `matches_whole`). Called by a part, and by who writes at offsets of its own.
+ghost use Rattle.std.specs.Prelude.{◌≡◌, ◌+◌, ◌^◌, ◌<◌, ◌≤◌, ℕ, min, length, drop, IfOk, IsOk};
 ghost use Rattle.fts_files.specs.Calls.{ReadAt, WriteAt, counted_of, read_of};
 ghost use Rattle.fts_files.specs.Script.{Script, Does, LeadsTo, either, fails, value_of, with_value};
-ghost use Rattle.fts_files.specs.Writing.{taken, matched, writes_on, matches_on};
+ghost use Rattle.fts_files.specs.Writing.{taken, matched, writes_on, matches_on, writes_whole, matches_whole};
 
+use crate::reach::fits_file;
 use crate::{Failed, FileSystem, Refused};
 
 /// So many calls that take nothing are made again at most.
-pub(crate) const MAX_AGAIN: usize = 1_000;
+const MAX_AGAIN: usize = 1_000;
 
 /// So many bytes are compared at once.
 const PIECE_BYTES: usize = 4096;
@@ -59,14 +62,14 @@ fn write_piece<F: FileSystem>(
     taken(files.write_at(file, offset, left))
 }
 
-/// Writes all of these bytes at an offset.
-pub(crate) fn write_whole<F: FileSystem>(
+// Writes these bytes, which lie in a file.
+fn write_pieces<F: FileSystem>(
     files: &mut F,
     file: &F::Handle,
     offset: u64,
     bytes: &[u8],
 ) -> Result<(), Failed>
-    requires { offset + length bytes.now + MAX_AGAIN < 2 ^ 64 }
+    requires { offset + length bytes.now ≤ 2 ^ 62 }
     ensures { (next : Script) → LeadsTo (writes_on (F.number file.now) next (length bytes.now + MAX_AGAIN) offset bytes.now)
         (F.calls files.old) (either (λ done. next) fails result) (F.calls files.new) }
 {
@@ -86,6 +89,23 @@ pub(crate) fn write_whole<F: FileSystem>(
     }
 }
 
+/// Writes all of these bytes at an offset. Fails where the system refuses a call or takes no bytes, and where no file would be so long.
+pub fn write_whole<F: FileSystem>(
+    files: &mut F,
+    file: &F::Handle,
+    offset: u64,
+    bytes: &[u8],
+) -> Result<(), Failed>
+    ensures within { IsOk result → offset + length bytes.now ≤ 2 ^ 62 }
+    ensures script { (next : Script) → LeadsTo (writes_whole (F.number file.now) offset bytes.now next)
+        (F.calls files.old) (either (λ done. next) fails result) (F.calls files.new) }
+{
+    if !fits_file(offset, bytes.len()) {
+        return Err(Failed);
+    }
+    write_pieces(files, file, offset, bytes)
+}
+
 // One read of what is left, a piece of it at most, which has to be these bytes.
 fn match_piece<F: FileSystem>(
     files: &mut F,
@@ -103,14 +123,14 @@ fn match_piece<F: FileSystem>(
     matched(left, there, answer)
 }
 
-/// Reads what is at an offset, which has to be these bytes.
-pub(crate) fn match_whole<F: FileSystem>(
+// Compares these bytes, which lie in a file.
+fn match_pieces<F: FileSystem>(
     files: &mut F,
     file: &F::Handle,
     offset: u64,
     bytes: &[u8],
 ) -> Result<(), Failed>
-    requires { offset + length bytes.now + MAX_AGAIN < 2 ^ 64 }
+    requires { offset + length bytes.now ≤ 2 ^ 62 }
     ensures { (next : Script) → LeadsTo (matches_on (F.number file.now) next (length bytes.now + MAX_AGAIN) offset bytes.now)
         (F.calls files.old) (either (λ done. next) fails result) (F.calls files.new) }
 {
@@ -130,4 +150,21 @@ pub(crate) fn match_whole<F: FileSystem>(
     } else {
         Err(Failed)
     }
+}
+
+/// Reads what is at an offset, which has to be these bytes. Fails where one of them differs or isn't there, where the system refuses a call,
+/// and where no file would be so long.
+pub fn match_whole<F: FileSystem>(
+    files: &mut F,
+    file: &F::Handle,
+    offset: u64,
+    bytes: &[u8],
+) -> Result<(), Failed>
+    ensures { (next : Script) → LeadsTo (matches_whole (F.number file.now) offset bytes.now next)
+        (F.calls files.old) (either (λ done. next) fails result) (F.calls files.new) }
+{
+    if !fits_file(offset, bytes.len()) {
+        return Err(Failed);
+    }
+    match_pieces(files, file, offset, bytes)
 }

@@ -1,5 +1,5 @@
-use Rattle.std.proofs.Common.{◌≡◌, IsErr, sym, ◌∙◌, rules}
-use Rattle.fts_files.specs.Calls.{Saw, Failed}
+use Rattle.std.proofs.Common.{sym, ◌∙◌, rules}
+use Rattle.fts_files.specs.Calls.{Saw}
 use Rattle.fts_files.specs.Moving.{checks}
 use Rattle.fts_files.proofs.Playing.{then_leads, does_leads, failed, chosen, left}
 use Rattle.fts_files.proofs.moving.check_name.Goals as goal

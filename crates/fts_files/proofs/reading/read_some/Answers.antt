@@ -1,5 +1,5 @@
-use Rattle.std.proofs.Common.{◌≡◌, ◌+◌, ◌-◌, length, take, sym, ◌∙◌, arith}
-use Rattle.fts_files.specs.Calls.{read_of, Gave}
+use Rattle.std.proofs.Common.{◌+◌, ◌-◌, length, take, sym, ◌∙◌, arith}
+use Rattle.fts_files.specs.Calls.{Gave}
 use Rattle.fts_files.specs.Reading.{reads_once}
 use Rattle.fts_files.specs.declared.reading.TheConstants.{READ_TRIES}
 use Rattle.fts_files.proofs.Playing.{then_leads, same_leads, left, chosen}

@@ -1,4 +1,4 @@
-use Rattle.std.proofs.Common.{◌≡◌, ℕ, ◌-◌, List, length}
+use Rattle.std.proofs.Common.{ℕ, ◌-◌, List, length}
 use Rattle.fts_files.specs.Script.{Script, LeadsTo}
 use Rattle.fts_files.specs.Reading.{reads_once}
 use Rattle.fts_files.specs.declared.reading.TheConstants.{READ_TRIES}

@@ -1,5 +1,5 @@
-use Rattle.std.proofs.Common.{◌≡◌, length, arith}
-use Rattle.fts_files.specs.Calls.{ReadAt, read_of}
+use Rattle.std.proofs.Common.{arith}
+use Rattle.fts_files.specs.Calls.{read_of}
 use Rattle.fts_files.specs.Writing.{matched}
 use Rattle.fts_files.proofs.Writings.{value_leads, matched_within}
 use Rattle.fts_files.proofs.writing.match_piece.Goals as goal

@@ -1,4 +1,4 @@
-use Rattle.fts_files.specs.Calls.{WriteAt, counted_of}
+use Rattle.fts_files.specs.Calls.{counted_of}
 use Rattle.fts_files.specs.Writing.{taken}
 use Rattle.fts_files.proofs.Writings.{value_leads, taken_within}
 use Rattle.fts_files.proofs.writing.write_piece.Goals as goal

@@ -5,10 +5,7 @@ use Rattle.fts_files.proofs.Playing.{plays_done}
 use Rattle.fts_files.proofs.Moves.{moved_grew}
 use Rattle.fts_files.proofs.parts.OpenPart.put_in_place.Goals as goal
 
-pub returns-clause-script : goal.returns-clause-script
-returns-clause-script g c = rw c.count.ensures.same (plays_done _ _ _ c.put_in_place-answer.result (c.put_in_place-answer.ensures (Ends (Some Done))))
-
 pub returns-clause-moved : goal.returns-clause-moved
 returns-clause-moved g c =
-    rw c.count.ensures.same (moved_grew c.put_in_place-answer.result (g.F.FileSystem.number c.args.self.now.file) c.args.part.now c.args.dest.now (map string_bytes c.args.folders.now) c.args.overwrite _ _
-    (plays_done _ _ _ c.put_in_place-answer.result (c.put_in_place-answer.ensures (Ends (Some Done)))))
+    moved_grew c.put_in_place.result (g.F.FileSystem.number c.args.self.now.file) c.args.part.now c.args.dest.now (map string_bytes c.args.folders.now) c.args.overwrite _ _
+    (plays_done _ _ _ c.put_in_place.result (c.put_in_place.ensures (Ends (Some Done))))

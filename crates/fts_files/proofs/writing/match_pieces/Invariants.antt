@@ -1,8 +1,8 @@
-use Rattle.std.proofs.Common.{◌≡◌, ℕ, ◌≤◌, ◌+◌, ◌-◌, List, length, drop}
+use Rattle.std.proofs.Common.{◌≤◌, ◌+◌, ◌-◌, length, drop}
 use Rattle.fts_files.specs.Script.{Script, LeadsTo}
 use Rattle.fts_files.specs.Writing.{matches_on}
 use Rattle.fts_files.specs.declared.writing.TheConstants.{MAX_AGAIN}
-use Rattle.fts_files.proofs.writing.match_whole.Given as goal
+use Rattle.fts_files.proofs.writing.match_pieces.Given as goal
 
 -- what was compared so far, in so many calls
 abbrev pub invariant-calls : goal.invariant-calls
