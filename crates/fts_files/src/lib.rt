@@ -17,8 +17,7 @@ mod writing;
 
 pub use errno::{Failed, Refused};
 pub use files::{FileSystem, Kind, Seen, Way};
-pub use making::{make_part, remove};
-pub use moving::put_in_place;
+pub use making::remove;
 pub use parts::OpenPart;
 pub use reading::{open_plain, read_some, read_whole, size};
 pub use system::SystemFiles;

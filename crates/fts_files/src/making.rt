@@ -1,7 +1,7 @@
 //! How a part is made, so that no other run writes it; and how a file is removed.
 //! Keeps: a part that was made is new, locked by its handle, and its name still its own (`makes_part`). What has the name loses it first; a
 //! plain file only once it is locked here: a run that still writes it holds its lock, and the making fails.
-//! Order: made where nothing is, locked, looked at by the handle, and the look at the name compared. Called by `OpenPart`, and by a store.
+//! Order: made where nothing is, locked, looked at by the handle, and the look at the name compared. Called by `OpenPart`, and `remove` by a store.
 ghost use Rattle.std.specs.Prelude.{◌≡◌, ℕ};
 ghost use Rattle.fts_files.specs.Script.{Script, LeadsTo, either, fails};
 ghost use Rattle.fts_files.specs.Making.{holds, clears, makes_part, removes};
@@ -36,7 +36,7 @@ fn clear<F: FileSystem>(files: &mut F, path: &str) -> Result<(), Failed>
 
 /// Makes a file of no bytes and locks it. What has its name loses it first. Fails where another run holds that file, where the name is another
 /// file's by the end, and where the system refuses a call.
-pub fn make_part<F: FileSystem>(files: &mut F, path: &str) -> Result<F::Handle, Failed>
+pub(crate) fn make_part<F: FileSystem>(files: &mut F, path: &str) -> Result<F::Handle, Failed>
     ensures { (next : ℕ → Script) → LeadsTo (makes_part path.now next) (F.calls files.old) (either (λ file. next (F.number file)) fails result) (F.calls files.new) }
 {
     match files.open(path, Way::New) {

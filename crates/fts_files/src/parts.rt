@@ -1,9 +1,10 @@
 //! A part that is open: it is made, bytes are put behind it, and it is moved to its destination.
 //! Keeps: its handle is the one that was locked, and its end is that of the bytes that were put (`end`); what a failed append has left there
 //! is written over by the next one. What a move that succeeded has done is said without a script by `moved`.
-//! Order: `make`, `append` piece by piece, `put_in_place`. Called by fts_store for each file that it is told to make.
+//! Order: `make`, `append` piece by piece, `read_some` to read it back, `put_in_place`. Called by fts_store for each file that it is told to make.
 use crate::making::make_part;
 use crate::moving::put_in_place;
+use crate::reading::read_some;
 use crate::writing::write_whole;
 use crate::{Failed, FileSystem};
 
@@ -15,10 +16,11 @@ pub struct OpenPart<F: FileSystem> {
 }
 
 impl<F: FileSystem> OpenPart<F> {
-    ghost use Rattle.std.specs.Prelude.{◌≡◌, ◌+◌, Some, ℕ, length, map, string_bytes, IfOk, OnOk, OnErr};
+    ghost use Rattle.std.specs.Prelude.{◌≡◌, ◌+◌, ◌≤◌, Some, ℕ, List, length, take, map, string_bytes, IfOk, OnOk, OnErr};
     ghost use Rattle.fts_files.specs.Calls.{Done};
     ghost use Rattle.fts_files.specs.Script.{Script, Ends, LeadsTo, Plays, either, fails, done_end};
     ghost use Rattle.fts_files.specs.Writing.{writes_whole};
+    ghost use Rattle.fts_files.specs.Reading.{reads_once};
     ghost use Rattle.fts_files.specs.Making.{makes_part};
     ghost use Rattle.fts_files.specs.Moving.{moves};
     ghost use Rattle.fts_files.specs.Moved.{IsMoved, GrewBy};
@@ -46,8 +48,19 @@ impl<F: FileSystem> OpenPart<F> {
         Ok(())
     }
 
-    /// Moves the part to its destination, and syncs these folders, from the lowest up. With leave to replace, what has the name loses it;
-    /// without, a name that something has is a failure. After a failure behind the move the name is taken back.
+    /// Reads bytes of the part from an offset on, as many as are there or fewer, and none only at its end. Gives how many. Fails where the system
+    /// refuses the read, or interrupts a thousand.
+    pub fn read_some(&self, files: &mut F, offset: u64, into: &mut [u8]) -> Result<usize, Failed>
+        ensures within { IfOk result (λ count. count ≤ length into.new) }
+        ensures script { (next : List ℕ → Script) → LeadsTo (reads_once (F.number self.now.file) offset (length into.old) next 1000)
+            (F.calls files.old) (either (λ count. next (take count into.new)) fails result) (F.calls files.new) }
+    {
+        read_some(files, &self.file, offset, into)
+    }
+
+    /// Moves the part to its destination, and syncs these folders in their order. With leave to replace, what has the name loses it. Without,
+    /// this fails where something has the name, and takes the new name back where a call behind the link fails. It fails too where a name is
+    /// another file's, and where the system refuses a call.
     pub fn put_in_place(
         &self,
         files: &mut F,
