@@ -3,7 +3,7 @@
 //! Called by `main`.
 use crate::clock;
 use crate::floor::{self, AROUND_BYTES, BATCH, FLOOR_PATH, JOURNAL_PATH, Times};
-use fts_disk::FileDisk;
+use fts_disk::{Disk, FileDisk, SystemDisk};
 use fts_journal::Journal;
 use std::fs::File;
 use std::{fs, io};
@@ -12,7 +12,10 @@ use std::{fs, io};
 const BODY: [u8; 200] = [7; 200];
 
 /// An empty journal in a file.
-fn new_journal(rt: &HostRuntime, path: &str) -> io::Result<Journal<FileDisk>> {
+fn new_journal<'a>(
+    rt: &'a HostRuntime,
+    path: &str,
+) -> io::Result<Journal<SystemDisk<&'a HostRuntime>>> {
     match Journal::create(rt.alloc(), FileDisk::open(rt, path)) {
         Ok(journal) => Ok(journal),
         Err(_) => Err(io::Error::other("no journal is made")),
@@ -20,7 +23,7 @@ fn new_journal(rt: &HostRuntime, path: &str) -> io::Result<Journal<FileDisk>> {
 }
 
 /// The seconds that a batch of appends takes.
-fn append_batch(rt: &HostRuntime, journal: &mut Journal<FileDisk>) -> io::Result<f64> {
+fn append_batch<D: Disk>(rt: &HostRuntime, journal: &mut Journal<D>) -> io::Result<f64> {
     let begun = clock::now(rt)?;
     for _ in 0..BATCH {
         if journal.doubt() || journal.append(&BODY).is_err() {
@@ -31,9 +34,9 @@ fn append_batch(rt: &HostRuntime, journal: &mut Journal<FileDisk>) -> io::Result
 }
 
 /// The seconds that so many appends of each side take, in turns.
-fn take_turns(
+fn take_turns<D: Disk>(
     rt: &HostRuntime,
-    journal: &mut Journal<FileDisk>,
+    journal: &mut Journal<D>,
     file: &File,
     appends: u32,
 ) -> io::Result<Times> {
@@ -80,7 +83,7 @@ fn number_of(body: &[u8]) -> u64 {
 }
 
 /// Whether a body was appended and kept; a doubt is settled before.
-fn is_kept(journal: &mut Journal<FileDisk>, number: u64) -> bool {
+fn is_kept<D: Disk>(journal: &mut Journal<D>, number: u64) -> bool {
     let settled = journal.settle().is_ok();
     settled && !journal.doubt() && journal.append(&body_of(number)).is_ok()
 }
@@ -100,7 +103,10 @@ fn append_numbered(rt: &HostRuntime, path: &str, count: u32) -> io::Result<()> {
 }
 
 /// A journal that is there, opened to look.
-pub fn seen_journal(rt: &HostRuntime, path: &str) -> io::Result<Journal<FileDisk>> {
+pub fn seen_journal<'a>(
+    rt: &'a HostRuntime,
+    path: &str,
+) -> io::Result<Journal<SystemDisk<&'a HostRuntime>>> {
     match Journal::load(rt.alloc(), FileDisk::view(rt, path)) {
         Ok(journal) => Ok(journal),
         Err(_) => Err(io::Error::other("the journal is not opened")),

@@ -19,7 +19,7 @@ mod tcp_line;
 #[cfg(test)]
 mod tests;
 
-use fts_disk::{Disk, FileDisk, MemoryDisk};
+use fts_disk::{Disk, FileDisk, MemoryDisk, SystemDisk};
 use fts_store::{FolderStore, MemoryStore, Store, StoredFile};
 use fts_tables::{Clock, EndpointName, Items, Memory, PathKey, Place};
 use fts_top::{Doors, Ending, Lane, Outside, run};
@@ -272,7 +272,11 @@ fn run_in_folder<R: Threads + Wait + Sync>(
 
 /// The journal's file, opened for what the words ask for: made and locked for a service, and only looked at for `show` and for words that are no
 /// command, which leave a folder as it is.
-fn disk_for(rt: &HostRuntime, words: &[String], path: &str) -> FileDisk
+fn disk_for<'a>(
+    rt: &'a HostRuntime,
+    words: &[String],
+    path: &str,
+) -> SystemDisk<&'a HostRuntime>
     ensures { LooksAtMost (asked_in (map string_bytes words.now)) → IsReadOnly result }
 {
     match read_words(words) {

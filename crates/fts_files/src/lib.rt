@@ -19,6 +19,7 @@ pub use errno::{Failed, Refused};
 pub use files::{FileSystem, Kind, Seen, Way};
 pub use making::remove;
 pub use parts::OpenPart;
+pub use reach::fits_file;
 pub use reading::{open_plain, read_some, read_whole, size};
 pub use system::SystemFiles;
 pub use writing::{match_whole, write_whole};

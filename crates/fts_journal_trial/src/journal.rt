@@ -342,7 +342,7 @@ fn a_doubt_stays_until_it_is_settled(rt: HostRuntime) -> Result<(), Fail> {
 }
 
 /// Whether each of the two bodies is appended to a journal without a doubt.
-fn appends_both(journal: &mut Journal<FileDisk>) -> bool {
+fn appends_both<D: Disk>(journal: &mut Journal<D>) -> bool {
     for body in [FIRST, SECOND] {
         if journal.doubt() || journal.append(body).is_err() {
             return false;

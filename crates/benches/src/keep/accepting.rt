@@ -4,13 +4,13 @@ use super::{settings, started};
 use crate::clock;
 use crate::entries::{SUBMIT, entry};
 use crate::floor::{self, AROUND_BYTES, BATCH, FLOOR_PATH, JOURNAL_PATH, Times};
-use fts_disk::FileDisk;
+use fts_disk::Disk;
 use fts_keep::Keep;
 use std::fs::File;
 use std::{fs, io};
 
 /// Has one submission accepted.
-fn submit(rt: &HostRuntime, keep: &mut Keep<FileDisk>) -> io::Result<()> {
+fn submit<D: Disk>(rt: &HostRuntime, keep: &mut Keep<D>) -> io::Result<()> {
     let command = entry(rt.alloc(), SUBMIT)?.command;
     match keep.apply(0, command) {
         Ok(_) => Ok(()),
@@ -19,7 +19,7 @@ fn submit(rt: &HostRuntime, keep: &mut Keep<FileDisk>) -> io::Result<()> {
 }
 
 /// The seconds that a batch of submissions takes.
-fn submit_batch(rt: &HostRuntime, keep: &mut Keep<FileDisk>) -> io::Result<f64> {
+fn submit_batch<D: Disk>(rt: &HostRuntime, keep: &mut Keep<D>) -> io::Result<f64> {
     let begun = clock::now(rt)?;
     for _ in 0..BATCH {
         submit(rt, keep)?;
@@ -28,9 +28,9 @@ fn submit_batch(rt: &HostRuntime, keep: &mut Keep<FileDisk>) -> io::Result<f64> 
 }
 
 /// The seconds that so many calls of each side take, in turns.
-fn take_turns(
+fn take_turns<D: Disk>(
     rt: &HostRuntime,
-    keep: &mut Keep<FileDisk>,
+    keep: &mut Keep<D>,
     file: &File,
     count: u32,
 ) -> io::Result<Times> {

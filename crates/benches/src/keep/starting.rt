@@ -5,7 +5,7 @@ use crate::clock;
 use crate::entries::{SUBMIT, entry};
 use crate::floor::JOURNAL_PATH;
 use crate::journal::seen_journal;
-use fts_disk::FileDisk;
+use fts_disk::Disk;
 use fts_journal::Journal;
 use fts_keep::Keep;
 use std::alloc::{AllocError, Global};
@@ -41,7 +41,7 @@ fn write_journal(rt: &HostRuntime, count: u32) -> io::Result<()> {
 }
 
 /// Prints the number of jobs of a keep.
-fn print_jobs(rt: &HostRuntime, keep: Keep<FileDisk>) -> io::Result<()> {
+fn print_jobs<D: Disk + Drop>(rt: &HostRuntime, keep: Keep<D>) -> io::Result<()> {
     println!(rt; "  {} jobs", keep.desk().jobs().len())
 }
 
@@ -56,7 +56,7 @@ fn start_once(rt: &HostRuntime, path: &str) -> io::Result<f64> {
 }
 
 /// Whether each body is read as an entry.
-fn is_read(alloc: Global, journal: &mut Journal<FileDisk>) -> bool {
+fn is_read<D: Disk>(alloc: Global, journal: &mut Journal<D>) -> bool {
     let mut body = Vec::new(alloc);
     for n in 0..journal.count() {
         if n >= journal.count()
