@@ -243,7 +243,7 @@ fn after_a_failure_the_device_is_asked(rt: HostRuntime) {
             "a sync",
             [2, 0],
             [true, false, true, true, true],
-            "wsSfhhwSfrSfhs",
+            "wsSfhhwSfrs",
         ),
         (
             "a sync and the next one",
