@@ -1,8 +1,8 @@
 //! What no clause says, of files that change while they are copied: the end, the exact calls and what is left, by the call before which they change;
 //! and of a failing call and a no of the watch, of which the earlier one ends the copy.
-use fts_copy::CopyRoom;
-use crate::copy_changing::Changing;
 use crate::copy::{AB, AB_PLUS, ABC, ABC_PLUS, copied, row, verified};
+use crate::copy_changing::Changing;
+use fts_copy::CopyRoom;
 use fts_tables::{FileRow, Memory, Outcome};
 use std::alloc::{AllocError, Global};
 use std::process::Abort;
