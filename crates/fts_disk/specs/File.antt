@@ -1,5 +1,5 @@
 -- What is known of a disk in a file: how it was opened, what its calls ask of the file system, and how often it failed.
-use Rattle.std.specs.Prelude.{◌≡◌, ℕ, Bool, true, false, min, Option, Result, List, length, IsErr, OnErr, IsTrue}
+use Rattle.std.specs.Prelude.{◌≡◌, ℕ, Bool, true, false, min, Option, Result, List, IsErr, OnErr, IsTrue}
 use Rattle.fts_files.specs.Calls.{Call}
 use Rattle.fts_files.specs.Script.{Script, LeadsTo, either, fails}
 use Rattle.fts_disk.specs.Guard.{guarded_len, guarded_read, guarded_sync, write_place, doubted}

@@ -1,5 +1,5 @@
 -- How a file is opened, for a service and for looking, and how it is seen to stay where it was: as calls.
-use Rattle.std.specs.Prelude.{ℕ, nat_le, ◌&&◌, ◌==◌, Bool, true, false, if◌then◌else◌, Option, Some, None, List, [], ◌∷◌, length}
+use Rattle.std.specs.Prelude.{ℕ, nat_le, ◌&&◌, ◌==◌, Bool, if◌then◌else◌, Option, Some, None, List, [], ◌∷◌, length}
 use Rattle.std.specs.Path.{path_parent}
 use Rattle.fts_files.specs.declared.files.Seen.{Seen}
 use Rattle.fts_files.specs.declared.files.Way.TheVariants.{Read, Write, New}
