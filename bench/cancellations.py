@@ -4,7 +4,7 @@
 bench/cancellations.py PROGRAM [ROUNDS]: PROGRAM is fts as it was built. It needs gcc, some 1 GB of /dev/shm, and a free port of 127.0.0.1.
 The files wait on sixteen links under three activities, their jobs have five priorities. The service's folder is in memory, so a sync costs nothing,
 and the one worker is kept in the read of a large file (slow_reads.c), so nothing is claimed. One connection sends a hundred requests at a time,
-each DELETE /jobs/{id}/files/{file}. The orders are those of bench_claims: every second file in turn, until half are cancelled; as many anywhere; and the
+each DELETE /jobs/{id}/files/{file}. The orders are those of benches claims: every second file in turn, until half are cancelled; as many anywhere; and the
 first fifty files of ten jobs in turn. Each size is timed in turn with the others, on a service of its own, and the least time counts.
 """
 import json

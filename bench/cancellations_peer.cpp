@@ -1,5 +1,5 @@
 // What cancellations of single files cost a plain C++ program: rows with their texts on the heap, and the files that wait in a std::set in the
-// order of queue, priority and number, without counts. The jobs, links, activities, priorities and orders are those of crates/bench_claims.
+// order of queue, priority and number, without counts. The jobs, links, activities, priorities and orders are those of crates/benches.
 // "rows alone" looks the row's link, activity and priority up and changes the row, and takes nothing out of the set.
 // Where Abseil is there (Debian's libabsl-dev), its B-tree is a third side, absl::btree_set.
 // Build and run: g++ -O2 -std=c++17 -o /tmp/cancellations_peer bench/cancellations_peer.cpp && /tmp/cancellations_peer

@@ -1,7 +1,7 @@
 #!/bin/sh
 # Verified copies beside a C program with the same steps and syncs, in one folder and one run: small files into one folder, small files into 50 in turn,
 # and large ones. Beside the large ones also two MD5 passes.
-# bench/copy.sh PROGRAM [FOLDER]: PROGRAM is bench_copy as it was built, FOLDER an empty folder on the disk to be measured. Needs a C compiler.
+# bench/copy.sh PROGRAM [FOLDER]: PROGRAM is benches as it was built, FOLDER an empty folder on the disk to be measured. Needs a C compiler.
 set -eu
 program=$1
 folder=${2:-$(mktemp -d)}
@@ -16,12 +16,15 @@ seconds() {
     echo "$start $end" | awk '{ printf "%.3f", $2 - $1 }'
 }
 
-# A copy anew: what an earlier run made is gone, and what that left to write is written.
+# A copy anew, COUNT files of SET in FOLDERS: what an earlier run made is gone, and what that left to write is written.
+#     copies SET COUNT FOLDERS COMMAND..
 copies() {
     rm -rf "$folder/grid/https:,,b.example"
     sync
-    seconds "$1" "$folder/grid" "$2" "$3" "$4"
-    grep -q "verified $3" "$folder/output" || exit 1
+    set=$1 count=$2 folders=$3
+    shift 3
+    seconds "$@" "$folder/grid" "$set" "$count" "$folders"
+    grep -q "verified $count" "$folder/output" || exit 1
 }
 
 digests() {
@@ -45,9 +48,9 @@ sync
 for run in 1 2 3; do
     for set in "small 2000 1" "spread 2000 50" "large 64 1"; do
         # shellcheck disable=SC2086
-        ours=$(copies "$program" $set)
+        ours=$(copies $set "$program" copy)
         # shellcheck disable=SC2086
-        theirs=$(copies "$peer" $set)
+        theirs=$(copies $set "$peer")
         echo "run $run, $set: copies $ours s, the same steps in C $theirs s"
         echo "$ours $theirs" | awk '{ printf "  ratio %.2f\n", $1 / $2 }'
     done

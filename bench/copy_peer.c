@@ -1,5 +1,5 @@
 // The steps of a verified copy, by hand, for bench/copy.sh: the same looks, reads, writes and syncs, with no name kept in memory but the paths.
-// copy_peer ROOT SET COUNT FOLDERS copies SET/fN, or SET/dM/fN where FOLDERS is more than 1 (M is N modulo FOLDERS), as bench_copy does.
+// copy_peer ROOT SET COUNT FOLDERS copies SET/fN, or SET/dM/fN where FOLDERS is more than 1 (M is N modulo FOLDERS), as benches does.
 // copy_peer ROOT SET COUNT FOLDERS JOURNAL appends a record of 12 bytes before each copy and one of 40 behind it, as a session's claim and report:
 // each by a write of what stands behind the gate, a sync, a write of the gate and a sync, over zeros that were written ahead.
 #include <errno.h>

@@ -10,7 +10,7 @@ the same submissions and cancellations; a file of each job may be under way when
 either. It prints the seconds, the processor's seconds and the greatest resident size of the start, which has no input, and of the session, the size
 in MiB, and how many lines `show` writes of each folder. Run it with nothing else running.
 
-`start.py PROGRAM JOBS FILE` writes the journal to this file besides, for `crates/bench_keep`, and measures nothing.
+`start.py PROGRAM JOBS FILE` writes the journal to this file besides, for `benches keep file FILE`, and measures nothing.
 
 The system counts to a program's greatest size that of the process that it was started from, as that one was then. So what is large here is made by
 a process of its own, and programs are started from one that stays at some 10 MiB.

@@ -1,12 +1,12 @@
 #!/bin/sh
 # Submissions over 4 connections beside the journal's appends alone, and beside a C program that makes an append's calls and nothing else between
 # request and answer (submit_peer.c), without more work and with 25 microseconds of it within its lock, in turns, in one run.
-#     bench/submissions.sh PROGRAM JOURNAL [SECONDS]
-# PROGRAM is fts, and JOURNAL the program of crates/bench_journal, as they were built. It needs Debian's wrk and gcc. Ports 18080 and 18081
+#     bench/submissions.sh PROGRAM BENCHES [SECONDS]
+# PROGRAM is fts, and BENCHES the program of crates/benches, as they were built. It needs Debian's wrk and gcc. Ports 18080 and 18081
 # of 127.0.0.1 are used. Where SLOW_SYNC_US is set, each sync of all sides lasts so many microseconds longer (slow_syncs.c).
 set -eu
 program=$(realpath "$1")
-journal=$(realpath "$2")
+benches=$(realpath "$2")
 seconds=${3:-3}
 here=$(realpath "$(dirname "$0")")
 work=$(mktemp -d "$(pwd)/submissions.XXXXXX")
@@ -43,7 +43,7 @@ for round in 1 2 3; do
     kill $service; wait $service 2>/dev/null || true
     plain=$(peer 0)
     busy=$(peer 25)
-    theirs=$(LD_PRELOAD="$work/slow_syncs.so" "$journal" "${APPENDS:-3000}" | sed 's/.*journal \([0-9]*\),.*/\1/')
+    theirs=$(LD_PRELOAD="$work/slow_syncs.so" "$benches" journal "${APPENDS:-3000}" | sed 's/.*journal \([0-9]*\),.*/\1/')
     awk -v round="$round" -v ours="$ours" -v plain="$plain" -v busy="$busy" -v theirs="$theirs" 'BEGIN {
         printf "round %s: %.0f submissions a second, %.0f of the C program, %.0f with work inside, %.0f appends a second alone; to appends %.2f, %.2f and %.2f\n",
             round, ours, plain, busy, theirs, ours / theirs, plain / theirs, busy / theirs }'

@@ -112,11 +112,12 @@ def try_edit(edit, folder):
 
 def copy_for(crate, lines, room):
     """Copies the crate with what its check kept, and what the libraries below it were built to."""
-    for name in ("crates.txt", "HANDLES"):
-        if os.path.exists(f"{TOP}/{name}"):
-            shutil.copy2(f"{TOP}/{name}", room)
-    subprocess.run(["git", "init", "-q", room], check=True)
-    for name in below(crate, lines):
+    if os.path.exists(f"{TOP}/HANDLES"):
+        shutil.copy2(f"{TOP}/HANDLES", room)
+    needed = below(crate, lines)
+    with open(f"{room}/crates.txt", "w") as it:
+        it.writelines(f"{name}: {' '.join(libs)}\n" for name, libs in lines.items() if name in needed)
+    for name in needed:
         kept = (*PARTS, "out") if name == crate else (*PARTS, "out/rlib")
         for part in kept:
             if os.path.isdir(f"{TOP}/crates/{name}/{part}"):

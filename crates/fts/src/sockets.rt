@@ -63,15 +63,13 @@ fn a_client_that_sends_a_byte_and_waits_is_let_go(rt: HostRuntime) -> Result<(),
     let (mut doors, port) = open_doors(&rt, short_limits())?;
     let mut client = connect(&rt, port)?;
     client.write_all(b"G")?;
-    assert_eq!(rt; load_next(&rt, &mut doors)?, Err(WireFault::SourceFailed));
+    let loaded = load_next(&rt, &mut doors)?;
+    assert!(rt; loaded == Err(WireFault::SourceFailed), "it sends no more");
     let mut silent = connect(&rt, port)?;
     let mut line = next_line(&mut doors)?;
     let piece = vec![in rt.alloc(); 0; 16_777_216]?;
-    assert_eq!(rt;
-        line.write(piece.as_slice()),
-        Err(SinkFailed),
-        "it reads nothing"
-    );
+    let written = line.write(piece.as_slice());
+    assert!(rt; written == Err(SinkFailed), "it reads nothing");
     line.end();
     silent.shutdown(Shutdown::Both)?;
     Ok(())
@@ -96,7 +94,7 @@ fn a_request_that_drips_is_not_waited_for(rt: HostRuntime) -> Result<(), Fail> {
         || drip(&rt, &mut client),
         || load_next(&rt, &mut doors),
     );
-    assert_eq!(rt; loaded?, Err(WireFault::SourceFailed));
+    assert!(rt; loaded? == Err(WireFault::SourceFailed), "a byte at a time");
     Ok(())
 }
 
@@ -104,20 +102,21 @@ fn a_request_that_drips_is_not_waited_for(rt: HostRuntime) -> Result<(), Fail> {
 fn a_client_that_closes_in_the_middle_harms_no_other(rt: HostRuntime) -> Result<(), Fail> {
     let (mut first, port) = open_doors(&rt, LineLimits::of_service())?;
     let mut doors = TcpDoors::new(&rt, LineLimits::of_service());
-    assert_eq!(rt; doors.listen(port), Err(DoorsFailed), "the port is in use");
-    assert_eq!(rt; doors.share(&first), Ok(()));
+    assert!(rt;
+        doors.listen(port) == Err(DoorsFailed),
+        "the port is in use"
+    );
+    assert!(rt; doors.share(&first).is_ok(), "it is shared");
     let mut client = connect(&rt, port)?;
     let mut other = connect(&rt, port)?;
     client.write_all(b"POST /jobs HTTP/1.1\r\nContent-Length: 9\r\n\r\n{")?;
     drop(client);
     other.write_all(b"GET /jobs HTTP/1.1\r\n\r\n")?;
-    assert_eq!(rt; load_next(&rt, &mut first)?, Err(WireFault::EndsInside));
+    let loaded = load_next(&rt, &mut first)?;
+    assert!(rt; loaded == Err(WireFault::EndsInside), "the one that closed");
     other.shutdown(Shutdown::Write)?;
-    assert_eq!(rt;
-        load_next(&rt, &mut doors)?,
-        Ok(true),
-        "by the doors that share"
-    );
+    let loaded = load_next(&rt, &mut doors)?;
+    assert!(rt; loaded == Ok(true), "the other, by the doors that share");
     Ok(())
 }
 
@@ -161,7 +160,13 @@ fn a_client_that_sends_too_much_reads_its_refusal(rt: HostRuntime) -> Result<(),
         || send_too_much(&rt, &mut client),
         || refuse_next(&rt, &mut doors),
     );
-    assert_eq!(rt; loaded?, Err(WireFault::BodyTooLarge));
-    assert_eq!(rt; answer?.as_slice(), TOO_LARGE);
+    assert!(rt;
+        loaded? == Err(WireFault::BodyTooLarge),
+        "its body is too large"
+    );
+    assert!(rt;
+        answer?.as_slice() == TOO_LARGE,
+        "it reads the refusal, byte for byte"
+    );
     Ok(())
 }

@@ -6,7 +6,9 @@ use fts_disk::FileDisk;
 use fts_tables::Clock;
 use std::io::{Read, Write};
 use std::net::{Ipv4Addr, TcpStream};
+use std::sync::Wait;
 use std::test::Fail;
+use std::thread::Threads;
 use std::time::Duration;
 use std::{fs, io, thread};
 
@@ -26,35 +28,39 @@ fn the_clock_of_the_system_gives_seconds_since_1970(rt: HostRuntime) -> Result<(
     Ok(())
 }
 
-// A Restart of these settings takes 71 bytes of a journal, behind its 8; in front of it stands a gate, 1 where it is open.
+/// The status of a session in this folder.
+fn session<R: Threads + Wait + Sync>(rt: &HostRuntime, threads: &R) -> Result<u8, Fail> {
+    let words = [String::from_str(rt.alloc(), "session")?];
+    Ok(run_in_folder(rt, threads, ".", &words)?.status)
+}
+
+/// The gates in front of the first two entries of a journal, 1 where it is open. A Restart of these settings takes 71 bytes, behind the first 8.
+fn gates_of(rt: &HostRuntime, path: &str) -> Result<[Option<u8>; 2], Fail> {
+    let journal = fs::read(rt, path)?;
+    Ok([journal.get(8).copied(), journal.get(79).copied()])
+}
+
 #[test]
 fn a_folder_is_served_by_one_service_at_a_time(rt: HostRuntime) -> Result<(), Fail> {
     let (settings, path) = ("./fts.toml", "./fts.journal");
     for old in [settings, path] {
         let _old = fs::remove_file(&rt, old);
     }
-    let words = [String::from_str(rt.alloc(), "session")?];
-    let without = run_in_folder(&rt, &rt, ".", &words)?;
-    assert_eq!(rt; without.status, 8, "there is no fts.toml");
+    assert!(rt; session(&rt, &rt)? == 8, "there is no fts.toml");
     fs::write(&rt, settings, STAND_SETTINGS.as_bytes())?;
     for (case, gates) in [("a new journal", [1, 0]), ("the same again", [1, 1])] {
-        let ending = run_in_folder(&rt, &rt, ".", &words)?;
-        assert_eq!(rt; ending.status, 0, "{case}");
-        let journal = fs::read(&rt, path)?;
-        let found = [journal.get(8).copied(), journal.get(79).copied()];
-        assert_eq!(rt; found, gates.map(Some), "{case}");
+        let is_served = session(&rt, &rt)? == 0 && gates_of(&rt, path)? == gates.map(Some);
+        assert!(rt; is_served, "{case}");
     }
     let before = fs::read(&rt, path)?;
     let held = FileDisk::open(&rt, path);
-    let second = run_in_folder(&rt, &rt, ".", &words)?;
-    assert_eq!(rt; second.status, 4, "another service holds it");
-    assert_eq!(rt; fs::read(&rt, path)?, before);
-    drop(held);
-    assert_eq!(rt;
-        run_in_folder(&rt, &rt, ".", &words)?.status,
-        0,
-        "and it let go"
+    let is_refused = session(&rt, &rt)? == 4 && fs::read(&rt, path)? == before;
+    assert!(rt;
+        is_refused,
+        "another service holds it, and it stays as it was"
     );
+    drop(held);
+    assert!(rt; session(&rt, &rt)? == 0, "and it let go");
     for file in [settings, path] {
         fs::remove_file(&rt, file)?;
     }
@@ -115,9 +121,15 @@ fn a_service_copies_what_a_client_submits(rt: HostRuntime) -> Result<(), Fail> {
         || run_in_folder(&rt, &rt, folder, words.as_slice()),
         || is_copied(&rt, PORT),
     );
-    assert_eq!(rt; ended?.status, 0);
-    assert_eq!(rt; copied?, true, "the client is told");
+    assert!(rt;
+        ended?.status == 0,
+        "the service ends behind its one connection"
+    );
+    assert!(rt; copied?, "the client is told");
     let copy = fs::read(&rt, "./served/grid/https:,,b.example/f1")?;
-    assert_eq!(rt; copy.as_slice(), b"abc".as_slice());
+    assert!(rt;
+        copy.as_slice() == b"abc".as_slice(),
+        "the copy holds the source's bytes"
+    );
     Ok(())
 }

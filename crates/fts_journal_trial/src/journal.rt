@@ -1,6 +1,7 @@
-//! What no clause says: worked bytes, calls with ample memory, every stop and every failing call of a run, and a real file.
-use fts_journal::{Journal, JournalFault};
+//! Journals: worked bytes, calls with ample memory, every stop and every failing call of a run, and a real file.
+//! A run makes a journal and appends two bodies; its rows say what is opened afterwards, as written down by hand.
 use fts_disk::{Disk, FileDisk, MemoryDisk};
+use fts_journal::{Journal, JournalFault};
 use std::alloc::Global;
 use std::fs;
 use std::test::Fail;
@@ -9,14 +10,61 @@ const FIRST: &[u8] = &[0x03, 0x03, 0x80, 0xe2, 0xcf, 0xaa, 0x06, 0x01];
 
 const SECOND: &[u8] = &[1, 0, 1];
 
-// The bodies that a disk with these bytes is opened with, none where it isn't opened.
-fn opened(alloc: Global, bytes: Vec<u8>) -> Result<Option<Vec<Vec<u8>>>, JournalFault> {
-    let disk = MemoryDisk::holding(alloc, bytes, Vec::new(alloc));
-    let mut journal = match Journal::load(alloc, disk) {
-        Ok(journal) => journal,
-        Err((JournalFault::Memory, _)) => return Err(JournalFault::Memory),
-        Err(_) => return Ok(None),
-    };
+/// Bytes, and what a load of them answers: how many bodies, and the offset of the last gate.
+const READINGS: [(&str, &[u8], Result<(usize, u64), JournalFault>); 8] = [
+    (
+        "one body",
+        b"FTS3JRN1\x01\x08\0\0\0\x03\x03\x80\xe2\xcf\xaa\x06\x01\x07",
+        Ok((1, 21)),
+    ),
+    (
+        "a cut body",
+        b"FTS3JRN1\x01\x08\0\0\0\x03\x03\x80\xe2\xcf\xaa\x06\x01\x01\x05\0\0\0\x09\x09\x09",
+        Err(JournalFault::Cut { offset: 21 }),
+    ),
+    (
+        "an end where a gate is due",
+        b"FTS3JRN1\x01\x08\0\0\0\x03\x03\x80\xe2\xcf\xaa\x06\x01",
+        Err(JournalFault::Cut { offset: 21 }),
+    ),
+    (
+        "a body behind a gate 07",
+        b"FTS3JRN1\x07\x01\0\0\0\x05\0",
+        Ok((0, 8)),
+    ),
+    (
+        "an empty body",
+        b"FTS3JRN1\x01\0\0\0\0\0",
+        Err(JournalFault::Cut { offset: 8 }),
+    ),
+    (
+        "another last byte",
+        b"FTS3JRN2\0",
+        Err(JournalFault::NotJournal),
+    ),
+    ("a header alone", b"FTS3JRN1", Err(JournalFault::NotJournal)),
+    ("nothing", b"", Err(JournalFault::NotJournal)),
+];
+
+#[test]
+fn bytes_are_read_as_they_are_written_down(rt: HostRuntime) -> Result<(), Fail> {
+    let alloc = rt.alloc();
+    for (case, bytes, want) in READINGS {
+        let disk = MemoryDisk::holding(alloc, bytes.to_vec(alloc)?, Vec::new(alloc));
+        let is_read = match Journal::load(alloc, disk) {
+            Ok(journal) => want == Ok((journal.count(), journal.used())),
+            Err((fault, _disk)) => want == Err(fault),
+        };
+        assert!(rt; is_read, "{case}");
+    }
+    Ok(())
+}
+
+/// The bodies of a journal.
+fn bodies_in(
+    alloc: Global,
+    journal: &mut Journal<MemoryDisk>,
+) -> Result<Vec<Vec<u8>>, JournalFault> {
     let mut bodies = Vec::new(alloc);
     for n in 0..journal.count() {
         let mut body = Vec::new(alloc);
@@ -25,64 +73,29 @@ fn opened(alloc: Global, bytes: Vec<u8>) -> Result<Option<Vec<Vec<u8>>>, Journal
         }
         bodies.push(body)?;
     }
-    Ok(Some(bodies))
+    Ok(bodies)
 }
 
-#[test]
-fn bytes_are_read_as_they_are_written_down(rt: HostRuntime) -> Result<(), Fail> {
-    let alloc = rt.alloc();
-    let whole = b"FTS3JRN1\x01\x08\0\0\0\x03\x03\x80\xe2\xcf\xaa\x06\x01".as_slice();
-    for (case, front, rest, want) in [
-        ("one body", whole, b"\x07".as_slice(), Ok((1, 21))),
-        (
-            "a cut body",
-            whole,
-            b"\x01\x05\0\0\0\x09\x09\x09",
-            Err(JournalFault::Cut { offset: 21 }),
-        ),
-        (
-            "an end where a gate is due",
-            whole,
-            b"",
-            Err(JournalFault::Cut { offset: 21 }),
-        ),
-        (
-            "a body behind a gate 07",
-            b"FTS3JRN1",
-            b"\x07\x01\0\0\0\x05\0",
-            Ok((0, 8)),
-        ),
-        (
-            "an empty body",
-            b"FTS3JRN1",
-            b"\x01\0\0\0\0\0",
-            Err(JournalFault::Cut { offset: 8 }),
-        ),
-        (
-            "another last byte",
-            b"FTS3JRN2",
-            b"\0",
-            Err(JournalFault::NotJournal),
-        ),
-        (
-            "a header alone",
-            b"FTS3JRN1",
-            b"",
-            Err(JournalFault::NotJournal),
-        ),
-        ("nothing", b"", b"", Err(JournalFault::NotJournal)),
-    ] {
-        let mut bytes = front.to_vec(alloc)?;
-        bytes.extend_from_slice(rest)?;
-        match Journal::load(alloc, MemoryDisk::holding(alloc, bytes, Vec::new(alloc))) {
-            Ok(journal) => assert_eq!(rt; Ok((journal.count(), journal.used())), want, "{case}"),
-            Err((fault, _disk)) => assert_eq!(rt; Err(fault), want, "{case}"),
-        }
+/// The bodies that a disk with these bytes is opened with, none where it isn't opened.
+fn opened(alloc: Global, bytes: Vec<u8>) -> Result<Option<Vec<Vec<u8>>>, JournalFault> {
+    let disk = MemoryDisk::holding(alloc, bytes, Vec::new(alloc));
+    match Journal::load(alloc, disk) {
+        Ok(mut journal) => Ok(Some(bodies_in(alloc, &mut journal)?)),
+        Err((JournalFault::Memory, _disk)) => Err(JournalFault::Memory),
+        Err(_) => Ok(None),
     }
-    Ok(())
 }
 
-// What stands for these bodies: the header, each body behind an open gate and its length in four bytes, and a closed gate.
+/// Whether these bodies are opened, in this order, and no others.
+fn are(opened: &Option<Vec<Vec<u8>>>, bodies: &[&[u8]]) -> bool {
+    match opened {
+        Some(found) => found.len() == bodies.len()
+            && found.iter().zip(bodies).all(|(a, b)| a.as_slice() == *b),
+        None => false,
+    }
+}
+
+/// What stands for these bodies: the header, each body behind an open gate and its length in four bytes, and a closed gate.
 fn bytes_of(alloc: Global, bodies: &[&[u8]]) -> Result<Vec<u8>, JournalFault> {
     let mut bytes = b"FTS3JRN1".to_vec(alloc)?;
     for body in bodies {
@@ -108,7 +121,7 @@ fn a_gate_is_found_wherever_a_reading_ends(rt: HostRuntime) -> Result<(), Fail> 
     Ok(())
 }
 
-// A run that was let go: its disk, the bodies that were acknowledged, and the one in doubt, or none.
+/// A run that was let go: its disk, the bodies that were acknowledged, and the one in doubt, or none.
 #[derive(Drop)]
 struct Ran {
     disk: MemoryDisk,
@@ -116,8 +129,8 @@ struct Ran {
     doubt: Option<&'static [u8]>,
 }
 
-// A journal is made, a body appended, a doubt ended, and another body appended. With no failure these are calls 1 and 2 of the disk,
-// 3 to 6, none, and 7 to 10.
+/// A journal is made, a body appended, a doubt ended, and another body appended. With no failure these are calls 1 and 2 of the disk,
+/// 3 to 6, none, and 7 to 10. None where the journal isn't made.
 fn run(alloc: Global, fail: Vec<u32>) -> Result<Option<Ran>, JournalFault> {
     let Ok(mut journal) = Journal::create(alloc, MemoryDisk::new(alloc, fail)) else {
         return Ok(None);
@@ -140,14 +153,27 @@ fn run(alloc: Global, fail: Vec<u32>) -> Result<Option<Ran>, JournalFault> {
     }))
 }
 
-// Whether these bodies are opened, in this order, and no others.
-fn are(opened: &Option<Vec<Vec<u8>>>, bodies: &[&[u8]]) -> bool {
-    match opened {
-        Some(found) => found.len() == bodies.len()
-            && found.iter().zip(bodies).all(|(a, b)| a.as_slice() == *b),
-        None => false,
+/// Whether a stop after so many calls leaves these bodies: `open` where the rest became the byte of an open gate, `closed` where it became another.
+fn stop_leaves(
+    alloc: Global,
+    disk: &MemoryDisk,
+    calls: usize,
+    closed: &[&[u8]],
+    open: &[&[u8]],
+) -> Result<bool, Fail> {
+    for (byte, want) in [(0, closed), (1, open), (7, closed), (255, closed)] {
+        if disk.calls() < calls || !are(&opened(alloc, disk.after_stop(calls, byte)?)?, want) {
+            return Ok(false);
+        }
     }
+    Ok(true)
 }
+
+const NONE: &[&[u8]] = &[];
+
+const ONE: &[&[u8]] = &[FIRST];
+
+const BOTH: &[&[u8]] = &[FIRST, SECOND];
 
 #[test]
 fn a_stop_leaves_the_list_before_or_with_the_body(rt: HostRuntime) -> Result<(), Fail> {
@@ -155,139 +181,174 @@ fn a_stop_leaves_the_list_before_or_with_the_body(rt: HostRuntime) -> Result<(),
     let Some(ran) = run(alloc, Vec::new(alloc))? else {
         panic!(rt; "a journal is made")
     };
-    assert_eq!(rt; ran.disk.calls(), 10);
+    assert!(rt; ran.disk.calls() == 10, "a run is ten calls");
     for (case, calls, closed, open) in [
-        ("the journal is made", 2, 0, 0),
-        ("the first body is written", 3, 0, 0),
-        ("and synced", 4, 0, 0),
-        ("its gate is written", 5, 0, 1),
-        ("and synced", 6, 1, 1),
-        ("the second body is written", 7, 1, 1),
-        ("and synced", 8, 1, 1),
-        ("its gate is written", 9, 1, 2),
-        ("and synced", 10, 2, 2),
+        ("the journal is made", 2, NONE, NONE),
+        ("the first body is written", 3, NONE, NONE),
+        ("the first body is synced", 4, NONE, NONE),
+        ("the gate of the first is written", 5, NONE, ONE),
+        ("the gate of the first is synced", 6, ONE, ONE),
+        ("the second body is written", 7, ONE, ONE),
+        ("the second body is synced", 8, ONE, ONE),
+        ("the gate of the second is written", 9, ONE, BOTH),
+        ("the gate of the second is synced", 10, BOTH, BOTH),
     ] {
-        for (byte, want) in [(0, closed), (1, open), (7, closed), (255, closed)] {
-            if calls <= ran.disk.calls() && want <= 2 {
-                let found = opened(alloc, ran.disk.after_stop(calls, byte)?)?;
-                assert!(rt;
-                    are(&found, &[FIRST, SECOND][..want]),
-                    "{case}, the rest {byte}"
-                );
-            }
-        }
+        let is_left = stop_leaves(alloc, &ran.disk, calls, closed, open)?;
+        assert!(rt; is_left, "{case}");
     }
     Ok(())
 }
 
-#[test]
-fn bytes_are_written_as_they_are_written_down(rt: HostRuntime) -> Result<(), Fail> {
-    let alloc = rt.alloc();
+/// The disk of a run whose ninth call fails, and whose doubt is settled at its end.
+fn settled(alloc: Global) -> Result<Option<MemoryDisk>, JournalFault> {
     let Ok(mut journal) = Journal::create(alloc, MemoryDisk::new(alloc, [9].to_vec(alloc)?)) else {
-        panic!(rt; "a journal is made")
+        return Ok(None);
     };
     for body in [FIRST, SECOND] {
         if !journal.doubt() {
             let _done = journal.append(body);
         }
     }
-    assert_eq!(rt; journal.settle(), Ok(()));
-    let disk = journal.close();
+    if journal.settle().is_err() {
+        return Ok(None);
+    }
+    Ok(Some(journal.close()))
+}
+
+#[test]
+fn bytes_are_written_as_they_are_written_down(rt: HostRuntime) -> Result<(), Fail> {
+    let Some(disk) = settled(rt.alloc())? else {
+        panic!(rt; "a journal is made, and its doubt settled")
+    };
     let one = b"FTS3JRN1\x01\x08\0\0\0\x03\x03\x80\xe2\xcf\xaa\x06\x01\0".as_slice();
     for (case, calls, want) in [
         ("a new journal", 2, b"FTS3JRN1\0".as_slice()),
         ("one body", 6, one),
         ("a doubt that was settled", 11, one),
     ] {
-        if calls <= disk.calls() {
-            assert!(rt; disk.after_stop(calls, 0xff)?.starts_with(want), "{case}");
-        }
+        let is_written = calls <= disk.calls() && disk.after_stop(calls, 0xff)?.starts_with(want);
+        assert!(rt; is_written, "{case}");
     }
     Ok(())
 }
 
-// The bodies that are acknowledged, as numbers, and whether one is in doubt at the end.
+/// The numbers from one to another.
+fn numbers(alloc: Global, first: u32, last: u32) -> Result<Vec<u32>, JournalFault> {
+    let mut numbers = Vec::new(alloc);
+    for number in first..=last {
+        numbers.push(number)?;
+    }
+    Ok(numbers)
+}
+
+/// Whether what a run left is opened with what it acknowledged, or with that and the body in doubt, whatever the rest became.
+fn is_opened(alloc: Global, ran: &Ran) -> Result<bool, Fail> {
+    let mut longer = ran.bodies.clone()?;
+    longer.extend(ran.doubt)?;
+    for byte in [0, 1, 7, 255] {
+        let found = opened(alloc, ran.disk.after_stop(ran.disk.calls(), byte)?)?;
+        if !are(&found, &ran.bodies) && !are(&found, &longer) {
+            return Ok(false);
+        }
+    }
+    Ok(true)
+}
+
+/// Whether a run whose calls with these numbers fail acknowledges so many bodies, leaves one in doubt or none, and loses none.
+fn comes_to(alloc: Global, first: u32, last: u32, want: (usize, bool)) -> Result<bool, Fail> {
+    match run(alloc, numbers(alloc, first, last)?)? {
+        Some(ran) => {
+            let is_wanted = (ran.bodies.len(), ran.doubt.is_some()) == want;
+            Ok(is_wanted && is_opened(alloc, &ran)?)
+        }
+        None => Ok(false),
+    }
+}
+
+// How many bodies are acknowledged, and whether one is in doubt, where one call fails alone, and where all that follow fail with it.
 #[test]
 fn a_failing_call_loses_no_body(rt: HostRuntime) -> Result<(), Fail> {
     let alloc = rt.alloc();
-    for (call, alone, with_all) in [
-        (3, (1, false), (0, false)),
-        (4, (1, false), (0, false)),
-        (5, (1, false), (0, true)),
-        (6, (1, false), (0, true)),
-        (7, (1, false), (1, false)),
-        (8, (1, false), (1, false)),
-        (9, (1, true), (1, true)),
-        (10, (1, true), (1, true)),
-        (11, (2, false), (2, false)),
+    for (case, call, alone, with_all) in [
+        ("the write of the first body", 3, (1, false), (0, false)),
+        ("the sync of the first body", 4, (1, false), (0, false)),
+        ("the write of its gate", 5, (1, false), (0, true)),
+        ("the sync of its gate", 6, (1, false), (0, true)),
+        ("the write of the second body", 7, (1, false), (1, false)),
+        ("the sync of the second body", 8, (1, false), (1, false)),
+        ("the write of the second's gate", 9, (1, true), (1, true)),
+        ("the sync of the second's gate", 10, (1, true), (1, true)),
+        ("a call that a run doesn't make", 11, (2, false), (2, false)),
     ] {
-        for (last, want) in [(call, alone), (20, with_all)] {
-            let mut fail = Vec::new(alloc);
-            for number in call..=last {
-                fail.push(number)?;
-            }
-            let Some(ran) = run(alloc, fail)? else {
-                panic!(rt; "a journal is made")
-            };
-            assert_eq!(rt;
-                (ran.bodies.len(), ran.doubt.is_some()),
-                want,
-                "{call} to {last}"
-            );
-            for byte in [0, 1, 7, 255] {
-                let found = opened(alloc, ran.disk.after_stop(ran.disk.calls(), byte)?)?;
-                let mut longer = ran.bodies.clone()?;
-                longer.extend(ran.doubt)?;
-                assert!(rt;
-                    are(&found, &ran.bodies) || are(&found, &longer),
-                    "{call} to {last}, the rest {byte}"
-                );
-            }
-        }
+        assert!(rt; comes_to(alloc, call, call, alone)?, "{case} fails");
+        assert!(rt;
+            comes_to(alloc, call, 20, with_all)?,
+            "{case} and all that follow fail"
+        );
     }
     Ok(())
 }
 
-// Calls 1 and 2 make a journal, 1 to 3 open one; 3 to 5 leave a doubt, which 6 and 7 end, or else 7 and 8, or 8 and 9.
 #[test]
-fn a_failing_call_is_answered(rt: HostRuntime) -> Result<(), Fail> {
-    let alloc = rt.alloc();
+fn a_failing_call_makes_no_journal(rt: HostRuntime) -> Result<(), Fail> {
     for call in [1, 2] {
-        assert!(rt;
-            run(alloc, [call].to_vec(alloc)?)?.is_none(),
-            "made, call {call}"
-        );
-    }
-    for call in [1, 2, 3] {
-        let disk = MemoryDisk::holding(alloc, b"FTS3JRN1\0".to_vec(alloc)?, [call].to_vec(alloc)?);
-        let fault = Journal::load(alloc, disk).err().map(|(fault, _)| fault);
-        assert!(rt;
-            fault == Some(JournalFault::DiskFailed),
-            "opened, call {call}"
-        );
-    }
-    for (case, fail, want) in [
-        ("neither", [5, 5], [(true, true), (false, true)]),
-        ("its write", [5, 6], [(true, false), (true, true)]),
-        ("its sync", [5, 7], [(true, false), (true, true)]),
-    ] {
-        let Ok(mut journal) = Journal::create(alloc, MemoryDisk::new(alloc, fail.to_vec(alloc)?))
-        else {
-            panic!(rt; "a journal is made")
-        };
-        if !journal.doubt() {
-            assert_eq!(rt;
-                journal.append(FIRST),
-                Err(JournalFault::DiskFailed),
-                "{case}"
-            );
-        }
-        for (doubt, settles) in want {
-            assert_eq!(rt; journal.doubt(), doubt, "{case}");
-            assert_eq!(rt; journal.settle().is_ok(), settles, "{case}");
-        }
+        let ran = run(rt.alloc(), numbers(rt.alloc(), call, call)?)?;
+        assert!(rt; ran.is_none(), "call {call} of making one");
     }
     Ok(())
+}
+
+#[test]
+fn a_failing_call_opens_no_journal(rt: HostRuntime) -> Result<(), Fail> {
+    let alloc = rt.alloc();
+    for call in [1, 2, 3] {
+        let bytes = b"FTS3JRN1\0".to_vec(alloc)?;
+        let disk = MemoryDisk::holding(alloc, bytes, numbers(alloc, call, call)?);
+        let fault = Journal::load(alloc, disk).err().map(|(fault, _disk)| fault);
+        assert!(rt;
+            fault == Some(JournalFault::DiskFailed),
+            "call {call} of opening one"
+        );
+    }
+    Ok(())
+}
+
+/// Whether an append over a disk with these failing calls fails, and twice in turn there is a doubt or none, and settling it succeeds or fails.
+fn settles(alloc: Global, fail: &[u32], want: [(bool, bool); 2]) -> Result<bool, JournalFault> {
+    let disk = MemoryDisk::new(alloc, fail.to_vec(alloc)?);
+    let Ok(mut journal) = Journal::create(alloc, disk) else {
+        return Ok(false);
+    };
+    if journal.doubt() || journal.append(FIRST) != Err(JournalFault::DiskFailed) {
+        return Ok(false);
+    }
+    let first = (journal.doubt(), journal.settle().is_ok());
+    let second = (journal.doubt(), journal.settle().is_ok());
+    Ok([first, second] == want)
+}
+
+// Calls 1 and 2 make a journal; 3 to 5 leave a doubt, which 6 and 7 end, or else 7 and 8, or 8 and 9.
+#[test]
+fn a_doubt_stays_until_it_is_settled(rt: HostRuntime) -> Result<(), Fail> {
+    for (case, fail, want) in [
+        ("neither call fails", [5, 5], [(true, true), (false, true)]),
+        ("its write fails", [5, 6], [(true, false), (true, true)]),
+        ("its sync fails", [5, 7], [(true, false), (true, true)]),
+    ] {
+        let is_settled = settles(rt.alloc(), &fail, want)?;
+        assert!(rt; is_settled, "{case}");
+    }
+    Ok(())
+}
+
+/// Whether each of the two bodies is appended to a journal without a doubt.
+fn appends_both(journal: &mut Journal<FileDisk>) -> bool {
+    for body in [FIRST, SECOND] {
+        if journal.doubt() || journal.append(body).is_err() {
+            return false;
+        }
+    }
+    true
 }
 
 #[test]
@@ -296,26 +357,26 @@ fn a_file_is_opened_again(rt: HostRuntime) -> Result<(), Fail> {
     let path = "journal-of-a-test";
     let _old = fs::remove_file(&rt, path);
     let Ok(mut made) = Journal::create(alloc, FileDisk::open(&rt, path)) else {
-        panic!(rt; "made")
+        panic!(rt; "a journal is made")
     };
-    for body in [FIRST, SECOND] {
-        if !made.doubt() {
-            assert_eq!(rt; made.append(body), Ok(()));
-        }
-    }
-    assert!(rt;
-        Journal::load(alloc, FileDisk::open(&rt, path)).is_err(),
-        "the file is held"
-    );
+    assert!(rt; appends_both(&mut made), "both bodies are appended");
+    let held = Journal::load(alloc, FileDisk::open(&rt, path)).is_err();
+    assert!(rt; held, "the file is held");
     let looked = Journal::load(alloc, FileDisk::view(&rt, path)).map(|found| found.count());
-    assert!(rt; looked.is_ok_and(|count| count == 2), "by one who looks");
+    assert!(rt;
+        looked.is_ok_and(|count| count == 2),
+        "one who looks finds both"
+    );
     drop(made.close());
     let again = Journal::load(alloc, FileDisk::open(&rt, path)).map(|found| found.used());
-    assert!(rt; again.is_ok_and(|used| used == 29), "by the next service");
+    assert!(rt;
+        again.is_ok_and(|used| used == 29),
+        "the next service opens it"
+    );
     let want = b"FTS3JRN1\x01\x08\0\0\0\x03\x03\x80\xe2\xcf\xaa\x06\x01\x01\x03\0\0\0\x01\0\x01\0";
     let found = fs::read(&rt, path)?;
-    assert!(rt; found.starts_with(want), "by its bytes");
-    assert_eq!(rt; found.len(), 1_048_576);
+    let is_written = found.starts_with(want) && found.len() == 1_048_576;
+    assert!(rt; is_written, "its bytes stand at the start of a block");
     fs::remove_file(&rt, path)?;
     Ok(())
 }

@@ -1,11 +1,11 @@
-//! What no clause says: that the definitions are the format, by entries spelled by hand, with the place of each kind of broken field.
+//! Entries: that the definitions are the format, by entries spelled by hand, with the place of each kind of broken field.
+//! Worked entries are read field by field and written byte by byte; generated ones come back as they were.
 ghost use Rattle.std.specs.Prelude.{IsTrue};
 ghost use Rattle.fts_record.specs.Proper.{has_priority};
 
 use fts_record::{ReadFault, read_entry, write_entry};
 use fts_tables::{Command, Endpoint, Entry, Memory, NewFile, NewJob, Outcome, Settings};
 use std::alloc::{AllocError, Global};
-use std::process::Abort;
 use std::test::Fail;
 
 const CANCEL: &[u8] = b"\x03\x03\x80\xe2\xcf\xaa\x06\x01";
@@ -44,31 +44,30 @@ fn place(alloc: Global, bytes: &[u8]) -> Option<usize> {
 #[test]
 fn a_worked_cancellation_is_read_field_by_field(rt: HostRuntime) -> Result<(), Fail> {
     let cancel = read_entry(rt.alloc(), CANCEL)?;
-    assert_eq!(rt; cancel.writer, 3);
-    assert!(rt;
-        matches!(
-            &cancel.command,
-            Command::CancelJob {
-                now: 1_700_000_000,
-                job: 1
-            }
-        )
+    let is_worked = matches!(
+        &cancel.command,
+        Command::CancelJob {
+            now: 1_700_000_000,
+            job: 1
+        }
     );
+    assert!(rt; cancel.writer == 3 && is_worked, "writer 3 cancels job 1");
     Ok(())
 }
 
 #[test]
 fn a_worked_claim_is_read_field_by_field(rt: HostRuntime) -> Result<(), Fail> {
     let claim = read_entry(rt.alloc(), CLAIM)?;
-    assert_eq!(rt; claim.writer, 0);
+    let is_worked = matches!(
+        &claim.command,
+        Command::Claim {
+            now: 1_700_000_000,
+            word: 69
+        }
+    );
     assert!(rt;
-        matches!(
-            &claim.command,
-            Command::Claim {
-                now: 1_700_000_000,
-                word: 69
-            }
-        )
+        claim.writer == 0 && is_worked,
+        "the service claims by word 69"
     );
     Ok(())
 }
@@ -76,110 +75,108 @@ fn a_worked_claim_is_read_field_by_field(rt: HostRuntime) -> Result<(), Fail> {
 #[test]
 fn a_worked_report_is_read_field_by_field(rt: HostRuntime) -> Result<(), Fail> {
     let report = read_entry(rt.alloc(), REPORT)?;
-    match &report.command {
+    let is_worked = match &report.command {
         Command::Report {
             now: 1_700_000_000,
             file: 1,
             attempt: 1,
             outcome: Outcome::Verified { size: 3, digest },
-        } => assert_eq!(rt; digest.as_slice(), &REPORT[11..]),
-        _ => assert!(rt; false, "a report of a verified file"),
-    }
+        } => digest.as_slice() == &REPORT[11..],
+        _ => false,
+    };
+    assert!(rt;
+        is_worked,
+        "file 1 was verified at its first attempt, with three bytes and their digest"
+    );
     Ok(())
 }
 
-fn is_worked_endpoint(rt: &impl Abort, endpoint: &Endpoint) {
-    assert_eq!(rt; endpoint.name.as_str(), "a://a");
-    assert_eq!(rt; (endpoint.inbound, endpoint.outbound), (3, 4));
+fn is_worked_endpoint(endpoint: &Endpoint) -> bool {
+    endpoint.name.as_str() == "a://a" && endpoint.inbound == 3 && endpoint.outbound == 4
 }
 
-fn are_worked_settings(rt: &impl Abort, settings: &Settings) {
-    assert_eq!(rt; settings.vo.as_str(), "demo");
-    assert_eq!(rt; (settings.workers, settings.default_max_active), (2, 7));
-    for endpoint in settings.endpoints.as_slice() {
-        is_worked_endpoint(rt, endpoint);
-    }
+fn are_worked_settings(settings: &Settings) -> bool {
+    settings.vo.as_str() == "demo"
+        && settings.workers == 2
+        && settings.default_max_active == 7
+        && settings.endpoints.as_slice().len() == 1
+        && settings.endpoints.as_slice().iter().all(is_worked_endpoint)
 }
 
 #[test]
 fn worked_settings_are_read_field_by_field(rt: HostRuntime) -> Result<(), Fail> {
     let restart = read_entry(rt.alloc(), RESTART)?;
-    match &restart.command {
-        Command::Restart { settings, .. } => are_worked_settings(&rt, settings),
-        _ => assert!(rt; false, "a restart"),
-    }
+    let are_worked = match &restart.command {
+        Command::Restart { settings, .. } => are_worked_settings(settings),
+        _ => false,
+    };
+    assert!(rt; are_worked, "a restart with one endpoint");
     Ok(())
 }
 
-fn is_worked_file(rt: &impl Abort, file: &NewFile) {
-    assert_eq!(rt; file.source.path.as_str(), "s");
-    assert_eq!(rt; file.dest.path.as_str(), "d");
-    assert_eq!(rt; file.size, 129);
+fn is_worked_file(file: &NewFile) -> bool {
+    file.source.path.as_str() == "s" && file.dest.path.as_str() == "d" && file.size == 129
 }
 
-fn is_worked_job(rt: &impl Abort, job: &NewJob) {
-    assert_eq!(rt; job.id, Some(0x0001_0203_0405_0607_0809_0a0b_0c0d_0e0f));
-    assert_eq!(rt; (job.priority, job.retry, job.delay), (3, 2, 300));
-    for file in job.files.as_slice() {
-        is_worked_file(rt, file);
-    }
+fn is_worked_job(job: &NewJob) -> bool {
+    job.id == Some(0x0001_0203_0405_0607_0809_0a0b_0c0d_0e0f)
+        && job.priority == 3
+        && job.retry == 2
+        && job.delay == 300
+        && job.files.as_slice().len() == 1
+        && job.files.as_slice().iter().all(is_worked_file)
 }
 
 #[test]
 fn a_worked_job_is_read_field_by_field(rt: HostRuntime) -> Result<(), Fail> {
     let submit = read_entry(rt.alloc(), SUBMIT)?;
-    match &submit.command {
-        Command::Submit { job, .. } => is_worked_job(&rt, job),
-        _ => assert!(rt; false, "a submission"),
-    }
+    let is_worked = match &submit.command {
+        Command::Submit { job, .. } => is_worked_job(job),
+        _ => false,
+    };
+    assert!(rt; is_worked, "a submission of one file");
     Ok(())
 }
 
-/// Each front of an entry is a broken one.
-fn fronts_are_broken(rt: &impl Abort, alloc: Global, bytes: &[u8]) {
+/// Whether each front of an entry is a broken one.
+fn are_fronts_broken(alloc: Global, bytes: &[u8]) -> bool {
     for end in 0..bytes.len() {
-        assert!(rt;
-            place(alloc, &bytes[..end]).is_some(),
-            "{end} bytes are a front alone"
-        );
+        if place(alloc, &bytes[..end]).is_none() {
+            return false;
+        }
     }
+    true
 }
 
 #[test]
 fn worked_entries_are_written_byte_by_byte(rt: HostRuntime) -> Result<(), Fail> {
-    for bytes in [CANCEL, CLAIM, REPORT, RESTART, SUBMIT] {
-        assert_eq!(rt; again(rt.alloc(), bytes)?.as_slice(), bytes);
-        fronts_are_broken(&rt, rt.alloc(), bytes);
+    for (case, bytes) in [
+        ("a cancellation", CANCEL),
+        ("a claim", CLAIM),
+        ("a report", REPORT),
+        ("a restart", RESTART),
+        ("a submission", SUBMIT),
+    ] {
+        let is_written = again(rt.alloc(), bytes)?.as_slice() == bytes;
+        let are_whole = are_fronts_broken(rt.alloc(), bytes);
+        assert!(rt; is_written && are_whole, "{case}");
     }
     Ok(())
 }
 
-/// The place that reading names once one byte is changed.
-fn place_broken(
+/// Whether an entry of which one byte is another is broken at this place.
+fn breaks_at(
     alloc: Global,
     bytes: &[u8],
     changed: usize,
     byte: u8,
-) -> Result<Option<usize>, AllocError> {
+    want: usize,
+) -> Result<bool, AllocError> {
     let mut broken = Vec::from_slice(alloc, bytes)?;
     if let Some(slot) = broken.get_mut(changed) {
         *slot = byte;
     }
-    Ok(place(alloc, &broken))
-}
-
-/// An entry of which one byte is another is broken at this place.
-fn breaks_at(
-    rt: &impl Abort,
-    alloc: Global,
-    bytes: &[u8],
-    broken: (usize, u8),
-    want: usize,
-    case: &str,
-) -> Result<(), AllocError> {
-    let found = place_broken(alloc, bytes, broken.0, broken.1)?;
-    assert_eq!(rt; found, Some(want), "{case}");
-    Ok(())
+    Ok(place(alloc, &broken) == Some(want))
 }
 
 #[test]
@@ -191,7 +188,8 @@ fn a_broken_head_of_a_job_is_named_by_its_place(rt: HostRuntime) -> Result<(), F
         ("a strategy past the last", 8, 0x02, 8),
         ("an id behind the flag 02", 9, 0x02, 9),
     ] {
-        breaks_at(&rt, rt.alloc(), SUBMIT, (changed, byte), want, case)?;
+        let is_broken = breaks_at(rt.alloc(), SUBMIT, changed, byte, want)?;
+        assert!(rt; is_broken, "{case}");
     }
     Ok(())
 }
@@ -205,7 +203,8 @@ fn a_broken_number_of_a_job_is_named_by_its_place(rt: HostRuntime) -> Result<(),
         ("a flag 02", 30, 0x02, 30),
         ("no file", 31, 0x00, 31),
     ] {
-        breaks_at(&rt, rt.alloc(), SUBMIT, (changed, byte), want, case)?;
+        let is_broken = breaks_at(rt.alloc(), SUBMIT, changed, byte, want)?;
+        assert!(rt; is_broken, "{case}");
     }
     Ok(())
 }
@@ -219,7 +218,8 @@ fn a_broken_place_of_a_file_is_named_by_its_place(rt: HostRuntime) -> Result<(),
         ("a path that is a slash", 40, 0x2f, 39),
         ("a file copied onto itself", 48, 0x73, 7),
     ] {
-        breaks_at(&rt, rt.alloc(), SUBMIT, (changed, byte), want, case)?;
+        let is_broken = breaks_at(rt.alloc(), SUBMIT, changed, byte, want)?;
+        assert!(rt; is_broken, "{case}");
     }
     Ok(())
 }
@@ -232,7 +232,8 @@ fn a_broken_end_of_a_file_is_named_by_its_place(rt: HostRuntime) -> Result<(), F
         ("an activity past the end", 68, 0x08, 68),
         ("a byte behind the last field", 68, 0x06, 75),
     ] {
-        breaks_at(&rt, rt.alloc(), SUBMIT, (changed, byte), want, case)?;
+        let is_broken = breaks_at(rt.alloc(), SUBMIT, changed, byte, want)?;
+        assert!(rt; is_broken, "{case}");
     }
     Ok(())
 }
@@ -247,7 +248,8 @@ fn a_broken_head_of_settings_is_named_by_its_place(rt: HostRuntime) -> Result<()
         ("no inbound limit", 21, 0x00, 21),
         ("an empty label", 24, 0x00, 24),
     ] {
-        breaks_at(&rt, rt.alloc(), RESTART, (changed, byte), want, case)?;
+        let is_broken = breaks_at(rt.alloc(), RESTART, changed, byte, want)?;
+        assert!(rt; is_broken, "{case}");
     }
     Ok(())
 }
@@ -261,51 +263,59 @@ fn a_broken_link_or_activity_is_named_by_its_place(rt: HostRuntime) -> Result<()
         ("no default activity", 41, 0x44, 7),
         ("no weight", 48, 0x00, 48),
     ] {
-        breaks_at(&rt, rt.alloc(), RESTART, (changed, byte), want, case)?;
+        let is_broken = breaks_at(rt.alloc(), RESTART, changed, byte, want)?;
+        assert!(rt; is_broken, "{case}");
     }
     Ok(())
 }
 
 #[test]
 fn a_broken_outcome_is_named_by_its_place(rt: HostRuntime) -> Result<(), Fail> {
-    let case = "an outcome past the last";
-    breaks_at(&rt, rt.alloc(), REPORT, (9, 0x08), 9, case)?;
+    let is_broken = breaks_at(rt.alloc(), REPORT, 9, 0x08, 9)?;
+    assert!(rt; is_broken, "an outcome past the last");
     Ok(())
-}
-
-/// These bytes are no entry, from this place on.
-fn is_broken(rt: &impl Abort, alloc: Global, bytes: &[u8], want: usize, case: &str) {
-    assert_eq!(rt; place(alloc, bytes), Some(want), "{case}");
 }
 
 #[test]
 fn too_few_or_many_bytes_are_no_entry(rt: HostRuntime) {
-    let alloc = rt.alloc();
-    is_broken(&rt, alloc, b"", 0, "the empty list");
-    let behind = b"\x03\x03\x80\xe2\xcf\xaa\x06\x01\x00";
-    is_broken(&rt, alloc, behind, 8, "a byte behind the entry");
-    is_broken(
-        &rt,
-        alloc,
-        b"\x00\x06\x00\x45\x00\x00\x00",
-        3,
-        "half a word",
-    );
-    let half = b"\x00\x07\x00\x01\x01\x04\x90\x01";
-    is_broken(&rt, alloc, half, 6, "half a digest");
+    for (case, bytes, want) in [
+        ("the empty list", b"".as_slice(), 0),
+        (
+            "a byte behind the entry",
+            b"\x03\x03\x80\xe2\xcf\xaa\x06\x01\x00",
+            8,
+        ),
+        ("half a word", b"\x00\x06\x00\x45\x00\x00\x00", 3),
+        ("half a digest", b"\x00\x07\x00\x01\x01\x04\x90\x01", 6),
+    ] {
+        assert!(rt; place(rt.alloc(), bytes) == Some(want), "{case}");
+    }
 }
 
 #[test]
 fn other_numbers_are_no_entry(rt: HostRuntime) {
-    let alloc = rt.alloc();
-    let needless = b"\x03\x03\x80\xe2\xcf\xaa\x86\x00\x01";
-    is_broken(&rt, alloc, needless, 2, "a moment that ends in 00");
-    let writer = b"\x80\x80\x80\x80\x10\x03\x00\x01";
-    is_broken(&rt, alloc, writer, 0, "a writer of 33 bits");
-    let moment = b"\x00\x03\x80\x80\x80\x80\x80\x80\x80\x80\x80\x02\x01";
-    is_broken(&rt, alloc, moment, 2, "a moment of 65 bits");
+    for (case, bytes, want) in [
+        (
+            "a moment that ends in 00",
+            b"\x03\x03\x80\xe2\xcf\xaa\x86\x00\x01".as_slice(),
+            2,
+        ),
+        (
+            "a writer of 33 bits",
+            b"\x80\x80\x80\x80\x10\x03\x00\x01",
+            0,
+        ),
+        (
+            "a moment of 65 bits",
+            b"\x00\x03\x80\x80\x80\x80\x80\x80\x80\x80\x80\x02\x01",
+            2,
+        ),
+    ] {
+        assert!(rt; place(rt.alloc(), bytes) == Some(want), "{case}");
+    }
 }
 
+/// The next number of a generator, of as many digits as it happens.
 fn draw(state: &mut u64) -> u64 {
     *state = state
         .wrapping_mul(6_364_136_223_846_793_005)
@@ -313,10 +323,12 @@ fn draw(state: &mut u64) -> u64 {
     *state >> (*state % 61)
 }
 
+/// The same, of 32 bits.
 fn small(state: &mut u64) -> u32 {
     (draw(state) % 4_294_967_296) as u32
 }
 
+/// Some outcome.
 fn outcome(state: &mut u64) -> Outcome {
     let digest = draw(state).to_le_bytes();
     let [a, b, c, d, e, f, g, h] = digest;
@@ -337,6 +349,7 @@ fn outcome(state: &mut u64) -> Outcome {
     }
 }
 
+/// Some command, but for submissions and restarts.
 fn command(state: &mut u64) -> Command
     ensures { IsTrue (has_priority result) }
 {
@@ -367,15 +380,13 @@ fn command(state: &mut u64) -> Command
     }
 }
 
-/// What is written of an entry is read and written again the same.
-fn comes_back(rt: &impl Abort, alloc: Global, entry: &Entry, number: u32) -> Result<(), Fail>
+/// Whether what is written of an entry is read and written again the same.
+fn comes_back(alloc: Global, entry: &Entry) -> Result<bool, Fail>
     requires { IsTrue (has_priority entry.now.command) }
 {
     let mut out = Vec::new(alloc);
     write_entry(entry, &mut out)?;
-    let back = again(alloc, &out)?;
-    assert_eq!(rt; back.as_slice(), out.as_slice(), "entry {number}");
-    Ok(())
+    Ok(again(alloc, &out)?.as_slice() == out.as_slice())
 }
 
 #[test]
@@ -386,7 +397,7 @@ fn generated_entries_come_back(rt: HostRuntime) -> Result<(), Fail> {
             writer: small(&mut state),
             command: command(&mut state),
         };
-        comes_back(&rt, rt.alloc(), &entry, number)?;
+        assert!(rt; comes_back(rt.alloc(), &entry)?, "entry {number}");
     }
     Ok(())
 }

@@ -4,7 +4,7 @@ use crate::plain::PlainRow;
 use fts_tables::{Answer, FileState, Refusal};
 
 /// Something that is to come up.
-#[derive(Clone, Copy, Debug, PartialEq, Eq)]
+#[derive(Clone, Copy)]
 pub enum Event {
     Restarted,
     RestartedWithRelease,

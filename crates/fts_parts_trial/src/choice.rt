@@ -1,58 +1,30 @@
-//! What no clause says: that the choices are those that operators expect, by rows written by hand.
+//! Of `fts_choice`: that the choices are those that operators expect, by rows written by hand.
+use crate::made::row;
 use fts_choice::{LinkChance, draw, next_alternative, next_hop, pick_link};
-use fts_tables::{
-    EndpointName, FileRow, FileState, Label, Memory, PathKey, Place, Reason, Strategy,
-};
-use std::alloc::Global;
+use fts_tables::{FileState, Strategy};
 use std::test::Fail;
 
-fn place(alloc: Global, path: &str) -> Result<Place, Memory> {
-    let endpoint = EndpointName::read(alloc, "https://a.example")?;
-    let path = PathKey::read(alloc, path)?;
-    match (endpoint, path) {
-        (Some(endpoint), Some(path)) => Ok(Place { endpoint, path }),
-        _ => Err(Memory),
-    }
-}
+/// Which of three activities take part in a draw.
+const ALL: [bool; 3] = [true, true, true];
 
-/// A row of the first job in a state.
-fn row(alloc: Global, state: FileState) -> Result<FileRow, Memory> {
-    Ok(FileRow {
-        id: 1,
-        job: 1,
-        index: 0,
-        source: place(alloc, "f1")?,
-        dest: place(alloc, "g1")?,
-        size: 0,
-        wanted: None,
-        activity: Label::new(alloc, "default")?,
-        state,
-        retries: 0,
-        attempt: 0,
-        not_before: 0,
-        cancel_asked: false,
-        reason: Reason::None,
-        digest: None,
-    })
-}
+const LAST_TWO: [bool; 3] = [false, true, true];
+
+const NONE: [bool; 3] = [false, false, false];
 
 #[test]
 fn a_word_draws_by_its_remainder(rt: HostRuntime) -> Result<(), Fail> {
     let weights = [70, 20, 10];
-    for (waiting, word, want) in [
-        ([true, true, true], 69, Some(0)),
-        ([true, true, true], 70, Some(1)),
-        ([true, true, true], 90, Some(2)),
-        ([true, true, true], u64::MAX, Some(0)),
-        ([false, true, true], 69, Some(1)),
-        ([false, true, true], 29, Some(2)),
-        ([false, false, false], 69, None),
+    for (case, waiting, word, want) in [
+        ("the last remainder of the first", ALL, 69, Some(0)),
+        ("the first of the second", ALL, 70, Some(1)),
+        ("the first of the third", ALL, 90, Some(2)),
+        ("the greatest word", ALL, u64::MAX, Some(0)),
+        ("remainder 9 of the last two", LAST_TWO, 69, Some(1)),
+        ("remainder 29 of the last two", LAST_TWO, 29, Some(2)),
+        ("no activity with a file", NONE, 69, None),
     ] {
-        assert_eq!(rt;
-            draw(&weights, &waiting, word),
-            want,
-            "{word} of {waiting:?}"
-        );
+        let is_drawn = draw(&weights, &waiting, word) == want;
+        assert!(rt; is_drawn, "{case}");
     }
     Ok(())
 }
@@ -60,21 +32,41 @@ fn a_word_draws_by_its_remainder(rt: HostRuntime) -> Result<(), Fail> {
 #[test]
 fn the_next_row_is_one_whose_turn_has_not_come(rt: HostRuntime) -> Result<(), Fail> {
     use FileState::{Failed, Finished, NotUsed};
-    for (first, second, third, auto, orderly, hop) in [
-        (NotUsed, NotUsed, NotUsed, Some(1), Some(0), Some(1)),
-        (Finished, Failed, NotUsed, Some(2), Some(2), None),
-        (Failed, Failed, Failed, None, None, None),
+    for (case, states, auto, orderly, hop) in [
+        (
+            "no row had its turn",
+            [NotUsed, NotUsed, NotUsed],
+            Some(1),
+            Some(0),
+            Some(1),
+        ),
+        (
+            "the third row alone had none",
+            [Finished, Failed, NotUsed],
+            Some(2),
+            Some(2),
+            None,
+        ),
+        (
+            "each row had its turn",
+            [Failed, Failed, Failed],
+            None,
+            None,
+            None,
+        ),
     ] {
+        let [first, second, third] = states;
         let rows = [
             row(rt.alloc(), first)?,
             row(rt.alloc(), second)?,
             row(rt.alloc(), third)?,
         ];
         let loads = [2, 0, 0];
-        assert_eq!(rt; next_alternative(&rows, Strategy::Auto, &loads), auto);
-        assert_eq!(rt; next_alternative(&rows, Strategy::Orderly, &loads), orderly);
-        assert_eq!(rt; next_hop(&rows, 0), hop);
-        assert_eq!(rt; next_hop(&rows, 2), None);
+        let is_next = next_alternative(&rows, Strategy::Auto, &loads) == auto
+            && next_alternative(&rows, Strategy::Orderly, &loads) == orderly
+            && next_hop(&rows, 0) == hop
+            && next_hop(&rows, 2) == None;
+        assert!(rt; is_next, "{case}");
     }
     Ok(())
 }
@@ -85,38 +77,31 @@ fn chance(held: u32, eligible: bool) -> LinkChance {
 
 #[test]
 fn the_link_that_holds_the_least_goes_first(rt: HostRuntime) -> Result<(), Fail> {
-    for (case, first, second, third, want) in [
+    for (case, chances, want) in [
         (
             "least held",
-            chance(2, true),
-            chance(1, true),
-            chance(1, true),
+            [chance(2, true), chance(1, true), chance(1, true)],
             Some(1),
         ),
         (
             "the first of several",
-            chance(1, true),
-            chance(1, true),
-            chance(1, true),
+            [chance(1, true), chance(1, true), chance(1, true)],
             Some(0),
         ),
         (
             "eligible ones alone",
-            chance(0, false),
-            chance(3, true),
-            chance(2, false),
+            [chance(0, false), chance(3, true), chance(2, false)],
             Some(1),
         ),
         (
             "no eligible one",
-            chance(0, false),
-            chance(0, false),
-            chance(0, false),
+            [chance(0, false), chance(0, false), chance(0, false)],
             None,
         ),
     ] {
-        assert_eq!(rt; pick_link(&[first, second, third]), want, "{case}");
+        let is_picked = pick_link(&chances) == want;
+        assert!(rt; is_picked, "{case}");
     }
-    assert_eq!(rt; pick_link(&[]), None);
+    assert!(rt; pick_link(&[]) == None, "no link at all");
     Ok(())
 }

@@ -1,4 +1,4 @@
-//! Each call with ample memory, on one queue, by hand.
+//! Of `fts_queue`: each call with ample memory, on one queue, by hand.
 ghost use Rattle.std.specs.Prelude.{◌≡◌};
 
 use fts_queue::{Waiter, Waiting};
@@ -37,29 +37,32 @@ fn a_better_file_goes_first_once_its_moment_has_come(rt: HostRuntime) -> Result<
     waiting.insert(waiter(2, 5, 10));
     waiting.insert(waiter(3, 3, 0));
     waiting.ripen(9);
-    assert_eq!(rt; ripe(&waiting), [Some(1), Some(3), None, None]);
+    assert!(rt;
+        ripe(&waiting) == [Some(1), Some(3), None, None],
+        "before its moment"
+    );
     waiting.ripen(10);
-    assert_eq!(rt; ripe(&waiting), [Some(2), Some(1), Some(3), None]);
+    assert!(rt;
+        ripe(&waiting) == [Some(2), Some(1), Some(3), None],
+        "at its moment"
+    );
     waiting.ripen(0);
-    assert_eq!(rt;
-        ripe(&waiting),
-        [Some(1), Some(3), None, None],
+    assert!(rt;
+        ripe(&waiting) == [Some(1), Some(3), None, None],
         "a lesser moment"
     );
     waiting.ripen(10);
     waiting.remove(2, LINK, 4);
-    assert_eq!(rt;
-        ripe(&waiting),
-        [Some(1), Some(3), None, None],
+    assert!(rt;
+        ripe(&waiting) == [Some(1), Some(3), None, None],
         "without file 2"
     );
-    assert_eq!(rt; waiting.nth(LINK, 5, 0), None, "another activity");
-    assert_eq!(rt; waiting.queues(), 1);
-    assert_eq!(rt; waiting.queue(0), (LINK, 4));
+    assert!(rt; waiting.nth(LINK, 5, 0) == None, "another activity");
+    let is_one_queue = waiting.queues() == 1 && waiting.queue(0) == (LINK, 4);
+    assert!(rt; is_one_queue, "the queue that room was made for");
     waiting.remove_waiter(&waiter(1, 3, 0));
-    assert_eq!(rt;
-        ripe(&waiting),
-        [Some(3), None, None, None],
+    assert!(rt;
+        ripe(&waiting) == [Some(3), None, None, None],
         "without file 1"
     );
     Ok(())

@@ -1,67 +1,11 @@
-//! Each call with ample memory, which no clause promises, and limits by their digits.
-ghost use Rattle.std.specs.Prelude.{◌≡◌, ◌∷◌, [], ◌++◌, codes, IfOk, OnOk};
-
+//! Of `fts_tables`: each call with ample memory, which no clause promises, and limits by their digits.
+use crate::made::{add, place, settings};
 use fts_tables::{
-    Clock, Command, Endpoint, EndpointName, Items, JobKind, Label, ListClock, ListWords, Memory,
-    NewFile, NewJob, PartName, PathKey, Place, PlaceRef, Settings, Strategy, Weight, Words, limits,
+    Clock, Command, EndpointName, Items, JobKind, Label, ListClock, ListWords, Memory, NewFile,
+    NewJob, PartName, PathKey, Place, PlaceRef, Strategy, Words, limits,
 };
 use std::alloc::Global;
 use std::test::Fail;
-
-fn add<T: Drop>(items: &mut Items<T>, item: T) -> Result<(), Memory>
-    ensures { OnOk result (items.new ≡ items.old ++ item ∷ []) }
-{
-    match items.push(item) {
-        Ok(()) => Ok(()),
-        Err(_) => Err(Memory),
-    }
-}
-
-fn name(alloc: Global, text: &str) -> Result<EndpointName, Memory>
-    ensures { IfOk result (λ n. n ≡ text.now) }
-{
-    match EndpointName::read(alloc, text)? {
-        Some(name) => Ok(name),
-        None => Err(Memory),
-    }
-}
-
-fn place(alloc: Global, path: &str) -> Result<Place, Memory>
-    ensures { IfOk result (λ p. p ≡ record { endpoint = codes "https://a.example"; path = path.now }) }
-{
-    match PathKey::read(alloc, path)? {
-        Some(path) => Ok(Place {
-            endpoint: name(alloc, "https://a.example")?,
-            path,
-        }),
-        None => Err(Memory),
-    }
-}
-
-/// Settings with one endpoint.
-fn settings(alloc: Global) -> Result<Settings, Memory> {
-    let mut endpoints = Items::new(alloc);
-    let endpoint = Endpoint {
-        name: name(alloc, "https://a.example")?,
-        inbound: 3,
-        outbound: 4,
-    };
-    add(&mut endpoints, endpoint)?;
-    let mut weights = Items::new(alloc);
-    let weight = Weight {
-        name: Label::new(alloc, "default")?,
-        weight: 1,
-    };
-    add(&mut weights, weight)?;
-    Ok(Settings {
-        vo: Label::new(alloc, "demo")?,
-        workers: 2,
-        default_max_active: 7,
-        endpoints,
-        links: Items::new(alloc),
-        weights,
-    })
-}
 
 #[test]
 fn names_are_read_with_ample_memory(rt: HostRuntime) -> Result<(), Fail> {
@@ -81,14 +25,14 @@ fn names_are_read_with_ample_memory(rt: HostRuntime) -> Result<(), Fail> {
         ("the empty text", "", false),
     ] {
         let name = EndpointName::read(rt.alloc(), text)?;
-        match name {
+        let is_so = match name {
             Some(name) => {
-                assert!(rt; want, "{case}");
-                assert_eq!(rt; name.as_str(), text, "{case}");
-                assert_eq!(rt; name.copy(rt.alloc())?.as_str(), text, "{case}");
+                let copy = name.copy(rt.alloc())?;
+                want && name.as_str() == text && copy.as_str() == text
             }
-            None => assert!(rt; !want, "{case}"),
-        }
+            None => !want,
+        };
+        assert!(rt; is_so, "{case}");
     }
     Ok(())
 }
@@ -115,14 +59,14 @@ fn paths_are_read_with_ample_memory(rt: HostRuntime) -> Result<(), Fail> {
         ("the empty text", "", false),
     ] {
         let path = PathKey::read(rt.alloc(), text)?;
-        match path {
+        let is_so = match path {
             Some(path) => {
-                assert!(rt; want, "{case}");
-                assert_eq!(rt; path.as_str(), text, "{case}");
-                assert_eq!(rt; path.copy(rt.alloc())?.as_str(), text, "{case}");
+                let copy = path.copy(rt.alloc())?;
+                want && path.as_str() == text && copy.as_str() == text
             }
-            None => assert!(rt; !want, "{case}"),
-        }
+            None => !want,
+        };
+        assert!(rt; is_so, "{case}");
     }
     Ok(())
 }
@@ -138,56 +82,58 @@ fn padded(alloc: Global, start: &str, bytes: usize) -> Result<String, Fail> {
 
 #[test]
 fn texts_end_at_their_limit(rt: HostRuntime) -> Result<(), Fail> {
-    for (bytes, want) in [(1024, true), (1025, false)] {
+    for (case, bytes, want) in [("the limit", 1024, true), ("a byte more", 1025, false)] {
         let path = padded(rt.alloc(), "", bytes)?;
         let name = padded(rt.alloc(), "https://", bytes)?;
         let path = PathKey::read(rt.alloc(), path.as_str())?;
         let name = EndpointName::read(rt.alloc(), name.as_str())?;
-        assert_eq!(rt; path.is_some(), want, "a path of {bytes} bytes");
-        assert_eq!(rt; name.is_some(), want, "a name of {bytes} bytes");
+        assert!(rt; path.is_some() == want, "a path: {case}");
+        assert!(rt; name.is_some() == want, "a name: {case}");
     }
     Ok(())
 }
 
 #[test]
 fn a_part_file_has_its_place(rt: HostRuntime) -> Result<(), Fail> {
-    for (file, want) in [(1, ".fts/part-1"), (4294967295, ".fts/part-4294967295")] {
+    for (case, file, want) in [
+        ("the first file", 1, ".fts/part-1"),
+        ("the last file", 4294967295, ".fts/part-4294967295"),
+    ] {
         let mut room = PartName::new();
         let place = PlaceRef::part("https://a.example", file, &mut room);
-        assert_eq!(rt; place.endpoint, "https://a.example");
-        assert_eq!(rt; place.path, want);
+        let is_there = place.endpoint == "https://a.example" && place.path == want;
+        assert!(rt; is_there, "{case}");
     }
     Ok(())
 }
 
 #[test]
 fn places_are_copied_and_lent_with_ample_memory(rt: HostRuntime) -> Result<(), Fail> {
-    let endpoint = EndpointName::read(rt.alloc(), "https://a.example")?;
-    let path = PathKey::read(rt.alloc(), "data/f1")?;
-    if let (Some(endpoint), Some(path)) = (endpoint, path) {
-        let place = Place { endpoint, path };
-        let copy = place.copy(rt.alloc())?;
-        let lent = PlaceRef::of(&copy);
-        assert_eq!(rt; lent.endpoint, "https://a.example");
-        assert_eq!(rt; lent.path, "data/f1");
-        return Ok(());
-    }
-    assert!(rt; false, "both are read");
+    let place = place(rt.alloc(), "data/f1")?;
+    let copy = place.copy(rt.alloc())?;
+    let lent = PlaceRef::of(&copy);
+    let is_so = lent.endpoint == "https://a.example" && lent.path == "data/f1";
+    assert!(rt; is_so, "the copy's parts");
     Ok(())
 }
 
 #[test]
 fn labels_and_items_grow_with_ample_memory(rt: HostRuntime) -> Result<(), Fail> {
     let label = Label::new(rt.alloc(), "demo")?;
-    assert_eq!(rt; label.copy(rt.alloc())?.as_str(), "demo");
+    let copy = label.copy(rt.alloc())?;
+    assert!(rt; copy.as_str() == "demo", "a label's copy");
     let mut items = Items::new(rt.alloc());
     for item in [3, 1, 2] {
-        assert!(rt; items.push(item).is_ok());
+        assert!(rt; items.push(item).is_ok(), "item {item}");
     }
-    assert_eq!(rt; items.as_slice(), [3, 1, 2].as_slice());
+    assert!(rt;
+        items.as_slice() == [3, 1, 2].as_slice(),
+        "the items in order"
+    );
     Ok(())
 }
 
+/// A job of one file.
 fn job(alloc: Global) -> Result<NewJob, Memory> {
     let mut files = Items::new(alloc);
     let file = NewFile {
@@ -214,70 +160,75 @@ fn job(alloc: Global) -> Result<NewJob, Memory> {
 #[test]
 fn settings_are_copied_with_ample_memory(rt: HostRuntime) -> Result<(), Fail> {
     let copy = settings(rt.alloc())?.copy(rt.alloc())?;
-    assert_eq!(rt; copy.default_max_active, 7);
+    assert!(rt; copy.default_max_active == 7, "the number of the settings");
     Ok(())
 }
 
 #[test]
 fn jobs_are_copied_with_ample_memory(rt: HostRuntime) -> Result<(), Fail> {
     let copy = job(rt.alloc())?.copy(rt.alloc())?;
-    assert_eq!(rt; copy.files.as_slice().len(), 1);
+    assert!(rt; copy.files.as_slice().len() == 1, "the one file of the job");
     Ok(())
 }
 
 #[test]
 fn commands_are_copied_with_ample_memory(rt: HostRuntime) -> Result<(), Fail> {
     let command = Command::Claim { now: 1, word: 2 };
-    match command.copy(rt.alloc())? {
-        Command::Claim { now: 1, word: 2 } => Ok(()),
-        _ => {
-            assert!(rt; false, "a claim's copy is that claim");
-            Ok(())
-        }
-    }
+    let copy = command.copy(rt.alloc())?;
+    let is_same = matches!(copy, Command::Claim { now: 1, word: 2 });
+    assert!(rt; is_same, "a claim's copy is that claim");
+    Ok(())
 }
 
 #[test]
 fn listed_moments_and_words_come_in_order(rt: HostRuntime) -> Result<(), Fail> {
     let mut clock = ListClock::new(vec![in rt.alloc(); 5, 8]?);
     let mut words = ListWords::new(vec![in rt.alloc(); 5, 8]?);
-    for want in [5, 8, 8] {
+    for (case, want) in [
+        ("the first", 5),
+        ("the second", 8),
+        ("the second once more", 8),
+    ] {
         clock.rest();
-        assert_eq!(rt; clock.now(), want);
-        assert_eq!(rt; words.next(), want);
+        assert!(rt; clock.now() == want, "{case} moment");
+        assert!(rt; words.next() == want, "{case} word");
     }
     Ok(())
 }
 
 #[test]
 fn limits_have_the_digits_that_users_read(rt: HostRuntime) {
-    assert_eq!(rt; limits::MAX_JOBS, 100000);
-    assert_eq!(rt; limits::MAX_ROWS, 200000);
-    assert_eq!(rt; limits::MAX_FILES, 200);
-    assert_eq!(rt; limits::MIN_SOURCES, 2);
-    assert_eq!(rt; limits::MAX_SOURCES, 16);
-    assert_eq!(rt; limits::MAX_NAME_BYTES, 1024);
-    assert_eq!(rt; limits::MAX_LABEL_BYTES, 255);
-    assert_eq!(rt; limits::MAX_ENDPOINTS, 256);
-    assert_eq!(rt; limits::MAX_LINKS, 1024);
-    assert_eq!(rt; limits::MAX_WEIGHTS, 64);
-    assert_eq!(rt; limits::MAX_ACTIVE, 1000);
-    assert_eq!(rt; limits::MAX_WEIGHT, 10000);
-    assert_eq!(rt; limits::MAX_WORKERS, 16);
-    assert_eq!(rt; limits::MAX_RETRY, 10);
-    assert_eq!(rt; limits::MAX_DELAY, 86400);
-    assert_eq!(rt; limits::MIN_PRIORITY, 1);
-    assert_eq!(rt; limits::MAX_PRIORITY, 5);
-    assert_eq!(rt; limits::DEFAULT_PRIORITY, 3);
-    assert_eq!(rt; limits::DEFAULT_ACTIVITY, "default");
-    assert_eq!(rt; limits::MAX_SIZE, 9223372036854775807);
-    assert_eq!(rt; limits::LAST_MOMENT, 18446744073709551615);
-    assert_eq!(rt; limits::MAX_COMMANDS, 4294967295);
-    assert_eq!(rt; limits::MAX_SETTINGS_BYTES, 1048576);
-    assert_eq!(rt; limits::MAX_JOURNAL_BYTES, 67108864);
-    assert_eq!(rt; limits::MAX_BODY_BYTES, 4194304);
-    assert_eq!(rt; limits::MAX_HEAD_BYTES, 16384);
-    assert_eq!(rt; limits::MAX_HEADER_LINES, 64);
-    assert_eq!(rt; limits::MAX_CONTENT_BYTES, 1048576);
-    assert_eq!(rt; limits::MAX_REQUESTS, 1000000);
+    for (case, is_so) in [
+        ("MAX_JOBS", limits::MAX_JOBS == 100000),
+        ("MAX_ROWS", limits::MAX_ROWS == 200000),
+        ("MAX_FILES", limits::MAX_FILES == 200),
+        ("MIN_SOURCES", limits::MIN_SOURCES == 2),
+        ("MAX_SOURCES", limits::MAX_SOURCES == 16),
+        ("MAX_NAME_BYTES", limits::MAX_NAME_BYTES == 1024),
+        ("MAX_LABEL_BYTES", limits::MAX_LABEL_BYTES == 255),
+        ("MAX_ENDPOINTS", limits::MAX_ENDPOINTS == 256),
+        ("MAX_LINKS", limits::MAX_LINKS == 1024),
+        ("MAX_WEIGHTS", limits::MAX_WEIGHTS == 64),
+        ("MAX_ACTIVE", limits::MAX_ACTIVE == 1000),
+        ("MAX_WEIGHT", limits::MAX_WEIGHT == 10000),
+        ("MAX_WORKERS", limits::MAX_WORKERS == 16),
+        ("MAX_RETRY", limits::MAX_RETRY == 10),
+        ("MAX_DELAY", limits::MAX_DELAY == 86400),
+        ("MIN_PRIORITY", limits::MIN_PRIORITY == 1),
+        ("MAX_PRIORITY", limits::MAX_PRIORITY == 5),
+        ("DEFAULT_PRIORITY", limits::DEFAULT_PRIORITY == 3),
+        ("DEFAULT_ACTIVITY", limits::DEFAULT_ACTIVITY == "default"),
+        ("MAX_SIZE", limits::MAX_SIZE == 9223372036854775807),
+        ("LAST_MOMENT", limits::LAST_MOMENT == 18446744073709551615),
+        ("MAX_COMMANDS", limits::MAX_COMMANDS == 4294967295),
+        ("MAX_SETTINGS_BYTES", limits::MAX_SETTINGS_BYTES == 1048576),
+        ("MAX_JOURNAL_BYTES", limits::MAX_JOURNAL_BYTES == 67108864),
+        ("MAX_BODY_BYTES", limits::MAX_BODY_BYTES == 4194304),
+        ("MAX_HEAD_BYTES", limits::MAX_HEAD_BYTES == 16384),
+        ("MAX_HEADER_LINES", limits::MAX_HEADER_LINES == 64),
+        ("MAX_CONTENT_BYTES", limits::MAX_CONTENT_BYTES == 1048576),
+        ("MAX_REQUESTS", limits::MAX_REQUESTS == 1000000),
+    ] {
+        assert!(rt; is_so, "{case}");
+    }
 }

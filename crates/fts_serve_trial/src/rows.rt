@@ -1,5 +1,5 @@
 //! The rows, each a run of its own.
-use crate::stand::{Left, run_over};
+use crate::stand::{Left, no_memory, run_over};
 use crate::talking::{Role, Talk, TalkingDoors};
 use fts_disk::MemoryDisk;
 use fts_tables::Memory;
@@ -17,10 +17,6 @@ const SUBMISSION: &str =
 /// A look at the first job, which says close.
 const JOB: &str =
     "GET /jobs/00000000-0000-4000-8000-000000000001 HTTP/1.1\r\nConnection: close\r\n\r\n";
-
-fn no_memory(_: Memory) -> io::Error {
-    io::Error::from(io::ErrorKind::OutOfMemory)
-}
 
 /// Eight doors: the first of them gives a line of each of these inputs, and its calls with these numbers fail.
 fn doors_with(alloc: Global, inputs: &[&str], fail: &[u64]) -> Result<Vec<MemoryDoors>, Memory> {

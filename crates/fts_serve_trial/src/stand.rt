@@ -9,15 +9,16 @@ use fts_top::{Doors, Ending, Lane, Outside, run};
 use fts_wire::{MemorySink, MemorySource};
 use fts_workers::Hand;
 use std::alloc::Global;
+use std::io;
 use std::sync::Wait;
 use std::thread::Threads;
 
 /// The settings: two storages and two workers.
-const SETTINGS: &str =
+pub const SETTINGS: &str =
     "vo = \"demo\"\nworkers = 2\n[[storage]]\nurl = \"https://a.example\"\n[[storage]]\nurl = \"https://b.example\"\n";
 
 /// The moment of every command, in seconds since 1970.
-const NOW: u64 = 1_700_000_000;
+pub const NOW: u64 = 1_700_000_000;
 
 /// How many hands and lanes a run has.
 const HANDS: usize = 16;
@@ -26,7 +27,11 @@ const LANES: usize = 8;
 
 type StillHand = Hand<MemoryStore, ListClock, ListWords>;
 
-fn clock(alloc: Global) -> Result<ListClock, Memory> {
+pub fn no_memory(_: Memory) -> io::Error {
+    io::Error::from(io::ErrorKind::OutOfMemory)
+}
+
+pub fn clock(alloc: Global) -> Result<ListClock, Memory> {
     Ok(ListClock::new([NOW].to_vec(alloc)?))
 }
 

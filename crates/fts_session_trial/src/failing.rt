@@ -3,22 +3,17 @@
 //! What a failed call of the disk leaves in doubt is tried with its gate closed and with it open.
 ghost use Rattle.std.specs.Prelude.{◌≡◌, length, IfOk};
 
-use crate::stand::{StillHand, hands_over, no_memory, session};
+use crate::stand::{SETTINGS, StillHand, hands_with, no_memory, session};
 use crate::wanted::{
     ENDS, ENTRIES, Entry, INPUT, INPUT_WITH_RETRY, NOT_MADE, NOT_WRITTEN, NOTHING_READ, READ,
     READS, REPLIES, REPLIES_WITH_RETRY, START, STORE, STORE_CALLS, STORE_WITH_RETRY,
 };
 use fts_disk::MemoryDisk;
-use fts_store::{MemoryStore, StoredFile};
-use fts_tables::{EndpointName, Items, Memory, PathKey, Place};
+use fts_store::MemoryStore;
 use fts_top::Ending;
 use fts_wire::{MemorySink, MemorySource};
 use std::alloc::Global;
 use std::io;
-
-/// The settings of each session in memory.
-pub const SETTINGS: &str =
-    "vo = \"demo\"\nworkers = 2\n[[storage]]\nurl = \"https://a.example\"\n[[storage]]\nurl = \"https://b.example\"\n";
 
 /// A number that no call reaches: from one on to this, all fail.
 const LAST: u32 = 90;
@@ -54,47 +49,11 @@ fn no_trouble(alloc: Global) -> Trouble {
     }
 }
 
-/// A source file of three bytes.
-fn source_file(alloc: Global, path: &str) -> Result<Option<StoredFile>, Memory> {
-    let endpoint = EndpointName::read(alloc, "https://a.example")?;
-    let path = PathKey::read(alloc, path)?;
-    match (endpoint, path) {
-        (Some(endpoint), Some(path)) => Ok(Some(StoredFile {
-            place: Place { endpoint, path },
-            bytes: Items::from_vec(b"abc".to_vec(alloc)?),
-        })),
-        _ => Ok(None),
-    }
-}
-
-/// A store with three files, of which these calls fail.
-fn store(alloc: Global, fail: Vec<u32>) -> Result<MemoryStore, Memory> {
-    let mut files = Vec::new(alloc);
-    for path in ["data/f1", "data/f2", "data/f3"] {
-        if let Some(file) = source_file(alloc, path)? {
-            if files.push(file).is_err() {
-                return Err(Memory);
-            }
-        }
-    }
-    let files = Items::from_vec(files);
-    Ok(MemoryStore::new(alloc, files, fail, Vec::new(alloc)))
-}
-
-/// Sixteen hands, the first of which has the store with the files.
+/// Sixteen hands, the first of which has a store with the three files, of which these calls fail.
 pub fn hands(alloc: Global, fail: Vec<u32>) -> io::Result<Vec<StillHand<MemoryStore>>>
     ensures { IfOk result (λ hands. length hands.items ≡ 16) }
 {
-    let mut stores = Vec::new(alloc);
-    let mut next = store(alloc, fail).map_err(no_memory)?;
-    for _ in 0..16 {
-        if stores.push(next).is_err() {
-            return Err(no_memory(Memory));
-        }
-        let none = Items::from_vec(Vec::new(alloc));
-        next = MemoryStore::new(alloc, none, Vec::new(alloc), Vec::new(alloc));
-    }
-    hands_over(alloc, stores)
+    hands_with(alloc, &["data/f1", "data/f2", "data/f3"], fail)
 }
 
 /// The bytes of an input, or so many of them with a read that fails behind them.

@@ -1,13 +1,13 @@
-//! A session of a stand: settings, input and output in memory, over any disk and store, with a clock that stands still.
+//! A run of a stand: settings, input and output in memory, over any disk and store, with a clock that stands still.
 //! Keeps: there are 16 hands before and after, as a run asks for.
-//! The exchanges have a folder's disk and store, the failing calls those in memory.
+//! The exchanges have a folder's disk and store, all others those in memory.
 ghost use Rattle.std.specs.Prelude.{◌≡◌, length, IfOk};
 
 use fts_disk::Disk;
-use fts_store::Store;
-use fts_tables::{ListClock, ListWords, Memory};
+use fts_store::{MemoryStore, Store, StoredFile};
+use fts_tables::{Clock, EndpointName, Items, ListClock, ListWords, Memory, PathKey, Place};
 use fts_top::{Ending, Lane, MemoryDoors, Outside, run_alone};
-use fts_wire::{MemorySink, MemorySource};
+use fts_wire::{MemorySink, MemorySource, Source};
 use fts_workers::Hand;
 use std::alloc::Global;
 use std::io;
@@ -15,14 +15,28 @@ use std::io;
 /// The moment of every command, in seconds since 1970.
 pub const NOW: u64 = 1_700_000_000;
 
+/// The settings of each run in memory.
+pub const SETTINGS: &str =
+    "vo = \"demo\"\nworkers = 2\n[[storage]]\nurl = \"https://a.example\"\n[[storage]]\nurl = \"https://b.example\"\n";
+
 /// A hand whose clock stands still.
 pub type StillHand<E> = Hand<E, ListClock, ListWords>;
 
-/// What is left behind a session.
+/// What a run has beside its disk, its hands and its clock.
+#[derive(Drop)]
+pub struct Given<S> {
+    pub settings: MemorySource,
+    pub input: S,
+    pub output: MemorySink,
+    pub notes: MemorySink,
+}
+
+/// What is left behind a run.
 #[derive(Drop)]
 pub struct Ended<D, E: Store> {
     pub ending: Ending,
     pub output: MemorySink,
+    pub notes: MemorySink,
     pub disk: D,
     pub hands: Vec<StillHand<E>>,
 }
@@ -31,8 +45,78 @@ pub fn no_memory(_: Memory) -> io::Error {
     io::Error::from(io::ErrorKind::OutOfMemory)
 }
 
+/// Answers 1 where a row is as wanted; else prints it and answers 0.
+pub fn count_row(rt: &HostRuntime, row: &str, is_wanted: bool) -> io::Result<u32> {
+    if is_wanted {
+        return Ok(1);
+    }
+    println!(rt; "otherwise: {row}")?;
+    Ok(0)
+}
+
 fn clock(alloc: Global) -> io::Result<ListClock> {
     Ok(ListClock::new([NOW].to_vec(alloc)?))
+}
+
+/// A source of these bytes, no read of which fails.
+pub fn source(alloc: Global, bytes: &[u8]) -> io::Result<MemorySource> {
+    Ok(MemorySource::new(bytes.to_vec(alloc)?, Vec::new(alloc)))
+}
+
+/// What a run of this input has where no call fails.
+pub fn make_given<S: Drop>(alloc: Global, settings: &str, input: S) -> io::Result<Given<S>> {
+    Ok(Given {
+        settings: source(alloc, settings.as_bytes())?,
+        input,
+        output: MemorySink::new(alloc, Vec::new(alloc)),
+        notes: MemorySink::new(alloc, Vec::new(alloc)),
+    })
+}
+
+/// A file of three bytes on the first storage.
+fn source_file(alloc: Global, path: &str) -> Result<Option<StoredFile>, Memory> {
+    let endpoint = EndpointName::read(alloc, "https://a.example")?;
+    let path = PathKey::read(alloc, path)?;
+    match (endpoint, path) {
+        (Some(endpoint), Some(path)) => Ok(Some(StoredFile {
+            place: Place { endpoint, path },
+            bytes: Items::from_vec(b"abc".to_vec(alloc)?),
+        })),
+        _ => Ok(None),
+    }
+}
+
+/// A store with these files, of which these calls fail.
+pub fn store(alloc: Global, paths: &[&str], fail: Vec<u32>) -> Result<MemoryStore, Memory> {
+    let mut files = Vec::new(alloc);
+    for path in paths {
+        if let Some(file) = source_file(alloc, path)? {
+            if files.push(file).is_err() {
+                return Err(Memory);
+            }
+        }
+    }
+    let files = Items::from_vec(files);
+    Ok(MemoryStore::new(alloc, files, fail, Vec::new(alloc)))
+}
+
+/// Sixteen hands, the first of which has a store with these files, of which these calls fail.
+pub fn hands_with(
+    alloc: Global,
+    paths: &[&str],
+    fail: Vec<u32>,
+) -> io::Result<Vec<StillHand<MemoryStore>>>
+    ensures { IfOk result (λ hands. length hands.items ≡ 16) }
+{
+    let mut stores = Vec::new(alloc);
+    let mut next = store(alloc, paths, fail).map_err(no_memory)?;
+    for _ in 0..16 {
+        if stores.push(next).is_err() {
+            return Err(no_memory(Memory));
+        }
+        next = store(alloc, &[], Vec::new(alloc)).map_err(no_memory)?;
+    }
+    hands_over(alloc, stores)
 }
 
 /// Sixteen hands over these stores. There are as many of them.
@@ -57,27 +141,98 @@ pub fn hands_over<E: Store + Drop>(alloc: Global, stores: Vec<E>) -> io::Result<
     }
 }
 
-/// Eight lanes to which no connection comes.
-fn lanes(alloc: Global) -> io::Result<Vec<Lane<MemoryDoors, ListClock>>>
+/// Clocks that stand still, one for each lane.
+fn clocks(alloc: Global) -> io::Result<Vec<ListClock>> {
+    let mut clocks = Vec::new(alloc);
+    for _ in 0..8 {
+        if clocks.push(clock(alloc)?).is_err() {
+            return Err(no_memory(Memory));
+        }
+    }
+    Ok(clocks)
+}
+
+/// Eight lanes to which no connection comes, each with its clock. There are as many of them.
+pub fn lanes<C: Clock + Drop>(
+    alloc: Global,
+    clocks: Vec<C>,
+) -> io::Result<Vec<Lane<MemoryDoors, C>>>
     ensures { IfOk result (λ lanes. length lanes.items ≡ 8) }
 {
     let mut lanes = Vec::new(alloc);
-    for _ in 0..8 {
+    for clock in clocks {
         let Ok(doors) = MemoryDoors::new(alloc, Vec::new(alloc), Vec::new(alloc)) else {
             return Err(no_memory(Memory));
         };
-        let lane = Lane {
-            doors,
-            clock: clock(alloc)?,
-        };
-        if lanes.push(lane).is_err() {
+        if lanes.push(Lane { doors, clock }).is_err() {
             return Err(no_memory(Memory));
         }
     }
     if lanes.len() == 8 {
         Ok(lanes)
     } else {
-        Err(no_memory(Memory))
+        Err(io::Error::from(io::ErrorKind::InvalidInput))
+    }
+}
+
+/// The words of a command line.
+pub fn owned(alloc: Global, words: &[&str]) -> io::Result<Vec<String>> {
+    let mut owned = Vec::new(alloc);
+    for word in words {
+        owned.push(String::from_str(alloc, word)?)?;
+    }
+    Ok(owned)
+}
+
+/// Runs these words, which are not to serve.
+pub fn run_words<S: Source + Drop, D: Disk + Drop, E: Store + Drop>(
+    alloc: Global,
+    words: &[&str],
+    given: Given<S>,
+    disk: D,
+    hands: Vec<StillHand<E>>,
+) -> io::Result<Ended<D, E>>
+    requires { length hands.items ≡ 16 }
+    ensures { IfOk result (λ ended. length ended.hands.items ≡ 16) }
+{
+    let words = owned(alloc, words)?;
+    let Given {
+        settings,
+        input,
+        output,
+        notes,
+    } = given;
+    let mut outside = Outside {
+        settings,
+        input,
+        output,
+        notes,
+        disk: Some(disk),
+        clock: clock(alloc)?,
+        hands,
+        lanes: lanes(alloc, clocks(alloc)?)?,
+    };
+    let ended = run_alone(alloc, words.as_slice(), &mut outside);
+    let Outside {
+        settings: _,
+        input: _,
+        output,
+        notes,
+        disk,
+        clock: _,
+        hands,
+        lanes: _,
+    } = outside;
+    match (ended, disk) {
+        (Some(ending), Some(disk)) => Ok(Ended {
+            ending,
+            output,
+            notes,
+            disk,
+            hands,
+        }),
+        // The words are not to serve, and the disk comes back.
+        (None, _) | (_, None) => Err(io::Error::from(io::ErrorKind::InvalidInput)),
     }
 }
 
@@ -93,36 +248,11 @@ pub fn session<D: Disk + Drop, E: Store + Drop>(
     requires { length hands.items ≡ 16 }
     ensures { IfOk result (λ ended. length ended.hands.items ≡ 16) }
 {
-    let words = [String::from_str(alloc, "session")?];
-    let mut outside = Outside {
-        settings: MemorySource::new(settings.to_vec(alloc)?, Vec::new(alloc)),
+    let given = Given {
+        settings: source(alloc, settings)?,
         input,
         output,
         notes: MemorySink::new(alloc, Vec::new(alloc)),
-        disk: Some(disk),
-        clock: clock(alloc)?,
-        hands,
-        lanes: lanes(alloc)?,
     };
-    let ended = run_alone(alloc, &words, &mut outside);
-    let Outside {
-        settings: _,
-        input: _,
-        output,
-        notes: _,
-        disk,
-        clock: _,
-        hands,
-        lanes: _,
-    } = outside;
-    match (ended, disk) {
-        (Some(ending), Some(disk)) => Ok(Ended {
-            ending,
-            output,
-            disk,
-            hands,
-        }),
-        // Words that ask for a session are not to serve, and the disk comes back.
-        (None, _) | (_, None) => Err(io::Error::from(io::ErrorKind::InvalidInput)),
-    }
+    run_words(alloc, &["session"], given, disk, hands)
 }

@@ -2,8 +2,8 @@
 //! What opens behind a stop is the list of what was acknowledged by then, or that and the entry under way, and a Restart behind it (`opens`). An
 //! entry has four calls: its body with a closed gate, a sync, its open gate, a sync. Only behind the third may it be there or not.
 //! A file that was moved and not reported is tried again by the next run, as its second attempt, which finds the destination.
-use crate::failing::{SETTINGS, hands};
-use crate::stand::{NOW, no_memory, session};
+use crate::failing::hands;
+use crate::stand::{NOW, SETTINGS, no_memory, session};
 use fts_disk::MemoryDisk;
 use fts_journal::Journal;
 use fts_keep::Keep;

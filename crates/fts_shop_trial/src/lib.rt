@@ -1,6 +1,7 @@
-//! Workers in threads, to their end: that two copies run at once, and that a cancellation stops a copy that runs.
+//! Threads to their end: two copies that run at once, a cancellation that stops a copy, and passes of a lock that count side by side.
 //! What no clause says is that threads get on, and that each call succeeds with ample memory. Waiting is limited by looks, not by time.
-//! `Bed` makes the shop and the stations; `HeldStore` and `BothBegin` hold a copy until something else has happened.
+//! `tests` has the workers of `fts_shop`, over the shop and the stations of `bed` and with what holds a copy in `holding`; `turnstile` the lock
+//! of `fts_turnstile`, and `passes` those of `fts_passes`.
 #![tactic(auto)]
 
 #[cfg(test)]

@@ -1,4 +1,5 @@
-//! What no clause says: that both calls succeed with ample memory. The value is a list of the numbers that its items name.
+//! Passes made and taken in at once: that both calls succeed with ample memory.
+//! The value is a list of the numbers that its items name.
 ghost use Rattle.std.specs.Prelude.{[], IfOk, ◌≡◌};
 ghost use Rattle.fts_turnstile.specs.Passes.{first_pass};
 
@@ -33,7 +34,8 @@ fn sixteen_passes_are_made_and_taken_in(rt: HostRuntime) -> Result<(), Fail> {
     let Ok(passes) = split_passes(alloc, &lock, &mut first, 16) else {
         return Err(Fail::new("no passes"));
     };
-    assert_eq!(rt; passes.len(), 16);
-    assert_eq!(rt; close_with(lock, first, passes).added.len(), 0);
+    assert!(rt; passes.len() == 16, "sixteen passes are made");
+    let numbers = close_with(lock, first, passes);
+    assert!(rt; numbers.added.is_empty(), "none of them added a number");
     Ok(())
 }

@@ -22,7 +22,7 @@ const TWO_FILES: &str =
 const ONE_FILE: &str =
     "{\"files\":[{\"sources\":[\"https://a.example/f1\"],\"destinations\":[\"https://b.example/f1\"]}]}";
 
-// How many of the two destinations a store holds, with three bytes each.
+/// How many of the two destinations a store holds, with three bytes each.
 fn copied(store: &mut MemoryStore) -> usize {
     let mut count = 0;
     for path in ["f1", "f2"] {
@@ -37,7 +37,7 @@ fn copied(store: &mut MemoryStore) -> usize {
     count
 }
 
-// Whether a store holds one of the two destinations at each station, and each worker has drained.
+/// Whether a store holds one of the two destinations at each station, and each worker has drained.
 fn each_copied_one(
     stations: &mut [Station<MemoryDisk, MemoryStore, ListClock, ListWords>],
 ) -> bool {
@@ -58,7 +58,7 @@ struct Seen {
     late: bool,
 }
 
-// Two workers, one station each, on two files, with no lane left.
+/// Two workers, one station each, on two files, with no lane left.
 fn two_workers<R: Threads + Wait + Sync>(rt: &R, alloc: Global) -> Result<Seen, Memory> {
     let shop = Shop::new(keep(alloc, TWO_FILES)?, 0);
     let Ok((lock, mut first)) = Turnstile::new(alloc, shop) else {
@@ -91,13 +91,19 @@ fn two_workers<R: Threads + Wait + Sync>(rt: &R, alloc: Global) -> Result<Seen, 
 #[test]
 fn two_workers_copy_a_file_each_at_once(rt: HostRuntime) -> Result<(), Fail> {
     let seen = two_workers(&rt, rt.alloc())?;
-    assert_eq!(rt; seen.finished, 2);
-    assert!(rt; seen.each);
-    assert!(rt; !seen.late);
+    assert!(rt;
+        seen.finished == 2,
+        "both files are FINISHED at their first attempt"
+    );
+    assert!(rt;
+        seen.each,
+        "each worker drained, and its store holds one of them"
+    );
+    assert!(rt; !seen.late, "both copies had begun before either went on");
     Ok(())
 }
 
-// Cancels job 1 once the copy's first append has begun, and lets it go on. Whether that was accepted.
+/// Cancels job 1 once the copy's first append has begun, and lets it go on. Whether that was accepted.
 fn cancel<R: Wait>(
     rt: &R,
     lock: &Turnstile<Shop<MemoryDisk>>,
@@ -113,7 +119,7 @@ fn cancel<R: Wait>(
     tried.answer.is_ok()
 }
 
-// A worker at its station, and the cancellation beside it. Whether that was accepted.
+/// A worker at its station, and the cancellation beside it. Whether that was accepted.
 fn work_and_cancel<R: Threads + Wait + Sync>(
     rt: &R,
     lock: &Turnstile<Shop<MemoryDisk>>,
@@ -142,7 +148,7 @@ struct Stopped {
     copied: usize,
 }
 
-// A worker on one file, and beside it a cancellation of its job.
+/// A worker on one file, and beside it a cancellation of its job.
 fn cancelled<R: Threads + Wait + Sync>(rt: &R, alloc: Global) -> Result<Stopped, Memory> {
     let shop = Shop::new(keep(alloc, ONE_FILE)?, 0);
     let Ok((lock, mut first)) = Turnstile::new(alloc, shop) else {
@@ -172,8 +178,10 @@ fn cancelled<R: Threads + Wait + Sync>(rt: &R, alloc: Global) -> Result<Stopped,
 #[test]
 fn a_cancellation_stops_a_copy_that_runs(rt: HostRuntime) -> Result<(), Fail> {
     let stopped = cancelled(&rt, rt.alloc())?;
-    assert!(rt; stopped.accepted);
-    assert_eq!(rt; stopped.canceled, 1);
-    assert_eq!(rt; stopped.copied, 0);
+    assert!(rt; stopped.accepted, "the cancellation is accepted");
+    assert!(rt;
+        stopped.canceled == 1 && stopped.copied == 0,
+        "the file is CANCELED, and its destination absent"
+    );
     Ok(())
 }

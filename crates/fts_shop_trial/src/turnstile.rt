@@ -1,4 +1,4 @@
-//! Threads to their end, calls with ample memory, and callers that take each clause as a stranger would.
+//! The lock: threads to their end, calls with ample memory, and callers that take each clause as a stranger would.
 //! The value is a list of pairs: the number of the pass that added it, and a count that goes up by one.
 ghost use Rattle.std.specs.Prelude.{◌≡◌, ◌⊎◌, [], ◌∷◌, ◌++◌, IfOk};
 ghost use Rattle.fts_turnstile.specs.Passes.{IsOf, IsSame, own_items, first_pass};
@@ -33,7 +33,7 @@ impl Counts {
         self.added.push((by, count)).is_ok()
     }
 
-    // Up to where the pass has counted from 1, if nothing is missing and nothing out of order.
+    /// Up to where the pass has counted from 1, if nothing is missing and nothing out of order.
     fn counted_by(&self, by: u32) -> u32 {
         let mut count = 0;
         for item in &self.added {
@@ -44,13 +44,13 @@ impl Counts {
         count
     }
 
-    // Whether each pass from 1 on has counted so far.
+    /// Whether each pass from 1 on has counted so far.
     fn lanes_counted_to(&self, last: u32) -> bool {
         (1..LANES as u32).all(|by| self.counted_by(by) == last)
     }
 }
 
-// A lock over no counts, and its pass 0.
+/// A lock over no counts, and its pass 0.
 fn new_lock(alloc: Global) -> Result<(Turnstile<Counts>, Pass<Counts>), Memory>
     ensures { IfOk result (λ made. made.1 ≡ first_pass made.0) }
 {
@@ -63,7 +63,7 @@ fn new_lock(alloc: Global) -> Result<(Turnstile<Counts>, Pass<Counts>), Memory>
     }
 }
 
-// Counts from 1 to the last, a turn each.
+/// Counts from 1 to the last, a turn each.
 fn count_up<R: Wait>(rt: &R, lock: &Turnstile<Counts>, pass: &mut Pass<Counts>, last: u32)
     requires { IsOf lock.now pass.old }
     ensures { IsSame pass.old pass.new }
@@ -74,7 +74,7 @@ fn count_up<R: Wait>(rt: &R, lock: &Turnstile<Counts>, pass: &mut Pass<Counts>, 
     }
 }
 
-// Two passes count to 1,000 in two threads.
+/// Two passes count to 1,000 in two threads.
 fn count_in_two<R: Threads + Wait + Sync>(rt: &R, alloc: Global) -> Result<Counts, Memory> {
     let (lock, mut first) = new_lock(alloc)?;
     let mut second = lock.split(&mut first);
@@ -90,13 +90,14 @@ fn count_in_two<R: Threads + Wait + Sync>(rt: &R, alloc: Global) -> Result<Count
 #[test]
 fn two_threads_lose_no_item_and_keep_the_order_of_each(rt: HostRuntime) -> Result<(), Fail> {
     let counts = count_in_two(&rt, rt.alloc())?;
-    assert_eq!(rt; counts.added.len(), 2000);
-    assert_eq!(rt; counts.counted_by(0), 1000);
-    assert_eq!(rt; counts.counted_by(1), 1000);
+    let is_whole = counts.added.len() == 2000
+        && counts.counted_by(0) == 1000
+        && counts.counted_by(1) == 1000;
+    assert!(rt; is_whole, "both count to 1,000, and nothing else is added");
     Ok(())
 }
 
-// A pass in a thread of its own, with its lock.
+/// A pass in a thread of its own, with its lock.
 #[derive(Drop)]
 struct Lane<'a> {
     lock: &'a Turnstile<Counts>,
@@ -110,7 +111,7 @@ impl<'a> Lane<'a> {
     }
 }
 
-// A lane for each of the next passes.
+/// A lane for each of the next passes.
 fn lanes<'a>(
     alloc: Global,
     lock: &'a Turnstile<Counts>,
@@ -146,7 +147,7 @@ fn each_of_24_threads_adds_its_items_in_order(rt: HostRuntime) -> Result<(), Fai
     Ok(())
 }
 
-// After they met, both have seen one list, and each has what it had added.
+/// After they met, both have seen one list, and each has what it had added.
 fn met(lock: &Turnstile<Counts>, pass: &mut Pass<Counts>, other: &mut Pass<Counts>)
     requires { IsOf lock.now pass.old × IsOf lock.now other.old }
     ensures seen { pass.new.seen ≡ other.new.seen }
@@ -170,13 +171,15 @@ fn count_and_meet<R: Wait>(rt: &R, alloc: Global) -> Result<Counts, Memory> {
 #[test]
 fn passes_that_met_go_on_with_one_list(rt: HostRuntime) -> Result<(), Fail> {
     let counts = count_and_meet(&rt, rt.alloc())?;
-    assert_eq!(rt; counts.added.len(), 15);
-    assert_eq!(rt; counts.counted_by(0), 5);
-    assert_eq!(rt; counts.counted_by(1), 7);
+    let is_one = counts.added.len() == 15 && counts.counted_by(0) == 5 && counts.counted_by(1) == 7;
+    assert!(rt;
+        is_one,
+        "one counts to 5, the other to 7, and then to 3 anew"
+    );
     Ok(())
 }
 
-// Joins a pass, splits another, and closes with the numbers of both.
+/// Joins a pass, splits another, and closes with the numbers of both.
 fn split_after_join<R: Wait>(rt: &R, alloc: Global) -> Result<(u32, Counts), Memory> {
     let (lock, mut first) = new_lock(alloc)?;
     let second = lock.split(&mut first);
@@ -191,12 +194,14 @@ fn split_after_join<R: Wait>(rt: &R, alloc: Global) -> Result<(u32, Counts), Mem
 #[test]
 fn a_split_after_a_join_gives_the_next_number(rt: HostRuntime) -> Result<(), Fail> {
     let (number, counts) = split_after_join(&rt, rt.alloc())?;
-    assert_eq!(rt; number, 2);
-    assert_eq!(rt; counts.counted_by(2), 4);
+    assert!(rt;
+        number == 2 && counts.counted_by(2) == 4,
+        "the third pass is number 2, and counts to 4"
+    );
     Ok(())
 }
 
-// Counts that have to be taken apart by hand.
+/// Counts that have to be taken apart by hand.
 struct Sealed {
     counts: Counts,
 }
@@ -231,7 +236,7 @@ fn seal_and_open<R: Wait>(rt: &R, alloc: Global) -> Result<Counts, Memory> {
 #[test]
 fn a_value_that_is_never_dropped_comes_out_whole(rt: HostRuntime) -> Result<(), Fail> {
     let counts = seal_and_open(&rt, rt.alloc())?;
-    assert_eq!(rt; counts.added.len(), 1);
-    assert_eq!(rt; counts.counted_by(0), 1);
+    let is_whole = counts.added.len() == 1 && counts.counted_by(0) == 1;
+    assert!(rt; is_whole, "it holds the one count that was added");
     Ok(())
 }

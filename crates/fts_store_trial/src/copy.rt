@@ -1,5 +1,5 @@
-//! What no clause says: copies with ample memory and digests that another program gave, failures and noes one by one, files that change
-//! while they are copied, and real folders.
+//! Copies: with ample memory, and digests that another program gave; failures and noes one by one, real folders, and real files that change
+//! while they are copied. Files in memory that change are in `copy_changes`.
 use crate::copy_changing::WritingWatch;
 use fts_copy::{CopyRoom, CountingWatch, copy_verified};
 use fts_store::{FolderStore, MemoryStore, Store, StoredFile};
@@ -40,7 +40,7 @@ fn place(alloc: Global, endpoint: &str, path: &str) -> Result<Place, Memory> {
     }
 }
 
-// A row of file 1, from `data/f1` on A to `store/f1` on B.
+/// A row of file 1, from `data/f1` on A to `store/f1` on B.
 pub(crate) fn row(alloc: Global, size: u64, wanted: Option<[u8; 16]>) -> Result<FileRow, Memory> {
     Ok(FileRow {
         id: 1,
@@ -79,7 +79,7 @@ fn add(files: &mut Vec<StoredFile>, place: Place, bytes: Vec<u8>) -> Result<(), 
     }
 }
 
-// A store whose source holds these bytes. The call of the one number fails, the append of the other loses a byte; both are numbered from 1.
+/// A store whose source holds these bytes. The call of the one number fails, the append of the other loses a byte; both are numbered from 1.
 fn holding(alloc: Global, bytes: Vec<u8>, fails: u32, loses: u32) -> Result<MemoryStore, Memory> {
     let mut files = Vec::new(alloc);
     let source = place(alloc, "https://a.example", "data/f1")?;
@@ -93,7 +93,7 @@ fn holding_abc(alloc: Global, fails: u32, loses: u32) -> Result<MemoryStore, Mem
     holding(alloc, b"abc".to_vec(alloc)?, fails, loses)
 }
 
-// A copy that is called off after so many pieces, and how often its watch was asked.
+/// A copy that is called off after so many pieces, and how often its watch was asked.
 pub(crate) fn copied<E: Store>(
     store: &mut E,
     room: &mut CopyRoom,
@@ -107,7 +107,7 @@ pub(crate) fn copied<E: Store>(
     (outcome, watch.askings())
 }
 
-// A room, and the row that is copied in it.
+/// A room, and the row that is copied in it.
 #[derive(Drop)]
 struct Copier {
     room: CopyRoom,
@@ -129,23 +129,8 @@ pub(crate) fn verified(size: u64, digest: [u8; 16]) -> Outcome {
     Outcome::Verified { size, digest }
 }
 
-fn ends(rt: &impl Abort, found: (Outcome, u64), want: (Outcome, u64), case: &str) {
-    assert_eq!(rt; found, want, "{case}");
-}
-
-// A copy of `abc` whose append of this number loses a byte: its end, and the size of what is at the destination then.
-fn end_of_abc(
-    alloc: Global,
-    room: &mut CopyRoom,
-    row: &FileRow,
-    loses: u32,
-) -> Result<(Outcome, Option<u64>), Fail> {
-    let mut store = holding_abc(alloc, 0, loses)?;
-    let (outcome, _) = copied(&mut store, room, row, false, u64::MAX);
-    Ok((outcome, store.size(dest())?))
-}
-
-// A copy of `abc`, of which this size and digest are wanted, ends so.
+/// Whether a copy of `abc`, of which this size and digest are wanted and whose append of this number loses a byte, ends so, and leaves it at the
+/// destination only where it was verified.
 fn abc_ends(
     alloc: Global,
     room: &mut CopyRoom,
@@ -154,12 +139,14 @@ fn abc_ends(
     want: Outcome,
 ) -> Result<bool, Fail> {
     let row = row(alloc, wants.0, wants.1)?;
+    let mut store = holding_abc(alloc, 0, loses)?;
+    let (outcome, _) = copied(&mut store, room, &row, false, u64::MAX);
     let there = if want == verified(3, ABC) {
         Some(3)
     } else {
         None
     };
-    Ok(end_of_abc(alloc, room, &row, loses)? == (want, there))
+    Ok(outcome == want && store.size(dest()) == Ok(there))
 }
 
 #[test]
@@ -192,65 +179,54 @@ fn each_end_of_a_copy_of_three_bytes(rt: HostRuntime) -> Result<(), Fail> {
             Outcome::ReadBackDiffers { at: 2 },
         ),
     ] {
-        let is_so = abc_ends(rt.alloc(), &mut room, wants, loses, want)?;
-        assert!(rt; is_so, "{case} {want:?}");
+        let ends_so = abc_ends(rt.alloc(), &mut room, wants, loses, want)?;
+        assert!(rt; ends_so, "{case}");
     }
     Ok(())
 }
 
-fn copies_an_empty_file(rt: &impl Abort, alloc: Global, copier: &mut Copier) -> Result<(), Fail> {
-    let mut store = holding(alloc, Vec::new(alloc), 0, 0)?;
-    let first = never_stopped(&mut store, copier, false);
-    ends(rt, first, (verified(0, EMPTY), 1), "an empty file");
-    let second = never_stopped(&mut store, copier, false);
-    ends(rt, second, (Outcome::DestinationExists, 0), "it is there");
-    let third = never_stopped(&mut store, copier, true);
-    ends(rt, third, (verified(0, EMPTY), 1), "it is replaced");
-    Ok(())
-}
-
-fn misses_a_source(rt: &impl Abort, alloc: Global, copier: &mut Copier) {
-    let none = Items::from_vec(Vec::new(alloc));
-    let mut store = MemoryStore::new(alloc, none, Vec::new(alloc), Vec::new(alloc));
-    let found = never_stopped(&mut store, copier, false);
-    ends(rt, found, (Outcome::SourceMissing, 0), "no source");
-}
-
 #[test]
 fn what_is_missing_or_there_ends_a_copy(rt: HostRuntime) -> Result<(), Fail> {
-    let mut copier = copier_of(rt.alloc(), 0, Some(EMPTY))?;
-    copies_an_empty_file(&rt, rt.alloc(), &mut copier)?;
-    misses_a_source(&rt, rt.alloc(), &mut copier);
+    let alloc = rt.alloc();
+    let mut copier = copier_of(alloc, 0, Some(EMPTY))?;
+    let mut store = holding(alloc, Vec::new(alloc), 0, 0)?;
+    for (case, overwrite, want) in [
+        ("an empty file", false, (verified(0, EMPTY), 1)),
+        ("it is there", false, (Outcome::DestinationExists, 0)),
+        ("it is replaced", true, (verified(0, EMPTY), 1)),
+    ] {
+        let ends_so = never_stopped(&mut store, &mut copier, overwrite) == want;
+        assert!(rt; ends_so, "{case}");
+    }
+    let none = Items::from_vec(Vec::new(alloc));
+    let mut bare = MemoryStore::new(alloc, none, Vec::new(alloc), Vec::new(alloc));
+    let is_missed = never_stopped(&mut bare, &mut copier, false) == (Outcome::SourceMissing, 0);
+    assert!(rt; is_missed, "no source");
     Ok(())
 }
 
-// A copy of `abc` whose call of this number fails ends so; the call behind the last of a copy is the look at what it left.
-fn ends_at_call(
-    rt: &impl Abort,
-    alloc: Global,
-    copier: &mut Copier,
-    call: u32,
-) -> Result<(), Memory> {
+/// Whether a copy of `abc` whose call of this number fails ends by that; the call behind the last of a copy is the look at what it left.
+fn ends_at_call(alloc: Global, copier: &mut Copier, call: u32) -> Result<bool, Memory> {
     let mut store = holding_abc(alloc, call, 0)?;
     let (outcome, _) = never_stopped(&mut store, copier, false);
     let has_failed = outcome == Outcome::StoreFailed;
     let is_told = store.size(dest()).is_ok();
     let is_early = call != 11;
-    assert_eq!(rt; (has_failed, is_told), (is_early, is_early), "call {call}");
-    Ok(())
+    Ok(has_failed == is_early && is_told == is_early)
 }
 
+// Two looks, the part made, a read and an append, two reads, two at the ends, the rename; and the look behind it.
 #[test]
 fn each_call_that_fails_ends_a_copy(rt: HostRuntime) -> Result<(), Fail> {
     let mut copier = copier_of(rt.alloc(), 3, Some(ABC))?;
-    // two looks, the part made, a read and an append, two reads, two at the ends, the rename
     for call in 1..=11 {
-        ends_at_call(&rt, rt.alloc(), &mut copier, call)?;
+        let ends_so = ends_at_call(rt.alloc(), &mut copier, call)?;
+        assert!(rt; ends_so, "call {call} fails");
     }
     Ok(())
 }
 
-// Bytes of which no two neighbours are equal.
+/// Bytes of which no two neighbours are equal.
 fn pattern(alloc: Global, size: usize) -> Result<Vec<u8>, AllocError> {
     let mut bytes = vec![in alloc; 0; size]?;
     for (at, byte) in bytes.iter_mut().enumerate() {
@@ -259,54 +235,57 @@ fn pattern(alloc: Global, size: usize) -> Result<Vec<u8>, AllocError> {
     Ok(bytes)
 }
 
-// A copy of so many bytes, whose append of this number loses one and 0 loses none, ends so.
+/// Whether a copy of so many bytes, whose append of this number loses one and 0 loses none, ends so after so many askings.
 fn pattern_ends(
-    rt: &impl Abort,
     alloc: Global,
     copier: &mut Copier,
     size: usize,
     loses: u32,
     want: (Outcome, u64),
-) -> Result<(), Memory> {
+) -> Result<bool, Memory> {
     let mut store = holding(alloc, pattern(alloc, size)?, 0, loses)?;
-    let found = never_stopped(&mut store, copier, false);
-    assert_eq!(rt; found, want, "{size} {loses}");
-    Ok(())
+    Ok(never_stopped(&mut store, copier, false) == want)
 }
 
 #[test]
 fn sizes_around_a_piece(rt: HostRuntime) -> Result<(), Fail> {
     let mut copier = copier_of(rt.alloc(), 0, None)?;
-    for (size, digest, askings) in [
-        (0, &EMPTY, 1),
+    for (case, size, digest, askings) in [
+        ("no byte", 0, &EMPTY, 1),
         (
+            "one byte",
             1,
             b"\x93\xb8\x85\xad\xfe\x0d\xa0\x89\xcd\xf6\x34\x90\x4f\xd5\x9f\x71",
             3,
         ),
         (
+            "a piece but a byte",
             65_535,
             b"\x89\x37\x8b\xe9\x3d\x51\xbb\xd3\xa9\xaa\x65\xe9\x20\x10\x36\x92",
             3,
         ),
         (
+            "a piece",
             65_536,
             b"\x9c\xc6\x07\x13\x92\x35\x28\xa1\xdd\x94\xe1\xc1\xab\x0e\xbc\x9e",
             3,
         ),
         (
+            "a piece and a byte",
             65_537,
             b"\x4c\x26\x41\xc7\xfe\x5c\x93\xd3\xae\xd7\xc4\x06\x62\x9f\xf0\xab",
             5,
         ),
         (
+            "two pieces",
             131_072,
             b"\xd0\x21\x99\xa1\x97\xfb\x4b\x17\x77\x52\x5f\xe3\x75\xf9\xf5\xf1",
             5,
         ),
     ] {
         let want = (verified(size as u64, *digest), askings);
-        pattern_ends(&rt, rt.alloc(), &mut copier, size, 0, want)?;
+        let ends_so = pattern_ends(rt.alloc(), &mut copier, size, 0, want)?;
+        assert!(rt; ends_so, "{case}");
     }
     Ok(())
 }
@@ -314,41 +293,42 @@ fn sizes_around_a_piece(rt: HostRuntime) -> Result<(), Fail> {
 #[test]
 fn a_lost_byte_of_sizes_around_a_piece(rt: HostRuntime) -> Result<(), Fail> {
     let mut copier = copier_of(rt.alloc(), 0, None)?;
-    for (size, loses, at, askings) in [
-        (1, 1, 0, 2),
-        (65_535, 1, 65_534, 2),
-        (65_536, 1, 65_535, 2),
-        (65_537, 1, 65_535, 3),
-        (65_537, 2, 65_536, 4),
-        (131_072, 1, 65_535, 3),
-        (131_072, 2, 131_071, 4),
+    for (case, size, loses, at, askings) in [
+        ("the only byte", 1, 1, 0, 2),
+        ("the last of a piece but a byte", 65_535, 1, 65_534, 2),
+        ("the last of a piece", 65_536, 1, 65_535, 2),
+        (
+            "the last but one of a piece and a byte",
+            65_537,
+            1,
+            65_535,
+            3,
+        ),
+        ("the last of a piece and a byte", 65_537, 2, 65_536, 4),
+        ("the last of the first of two pieces", 131_072, 1, 65_535, 3),
+        ("the last of two pieces", 131_072, 2, 131_071, 4),
     ] {
         let want = (Outcome::ReadBackDiffers { at }, askings);
-        pattern_ends(&rt, rt.alloc(), &mut copier, size, loses, want)?;
+        let ends_so = pattern_ends(rt.alloc(), &mut copier, size, loses, want)?;
+        assert!(rt; ends_so, "{case} is lost");
     }
     Ok(())
 }
 
-// A copy that is called off after so many pieces is stopped, and leaves nothing.
-fn stops_after(
-    rt: &impl Abort,
-    alloc: Global,
-    copier: &mut Copier,
-    yeses: u64,
-) -> Result<(), Memory> {
+/// Whether a copy that is called off after so many pieces is stopped, and leaves nothing.
+fn stops_after(alloc: Global, copier: &mut Copier, yeses: u64) -> Result<bool, Memory> {
     let mut store = holding(alloc, pattern(alloc, 65_537)?, 0, 0)?;
     let ended = copied(&mut store, &mut copier.room, &copier.row, false, yeses);
     let want = (Outcome::Stopped, yeses.saturating_add(1));
-    ends(rt, ended, want, "it is stopped");
-    assert_eq!(rt; store.size(dest()), Ok(None));
-    Ok(())
+    Ok(ended == want && store.size(dest()) == Ok(None))
 }
 
 #[test]
 fn each_no_ends_a_copy(rt: HostRuntime) -> Result<(), Fail> {
     let mut copier = copier_of(rt.alloc(), 0, None)?;
     for yeses in 0..5 {
-        stops_after(&rt, rt.alloc(), &mut copier, yeses)?;
+        let is_stopped = stops_after(rt.alloc(), &mut copier, yeses)?;
+        assert!(rt; is_stopped, "a no behind {yeses} yeses");
     }
     Ok(())
 }
@@ -357,24 +337,19 @@ fn clear<R: Files<File = File> + Alloc>(rt: &R, root: &str) {
     let _old = fs::remove_dir_all(rt, root);
 }
 
-// The bytes of a real file; none where it can't be read.
-fn bytes_at<R: Files<File = File> + Alloc>(rt: &R, path: &str) -> Vec<u8, R::A> {
+/// Whether a real file holds these bytes. One that can't be read holds none.
+fn holds<R: Files<File = File> + Alloc>(rt: &R, path: &str, want: &str) -> bool {
     match fs::read(rt, path) {
-        Ok(bytes) => bytes,
-        Err(_) => Vec::new(rt.alloc()),
+        Ok(bytes) => bytes.as_slice() == want.as_bytes(),
+        Err(_) => want.is_empty(),
     }
-}
-
-fn holds<R: Files<File = File> + Alloc + Abort>(rt: &R, path: &str, want: &str, case: &str) {
-    let bytes = bytes_at(rt, path);
-    assert_eq!(rt; bytes.as_slice(), want.as_bytes(), "{case}");
 }
 
 const HELD: &str = "grid-of-a-copy/https:,,b.example/store/f1";
 
 type Folders = FolderStore<HostRuntime>;
 
-// A store of real folders, and what copies in it.
+/// A store of real folders, and what copies in it.
 #[derive(Drop)]
 struct Grid {
     store: Folders,
@@ -391,54 +366,61 @@ fn grid_at(rt: HostRuntime, root: &str, wanted: Option<[u8; 16]>) -> Result<Grid
     })
 }
 
-fn copies_once<R: Files<File = File> + Alloc + Abort>(
+/// Whether a copy without a source, the next one with it, and another behind that end as they should.
+fn copies_once<R: Files<File = File> + Alloc>(
     rt: &R,
     store: &mut Folders,
     copier: &mut Copier,
-) -> Result<(), Fail> {
+) -> Result<bool, Fail> {
     let missing = never_stopped(store, copier, false);
-    ends(rt, missing, (Outcome::SourceMissing, 0), "no source");
     fs::create_dir_all(rt, "grid-of-a-copy/https:,,a.example/data")?;
     fs::write(rt, "grid-of-a-copy/https:,,a.example/data/f1", "abc")?;
     let first = never_stopped(store, copier, false);
-    ends(rt, first, (verified(3, ABC), 3), "a source");
     let second = never_stopped(store, copier, false);
-    ends(rt, second, (Outcome::DestinationExists, 0), "it is there");
-    Ok(())
+    Ok(
+        missing == (Outcome::SourceMissing, 0)
+            && first == (verified(3, ABC), 3)
+            && second == (Outcome::DestinationExists, 0),
+    )
 }
 
-fn replaces_a_file<R: Files<File = File> + Alloc + Abort>(
+/// Whether a copy puts its source in the place of another file.
+fn replaces_a_file<R: Files<File = File> + Alloc>(
     rt: &R,
     store: &mut Folders,
     copier: &mut Copier,
-) -> Result<(), Fail> {
+) -> Result<bool, Fail> {
     fs::write(rt, HELD, "other")?;
     let found = never_stopped(store, copier, true);
-    ends(rt, found, (verified(3, ABC), 3), "it is replaced");
-    holds(rt, HELD, "abc", "it is replaced");
-    Ok(())
+    Ok(found == (verified(3, ABC), 3) && holds(rt, HELD, "abc"))
 }
 
-fn spares_a_folder<R: Files<File = File> + Alloc + Abort>(
+/// Whether a copy onto a folder fails, and the folder is there still.
+fn spares_a_folder<R: Files<File = File> + Alloc>(
     rt: &R,
     store: &mut Folders,
     copier: &mut Copier,
-) -> Result<(), Fail> {
+) -> Result<bool, Fail> {
     fs::remove_file(rt, HELD)?;
     fs::create_dir_all(rt, HELD)?;
     let found = never_stopped(store, copier, true);
-    ends(rt, found, (Outcome::StoreFailed, 3), "a folder is there");
-    assert!(rt; fs::exists(rt, HELD)?, "it is there still");
-    Ok(())
+    Ok(found == (Outcome::StoreFailed, 3) && fs::exists(rt, HELD)?)
 }
 
 fn copies_between_folders<R: Files<File = File> + Alloc + Abort>(
     rt: &R,
     grid: &mut Grid,
 ) -> Result<(), Fail> {
-    copies_once(rt, &mut grid.store, &mut grid.copier)?;
-    replaces_a_file(rt, &mut grid.store, &mut grid.copier)?;
-    spares_a_folder(rt, &mut grid.store, &mut grid.copier)
+    let is_copied = copies_once(rt, &mut grid.store, &mut grid.copier)?;
+    assert!(rt;
+        is_copied,
+        "a file is copied once its source is there, and no second time"
+    );
+    let is_replaced = replaces_a_file(rt, &mut grid.store, &mut grid.copier)?;
+    assert!(rt; is_replaced, "a file is replaced");
+    let is_spared = spares_a_folder(rt, &mut grid.store, &mut grid.copier)?;
+    assert!(rt; is_spared, "a folder is not");
+    Ok(())
 }
 
 #[test]
@@ -461,14 +443,14 @@ fn clear_dest<R: Files<File = File>>(rt: &R) -> Result<(), Fail> {
     Ok(())
 }
 
-// A copy whose watch writes these bytes into a file, before the first piece is read, ends so and leaves this at the destination.
-fn written_ends<R: Files<File = File> + Alloc + Abort>(
+/// Whether a copy whose watch writes these bytes into a file, before the first piece is read, ends so and leaves this at the destination.
+fn written_ends<R: Files<File = File> + Alloc>(
     rt: &R,
     stand: (&mut Folders, &mut Copier),
     written: (&str, &str),
     want: Outcome,
     there: &str,
-) -> Result<(), Fail> {
+) -> Result<bool, Fail> {
     clear_dest(rt)?;
     let (path, bytes) = written;
     let mut watch = WritingWatch {
@@ -480,9 +462,7 @@ fn written_ends<R: Files<File = File> + Alloc + Abort>(
     let (store, copier) = stand;
     copier.room.load(&copier.row, false);
     let found = copy_verified(store, &mut copier.room, &mut watch);
-    assert_eq!(rt; found, want, "{bytes}");
-    holds(rt, CHANGED_DEST, there, bytes);
-    Ok(())
+    Ok(found == want && holds(rt, CHANGED_DEST, there))
 }
 
 fn make_folders(rt: HostRuntime, root: &str) -> Result<(), Fail> {
@@ -497,19 +477,45 @@ fn each_written_ends<R: Files<File = File> + Alloc + Abort>(
     store: &mut Folders,
     copier: &mut Copier,
 ) -> Result<(), Fail> {
-    for (path, bytes, want, there) in [
-        (CHANGED_SOURCE, "abc", verified(3, ABC), "abc"),
-        (CHANGED_SOURCE, "ab", Outcome::SourceSize { seen: 2 }, ""),
+    for (case, path, bytes, want, there) in [
         (
+            "the same bytes",
+            CHANGED_SOURCE,
+            "abc",
+            verified(3, ABC),
+            "abc",
+        ),
+        (
+            "a byte less",
+            CHANGED_SOURCE,
+            "ab",
+            Outcome::SourceSize { seen: 2 },
+            "",
+        ),
+        (
+            "a byte more",
             CHANGED_SOURCE,
             "abc+",
             Outcome::ReadBackDiffers { at: 3 },
             "",
         ),
-        (CHANGED_SOURCE, "ab+", verified(3, AB_PLUS), "ab+"),
-        (CHANGED_DEST, "other", Outcome::StoreFailed, "other"),
+        (
+            "another byte",
+            CHANGED_SOURCE,
+            "ab+",
+            verified(3, AB_PLUS),
+            "ab+",
+        ),
+        (
+            "a destination",
+            CHANGED_DEST,
+            "other",
+            Outcome::StoreFailed,
+            "other",
+        ),
     ] {
-        written_ends(rt, (store, copier), (path, bytes), want, there)?;
+        let ends_so = written_ends(rt, (store, copier), (path, bytes), want, there)?;
+        assert!(rt; ends_so, "{case}");
     }
     Ok(())
 }
@@ -524,7 +530,7 @@ fn a_real_file_that_changes_during_a_copy(rt: HostRuntime) -> Result<(), Fail> {
     ended
 }
 
-// Cuts a file, makes it as long as it was, writes other bytes into it and makes it longer, so often.
+/// Cuts a file, makes it as long as it was, writes other bytes into it and makes it longer, so often.
 fn cut_and_lengthen<R: Files<File = File>>(rt: &R, path: &str) {
     for _ in 0..100 {
         if let Ok(mut file) = OpenOptions::new().write(true).open(rt, path) {
@@ -536,7 +542,7 @@ fn cut_and_lengthen<R: Files<File = File>>(rt: &R, path: &str) {
     }
 }
 
-// Whether a file holds what this end of a copy says.
+/// Whether a file holds what this end of a copy says.
 fn is_as_said<R: Files<File = File> + Alloc>(rt: &R, outcome: Outcome, path: &str) -> bool {
     let Outcome::Verified { size, digest } = outcome else {
         return true;
@@ -563,17 +569,14 @@ fn make_source(rt: HostRuntime, root: &str) -> Result<(), Fail> {
     Ok(())
 }
 
-// A copy that nobody disturbs.
-fn ends_alone<R: Files<File = File> + Alloc + Abort>(
+/// Whether a copy that nobody disturbs doesn't fail, and holds what its end says.
+fn ends_alone<R: Files<File = File> + Alloc>(
     rt: &R,
     store: &mut Folders,
     copier: &mut Copier,
-) {
+) -> bool {
     let (outcome, _) = never_stopped(store, copier, true);
-    assert!(rt;
-        outcome != Outcome::StoreFailed && is_as_said(rt, outcome, CUT_DEST),
-        "{outcome:?}"
-    );
+    outcome != Outcome::StoreFailed && is_as_said(rt, outcome, CUT_DEST)
 }
 
 #[test]
@@ -589,9 +592,13 @@ fn a_source_that_another_thread_changes_is_never_verified_as_another(
             || never_stopped(&mut grid.store, &mut grid.copier, true),
             || cut_and_lengthen(&rt, CUT_SOURCE),
         );
-        assert!(rt; is_as_said(&rt, outcome, CUT_DEST), "{outcome:?}");
+        assert!(rt;
+            is_as_said(&rt, outcome, CUT_DEST),
+            "another thread cuts it"
+        );
     }
-    ends_alone(&rt, &mut grid.store, &mut grid.copier);
+    let is_whole = ends_alone(&rt, &mut grid.store, &mut grid.copier);
+    assert!(rt; is_whole, "nobody disturbs it");
     clear(&rt, root);
     Ok(())
 }

@@ -1,14 +1,13 @@
-//! What no clause says, of files that change while they are copied: the end, the exact calls and what is left, by the call before which they change;
-//! and of a failing call and a no of the watch, of which the earlier one ends the copy.
-use fts_copy::CopyRoom;
-use crate::copy_changing::Changing;
+//! Files that change while they are copied: the end, the exact calls and what is left, by the call before which they change; and a failing call
+//! and a no of the watch, of which the earlier one ends the copy. The files are those of `copy_changing`.
 use crate::copy::{AB, AB_PLUS, ABC, ABC_PLUS, copied, row, verified};
+use crate::copy_changing::Changing;
+use fts_copy::CopyRoom;
 use fts_tables::{FileRow, Memory, Outcome};
 use std::alloc::{AllocError, Global};
-use std::process::Abort;
 use std::test::Fail;
 
-// A copy's three files, of which the source holds `abc`.
+/// A copy's three files, of which the source holds `abc`.
 fn three_files(alloc: Global, dest: Vec<u8>) -> Changing {
     Changing {
         source: Some(b"abc"),
@@ -22,10 +21,10 @@ fn three_files(alloc: Global, dest: Vec<u8>) -> Changing {
     }
 }
 
-// The calls, a letter each: the source's size, the destination's, the part made, a read and an append, two reads, two at the ends, the move.
+/// The calls, a letter each: the source's size, the destination's, the part made, a read and an append, two reads, two at the ends, the move.
 const ALL_CALLS: &[u8] = b"SDcsaspspm";
 
-// What the source is from the call of each number on, from the first up to the one before `end`; how a copy ends, its calls, what it leaves.
+/// What the source is from the call of each number on, from the first up to the one before `end`; how a copy ends, its calls, what it leaves.
 #[derive(Clone, Copy)]
 struct Expected {
     later: Option<&'static [u8]>,
@@ -36,7 +35,7 @@ struct Expected {
     held: &'static [u8],
 }
 
-// Whether a copy of a source that changes before the call of this number ends as is expected.
+/// Whether a copy of a source that changes before the call of this number ends as is expected.
 fn ends_so(
     alloc: Global,
     room: &mut CopyRoom,
@@ -57,7 +56,7 @@ fn file_row(alloc: Global) -> Result<FileRow, Memory> {
     row(alloc, 0, None)
 }
 
-// The number of the first call at which it doesn't; 0 where it does at each.
+/// The number of the first call at which it doesn't; 0 where it does at each.
 fn wrong_call(alloc: Global, expected: &Expected) -> Result<usize, Memory> {
     let mut room = CopyRoom::new(alloc)?;
     let file = file_row(alloc)?;
@@ -69,15 +68,15 @@ fn wrong_call(alloc: Global, expected: &Expected) -> Result<usize, Memory> {
     Ok(0)
 }
 
-// Asserts that a copy of a source that becomes this at a call from `calls.0` up to the one before `calls.1` is verified, and holds so much.
-fn becomes(
-    rt: &impl Abort,
+/// The number of the first call, from `calls.0` up to the one before `calls.1`, at which a source becomes this and isn't verified as so much; 0 where
+/// it is at each.
+fn wrongly_verified(
     alloc: Global,
     later: &'static str,
     calls: (usize, usize),
     held: &'static str,
     digest: [u8; 16],
-) -> Result<(), Memory> {
+) -> Result<usize, Memory> {
     let expected = Expected {
         later: Some(later.as_bytes()),
         first: calls.0,
@@ -86,19 +85,18 @@ fn becomes(
         calls: ALL_CALLS,
         held: held.as_bytes(),
     };
-    assert_eq!(rt; wrong_call(alloc, &expected)?, 0, "{later} {held}");
-    Ok(())
+    wrong_call(alloc, &expected)
 }
 
-// Asserts that it ends so after these calls, and leaves nothing.
-fn ends_after(
-    rt: &impl Abort,
+/// The number of the first call of these at which a source becomes this, and the copy doesn't end so after these calls or leaves something; 0 where
+/// it does at each.
+fn wrongly_ended(
     alloc: Global,
     later: Option<&'static [u8]>,
     numbers: (usize, usize),
     calls: &'static str,
     want: Outcome,
-) -> Result<(), Memory> {
+) -> Result<usize, Memory> {
     let expected = Expected {
         later,
         first: numbers.0,
@@ -107,22 +105,46 @@ fn ends_after(
         calls: calls.as_bytes(),
         held: b"",
     };
-    assert_eq!(rt; wrong_call(alloc, &expected)?, 0, "{calls} {want:?}");
-    Ok(())
+    wrong_call(alloc, &expected)
 }
 
 #[test]
 fn a_source_that_changes_during_a_copy_that_is_verified(rt: HostRuntime) -> Result<(), Fail> {
-    for (later, calls, held, digest) in [
-        ("abc", (1, 2), "abc", &ABC),
-        ("ab", (1, 2), "ab", &AB),
-        ("ab", (7, 11), "abc", &ABC),
-        ("abc+", (1, 2), "abc+", &ABC_PLUS),
-        ("abc+", (9, 11), "abc", &ABC),
-        ("ab+", (1, 5), "ab+", &AB_PLUS),
-        ("ab+", (7, 11), "abc", &ABC),
+    for (case, later, calls, held, digest) in [
+        ("written anew at first", "abc", (1, 2), "abc", &ABC),
+        ("cut before its size is asked", "ab", (1, 2), "ab", &AB),
+        ("cut behind its second reading", "ab", (7, 11), "abc", &ABC),
+        (
+            "grown before its size is asked",
+            "abc+",
+            (1, 2),
+            "abc+",
+            &ABC_PLUS,
+        ),
+        (
+            "grown behind the look at its end",
+            "abc+",
+            (9, 11),
+            "abc",
+            &ABC,
+        ),
+        (
+            "replaced before its first reading",
+            "ab+",
+            (1, 5),
+            "ab+",
+            &AB_PLUS,
+        ),
+        (
+            "replaced behind its second reading",
+            "ab+",
+            (7, 11),
+            "abc",
+            &ABC,
+        ),
     ] {
-        becomes(&rt, rt.alloc(), later, calls, held, *digest)?;
+        let wrong = wrongly_verified(rt.alloc(), later, calls, held, *digest)?;
+        assert!(rt; wrong == 0, "a source that is {case}, call {wrong}");
     }
     Ok(())
 }
@@ -132,34 +154,59 @@ fn a_source_that_changes_during_a_copy_that_is_not(rt: HostRuntime) -> Result<()
     let size = Outcome::SourceSize { seen: 2 };
     let differs = Outcome::ReadBackDiffers { at: 2 };
     let longer = Outcome::ReadBackDiffers { at: 3 };
-    for (later, numbers, calls, want) in [
-        ("ab", (2, 5), "SDcssa", size),
-        ("ab", (5, 7), "SDcsassp", differs),
-        ("abc+", (2, 9), "SDcsaspsp", longer),
-        ("ab+", (5, 7), "SDcsasp", differs),
+    for (case, later, numbers, calls, want) in [
+        ("cut before its first reading", "ab", (2, 5), "SDcssa", size),
+        (
+            "cut before its second reading",
+            "ab",
+            (5, 7),
+            "SDcsassp",
+            differs,
+        ),
+        (
+            "grown before the look at its end",
+            "abc+",
+            (2, 9),
+            "SDcsaspsp",
+            longer,
+        ),
+        (
+            "replaced before its second reading",
+            "ab+",
+            (5, 7),
+            "SDcsasp",
+            differs,
+        ),
     ] {
-        ends_after(
-            &rt,
-            rt.alloc(),
-            Some(later.as_bytes()),
-            numbers,
-            calls,
-            want,
-        )?;
+        let wrong = wrongly_ended(rt.alloc(), Some(later.as_bytes()), numbers, calls, want)?;
+        assert!(rt; wrong == 0, "a source that is {case}, call {wrong}");
     }
     Ok(())
 }
 
 #[test]
 fn a_source_that_vanishes_during_a_copy(rt: HostRuntime) -> Result<(), Fail> {
-    ends_after(&rt, rt.alloc(), None, (1, 2), "S", Outcome::SourceMissing)?;
-    for (numbers, calls) in [((2, 5), "SDcs"), ((5, 7), "SDcsas"), ((7, 9), "SDcsasps")] {
-        ends_after(&rt, rt.alloc(), None, numbers, calls, Outcome::StoreFailed)?;
+    for (case, numbers, calls, want) in [
+        ("its size is asked", (1, 2), "S", Outcome::SourceMissing),
+        ("its first reading", (2, 5), "SDcs", Outcome::StoreFailed),
+        ("its second reading", (5, 7), "SDcsas", Outcome::StoreFailed),
+        (
+            "the look at its end",
+            (7, 9),
+            "SDcsasps",
+            Outcome::StoreFailed,
+        ),
+    ] {
+        let wrong = wrongly_ended(rt.alloc(), None, numbers, calls, want)?;
+        assert!(rt;
+            wrong == 0,
+            "a source that is gone before {case}, call {wrong}"
+        );
     }
     Ok(())
 }
 
-// A watch that says no before this call of the nine, and how often it says yes before; and the call that fails.
+/// A watch that says no before this call of the nine, and how often it says yes before; and the call that fails.
 #[derive(Clone, Copy)]
 struct Ending {
     yeses: u64,
@@ -167,7 +214,7 @@ struct Ending {
     fails_at: usize,
 }
 
-// Whether the earlier of the two ends a copy over a destination that may be replaced, which is then as it was.
+/// Whether the earlier of the two ends a copy over a destination that may be replaced, which is then as it was.
 fn earlier_ends(
     alloc: Global,
     room: &mut CopyRoom,
@@ -190,7 +237,7 @@ fn earlier_ends(
     )
 }
 
-// The number of the first call that fails and doesn't end a copy as it should; 0 where each does.
+/// The number of the first call that fails and doesn't end a copy as it should; 0 where each does.
 fn wrong_failure(alloc: Global, yeses: u64, stops_before: usize) -> Result<usize, Memory> {
     let mut room = CopyRoom::new(alloc)?;
     let file = file_row(alloc)?;
@@ -207,15 +254,17 @@ fn wrong_failure(alloc: Global, yeses: u64, stops_before: usize) -> Result<usize
     Ok(0)
 }
 
+// Before which of the nine calls the watch is asked; the last stands for never.
 #[test]
 fn the_earlier_of_a_failure_and_a_no_ends_a_copy(rt: HostRuntime) -> Result<(), Fail> {
-    // before which of the nine calls the watch is asked; the last stands for never
-    for (yeses, stops_before) in [(0, 3), (1, 5), (2, 9), (3, 10)] {
-        assert_eq!(rt;
-            wrong_failure(rt.alloc(), yeses, stops_before)?,
-            0,
-            "{yeses} yeses"
-        );
+    for (case, yeses, stops_before) in [
+        ("the first asking", 0, 3),
+        ("the second asking", 1, 5),
+        ("the third asking", 2, 9),
+        ("no asking", 3, 10),
+    ] {
+        let wrong = wrong_failure(rt.alloc(), yeses, stops_before)?;
+        assert!(rt; wrong == 0, "a no at {case}, and call {wrong} fails");
     }
     Ok(())
 }

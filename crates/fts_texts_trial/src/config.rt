@@ -1,5 +1,5 @@
-//! The example and the text of a stand, read whole; texts that break one rule alone, and texts that break it with the one that is answered next.
-//! Most are a start, which breaks no rule, with a line more.
+//! Of `fts_config`: the example and the text of a stand, read whole; texts that break one rule alone, and texts that break it with the one that
+//! is answered next. Most are a start, which breaks no rule, with a line more. A row is a sentence, a text, and what is wanted.
 use fts_config::{SettingKey, SettingsFault, read_settings};
 use fts_joburl::UrlFault;
 use fts_tables::{Endpoint, LinkRule, Settings, Weight};
@@ -72,10 +72,8 @@ fn a_stand_s_text_gives_its_settings(rt: HostRuntime) -> Result<(), Fail> {
         "vo = \"demo\"\nworkers = 2\n[[storage]]\nurl = \"https://a.example\"\n[[storage]]\nurl = \"https://b.example\"\n";
     let settings = read_settings(rt.alloc(), text.as_bytes())?;
     let line = shown(rt.alloc(), &settings)?;
-    assert_eq!(rt;
-        line.as_str(),
-        "demo 2 2, https://a.example 20 20, https://b.example 20 20, default 1,"
-    );
+    let want = "demo 2 2, https://a.example 20 20, https://b.example 20 20, default 1,";
+    assert!(rt; line.as_str() == want, "a stand's settings");
     Ok(())
 }
 
@@ -83,10 +81,8 @@ fn a_stand_s_text_gives_its_settings(rt: HostRuntime) -> Result<(), Fail> {
 fn what_a_text_leaves_out_has_its_default(rt: HostRuntime) -> Result<(), Fail> {
     let settings = read_settings(rt.alloc(), START.as_bytes())?;
     let line = shown(rt.alloc(), &settings)?;
-    assert_eq!(rt;
-        line.as_str(),
-        "v 4 2, x://a 20 20, x://b 20 20, default 1,"
-    );
+    let want = "v 4 2, x://a 20 20, x://b 20 20, default 1,";
+    assert!(rt; line.as_str() == want, "settings by default");
     Ok(())
 }
 
@@ -126,258 +122,388 @@ weight = 9
 fn the_example_gives_its_settings(rt: HostRuntime) -> Result<(), Fail> {
     let settings = read_settings(rt.alloc(), EXAMPLE.as_bytes())?;
     let line = shown(rt.alloc(), &settings)?;
-    assert_eq!(rt;
-        line.as_str(),
-        "demo 8 5, https://a.example 10 40, https://b.example:8443 20 20, root://c.example:1094 20 20, a-to-b https://a.example https://b.example:8443 20, default 1, production 9,"
-    );
+    let want =
+        "demo 8 5, https://a.example 10 40, https://b.example:8443 20 20, root://c.example:1094 20 20, a-to-b https://a.example https://b.example:8443 20, default 1, production 9,";
+    assert!(rt; line.as_str() == want, "the example's settings");
     Ok(())
 }
 
-/// A text that ends so has this fault.
+/// A row: a sentence, the end of a text, and the key that its fault names.
+type KeyRow = (&'static str, &'static str, SettingKey);
+
+/// A row: a sentence, the end of a text, and its fault.
+type FaultRow = (&'static str, &'static str, SettingsFault);
+
+/// A row: a sentence, a text, and the rule that it breaks first.
+type RuleRow = (&'static str, &'static str, u32);
+
+/// Whether a text that ends so has this fault.
 fn has_fault(
+    alloc: Global,
+    start: &str,
+    end: &str,
+    want: SettingsFault,
+) -> Result<bool, AllocError> {
+    Ok(fault_of(alloc, start, end)? == Some(want))
+}
+
+/// In each row's text the key has another type.
+fn have_other_types(rt: &impl Abort, alloc: Global, rows: &[KeyRow]) -> Result<(), AllocError> {
+    for (case, text, key) in rows {
+        let is_so = has_fault(alloc, "", text, SettingsFault::WrongType { key: *key })?;
+        assert!(rt; is_so, "{case}");
+    }
+    Ok(())
+}
+
+/// In each row's text, behind this start, the key is missing.
+fn are_missing(
     rt: &impl Abort,
     alloc: Global,
     start: &str,
-    text: &str,
-    want: Option<SettingsFault>,
+    rows: &[KeyRow],
 ) -> Result<(), AllocError> {
-    let found = fault_of(alloc, start, text)?;
-    assert_eq!(rt; found, want, "{text}");
+    for (case, text, key) in rows {
+        let is_so = has_fault(alloc, start, text, SettingsFault::Missing { key: *key })?;
+        assert!(rt; is_so, "{case}");
+    }
     Ok(())
 }
+
+/// Each row's text, behind the start, has its fault.
+fn have_faults(rt: &impl Abort, alloc: Global, rows: &[FaultRow]) -> Result<(), AllocError> {
+    for (case, text, fault) in rows {
+        let is_so = has_fault(alloc, START, text, *fault)?;
+        assert!(rt; is_so, "{case}");
+    }
+    Ok(())
+}
+
+/// Each row's text breaks its rule first.
+fn break_first(rt: &impl Abort, alloc: Global, rows: &[RuleRow]) -> Result<(), AllocError> {
+    for (case, text, rule) in rows {
+        let is_so = match fault_of(alloc, "", text)? {
+            Some(fault) => fault.rule() == *rule,
+            None => false,
+        };
+        assert!(rt; is_so, "{case}");
+    }
+    Ok(())
+}
+
+const KEYS_OF_THE_WHOLE: [KeyRow; 4] = [
+    ("the VO is a number", "vo = 1", SettingKey::Vo),
+    (
+        "the workers are no whole number",
+        "workers = 4.0",
+        SettingKey::Workers,
+    ),
+    (
+        "a limit is true",
+        "default_max_active = true",
+        SettingKey::DefaultMaxActive,
+    ),
+    (
+        "the storages are a date",
+        "storage = 1979-05-27",
+        SettingKey::Storage,
+    ),
+];
 
 #[test]
 fn a_key_of_the_whole_has_its_type(rt: HostRuntime) -> Result<(), Fail> {
-    for (text, key) in [
-        ("vo = 1", SettingKey::Vo),
-        ("workers = 4.0", SettingKey::Workers),
-        ("default_max_active = true", SettingKey::DefaultMaxActive),
-        ("storage = 1979-05-27", SettingKey::Storage),
-    ] {
-        let want = Some(SettingsFault::WrongType { key });
-        has_fault(&rt, rt.alloc(), "", text, want)?;
-    }
+    have_other_types(&rt, rt.alloc(), &KEYS_OF_THE_WHOLE)?;
     Ok(())
 }
+
+const KEYS_OF_A_STORAGE: [KeyRow; 4] = [
+    (
+        "a storage is a number",
+        "storage = [1]",
+        SettingKey::Storage,
+    ),
+    (
+        "a storage's URL is a number",
+        "storage = [{ url = 1 }]",
+        SettingKey::Url,
+    ),
+    (
+        "an inbound limit is a text",
+        "storage = [{ inbound_max_active = \"20\" }]",
+        SettingKey::Inbound,
+    ),
+    (
+        "an outbound limit is a time",
+        "storage = [{ outbound_max_active = 07:32:00 }]",
+        SettingKey::Outbound,
+    ),
+];
 
 #[test]
 fn a_key_of_a_storage_has_its_type(rt: HostRuntime) -> Result<(), Fail> {
-    for (text, key) in [
-        ("storage = [1]", SettingKey::Storage),
-        ("storage = [{ url = 1 }]", SettingKey::Url),
-        (
-            "storage = [{ inbound_max_active = \"20\" }]",
-            SettingKey::Inbound,
-        ),
-        (
-            "storage = [{ outbound_max_active = 07:32:00 }]",
-            SettingKey::Outbound,
-        ),
-    ] {
-        let want = Some(SettingsFault::WrongType { key });
-        has_fault(&rt, rt.alloc(), "", text, want)?;
-    }
+    have_other_types(&rt, rt.alloc(), &KEYS_OF_A_STORAGE)?;
     Ok(())
 }
+
+const KEYS_OF_A_LINK: [KeyRow; 6] = [
+    ("the links are a table", "link = {}", SettingKey::Link),
+    (
+        "a link's name is a list",
+        "link = [{ symbolicname = [] }]",
+        SettingKey::SymbolicName,
+    ),
+    (
+        "a source is a number",
+        "link = [{ source = 1 }]",
+        SettingKey::LinkSource,
+    ),
+    (
+        "a destination is a moment",
+        "link = [{ destination = 1979-05-27T07:32:00Z }]",
+        SettingKey::LinkDestination,
+    ),
+    (
+        "a link's limit is a text",
+        "link = [{ max_active = \"1\" }]",
+        SettingKey::MaxActive,
+    ),
+    (
+        "the first link's limit is a text and the second one's source is a number",
+        "link = [{ max_active = \"1\" }, { source = 1 }]",
+        SettingKey::LinkSource,
+    ),
+];
 
 #[test]
 fn a_key_of_a_link_has_its_type(rt: HostRuntime) -> Result<(), Fail> {
-    for (text, key) in [
-        ("link = {}", SettingKey::Link),
-        ("link = [{ symbolicname = [] }]", SettingKey::SymbolicName),
-        ("link = [{ source = 1 }]", SettingKey::LinkSource),
-        (
-            "link = [{ destination = 1979-05-27T07:32:00Z }]",
-            SettingKey::LinkDestination,
-        ),
-        ("link = [{ max_active = \"1\" }]", SettingKey::MaxActive),
-        (
-            "link = [{ max_active = \"1\" }, { source = 1 }]",
-            SettingKey::LinkSource,
-        ),
-    ] {
-        let want = Some(SettingsFault::WrongType { key });
-        has_fault(&rt, rt.alloc(), "", text, want)?;
-    }
+    have_other_types(&rt, rt.alloc(), &KEYS_OF_A_LINK)?;
     Ok(())
 }
+
+const KEYS_OF_AN_ACTIVITY: [KeyRow; 3] = [
+    (
+        "the activities are a table",
+        "activity.name = \"default\"",
+        SettingKey::Activity,
+    ),
+    (
+        "an activity's name is a number",
+        "activity = [{ name = 1 }]",
+        SettingKey::Name,
+    ),
+    (
+        "a weight is no whole number",
+        "activity = [{ weight = 1.5 }]",
+        SettingKey::Weight,
+    ),
+];
 
 #[test]
 fn a_key_of_an_activity_has_its_type(rt: HostRuntime) -> Result<(), Fail> {
-    for (text, key) in [
-        ("activity.name = \"default\"", SettingKey::Activity),
-        ("activity = [{ name = 1 }]", SettingKey::Name),
-        ("activity = [{ weight = 1.5 }]", SettingKey::Weight),
-    ] {
-        let want = Some(SettingsFault::WrongType { key });
-        has_fault(&rt, rt.alloc(), "", text, want)?;
-    }
+    have_other_types(&rt, rt.alloc(), &KEYS_OF_AN_ACTIVITY)?;
     Ok(())
 }
+
+const NEEDED_KEYS: [KeyRow; 4] = [
+    ("no VO", "storage = [{ url = \"x://a\" }]", SettingKey::Vo),
+    ("no list of storages", "vo = \"v\"", SettingKey::Storage),
+    (
+        "no storage in the list",
+        "vo = \"v\"\nstorage = []",
+        SettingKey::Storage,
+    ),
+    (
+        "no URL of the second storage",
+        "vo = \"v\"\nstorage = [{ url = \"x://a\" }, {}]",
+        SettingKey::Url,
+    ),
+];
 
 #[test]
 fn a_needed_key_is_there(rt: HostRuntime) -> Result<(), Fail> {
-    for (text, key) in [
-        ("storage = [{ url = \"x://a\" }]", SettingKey::Vo),
-        ("vo = \"v\"", SettingKey::Storage),
-        ("vo = \"v\"\nstorage = []", SettingKey::Storage),
-        (
-            "vo = \"v\"\nstorage = [{ url = \"x://a\" }, {}]",
-            SettingKey::Url,
-        ),
-    ] {
-        let want = Some(SettingsFault::Missing { key });
-        has_fault(&rt, rt.alloc(), "", text, want)?;
-    }
+    are_missing(&rt, rt.alloc(), "", &NEEDED_KEYS)?;
     Ok(())
 }
 
+const NEEDED_KEYS_BELOW: [KeyRow; 5] = [
+    ("no source", "link = [{}]", SettingKey::LinkSource),
+    (
+        "no destination",
+        "link = [{ source = \"x://a\" }]",
+        SettingKey::LinkDestination,
+    ),
+    (
+        "no limit of a link",
+        "link = [{ source = \"x://a\", destination = \"x://b\" }]",
+        SettingKey::MaxActive,
+    ),
+    (
+        "no name of an activity",
+        "activity = [{}]",
+        SettingKey::Name,
+    ),
+    (
+        "no weight",
+        "activity = [{ name = \"default\" }]",
+        SettingKey::Weight,
+    ),
+];
+
 #[test]
 fn a_needed_key_of_a_link_or_activity_is_there(rt: HostRuntime) -> Result<(), Fail> {
-    for (text, key) in [
-        ("link = [{}]", SettingKey::LinkSource),
-        (
-            "link = [{ source = \"x://a\" }]",
-            SettingKey::LinkDestination,
-        ),
-        (
-            "link = [{ source = \"x://a\", destination = \"x://b\" }]",
-            SettingKey::MaxActive,
-        ),
-        ("activity = [{}]", SettingKey::Name),
-        ("activity = [{ name = \"default\" }]", SettingKey::Weight),
-    ] {
-        let want = Some(SettingsFault::Missing { key });
-        has_fault(&rt, rt.alloc(), START, text, want)?;
-    }
+    are_missing(&rt, rt.alloc(), START, &NEEDED_KEYS_BELOW)?;
     Ok(())
 }
 
 #[test]
 fn what_breaks_no_rule(rt: HostRuntime) -> Result<(), Fail> {
-    for text in [
-        "other = 1\nworkers = 16",
-        "link = [{ source = \"x://a\", destination = \"x://b\", max_active = 1 }, { source = \"x://b\", destination = \"x://a\", max_active = 2 }]",
+    for (case, text) in [
+        ("a key that nobody knows", "other = 1\nworkers = 16"),
+        (
+            "a link and the way back",
+            "link = [{ source = \"x://a\", destination = \"x://b\", max_active = 1 }, { source = \"x://b\", destination = \"x://a\", max_active = 2 }]",
+        ),
     ] {
-        has_fault(&rt, rt.alloc(), START, text, None)?;
+        let is_read = fault_of(rt.alloc(), START, text)?.is_none();
+        assert!(rt; is_read, "{case}");
     }
     Ok(())
 }
+
+const RULES_ON_LINKS: [FaultRow; 4] = [
+    (
+        "a destination that is no URL",
+        "link = [{ source = \"x://a\", destination = \"no url\", max_active = 1 }]",
+        SettingsFault::BadUrl {
+            fault: UrlFault::NotUrl,
+        },
+    ),
+    (
+        "a link twice",
+        "link = [{ source = \"x://a\", destination = \"x://b\", max_active = 1 }, { source = \"x://a\", destination = \"x://b\", max_active = 2 }]",
+        SettingsFault::TwiceLink,
+    ),
+    (
+        "a link to no storage",
+        "link = [{ source = \"x://a\", destination = \"x://c\", max_active = 1 }]",
+        SettingsFault::UnknownEndpoint,
+    ),
+    (
+        "a link with an empty name",
+        "link = [{ source = \"x://a\", destination = \"x://b\", max_active = 1, symbolicname = \"\" }]",
+        SettingsFault::BadLabel,
+    ),
+];
 
 #[test]
 fn each_rule_on_links_alone(rt: HostRuntime) -> Result<(), Fail> {
-    for (text, fault) in [
-        (
-            "link = [{ source = \"x://a\", destination = \"no url\", max_active = 1 }]",
-            SettingsFault::BadUrl {
-                fault: UrlFault::NotUrl,
-            },
-        ),
-        (
-            "link = [{ source = \"x://a\", destination = \"x://b\", max_active = 1 }, { source = \"x://a\", destination = \"x://b\", max_active = 2 }]",
-            SettingsFault::TwiceLink,
-        ),
-        (
-            "link = [{ source = \"x://a\", destination = \"x://c\", max_active = 1 }]",
-            SettingsFault::UnknownEndpoint,
-        ),
-        (
-            "link = [{ source = \"x://a\", destination = \"x://b\", max_active = 1, symbolicname = \"\" }]",
-            SettingsFault::BadLabel,
-        ),
-    ] {
-        has_fault(&rt, rt.alloc(), START, text, Some(fault))?;
-    }
+    have_faults(&rt, rt.alloc(), &RULES_ON_LINKS)?;
     Ok(())
 }
+
+const RULES_ON_TEXT_AND_LIMITS: [FaultRow; 5] = [
+    ("a key with no value", "workers = ", SettingsFault::NotToml),
+    (
+        "a number of more than 63 bits",
+        "workers = 9223372036854775808",
+        SettingsFault::NotToml,
+    ),
+    (
+        "a limit above 1,000",
+        "default_max_active = 1001",
+        SettingsFault::LimitRange,
+    ),
+    (
+        "a limit below 0",
+        "default_max_active = -1",
+        SettingsFault::LimitRange,
+    ),
+    ("no worker", "workers = 0", SettingsFault::WorkerRange),
+];
 
 #[test]
 fn each_rule_on_text_and_limits_alone(rt: HostRuntime) -> Result<(), Fail> {
-    for (text, fault) in [
-        ("workers = ", SettingsFault::NotToml),
-        ("workers = 9223372036854775808", SettingsFault::NotToml),
-        ("default_max_active = 1001", SettingsFault::LimitRange),
-        ("default_max_active = -1", SettingsFault::LimitRange),
-        ("workers = 0", SettingsFault::WorkerRange),
-    ] {
-        has_fault(&rt, rt.alloc(), START, text, Some(fault))?;
-    }
+    have_faults(&rt, rt.alloc(), &RULES_ON_TEXT_AND_LIMITS)?;
     Ok(())
 }
+
+const RULES_ON_WEIGHTS: [FaultRow; 3] = [
+    (
+        "a weight above 10,000",
+        "activity = [{ name = \"default\", weight = 10001 }]",
+        SettingsFault::WeightRange,
+    ),
+    (
+        "no activity named default",
+        "activity = []",
+        SettingsFault::NoDefaultWeight,
+    ),
+    (
+        "an activity twice",
+        "activity = [{ name = \"default\", weight = 1 }, { name = \"default\", weight = 2 }]",
+        SettingsFault::TwiceWeight,
+    ),
+];
 
 #[test]
 fn each_rule_on_weights_alone(rt: HostRuntime) -> Result<(), Fail> {
-    for (text, fault) in [
-        (
-            "activity = [{ name = \"default\", weight = 10001 }]",
-            SettingsFault::WeightRange,
-        ),
-        ("activity = []", SettingsFault::NoDefaultWeight),
-        (
-            "activity = [{ name = \"default\", weight = 1 }, { name = \"default\", weight = 2 }]",
-            SettingsFault::TwiceWeight,
-        ),
-    ] {
-        has_fault(&rt, rt.alloc(), START, text, Some(fault))?;
-    }
+    have_faults(&rt, rt.alloc(), &RULES_ON_WEIGHTS)?;
     Ok(())
 }
 
-/// A text breaks this rule first.
-fn breaks_first(rt: &impl Abort, alloc: Global, text: &str, rule: u32) -> Result<(), AllocError> {
-    match fault_of(alloc, "", text)? {
-        Some(fault) => assert_eq!(rt; fault.rule(), rule, "{text}"),
-        None => assert!(rt; false, "{text}"),
-    }
-    Ok(())
-}
+const TWO_RULES: [RuleRow; 5] = [
+    ("a text that is no TOML, and a type", "vo = 1\nworkers =", 1),
+    ("a type, and no storage", "vo = 1", 2),
+    ("no VO, and a URL", "storage = [{ url = \"no url\" }]", 3),
+    (
+        "a URL, and a storage twice",
+        "vo = \"v\"\nstorage = [{ url = \"no url\" }, { url = \"x://a\" }, { url = \"x://a\" }]",
+        4,
+    ),
+    (
+        "a storage twice, and a link twice",
+        "vo = \"v\"\nstorage = [{ url = \"HTTPS://A.EXAMPLE:443\" }, { url = \"https://a.example\" }]\nlink = [{ source = \"x://c\", destination = \"x://c\", max_active = 1 }, { source = \"x://c\", destination = \"x://c\", max_active = 1 }]",
+        5,
+    ),
+];
 
 #[test]
 fn of_two_rules_the_first_is_answered(rt: HostRuntime) -> Result<(), Fail> {
-    for (text, rule) in [
-        ("vo = 1\nworkers =", 1),
-        ("vo = 1", 2),
-        ("storage = [{ url = \"no url\" }]", 3),
-        (
-            "vo = \"v\"\nstorage = [{ url = \"no url\" }, { url = \"x://a\" }, { url = \"x://a\" }]",
-            4,
-        ),
-        (
-            "vo = \"v\"\nstorage = [{ url = \"HTTPS://A.EXAMPLE:443\" }, { url = \"https://a.example\" }]\nlink = [{ source = \"x://c\", destination = \"x://c\", max_active = 1 }, { source = \"x://c\", destination = \"x://c\", max_active = 1 }]",
-            5,
-        ),
-    ] {
-        breaks_first(&rt, rt.alloc(), text, rule)?;
-    }
+    break_first(&rt, rt.alloc(), &TWO_RULES)?;
     Ok(())
 }
 
+const TWO_LATER_RULES: [RuleRow; 5] = [
+    (
+        "a link twice, and a link of no storage",
+        "vo = \"v\"\nstorage = [{ url = \"x://a\" }]\nlink = [{ source = \"x://c\", destination = \"x://c\", max_active = 1 }, { source = \"x://c\", destination = \"x://c\", max_active = 1 }]",
+        6,
+    ),
+    (
+        "a link of no storage, and a limit of 0",
+        "vo = \"v\"\nstorage = [{ url = \"x://a\" }]\nlink = [{ source = \"x://c\", destination = \"x://c\", max_active = 0 }]",
+        7,
+    ),
+    (
+        "a limit of 0, and a weight of 0",
+        "vo = \"v\"\nstorage = [{ url = \"x://a\", inbound_max_active = 0 }]\nactivity = [{ name = \"a\", weight = 0 }]",
+        8,
+    ),
+    (
+        "a weight of 0, and no activity named default",
+        "vo = \"v\"\nstorage = [{ url = \"x://a\" }]\nactivity = [{ name = \"a\", weight = 0 }]",
+        9,
+    ),
+    (
+        "no activity named default, and no worker",
+        "vo = \"v\"\nworkers = 0\nstorage = [{ url = \"x://a\" }]\nactivity = []",
+        10,
+    ),
+];
+
 #[test]
 fn of_two_later_rules_the_first_is_answered(rt: HostRuntime) -> Result<(), Fail> {
-    for (text, rule) in [
-        (
-            "vo = \"v\"\nstorage = [{ url = \"x://a\" }]\nlink = [{ source = \"x://c\", destination = \"x://c\", max_active = 1 }, { source = \"x://c\", destination = \"x://c\", max_active = 1 }]",
-            6,
-        ),
-        (
-            "vo = \"v\"\nstorage = [{ url = \"x://a\" }]\nlink = [{ source = \"x://c\", destination = \"x://c\", max_active = 0 }]",
-            7,
-        ),
-        (
-            "vo = \"v\"\nstorage = [{ url = \"x://a\", inbound_max_active = 0 }]\nactivity = [{ name = \"a\", weight = 0 }]",
-            8,
-        ),
-        (
-            "vo = \"v\"\nstorage = [{ url = \"x://a\" }]\nactivity = [{ name = \"a\", weight = 0 }]",
-            9,
-        ),
-        (
-            "vo = \"v\"\nworkers = 0\nstorage = [{ url = \"x://a\" }]\nactivity = []",
-            10,
-        ),
-    ] {
-        breaks_first(&rt, rt.alloc(), text, rule)?;
-    }
+    break_first(&rt, rt.alloc(), &TWO_LATER_RULES)?;
     Ok(())
 }
 
@@ -396,32 +522,49 @@ const BAD_NAME: &str =
 
 #[test]
 fn too_many_stands_between_its_neighbours(rt: HostRuntime) -> Result<(), Fail> {
-    for (more, count, want) in [
-        ("workers = 0", 65, SettingsFault::WorkerRange),
-        (BAD_NAME, 65, SettingsFault::TooMany),
-        (BAD_NAME, 2, SettingsFault::BadLabel),
-        ("", 2, SettingsFault::TwiceWeight),
+    for (case, more, count, want) in [
+        (
+            "no worker, and too many activities",
+            "workers = 0",
+            65,
+            SettingsFault::WorkerRange,
+        ),
+        (
+            "too many, and an empty name",
+            BAD_NAME,
+            65,
+            SettingsFault::TooMany,
+        ),
+        (
+            "an empty name, and an activity twice",
+            BAD_NAME,
+            2,
+            SettingsFault::BadLabel,
+        ),
+        ("an activity twice", "", 2, SettingsFault::TwiceWeight),
     ] {
-        let found = crowded(rt.alloc(), more, count)?;
-        assert_eq!(rt; found, Some(want), "{more} {count}");
+        let is_so = crowded(rt.alloc(), more, count)? == Some(want);
+        assert!(rt; is_so, "{case}");
     }
     Ok(())
 }
 
 #[test]
 fn a_text_that_is_no_utf_8_is_no_toml(rt: HostRuntime) {
-    assert_eq!(rt;
-        read_settings(rt.alloc(), &[b'#', 0xff]).err(),
-        Some(SettingsFault::NotToml)
+    let fault = read_settings(rt.alloc(), &[b'#', 0xff]).err();
+    assert!(rt;
+        fault == Some(SettingsFault::NotToml),
+        "a byte that begins no letter"
     );
 }
 
 #[test]
 fn a_text_that_is_too_long_is_told_first(rt: HostRuntime) -> Result<(), Fail> {
     let text = vec![in rt.alloc(); b'='; 1_048_577]?;
-    assert_eq!(rt;
-        read_settings(rt.alloc(), text.as_slice()).err(),
-        Some(SettingsFault::TooLong)
+    let fault = read_settings(rt.alloc(), text.as_slice()).err();
+    assert!(rt;
+        fault == Some(SettingsFault::TooLong),
+        "a byte more than the limit"
     );
     Ok(())
 }

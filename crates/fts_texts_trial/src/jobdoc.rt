@@ -1,6 +1,6 @@
-//! Documents and their answers. A row is a sentence, what is given, and the rule and message of the refusal, or 0 and no text.
-//! Settings have three endpoints: `https://a.example`, `https://b.example` and `root://a.example:1094`. Rules and texts are those of the
-//! table; ids are those of another program.
+//! Of `fts_jobdoc`: documents and their answers, from the tables of `jobdoc_cases`. A row is a sentence, what is given, and the rule and message of
+//! the refusal, or 0 and no text. Settings have three endpoints: `https://a.example`, `https://b.example` and `root://a.example:1094`. Rules and
+//! texts are those of the rules' table in `docs/API.md`; ids are those of another program.
 ghost use Rattle.std.specs.Prelude.{◌≡◌, ◌∷◌, [], ◌++◌, IfOk, OnOk};
 
 use crate::jobdoc_cases::{
@@ -228,9 +228,10 @@ fn wrong_url(alloc: Global, cases: &[PairCase]) -> Result<Option<&'static str>, 
     Ok(first_wrong_url(alloc, cases, &settings)?)
 }
 
-/// No row of a table is answered otherwise.
+/// No row of a table is answered otherwise; the first that is, is told.
 fn is_none(rt: &impl Abort, wrong: Option<&'static str>) {
-    assert_eq!(rt; wrong, None);
+    let case = wrong.unwrap_or("");
+    assert!(rt; wrong.is_none(), "{case}");
 }
 
 #[test]
@@ -272,9 +273,13 @@ fn rule_of_many(alloc: Global, file: &str, count: usize) -> Result<u32, Memory> 
 #[test]
 fn so_many_files_are_allowed(rt: HostRuntime) -> Result<(), Fail> {
     let file = "{\"sources\":[\"https://a.example/f\"],\"destinations\":[\"https://b.example/f\"]}";
-    for (file, count, rule) in [(file, 200, 0), (file, 201, 4), ("3", 201, 4)] {
-        let found = rule_of_many(rt.alloc(), file, count)?;
-        assert_eq!(rt; found, rule, "{count}");
+    for (case, file, count, rule) in [
+        ("200 files", file, 200, 0),
+        ("201 files", file, 201, 4),
+        ("201 files that are no objects", "3", 201, 4),
+    ] {
+        let is_so = rule_of_many(rt.alloc(), file, count)? == rule;
+        assert!(rt; is_so, "{case}");
     }
     Ok(())
 }
@@ -306,8 +311,9 @@ fn rules_of_length(alloc: Global, length: usize) -> Result<(u32, u32), Memory> {
 
 #[test]
 fn so_many_bytes_are_allowed(rt: HostRuntime) -> Result<(), Fail> {
-    for (length, rules) in [(255, (0, 0)), (256, (15, 24))] {
-        assert_eq!(rt; rules_of_length(rt.alloc(), length)?, rules, "{length}");
+    for (case, length, rules) in [("255 bytes", 255, (0, 0)), ("256 bytes", 256, (15, 24))] {
+        let are_so = rules_of_length(rt.alloc(), length)? == rules;
+        assert!(rt; are_so, "{case}");
     }
     Ok(())
 }
@@ -315,36 +321,44 @@ fn so_many_bytes_are_allowed(rt: HostRuntime) -> Result<(), Fail> {
 #[test]
 fn deep_lists_are_no_json(rt: HostRuntime) -> Result<(), Fail> {
     let body = many_of(rt.alloc(), "[", 200)?;
-    assert_eq!(rt; rule_of(rt.alloc(), body.as_str())?, 1);
+    let is_refused = rule_of(rt.alloc(), body.as_str())? == 1;
+    assert!(rt; is_refused, "200 open lists");
     Ok(())
 }
 
 #[test]
 fn the_examples_are_the_jobs_that_they_say(rt: HostRuntime) -> Result<(), Fail> {
-    for (body, want) in EXAMPLES {
-        assert_eq!(rt; summary(rt.alloc(), body)?.as_str(), want);
+    for (case, body, want) in EXAMPLES {
+        let found = summary(rt.alloc(), body)?;
+        assert!(rt; found.as_str() == want, "{case}");
     }
     Ok(())
 }
 
 #[test]
 fn a_digest_is_wanted_only_where_verification_is_asked_for(rt: HostRuntime) -> Result<(), Fail> {
-    assert_eq!(rt; wanted(rt.alloc(), WITH_CHECKSUM)?, Some(ABC));
+    let is_wanted = wanted(rt.alloc(), WITH_CHECKSUM)? == Some(ABC);
+    assert!(rt; is_wanted, "a verification");
     let checksum = ",\"checksum\":\"MD5:900150983cd24fb0d6963f7d28e17f72\"";
     let body = document(rt.alloc(), checksum, "")?;
-    assert_eq!(rt; wanted(rt.alloc(), body.as_str())?, None);
+    let is_dropped = wanted(rt.alloc(), body.as_str())?.is_none();
+    assert!(rt; is_dropped, "no verification");
     Ok(())
 }
 
 #[test]
 fn a_sid_makes_the_id_that_another_program_makes(rt: HostRuntime) -> Result<(), Fail> {
     // Python: uuid.uuid5(uuid.uuid5(base, vo), sid).int
-    assert_eq!(rt;
-        sid_id("atlas", "dataset-2026-11-27"),
-        0xb25e_2ead_09fa_59c0_b703_38ca_9d40_b86c
+    let id = sid_id("atlas", "dataset-2026-11-27");
+    assert!(rt;
+        id == 0xb25e_2ead_09fa_59c0_b703_38ca_9d40_b86c,
+        "a sid of its own"
     );
     let id = job_of(rt.alloc(), MULTIHOP)?.id;
-    assert_eq!(rt; id, Some(0x8b35_c5cc_fec2_5479_8778_9cbe_6f13_7978));
+    assert!(rt;
+        id == Some(0x8b35_c5cc_fec2_5479_8778_9cbe_6f13_7978),
+        "a document's sid"
+    );
     Ok(())
 }
 
@@ -359,6 +373,7 @@ fn priority(alloc: Global, body: &str) -> (u32, u32, &'static str) {
 #[test]
 fn a_priority_is_read(rt: HostRuntime) {
     for (case, body, want) in PRIORITIES {
-        assert_eq!(rt; priority(rt.alloc(), body), want, "{case}");
+        let is_read = priority(rt.alloc(), body) == want;
+        assert!(rt; is_read, "{case}");
     }
 }

@@ -1,4 +1,4 @@
-//! The tables of the tests: documents, and how each is answered. Rules and texts are those of the rules' table.
+//! The tables of `jobdoc`: documents, and how each is answered. Rules and texts are those of the rules' table in `docs/API.md`.
 //! A row is a sentence, what is given, and the rule and message of the refusal, or 0 and no text. The examples are those of `examples/`.
 /// A sentence, a body, and the rule and message.
 pub type BodyCase = (&'static str, &'static str, u32, &'static str);
@@ -489,29 +489,35 @@ pub const KINDS: [BodyCase; 11] = [
     ),
 ];
 
-/// Each example, and its kind, strategy, priority, retries and delay, and then its files.
-pub const EXAMPLES: [(&str, &str); 6] = [
+/// A sentence, an example, and its kind, strategy, priority, retries and delay, and then its files.
+pub const EXAMPLES: [(&str, &str, &str); 6] = [
     (
+        "one file",
         ONE_FILE,
         "Plain Auto 3 0 0\n0 https://a.example/data/f1 https://b.example/f1 0 default\n",
     ),
     (
+        "two files",
         SEVERAL_FILES,
         "Plain Auto 5 3 60\n0 https://a.example/data/f1 https://b.example/f1 3 default\n1 https://a.example/data/f2 https://b.example/f2 0 production\n",
     ),
     (
+        "a digest to be verified",
         WITH_CHECKSUM,
         "Plain Auto 3 0 0\n0 https://a.example/data/f1 https://b.example/f1 3 default\n",
     ),
     (
+        "two replicas",
         REPLICAS,
         "Replica Orderly 3 0 0\n0 https://a.example/data/f1 https://b.example/f1 0 default\n0 https://a.example/copies/f1 https://b.example/f1 0 default\n",
     ),
     (
+        "two hops",
         MULTIHOP,
         "Multihop Auto 3 0 0\n0 https://a.example/data/f1 https://b.example/f1 0 default\n1 https://b.example/f1 https://a.example/back/f1 0 default\n",
     ),
     (
+        "every field that clients send",
         ORDINARY,
         "Plain Auto 3 0 0\n0 root://a.example:1094/data/f1 https://b.example/store/f1 3 default\n1 root://a.example:1094/data/f2 https://b.example/store/f2 3 default\n",
     ),

@@ -1,9 +1,9 @@
-//! What no clause says: that the definitions mean what the URL Standard means by these texts, and each call with ample memory.
+//! Of `fts_joburl`: that the definitions mean what the URL Standard means by these texts, and each call with ample memory.
 use fts_joburl::{Surl, UrlFault, read_endpoint, read_surl};
 use std::alloc::{AllocError, Global};
 use std::test::Fail;
 
-// The fault's number, or 0 where a file was read.
+/// The fault's number, or 0 where a file was read.
 fn number_of_surl(read: Result<Surl, UrlFault>) -> u32 {
     match read {
         Ok(_) => 0,
@@ -11,10 +11,10 @@ fn number_of_surl(read: Result<Surl, UrlFault>) -> u32 {
     }
 }
 
-// A front and this many bytes more.
-fn lengthened(alloc: Global, front: &str, n: usize) -> Result<String, AllocError> {
+/// A front and this many bytes more.
+fn lengthened(alloc: Global, front: &str, more: usize) -> Result<String, AllocError> {
     let mut text = String::from_str(alloc, front)?;
-    for _ in 0..n {
+    for _ in 0..more {
         text.push('x')?;
     }
     Ok(text)
@@ -22,141 +22,243 @@ fn lengthened(alloc: Global, front: &str, n: usize) -> Result<String, AllocError
 
 #[test]
 fn urls_of_files_are_read(rt: HostRuntime) -> Result<(), Fail> {
-    for (text, endpoint, path) in [
-        ("https://a.example/a/../b", "https://a.example", "b"),
-        ("HTTPS://A.EXAMPLE:443/b", "https://a.example", "b"),
+    for (case, text, endpoint, path) in [
         (
+            "a step up",
+            "https://a.example/a/../b",
+            "https://a.example",
+            "b",
+        ),
+        (
+            "upper case, and the scheme's own port",
+            "HTTPS://A.EXAMPLE:443/b",
+            "https://a.example",
+            "b",
+        ),
+        (
+            "that port, and two segments",
             "https://b.example:443/store/f1",
             "https://b.example",
             "store/f1",
         ),
-        ("davs://b.example:443/f1", "davs://b.example:443", "f1"),
         (
+            "a port of another scheme",
+            "davs://b.example:443/f1",
+            "davs://b.example:443",
+            "f1",
+        ),
+        (
+            "slashes side by side",
             "root://a.example:1094//data//f1",
             "root://a.example:1094",
             "data/f1",
         ),
-        ("root://A.Example/b", "root://A.Example", "b"),
-        ("https://a.example:/b", "https://a.example", "b"),
-        ("https://@a.example/b", "https://a.example", "b"),
-        ("https://a.example/..\\..\\x", "https://a.example", "x"),
-        ("https:\\\\a.example\\b", "https://a.example", "b"),
-        ("root://a.example/a\\b", "root://a.example", "a\\b"),
-        (" ht\ttps://a.exa\nmple/\tb\r ", "https://a.example", "b"),
         (
+            "upper case in another scheme",
+            "root://A.Example/b",
+            "root://A.Example",
+            "b",
+        ),
+        (
+            "an empty port",
+            "https://a.example:/b",
+            "https://a.example",
+            "b",
+        ),
+        (
+            "an empty user",
+            "https://@a.example/b",
+            "https://a.example",
+            "b",
+        ),
+        (
+            "backslashes and steps above the root",
+            "https://a.example/..\\..\\x",
+            "https://a.example",
+            "x",
+        ),
+        (
+            "backslashes for all slashes",
+            "https:\\\\a.example\\b",
+            "https://a.example",
+            "b",
+        ),
+        (
+            "a backslash in another scheme",
+            "root://a.example/a\\b",
+            "root://a.example",
+            "a\\b",
+        ),
+        (
+            "blanks around, tabs and line breaks within",
+            " ht\ttps://a.exa\nmple/\tb\r ",
+            "https://a.example",
+            "b",
+        ),
+        (
+            "an address of eight parts",
             "https://[2001:DB8:0:0:0:0:0:1]:8443/b",
             "https://[2001:db8::1]:8443",
             "b",
         ),
-        ("https://0x7f.1/b", "https://127.0.0.1", "b"),
         (
+            "an address in two numbers",
+            "https://0x7f.1/b",
+            "https://127.0.0.1",
+            "b",
+        ),
+        (
+            "a host beyond ASCII",
             "https://b\u{fc}cher.example/b",
             "https://xn--bcher-kva.example",
             "b",
         ),
-        ("https://a.example/b/.fts", "https://a.example", "b/.fts"),
-        ("https://a.example/.ftsx/b", "https://a.example", ".ftsx/b"),
+        (
+            "our folder's name below another",
+            "https://a.example/b/.fts",
+            "https://a.example",
+            "b/.fts",
+        ),
+        (
+            "a name that only begins like ours",
+            "https://a.example/.ftsx/b",
+            "https://a.example",
+            ".ftsx/b",
+        ),
     ] {
         let surl = read_surl(rt.alloc(), text)?;
-        assert_eq!(rt; surl.endpoint.as_str(), endpoint, "{text}");
-        assert_eq!(rt; surl.path.as_str(), path, "{text}");
+        let is_read = surl.endpoint.as_str() == endpoint && surl.path.as_str() == path;
+        assert!(rt; is_read, "{case}");
     }
     Ok(())
 }
 
 #[test]
 fn other_texts_have_their_first_fault(rt: HostRuntime) -> Result<(), Fail> {
-    for (text, number) in [
-        ("", 1),
-        ("a.example/b", 1),
-        ("https://", 1),
-        ("https://a.example:65536/b", 1),
-        ("https://a.example:x/b", 1),
-        ("https://a b/c", 1),
-        ("https://[::1/b", 1),
-        ("file:///etc/passwd", 2),
-        ("file:///b?x", 2),
-        ("root:///b", 2),
-        ("root:/b", 2),
-        ("mailto:u@a.example", 2),
-        ("https://a.example/b?", 3),
-        ("https://a.example/b?x=1", 3),
-        ("https://u@a.example/b?x#y", 3),
-        ("https://a.example/b#", 4),
-        ("https://u@a.example/b#", 4),
-        ("https://u@a.example/b", 5),
-        ("https://:p@a.example/b", 5),
-        ("https://u@a.example/%41", 5),
-        ("https://a.example/x/%2e%2e/b", 6),
-        ("https://a.example/%", 6),
-        ("https://%41.example/b", 6),
-        ("root://a%20b/c", 6),
-        ("root://b\u{fc}cher.example/b", 6),
-        ("https://a.example/\u{e9}", 6),
-        ("https://a.example/a b", 6),
-        ("https://a.example", 7),
-        ("https://a.example//", 7),
-        ("https://a.example/..", 7),
-        ("https://a.example/.fts", 9),
-        ("https://a.example/.fts/x", 9),
-        ("https://a.example//.fts", 9),
+    for (case, text, number) in [
+        ("the empty text", "", 1),
+        ("no scheme", "a.example/b", 1),
+        ("an empty host", "https://", 1),
+        ("a port above 65535", "https://a.example:65536/b", 1),
+        ("a port that is no number", "https://a.example:x/b", 1),
+        ("a blank in the host", "https://a b/c", 1),
+        ("an open bracket", "https://[::1/b", 1),
+        ("a file of this machine", "file:///etc/passwd", 2),
+        ("no host, and a query", "file:///b?x", 2),
+        ("an empty host of another scheme", "root:///b", 2),
+        ("no host of another scheme", "root:/b", 2),
+        ("an address of mail", "mailto:u@a.example", 2),
+        ("an empty query", "https://a.example/b?", 3),
+        ("a query", "https://a.example/b?x=1", 3),
+        (
+            "a query, a fragment and a user",
+            "https://u@a.example/b?x#y",
+            3,
+        ),
+        ("an empty fragment", "https://a.example/b#", 4),
+        ("a fragment and a user", "https://u@a.example/b#", 4),
+        ("a user", "https://u@a.example/b", 5),
+        ("a password alone", "https://:p@a.example/b", 5),
+        ("a user and an escape", "https://u@a.example/%41", 5),
+        ("an escaped step up", "https://a.example/x/%2e%2e/b", 6),
+        ("a percent sign alone", "https://a.example/%", 6),
+        ("an escape in the host", "https://%41.example/b", 6),
+        ("an escape in another scheme's host", "root://a%20b/c", 6),
+        (
+            "another scheme's host beyond ASCII",
+            "root://b\u{fc}cher.example/b",
+            6,
+        ),
+        ("a path beyond ASCII", "https://a.example/\u{e9}", 6),
+        ("a blank in the path", "https://a.example/a b", 6),
+        ("no path", "https://a.example", 7),
+        ("slashes alone", "https://a.example//", 7),
+        ("a step up alone", "https://a.example/..", 7),
+        ("our folder", "https://a.example/.fts", 9),
+        ("a file in our folder", "https://a.example/.fts/x", 9),
+        (
+            "our folder behind two slashes",
+            "https://a.example//.fts",
+            9,
+        ),
     ] {
-        assert_eq!(rt;
-            number_of_surl(read_surl(rt.alloc(), text)),
-            number,
-            "{text}"
-        );
+        let is_so = number_of_surl(read_surl(rt.alloc(), text)) == number;
+        assert!(rt; is_so, "{case}");
     }
     Ok(())
 }
 
 #[test]
 fn a_url_has_at_most_1024_bytes(rt: HostRuntime) -> Result<(), Fail> {
-    for (front, n, number) in [
-        ("https://a.example/", 1_006, 0),
-        ("https://a.example/", 1_007, 8),
-        ("https://a.example:443/../", 1_006, 0),
-        ("https://a.example/.fts/", 1_001, 9),
-        ("https://a.example/.fts/", 1_002, 8),
+    for (case, front, more, number) in [
+        ("1,024 bytes", "https://a.example/", 1_006, 0),
+        ("a byte more", "https://a.example/", 1_007, 8),
+        (
+            "1,024 once it is read",
+            "https://a.example:443/../",
+            1_006,
+            0,
+        ),
+        ("1,024 in our folder", "https://a.example/.fts/", 1_001, 9),
+        (
+            "a byte more in our folder",
+            "https://a.example/.fts/",
+            1_002,
+            8,
+        ),
     ] {
-        let text = lengthened(rt.alloc(), front, n)?;
-        assert_eq!(rt;
-            number_of_surl(read_surl(rt.alloc(), &text)),
-            number,
-            "{front} and {n} more"
-        );
+        let text = lengthened(rt.alloc(), front, more)?;
+        let is_so = number_of_surl(read_surl(rt.alloc(), &text)) == number;
+        assert!(rt; is_so, "{case}");
     }
     Ok(())
 }
 
 #[test]
 fn urls_of_endpoints_are_read(rt: HostRuntime) -> Result<(), Fail> {
-    for (text, want) in [
-        ("https://a.example", "https://a.example"),
-        ("HTTPS://A.EXAMPLE:443", "https://a.example"),
-        ("https://a.example/.//..", "https://a.example"),
-        ("root://a.example:1094", "root://a.example:1094"),
+    for (case, text, want) in [
+        ("a name", "https://a.example", "https://a.example"),
+        (
+            "upper case, and the scheme's own port",
+            "HTTPS://A.EXAMPLE:443",
+            "https://a.example",
+        ),
+        (
+            "slashes and dots behind it",
+            "https://a.example/.//..",
+            "https://a.example",
+        ),
+        ("a port", "root://a.example:1094", "root://a.example:1094"),
     ] {
         let endpoint = read_endpoint(rt.alloc(), text)?;
-        assert_eq!(rt; endpoint.as_str(), want, "{text}");
+        assert!(rt; endpoint.as_str() == want, "{case}");
     }
     Ok(())
 }
 
 #[test]
 fn an_endpoint_has_no_path(rt: HostRuntime) -> Result<(), Fail> {
-    for (text, want) in [
-        ("https://a.example/b", UrlFault::HasPath),
-        ("https://a.example/.fts", UrlFault::HasPath),
-        ("https://a.example/b?", UrlFault::HasQuery),
-        ("https://a.example/%", UrlFault::HasEscape),
-        ("file:", UrlFault::NoHost),
-        ("a.example", UrlFault::NotUrl),
+    for (case, text, want) in [
+        ("a path", "https://a.example/b", UrlFault::HasPath),
+        ("our folder", "https://a.example/.fts", UrlFault::HasPath),
+        (
+            "a path and an empty query",
+            "https://a.example/b?",
+            UrlFault::HasQuery,
+        ),
+        (
+            "a percent sign alone",
+            "https://a.example/%",
+            UrlFault::HasEscape,
+        ),
+        ("a scheme alone", "file:", UrlFault::NoHost),
+        ("no scheme", "a.example", UrlFault::NotUrl),
     ] {
-        match read_endpoint(rt.alloc(), text) {
-            Ok(_) => assert!(rt; false, "{text}"),
-            Err(fault) => assert_eq!(rt; fault, want, "{text}"),
-        }
+        let is_so = match read_endpoint(rt.alloc(), text) {
+            Ok(_) => false,
+            Err(fault) => fault == want,
+        };
+        assert!(rt; is_so, "{case}");
     }
     Ok(())
 }

@@ -3,11 +3,12 @@ use Rattle.fts_disk.specs.Disk.{IsTold}
 use Rattle.fts_journal.specs.Loading.{HasRead, IsPiece, IsQuiet}
 use Rattle.fts_journal.proofs.loading.pass_bodies.Given as goal
 
-abbrev pub invariant-loop-used : goal.invariant-loop-used
-invariant-loop-used g l = record {
+abbrev pub invariant-gates : goal.invariant-gates
+invariant-gates g l = record {
   told : (g.D.Disk.state l.disk).told ≡ (g.D.Disk.state l.fn.disk).told;
   quiet : IsTold (g.D.Disk.state l.fn.disk) → IsQuiet (g.D.Disk.state l.fn.disk) (g.D.Disk.state l.disk);
   counts : g.D.Disk.faults l.fn.disk ≤ g.D.Disk.faults l.disk;
+  end : IsTold (g.D.Disk.state l.fn.disk) → l.known ≡ length (g.D.Disk.state l.fn.disk).seen;
   piece : IsTold (g.D.Disk.state l.fn.disk) → IsPiece (g.D.Disk.state l.fn.disk).seen l.piece.start l.piece.bytes.items;
   from : l.piece.start ≤ l.used;
   low : 8 + 6 * length l.spans.items ≤ l.used;
@@ -15,5 +16,6 @@ invariant-loop-used g l = record {
   read : IsTold (g.D.Disk.state l.fn.disk) → HasRead (g.D.Disk.state l.fn.disk).seen (drop l.used (g.D.Disk.state l.fn.disk).seen) l.used l.spans.items;
 }
 
-abbrev pub decreases-loop-used : goal.decreases-loop-used
-decreases-loop-used g l = l.end - l.used
+-- either the known end rises, or a body is passed
+abbrev pub decreases-gates : goal.decreases-gates
+decreases-gates g l = (18446744073709551615 - l.known) * 67108865 + (67108864 - l.used)

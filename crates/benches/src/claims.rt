@@ -1,0 +1,12 @@
+//! The measurement of the desk: how long claims, reports, cancellations and submissions take. Called by `main`.
+mod commands;
+mod submissions;
+mod waiting;
+
+use std::io;
+
+/// Prints the times of commands while files wait, and then of submissions.
+pub fn measure(rt: &HostRuntime) -> io::Result<()> {
+    commands::measure(rt)?;
+    submissions::measure(rt)
+}

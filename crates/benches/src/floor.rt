@@ -1,0 +1,71 @@
+//! The floor of what is appended to a journal: the same calls on a plain file, two positioned writes and two fdatasyncs each, in the same run.
+//! It has no lock, no check, no copy and no zeros ahead, so its file grows each time.
+//! Both sides write to files in the folder where it runs, and take turns in batches, so that the device's moods fall on both.
+//! Called by the measurements of the journal and of the keep, which print by the same line.
+use crate::clock;
+use std::fs::{File, OpenOptions};
+use std::io;
+use std::os::unix::fs::FileExt;
+
+/// Each side makes so many appends before the other goes on.
+pub const BATCH: u32 = 50;
+
+/// How many bytes an append takes beside its body: its length in four, and its gate.
+pub const AROUND_BYTES: usize = 5;
+
+/// The journal's file.
+pub const JOURNAL_PATH: &str = "bench.journal";
+
+/// The plain file.
+pub const FLOOR_PATH: &str = "bench.floor";
+
+/// The seconds that each side took.
+#[derive(Clone, Copy)]
+pub struct Times {
+    pub ours: f64,
+    pub floor: f64,
+}
+
+/// A new plain file.
+pub fn new_file(rt: &HostRuntime) -> io::Result<File> {
+    OpenOptions::new()
+        .write(true)
+        .create(true)
+        .truncate(true)
+        .open(rt, FLOOR_PATH)
+}
+
+/// Writes a piece behind a gate, and the gate, each made stable.
+fn write_piece(file: &File, at: u64, piece: &[u8]) -> io::Result<()> {
+    file.write_all_at(piece, at.wrapping_add(1))?;
+    file.sync_data()?;
+    file.write_all_at(&[1], at)?;
+    file.sync_data()
+}
+
+/// The seconds that a batch takes, by its number from 0; a piece is what stands behind a gate, with the next gate.
+pub fn seconds(rt: &HostRuntime, file: &File, batch: u32, piece: &[u8]) -> io::Result<f64> {
+    let bytes = piece.len() as u64;
+    let begun = clock::now(rt)?;
+    for place in 0..BATCH {
+        let before = u64::from(batch) * u64::from(BATCH) + u64::from(place);
+        write_piece(file, before.wrapping_mul(bytes), piece)?;
+    }
+    clock::since(rt, begun)
+}
+
+/// Prints how many calls a second each side made, and their ratio.
+pub fn print_rates(
+    rt: &HostRuntime,
+    calls: &str,
+    side: &str,
+    count: u32,
+    times: Times,
+) -> io::Result<()> {
+    let ours = f64::from(count) / times.ours;
+    let least = f64::from(count) / times.floor;
+    println!(rt;
+        "{calls} a second: {side} {ours:.0}, floor {least:.0}, {:.0} % of the floor",
+        100.0 * ours / least
+    )
+}

@@ -1,0 +1,135 @@
+//! The measurement of the journal's appends beside the floor of the same calls: `journal 500` makes 500 appends of each.
+//! `journal append PATH COUNT` and `journal list PATH` make a journal of numbered bodies and print those of one, for `acceptance/failing-disk.sh`.
+//! Called by `main`.
+use crate::clock;
+use crate::floor::{self, AROUND_BYTES, BATCH, FLOOR_PATH, JOURNAL_PATH, Times};
+use fts_disk::FileDisk;
+use fts_journal::Journal;
+use std::fs::File;
+use std::{fs, io};
+
+/// The bytes of a body: about an entry of the service.
+const BODY: [u8; 200] = [7; 200];
+
+/// An empty journal in a file.
+fn new_journal(rt: &HostRuntime, path: &str) -> io::Result<Journal<FileDisk>> {
+    match Journal::create(rt.alloc(), FileDisk::open(rt, path)) {
+        Ok(journal) => Ok(journal),
+        Err(_) => Err(io::Error::other("no journal is made")),
+    }
+}
+
+/// The seconds that a batch of appends takes.
+fn append_batch(rt: &HostRuntime, journal: &mut Journal<FileDisk>) -> io::Result<f64> {
+    let begun = clock::now(rt)?;
+    for _ in 0..BATCH {
+        if journal.doubt() || journal.append(&BODY).is_err() {
+            return Err(io::Error::other("an append failed"));
+        }
+    }
+    clock::since(rt, begun)
+}
+
+/// The seconds that so many appends of each side take, in turns.
+fn take_turns(
+    rt: &HostRuntime,
+    journal: &mut Journal<FileDisk>,
+    file: &File,
+    appends: u32,
+) -> io::Result<Times> {
+    let (mut ours, mut floor) = (0.0, 0.0);
+    for batch in 0..appends / BATCH {
+        floor += floor::seconds(rt, file, batch, &[0; BODY.len() + AROUND_BYTES])?;
+        ours += append_batch(rt, journal)?;
+    }
+    Ok(Times { ours, floor })
+}
+
+/// The same, on new files.
+fn time_both(rt: &HostRuntime, appends: u32) -> io::Result<Times> {
+    let file = floor::new_file(rt)?;
+    let mut journal = new_journal(rt, JOURNAL_PATH)?;
+    take_turns(rt, &mut journal, &file, appends)
+}
+
+/// Prints how many appends a second the journal makes, and how many the calls alone would allow.
+fn measure_appends(rt: &HostRuntime, appends: u32) -> io::Result<()> {
+    let _old = fs::remove_file(rt, JOURNAL_PATH);
+    let times = time_both(rt, appends)?;
+    floor::print_rates(rt, "appends", "journal", appends, times)?;
+    fs::remove_file(rt, JOURNAL_PATH)?;
+    fs::remove_file(rt, FLOOR_PATH)
+}
+
+/// The bytes of a numbered body: so long that some hundred of them pass a block that was made ready.
+const NUMBERED_BYTES: usize = 2000;
+
+/// A body that holds its number.
+fn body_of(number: u64) -> [u8; NUMBERED_BYTES] {
+    let mut body = [7; NUMBERED_BYTES];
+    body[..8].copy_from_slice(&number.to_le_bytes());
+    body
+}
+
+/// The number that a body holds.
+fn number_of(body: &[u8]) -> u64 {
+    match body.split_first_chunk::<8>() {
+        Some((number, _)) => u64::from_le_bytes(*number),
+        None => u64::MAX,
+    }
+}
+
+/// Whether a body was appended and kept; a doubt is settled before.
+fn is_kept(journal: &mut Journal<FileDisk>, number: u64) -> bool {
+    let settled = journal.settle().is_ok();
+    settled && !journal.doubt() && journal.append(&body_of(number)).is_ok()
+}
+
+/// Appends bodies with the numbers from 0, and prints of each whether it was kept.
+fn append_numbered(rt: &HostRuntime, path: &str, count: u32) -> io::Result<()> {
+    let mut journal = new_journal(rt, path)?;
+    for number in 0..count {
+        let told = if is_kept(&mut journal, u64::from(number)) {
+            "kept"
+        } else {
+            "failed"
+        };
+        println!(rt; "{told} {number}")?;
+    }
+    Ok(())
+}
+
+/// A journal that is there, opened to look.
+pub fn seen_journal(rt: &HostRuntime, path: &str) -> io::Result<Journal<FileDisk>> {
+    match Journal::load(rt.alloc(), FileDisk::view(rt, path)) {
+        Ok(journal) => Ok(journal),
+        Err(_) => Err(io::Error::other("the journal is not opened")),
+    }
+}
+
+/// Prints the number of each body of a journal.
+fn list(rt: &HostRuntime, path: &str) -> io::Result<()> {
+    let mut journal = seen_journal(rt, path)?;
+    let mut body = Vec::new(rt.alloc());
+    for n in 0..journal.count() {
+        if n < journal.count() && journal.body(n, &mut body).is_ok() {
+            println!(rt; "kept {}", number_of(&body))?;
+        }
+    }
+    Ok(())
+}
+
+/// The number of a word, 0 where it is none.
+pub fn number(word: &str) -> u32 {
+    word.parse().unwrap_or(0)
+}
+
+/// Makes what the words ask for: so many appends, the list of a journal, or a journal of so many bodies.
+pub fn measure(rt: &HostRuntime, words: &[String]) -> io::Result<()> {
+    match words {
+        [] => Ok(()),
+        [appends] => measure_appends(rt, number(appends.as_str())),
+        [_, path] => list(rt, path.as_str()),
+        [_, path, count, ..] => append_numbered(rt, path.as_str(), number(count.as_str())),
+    }
+}
