@@ -2,6 +2,7 @@
 //! and which file of the grid is then equal to which, or is not there. Each has a new folder with the settings of `fts.toml` and the same sources.
 use crate::stand::{hands_over, no_memory, session};
 use fts_disk::FileDisk;
+use fts_files::SystemFiles;
 use fts_store::FolderStore;
 use fts_tables::Memory;
 use fts_wire::{MemorySink, MemorySource};
@@ -124,7 +125,7 @@ fn is_left(rt: &HostRuntime, status: u8, after: &str) -> io::Result<bool> {
 }
 
 /// As many stores over the grid as there are hands.
-fn stores(rt: &HostRuntime) -> io::Result<Vec<FolderStore<&HostRuntime>>> {
+fn stores(rt: &HostRuntime) -> io::Result<Vec<FolderStore<SystemFiles<&HostRuntime>>>> {
     let alloc = rt.alloc();
     let mut stores = Vec::new(alloc);
     for _ in 0..16 {

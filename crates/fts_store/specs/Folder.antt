@@ -6,7 +6,7 @@ use Rattle.fts_tables.specs.Names.{segments}
 use Rattle.fts_store.specs.declared.folder.FolderStore.{FolderStore}
 
 -- how often it failed
-abbrev pub folder_faults : {R : Type 0} → FolderStore R → ℕ
+abbrev pub folder_faults : {F Handle : Type 0} → FolderStore F Handle → ℕ
 folder_faults store = store.faults
 
 -- a name of one thing in a folder: not empty, neither "." nor ".."

@@ -3,3 +3,6 @@ pub mod Calls
 pub mod Held
 pub mod Memory
 pub mod Folder
+pub mod Paths
+pub mod Folders
+pub mod Opened

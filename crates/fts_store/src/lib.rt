@@ -4,6 +4,7 @@
 #![tactic(auto)]
 
 mod folder;
+mod folders;
 mod held;
 mod inside;
 mod memory;

@@ -2,6 +2,7 @@
 //! while they are copied. Files in memory that change are in `copy_changes`.
 use crate::copy_changing::WritingWatch;
 use fts_copy::{CopyRoom, CountingWatch, copy_verified};
+use fts_files::SystemFiles;
 use fts_store::{FolderStore, MemoryStore, Store, StoredFile};
 use fts_tables::{
     EndpointName, FileRow, FileState, Items, Label, Memory, Outcome, PathKey, Place, PlaceRef,
@@ -347,7 +348,7 @@ fn holds<R: Files<File = File> + Alloc>(rt: &R, path: &str, want: &str) -> bool 
 
 const HELD: &str = "grid-of-a-copy/https:,,b.example/store/f1";
 
-type Folders = FolderStore<HostRuntime>;
+type Folders = FolderStore<SystemFiles<HostRuntime>>;
 
 /// A store of real folders, and what copies in it.
 #[derive(Drop)]

@@ -1,6 +1,6 @@
 //! What no clause says of files, stores and copies: that each call is the system's and succeeds with ample memory, over memory and over real
 //! folders, and what a copy leaves where a call fails or its files change meanwhile. A module a crate: `files`, `store`, `copy`; `files_noting`
-//! is the file system of the first, `copy_changes` has the files that change.
+//! is a file system that notes its calls, `store_edges` has folders that others work on too, `copy_changes` the files that change.
 //! Tests stand here and not in the crates, so that a changed row builds no library again, and many tests share one check.
 #![tactic(auto)]
 
@@ -16,3 +16,5 @@ mod files;
 mod files_noting;
 #[cfg(test)]
 mod store;
+#[cfg(test)]
+mod store_edges;

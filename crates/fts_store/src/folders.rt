@@ -1,0 +1,210 @@
+//! The folders of a store: how they are made, and which of them are synced behind a move.
+//! Keeps: an endpoint's own folder that was there when it was first met lies on the device that it lay on then (`meet`).
+//! A folder's name is stable once the folder above it was synced behind it, and that folder's name is stable; the root's own is the last.
+//! Called by `FolderStore`, which makes no endpoint's own folder that was there. Lists of folders go from the lowest up.
+ghost use Rattle.std.specs.Prelude.{◌≡◌, map, string_bytes};
+ghost use Rattle.fts_files.specs.Calls.{saw_of};
+ghost use Rattle.fts_files.specs.Script.{value_of};
+ghost use Rattle.fts_store.specs.Folders.{device_seen, as_met, first_met, is_lowest};
+
+use crate::StoreFailed;
+use crate::inside::endpoint_of;
+use fts_files::{Failed, FileSystem, Kind, Refused, Seen};
+use fts_tables::PlaceRef;
+use std::alloc::Global;
+
+/// The folders whose names are known to be stable, at most.
+const MAX_STABLE_FOLDERS: usize = 256;
+
+/// An endpoint's own folder as it was first met: its device, where it was there.
+#[derive(Drop)]
+pub(crate) struct Met {
+    pub(crate) folder: String,
+    pub(crate) device: Option<u64>,
+}
+
+/// Which of a file's folders were missing.
+#[derive(Clone, Copy, Debug, PartialEq, Eq)]
+pub(crate) enum Missing {
+    Nothing,
+    /// The lowest alone.
+    Lowest,
+    /// One above the lowest as well.
+    Several,
+}
+
+// The device of a folder that was looked at; none where nothing has its name.
+fn device_seen(answer: Result<Seen, Refused>) -> Result<Option<u64>, Failed>
+    ensures { value_of result ≡ device_seen (saw_of answer) }
+{
+    match answer {
+        Ok(seen) => match seen.kind {
+            Kind::Folder => Ok(Some(seen.device)),
+            Kind::File | Kind::Other => Err(Failed),
+        },
+        Err(refused) if refused.is_missing() => Ok(None),
+        Err(_) => Err(Failed),
+    }
+}
+
+// Whether a folder was there when it was first met. It must be as it was then, where it was there.
+fn as_met(first: Option<Option<u64>>, device: Option<u64>) -> Result<bool, Failed>
+    ensures { value_of result ≡ as_met first device }
+{
+    match first {
+        None => Ok(device.is_some()),
+        Some(None) => Ok(false),
+        Some(Some(first)) => match device {
+            Some(device) if device == first => Ok(true),
+            _ => Err(Failed),
+        },
+    }
+}
+
+/// The own folder of a place's endpoint, with room to remember how it was met.
+pub(crate) fn to_meet(
+    alloc: Global,
+    root: &str,
+    met: &mut Vec<Met>,
+    at: PlaceRef<'_>,
+) -> Result<String, StoreFailed> {
+    met.reserve(1)?;
+    endpoint_of(alloc, root, at.endpoint)
+}
+
+// How a folder was first met, where it was.
+fn first_met(met: &[Met], folder: &str) -> Option<Option<u64>>
+    ensures { result ≡ first_met met.now folder.now }
+{
+    met.iter()
+        .find(|known| known.folder.as_str() == folder)
+        .map(|known| known.device)
+}
+
+/// Looks at an endpoint's own folder. Whether it was there when it was first met; fails where it was and is gone, and where it is another's.
+pub(crate) fn meet<F: FileSystem>(
+    files: &mut F,
+    met: &mut Vec<Met>,
+    folder: String,
+) -> Result<bool, Failed> {
+    let first = first_met(met, folder.as_str());
+    let device = device_seen(files.look(folder.as_str()))?;
+    let was_there = as_met(first, device)?;
+    if first.is_none() {
+        let _known = met.push(Met { folder, device });
+    }
+    Ok(was_there)
+}
+
+// Makes a folder where it is missing.
+fn make_one<F: FileSystem>(files: &mut F, folder: &str) -> Result<(), Failed> {
+    let device = device_seen(files.look(folder))?;
+    if device.is_some() {
+        return Ok(());
+    }
+    match files.make_folder(folder) {
+        Ok(()) => Ok(()),
+        Err(refused) if refused.is_taken() => Ok(()),
+        Err(_) => Err(Failed),
+    }
+}
+
+// Makes those of these folders that are missing, from the highest down.
+fn make_all<F: FileSystem>(files: &mut F, folders: &[String]) -> Result<(), Failed> {
+    let count = folders.len();
+    'folders: for i in 0..count {
+        make_one(files, folders[count - 1 - i].as_str())?;
+    }
+    Ok(())
+}
+
+// Makes those of these folders that are missing, and says which were.
+fn have_folders<F: FileSystem>(files: &mut F, folders: &[String]) -> Result<Missing, Failed> {
+    let Some(lowest) = folders.first() else {
+        return Ok(Missing::Nothing);
+    };
+    let device = device_seen(files.look(lowest.as_str()))?;
+    if device.is_some() {
+        return Ok(Missing::Nothing);
+    }
+    match files.make_folder(lowest.as_str()) {
+        Ok(()) => Ok(Missing::Lowest),
+        Err(refused) if refused.is_taken() => Ok(Missing::Lowest),
+        Err(refused) if refused.is_missing() => {
+            make_all(files, folders)?;
+            Ok(Missing::Several)
+        }
+        Err(_) => Err(Failed),
+    }
+}
+
+// Those of a file's folders that lie below this one.
+fn below<'a>(folders: &'a [String], top: &str) -> &'a [String] {
+    match folders.iter().position(|folder| folder.len() <= top.len()) {
+        Some(count) => &folders[..count],
+        None => folders,
+    }
+}
+
+// Whether the lowest of these folders has this name.
+fn is_lowest(folders: &[String], name: &str) -> bool
+    ensures { result ≡ is_lowest (map string_bytes folders.now) name.now }
+{
+    match folders.first() {
+        Some(lowest) => name == lowest.as_str(),
+        None => false,
+    }
+}
+
+/// Makes those of a file's folders that are missing, but not the endpoint's own where it was there when it was first met.
+pub(crate) fn have_all<F: FileSystem>(
+    files: &mut F,
+    met: &mut Vec<Met>,
+    endpoint: String,
+    folders: &[String],
+) -> Result<Missing, Failed> {
+    let inner = below(folders, endpoint.as_str());
+    let was_there = meet(files, met, endpoint)?;
+    if was_there {
+        have_folders(files, inner)
+    } else {
+        have_folders(files, folders)
+    }
+}
+
+/// The folders whose names are still known to be stable: one that was made has a new name.
+pub(crate) fn forget(stable: &mut Vec<String>, missing: Missing, folders: &[String]) {
+    match missing {
+        Missing::Nothing => {}
+        Missing::Lowest => stable.retain(|known| !is_lowest(folders, known.as_str())),
+        Missing::Several => stable.clear(),
+    }
+}
+
+// Whether a folder's name is known to be stable, or it lies above the root.
+fn is_settled(root: &str, stable: &[String], folder: &str) -> bool {
+    folder.len() < root.len() || stable.iter().any(|known| known.as_str() == folder)
+}
+
+/// Those of a file's folders that are to be synced: up to the first that is settled, and that one.
+pub(crate) fn to_sync<'a>(root: &str, stable: &[String], folders: &'a [String]) -> &'a [String] {
+    match folders
+        .iter()
+        .position(|folder| is_settled(root, stable, folder.as_str()))
+    {
+        Some(count) => &folders[..count + 1],
+        None => folders,
+    }
+}
+
+/// The names of these folders are stable from now on. Where memory is missing, some are synced once more.
+pub(crate) fn remember(alloc: Global, stable: &mut Vec<String>, folders: &[String]) {
+    for folder in folders {
+        if stable.len() >= MAX_STABLE_FOLDERS {
+            stable.clear();
+        }
+        if let Ok(folder) = String::from_str(alloc, folder.as_str()) {
+            let _known = stable.push(folder);
+        }
+    }
+}
