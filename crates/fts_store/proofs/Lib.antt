@@ -1,3 +1,7 @@
 mod Places
+mod Letters
+mod Above
+mod Prefixes
+mod Moved
 mod Entries
 mod Appends

@@ -1,12 +1,11 @@
 -- The calls that a store in a folder makes on the folders of its files.
-use Rattle.std.specs.Prelude.{ℕ, ◌+◌, ◌==◌, nat_le, nat_lt, ◌||◌, not, Bool, true, false, if◌then◌else◌, Option, Some, None, is_some, option_map, List, [], ◌∷◌, length, take, filter, bytes_eq, String, string_bytes}
-use Rattle.std.specs.List.{find, position_or_len, before_first, list_any}
+use Rattle.std.specs.Prelude.{ℕ, ◌+◌, ◌==◌, nat_lt, ◌||◌, not, Bool, true, false, if◌then◌else◌, Option, Some, None, is_some, option_map, List, [], ◌∷◌, length, take, filter, bytes_eq, String, string_bytes}
+use Rattle.std.specs.List.{find, position_or_len, list_any}
 use Rattle.std.specs.declared.alloc.Global.{Global}
 use Rattle.fts_files.specs.declared.files.Kind.{Kind}
 use Rattle.fts_files.specs.declared.files.Kind.TheVariants.{File, Folder, Other}
-use Rattle.fts_files.specs.Calls.{Answer, Done, Opened, Saw, Gave, Counted, Failed, Look, MakeFolder}
-use Rattle.fts_files.specs.Errno.{is_missing, is_taken}
-use Rattle.fts_files.specs.Script.{Script, Does, fails, with_value}
+use Rattle.fts_files.specs.Calls.{Answer, Done, Opened, Saw, Gave, Counted, Failed}
+use Rattle.fts_files.specs.Errno.{is_missing}
 use Rattle.fts_store.specs.declared.folders.Met.{Met}
 use Rattle.fts_store.specs.declared.folders.Missing.{Missing}
 use Rattle.fts_store.specs.declared.folders.Missing.TheVariants.{Nothing, Lowest, Several}
@@ -41,44 +40,6 @@ is_met folder met = bytes_eq (string_bytes met.folder) folder
 abbrev pub first_met : List Met → List ℕ → Option (Option ℕ)
 first_met met folder = option_map (λ known. known.device) (find (is_met folder) met)
 
--- an endpoint's own folder is looked at, and has to be as it was first met
-unfoldable pub meets : List ℕ → Option (Option ℕ) → (Bool → Script) → Script
-meets folder first next = Does (Look folder) (λ answer. with_value (λ device. with_value next fails (as_met first device)) fails (device_seen answer))
-
--- by what the making of a folder answered: one that another made meanwhile is there
-abbrev pub by_new : Script → Answer → Script
-by_new next Done = next
-by_new next (Failed errno) = if is_taken errno then next else fails
-by_new next (Opened file) = fails
-by_new next (Saw seen) = fails
-by_new next (Gave bytes) = fails
-by_new next (Counted count) = fails
-
--- a folder is made where it is missing
-unfoldable pub makes_one : List ℕ → Script → Script
-makes_one folder next =
-    Does (Look folder) (λ answer. with_value (λ device. if is_some device then next else Does (MakeFolder folder) (by_new next)) fails (device_seen answer))
-
--- those of these folders that are missing are made, from the last up to the first
-unfoldable pub makes_all : List (List ℕ) → Script → Script
-makes_all [] next = next
-makes_all (folder ∷ above) next = makes_all above (makes_one folder next)
-
--- by what the making of the lowest folder answered: where one above it is missing too, all of these are made
-abbrev pub by_lowest : List (List ℕ) → (Missing → Script) → Answer → Script
-by_lowest folders next Done = next Lowest
-by_lowest folders next (Failed errno) = if is_taken errno then next Lowest else if is_missing errno then makes_all folders (next Several) else fails
-by_lowest folders next (Opened file) = fails
-by_lowest folders next (Saw seen) = fails
-by_lowest folders next (Gave bytes) = fails
-by_lowest folders next (Counted count) = fails
-
--- the lowest of these folders is there, or those that are missing are made; what follows goes by which these were
-unfoldable pub has_folders : List (List ℕ) → (Missing → Script) → Script
-has_folders [] next = next Nothing
-has_folders (lowest ∷ above) next = Does (Look lowest)
-    (λ answer. with_value (λ device. if is_some device then next Nothing else Does (MakeFolder lowest) (by_lowest (lowest ∷ above) next)) fails (device_seen answer))
-
 -- the name of the first of these folders is this one
 abbrev pub is_lowest : List (List ℕ) → List ℕ → Bool
 is_lowest [] name = false
@@ -89,10 +50,6 @@ abbrev pub still_stable : Missing → List (List ℕ) → List (String Global) �
 still_stable Nothing folders stable = stable
 still_stable Lowest folders stable = filter (λ known. not (is_lowest folders (string_bytes known))) stable
 still_stable Several folders stable = []
-
--- those of a file's folders that lie below this one
-abbrev pub below : List ℕ → List (List ℕ) → List (List ℕ)
-below top folders = before_first (λ folder. nat_le (length folder) (length top)) folders
 
 -- a folder whose name is known to be stable, or that lies above the root
 abbrev pub is_settled : List ℕ → List (String Global) → List ℕ → Bool

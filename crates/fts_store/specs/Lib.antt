@@ -6,3 +6,4 @@ pub mod Folder
 pub mod Paths
 pub mod Folders
 pub mod Opened
+pub mod FolderCalls

@@ -103,9 +103,10 @@ impl<R: Files<File = File> + Drop> FolderStore<SystemFiles<R>> {
 }
 
 impl<F: FileSystem + Drop> FolderStore<F> {
-    ghost use Rattle.std.specs.Prelude.{◌≡◌, ◌⊎◌, ◌≤◌, None, false, length, IfOk, IsErr};
+    ghost use Rattle.std.specs.Prelude.{◌≡◌, ◌⊎◌, ◌≤◌, None, false, length, string_bytes, IfOk, OnOk, IfSome, IsErr};
     ghost use Rattle.fts_store.specs.Store.{place_at};
     ghost use Rattle.fts_store.specs.Folder.{folder_faults, stays_inside};
+    ghost use Rattle.fts_store.specs.FolderCalls.{OpenMoved};
 
     /// A store in a folder of these files, which is made once a file is.
     pub fn over(files: F, alloc: Global, root: String) -> FolderStore<F>
@@ -219,6 +220,8 @@ impl<F: FileSystem + Drop> FolderStore<F> {
     fn shift(&mut self, from: PlaceRef<'_>, to: PlaceRef<'_>) -> Result<(), StoreFailed>
         ensures faults { folder_faults self.new ≡ folder_faults self.old }
         ensures outside { (stays_inside (place_at from.entry) ≡ false) ⊎ (stays_inside (place_at to.entry) ≡ false) → IsErr result }
+        ensures moved { OnOk result (IfSome self.old.writing (λ part. OpenMoved (F.number part.file.file) (string_bytes self.old.root) self.old.stable.items self.old.free
+            (place_at from.entry) (place_at to.entry) (F.calls self.new.files))) }
         ensures let_go { (self.new.reading ≡ None) × (self.new.writing ≡ None) }
     {
         self.reading = None;
@@ -261,7 +264,8 @@ impl<F: FileSystem + Drop> FolderStore<F> {
 }
 
 impl<F: FileSystem + Drop> Store for FolderStore<F> {
-    ghost use Rattle.std.specs.Prelude.{◌≡◌, ◌⊎◌, ◌≤◌, false, length, None, IfOk, IsErr};
+    ghost use Rattle.std.specs.Prelude.{◌≡◌, ◌⊎◌, ◌≤◌, false, length, None, string_bytes, IfOk, OnOk, IfSome, IsErr};
+    ghost use Rattle.fts_store.specs.FolderCalls.{OpenMoved};
     ghost use Rattle.fts_tables.specs.Counts.{CountsFaults};
     ghost use Rattle.fts_store.specs.Store.{untold, place_at};
     ghost use Rattle.fts_store.specs.Folder.{folder_faults, stays_inside};
@@ -313,6 +317,8 @@ impl<F: FileSystem + Drop> Store for FolderStore<F> {
     fn rename(&mut self, from: PlaceRef<'_>, to: PlaceRef<'_>) -> Result<(), StoreFailed>
         ensures cause { CountsFaults (folder_faults self.old) (folder_faults self.new) result }
         ensures outside { (stays_inside (place_at from.entry) ≡ false) ⊎ (stays_inside (place_at to.entry) ≡ false) → IsErr result }
+        ensures moved { OnOk result (IfSome self.old.writing (λ part. OpenMoved (F.number part.file.file) (string_bytes self.old.root) self.old.stable.items self.old.free
+            (place_at from.entry) (place_at to.entry) (F.calls self.new.files))) }
     {
         let answer = self.shift(from, to);
         count(&mut self.faults, answer)

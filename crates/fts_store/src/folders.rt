@@ -2,10 +2,11 @@
 //! Keeps: an endpoint's own folder that was there when it was first met lies on the device that it lay on then (`meet`).
 //! A folder's name is stable once the folder above it was synced behind it, and that folder's name is stable; the root's own is the last.
 //! Called by `FolderStore`, which makes no endpoint's own folder that was there. Lists of folders go from the lowest up.
-ghost use Rattle.std.specs.Prelude.{◌≡◌, map, string_bytes};
+ghost use Rattle.std.specs.Prelude.{◌≡◌, ◌<◌, not, length, bytes_eq, IfSome, map, string_bytes};
+ghost use Rattle.std.specs.List.{position, list_any};
 ghost use Rattle.fts_files.specs.Calls.{saw_of};
 ghost use Rattle.fts_files.specs.Script.{value_of};
-ghost use Rattle.fts_store.specs.Folders.{device_seen, as_met, first_met, is_lowest};
+ghost use Rattle.fts_store.specs.Folders.{device_seen, as_met, first_met, is_lowest, still_stable, is_settled, to_sync};
 
 use crate::StoreFailed;
 use crate::inside::endpoint_of;
@@ -172,26 +173,57 @@ pub(crate) fn have_all<F: FileSystem>(
     }
 }
 
+// Whether a folder isn't the lowest of these.
+fn is_other(known: &String, folders: &[String]) -> bool
+    ensures { result ≡ not (is_lowest (map string_bytes folders.now) (string_bytes known.now)) }
+{
+    !is_lowest(folders, known.as_str())
+}
+
 /// The folders whose names are still known to be stable: one that was made has a new name.
-pub(crate) fn forget(stable: &mut Vec<String>, missing: Missing, folders: &[String]) {
+pub(crate) fn forget(stable: &mut Vec<String>, missing: Missing, folders: &[String])
+    ensures { stable.new.items ≡ still_stable missing (map string_bytes folders.now) stable.old.items }
+{
     match missing {
         Missing::Nothing => {}
-        Missing::Lowest => stable.retain(|known| !is_lowest(folders, known.as_str())),
+        Missing::Lowest => stable.retain(|known| is_other(known, folders)),
         Missing::Several => stable.clear(),
     }
 }
 
+fn is_known(known: &String, folder: &str) -> bool
+    ensures { result ≡ bytes_eq (string_bytes known.now) folder.now }
+{
+    known.as_str() == folder
+}
+
+fn are_known(stable: &[String], folder: &str) -> bool
+    ensures { result ≡ list_any (λ known. bytes_eq (string_bytes known) folder.now) stable.now }
+{
+    stable.iter().any(|known| is_known(known, folder))
+}
+
 // Whether a folder's name is known to be stable, or it lies above the root.
-fn is_settled(root: &str, stable: &[String], folder: &str) -> bool {
-    folder.len() < root.len() || stable.iter().any(|known| known.as_str() == folder)
+fn is_settled(root: &str, stable: &[String], folder: &String) -> bool
+    ensures { result ≡ is_settled root.now stable.now (string_bytes folder.now) }
+{
+    folder.len() < root.len() || are_known(stable, folder.as_str())
+}
+
+fn first_settled(root: &str, stable: &[String], folders: &[String]) -> Option<usize>
+    ensures first { result ≡ position (λ folder. is_settled root.now stable.now (string_bytes folder)) folders.now }
+    ensures within { IfSome result (λ place. place < length folders.now) }
+{
+    folders
+        .iter()
+        .position(|folder| is_settled(root, stable, folder))
 }
 
 /// Those of a file's folders that are to be synced: up to the first that is settled, and that one.
-pub(crate) fn to_sync<'a>(root: &str, stable: &[String], folders: &'a [String]) -> &'a [String] {
-    match folders
-        .iter()
-        .position(|folder| is_settled(root, stable, folder.as_str()))
-    {
+pub(crate) fn to_sync<'a>(root: &str, stable: &[String], folders: &'a [String]) -> &'a [String]
+    ensures { map string_bytes result.now ≡ to_sync root.now stable.now (map string_bytes folders.now) }
+{
+    match first_settled(root, stable, folders) {
         Some(count) => &folders[..count + 1],
         None => folders,
     }

@@ -1,12 +1,13 @@
 //! Where a store's files lie: which places stay inside its folder, and the paths of files and of the folders that they lie in.
 //! Keeps: no path of a place that would leave the folder is made (`path_of`). Only `FolderStore` stands on it.
 //! A path is the root, the endpoint's name with each slash a comma, and the place's path, with slashes between them.
-ghost use Rattle.std.specs.Prelude.{◌≡◌, ◌∷◌, ◌++◌, [], false, IsErr, OnOk, map, option_map, string_bytes};
+ghost use Rattle.std.specs.Prelude.{◌≡◌, ◌∷◌, ◌++◌, [], false, IsErr, IfOk, OnOk, map, option_map, string_bytes};
 ghost use Rattle.std.specs.List.{list_all};
 ghost use Rattle.std.specs.Path.{path_parent};
 ghost use Rattle.fts_tables.specs.Names.{segments};
 ghost use Rattle.fts_store.specs.Store.{place_at};
 ghost use Rattle.fts_store.specs.Folder.{is_name, stays_inside};
+ghost use Rattle.fts_store.specs.Paths.{endpoint_in, path_in, folders_of};
 
 use crate::StoreFailed;
 use fts_tables::PlaceRef;
@@ -33,14 +34,13 @@ pub(crate) fn stays_inside(at: PlaceRef<'_>) -> bool
 }
 
 /// The folder of an endpoint, below the root.
-pub(crate) fn endpoint_of(
-    alloc: Global,
-    root: &str,
-    endpoint: &str,
-) -> Result<String, StoreFailed> {
+pub(crate) fn endpoint_of(alloc: Global, root: &str, endpoint: &str) -> Result<String, StoreFailed>
+    ensures { IfOk result (λ folder. string_bytes folder ≡ endpoint_in root.now endpoint.now) }
+{
     let mut folder = root.as_bytes().to_vec(alloc)?;
     folder.extend_from_slice(b"/")?;
-    'letters: for byte in endpoint.as_bytes() {
+    let letters = endpoint.as_bytes();
+    'letters: for byte in letters {
         let letter = if *byte == 0x2f { 0x2c } else { *byte };
         folder.extend_from_slice(&[letter])?;
     }
@@ -52,7 +52,8 @@ pub(crate) fn endpoint_of(
 
 /// The path of a file, where it lies below the root.
 pub(crate) fn path_of(alloc: Global, root: &str, at: PlaceRef<'_>) -> Result<String, StoreFailed>
-    ensures { stays_inside (place_at at.entry) ≡ false → IsErr result }
+    ensures outside { stays_inside (place_at at.entry) ≡ false → IsErr result }
+    ensures path { IfOk result (λ path. string_bytes path ≡ path_in root.now (place_at at.entry)) }
 {
     if !stays_inside(at) {
         return Err(StoreFailed);
@@ -81,7 +82,9 @@ fn put(alloc: Global, folders: &mut Vec<String>, folder: &str) -> Result<(), Sto
 }
 
 /// The folders that a file lies in, from the lowest up to the first of its path.
-pub(crate) fn folders_of(alloc: Global, path: &str) -> Result<Vec<String>, StoreFailed> {
+pub(crate) fn folders_of(alloc: Global, path: &str) -> Result<Vec<String>, StoreFailed>
+    ensures { IfOk result (λ folders. map string_bytes folders.items ≡ folders_of path.now) }
+{
     let mut folders = Vec::new(alloc);
     let mut below = path;
     'folders: for i in 0..path.len() {

@@ -118,7 +118,7 @@ fn refusing<R: Files<File = File> + Drop>(
     Ok(FolderStore::over(files, alloc, String::from_str(alloc, root)?))
 }
 
-// 46 calls make a whole move into a new folder; the refusal of one of them is told, leaves no destination, and spoils no second try.
+// Each call of a move into a new folder in turn is refused: that is told, leaves no destination, and spoils no second try.
 #[test]
 fn a_move_that_failed_leaves_no_name_and_is_made_again(rt: HostRuntime) -> Result<(), Fail> {
     let alloc = rt.alloc();
