@@ -5,11 +5,10 @@ ghost use Rattle.fts_tables.specs.Counts.{CountsFaults};
 ghost use Rattle.fts_wire.specs.Outside.{Reads, raised};
 
 use fts_tables::{Clock, Words};
-use fts_wire::{Source, SourceFailed};
+use fts_wire::{Source, SourceFailed, StdSource};
 use rand_pcg::Lcg64Xsh32;
 use rand_pcg::rand_core::Rng;
 use std::fs::{File, Files};
-use std::io::Read;
 use std::rt::Clock as SystemTimes;
 use std::thread;
 use std::time::{Duration, SystemTime, UNIX_EPOCH};
@@ -75,10 +74,11 @@ impl Words for PcgWords {
     }
 }
 
-/// The text of a file. One that could not be opened fails at each read.
+/// The text of a file, read as the wire reads: what a signal interrupted is read again, and no failure is taken for the end. One that could not be
+/// opened fails at each read.
 #[derive(Drop)]
 pub struct FileSource {
-    file: Option<File>,
+    file: Option<StdSource<File>>,
     reads: u64,
     faults: u64,
 }
@@ -87,7 +87,7 @@ impl FileSource {
     /// The text of the file at a path.
     pub fn open<R: Files<File = File>>(rt: &R, path: &str) -> FileSource {
         FileSource {
-            file: File::open(rt, path).ok(),
+            file: File::open(rt, path).ok().map(StdSource::new),
             reads: 0,
             faults: 0,
         }
@@ -115,15 +115,12 @@ impl Source for FileSource {
     {
         self.reads = self.reads.saturating_add(1);
         let taken = match &mut self.file {
-            Some(file) => file.read(into).ok(),
-            None => None,
+            Some(file) => file.read(into),
+            None => Err(SourceFailed),
         };
-        match taken {
-            Some(n) => Ok(n),
-            None => {
-                self.faults = self.faults.saturating_add(1);
-                Err(SourceFailed)
-            }
+        if taken.is_err() {
+            self.faults = self.faults.saturating_add(1);
         }
+        taken
     }
 }
