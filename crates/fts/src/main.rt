@@ -14,6 +14,7 @@ ghost use Rattle.fts.specs.CommandLine.{stand_of, words_of, exit_status_of, Look
 mod outside;
 #[cfg(test)]
 mod sockets;
+mod steps;
 mod tcp_doors;
 mod tcp_line;
 #[cfg(test)]

@@ -59,6 +59,19 @@ fn load_next(rt: &HostRuntime, doors: &mut Opened<'_>) -> Result<Result<bool, Wi
 }
 
 #[test]
+fn only_this_machine_s_own_address_is_listened_on(rt: HostRuntime) -> Result<(), Fail> {
+    let (doors, port) = open_doors(&rt, short_limits())?;
+    assert!(rt; connect(&rt, port).is_ok(), "127.0.0.1");
+    let other = TcpStream::connect(&rt, (Ipv4Addr::new(127, 0, 0, 2), port));
+    assert!(rt;
+        other.is_err(),
+        "127.0.0.2, which doors on every address would take"
+    );
+    drop(doors);
+    Ok(())
+}
+
+#[test]
 fn a_client_that_sends_a_byte_and_waits_is_let_go(rt: HostRuntime) -> Result<(), Fail> {
     let (mut doors, port) = open_doors(&rt, short_limits())?;
     let mut client = connect(&rt, port)?;

@@ -1,13 +1,15 @@
 //! The real doors: connections to a port of 127.0.0.1, taken one by one from a listener that the lanes share.
 //! Keeps: a connection that is gone before it is taken, or can't be set up, is passed over, and want of descriptors or of memory is waited out, so
 //! that no client ends a lane. Only a listener that can't be had or isn't one makes a call fail, and each such failure is counted.
-//! Doors that wait for a connection sleep in the system. They never say that no more connections come, and tell nothing of lines.
+//! Doors that wait for a connection sleep in the system. They never say that no more connections come, and tell nothing of lines. What an error of an
+//! accept means, and which address is listened on, `steps` decides.
 ghost use Rattle.std.specs.Prelude.{◌≡◌};
 ghost use Rattle.fts_tables.specs.Counts.{CountsFaults};
 
+use crate::steps::{Untaken, address, untaken_by};
 use crate::tcp_line::{LineLimits, TcpLine};
 use fts_top::{Doors, DoorsFailed};
-use std::net::{Ipv4Addr, Net, TcpListener, TcpStream};
+use std::net::{Net, TcpListener, TcpStream};
 use std::rt::Clock as SystemTimes;
 use std::time::Duration;
 use std::{io, thread};
@@ -25,23 +27,11 @@ pub struct TcpDoors<R: Net<Listener = TcpListener, Stream = TcpStream> + SystemT
     faults: u64,
 }
 
-/// What follows a connection that was not taken.
-#[derive(Clone, Copy)]
-enum Untaken {
-    /// It is gone, and the next one may be there.
-    Gone,
-    /// None can be taken for now.
-    NotYet,
-    /// There is no listener.
-    NoListener,
-}
-
-/// What an error of an accept means. Want of descriptors or of memory ends once other lines are closed.
-fn untaken_by(error: &io::Error) -> Untaken {
+/// The system's number of a refused accept, and 0 where it gave none.
+fn errno_of(error: &io::Error) -> u32 {
     match error.raw_os_error() {
-        Some(libc::ECONNABORTED | libc::EINTR) => Untaken::Gone,
-        Some(libc::EBADF | libc::ENOTSOCK | libc::EINVAL) => Untaken::NoListener,
-        Some(_) | None => Untaken::NotYet,
+        Some(errno) => errno.unsigned_abs(),
+        None => 0,
     }
 }
 
@@ -89,7 +79,7 @@ impl<R: Net<Listener = TcpListener, Stream = TcpStream> + SystemTimes + Copy> Tc
                         return Some(line);
                     }
                 }
-                Err(error) => match untaken_by(&error) {
+                Err(error) => match untaken_by(errno_of(&error)) {
                     Untaken::Gone => {}
                     Untaken::NotYet => {
                         thread::sleep(&self.rt, Duration::from_millis(REST_MILLIS));
@@ -116,7 +106,7 @@ impl<R: Net<Listener = TcpListener, Stream = TcpStream> + SystemTimes + Copy> Do
     ghost line = { Prim.search rules };
 
     fn listen(&mut self, port: u16) -> Result<(), DoorsFailed> {
-        let listener = TcpListener::bind(&self.rt, (Ipv4Addr::LOCALHOST, port)).ok();
+        let listener = TcpListener::bind(&self.rt, (address(), port)).ok();
         self.take(listener)
     }
 

@@ -8,6 +8,7 @@ ghost use Rattle.std.specs.Prelude.{◌≡◌, ◌≤◌, ◌<◌, length, None,
 ghost use Rattle.fts_tables.specs.Counts.{CountsFaults};
 ghost use Rattle.fts_wire.specs.Outside.{Reads, Writes, raised};
 
+use crate::steps::{drains_on, time_left};
 use fts_wire::{Sink, SinkFailed, Source, SourceFailed};
 use std::io;
 use std::io::{ErrorKind, Read, Write};
@@ -129,19 +130,11 @@ impl<R: SystemTimes + Copy> TcpLine<R> {
             self.stream.set_read_timeout(Some(left))?;
             let n = read_once(&mut self.stream, &mut piece)?;
             taken = usize::saturating_add(taken, n);
-            if n == 0 || taken >= self.limits.drain_bytes {
+            if !drains_on(n, taken, self.limits.drain_bytes) {
                 break;
             }
         }
         Ok(())
-    }
-}
-
-/// What is left of a time, which is not 0.
-fn time_left(whole: Duration, passed: Duration) -> io::Result<Duration> {
-    match whole.checked_sub(passed) {
-        Some(left) if !left.is_zero() => Ok(left),
-        Some(_) | None => Err(io::Error::from(ErrorKind::TimedOut)),
     }
 }
 

@@ -1,30 +1,70 @@
-//! What no clause says: that the system's clock gives the time, and that a folder is served, by one service at a time. What a run prints is in
+//! What no clause says: that the system's clock gives the time, that words are the generator's and each hand's its own, and that a folder is served,
+//! by one service at a time. What a run prints is in
 //! `examples/`.
-use crate::outside::SystemClock;
-use crate::{STAND_SETTINGS, run_in_folder};
+use crate::outside::{PcgWords, SystemClock};
+use crate::{HANDS, STAND_SETTINGS, hands_over, run_in_folder, stand_store};
 use fts_disk::FileDisk;
-use fts_tables::Clock;
+use fts_tables::{Clock, Words};
 use std::io::{Read, Write};
 use std::net::{Ipv4Addr, TcpStream};
 use std::sync::Wait;
 use std::test::Fail;
 use std::thread::Threads;
-use std::time::Duration;
+use std::time::{Duration, Instant, UNIX_EPOCH};
 use std::{fs, io, thread};
 
 /// The port of the service that a test runs.
 const PORT: u16 = 18_423;
 
-#[test]
-fn the_clock_of_the_system_gives_seconds_since_1970(rt: HostRuntime) -> Result<(), Fail> {
-    let mut clock = SystemClock::new(rt);
-    let first = clock.now();
-    clock.rest();
-    let later = clock.now();
-    // From November 2023 to the year 2286.
-    if first < 1_700_000_000 || later > 9_999_999_999 {
-        return Err(Fail::new("another time"));
+/// When the system says that a file was written last, in seconds since 1970.
+fn written_at(rt: &HostRuntime, path: &str) -> Result<u64, Fail> {
+    match fs::metadata(rt, path)?
+        .modified()?
+        .duration_since(UNIX_EPOCH)
+    {
+        Ok(since) => Ok(since.as_secs()),
+        Err(_) => Err(Fail::new("written before 1970")),
     }
+}
+
+#[test]
+fn the_clock_goes_as_the_system_s_does(rt: HostRuntime) -> Result<(), Fail> {
+    let mut clock = SystemClock::new(&rt);
+    let (path, start) = ("./moment", Instant::now(&rt)?);
+    let first = clock.now();
+    fs::write(&rt, path, b"now")?;
+    let written = written_at(&rt, path)?;
+    fs::remove_file(&rt, path)?;
+    assert!(rt;
+        written.abs_diff(first) <= 2,
+        "a file's own moment is the clock's"
+    );
+    for _ in 0..11 {
+        clock.rest();
+    }
+    let passed = start.elapsed(&rt)?.as_millis();
+    assert!(rt; passed >= 1_000, "eleven rests take a second and more");
+    assert!(rt; clock.now() > first, "and then the clock has gone on");
+    Ok(())
+}
+
+#[test]
+fn words_are_those_of_the_generator(rt: HostRuntime) -> Result<(), Fail> {
+    // The first four words of PCG XSH RR 64/32 for the state 42 and the stream 54, as its authors' program prints them, two of them in one word here.
+    let mut words = PcgWords::new(42, 54);
+    let are_known = words.next() == 0x7b47_f409_a15c_02b7 && words.next() == 0x83d2_f293_ba1d_3330;
+    assert!(rt; are_known, "the state 42 on the stream 54");
+    let mut stores = Vec::new(rt.alloc());
+    for _ in 0..HANDS {
+        stores.push(stand_store(&rt)?)?;
+    }
+    let mut seen = Vec::new(rt.alloc());
+    for mut hand in hands_over(&rt, stores)? {
+        let word = hand.words.next();
+        assert!(rt; !seen.contains(&word), "each hand has words of its own");
+        seen.push(word)?;
+    }
+    assert!(rt; seen.len() == 16, "there are sixteen hands");
     Ok(())
 }
 
