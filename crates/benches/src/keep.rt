@@ -5,6 +5,7 @@ mod accepting;
 mod starting;
 
 use crate::entries::entry;
+use crate::files;
 use crate::journal::number;
 use fts_disk::FileDisk;
 use fts_keep::Keep;
@@ -29,7 +30,7 @@ fn settings(alloc: Global) -> io::Result<Settings> {
 
 /// A keep over a file.
 fn started(rt: &HostRuntime, path: &str, settings: Settings) -> io::Result<Keep<FileDisk>> {
-    match Keep::start(rt.alloc(), FileDisk::open(rt, path), settings, MOMENT) {
+    match Keep::start(rt.alloc(), files::open_disk(rt, path), settings, MOMENT) {
         Ok(keep) => Ok(keep),
         Err(_) => Err(io::Error::other("the keep is not started")),
     }
