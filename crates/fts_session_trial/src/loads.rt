@@ -1,5 +1,5 @@
 //! Loads: what is seen where a call of the store or a write of its line fails, and which files a load leaves.
-//! The files of number 7 have the sizes that `bench/load.py` gives, a program of its own. They are looked at behind each load that copied all.
+//! The files of number 7 have the sizes that `acceptance/load.py` gives, a program of its own. They are looked at behind each load that copied all.
 use crate::stand::{Ended, Given, SETTINGS, count_row, hands_with, make_given, run_words, source};
 use fts_disk::MemoryDisk;
 use fts_store::{MemoryStore, Store};
