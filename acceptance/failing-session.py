@@ -3,22 +3,19 @@
 
 acceptance/failing-session.py PROGRAM [fails|full [RUNS [SUBMISSIONS]]]: PROGRAM is fts as it was built; 10 runs of 3,000 submissions. Root only, since it
 mounts. Status 1 where a job was lost or not answered, where a next start failed, and where no reply at all was 503: then nothing was tried.
-The device is a loop over a sparse file in a small tmpfs. `fails`: while the tmpfs is full each write of a new block fails, and the sync with it; the first
-2,065 blocks, in which the file system keeps its log, are there from the start, or it would end read-only. The image is so large that the journal's data
-lie behind them: where a write of several blocks begins in one that is there and ends in one that is not, the loop takes the short write for a whole one,
-which no program can see. `full`: a file fills the file system itself.
+The device is that of `failing_device.py`: its writes of new blocks fail (`fails`), or its file system is full (`full`).
 Each run begins the trouble at a later submission than the one before, and ends it 20 ms after the first reply of 503. Then come the rest, an unmount,
 the dropping of all pages, a mount, a count of the journal's submissions, and a start of the program on what is there.
 """
 import os
 import re
-import shutil
 import struct
 import subprocess
 import sys
-import tempfile
 import threading
 import time
+
+from failing_device import Device
 
 SETTINGS = 'vo = "demo"\n[[storage]]\nurl = "https://a.example"\n[[storage]]\nurl = "https://b.example"\n'
 # so long that some hundred submissions pass a block that was made ready
@@ -26,36 +23,6 @@ PATH = "x" * 900
 BODY = '{"files":[{"sources":["https://a.example/%s"],"destinations":["https://b.example/%s"]}]}' % (PATH, PATH)
 REQUEST = ("POST /jobs HTTP/1.1\r\nContent-Length: %d\r\n\r\n%s" % (len(BODY), BODY)).encode()
 RESPONSE = re.compile(rb"HTTP/1.1 (\d+) [^\r]*\r\n(?:[^\r]+\r\n)*?Content-Length: (\d+)\r\n(?:[^\r]+\r\n)*\r\n")
-
-
-def shell(line):
-    return subprocess.run(["bash", "-c", line], check=True, capture_output=True, text=True).stdout.strip()
-
-
-class Device:
-    def __init__(self, place, kind):
-        self.place, self.mount = place, f"{place}/mnt"
-        size = "36M" if kind == "full" else "64M"
-        shell(f"mkdir -p {place}/back {place}/mnt; mount -t tmpfs -o size=40m tmpfs {place}/back; truncate -s {size} {place}/back/image")
-        shell(f"mkfs.ext4 -q -F -m 0 -b 4096 -J size=4 {place}/back/image")
-        shell(f"dd if={place}/back/image of={place}/back/image bs=4k count=2065 conv=notrunc")
-        self.loop = shell(f"losetup -f --show {place}/back/image")
-        shell(f"mount {self.loop} {self.mount}")
-
-    def trouble(self, kind):
-        place = f"{self.mount}/fill" if kind == "full" else f"{self.place}/back/fill"
-        subprocess.run(["dd", "if=/dev/zero", f"of={place}", "bs=4k"], capture_output=True)
-        return place
-
-    def again(self):
-        shell(f"umount {self.mount}; echo 3 >/proc/sys/vm/drop_caches; mount {self.loop} {self.mount}")
-
-    def __enter__(self):
-        return self
-
-    def __exit__(self, *_):
-        shell(f"umount {self.mount}; losetup -d {self.loop}; umount {self.place}/back")
-        shutil.rmtree(self.place)
 
 
 class Session:
@@ -109,27 +76,27 @@ def submissions_in(journal):
     return count
 
 
-def meet_trouble(session, device, kind, begin):
+def meet_trouble(session, device, begin):
     """Begins the trouble behind so many answers, and ends it 20 ms after the first failure that is answered. The status of the session."""
     while len(session.answers) < begin and session.writer.is_alive():
         time.sleep(0.002)
-    filler = device.trouble(kind)
+    device.begin_trouble()
     while session.writer.is_alive() and not any(status == 503 for status, _ in session.answers):
         time.sleep(0.002)
     time.sleep(0.02)
-    os.remove(filler)
+    device.end_trouble()
     return session.end()
 
 
 def run(program, kind, submissions, begin):
     """How much is otherwise than wanted, and how many submissions were answered 503."""
-    with Device(tempfile.mkdtemp(), kind) as device:
+    with Device(kind) as device:
         with open(f"{device.mount}/fts.toml", "w") as settings:
             settings.write(SETTINGS)
         os.sync()
         session = Session(program, device.mount, submissions)
-        status = meet_trouble(session, device, kind, begin)
-        device.again()
+        status = meet_trouble(session, device, begin)
+        device.mount_again()
         ids = [int(re.search(rb'-([0-9a-f]{12})"', body)[1], 16) for status, body in session.answers if status == 200]
         with open(f"{device.mount}/fts.journal", "rb") as journal:
             found = submissions_in(journal.read())

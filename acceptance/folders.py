@@ -41,9 +41,9 @@ class Stand:
         self.at(surl).write_bytes(content)
         return content
 
-    def session(self, *requests):
+    def session(self, *requests, prefix=()):
         sent = b"".join(f"{line} HTTP/1.1\r\nContent-Length: {len(body)}\r\n\r\n{body}".encode() for line, body in requests)
-        run = subprocess.run([self.program, self.path, "session"], input=sent, capture_output=True)
+        run = subprocess.run([*prefix, self.program, self.path, "session"], input=sent, capture_output=True)
         replies, rest = [], run.stdout
         while rest:
             head = REPLY.match(rest)
@@ -68,12 +68,14 @@ def document(pairs, files=None, **params):
 
 
 def told(stand, contents):
-    """The states, the reasons, and whether each destination holds just these bytes; None where there is to be nothing."""
+    """The states, the reasons, and whether each destination holds just these bytes; None where there is to be nothing. No part is left."""
     job, rows = stand.look()
     states = ", ".join(row["file_state"] + (f" ({row['reason']})" if row["reason"] else "") for row in rows)
     for surl, content in contents.items():
         there = stand.at(surl).read_bytes() if stand.at(surl).is_file() else None
         assert there == content, surl
+    left = [part for endpoint in (A, B, C) for part in stand.at(f"{endpoint}/.fts").glob("part-*")]
+    assert not left, left
     for row in rows:
         if row["file_state"] == "FINISHED":
             copied = contents[row["dest_surl"]]

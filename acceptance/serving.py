@@ -23,6 +23,8 @@ SETTINGS = f'vo = "demo"\nworkers = 4\n[[storage]]\nurl = "{A}"\n[[storage]]\nur
 SETTLED = ("FINISHED", "FAILED", "CANCELED")
 # seconds from a submission to a small file, and behind silent clients, who are let go after 10; percent of a processor of an idle service
 SOON, BEHIND_SILENT, IDLE = 5, 14, 5
+# seconds until a service that was started takes connections
+LISTENS = 20
 
 
 def free_port():
@@ -31,25 +33,27 @@ def free_port():
 
 
 class Service:
-    """A folder and the service over it."""
+    """A folder and the service over it. The folder is the system's choice where none is named."""
 
-    def __init__(self, program, lanes=4):
-        self.program, self.lanes, self.folder = program, lanes, tempfile.TemporaryDirectory()
-        self.path = pathlib.Path(self.folder.name)
-        (self.path / "fts.toml").write_text(SETTINGS)
+    def __init__(self, program, lanes=4, folder=None, settings=SETTINGS):
+        self.program, self.lanes, self.folder = program, lanes, folder or tempfile.TemporaryDirectory()
+        self.path = pathlib.Path(folder or self.folder.name)
+        (self.path / "fts.toml").write_text(settings)
         self.start()
 
-    def start(self):
+    def start(self, prefix=()):
         self.port = free_port()
-        words = [self.program, str(self.path), "serve", "--port", str(self.port), "--lanes", str(self.lanes)]
+        words = [*prefix, self.program, str(self.path), "serve", "--port", str(self.port), "--lanes", str(self.lanes)]
         self.process = subprocess.Popen(words, stdin=subprocess.DEVNULL, stderr=subprocess.PIPE)
-        for _ in range(200):
+        last = time.monotonic() + LISTENS
+        while self.process.poll() is None and time.monotonic() < last:
             try:
                 socket.create_connection(("127.0.0.1", self.port)).close()
                 return
             except OSError:
                 time.sleep(0.02)
-        raise SystemExit("it does not listen")
+        self.process.kill()
+        raise SystemExit(f"it does not listen; status {self.process.wait()}")
 
     def stop(self, number=signal.SIGTERM):
         self.process.send_signal(number)
@@ -178,6 +182,31 @@ def shares_no_port(service):
     yield f"a port in use: status {ended.returncode}, {notes!r}", (ended.returncode, notes) == (9, "fts: doors failed")
 
 
+def shares_no_journal(service):
+    ended = subprocess.run([service.program, str(service.path), "session"], stdin=subprocess.DEVNULL, capture_output=True)
+    notes = ended.stderr.decode().strip()
+    yield f"a second service on the folder: status {ended.returncode}, {notes!r}", (ended.returncode, notes) == (4, "fts: disk failed")
+
+
+def keeps_to_its_journal(service):
+    """The journal is moved away, another one stands in its place, and it is put back."""
+    journal, away = service.path / "fts.journal", service.path / "away"
+
+    def submits():
+        body = json.dumps({"files": [{"sources": [f"{A}/none"], "destinations": [f"{B}/none"]}]}).encode()
+        return service.ask("POST", "/jobs", body)[0]
+
+    before = submits()
+    journal.rename(away)
+    moved = submits()
+    journal.write_bytes(away.read_bytes())
+    replaced = submits()
+    away.rename(journal)
+    back = submits()
+    told = f"a submission {before}, where the journal is moved away {moved}, where a copy has its name {replaced}, where it is back {back}"
+    yield told, (before, moved, replaced, back) == (200, 503, 503, 200)
+
+
 def starts_again(service):
     service.source("f3", os.urandom(48 << 20))
     job = service.submit("f3", 4)
@@ -218,8 +247,10 @@ def wrong_in(tries):
 def main(words):
     if len(words) not in (1, 2):
         sys.exit(__doc__)
+    # behind `&` of a shell it is ignored, and would be by the services
+    signal.signal(signal.SIGINT, signal.default_int_handler)
     service = Service(words[0])
-    tries = (copies, cancels, resets, crowds, waits, idles, shares_no_port, starts_again)
+    tries = (copies, cancels, resets, crowds, waits, idles, shares_no_port, shares_no_journal, keeps_to_its_journal, starts_again)
     wrong = sum(wrong_in(tried(service)) for tried in tries)
     service.stop()
     service = Service(words[0])

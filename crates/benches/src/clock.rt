@@ -1,14 +1,17 @@
-//! Times of measurements, in seconds of the clock that never goes back.
-//! Called by each measurement but the turnstile's, which reads a second clock beside it.
+//! Times of measurements, in seconds. A clock that fails shows no number, and then none is printed: nothing else hangs on it.
+//! Called by each measurement.
 use std::io;
-use std::time::Clock;
+use std::time::{Clock, Duration};
 
-/// What the clock shows.
-pub fn now(rt: &HostRuntime) -> io::Result<f64> {
-    Ok(rt.monotonic()?.as_secs_f64())
+/// What a clock shows.
+pub fn seconds(shown: io::Result<Duration>) -> f64 {
+    match shown {
+        Ok(time) => time.as_secs_f64(),
+        Err(_) => f64::NAN,
+    }
 }
 
-/// What has passed since it showed that.
-pub fn since(rt: &HostRuntime, begun: f64) -> io::Result<f64> {
-    Ok(now(rt)? - begun)
+/// What the clock shows that never goes back.
+pub fn now(rt: &HostRuntime) -> f64 {
+    seconds(rt.monotonic())
 }

@@ -19,14 +19,14 @@ const CROWDS: [(&str, Crowd); 4] = [
 ];
 
 /// How many seconds it takes to read a text, at the least.
-fn seconds(rt: &HostRuntime, text: &str) -> io::Result<f64> {
+fn seconds(rt: &HostRuntime, text: &str) -> f64 {
     let mut least = f64::INFINITY;
     for _ in 0..8 {
-        let begun = clock::now(rt)?;
+        let begun = clock::now(rt);
         let _ = read_settings(rt.alloc(), text.as_bytes());
-        least = least.min(clock::since(rt, begun)?);
+        least = least.min(clock::now(rt) - begun);
     }
-    Ok(least)
+    least
 }
 
 /// The first rule that a text breaks, and 0 where it breaks none.
@@ -39,8 +39,8 @@ fn rule(alloc: Global, text: &str) -> u32 {
 
 /// Prints the bytes, the milliseconds and the rule of a text, and the ratio of its time to that of half of it.
 fn print_times(rt: &HostRuntime, name: &str, half: &str, whole: &str) -> io::Result<()> {
-    let first = seconds(rt, half)?;
-    let second = seconds(rt, whole)?;
+    let first = seconds(rt, half);
+    let second = seconds(rt, whole);
     println!(rt;
         "{name}: {} bytes, rule {}, {:.1} ms, ratio {:.2}",
         whole.len(),

@@ -99,21 +99,35 @@ fn copy_set<E: Store>(alloc: Global, store: &mut E, copies: Copies<'_>) -> io::R
     Ok(verified)
 }
 
+/// Copies files below a folder.
+fn copy_below(rt: &HostRuntime, root: &str, copies: Copies<'_>) -> io::Result<u32> {
+    let root = String::from_str(rt.alloc(), root)?;
+    copy_set(
+        rt.alloc(),
+        &mut FolderStore::new(rt, rt.alloc(), root),
+        copies,
+    )
+}
+
+/// The number of a word.
+fn number(word: &str) -> io::Result<u32> {
+    match word.parse() {
+        Ok(number) => Ok(number),
+        Err(_) => Err(io::Error::from(io::ErrorKind::InvalidInput)),
+    }
+}
+
 /// Copies what the words ask for, and prints how many files were verified.
 pub fn measure(rt: &HostRuntime, words: &[String]) -> io::Result<()> {
     let [root, set, count, folders, keep @ ..] = words else {
         return Ok(());
     };
-    let (Ok(count), Ok(folders)) = (count.as_str().parse(), folders.as_str().parse()) else {
-        return Err(io::Error::from(io::ErrorKind::InvalidInput));
-    };
     let copies = Copies {
         set: set.as_str(),
-        count,
-        folders,
+        count: number(count.as_str())?,
+        folders: number(folders.as_str())?,
         overwrite: keep.is_empty(),
     };
-    let mut store = FolderStore::new(rt, rt.alloc(), root.clone()?);
-    let verified = copy_set(rt.alloc(), &mut store, copies)?;
+    let verified = copy_below(rt, root.as_str(), copies)?;
     println!(rt; "verified {verified}")
 }

@@ -3,7 +3,7 @@
 //! Both sides write to files in the folder where it runs, and take turns in batches, so that the device's moods fall on both.
 //! Called by the measurements of the journal and of the keep, which print by the same line.
 use crate::clock;
-use std::fs::{File, OpenOptions};
+use std::fs::File;
 use std::io;
 use std::os::unix::fs::FileExt;
 
@@ -13,26 +13,11 @@ pub const BATCH: u32 = 50;
 /// How many bytes an append takes beside its body: its length in four, and its gate.
 pub const AROUND_BYTES: usize = 5;
 
-/// The journal's file.
-pub const JOURNAL_PATH: &str = "bench.journal";
-
-/// The plain file.
-pub const FLOOR_PATH: &str = "bench.floor";
-
 /// The seconds that each side took.
 #[derive(Clone, Copy)]
 pub struct Times {
     pub ours: f64,
     pub floor: f64,
-}
-
-/// A new plain file.
-pub fn new_file(rt: &HostRuntime) -> io::Result<File> {
-    OpenOptions::new()
-        .write(true)
-        .create(true)
-        .truncate(true)
-        .open(rt, FLOOR_PATH)
 }
 
 /// Writes a piece behind a gate, and the gate, each made stable.
@@ -44,14 +29,13 @@ fn write_piece(file: &File, at: u64, piece: &[u8]) -> io::Result<()> {
 }
 
 /// The seconds that a batch takes, by its number from 0; a piece is what stands behind a gate, with the next gate.
-pub fn seconds(rt: &HostRuntime, file: &File, batch: u32, piece: &[u8]) -> io::Result<f64> {
-    let bytes = piece.len() as u64;
-    let begun = clock::now(rt)?;
+pub fn batch(rt: &HostRuntime, file: &File, number: u32, piece: &[u8]) -> io::Result<f64> {
+    let begun = clock::now(rt);
     for place in 0..BATCH {
-        let before = u64::from(batch) * u64::from(BATCH) + u64::from(place);
-        write_piece(file, before.wrapping_mul(bytes), piece)?;
+        let before = u64::from(number) * u64::from(BATCH) + u64::from(place);
+        write_piece(file, before.wrapping_mul(piece.len() as u64), piece)?;
     }
-    clock::since(rt, begun)
+    Ok(clock::now(rt) - begun)
 }
 
 /// Prints how many calls a second each side made, and their ratio.

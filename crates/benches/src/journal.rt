@@ -2,44 +2,48 @@
 //! `journal append PATH COUNT` and `journal list PATH` make a journal of numbered bodies and print those of one, for `acceptance/failing-disk.sh`.
 //! Called by `main`.
 use crate::clock;
-use crate::floor::{self, AROUND_BYTES, BATCH, FLOOR_PATH, JOURNAL_PATH, Times};
-use fts_disk::FileDisk;
+use crate::files::{self, FLOOR_PATH, JOURNAL_PATH};
+use crate::floor::{self, AROUND_BYTES, BATCH, Times};
+use fts_disk::{Disk, SystemDisk};
 use fts_journal::Journal;
 use std::fs::File;
-use std::{fs, io};
+use std::io;
 
 /// The bytes of a body: about an entry of the service.
 const BODY: [u8; 200] = [7; 200];
 
 /// An empty journal in a file.
-fn new_journal(rt: &HostRuntime, path: &str) -> io::Result<Journal<FileDisk>> {
-    match Journal::create(rt.alloc(), FileDisk::open(rt, path)) {
+fn new_journal<'a>(
+    rt: &'a HostRuntime,
+    path: &str,
+) -> io::Result<Journal<SystemDisk<&'a HostRuntime>>> {
+    match Journal::create(rt.alloc(), files::open_disk(rt, path)) {
         Ok(journal) => Ok(journal),
         Err(_) => Err(io::Error::other("no journal is made")),
     }
 }
 
 /// The seconds that a batch of appends takes.
-fn append_batch(rt: &HostRuntime, journal: &mut Journal<FileDisk>) -> io::Result<f64> {
-    let begun = clock::now(rt)?;
+fn append_batch<D: Disk>(rt: &HostRuntime, journal: &mut Journal<D>) -> io::Result<f64> {
+    let begun = clock::now(rt);
     for _ in 0..BATCH {
         if journal.doubt() || journal.append(&BODY).is_err() {
             return Err(io::Error::other("an append failed"));
         }
     }
-    clock::since(rt, begun)
+    Ok(clock::now(rt) - begun)
 }
 
 /// The seconds that so many appends of each side take, in turns.
-fn take_turns(
+fn take_turns<D: Disk>(
     rt: &HostRuntime,
-    journal: &mut Journal<FileDisk>,
+    journal: &mut Journal<D>,
     file: &File,
     appends: u32,
 ) -> io::Result<Times> {
     let (mut ours, mut floor) = (0.0, 0.0);
     for batch in 0..appends / BATCH {
-        floor += floor::seconds(rt, file, batch, &[0; BODY.len() + AROUND_BYTES])?;
+        floor += floor::batch(rt, file, batch, &[0; BODY.len() + AROUND_BYTES])?;
         ours += append_batch(rt, journal)?;
     }
     Ok(Times { ours, floor })
@@ -47,18 +51,18 @@ fn take_turns(
 
 /// The same, on new files.
 fn time_both(rt: &HostRuntime, appends: u32) -> io::Result<Times> {
-    let file = floor::new_file(rt)?;
+    let file = files::create(rt, FLOOR_PATH)?;
     let mut journal = new_journal(rt, JOURNAL_PATH)?;
     take_turns(rt, &mut journal, &file, appends)
 }
 
 /// Prints how many appends a second the journal makes, and how many the calls alone would allow.
 fn measure_appends(rt: &HostRuntime, appends: u32) -> io::Result<()> {
-    let _old = fs::remove_file(rt, JOURNAL_PATH);
+    let _old = files::remove(rt, JOURNAL_PATH);
     let times = time_both(rt, appends)?;
     floor::print_rates(rt, "appends", "journal", appends, times)?;
-    fs::remove_file(rt, JOURNAL_PATH)?;
-    fs::remove_file(rt, FLOOR_PATH)
+    files::remove(rt, JOURNAL_PATH)?;
+    files::remove(rt, FLOOR_PATH)
 }
 
 /// The bytes of a numbered body: so long that some hundred of them pass a block that was made ready.
@@ -80,7 +84,7 @@ fn number_of(body: &[u8]) -> u64 {
 }
 
 /// Whether a body was appended and kept; a doubt is settled before.
-fn is_kept(journal: &mut Journal<FileDisk>, number: u64) -> bool {
+fn is_kept<D: Disk>(journal: &mut Journal<D>, number: u64) -> bool {
     let settled = journal.settle().is_ok();
     settled && !journal.doubt() && journal.append(&body_of(number)).is_ok()
 }
@@ -100,8 +104,11 @@ fn append_numbered(rt: &HostRuntime, path: &str, count: u32) -> io::Result<()> {
 }
 
 /// A journal that is there, opened to look.
-pub fn seen_journal(rt: &HostRuntime, path: &str) -> io::Result<Journal<FileDisk>> {
-    match Journal::load(rt.alloc(), FileDisk::view(rt, path)) {
+pub fn seen_journal<'a>(
+    rt: &'a HostRuntime,
+    path: &str,
+) -> io::Result<Journal<SystemDisk<&'a HostRuntime>>> {
+    match Journal::load(rt.alloc(), files::view_disk(rt, path)) {
         Ok(journal) => Ok(journal),
         Err(_) => Err(io::Error::other("the journal is not opened")),
     }

@@ -5,8 +5,9 @@ mod accepting;
 mod starting;
 
 use crate::entries::entry;
+use crate::files;
 use crate::journal::number;
-use fts_disk::FileDisk;
+use fts_disk::SystemDisk;
 use fts_keep::Keep;
 use fts_tables::{Command, Settings};
 use std::alloc::Global;
@@ -28,8 +29,12 @@ fn settings(alloc: Global) -> io::Result<Settings> {
 }
 
 /// A keep over a file.
-fn started(rt: &HostRuntime, path: &str, settings: Settings) -> io::Result<Keep<FileDisk>> {
-    match Keep::start(rt.alloc(), FileDisk::open(rt, path), settings, MOMENT) {
+fn started<'a>(
+    rt: &'a HostRuntime,
+    path: &str,
+    settings: Settings,
+) -> io::Result<Keep<SystemDisk<&'a HostRuntime>>> {
+    match Keep::start(rt.alloc(), files::open_disk(rt, path), settings, MOMENT) {
         Ok(keep) => Ok(keep),
         Err(_) => Err(io::Error::other("the keep is not started")),
     }

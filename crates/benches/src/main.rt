@@ -9,6 +9,7 @@ mod config;
 mod copy;
 mod documents;
 mod entries;
+mod files;
 mod floor;
 mod journal;
 mod keep;

@@ -6,6 +6,7 @@ ghost use Rattle.fts_turnstile.specs.Passes.{IsOf, first_pass};
 mod lane;
 mod tally;
 
+use crate::clock;
 use fts_turnstile::{Pass, Turnstile};
 use lane::Lane;
 use std::alloc::{AllocError, Global};
@@ -18,10 +19,13 @@ use tally::Tally;
 /// Turns of all threads together in one measurement.
 const TURNS: u32 = 1_200_000;
 
-/// How many seconds one thread holds its turn while all others wait.
+/// How many threads there are where all but one wait for that one's turn.
+const WAITING_THREADS: u32 = 24;
+
+/// How many seconds that one holds its turn.
 const HELD: u64 = 1;
 
-// Two clocks in seconds: the wall's, and the processor time of all threads together.
+/// Two clocks in seconds: the wall's, and the processor time of all threads together.
 #[derive(Clone, Copy)]
 struct Taken {
     clock: f64,
@@ -29,25 +33,33 @@ struct Taken {
 }
 
 impl Taken {
-    // What both clocks show.
-    fn now<R: Clock + CpuClock>(rt: &R) -> io::Result<Taken> {
-        Ok(Taken {
-            clock: rt.monotonic()?.as_secs_f64(),
-            processor: rt.process_cpu_time()?.as_secs_f64(),
-        })
+    /// What both clocks show.
+    fn now<R: Clock + CpuClock>(rt: &R) -> Taken {
+        Taken {
+            clock: clock::seconds(rt.monotonic()),
+            processor: clock::seconds(rt.process_cpu_time()),
+        }
     }
 
-    // What passed on both since then.
-    fn since<R: Clock + CpuClock>(self, rt: &R) -> io::Result<Taken> {
-        let now = Taken::now(rt)?;
-        Ok(Taken {
+    /// What passed on both since then.
+    fn since<R: Clock + CpuClock>(self, rt: &R) -> Taken {
+        let now = Taken::now(rt);
+        Taken {
             clock: now.clock - self.clock,
             processor: now.processor - self.processor,
-        })
+        }
     }
 }
 
-// A turnstile and its pass 0, which gave no number yet.
+/// What each thread does: it takes so many turns, or the first one holds its turn instead.
+#[derive(Clone, Copy)]
+struct Work {
+    threads: u32,
+    turns: u32,
+    first_holds: bool,
+}
+
+/// A turnstile and its pass 0, which gave no number yet.
 fn new_turnstile(alloc: Global) -> io::Result<(Turnstile<Tally>, Pass<Tally>)>
     ensures { IfOk result (λ made. made.1 ≡ first_pass made.0) }
 {
@@ -57,7 +69,7 @@ fn new_turnstile(alloc: Global) -> io::Result<(Turnstile<Tally>, Pass<Tally>)>
     }
 }
 
-// A lane for each of so many passes.
+/// A lane for each of so many passes.
 fn lanes<'a>(
     alloc: Global,
     lock: &'a Turnstile<Tally>,
@@ -74,88 +86,105 @@ fn lanes<'a>(
     Ok(lanes)
 }
 
-// So many threads take all turns of a turnstile.
-fn turnstile_turns<R: Threads + Wait + Clock + CpuClock + Sync>(
+/// How long the threads take with a turnstile.
+fn with_turnstile<R: Threads + Wait + Clock + CpuClock + Sync>(
     rt: &R,
     alloc: Global,
-    threads: u32,
+    work: Work,
 ) -> io::Result<Taken>
-    requires { 0 < threads }
+    requires { 0 < work.threads }
 {
     let (lock, mut first) = new_turnstile(alloc)?;
-    let mut lanes = lanes(alloc, &lock, &mut first, threads)?;
-    let turns = TURNS / threads;
-    let work = |_: usize, lane: &mut Lane| lane.take_turns(rt, turns);
-    let start = Taken::now(rt)?;
-    for_each_mut(rt, lanes.as_mut_slice(), threads as usize, &work);
-    start.since(rt)
+    let mut lanes = lanes(alloc, &lock, &mut first, work.threads)?;
+    let each = |place: usize, lane: &mut Lane| {
+        if work.first_holds && place == 0 {
+            lane.hold(rt, Duration::from_secs(HELD));
+        } else {
+            lane.take_turns(rt, work.turns);
+        }
+    };
+    let start = Taken::now(rt);
+    for_each_mut(rt, lanes.as_mut_slice(), work.threads as usize, &each);
+    Ok(start.since(rt))
 }
 
-// So many threads take std's lock as often.
-fn mutex_turns<R: Threads + Wait + Clock + CpuClock + Sync>(
-    rt: &R,
-    alloc: Global,
-    threads: u32,
-) -> io::Result<Taken>
-    requires { 0 < threads }
-{
-    let lock = Mutex::new(Tally { turns: 0 });
-    let mut lanes = vec![in alloc; 0u32; threads as usize]?;
-    let turns = TURNS / threads;
-    let work = |_: usize, _: &mut u32| lock_often(rt, &lock, turns);
-    let start = Taken::now(rt)?;
-    for_each_mut(rt, lanes.as_mut_slice(), threads as usize, &work);
-    start.since(rt)
-}
-
+/// Takes std's lock so often.
 fn lock_often<R: Wait>(rt: &R, lock: &Mutex<Tally>, turns: u32) {
     for _ in 0..turns {
         lock.lock(rt).count();
     }
 }
 
-// One of so many threads holds the turn, and all others wait for theirs.
-fn turnstile_waiting<R: Threads + Wait + Clock + CpuClock + Sync>(
-    rt: &R,
-    alloc: Global,
-    threads: u32,
-) -> io::Result<Taken>
-    requires { 0 < threads }
-{
-    let (lock, mut first) = new_turnstile(alloc)?;
-    let mut lanes = lanes(alloc, &lock, &mut first, threads)?;
-    let work = |place: usize, lane: &mut Lane| {
-        if place == 0 {
-            lane.hold(rt, Duration::from_secs(HELD));
-        } else {
-            lane.take_turns(rt, 1);
-        }
-    };
-    let start = Taken::now(rt)?;
-    for_each_mut(rt, lanes.as_mut_slice(), threads as usize, &work);
-    start.since(rt)
+/// Takes it once, and holds it.
+fn lock_long<R: Wait + Clock>(rt: &R, lock: &Mutex<Tally>) {
+    let mut tally = lock.lock(rt);
+    tally.count();
+    thread::sleep(rt, Duration::from_secs(HELD));
 }
 
-// The same with std's lock.
-fn mutex_waiting<R: Threads + Wait + Clock + CpuClock + Sync>(
+/// How long the threads take with std's lock.
+fn with_mutex<R: Threads + Wait + Clock + CpuClock + Sync>(
+    rt: &R,
+    alloc: Global,
+    work: Work,
+) -> io::Result<Taken>
+    requires { 0 < work.threads }
+{
+    let lock = Mutex::new(Tally { turns: 0 });
+    let mut lanes = vec![in alloc; 0u32; work.threads as usize]?;
+    let each = |place: usize, _: &mut u32| {
+        if work.first_holds && place == 0 {
+            lock_long(rt, &lock);
+        } else {
+            lock_often(rt, &lock, work.turns);
+        }
+    };
+    let start = Taken::now(rt);
+    for_each_mut(rt, lanes.as_mut_slice(), work.threads as usize, &each);
+    Ok(start.since(rt))
+}
+
+/// Prints the turns of so many threads.
+fn print_rates<R: Threads + Wait + Clock + CpuClock + Print + Sync>(
     rt: &R,
     alloc: Global,
     threads: u32,
-) -> io::Result<Taken>
+) -> io::Result<()>
     requires { 0 < threads }
 {
-    let lock = Mutex::new(Tally { turns: 0 });
-    let mut lanes = vec![in alloc; 0u32; threads as usize]?;
-    let work = |place: usize, _: &mut u32| {
-        let mut tally = lock.lock(rt);
-        tally.count();
-        if place == 0 {
-            thread::sleep(rt, Duration::from_secs(HELD));
-        }
+    let work = Work {
+        threads,
+        turns: TURNS / threads,
+        first_holds: false,
     };
-    let start = Taken::now(rt)?;
-    for_each_mut(rt, lanes.as_mut_slice(), threads as usize, &work);
-    start.since(rt)
+    let ours = with_turnstile(rt, alloc, work)?;
+    let theirs = with_mutex(rt, alloc, work)?;
+    println!(rt;
+        "{threads}: {:.0}, {:.0}, {:.3}; {:.2}, {:.2}",
+        f64::from(TURNS) / ours.clock,
+        f64::from(TURNS) / theirs.clock,
+        theirs.clock / ours.clock,
+        ours.processor / ours.clock,
+        theirs.processor / theirs.clock
+    )
+}
+
+/// Prints what waiting takes.
+fn print_waiting<R: Threads + Wait + Clock + CpuClock + Print + Sync>(
+    rt: &R,
+    alloc: Global,
+) -> io::Result<()> {
+    let work = Work {
+        threads: WAITING_THREADS,
+        turns: 1,
+        first_holds: true,
+    };
+    let ours = with_turnstile(rt, alloc, work)?;
+    let theirs = with_mutex(rt, alloc, work)?;
+    println!(rt;
+        "23 threads wait for a second: {:.4} s of processor time, with a Mutex {:.4} s",
+        ours.processor, theirs.processor
+    )
 }
 
 /// Prints a line for each number of threads, and then what waiting takes.
@@ -167,26 +196,7 @@ pub fn measure<R: Threads + Wait + Clock + CpuClock + Print + Sync>(
         "threads: turns/s, locks/s of a Mutex, turns to a lock; processors busy, with a Mutex"
     )?;
     for threads in [1, 2, 8, 24] {
-        let ours = turnstile_turns(rt, alloc, threads)?;
-        let theirs = mutex_turns(rt, alloc, threads)?;
-        print_rates(rt, threads, ours, theirs)?;
+        print_rates(rt, alloc, threads)?;
     }
-    let ours = turnstile_waiting(rt, alloc, 24)?;
-    let theirs = mutex_waiting(rt, alloc, 24)?;
-    println!(rt;
-        "23 threads wait for a second: {:.4} s of processor time, with a Mutex {:.4} s",
-        ours.processor, theirs.processor
-    )
-}
-
-fn print_rates<R: Print>(rt: &R, threads: u32, ours: Taken, theirs: Taken) -> io::Result<()> {
-    let turns = f64::from(TURNS);
-    println!(rt;
-        "{threads}: {:.0}, {:.0}, {:.3}; {:.2}, {:.2}",
-        turns / ours.clock,
-        turns / theirs.clock,
-        theirs.clock / ours.clock,
-        ours.processor / ours.clock,
-        theirs.processor / theirs.clock
-    )
+    print_waiting(rt, alloc)
 }

@@ -1,5 +1,5 @@
 -- Which stand a command line names, which of its words are the command's, and which status the process ends with.
-use Rattle.std.specs.Prelude.{ℕ, List, [], ◌∷◌, codes, string_bytes, String, Option, Some, None, Result, Ok, Err}
+use Rattle.std.specs.Prelude.{ℕ, Bool, true, false, List, [], ◌∷◌, codes, string_bytes, String, Option, Some, None, Result, Ok, Err}
 use Rattle.std.specs.declared.alloc.Global.{Global}
 use Rattle.fts_tables.specs.declared.names.Memory.{Memory}
 use Rattle.fts_words.specs.declared.asked.Asked.{Asked}
@@ -29,6 +29,14 @@ LooksAtMost (Some Session) = ⊥
 LooksAtMost (Some Show) = Unit {0}
 LooksAtMost (Some (Load number)) = ⊥
 LooksAtMost (Some (Serve port lanes connections)) = ⊥
+
+-- a service is asked for
+abbrev pub asks_service : Option Asked → Bool
+asks_service None = false
+asks_service (Some Session) = true
+asks_service (Some Show) = false
+asks_service (Some (Load number)) = true
+asks_service (Some (Serve port lanes connections)) = true
 
 -- the status of the process: that of its run, and 1 where there was no memory to begin one
 abbrev pub exit_status_of : Result Ending Memory → ℕ

@@ -9,24 +9,27 @@
 ghost use Rattle.std.specs.Prelude.{◌≡◌, length, map, string_bytes, IfOk};
 ghost use Rattle.fts_disk.specs.File.{IsReadOnly};
 ghost use Rattle.fts_words.specs.Words.{asked_in};
-ghost use Rattle.fts.specs.CommandLine.{stand_of, words_of, exit_status_of, LooksAtMost};
+ghost use Rattle.fts.specs.CommandLine.{stand_of, words_of, asks_service, exit_status_of, LooksAtMost};
 
+mod accepting;
 mod outside;
 #[cfg(test)]
 mod sockets;
+mod steps;
 mod tcp_doors;
 mod tcp_line;
 #[cfg(test)]
 mod tests;
 
-use fts_disk::{Disk, FileDisk, MemoryDisk};
+use fts_disk::{Disk, FileDisk, MemoryDisk, SystemDisk};
+use fts_files::FileSystem;
 use fts_store::{FolderStore, MemoryStore, Store, StoredFile};
 use fts_tables::{Clock, EndpointName, Items, Memory, PathKey, Place};
 use fts_top::{Doors, Ending, Lane, Outside, run};
 use fts_wire::{MemorySource, Source, StdSink, StdSource};
 use fts_words::{Asked, read_words};
 use fts_workers::Hand;
-use outside::{FileSource, PcgWords, SystemClock};
+use outside::{OpenedFile, PcgWords, SystemClock};
 use std::process::ExitCode;
 use std::sync::Wait;
 use std::thread::Threads;
@@ -257,8 +260,12 @@ fn run_in_folder<R: Threads + Wait + Sync>(
             return Err(Memory);
         }
     }
-    let settings = FileSource::open(rt, settings.as_str());
-    let disk = disk_for(rt, words, journal.as_str());
+    let settings = StdSource::new(OpenedFile::open(rt, settings.as_str()));
+    let mut disk = disk_for(rt, words, journal.as_str());
+    if asks_service(words) && disk.len().is_ok() {
+        sweep_parts(rt, folder)?;
+        meet_endpoints(&mut stores)?;
+    }
     run_over(
         rt,
         threads,
@@ -270,9 +277,40 @@ fn run_in_folder<R: Threads + Wait + Sync>(
     )
 }
 
+/// Whether a service is asked for.
+fn asks_service(words: &[String]) -> bool
+    ensures { result ≡ asks_service (asked_in (map string_bytes words.now)) }
+{
+    match read_words(words) {
+        Some(Asked::Session | Asked::Load { .. } | Asked::Serve { .. }) => true,
+        Some(Asked::Show) | None => false,
+    }
+}
+
+/// Takes away what earlier services left of their parts in a stand's folder. One that another service holds stays.
+fn sweep_parts(rt: &HostRuntime, folder: &str) -> Result<(), Memory> {
+    let alloc = rt.alloc();
+    let grid = format!(in alloc; "{folder}/grid")?;
+    let mut store = FolderStore::new(rt, alloc, grid);
+    match store.sweep() {
+        Ok(()) => Ok(()),
+        Err(_) => Err(Memory),
+    }
+}
+
+/// Has each store look at the endpoints' own folders as they are now, before any of them copies: a mount that goes away later is missed by all.
+fn meet_endpoints<F: FileSystem + Drop>(stores: &mut [FolderStore<F>]) -> Result<(), Memory> {
+    for store in stores {
+        if store.meet_all().is_err() {
+            return Err(Memory);
+        }
+    }
+    Ok(())
+}
+
 /// The journal's file, opened for what the words ask for: made and locked for a service, and only looked at for `show` and for words that are no
 /// command, which leave a folder as it is.
-fn disk_for(rt: &HostRuntime, words: &[String], path: &str) -> FileDisk
+fn disk_for<'a>(rt: &'a HostRuntime, words: &[String], path: &str) -> SystemDisk<&'a HostRuntime>
     ensures { LooksAtMost (asked_in (map string_bytes words.now)) → IsReadOnly result }
 {
     match read_words(words) {

@@ -1,15 +1,20 @@
-//! The real clock, the real words and the settings' text of a folder, as the service sees them. They tell nothing; clock and words never fail.
+//! The real clock, the real words and the file of a folder's settings, as the service sees them. They tell nothing; clock and words never fail.
+//! Each word is two of the generator's, and the generator goes on by both (`next`). A file gives what it has left, and its failure is none of its ends.
 //! The streams are `StdSource` and `StdSink` of the wire, over the system's own, the disk is `FileDisk`, and the stores are `FolderStore`.
-ghost use Rattle.std.specs.Prelude.{◌≡◌, ◌≤◌, length, None, IfOk, IsErr};
-ghost use Rattle.fts_tables.specs.Counts.{CountsFaults};
-ghost use Rattle.fts_wire.specs.Outside.{Reads, raised};
+ghost use Rattle.std.specs.Prelude.{◌≡◌, None, IsErr};
+ghost use Rattle.std.specs.Io.{ReadsAtMost};
+ghost use Rattle.std.specs.Io.KnownBytes.{ReadConsumes};
+ghost use Rattle.rand_core.specs.Steps.{u64_via_u32};
+ghost use Rattle.rand_pcg.specs.Lcg.{increment_of, started};
+ghost use Rattle.rand_pcg.specs.Pcg.{multiplier_64, pcg32};
+ghost use Rattle.fts_tables.specs.Coming.{Gives};
+ghost use Rattle.fts.specs.Settings.{left_of};
 
 use fts_tables::{Clock, Words};
-use fts_wire::{Source, SourceFailed};
+use rand_core::utils::next_u64_via_u32;
 use rand_pcg::Lcg64Xsh32;
-use rand_pcg::rand_core::Rng;
 use std::fs::{File, Files};
-use std::io::Read;
+use std::io::{self, ErrorKind, Read};
 use std::rt::Clock as SystemTimes;
 use std::thread;
 use std::time::{Duration, SystemTime, UNIX_EPOCH};
@@ -58,7 +63,9 @@ pub struct PcgWords {
 
 impl PcgWords {
     /// The words of a state, a moment in seconds since 1970, on a stream, the place of a hand.
-    pub fn new(moment: u64, place: u64) -> PcgWords {
+    pub fn new(moment: u64, place: u64) -> PcgWords
+        ensures { result.random ≡ started 64 multiplier_64 moment (increment_of 64 place) }
+    {
         PcgWords {
             random: Lcg64Xsh32::new(moment, place),
         }
@@ -70,60 +77,50 @@ impl Words for PcgWords {
 
     ghost words = { λ _. None };
 
-    fn next(&mut self) -> u64 {
-        self.random.next_u64()
+    fn next(&mut self) -> u64
+        ensures given { Gives None None result }
+        ensures word { (result, self.new.random) ≡ u64_via_u32 pcg32 self.old.random }
+    {
+        next_u64_via_u32(&mut self.random)
     }
 }
 
-/// The text of a file. One that could not be opened fails at each read.
+/// A file that may not have been opened: each read of it fails then.
+/// Over it stands the wire's `StdSource`, so what a signal interrupted is read again, and no failure is taken for the end.
 #[derive(Drop)]
-pub struct FileSource {
-    file: Option<File>,
-    reads: u64,
-    faults: u64,
+pub struct OpenedFile<F: Read> {
+    file: Option<F>,
 }
 
-impl FileSource {
-    /// The text of the file at a path.
-    pub fn open<R: Files<File = File>>(rt: &R, path: &str) -> FileSource {
-        FileSource {
-            file: File::open(rt, path).ok(),
-            reads: 0,
-            faults: 0,
-        }
+impl OpenedFile<File> {
+    /// The file at a path.
+    pub fn open<R: Files<File = File>>(rt: &R, path: &str) -> OpenedFile<File> {
+        OpenedFile::of(File::open(rt, path).ok())
     }
 }
 
-impl Source for FileSource {
-    ghost use Rattle.std.specs.Prelude.{None};
-    ghost use Rattle.fts_wire.specs.Outside.{nothing_beside};
+impl<F: Read> OpenedFile<F> {
+    /// A file that was opened, or none.
+    pub fn of(file: Option<F>) -> OpenedFile<F>
+        ensures { result.file ≡ file }
+    {
+        OpenedFile { file }
+    }
+}
 
-    ghost left = { λ _. None };
+impl<F: Read> Read for OpenedFile<F> {
+    ghost use Rattle.fts.specs.Settings.{left_of};
 
-    ghost faults = { λ s. s.faults };
+    ghost remaining = { λ opened. left_of F.remaining opened.file };
 
-    ghost reads = { λ s. s.reads };
-
-    ghost beside = { λ _. nothing_beside };
-
-    fn read(&mut self, into: &mut [u8]) -> Result<usize, SourceFailed>
-        ensures bound { IfOk result (λ n. n ≤ length into.new) }
-        ensures read { Reads None None into.new result }
-        ensures counted { self.new.reads ≡ raised self.old.reads 1 }
-        ensures cause { CountsFaults self.old.faults self.new.faults result }
+    fn read(&mut self, buf: &mut [u8]) -> io::Result<usize>
+        ensures bound { ReadsAtMost result buf.new }
+        ensures bytes { ReadConsumes (left_of F.remaining self.old.file) (left_of F.remaining self.new.file) result buf.new }
         ensures shut { self.old.file ≡ None → IsErr result }
     {
-        self.reads = self.reads.saturating_add(1);
-        let taken = match &mut self.file {
-            Some(file) => file.read(into).ok(),
-            None => None,
-        };
-        match taken {
-            Some(n) => Ok(n),
-            None => {
-                self.faults = self.faults.saturating_add(1);
-                Err(SourceFailed)
-            }
+        match &mut self.file {
+            Some(file) => file.read(buf),
+            None => Err(io::Error::from(ErrorKind::NotFound)),
         }
     }
 }

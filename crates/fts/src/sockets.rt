@@ -1,4 +1,4 @@
-//! What no clause says: how the doors and lines of a port meet clients over real sockets, under short limits.
+//! What no clause says: how the doors and lines of a port meet clients over real sockets, under short limits, or by a clock that is set.
 ghost use Rattle.std.specs.Prelude.{◌<◌, IfOk, IsTrue};
 ghost use Rattle.fts_wire.specs.Response.{has_phrase, has_methods};
 
@@ -8,7 +8,9 @@ use fts_tables::Items;
 use fts_top::{Doors, DoorsFailed};
 use fts_wire::{Allow, Reply, Room, Sink, SinkFailed, Source, WireFault, write_response};
 use std::io::{Read, Write};
-use std::net::{Ipv4Addr, Shutdown, TcpStream};
+use std::net::{IpAddr, Ipv4Addr, Shutdown, TcpListener, TcpStream};
+use std::rt::Clock as SystemTimes;
+use std::sync::atomic::{AtomicBool, AtomicU64, Ordering};
 use std::test::Fail;
 use std::time::Duration;
 use std::{io, thread};
@@ -19,8 +21,9 @@ type Opened<'a> = TcpDoors<&'a HostRuntime>;
 /// Limits under which a client is soon let go.
 fn short_limits() -> LineLimits {
     LineLimits {
-        wait: Duration::from_millis(300),
-        request: Duration::from_millis(900),
+        wait: Duration::from_secs(1),
+        request: Duration::from_secs(2),
+        drain: Duration::from_secs(1),
         ..LineLimits::of_service()
     }
 }
@@ -28,8 +31,8 @@ fn short_limits() -> LineLimits {
 /// Doors that listen on a free port, and the port.
 fn open_doors(rt: &HostRuntime, limits: LineLimits) -> Result<(Opened<'_>, u16), Fail> {
     let mut doors = TcpDoors::new(rt, limits);
-    match (doors.listen(0), doors.port()) {
-        (Ok(()), Some(port)) => Ok((doors, port)),
+    match (doors.listen(0), doors.place()) {
+        (Ok(()), Some(place)) => Ok((doors, place.port())),
         _ => Err(Fail::new("no port")),
     }
 }
@@ -59,6 +62,24 @@ fn load_next(rt: &HostRuntime, doors: &mut Opened<'_>) -> Result<Result<bool, Wi
 }
 
 #[test]
+fn only_this_machine_s_own_address_is_listened_on(rt: HostRuntime) -> Result<(), Fail> {
+    let (doors, port) = open_doors(&rt, short_limits())?;
+    let own = IpAddr::V4(Ipv4Addr::new(127, 0, 0, 1));
+    assert!(rt;
+        doors.place().map(|place| place.ip()) == Some(own),
+        "the listener's own address is 127.0.0.1"
+    );
+    assert!(rt; connect(&rt, port).is_ok(), "127.0.0.1");
+    let other = TcpStream::connect(&rt, (Ipv4Addr::new(127, 0, 0, 2), port));
+    assert!(rt;
+        other.is_err(),
+        "127.0.0.2, which doors on every address would take"
+    );
+    drop(doors);
+    Ok(())
+}
+
+#[test]
 fn a_client_that_sends_a_byte_and_waits_is_let_go(rt: HostRuntime) -> Result<(), Fail> {
     let (mut doors, port) = open_doors(&rt, short_limits())?;
     let mut client = connect(&rt, port)?;
@@ -75,26 +96,146 @@ fn a_client_that_sends_a_byte_and_waits_is_let_go(rt: HostRuntime) -> Result<(),
     Ok(())
 }
 
-/// Sends a byte at a time until one can't be sent, or a request took too long.
-fn drip(rt: &HostRuntime, client: &mut TcpStream) {
-    for _ in 0..40 {
+/// Sends a byte at a time until one can't be sent, for twenty seconds at least. Whether one could not.
+fn drip(rt: &HostRuntime, client: &mut TcpStream) -> bool {
+    for _ in 0..400 {
         if client.write_all(b"G").is_err() {
-            return;
+            return true;
         }
         thread::sleep(rt, Duration::from_millis(50));
     }
+    false
 }
 
 #[test]
 fn a_request_that_drips_is_not_waited_for(rt: HostRuntime) -> Result<(), Fail> {
     let (mut doors, port) = open_doors(&rt, short_limits())?;
     let mut client = connect(&rt, port)?;
-    let (_dripped, loaded) = thread::join(
+    let (is_let_go, loaded) = thread::join(
         &rt,
         || drip(&rt, &mut client),
         || load_next(&rt, &mut doors),
     );
     assert!(rt; loaded? == Err(WireFault::SourceFailed), "a byte at a time");
+    assert!(rt; is_let_go, "its line is closed while it drips");
+    Ok(())
+}
+
+/// Ends a line whose client has sent nothing so far.
+fn end_next(doors: &mut Opened<'_>) -> Result<(), Fail> {
+    let line = next_line(doors)?;
+    doors.done(line);
+    Ok(())
+}
+
+#[test]
+fn a_refused_client_that_drips_is_not_waited_for(rt: HostRuntime) -> Result<(), Fail> {
+    let (mut doors, port) = open_doors(&rt, short_limits())?;
+    let mut client = connect(&rt, port)?;
+    let (is_let_go, ended) = thread::join(&rt, || drip(&rt, &mut client), || end_next(&mut doors));
+    ended?;
+    assert!(rt; is_let_go, "its line is closed while it drips");
+    Ok(())
+}
+
+/// Reads a byte at a time, until the line is given up or all of so many have come. How many came.
+fn sip(client: &mut TcpStream, is_given_up: &AtomicBool, most: usize) -> usize {
+    let mut byte = [0];
+    for count in 0..most {
+        let is_read = matches!(client.read(&mut byte), Ok(1));
+        if !is_read || is_given_up.load(Ordering::SeqCst) {
+            return count;
+        }
+    }
+    most
+}
+
+/// Writes so many bytes to the next line, and says that this is done.
+fn pour(
+    rt: &HostRuntime,
+    doors: &mut Opened<'_>,
+    is_given_up: &AtomicBool,
+    count: usize,
+) -> Result<Result<usize, SinkFailed>, Fail> {
+    let piece = vec![in rt.alloc(); 0; count]?;
+    let mut line = next_line(doors)?;
+    let written = line.write(piece.as_slice());
+    is_given_up.store(true, Ordering::SeqCst);
+    line.end();
+    Ok(written)
+}
+
+/// More bytes than the system keeps for a line.
+const FLOOD: usize = 33_554_432;
+
+#[test]
+fn a_client_that_reads_a_byte_at_a_time_is_not_waited_for(rt: HostRuntime) -> Result<(), Fail> {
+    let (mut doors, port) = open_doors(&rt, short_limits())?;
+    let mut client = connect(&rt, port)?;
+    let is_given_up = AtomicBool::new(false);
+    let (sipped, written) = thread::join(
+        &rt,
+        || sip(&mut client, &is_given_up, FLOOD),
+        || pour(&rt, &mut doors, &is_given_up, FLOOD),
+    );
+    assert!(rt; written? == Err(SinkFailed), "it reads a byte at a time");
+    assert!(rt; sipped < FLOOD, "and has not read all");
+    Ok(())
+}
+
+/// A clock that shows what it was set to, in seconds.
+#[derive(Drop)]
+struct SetClock {
+    seconds: AtomicU64,
+}
+
+impl SystemTimes for SetClock {
+    fn monotonic(&self) -> io::Result<Duration> {
+        Ok(Duration::from_secs(self.seconds.load(Ordering::SeqCst)))
+    }
+
+    fn since_1970(&self) -> io::Result<Duration> {
+        self.monotonic()
+    }
+}
+
+/// Sets the clock, sends a request, and says whether it is read.
+fn is_read(
+    clock: &SetClock,
+    seconds: u64,
+    client: &mut TcpStream,
+    line: &mut TcpLine<&SetClock>,
+) -> io::Result<bool> {
+    clock.seconds.store(seconds, Ordering::SeqCst);
+    client.write_all(b"GET /jobs HTTP/1.1\r\n\r\n")?;
+    let mut into = [0; 100];
+    Ok(line.read(&mut into).is_ok())
+}
+
+#[test]
+fn a_kept_line_is_served_beyond_its_first_limit(rt: HostRuntime) -> Result<(), Fail> {
+    let listener = TcpListener::bind(&rt, (Ipv4Addr::LOCALHOST, 0))?;
+    let mut client = connect(&rt, listener.local_addr()?.port())?;
+    let (stream, _) = listener.accept()?;
+    let clock = SetClock {
+        seconds: AtomicU64::new(1_000),
+    };
+    let mut line = TcpLine::new(&clock, stream, LineLimits::of_service())?;
+    let first = is_read(&clock, 1_040, &mut client, &mut line)?;
+    assert!(rt; first, "40 seconds behind its beginning");
+    assert!(rt; line.write(b"x").is_ok(), "its response");
+    let second = is_read(&clock, 1_080, &mut client, &mut line)?;
+    assert!(rt;
+        second,
+        "80 seconds behind its beginning, 40 behind its response"
+    );
+    let third = is_read(&clock, 1_101, &mut client, &mut line)?;
+    assert!(rt;
+        !third,
+        "61 seconds behind its response, 21 behind its last read"
+    );
+    drop(line);
+    drop(listener);
     Ok(())
 }
 

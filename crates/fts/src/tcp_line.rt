@@ -1,13 +1,16 @@
 //! A line over a socket: the bytes that a client sends, and those that it is sent.
 //! Keeps: no client holds its lane. A read or a write that waits too long fails, and so does a read for a request that isn't whole in time, however
-//! its bytes drip (`LineLimits`). Each failure is counted, and is this line's alone.
+//! its bytes drip (`LineLimits`): the time of a request goes from the last response that was written whole, and no read and no failed write begins it
+//! anew (`read`, clause `since`). Each failure is counted, and is this line's alone.
 //! Order of an end: where the client may still be sending, the writing side is shut, and what comes is taken in for a while; then it is closed.
 //! Else unread bytes would make the system reset the connection, and the last response could be lost.
 //! Made by `TcpDoors`. It tells nothing of bytes.
-ghost use Rattle.std.specs.Prelude.{◌≡◌, ◌≤◌, ◌<◌, length, None, IfOk};
+ghost use Rattle.std.specs.Prelude.{◌≡◌, ◌≤◌, ◌<◌, length, None, IfOk, IsErr};
 ghost use Rattle.fts_tables.specs.Counts.{CountsFaults};
 ghost use Rattle.fts_wire.specs.Outside.{Reads, Writes, raised};
+ghost use Rattle.fts.specs.Steps.{is_end};
 
+use crate::steps::{drains_on, is_end, may_send, time_left};
 use fts_wire::{Sink, SinkFailed, Source, SourceFailed};
 use std::io;
 use std::io::{ErrorKind, Read, Write};
@@ -92,27 +95,31 @@ impl<R: SystemTimes + Copy> TcpLine<R> {
     fn read_in_time(&mut self, into: &mut [u8]) -> io::Result<usize>
         ensures bound { IfOk result (λ n. n ≤ length into.new) }
         ensures faults { (self.new.reads ≡ self.old.reads) × (self.new.read_faults ≡ self.old.read_faults) × (self.new.write_faults ≡ self.old.write_faults) }
+        ensures since { self.new.since ≡ self.old.since }
+        ensures end { IfOk result (λ n. self.new.is_at_end ≡ is_end n (length into.old)) }
     {
         let left = time_left(self.limits.request, self.since.elapsed(&self.rt)?)?;
         self.stream
             .set_read_timeout(Some(left.min(self.limits.wait)))?;
         let n = read_once(&mut self.stream, into)?;
-        self.is_at_end = n == 0 && !into.is_empty();
+        self.is_at_end = is_end(n, into.len());
         Ok(n)
     }
 
-    /// Writes all of the bytes, in the time that one write may wait.
-    fn write_in_time(&mut self, bytes: &[u8]) -> io::Result<()>
+    /// Writes all of the bytes, in the time that one write may wait. The moment behind the last one, from which the next request's time goes.
+    fn write_in_time(&mut self, bytes: &[u8]) -> io::Result<Instant>
         ensures faults { (self.new.reads ≡ self.old.reads) × (self.new.read_faults ≡ self.old.read_faults) × (self.new.write_faults ≡ self.old.write_faults) }
+        ensures since { IfOk result (λ written. self.new.since ≡ written) }
+        ensures failed { IsErr result → self.new.since ≡ self.old.since }
     {
         write_whole(&self.rt, &mut self.stream, bytes, self.limits.wait)?;
         self.since = Instant::now(&self.rt)?;
-        Ok(())
+        Ok(self.since)
     }
 
     /// Ends the connection. A client that may still be sending can read its last response to the end.
     pub fn end(mut self) {
-        if !self.is_at_end && self.read_faults == 0 && self.write_faults == 0 {
+        if may_send(self.is_at_end, self.read_faults, self.write_faults) {
             // Whatever comes of it, the line is closed, and nobody is left to be told.
             let _drained = self.drain();
         }
@@ -129,19 +136,11 @@ impl<R: SystemTimes + Copy> TcpLine<R> {
             self.stream.set_read_timeout(Some(left))?;
             let n = read_once(&mut self.stream, &mut piece)?;
             taken = usize::saturating_add(taken, n);
-            if n == 0 || taken >= self.limits.drain_bytes {
+            if !drains_on(n, taken, self.limits.drain_bytes) {
                 break;
             }
         }
         Ok(())
-    }
-}
-
-/// What is left of a time, which is not 0.
-fn time_left(whole: Duration, passed: Duration) -> io::Result<Duration> {
-    match whole.checked_sub(passed) {
-        Some(left) if !left.is_zero() => Ok(left),
-        Some(_) | None => Err(io::Error::from(ErrorKind::TimedOut)),
     }
 }
 
@@ -202,7 +201,14 @@ impl<R: SystemTimes + Copy> Source for TcpLine<R> {
 
     ghost beside = { λ l. record { bytes = None; faults = l.write_faults; reads = 0 } };
 
-    fn read(&mut self, into: &mut [u8]) -> Result<usize, SourceFailed> {
+    fn read(&mut self, into: &mut [u8]) -> Result<usize, SourceFailed>
+        ensures bound { IfOk result (λ n. n ≤ length into.new) }
+        ensures read { Reads None None into.new result }
+        ensures counted { self.new.reads ≡ raised self.old.reads 1 }
+        ensures cause { CountsFaults self.old.read_faults self.new.read_faults result }
+        ensures beside { self.new.write_faults ≡ self.old.write_faults }
+        ensures since { self.new.since ≡ self.old.since }
+    {
         self.reads = self.reads.saturating_add(1);
         match self.read_in_time(into) {
             Ok(n) => Ok(n),
@@ -223,9 +229,16 @@ impl<R: SystemTimes + Copy> Sink for TcpLine<R> {
 
     ghost beside = { λ l. record { bytes = None; faults = l.read_faults; reads = l.reads } };
 
-    fn write(&mut self, bytes: &[u8]) -> Result<usize, SinkFailed> {
+    fn write(&mut self, bytes: &[u8]) -> Result<usize, SinkFailed>
+        ensures bound { IfOk result (λ n. n ≤ length bytes.now) }
+        ensures some { IfOk result (λ n. 0 < length bytes.now → 0 < n) }
+        ensures written { Writes None None bytes.now result }
+        ensures cause { CountsFaults self.old.write_faults self.new.write_faults result }
+        ensures beside { (self.new.read_faults ≡ self.old.read_faults) × (self.new.reads ≡ self.old.reads) }
+        ensures failed { IsErr result → self.new.since ≡ self.old.since }
+    {
         match self.write_in_time(bytes) {
-            Ok(()) => Ok(bytes.len()),
+            Ok(_) => Ok(bytes.len()),
             Err(_) => {
                 self.write_faults = self.write_faults.saturating_add(1);
                 Err(SinkFailed)

@@ -8,3 +8,4 @@ mod Rows
 mod Putting
 mod Matching
 mod Ending
+mod Removed

@@ -4,3 +4,4 @@ pub mod Watch
 pub mod Counting
 pub mod Script
 pub mod Steps
+pub mod Tidying

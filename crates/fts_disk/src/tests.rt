@@ -1,9 +1,7 @@
 //! What no clause says: calls with ample memory, what a stop leaves by worked bytes, the order of the system's calls, and real files.
-ghost use Rattle.std.specs.Prelude.{ℤ, pos};
-
 use crate::guard::Guard;
-use crate::raw::{Pages, RawFile, forgotten, synced, written};
 use crate::{Disk, DiskFailed, FileDisk, MemoryDisk};
+use fts_files::{FileSystem, Kind, Refused, Seen, Way};
 use std::alloc::{Alloc, Global};
 use std::fs::{self, File, Files};
 use std::io;
@@ -89,134 +87,186 @@ fn a_stop_leaves_what_was_synced(rt: HostRuntime) -> Result<(), Fail> {
     Ok(())
 }
 
-/// A file of the eight bytes `abcdefgh`, which keeps a letter for each call: w is a write, s a sync, S one of the whole, f the dropping of
-/// pages, r a read, l a length. The n-th call, from 1, fails where n is listed, and a read gives other bytes where it is to lie.
+/// A file system of one file, whose first bytes it holds, which keeps a letter for each call: o is an opening, n a making, l a look
+/// by name, h one by the handle, k a lock, w a write, s a sync of data, S one of all, f the dropping of pages, r a read. The n-th call, from 1,
+/// is refused where n is listed, and a read gives other bytes where it is to lie.
 #[derive(Drop)]
-struct ScriptedFile {
-    pages: Pages,
-    bytes: [u8; 8],
+struct Scripted {
+    bytes: [u8; 16],
+    len: u64,
     calls: Vec<u8>,
     fail: [usize; 2],
     lies: bool,
 }
 
-impl ScriptedFile {
-    ghost use Rattle.std.specs.Prelude.{◌≡◌};
-
-    fn new(calls: Vec<u8>, fail: [usize; 2], lies: bool) -> ScriptedFile
-        ensures { result.pages ≡ Pages.Sound }
-    {
-        ScriptedFile {
-            pages: Pages::Sound,
-            bytes: *b"abcdefgh",
+impl Scripted {
+    fn new(calls: Vec<u8>, fail: [usize; 2], lies: bool) -> Scripted {
+        Scripted {
+            bytes: *b"abcdefghijklmnop",
+            len: 8,
             calls,
             fail,
             lies,
         }
     }
 
-    fn call(&mut self, letter: u8) -> Result<(), DiskFailed>
-        ensures { self.new.pages ≡ self.old.pages }
-    {
+    fn call(&mut self, letter: u8) -> Result<(), Refused> {
         let kept = self.calls.push(letter).is_ok();
         if kept && !self.fail.contains(&self.calls.len()) {
             Ok(())
         } else {
-            Err(DiskFailed)
+            Err(Refused { errno: 5 })
+        }
+    }
+
+    fn seen(&self) -> Seen {
+        Seen {
+            kind: Kind::File,
+            len: self.len,
+            device: 1,
+            inode: 2,
+            mode: 0o644,
         }
     }
 }
 
-impl RawFile for ScriptedFile {
-    ghost pages = { λ file. file.pages };
+impl FileSystem for Scripted {
+    ghost use Rattle.std.specs.Prelude.{None};
 
-    ghost handle = { λ _. pos 3 };
+    type Handle = u32;
 
-    fn len(&mut self) -> Result<u64, DiskFailed> {
-        self.call(b'l')?;
-        Ok(8)
+    ghost calls = { λ _. None };
+
+    ghost number = { λ file. file };
+
+    fn open(&mut self, _: &str, way: Way) -> Result<u32, Refused> {
+        self.call(if way == Way::New { b'n' } else { b'o' })?;
+        Ok(3)
     }
 
-    fn read_at(&mut self, at: u64, into: &mut [u8]) -> Result<(), DiskFailed> {
+    fn look(&mut self, _: &str) -> Result<Seen, Refused> {
+        self.call(b'l')?;
+        Ok(self.seen())
+    }
+
+    fn look_at_name(&mut self, _: &str) -> Result<Seen, Refused> {
+        self.call(b'L')?;
+        Ok(self.seen())
+    }
+
+    fn look_at_open(&mut self, _: &u32) -> Result<Seen, Refused> {
+        self.call(b'h')?;
+        Ok(self.seen())
+    }
+
+    fn read_at(&mut self, _: &u32, offset: u64, into: &mut [u8]) -> Result<usize, Refused> {
         self.call(b'r')?;
-        let inside = self.bytes.iter().skip(at as usize);
+        let inside = self.bytes.iter().skip(offset as usize);
         for (place, byte) in into.iter_mut().zip(inside) {
             *place = if self.lies { b'?' } else { *byte };
         }
-        Ok(())
+        let left = self.bytes.len().saturating_sub(offset as usize);
+        Ok(into.len().min(left))
     }
 
-    fn write_at(&mut self, at: u64, bytes: &[u8]) -> Result<(), DiskFailed> {
-        let answer = self.call(b'w');
-        self.pages = written(self.pages, answer.is_ok());
-        if answer.is_ok() {
-            for (place, byte) in self.bytes.iter_mut().skip(at as usize).zip(bytes) {
-                *place = *byte;
-            }
+    fn write_at(&mut self, _: &u32, offset: u64, bytes: &[u8]) -> Result<usize, Refused> {
+        self.call(b'w')?;
+        for (place, byte) in self.bytes.iter_mut().skip(offset as usize).zip(bytes) {
+            *place = *byte;
         }
-        answer
+        self.len = self.len.max(offset.saturating_add(bytes.len() as u64));
+        Ok(bytes.len())
     }
 
-    fn sync(&mut self) -> Result<(), DiskFailed> {
-        let answer = self.call(b's');
-        self.pages = synced(self.pages, answer.is_ok());
-        answer
+    fn sync_data(&mut self, _: &u32) -> Result<(), Refused> {
+        self.call(b's')
     }
 
-    fn sync_whole(&mut self) -> Result<(), DiskFailed> {
-        let answer = self.call(b'S');
-        self.pages = synced(self.pages, answer.is_ok());
-        answer
+    fn sync_all(&mut self, _: &u32) -> Result<(), Refused> {
+        self.call(b'S')
     }
 
-    fn forget(&mut self) -> Result<(), DiskFailed> {
-        let answer = self.call(b'f');
-        self.pages = forgotten(self.pages, answer.is_ok());
-        answer
+    fn lock(&mut self, _: &u32) -> Result<(), Refused> {
+        self.call(b'k')
     }
+
+    fn forget(&mut self, _: &u32) -> Result<(), Refused> {
+        self.call(b'f')
+    }
+
+    fn link(&mut self, _: &str, _: &str) -> Result<(), Refused> {
+        self.call(b'+')
+    }
+
+    fn rename(&mut self, _: &str, _: &str) -> Result<(), Refused> {
+        self.call(b'>')
+    }
+
+    fn unlink(&mut self, _: &str) -> Result<(), Refused> {
+        self.call(b'-')
+    }
+
+    fn make_folder(&mut self, _: &str) -> Result<(), Refused> {
+        self.call(b'm')
+    }
+
+    fn set_mode(&mut self, _: &u32, _: u32) -> Result<(), Refused> {
+        self.call(b'c')
+    }
+
+    fn names(&mut self, _: &str, _: &mut Vec<u8>) -> Result<(), Refused> {
+        self.call(b'd')
+    }
+
+    fn rest(&mut self) {}
+}
+
+/// A guard over the open file of a scripted file system.
+fn guarded(len: u64) -> Guard<Scripted> {
+    Guard::new(3, len)
 }
 
 /// Whether a write, a sync, a length, a write and a sync answer so, and ask these calls of a file with these failures, whose reads may lie.
 fn asks(alloc: Global, fail: [usize; 2], lies: bool, answers: [bool; 5], calls: &str) -> bool {
-    let file = ScriptedFile::new(Vec::new(alloc), fail, lies);
-    let mut guard = Guard::new(file, 8);
+    let mut files = Scripted::new(Vec::new(alloc), fail, lies);
+    let mut guard = guarded(8);
     let found = [
-        guard.write_at(2, b"XY").is_ok(),
-        guard.sync().is_ok(),
-        guard.len().is_ok(),
-        guard.write_at(3, b"Z").is_ok(),
-        guard.sync().is_ok(),
+        guard.write_at(&mut files, 2, b"XY").is_ok(),
+        guard.sync(&mut files).is_ok(),
+        guard.len(&mut files).is_ok(),
+        guard.write_at(&mut files, 3, b"Z").is_ok(),
+        guard.sync(&mut files).is_ok(),
     ];
-    found == answers && guard.into_file().calls.as_slice() == calls.as_bytes()
+    found == answers && files.calls.as_slice() == calls.as_bytes()
 }
 
 #[test]
 fn after_a_failure_the_device_is_asked(rt: HostRuntime) {
     for (case, fail, answers, calls) in [
-        ("no call", [0, 0], [true; 5], "wslws"),
+        ("no call", [0, 0], [true; 5], "wshws"),
         (
             "a write",
             [1, 0],
             [false, true, true, true, true],
-            "wSflslwSfrs",
+            "wSfhshwSfrs",
         ),
         (
             "a sync",
             [2, 0],
             [true, false, true, true, true],
-            "wsSfllwSfrs",
+            "wsSfhhwSfrs",
         ),
         (
             "a sync and the next one",
             [2, 3],
             [true, false, false, true, true],
-            "wsSSflwSfrs",
+            "wsSSfhwSfrs",
         ),
         (
             "a sync and the dropping",
             [2, 4],
             [true, false, false, true, true],
-            "wsSfSflwSfrs",
+            "wsSfSfhwSfrs",
         ),
     ] {
         assert!(rt;
@@ -229,15 +279,15 @@ fn after_a_failure_the_device_is_asked(rt: HostRuntime) {
 #[test]
 fn after_other_bytes_are_read_back_the_device_is_asked(rt: HostRuntime) {
     let answers = [true, false, true, false, true];
-    let asks_again = asks(rt.alloc(), [2, 0], true, answers, "wsSfllwSfrSfls");
+    let asks_again = asks(rt.alloc(), [2, 0], true, answers, "wsSfhhwSfrSfhs");
     assert!(rt; asks_again, "other bytes are read back");
 }
 
-/// Whether a write of four bytes at this place of a file of that length is done, and asks these calls of it.
+/// Whether a write of four bytes at this place of a file of that length asks these calls of it, and is done unless it asks none.
 fn grows(alloc: Global, len: u64, at: u64, calls: &str) -> bool {
-    let file = ScriptedFile::new(Vec::new(alloc), [0, 0], false);
-    let mut guard = Guard::new(file, len);
-    guard.write_at(at, b"1234").is_ok() && guard.into_file().calls.as_slice() == calls.as_bytes()
+    let mut files = Scripted::new(Vec::new(alloc), [0, 0], false);
+    let is_done = guarded(len).write_at(&mut files, at, b"1234").is_ok();
+    is_done != calls.is_empty() && files.calls.as_slice() == calls.as_bytes()
 }
 
 #[test]
@@ -255,9 +305,103 @@ fn zeros_are_written_and_synced_before_a_file_grows(rt: HostRuntime) {
             "wsw",
         ),
         ("far behind the end", 8, 1_000_000, "w"),
+        ("where no file would be so long", 8, 1 << 62, ""),
     ] {
         assert!(rt; grows(rt.alloc(), len, at, calls), "{case}");
     }
+}
+
+const ZEROS_AND_FAILURE: &str = "wwwwwwwwwwwwwwwws";
+
+/// Whether the first write of four bytes behind eight fails, so many inside them and so many behind them are then done, and these calls are asked
+/// for, where the sync of the zeros fails.
+fn goes_on_without_zeros(alloc: Global, inside: u32, beyond: u32, calls: &str) -> bool {
+    let mut files = Scripted::new(Vec::new(alloc), [17, 0], false);
+    let mut guard = guarded(8);
+    let mut done = guard.write_at(&mut files, 8, b"1234").is_err();
+    for _ in 0..inside {
+        done = guard.write_at(&mut files, 2, b"XY").is_ok() && done;
+    }
+    for _ in 0..beyond {
+        done = guard.write_at(&mut files, 8, b"1234").is_ok() && done;
+    }
+    let asked = files.calls.as_slice();
+    done && asked.strip_prefix(ZEROS_AND_FAILURE.as_bytes()) == Some(calls.as_bytes())
+}
+
+#[test]
+fn zeros_whose_sync_fails_are_not_ready(rt: HostRuntime) {
+    for (case, inside, beyond, calls) in [
+        (
+            "the next write makes them anew, and is read back",
+            0,
+            1,
+            "SfhwwwwwwwwwwwwwwwwswSfr",
+        ),
+        (
+            "five writes inside are read back, and the one behind them is too",
+            5,
+            1,
+            "SfhwSfrwSfrwSfrwSfrwSfrwwwwwwwwwwwwwwwwswSfr",
+        ),
+        (
+            "four writes behind them are read back, and no fifth",
+            0,
+            5,
+            "SfhwwwwwwwwwwwwwwwwswSfrwSfrwSfrwSfrw",
+        ),
+    ] {
+        assert!(rt;
+            goes_on_without_zeros(rt.alloc(), inside, beyond, calls),
+            "{case}"
+        );
+    }
+}
+
+/// Whether a file is refused where this call of its opening is, with no call behind it.
+fn is_refused_at(alloc: Global, call: usize, serves: bool, calls: &str) -> bool {
+    let files = Scripted::new(Vec::new(alloc), [call, 0], false);
+    let mut disk = if serves {
+        FileDisk::serve(files, "file")
+    } else {
+        FileDisk::look_at(files, "file")
+    };
+    let are_refused = answers(&mut disk) == NONE;
+    let asked = disk.into_files().calls;
+    are_refused && asked.len() == call && calls.as_bytes().starts_with(asked.as_slice())
+}
+
+#[test]
+fn each_call_of_an_opening_has_to_be_done(rt: HostRuntime) {
+    for (case, serves, calls) in [
+        ("for a service", true, "ohkSfoSlh"),
+        ("for looking", false, "lloh"),
+    ] {
+        for call in 1..=calls.len() {
+            assert!(rt;
+                is_refused_at(rt.alloc(), call, serves, calls),
+                "{case}, call {call} is refused"
+            );
+        }
+    }
+}
+
+/// What a disk asks for a write, a sync, a length and a read of nothing behind its opening.
+#[test]
+fn a_service_looks_where_its_file_is(rt: HostRuntime) {
+    let alloc = rt.alloc();
+    let mut served = FileDisk::serve(Scripted::new(Vec::new(alloc), [0, 0], false), "file");
+    let are_done = answers(&mut served) == ALL;
+    assert!(rt;
+        are_done && served.into_files().calls.as_slice() == "ohkSfoSlhlhwslhh".as_bytes(),
+        "before a write, and behind a sync"
+    );
+    let mut viewed = FileDisk::look_at(Scripted::new(Vec::new(alloc), [0, 0], false), "file");
+    let are_seen = answers(&mut viewed) == ALL_BUT_WRITES;
+    assert!(rt;
+        are_seen && viewed.into_files().calls.as_slice() == "llohsh".as_bytes(),
+        "not where it is only looked at"
+    );
 }
 
 const PATH: &str = "disk-of-a-test";
@@ -301,7 +445,7 @@ fn a_file_is_written_synced_and_opened_again(rt: HostRuntime) -> Result<(), Fail
 }
 
 /// What each of four calls answers: a write, a sync, a length, a read of nothing.
-fn answers(disk: &mut FileDisk) -> [bool; 4] {
+fn answers<F: FileSystem>(disk: &mut FileDisk<F>) -> [bool; 4] {
     [
         disk.write_at(0, b"abcd").is_ok(),
         disk.sync().is_ok(),
@@ -412,7 +556,7 @@ fn a_link_is_followed_where_its_target_is(rt: HostRuntime) -> Result<(), Fail> {
 }
 
 /// Whether a new disk goes on after a write that fails: one behind the greatest offset of a file does, also with leave and room to write.
-fn fails_and_goes_on(disk: &mut FileDisk) -> bool {
+fn fails_and_goes_on<F: FileSystem>(disk: &mut FileDisk<F>) -> bool {
     answers(disk) == ALL
         && disk.write_at(1 << 62, b"far") == Err(DiskFailed)
         && disk.write_at(2, b"CD").is_ok()
@@ -434,5 +578,98 @@ fn a_file_goes_on_after_a_failed_write(rt: HostRuntime) -> Result<(), Fail> {
         "both writes that were done are there"
     );
     fs::remove_file(&rt, path)?;
+    Ok(())
+}
+
+const AWAY: &str = "disk-of-a-test-elsewhere";
+
+/// What becomes of a file that a service holds.
+#[derive(Clone, Copy)]
+enum Meanwhile {
+    Nothing,
+    Moved,
+    Removed,
+    Replaced,
+    Cut,
+}
+
+fn change<R: Files<File = File>>(rt: &R, meanwhile: Meanwhile) -> io::Result<()> {
+    match meanwhile {
+        Meanwhile::Nothing => Ok(()),
+        Meanwhile::Moved => fs::rename(rt, PATH, AWAY),
+        Meanwhile::Removed => fs::remove_file(rt, PATH),
+        Meanwhile::Replaced => {
+            fs::write(rt, AWAY, "abcdefgh")?;
+            fs::rename(rt, AWAY, PATH)
+        }
+        Meanwhile::Cut => fs::write(rt, PATH, "ab"),
+    }
+}
+
+/// What a write and its sync answer where the file is changed before the write, or between the two; and a write and a sync behind them.
+fn answers_after<R: Files<File = File> + Alloc>(
+    rt: &R,
+    meanwhile: Meanwhile,
+    is_between: bool,
+) -> Result<[bool; 4], Fail> {
+    clear(rt, PATH);
+    clear(rt, AWAY);
+    let mut disk = FileDisk::open(rt, PATH);
+    let is_held = answers(&mut disk) == ALL;
+    if !is_between {
+        change(rt, meanwhile)?;
+    }
+    let is_written = disk.write_at(1, b"bcd").is_ok();
+    if is_between {
+        change(rt, meanwhile)?;
+    }
+    Ok([
+        is_held && is_written,
+        disk.sync().is_ok(),
+        disk.write_at(1, b"bcdefgh").is_ok(),
+        disk.sync().is_ok(),
+    ])
+}
+
+#[test]
+fn a_file_that_was_moved_or_cut_fails(rt: HostRuntime) -> Result<(), Fail> {
+    for (case, meanwhile, is_between, want) in [
+        ("nothing happens", Meanwhile::Nothing, false, ALL),
+        ("it is moved", Meanwhile::Moved, false, NONE),
+        ("it is removed", Meanwhile::Removed, false, NONE),
+        ("it is replaced", Meanwhile::Replaced, false, NONE),
+        ("it is cut", Meanwhile::Cut, false, NONE),
+        (
+            "it is moved before the sync",
+            Meanwhile::Moved,
+            true,
+            [true, false, false, false],
+        ),
+        (
+            "it is removed before the sync",
+            Meanwhile::Removed,
+            true,
+            [true, false, false, false],
+        ),
+        (
+            "it is replaced before the sync",
+            Meanwhile::Replaced,
+            true,
+            [true, false, false, false],
+        ),
+        (
+            "it is cut before the sync",
+            Meanwhile::Cut,
+            true,
+            [true, false, false, false],
+        ),
+    ] {
+        assert!(rt;
+            answers_after(&rt, meanwhile, is_between)? == want,
+            "{case}"
+        );
+    }
+    clear(&rt, PATH);
+    clear(&rt, AWAY);
     Ok(())
 }

@@ -11,8 +11,6 @@ use Rattle.fts_tables.specs.declared.rows.FileRow.{FileRow}
 use Rattle.fts_tables.specs.declared.rows.Outcome.{Outcome}
 use Rattle.fts_tables.specs.declared.commands.Entry.{Entry}
 use Rattle.fts_tables.specs.declared.commands.Command.TheVariants.{Claim, Report}
-use Rattle.fts_store.specs.Calls.{Call}
-use Rattle.fts_store.specs.Store.{StoreState}
 use Rattle.fts_copy.specs.Copy.{Order}
 use Rattle.fts_keep.specs.Applied.{entry_by}
 use Rattle.fts_workers.specs.Copies.{Copy, FollowsReports, IsCopied, copies_from, copies_in, copies_kept, copies_of_file, order_in}
@@ -27,6 +25,7 @@ use Rattle.fts_ledger.proofs.Fresh.{undisturbed_out}
 use Rattle.fts_ledger.proofs.Moved.{Machine}
 use Rattle.fts_ledger.proofs.Turned.{last_own_more, legal_back}
 use Rattle.fts_ledger.proofs.Walks.{out_active, own_or_later, stands_at}
+use Rattle.fts_store.specs.declared.store.Store as store
 
 -- what a copy is asked for stays while its file is ACTIVE
 abbrev pub OrdersStay : Type 0
@@ -85,12 +84,12 @@ copies_none writer tables (entry ∷ entries) none =
     (ne_eqb entry.writer writer none.0)
     ∙ copies_none writer (tables_after tables (step tables entry.command)) entries none.1
 
-module _ {E : Type 0} (state : E → StoreState) (calls : E → Option (List Call)) (faults : E → ℕ) (opening : List Entry) (writer : ℕ) where
+module _ {E : Type 0} (stores : store.Ghosts E) (opening : List Entry) (writer : ℕ) where
   -- behind entries a store follows from the writer's reports among them
   pub record Followed (before after : List Entry) (held left : List Held) (old new : E) : Type 0 where
     pub since : List Entry
     pub after_is : after ≡ before ++ since
-    pub follows : FollowsReports state calls faults (copies_kept (tables_of (opening ++ before)) held)
+    pub follows : FollowsReports stores.state stores.calls stores.faults (copies_kept (tables_of (opening ++ before)) held)
         (copies_from (λ by. by == writer) (tables_of (opening ++ before)) since) (copies_kept (tables_of (opening ++ after)) left) old new
 
   -- the tables behind entries are those behind the list with them
@@ -106,10 +105,10 @@ module _ {E : Type 0} (state : E → StoreState) (calls : E → Option (List Cal
       record {
         since = one.since ++ two.since;
         after_is = two.after_is ∙ ap (λ list. list ++ two.since) one.after_is ∙ append_assoc before one.since two.since;
-        follows = subst (λ reported. FollowsReports state calls faults (copies_kept start held) reported (copies_kept (tables_of (opening ++ after)) left) old new)
+        follows = subst (λ reported. FollowsReports stores.state stores.calls stores.faults (copies_kept start held) reported (copies_kept (tables_of (opening ++ after)) left) old new)
             (sym (copies_from-append by start one.since two.since
             ∙ ap (λ t. copies_from by start one.since ++ copies_from by t two.since) (tables_on before middle one.since one.after_is)))
-            (follows_more state calls faults (copies_kept start held) (copies_from by start one.since) (copies_kept (tables_of (opening ++ middle)) kept)
+            (follows_more stores.state stores.calls stores.faults (copies_kept start held) (copies_from by start one.since) (copies_kept (tables_of (opening ++ middle)) kept)
             (copies_from by (tables_of (opening ++ middle)) two.since) (copies_kept (tables_of (opening ++ after)) left) old mid new one.follows two.follows);
       }
 
@@ -125,10 +124,10 @@ module _ {E : Type 0} (state : E → StoreState) (calls : E → Option (List Cal
   followed_same before since held left store none same = record {
     since = since;
     after_is = refl;
-    follows = subst (λ reported. FollowsReports state calls faults (copies_kept (tables_of (opening ++ before)) held) reported
+    follows = subst (λ reported. FollowsReports stores.state stores.calls stores.faults (copies_kept (tables_of (opening ++ before)) held) reported
         (copies_kept (tables_of (opening ++ (before ++ since))) left) store store) (sym none)
-        (subst (λ kept. FollowsReports state calls faults (copies_kept (tables_of (opening ++ before)) held) [] kept store store) same
-        (follows_none state calls faults (copies_kept (tables_of (opening ++ before)) held) store));
+        (subst (λ kept. FollowsReports stores.state stores.calls stores.faults (copies_kept (tables_of (opening ++ before)) held) [] kept store store) same
+        (follows_none stores.state stores.calls stores.faults (copies_kept (tables_of (opening ++ before)) held) store));
   }
 
   module _ (machine : Machine) (orders : OrdersStay) where
@@ -193,7 +192,7 @@ module _ {E : Type 0} (state : E → StoreState) (calls : E → Option (List Cal
     pub followed_claim : (before others : List Entry) (now word file attempt : ℕ) (outcome : Outcome) (order : Order) (old new : E) → NoneOf writer others
         → copies_of_file (tables_of (opening ++ ((before ++ others) ++ entry_by writer (Claim now word) ∷ []))) file outcome
         ≡ record { order = order; outcome = outcome } ∷ []
-        → IsCopied (state old) (state new) (calls old) (calls new) (faults old) (faults new) (record { order = order; outcome = outcome })
+        → IsCopied (stores.state old) (stores.state new) (stores.calls old) (stores.calls new) (stores.faults old) (stores.faults new) (record { order = order; outcome = outcome })
         → Followed before ((before ++ others) ++ entry_by writer (Claim now word) ∷ []) [] (held_with file attempt outcome ∷ []) old new
     followed_claim before others now word file attempt outcome order old new none is made =
         let claim = entry_by writer (Claim now word) in

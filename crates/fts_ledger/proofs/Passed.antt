@@ -11,8 +11,6 @@ use Rattle.fts_tables.specs.declared.commands.Command.{Command}
 use Rattle.fts_tables.specs.declared.commands.Command.TheVariants.{Claim, Report}
 use Rattle.fts_tables.specs.declared.commands.Answer.{Answer}
 use Rattle.fts_tables.specs.declared.commands.Answer.TheVariants.{Restarted, Submitted, Cancelled, PrioritySet, Claimed, Reported}
-use Rattle.fts_store.specs.Calls.{Call}
-use Rattle.fts_store.specs.Store.{StoreState}
 use Rattle.fts_turnstile.specs.declared.turn.Turn.{Turn}
 use Rattle.fts_turnstile.specs.History.{AllName, AllNamed, NoneBy, items_of}
 use Rattle.fts_turnstile.specs.Passes.{PassView, IsSame, seen_list}
@@ -35,6 +33,7 @@ use Rattle.fts_ledger.specs.Ledger.{KeepsLedger, MayKeep}
 use Rattle.fts_ledger.specs.Reports.{AddsWork, ReportsOwn, StopsAsked}
 use Rattle.fts_ledger.proofs.Moved.{Machine}
 use Rattle.fts_ledger.proofs.Turned.{Came, Tried, Turned, claim_turned, legal_back, report_tried, turned_as, turned_on, turned_others}
+use Rattle.fts_store.specs.declared.store.Store as store
 
 -- items that name another number are none of this one's
 none_items : (number writer : ℕ) (items : List Entry) → AllName writer_of writer items → writer ≢ number → NoneOf number items
@@ -132,13 +131,13 @@ legal_grown opening old new grown legal =
 pub legal_of : (old new : PassView Entry) → Grown old new → IsLegal (seen_list new) → IsLegal (old.opening ++ items_of new.seen)
 legal_of old new grown legal = subst (λ o. IsLegal (o ++ items_of new.seen)) grown.same.1 legal
 
-module _ {E : Type 0} (state : E → StoreState) (calls : E → Option (List Call)) (faults : E → ℕ) where
+module _ {E : Type 0} (stores : store.Ghosts E) where
   abbrev pub grown_copies : (old new : PassView Entry) (store after : E) (file : ℕ) (outcome : Outcome)
-      → Copies state calls faults old new store after file outcome → Grown old new
+      → Copies stores old new store after file outcome → Grown old new
   grown_copies old new store after file outcome copies = record { same = copies.same; since = copies.since; seen = copies.seen }
 
   grown_claim : (old new claimed : PassView Entry) (behind after : HandData E) (end : TurnEnd) (left : List Held) (lanes : ℕ) (result : Result Answer KeepFault)
-      → Grown old claimed → GoesOn state calls faults lanes result claimed new behind after end left → Grown old new
+      → Grown old claimed → GoesOn stores lanes result claimed new behind after end left → Grown old new
   grown_claim old new claimed behind after end left lanes (Ok (Claimed file attempt)) grown goes =
       grown_on old claimed new grown
       (grown_on claimed goes.between new (grown_copies claimed goes.between behind.store after.store file goes.outcome goes.copied)
@@ -152,14 +151,14 @@ module _ {E : Type 0} (state : E → StoreState) (calls : E → Option (List Cal
 
   -- a turn
   pub grown_turn : (old new : PassView Entry) (hand after : HandData E) (held : List Held) (end : TurnEnd) (left : List Held)
-      → IsTurn state calls faults old new hand after held end left → Grown old new
+      → IsTurn stores old new hand after held end left → Grown old new
   grown_turn old new hand after [] end left turn =
       grown_claim old new turn.claimed turn.behind after end left turn.lanes turn.result (grown_tried old turn.claimed _ _ _ turn.tried) turn.goes_on
   grown_turn old new hand after (held ∷ []) end left turn = grown_tried old new _ _ _ turn.reported.1.tried
   grown_turn old new hand after (held ∷ next ∷ others) end left turn = absurd turn.reported
 
   -- turns
-  pub grown_turns : (more : ℕ) (old new : StationData E) → AreTurns state calls faults more old new → Grown old.pass new.pass
+  pub grown_turns : (more : ℕ) (old new : StationData E) → AreTurns stores more old new → Grown old.pass new.pass
   grown_turns zero old new turns = subst (Grown old.pass) turns.2 (grown_itself old.pass)
   grown_turns (suc more) old new turns = grown_on old.pass turns.0.pass new.pass
       (grown_turn old.pass turns.0.pass old.hand turns.0.hand old.held turns.1 turns.0.held turns.2.0) (grown_turns more turns.0 new turns.2.1.1)
@@ -179,7 +178,7 @@ module _ {E : Type 0} (state : E → StoreState) (calls : E → Option (List Cal
     claim_goes : (old claimed new : PassView Entry) (now word : ℕ) (behind after : HandData E) (end : TurnEnd) (left : List Held) (lanes : ℕ)
         (result : Result Answer KeepFault) → old.opening ≡ opening → old.number ≡ writer → IsLegal (opening ++ items_of new.seen)
         → Fits writer opening (items_of old.seen) [] → TriedInTurn old claimed (Claim now word) result lanes
-        → GoesOn state calls faults lanes result claimed new behind after end left → Turned opening writer (items_of old.seen) (items_of new.seen) left
+        → GoesOn stores lanes result claimed new behind after end left → Turned opening writer (items_of old.seen) (items_of new.seen) left
     claim_goes old claimed new now word behind after end left lanes (Err fault) opens number legal fits tried goes =
         let at = tried_for old claimed opening writer (Claim now word) (Err fault) lanes opens number told tried in
         let before = items_of old.seen in
@@ -222,7 +221,7 @@ module _ {E : Type 0} (state : E → StoreState) (calls : E → Option (List Cal
     -- a turn
     pub turn_turned : (old new : PassView Entry) (hand after : HandData E) (held : List Held) (end : TurnEnd) (left : List Held)
         → old.opening ≡ opening → old.number ≡ writer → IsLegal (opening ++ items_of new.seen) → Fits writer opening (items_of old.seen) held
-        → IsTurn state calls faults old new hand after held end left → Turned opening writer (items_of old.seen) (items_of new.seen) left
+        → IsTurn stores old new hand after held end left → Turned opening writer (items_of old.seen) (items_of new.seen) left
     turn_turned old new hand after [] end left opens number legal fits turn =
         claim_goes old turn.claimed new turn.now turn.word turn.behind after end left turn.lanes turn.result opens number legal fits turn.tried turn.goes_on
     turn_turned old new hand after (held ∷ []) end left opens number legal fits turn =
@@ -231,7 +230,7 @@ module _ {E : Type 0} (state : E → StoreState) (calls : E → Option (List Cal
 
     -- turns
     pub turns_turned : (more : ℕ) (old new : StationData E) → old.pass.opening ≡ opening → old.pass.number ≡ writer
-        → IsLegal (opening ++ items_of new.pass.seen) → Fits writer opening (items_of old.pass.seen) old.held → AreTurns state calls faults more old new
+        → IsLegal (opening ++ items_of new.pass.seen) → Fits writer opening (items_of old.pass.seen) old.held → AreTurns stores more old new
         → Turned opening writer (items_of old.pass.seen) (items_of new.pass.seen) new.held
     turns_turned zero old new opens number legal fits turns =
         let before = items_of old.pass.seen in
@@ -267,7 +266,7 @@ module _ {E : Type 0} (state : E → StoreState) (calls : E → Option (List Cal
         }
 
     -- a turn
-    pub turn_keeps : (old new : StationData E) (end : TurnEnd) → TakesOne state calls faults old new end → MayKeep old.pass new.pass old.held
+    pub turn_keeps : (old new : StationData E) (end : TurnEnd) → TakesOne stores old new end → MayKeep old.pass new.pass old.held
         → KeepsLedger old.pass new.pass new.held
     turn_keeps old new end turn may =
         let grown = grown_turn old.pass new.pass old.hand new.hand old.held end new.held turn in
@@ -276,7 +275,7 @@ module _ {E : Type 0} (state : E → StoreState) (calls : E → Option (List Cal
         (legal_of old.pass new.pass grown may.legal) may.fits turn)
 
     -- turns
-    pub turns_keep : (more : ℕ) (old new : StationData E) → AreTurns state calls faults more old new → MayKeep old.pass new.pass old.held
+    pub turns_keep : (more : ℕ) (old new : StationData E) → AreTurns stores more old new → MayKeep old.pass new.pass old.held
         → KeepsLedger old.pass new.pass new.held
     turns_keep more old new turns may =
         let grown = grown_turns more old new turns in
@@ -284,7 +283,7 @@ module _ {E : Type 0} (state : E → StoreState) (calls : E → Option (List Cal
         (turns_turned machine old.pass.opening old.pass.number may.told more old new refl refl (legal_of old.pass new.pass grown may.legal) may.fits turns)
 
     -- a worker
-    pub worker_keeps : (old new : StationData E) → WorkerDone state calls faults old new → MayKeep old.pass new.pass old.held
+    pub worker_keeps : (old new : StationData E) → WorkerDone stores old new → MayKeep old.pass new.pass old.held
         → KeepsLedger old.pass new.pass new.held
     worker_keeps old new done may =
         let between = done.between in

@@ -13,8 +13,6 @@ use Rattle.fts_tables.specs.declared.commands.Refusal.{Refusal}
 use Rattle.fts_tables.specs.declared.commands.Command.TheVariants.{Claim, Report}
 use Rattle.fts_tables.specs.declared.commands.Answer.{Answer}
 use Rattle.fts_tables.specs.declared.commands.Answer.TheVariants.{Restarted, Submitted, Cancelled, PrioritySet, Claimed, Reported}
-use Rattle.fts_store.specs.Calls.{Call}
-use Rattle.fts_store.specs.Store.{StoreState}
 use Rattle.fts_turnstile.specs.declared.turn.Turn.{Turn}
 use Rattle.fts_turnstile.specs.History.{items_of}
 use Rattle.fts_turnstile.specs.Passes.{PassView, seen_list}
@@ -40,6 +38,7 @@ use Rattle.fts_ledger.proofs.Moved.{Machine}
 use Rattle.fts_ledger.proofs.Passed.{Grown, grown_copies, grown_on, grown_tried, grown_turn, grown_turns, items_grown, legal_grown, legal_of, tried_for, turn_turned, turns_turned}
 use Rattle.fts_ledger.proofs.Stations.{undisturbed_before}
 use Rattle.fts_ledger.proofs.Turned.{Came, Tried, last_own_more, legal_back}
+use Rattle.fts_store.specs.declared.store.Store as store
 
 -- no turn whose report was answered with a state, or by a fault of the disk, the journal or memory, is stale
 fresh_state : (held file : ℕ) (left : FileState) → IsEndState left → ◌≡◌ {A = TurnEnd} (end_by_state held left) (turn_ends.Stale file) → ⊥
@@ -70,11 +69,11 @@ fresh_claim file lanes (JournalFull used) is = absurd cc
 fresh_claim file lanes Memory is = absurd cc
 fresh_claim file lanes (Damaged offset) is = absurd cc
 
-module _ {E : Type 0} (state : E → StoreState) (calls : E → Option (List Call)) (faults : E → ℕ) (machine : Machine) (orders : OrdersStay)
+module _ {E : Type 0} (stores : store.Ghosts E) (machine : Machine) (orders : OrdersStay)
     (opening : List Entry) (writer : ℕ) (told : opening ≢ []) where
   -- what a turn comes to where nobody takes a file: the store follows, and it isn't stale
   pub record GoesWell (before after : List Entry) (held left : List Held) (old new : E) (end : TurnEnd) : Type 0 where
-    pub followed : Followed state calls faults opening writer before after held left old new
+    pub followed : Followed stores opening writer before after held left old new
     pub fresh : (file : ℕ) → end ≢ turn_ends.Stale file
 
   -- the report of what is held
@@ -83,7 +82,7 @@ module _ {E : Type 0} (state : E → StoreState) (calls : E → Option (List Cal
       → IsUndisturbed writer opening (items_of new.seen) → ReportTurn old new moments later held outcome end left
       → GoesWell (items_of old.seen) (items_of new.seen) (held ∷ []) left store store end
   report_well old new moments later held outcome end left store opens number legal own free turn = record {
-    followed = subst (λ kept. Followed state calls faults opening writer (items_of old.seen) (items_of new.seen) (held ∷ []) kept store store) (sym turn.leaves)
+    followed = subst (λ kept. Followed stores opening writer (items_of old.seen) (items_of new.seen) (held ∷ []) kept store store) (sym turn.leaves)
         (by turn.result refl);
     fresh = λ file is. fresh_by file turn.result refl (sym turn.ends ∙ is);
   }
@@ -103,8 +102,8 @@ module _ {E : Type 0} (state : E → StoreState) (calls : E → Option (List Cal
           (added_by (entry_by writer (Report turn.now held.file held.attempt outcome)) turn.result)
           (subst (IsUndisturbed writer opening) at.after_is free)
 
-      first : Followed state calls faults opening writer (items_of old.seen) (items_of old.seen ++ at.others) (held ∷ []) (held ∷ []) store store
-      first = followed_others state calls faults opening writer machine orders (items_of old.seen) at.others (held ∷ []) store legal_mid at.none own free_mid
+      first : Followed stores opening writer (items_of old.seen) (items_of old.seen ++ at.others) (held ∷ []) (held ∷ []) store store
+      first = followed_others stores opening writer machine orders (items_of old.seen) at.others (held ∷ []) store legal_mid at.none own free_mid
 
       after_by : (r : Result Answer KeepFault) → turn.result ≡ r
           → items_of new.seen ≡ (items_of old.seen ++ at.others) ++ added_by (entry_by writer (Report turn.now held.file held.attempt outcome)) r
@@ -116,19 +115,19 @@ module _ {E : Type 0} (state : E → StoreState) (calls : E → Option (List Cal
           own_mid free_mid (subst (Came (opening ++ (items_of old.seen ++ at.others)) (Report turn.now held.file held.attempt outcome)) is at.came)
 
       kept_on : items_of new.seen ≡ (items_of old.seen ++ at.others) ++ []
-          → Followed state calls faults opening writer (items_of old.seen) (items_of new.seen) (held ∷ []) (held ∷ []) store store
-      kept_on is = followed_as state calls faults opening writer (items_of old.seen) (items_of old.seen ++ at.others) (items_of new.seen) (held ∷ []) (held ∷ [])
+          → Followed stores opening writer (items_of old.seen) (items_of new.seen) (held ∷ []) (held ∷ []) store store
+      kept_on is = followed_as stores opening writer (items_of old.seen) (items_of old.seen ++ at.others) (items_of new.seen) (held ∷ []) (held ∷ [])
           store store (is ∙ append-nil (items_of old.seen ++ at.others)) first
 
       by : (r : Result Answer KeepFault) → turn.result ≡ r
-          → Followed state calls faults opening writer (items_of old.seen) (items_of new.seen) (held ∷ []) (if is_over r then [] else held ∷ []) store store
+          → Followed stores opening writer (items_of old.seen) (items_of new.seen) (held ∷ []) (if is_over r then [] else held ∷ []) store store
       by (Ok answer) is =
           let middle = items_of old.seen ++ at.others in
-          followed_as state calls faults opening writer (items_of old.seen) (middle ++ entry_by writer (Report turn.now held.file held.attempt outcome) ∷ [])
+          followed_as stores opening writer (items_of old.seen) (middle ++ entry_by writer (Report turn.now held.file held.attempt outcome) ∷ [])
           (items_of new.seen) (held ∷ []) [] store store (after_by (Ok answer) is)
-          (followed_on state calls faults opening writer (items_of old.seen) middle (middle ++ entry_by writer (Report turn.now held.file held.attempt outcome) ∷ [])
+          (followed_on stores opening writer (items_of old.seen) middle (middle ++ entry_by writer (Report turn.now held.file held.attempt outcome) ∷ [])
           (held ∷ []) (held ∷ []) [] store store store first
-          (followed_report state calls faults opening writer machine orders middle held outcome turn.now store turn.kept))
+          (followed_report stores opening writer machine orders middle held outcome turn.now store turn.kept))
       by (Err (Rule refusal)) is = absurd (refused refusal is)
       by (Err DiskFailed) is = kept_on (after_by (Err DiskFailed) is)
       by (Err (JournalFull used)) is = kept_on (after_by (Err (JournalFull used)) is)
@@ -148,7 +147,7 @@ module _ {E : Type 0} (state : E → StoreState) (calls : E → Option (List Cal
   claim_well : (old claimed new : PassView Entry) (now word : ℕ) (behind after : HandData E) (end : TurnEnd) (left : List Held) (lanes : ℕ)
       (result : Result Answer KeepFault) → old.opening ≡ opening → old.number ≡ writer → IsLegal (opening ++ items_of new.seen)
       → IsUndisturbed writer opening (items_of new.seen) → TriedInTurn old claimed (Claim now word) result lanes
-      → GoesOn state calls faults lanes result claimed new behind after end left
+      → GoesOn stores lanes result claimed new behind after end left
       → GoesWell (items_of old.seen) (items_of new.seen) [] left behind.store after.store end
   claim_well old claimed new now word behind after end left lanes (Err fault) opens number legal free tried goes =
       let at = tried_for old claimed opening writer (Claim now word) (Err fault) lanes opens number told tried in
@@ -156,11 +155,11 @@ module _ {E : Type 0} (state : E → StoreState) (calls : E → Option (List Cal
       let is : items_of new.seen ≡ before ++ at.others =
       ap (λ (p : PassView Entry). items_of p.seen) goes.1.pass ∙ at.after_is ∙ append-nil (before ++ at.others) in
       record {
-        followed = subst (λ kept. Followed state calls faults opening writer before (items_of new.seen) [] kept behind.store after.store) (sym goes.1.nothing)
-            (subst (Followed state calls faults opening writer before (items_of new.seen) [] [] behind.store)
+        followed = subst (λ kept. Followed stores opening writer before (items_of new.seen) [] kept behind.store after.store) (sym goes.1.nothing)
+            (subst (Followed stores opening writer before (items_of new.seen) [] [] behind.store)
             (sym (ap (λ (h : HandData E). h.store) goes.1.hand_is))
-            (followed_as state calls faults opening writer before (before ++ at.others) (items_of new.seen) [] [] behind.store behind.store is
-            (followed_others state calls faults opening writer machine orders before at.others [] behind.store
+            (followed_as stores opening writer before (before ++ at.others) (items_of new.seen) [] [] behind.store behind.store is
+            (followed_others stores opening writer machine orders before at.others [] behind.store
             (subst (λ list. IsLegal (opening ++ list)) is legal) at.none tt (subst (IsUndisturbed writer opening) is free))));
         fresh = λ file stale. fresh_claim file lanes fault (sym goes.0 ∙ stale);
       }
@@ -176,7 +175,7 @@ module _ {E : Type 0} (state : E → StoreState) (calls : E → Option (List Cal
       let held = held_with file attempt goes.outcome in
       let claim = entry_by writer (Claim now word) in
       let list = (before ++ at.others) ++ claim ∷ [] in
-      let grown_mid = grown_copies state calls faults claimed middle behind.store after.store file goes.outcome goes.copied in
+      let grown_mid = grown_copies stores claimed middle behind.store after.store file goes.outcome goes.copied in
       let grown_new = grown_tried middle new _ _ _ goes.reported.tried in
       let open_claimed : claimed.opening ≡ opening = tried.taken.same.1 ∙ opens in
       let number_claimed : claimed.number ≡ writer = tried.taken.same.3 ∙ number in
@@ -204,18 +203,18 @@ module _ {E : Type 0} (state : E → StoreState) (calls : E → Option (List Cal
       let asked : copies_of_file (tables_of (opening ++ list)) file goes.outcome ≡ record { order = goes.copied.order; outcome = goes.outcome } ∷ [] =
       subst (λ all. copies_of_file (tables_of all) file goes.outcome ≡ record { order = goes.copied.order; outcome = goes.outcome } ∷ [])
       (λ i. open_claimed i ++ at.after_is i) (goes.copied.of_file told_claimed) in
-      let copied = followed_claim state calls faults opening writer machine orders before at.others now word file attempt goes.outcome goes.copied.order
+      let copied = followed_claim stores opening writer machine orders before at.others now word file attempt goes.outcome goes.copied.order
       behind.store after.store at.none asked goes.copied.made in
-      let waited = followed_others state calls faults opening writer machine orders list looked (held ∷ []) after.store
+      let waited = followed_others stores opening writer machine orders list looked (held ∷ []) after.store
       (subst (λ all. IsLegal (opening ++ all)) is legal_mid) none_looked own free_mid in
       let own_mid : IsLastOwn writer opening (items_of middle.seen) file attempt =
       subst (λ all. IsLastOwn writer opening all file attempt) (sym is) (last_own_more writer opening list looked file attempt none_looked own) in
       let last = report_well middle new behind.moments after.moments held goes.outcome end left after.store open_mid number_mid legal own_mid free goes.reported in
       record {
-        followed = followed_on state calls faults opening writer before (items_of middle.seen) (items_of new.seen) [] (held ∷ []) left behind.store after.store
+        followed = followed_on stores opening writer before (items_of middle.seen) (items_of new.seen) [] (held ∷ []) left behind.store after.store
             after.store
-            (followed_as state calls faults opening writer before (list ++ looked) (items_of middle.seen) [] (held ∷ []) behind.store after.store is
-            (followed_on state calls faults opening writer before list (list ++ looked) [] (held ∷ []) (held ∷ []) behind.store after.store after.store copied
+            (followed_as stores opening writer before (list ++ looked) (items_of middle.seen) [] (held ∷ []) behind.store after.store is
+            (followed_on stores opening writer before list (list ++ looked) [] (held ∷ []) (held ∷ []) behind.store after.store after.store copied
             waited))
             last.followed;
         fresh = last.fresh;
@@ -224,7 +223,7 @@ module _ {E : Type 0} (state : E → StoreState) (calls : E → Option (List Cal
   -- a turn
   pub turn_well : (old new : PassView Entry) (hand after : HandData E) (held : List Held) (end : TurnEnd) (left : List Held)
       → old.opening ≡ opening → old.number ≡ writer → IsLegal (opening ++ items_of new.seen) → Fits writer opening (items_of old.seen) held
-      → IsUndisturbed writer opening (items_of new.seen) → IsTurn state calls faults old new hand after held end left
+      → IsUndisturbed writer opening (items_of new.seen) → IsTurn stores old new hand after held end left
       → GoesWell (items_of old.seen) (items_of new.seen) held left hand.store after.store end
   turn_well old new hand after [] end left opens number legal fits free turn =
       subst (λ store. GoesWell (items_of old.seen) (items_of new.seen) [] left store after.store end) turn.store
@@ -236,21 +235,21 @@ module _ {E : Type 0} (state : E → StoreState) (calls : E → Option (List Cal
 
   -- turns: the store follows, and none is stale
   pub record GoWell (more : ℕ) (old new : StationData E) : Type 0 where
-    pub followed : Followed state calls faults opening writer (items_of old.pass.seen) (items_of new.pass.seen) old.held new.held old.hand.store new.hand.store
-    pub fresh : AreFresh state calls faults more old new
+    pub followed : Followed stores opening writer (items_of old.pass.seen) (items_of new.pass.seen) old.held new.held old.hand.store new.hand.store
+    pub fresh : AreFresh stores more old new
 
   pub turns_well : (more : ℕ) (old new : StationData E) → old.pass.opening ≡ opening → old.pass.number ≡ writer
       → IsLegal (opening ++ items_of new.pass.seen) → Fits writer opening (items_of old.pass.seen) old.held
-      → IsUndisturbed writer opening (items_of new.pass.seen) → AreTurns state calls faults more old new → GoWell more old new
+      → IsUndisturbed writer opening (items_of new.pass.seen) → AreTurns stores more old new → GoWell more old new
   turns_well zero old new opens number legal fits free turns =
       let before = items_of old.pass.seen in
       let is : items_of new.pass.seen ≡ before ++ [] = ap (λ (p : PassView Entry). items_of p.seen) (sym turns.2) ∙ sym (append-nil before) in
       record {
-        followed = subst (λ store. Followed state calls faults opening writer before (items_of new.pass.seen) old.held new.held old.hand.store store)
+        followed = subst (λ store. Followed stores opening writer before (items_of new.pass.seen) old.held new.held old.hand.store store)
             (ap (λ (h : HandData E). h.store) turns.0)
-            (subst (λ held. Followed state calls faults opening writer before (items_of new.pass.seen) old.held held old.hand.store old.hand.store) turns.1
-            (followed_as state calls faults opening writer before (before ++ []) (items_of new.pass.seen) old.held old.held old.hand.store old.hand.store is
-            (followed_others state calls faults opening writer machine orders before [] old.held old.hand.store
+            (subst (λ held. Followed stores opening writer before (items_of new.pass.seen) old.held held old.hand.store old.hand.store) turns.1
+            (followed_as stores opening writer before (before ++ []) (items_of new.pass.seen) old.held old.held old.hand.store old.hand.store is
+            (followed_others stores opening writer machine orders before [] old.held old.hand.store
             (subst (λ list. IsLegal (opening ++ list)) is legal) tt (holds_own writer opening before old.held fits)
             (subst (IsUndisturbed writer opening) is free))));
         fresh = turns;
@@ -258,38 +257,38 @@ module _ {E : Type 0} (state : E → StoreState) (calls : E → Option (List Cal
   turns_well (suc more) old new opens number legal fits free turns =
       let next = turns.0 in
       let rest = turns.2.1.1 in
-      let grown = grown_turn state calls faults old.pass next.pass old.hand next.hand old.held turns.1 next.held turns.2.0 in
-      let later = grown_turns state calls faults more next new rest in
+      let grown = grown_turn stores old.pass next.pass old.hand next.hand old.held turns.1 next.held turns.2.0 in
+      let later = grown_turns stores more next new rest in
       let legal_next = legal_grown opening next.pass new.pass later legal in
       let free_next : IsUndisturbed writer opening (items_of next.pass.seen) =
       undisturbed_before writer opening (items_of next.pass.seen) (items_of later.since)
       (subst (IsUndisturbed writer opening) (items_grown next.pass new.pass later) free) in
-      let fits_next = (turn_turned state calls faults machine opening writer told old.pass next.pass old.hand next.hand old.held turns.1 next.held opens number
+      let fits_next = (turn_turned stores machine opening writer told old.pass next.pass old.hand next.hand old.held turns.1 next.held opens number
       legal_next fits turns.2.0).fits in
       let one = turn_well old.pass next.pass old.hand next.hand old.held turns.1 next.held opens number legal_next fits free_next turns.2.0 in
       let others = turns_well more next new (grown.same.1 ∙ opens) (grown.same.3 ∙ number) legal fits_next free rest in
       record {
-        followed = followed_on state calls faults opening writer (items_of old.pass.seen) (items_of next.pass.seen) (items_of new.pass.seen) old.held next.held
+        followed = followed_on stores opening writer (items_of old.pass.seen) (items_of next.pass.seen) (items_of new.pass.seen) old.held next.held
             new.held old.hand.store next.hand.store new.hand.store one.followed others.followed;
         fresh = (next, turns.1, (turns.2.0, (turns.2.1.0, (one.fresh, others.fresh))));
       }
 
-module _ {E : Type 0} (state : E → StoreState) (calls : E → Option (List Call)) (faults : E → ℕ) (machine : Machine) (orders : OrdersStay) where
+module _ {E : Type 0} (stores : store.Ghosts E) (machine : Machine) (orders : OrdersStay) where
   -- what a station's store follows from
   follows_by : (old new : StationData E) → Grown old.pass new.pass
-      → Followed state calls faults old.pass.opening old.pass.number (items_of old.pass.seen) (items_of new.pass.seen) old.held new.held old.hand.store
+      → Followed stores old.pass.opening old.pass.number (items_of old.pass.seen) (items_of new.pass.seen) old.held new.held old.hand.store
       new.hand.store
-      → FollowsOwn state calls faults old new
+      → FollowsOwn stores old new
   follows_by old new grown followed =
       let is : followed.since ≡ items_of grown.since =
       append_cancel_left (items_of old.pass.seen) followed.since (items_of grown.since) (sym followed.after_is ∙ items_grown old.pass new.pass grown) in
       record {
         since = grown.since;
         seen = grown.seen;
-        follows = subst (λ o. FollowsReports state calls faults (copies_kept (tables_of (seen_list old.pass)) old.held)
+        follows = subst (λ o. FollowsReports stores.state stores.calls stores.faults (copies_kept (tables_of (seen_list old.pass)) old.held)
             (copies_from (λ writer. writer == old.pass.number) (tables_of (seen_list old.pass)) (items_of grown.since))
             (copies_kept (tables_of (o ++ items_of new.pass.seen)) new.held) old.hand.store new.hand.store) (sym grown.same.1)
-            (subst (λ since. FollowsReports state calls faults (copies_kept (tables_of (seen_list old.pass)) old.held)
+            (subst (λ since. FollowsReports stores.state stores.calls stores.faults (copies_kept (tables_of (seen_list old.pass)) old.held)
             (copies_from (λ writer. writer == old.pass.number) (tables_of (seen_list old.pass)) since)
             (copies_kept (tables_of (old.pass.opening ++ items_of new.pass.seen)) new.held) old.hand.store new.hand.store) is followed.follows);
       }
@@ -300,32 +299,32 @@ module _ {E : Type 0} (state : E → StoreState) (calls : E → Option (List Cal
       (subst (λ o. IsUndisturbed new.number o (items_of new.seen)) grown.same.1 free)
 
   -- a turn
-  pub turn_follows : (old new : StationData E) (end : TurnEnd) → TakesOne state calls faults old new end → MayKeep old.pass new.pass old.held
-      → KeepsItsFiles new.pass → FollowsOwn state calls faults old new × ((file : ℕ) → end ≢ turn_ends.Stale file)
+  pub turn_follows : (old new : StationData E) (end : TurnEnd) → TakesOne stores old new end → MayKeep old.pass new.pass old.held
+      → KeepsItsFiles new.pass → FollowsOwn stores old new × ((file : ℕ) → end ≢ turn_ends.Stale file)
   turn_follows old new end turn may free =
-      let grown = grown_turn state calls faults old.pass new.pass old.hand new.hand old.held end new.held turn in
-      let well = turn_well state calls faults machine orders old.pass.opening old.pass.number may.told old.pass new.pass old.hand new.hand old.held end new.held
+      let grown = grown_turn stores old.pass new.pass old.hand new.hand old.held end new.held turn in
+      let well = turn_well stores machine orders old.pass.opening old.pass.number may.told old.pass new.pass old.hand new.hand old.held end new.held
       refl refl (legal_of old.pass new.pass grown may.legal) may.fits (free_of old.pass new.pass grown free) turn in
       (follows_by old new grown well.followed, well.fresh)
 
   -- turns
-  pub turns_follow : (more : ℕ) (old new : StationData E) → AreTurns state calls faults more old new → MayKeep old.pass new.pass old.held
-      → KeepsItsFiles new.pass → FollowsOwn state calls faults old new × AreFresh state calls faults more old new
+  pub turns_follow : (more : ℕ) (old new : StationData E) → AreTurns stores more old new → MayKeep old.pass new.pass old.held
+      → KeepsItsFiles new.pass → FollowsOwn stores old new × AreFresh stores more old new
   turns_follow more old new turns may free =
-      let grown = grown_turns state calls faults more old new turns in
-      let well = turns_well state calls faults machine orders old.pass.opening old.pass.number may.told more old new refl refl
+      let grown = grown_turns stores more old new turns in
+      let well = turns_well stores machine orders old.pass.opening old.pass.number may.told more old new refl refl
       (legal_of old.pass new.pass grown may.legal) may.fits (free_of old.pass new.pass grown free) turns in
       (follows_by old new grown well.followed, well.fresh)
 
   -- a worker
-  pub worker_follows : (old new : StationData E) (done : WorkerDone state calls faults old new) → MayKeep old.pass new.pass old.held
-      → KeepsItsFiles new.pass → FollowsOwn state calls faults old new × AreFresh state calls faults done.more old done.between
+  pub worker_follows : (old new : StationData E) (done : WorkerDone stores old new) → MayKeep old.pass new.pass old.held
+      → KeepsItsFiles new.pass → FollowsOwn stores old new × AreFresh stores done.more old done.between
   worker_follows old new done may free =
       let between = done.between in
       let opening = old.pass.opening in
       let writer = old.pass.number in
-      let grown = grown_turns state calls faults done.more old between done.turns in
-      let last = grown_turn state calls faults between.pass new.pass between.hand new.hand between.held done.last new.held done.ends in
+      let grown = grown_turns stores done.more old between done.turns in
+      let last = grown_turn stores between.pass new.pass between.hand new.hand between.held done.last new.held done.ends in
       let all = grown_on old.pass between.pass new.pass grown last in
       let legal = legal_of old.pass new.pass all may.legal in
       let legal_mid = legal_grown opening between.pass new.pass last legal in
@@ -333,12 +332,12 @@ module _ {E : Type 0} (state : E → StoreState) (calls : E → Option (List Cal
       let free_mid : IsUndisturbed writer opening (items_of between.pass.seen) =
       undisturbed_before writer opening (items_of between.pass.seen) (items_of last.since)
       (subst (IsUndisturbed writer opening) (items_grown between.pass new.pass last) free_new) in
-      let fits_mid = (turns_turned state calls faults machine opening writer may.told done.more old between refl refl legal_mid may.fits done.turns).fits in
-      let first = turns_well state calls faults machine orders opening writer may.told done.more old between refl refl legal_mid may.fits free_mid done.turns in
-      let ends = turn_well state calls faults machine orders opening writer may.told between.pass new.pass between.hand new.hand between.held done.last new.held
+      let fits_mid = (turns_turned stores machine opening writer may.told done.more old between refl refl legal_mid may.fits done.turns).fits in
+      let first = turns_well stores machine orders opening writer may.told done.more old between refl refl legal_mid may.fits free_mid done.turns in
+      let ends = turn_well stores machine orders opening writer may.told between.pass new.pass between.hand new.hand between.held done.last new.held
       grown.same.1 grown.same.3 legal fits_mid free_new done.ends in (
         follows_by old new all
-            (followed_on state calls faults opening writer (items_of old.pass.seen) (items_of between.pass.seen) (items_of new.pass.seen) old.held between.held new.held
+            (followed_on stores opening writer (items_of old.pass.seen) (items_of between.pass.seen) (items_of new.pass.seen) old.held between.held new.held
             old.hand.store between.hand.store new.hand.store first.followed ends.followed),
         first.fresh,
       )

@@ -1,9 +1,7 @@
 -- What turns at a station keep, whatever others do meanwhile: of the pass's reports, of its bench, and of the station's store.
-use Rattle.std.specs.Prelude.{◌≡◌, ◌≢◌, ℕ, zero, suc, ◌==◌, List, ◌++◌, None, Option}
+use Rattle.std.specs.Prelude.{◌≡◌, ◌≢◌, ℕ, zero, suc, ◌==◌, List, ◌++◌, None}
 use Rattle.fts_tables.specs.History.{tables_of, IsLegal}
 use Rattle.fts_tables.specs.declared.commands.Entry.{Entry}
-use Rattle.fts_store.specs.Calls.{Call}
-use Rattle.fts_store.specs.Store.{StoreState}
 use Rattle.fts_turnstile.specs.declared.turn.Turn.{Turn}
 use Rattle.fts_turnstile.specs.History.{items_of}
 use Rattle.fts_turnstile.specs.Passes.{PassView, IsSame, seen_list}
@@ -15,6 +13,7 @@ use Rattle.fts_shop.specs.declared.ends.Turn.{Turn as TurnEnd}
 use Rattle.fts_shop.specs.declared.ends.Turn.TheVariants as turn_ends
 use Rattle.fts_ledger.specs.Reports.{AddsWork, IsUndisturbed, ReportsOwn, StopsAsked}
 use Rattle.fts_ledger.specs.Fitting.{FitsPass}
+use Rattle.fts_store.specs.declared.store.Store as store
 
 -- turns of a pass with its bench: what it has then seen, what it added, what holds of the reports among that, and that the bench fits it
 pub record KeepsLedger (old new : PassView Entry) (held_now : List Held) : Type 0 where
@@ -36,12 +35,12 @@ pub record MayKeep (old new : PassView Entry) (held : List Held) : Type 0 where
 abbrev pub KeepsItsFiles : PassView Entry → Type 0
 KeepsItsFiles pass = IsUndisturbed pass.number pass.opening (items_of pass.seen)
 
-module _ {E : Type 0} (state : E → StoreState) (calls : E → Option (List Call)) (faults : E → ℕ) where
+module _ {E : Type 0} (stores : store.Ghosts E) where
   -- a station's store follows from the reports that its pass added, with the copy that the bench keeps
   pub record FollowsOwn (old new : StationData E) : Type 0 where
     pub since : List (Turn Entry)
     pub seen : new.pass.seen ≡ old.pass.seen ++ since
-    pub follows : FollowsReports state calls faults
+    pub follows : FollowsReports stores.state stores.calls stores.faults
         (copies_kept (tables_of (seen_list old.pass)) old.held)
         (copies_from (λ writer. writer == old.pass.number) (tables_of (seen_list old.pass)) (items_of since))
         (copies_kept (tables_of (seen_list new.pass)) new.held) old.hand.store new.hand.store
@@ -49,5 +48,5 @@ module _ {E : Type 0} (state : E → StoreState) (calls : E → Option (List Cal
   -- turns, one after the other, after none of which a worker ends, and of which none is stale
   abbrev pub AreFresh : ℕ → StationData E → StationData E → Type 0
   AreFresh zero old new = (old.hand ≡ new.hand) × (old.held ≡ new.held) × (old.pass ≡ new.pass)
-  AreFresh (suc more) old new = (next : StationData E) × (end : TurnEnd) × (TakesOne state calls faults old next end
+  AreFresh (suc more) old new = (next : StationData E) × (end : TurnEnd) × (TakesOne stores old next end
       × ((worker_end_of end ≡ None) × (((file : ℕ) → end ≢ turn_ends.Stale file) × AreFresh more next new)))

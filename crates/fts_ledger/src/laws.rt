@@ -32,11 +32,11 @@ use fts_tables::laws::{
 /// asked; and each file that is out and was claimed last by the pass is held by its bench, which holds nothing else. Of one turn, of turns, of a worker.
 pub fn turns_keep_the_ledger<E: Store>()
     ensures begins { (pass : PassView Entry) → NoneOf pass.number (items_of pass.seen) → FitsPass pass [] }
-    ensures turn { (old new : StationData E) (end : TurnEnd) → TakesOne E.state E.calls E.faults old new end → MayKeep old.pass new.pass old.held
+    ensures turn { (old new : StationData E) (end : TurnEnd) → TakesOne E.Store old new end → MayKeep old.pass new.pass old.held
         → KeepsLedger old.pass new.pass new.held }
-    ensures turns { (more : ℕ) (old new : StationData E) → AreTurns E.state E.calls E.faults more old new → MayKeep old.pass new.pass old.held
+    ensures turns { (more : ℕ) (old new : StationData E) → AreTurns E.Store more old new → MayKeep old.pass new.pass old.held
         → KeepsLedger old.pass new.pass new.held }
-    ensures worker { (old new : StationData E) → WorkerDone E.state E.calls E.faults old new → MayKeep old.pass new.pass old.held
+    ensures worker { (old new : StationData E) → WorkerDone E.Store old new → MayKeep old.pass new.pass old.held
         → KeepsLedger old.pass new.pass new.held }
 {
     tables_are_well_formed();
@@ -94,12 +94,12 @@ pub fn files_out_have_claimants()
 /// reports, with the copy that the bench keeps. Of one turn, of turns, of a worker. In the list of all turns these are the same copies (`copies`),
 /// where the pass took no turn before what the clause speaks of, and none behind it.
 pub fn undisturbed_stores_follow<E: Store>()
-    ensures turn { (old new : StationData E) (end : TurnEnd) → TakesOne E.state E.calls E.faults old new end → MayKeep old.pass new.pass old.held
-        → KeepsItsFiles new.pass → FollowsOwn E.state E.calls E.faults old new × ((file : ℕ) → end ≢ Stale file) }
-    ensures turns { (more : ℕ) (old new : StationData E) → AreTurns E.state E.calls E.faults more old new → MayKeep old.pass new.pass old.held
-        → KeepsItsFiles new.pass → FollowsOwn E.state E.calls E.faults old new × AreFresh E.state E.calls E.faults more old new }
-    ensures worker { (old new : StationData E) (done : WorkerDone E.state E.calls E.faults old new) → MayKeep old.pass new.pass old.held
-        → KeepsItsFiles new.pass → FollowsOwn E.state E.calls E.faults old new × AreFresh E.state E.calls E.faults done.more old done.between }
+    ensures turn { (old new : StationData E) (end : TurnEnd) → TakesOne E.Store old new end → MayKeep old.pass new.pass old.held
+        → KeepsItsFiles new.pass → FollowsOwn E.Store old new × ((file : ℕ) → end ≢ Stale file) }
+    ensures turns { (more : ℕ) (old new : StationData E) → AreTurns E.Store more old new → MayKeep old.pass new.pass old.held
+        → KeepsItsFiles new.pass → FollowsOwn E.Store old new × AreFresh E.Store more old new }
+    ensures worker { (old new : StationData E) (done : WorkerDone E.Store old new) → MayKeep old.pass new.pass old.held
+        → KeepsItsFiles new.pass → FollowsOwn E.Store old new × AreFresh E.Store done.more old done.between }
     ensures copies { (old : PassView Entry) (since later : List (Turn Entry)) → NoneOf old.number (items_of old.seen) → NoneOf old.number (items_of later)
         → copies_from (λ writer. writer == old.number) (tables_of old.opening) (items_of ((old.seen ++ since) ++ later))
         ≡ copies_from (λ writer. writer == old.number) (tables_of (seen_list old)) (items_of since) }

@@ -63,7 +63,7 @@ struct Row {
     script: &'static str,
 }
 
-const ROWS: [Row; 9] = [
+const ROWS: [Row; 10] = [
     Row {
         case: "a link carries as many files as its limit",
         settings: TWO,
@@ -125,7 +125,7 @@ const ROWS: [Row; 9] = [
         document: WRONG,
         fail: &[],
         drop: &[],
-        script: "round 0 = busy 1\nround 0 = clear\nstates = FAILED FAILED\nreason 1 = source digest of abc\nwaits 1 = attempt 1 not before 0\nsize f1 = none",
+        script: "round 0 = busy 1\nround 0 = clear\nstates = FAILED FAILED\nreason 1 = source digest of abc\nwaits 1 = attempt 1 not before 0\nsize f1 = none\nsize .fts/part-1 = none",
     },
     Row {
         case: "a retry waits until its moment",
@@ -143,7 +143,16 @@ const ROWS: [Row; 9] = [
         document: ONE,
         fail: &[],
         drop: &[1],
-        script: "round 0 = busy 1\nround 0 = clear\nstates = FAILED FAILED\nreason 1 = read back differs at 2\nsize f1 = none",
+        script: "round 0 = busy 1\nround 0 = clear\nstates = FAILED FAILED\nreason 1 = read back differs at 2\nsize f1 = none\nsize .fts/part-1 = none",
+    },
+    Row {
+        case: "a part whose removal fails stays, and its file ends as its copy did",
+        settings: TWO,
+        limit: "2",
+        document: WRONG,
+        fail: &[6],
+        drop: &[],
+        script: "round 0 = busy 1\nround 0 = clear\nstates = FAILED FAILED\nreason 1 = source digest of abc\nsize f1 = none\nsize .fts/part-1 = 3",
     },
 ];
 

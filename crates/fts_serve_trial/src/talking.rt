@@ -197,7 +197,7 @@ impl<'a> TalkingDoors<'a> {
 }
 
 impl<'a> Doors for TalkingDoors<'a> {
-    ghost use Rattle.std.specs.Prelude.{None};
+    ghost use Rattle.std.specs.Prelude.{None, true};
     ghost use Rattle.std.proofs.Common.{rules};
 
     type Line = TalkingLine<'a>;
@@ -205,6 +205,8 @@ impl<'a> Doors for TalkingDoors<'a> {
     ghost doors = { λ d. record { coming = None; back = None; out = d.out } };
 
     ghost faults = { λ _. 0 };
+
+    ghost listens = { λ _. true };
 
     ghost line = { Prim.search rules };
 

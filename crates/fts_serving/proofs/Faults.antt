@@ -1,35 +1,32 @@
 -- What a worker's last turn met, where it ended by the disk or by the journal's limit.
-use Rattle.std.proofs.Common.{◌≡◌, ◌≢◌, ◌⊎◌, refl, sym, ap, ◌∙◌, subst, inl, inr, ⊎_elim, ℕ, zero, suc, Bool, true, false, cond, List, [], ◌∷◌, ◌++◌, map, Option, Some, None, Result, Ok, Err, append_assoc}
-use Rattle.std.specs.Prelude.{IsOk, IsSome, if◌then◌else◌, nat_lt, unwrap_or}
+use Rattle.std.proofs.Common.{◌≡◌, ◌≢◌, ◌⊎◌, refl, sym, ap, ◌∙◌, subst, ⊎_elim, ℕ, zero, suc, Bool, true, false, List, [], ◌∷◌, ◌++◌, Option, Some, None, Result, Ok, Err}
+use Rattle.std.specs.Prelude.{IsOk, if◌then◌else◌}
 use Rattle.fts_tables.specs.Coming.{Coming}
 use Rattle.fts_tables.specs.Counts.{Rose}
 use Rattle.fts_tables.specs.Tables.{Tables}
-use Rattle.fts_tables.specs.Step.{Outcomes, step}
-use Rattle.fts_tables.specs.History.{tables_of}
+use Rattle.fts_tables.specs.Step.{Outcomes}
 use Rattle.fts_tables.specs.declared.rows.FileState.{FileState}
 use Rattle.fts_tables.specs.declared.rows.FileState.TheVariants as state
 use Rattle.fts_tables.specs.declared.commands.Entry.{Entry}
 use Rattle.fts_tables.specs.declared.commands.Command.{Command}
 use Rattle.fts_tables.specs.declared.commands.Answer.{Answer}
 use Rattle.fts_tables.specs.declared.commands.Answer.TheVariants.{Restarted, Submitted, Cancelled, PrioritySet, Claimed, Reported}
-use Rattle.fts_store.specs.Calls.{Call}
-use Rattle.fts_store.specs.Store.{StoreState}
 use Rattle.fts_turnstile.specs.declared.turn.Turn.{Turn}
 use Rattle.fts_turnstile.specs.History.{items_of, shown_after}
-use Rattle.fts_turnstile.specs.Passes.{PassView, IsSame}
-use Rattle.fts_keep.specs.Keeps.{used_of}
+use Rattle.fts_turnstile.specs.Passes.{PassView}
 use Rattle.fts_keep.specs.Applied.{applied_by, entry_by, fits}
 use Rattle.fts_keep.specs.declared.fault.KeepFault.{KeepFault}
 use Rattle.fts_keep.specs.declared.fault.KeepFault.TheVariants.{Rule, DiskFailed, JournalFull, Damaged, Memory}
 use Rattle.fts_workers.specs.Rounds.{applied_over}
 use Rattle.fts_workers.specs.declared.held.Held.{Held}
 use Rattle.fts_shop.specs.Shops.{CameTo, HasFault, IsToldList, TriedInTurn, faults_shown, point}
-use Rattle.fts_shop.specs.Turns.{GoesOn, HandData, IsTurn, ReportsHeld, end_by_claim, end_by_fault, end_by_report, end_by_state, idle_end}
+use Rattle.fts_shop.specs.Turns.{GoesOn, HandData, IsTurn, ReportsHeld, end_by_claim, end_by_report, end_by_state, idle_end}
 use Rattle.fts_shop.specs.Workers.{end_without_lanes, worker_end_of}
 use Rattle.fts_shop.specs.declared.ends.Turn.{Turn as TurnEnd}
 use Rattle.fts_shop.specs.declared.ends.Turn.TheVariants as turn_ends
 use Rattle.fts_shop.specs.declared.ends.WorkerEnd.{WorkerEnd}
 use Rattle.fts_shop.specs.declared.ends.WorkerEnd.TheVariants as worker_ends
+use Rattle.fts_store.specs.declared.store.Store as store
 
 -- a command was tried in the last turn that a pass has seen, over a told list
 pub record TriesLast (pass : PassView Entry) (result : Result Answer KeepFault) : Type 0 where
@@ -114,7 +111,7 @@ pub record FailsLast (pass : PassView Entry) (fault : KeepFault) : Type 0 where
   pub tries : TriesLast pass result
   pub is : result ≡ Err fault
 
-module _ {E : Type 0} (store_state : E → StoreState) (store_calls : E → Option (List Call)) (store_faults : E → ℕ) where
+module _ {E : Type 0} (stores : store.Ghosts E) where
   reports_fail : (old new : PassView Entry) (moments later : Option Coming) (held : List Held) (end : TurnEnd) (left : List Held) (fault : KeepFault)
       → IsToldList old → ReportsHeld old new moments later held end left → fault_of end ≡ Some fault → FailsLast new fault
   reports_fail old new moments later [] end left fault told reported is = absurd reported
@@ -127,7 +124,7 @@ module _ {E : Type 0} (store_state : E → StoreState) (store_calls : E → Opti
 
   goes_fail : (old claimed new : PassView Entry) (command : Command) (lanes : ℕ) (result : Result Answer KeepFault) (hand after : HandData E) (end : TurnEnd) (left : List Held)
       (fault : KeepFault) → IsToldList old → TriedInTurn old claimed command result lanes
-      → GoesOn store_state store_calls store_faults lanes result claimed new hand after end left → fault_of end ≡ Some fault → FailsLast new fault
+      → GoesOn stores lanes result claimed new hand after end left → fault_of end ≡ Some fault → FailsLast new fault
   goes_fail old claimed new command lanes (Ok (Claimed file attempt)) hand after end left fault told tried goes is = record {
     result = goes.reported.result;
     tries = tries_last (λ none. told (sym tried.taken.same.1 ∙ sym goes.copied.same.1 ∙ none)) goes.reported.tried;
@@ -146,7 +143,7 @@ module _ {E : Type 0} (store_state : E → StoreState) (store_calls : E → Opti
 
   -- a turn that ends by a fault
   pub turn_fails : (old new : PassView Entry) (hand after : HandData E) (held : List Held) (end : TurnEnd) (left : List Held) (fault : KeepFault) → IsToldList old
-      → IsTurn store_state store_calls store_faults old new hand after held end left → fault_of end ≡ Some fault → FailsLast new fault
+      → IsTurn stores old new hand after held end left → fault_of end ≡ Some fault → FailsLast new fault
   turn_fails old new hand after [] end left fault told turn is =
       goes_fail old turn.claimed new _ turn.lanes turn.result turn.behind after end left fault told turn.tried turn.goes_on is
   turn_fails old new hand after (held ∷ others) end left fault told turn is =

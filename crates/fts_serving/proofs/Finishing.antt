@@ -1,58 +1,35 @@
 -- How a run that serves ends where nothing is in its way, and the lines of its lanes.
-use Rattle.std.proofs.Common.{◌≡◌, ◌≢◌, ◌⊎◌, refl, sym, ap, ◌∙◌, subst, inl, inr, ⊎_elim, ℕ, zero, suc, ◌+◌, ◌<◌, ◌≤◌, Bool, true, false, cond, List, [], ◌∷◌, ◌++◌, length, map, drop, Option, Some, None, Result, Ok, Err, append_assoc, arith}
-use Rattle.std.specs.Prelude.{◌||◌, nat_lt, unwrap_or, IfSome, IsOk, IsSome}
+use Rattle.std.proofs.Common.{◌≡◌, ◌≢◌, ◌⊎◌, refl, sym, ap, ◌∙◌, subst, inl, inr, ⊎_elim, ℕ, zero, suc, ◌+◌, ◌<◌, ◌≤◌, Bool, true, false, cond, List, [], ◌∷◌, ◌++◌, length, map, Option, Some, None, arith}
+use Rattle.std.specs.Prelude.{◌||◌, nat_lt, unwrap_or}
 use Rattle.std.specs.List.{list_any}
-use Rattle.fts_tables.specs.Coming.{Coming}
 use Rattle.fts_tables.specs.Counts.{Rose}
-use Rattle.fts_tables.specs.SettingsData.{SettingsData}
-use Rattle.fts_tables.specs.Step.{step}
-use Rattle.fts_tables.specs.History.{tables_of}
 use Rattle.fts_tables.specs.declared.commands.Entry.{Entry}
-use Rattle.fts_config.specs.Settings.{settings_of}
-use Rattle.fts_config.specs.declared.fault.SettingsFault.{SettingsFault}
-use Rattle.fts_disk.specs.Disk.{DiskState, IsTold}
-use Rattle.fts_store.specs.Calls.{Call}
-use Rattle.fts_store.specs.Store.{StoreState}
 use Rattle.fts_turnstile.specs.declared.turn.Turn.{Turn}
-use Rattle.fts_turnstile.specs.History.{items_of, shown_after}
+use Rattle.fts_turnstile.specs.History.{shown_after}
 use Rattle.fts_turnstile.specs.Passes.{PassView}
-use Rattle.fts_keep.specs.Applied.{fits}
-use Rattle.fts_keep.specs.Damage.{IsDamaged}
-use Rattle.fts_keep.specs.Keeps.{KeepData, used_of}
-use Rattle.fts_keep.specs.Started.{Opens, restart_at}
-use Rattle.fts_keep.specs.declared.fault.KeepFault.{KeepFault}
-use Rattle.fts_keep.specs.declared.fault.KeepFault.TheVariants as keep_faults
 use Rattle.fts_wire.specs.RoomData.{RoomData}
-use Rattle.fts_workers.specs.Rounds.{applied_over}
-use Rattle.fts_workers.specs.declared.hand.Hand.{Hand}
 use Rattle.fts_shop.specs.Many.{Each}
-use Rattle.fts_shop.specs.Looked.{items_on}
-use Rattle.fts_shop.specs.Shops.{IsToldList, ShopData, faults_shown}
-use Rattle.fts_shop.specs.Workers.{station_data}
+use Rattle.fts_shop.specs.Shops.{faults_shown}
 use Rattle.fts_shop.specs.declared.ends.WorkerEnd.{WorkerEnd}
 use Rattle.fts_shop.specs.declared.ends.WorkerEnd.TheVariants as worker_ends
 use Rattle.fts_shop.specs.declared.station.Station.{Station}
-use Rattle.fts_top.specs.Booths.{booth_data}
-use Rattle.fts_top.specs.Complete.{HasGoodSettings, IsUndamaged, RestartPasses, Stays}
-use Rattle.fts_top.specs.Doors.{DoorsData}
-use Rattle.fts_top.specs.Ends.{status_of, worker_status}
-use Rattle.fts_top.specs.Halls.{IsBoothServed, IsStationWorked}
-use Rattle.fts_top.specs.Lanes.{IsStop as IsLaneStop, Sides}
-use Rattle.fts_top.specs.Openings.{AreOpened, SomeRose}
-use Rattle.fts_top.specs.Runs.{IsStop, StartsWith}
-use Rattle.fts_top.specs.Seats.{booths_of}
-use Rattle.fts_top.specs.Served.{are_doors_failed, end_when_served, served_end, severity_of, worse_of, worst_from, worst_of}
-use Rattle.fts_top.specs.Serves.{ManyThreads, WhyNoLane}
+use Rattle.fts_service.specs.Booths.{booth_data}
+use Rattle.fts_top.specs.Ends.{end_when_served}
+use Rattle.fts_service.specs.Halls.{IsBoothServed}
+use Rattle.fts_service.specs.Lanes.{IsStop as IsLaneStop, Sides}
+use Rattle.fts_service.specs.Openings.{AreOpened, SomeRose}
+use Rattle.fts_service.specs.Seats.{booths_of}
+use Rattle.fts_service.specs.Served.{are_doors_failed, served_end, severity_of, worse_of, worst_from, worst_of}
 use Rattle.fts_top.specs.declared.ends.RunEnd.{RunEnd}
 use Rattle.fts_top.specs.declared.ends.RunEnd.TheVariants as run_ends
-use Rattle.fts_top.specs.declared.lane.Booth.{Booth}
-use Rattle.fts_top.specs.declared.lane.Lane.{Lane}
-use Rattle.fts_top.specs.declared.lane.LaneStop.{LaneStop}
-use Rattle.fts_top.specs.declared.lane.LaneStop.TheVariants as lane_stops
-use Rattle.fts_top.specs.declared.together.ServedEnd.{ServedEnd}
-use Rattle.fts_top.specs.declared.together.ServedEnd.TheVariants as served_ends
-use Rattle.fts_serving.specs.Finishes.{BreaksNoRule, IsAccountedFor, NoneRises, RecordPasses}
-use Rattle.fts_serving.proofs.Faults.{FailsLast, TriesLast, full_by, last_fault, turn_fails, worker_fault}
+use Rattle.fts_service.specs.declared.lane.Booth.{Booth}
+use Rattle.fts_service.specs.declared.lane.Lane.{Lane}
+use Rattle.fts_service.specs.declared.lane.LaneStop.{LaneStop}
+use Rattle.fts_service.specs.declared.lane.LaneStop.TheVariants as lane_stops
+use Rattle.fts_service.specs.declared.together.ServedEnd.TheVariants as served_ends
+use Rattle.fts_serving.specs.Finishes.{IsAccountedFor, NoneRises}
+use Rattle.fts_service.specs.declared.doors.Doors as doors
+use Rattle.fts_tables.specs.declared.clock.Clock as clock
 
 -- no turn rises that shows no more than before
 pub none_rises_at : (shown : List ℕ) (before : List (Turn Entry)) (turn : Turn Entry) (later : List (Turn Entry)) → NoneRises shown (before ++ turn ∷ later)
@@ -107,12 +84,12 @@ ended_by R end (old ∷ olds) (new ∷ news) each some = ⊎_elim
     some
 
 -- lanes
-module _ (D : Type 0) {A C L : Type 0} (sides : Sides L) (doors : A → DoorsData L) (door_faults : A → ℕ) (moments : C → Option Coming) (connections : Option ℕ) where
+module _ (D : Type 0) {A C L : Type 0} (all_doors : doors.Ghosts A L) (sides : Sides L) (clocks : clock.Ghosts C) (connections : Option ℕ) where
   -- doors that failed rose
   pub doors_rose : (lanes : List (Lane A C L)) (rooms : List RoomData) (passes : List (PassView Entry)) (booths : List (Booth D A C L)) (rest : List (Lane A C L))
-      → Each (IsBoothServed sides doors door_faults moments connections) (booths_of lanes rooms passes) booths
+      → Each (IsBoothServed sides all_doors clocks connections) (booths_of lanes rooms passes) booths
       → list_any are_doors_failed (map (λ (booth : Booth D A C L). booth.end) booths) ≡ true
-      → SomeRose door_faults lanes (map (λ (booth : Booth D A C L). booth.lane) booths ++ rest)
+      → SomeRose all_doors lanes (map (λ (booth : Booth D A C L). booth.lane) booths ++ rest)
   doors_rose lanes [] passes [] rest each is = absurd cc
   doors_rose lanes [] passes (booth ∷ booths) rest each is = absurd each
   doors_rose [] (room ∷ rooms) passes [] rest each is = absurd cc
@@ -125,31 +102,31 @@ module _ (D : Type 0) {A C L : Type 0} (sides : Sides L) (doors : A → DoorsDat
     where
       by_failed : (failed : Bool) → are_doors_failed booth.end ≡ failed
           → (list_any are_doors_failed (map (λ (b : Booth D A C L). b.end) booths) ≡ true
-          → SomeRose door_faults lanes (map (λ (b : Booth D A C L). b.lane) booths ++ rest))
-          → failed ≡ false → SomeRose door_faults (lane ∷ lanes) (booth.lane ∷ map (λ (b : Booth D A C L). b.lane) booths ++ rest)
+          → SomeRose all_doors lanes (map (λ (b : Booth D A C L). b.lane) booths ++ rest))
+          → failed ≡ false → SomeRose all_doors (lane ∷ lanes) (booth.lane ∷ map (λ (b : Booth D A C L). b.lane) booths ++ rest)
       by_failed true at behind none = absurd (let clash : true ≡ false = none in cc)
       by_failed false at behind none =
           inr (behind (sym (ap (λ b. b || list_any are_doors_failed (map (λ (b : Booth D A C L). b.end) booths)) at) ∙ is))
 
-      by_stop : (stop : LaneStop) → IsLaneStop sides connections (length each.0.1.done.served.lines) (booth_data moments doors door_faults booth).doors
-          (Rose (door_faults lane.doors) (door_faults booth.lane.doors)) stop → booth.end ≡ Some stop
+      by_stop : (stop : LaneStop) → IsLaneStop sides connections (length each.0.1.done.served.lines) (booth_data clocks all_doors booth).doors
+          (Rose (all_doors.faults lane.doors) (all_doors.faults booth.lane.doors)) stop → booth.end ≡ Some stop
           → (list_any are_doors_failed (map (λ (b : Booth D A C L). b.end) booths) ≡ true
-          → SomeRose door_faults lanes (map (λ (b : Booth D A C L). b.lane) booths ++ rest))
-          → SomeRose door_faults (lane ∷ lanes) (booth.lane ∷ map (λ (b : Booth D A C L). b.lane) booths ++ rest)
+          → SomeRose all_doors lanes (map (λ (b : Booth D A C L). b.lane) booths ++ rest))
+          → SomeRose all_doors (lane ∷ lanes) (booth.lane ∷ map (λ (b : Booth D A C L). b.lane) booths ++ rest)
       by_stop lane_stops.NoMore stops ended behind = by_failed (are_doors_failed booth.end) refl behind (ap are_doors_failed ended)
       by_stop (lane_stops.Enough lines) stops ended behind = by_failed (are_doors_failed booth.end) refl behind (ap are_doors_failed ended)
       by_stop lane_stops.DoorsFailed stops ended behind = inl stops.1
 
   -- where the doors rose behind the opening, they rose
-  pub rose_before : (count : ℕ) (before opened after : List (Lane A C L)) → AreOpened doors door_faults count before opened → SomeRose door_faults opened after
-      → SomeRose door_faults before after
-  rose_before zero before opened after opens rose = subst (λ l. SomeRose door_faults l after) opens rose
+  pub rose_before : (count : ℕ) (before opened after : List (Lane A C L)) → AreOpened all_doors count before opened → SomeRose all_doors opened after
+      → SomeRose all_doors before after
+  rose_before zero before opened after opens rose = subst (λ l. SomeRose all_doors l after) opens rose
   rose_before (suc more) [] [] after opens rose = absurd rose
   rose_before (suc more) [] (new ∷ news) after opens rose = absurd opens
   rose_before (suc more) (old ∷ olds) [] after opens rose = absurd opens
   rose_before (suc more) (old ∷ olds) (new ∷ news) [] opens rose = absurd rose
   rose_before (suc more) (old ∷ olds) (new ∷ news) (one ∷ after) opens rose = ⊎_elim
-      (λ here. inl (rose_on (door_faults old.doors) (door_faults new.doors) (door_faults one.doors) opens.0.counts here))
+      (λ here. inl (rose_on (all_doors.faults old.doors) (all_doors.faults new.doors) (all_doors.faults one.doors) opens.0.counts here))
       (λ there. inr (rose_before more olds news after opens.1 there))
       rose
     where
@@ -158,24 +135,24 @@ module _ (D : Type 0) {A C L : Type 0} (sides : Sides L) (doors : A → DoorsDat
       rose_on a b c le (inr most) = inr most
 
   -- the lines of a lane whose doors didn't fail
-  pub accounted : (old new : Booth D A C L) → IsBoothServed sides doors door_faults moments connections old new
-      → Rose (door_faults old.lane.doors) (door_faults new.lane.doors)
-      ⊎ IsAccountedFor connections (booth_data moments doors door_faults old) (booth_data moments doors door_faults new)
+  pub accounted : (old new : Booth D A C L) → IsBoothServed sides all_doors clocks connections old new
+      → Rose (all_doors.faults old.lane.doors) (all_doors.faults new.lane.doors)
+      ⊎ IsAccountedFor connections (booth_data clocks all_doors old) (booth_data clocks all_doors new)
   accounted old new served = by served.1.stop served.1.done.served.stops
     where
-      by : (stop : LaneStop) → IsLaneStop sides connections (length served.1.done.served.lines) (booth_data moments doors door_faults new).doors
-          (Rose (door_faults old.lane.doors) (door_faults new.lane.doors)) stop
-          → Rose (door_faults old.lane.doors) (door_faults new.lane.doors)
-          ⊎ IsAccountedFor connections (booth_data moments doors door_faults old) (booth_data moments doors door_faults new)
+      by : (stop : LaneStop) → IsLaneStop sides connections (length served.1.done.served.lines) (booth_data clocks all_doors new).doors
+          (Rose (all_doors.faults old.lane.doors) (all_doors.faults new.lane.doors)) stop
+          → Rose (all_doors.faults old.lane.doors) (all_doors.faults new.lane.doors)
+          ⊎ IsAccountedFor connections (booth_data clocks all_doors old) (booth_data clocks all_doors new)
       by lane_stops.NoMore stops = inr (record { lines = served.1.done.served.lines; through = served.1.done.served.serves.through; all = inl stops.1 })
       by (lane_stops.Enough lines) stops =
           inr (record { lines = served.1.done.served.lines; through = served.1.done.served.serves.through; all = inr stops.1 })
       by lane_stops.DoorsFailed stops = inl stops.1
 
   -- those of all lanes, where no doors failed
-  pub accounted_all : (olds news : List (Booth D A C L)) → Each (IsBoothServed sides doors door_faults moments connections) olds news
+  pub accounted_all : (olds news : List (Booth D A C L)) → Each (IsBoothServed sides all_doors clocks connections) olds news
       → list_any are_doors_failed (map (λ (booth : Booth D A C L). booth.end) news) ≡ false
-      → Each (λ old new. IsAccountedFor connections (booth_data moments doors door_faults old) (booth_data moments doors door_faults new)) olds news
+      → Each (λ old new. IsAccountedFor connections (booth_data clocks all_doors old) (booth_data clocks all_doors new)) olds news
   accounted_all [] [] each none = tt
   accounted_all [] (new ∷ news) each none = absurd each
   accounted_all (old ∷ olds) [] each none = absurd each
@@ -187,9 +164,9 @@ module _ (D : Type 0) {A C L : Type 0} (sides : Sides L) (doors : A → DoorsDat
       neither true other is = absurd (let clash : true ≡ false = is in cc)
       neither false other is = (refl, is)
 
-      by : (stop : LaneStop) → IsLaneStop sides connections (length each.0.1.done.served.lines) (booth_data moments doors door_faults new).doors
-          (Rose (door_faults old.lane.doors) (door_faults new.lane.doors)) stop → new.end ≡ Some stop → are_doors_failed new.end ≡ false
-          → IsAccountedFor connections (booth_data moments doors door_faults old) (booth_data moments doors door_faults new)
+      by : (stop : LaneStop) → IsLaneStop sides connections (length each.0.1.done.served.lines) (booth_data clocks all_doors new).doors
+          (Rose (all_doors.faults old.lane.doors) (all_doors.faults new.lane.doors)) stop → new.end ≡ Some stop → are_doors_failed new.end ≡ false
+          → IsAccountedFor connections (booth_data clocks all_doors old) (booth_data clocks all_doors new)
       by lane_stops.NoMore stops ended none =
           record { lines = each.0.1.done.served.lines; through = each.0.1.done.served.serves.through; all = inl stops.1 }
       by (lane_stops.Enough lines) stops ended none =

@@ -1,6 +1,5 @@
 -- What a lane's pass adds and shows: client's commands alone, and one lane less in its last turn.
-use Rattle.std.proofs.Common.{◌≡◌, ◌≢◌, refl, sym, ap, ◌∙◌, subst, inl, inr, ℕ, ◌+◌, ◌-◌, Bool, true, false, cond, List, [], ◌∷◌, ◌++◌, Option, append_assoc}
-use Rattle.fts_tables.specs.Coming.{Coming}
+use Rattle.std.proofs.Common.{◌≡◌, ◌≢◌, refl, sym, ap, ◌∙◌, subst, inl, ℕ, ◌+◌, ◌-◌, true, false, cond, List, [], ◌∷◌, ◌++◌, Option, append_assoc}
 use Rattle.fts_tables.specs.declared.commands.Entry.{Entry}
 use Rattle.fts_turnstile.specs.declared.turn.Turn.{Turn}
 use Rattle.fts_turnstile.specs.History.{AllNamed, NoneBy, items_of, shown_after}
@@ -9,15 +8,15 @@ use Rattle.fts_wire.specs.RequestData.{RequestData}
 use Rattle.fts_wire.specs.declared.response.Reply.{Reply}
 use Rattle.fts_shop.specs.Looking.{LeaveLanes}
 use Rattle.fts_shop.specs.Looked.{items_on, same_on}
-use Rattle.fts_shop.specs.Shops.{IsToldList, KeepsLanes, LaneEnds, TakesTurn, lanes_shown, point, writer_of}
-use Rattle.fts_top.specs.Connections.{AreServed, Exchange, LastAnswered}
-use Rattle.fts_top.specs.Doors.{DoorsData}
-use Rattle.fts_top.specs.Lanes.{AnswersInTurn, AreLinesServed, IsServed, LaneDone, Sides, Standing, Stays}
-use Rattle.fts_top.specs.declared.lane.LaneStop.{LaneStop}
+use Rattle.fts_shop.specs.Shops.{IsToldList, KeepsLanes, TakesTurn, lanes_shown, point, writer_of}
+use Rattle.fts_session.specs.Connections.{AreServed, Exchange, LastAnswered}
+use Rattle.fts_service.specs.Doors.{DoorsData}
+use Rattle.fts_service.specs.Lanes.{AnswersInTurn, AreLinesServed, IsServed, LaneDone, Sides, Standing, Stays}
+use Rattle.fts_service.specs.declared.lane.LaneStop.{LaneStop}
 use Rattle.fts_ledger.specs.Reports.{AddsAsked}
 use Rattle.fts_serving.proofs.Asked.{AllAsked, said_asked}
 use Rattle.fts_serving.proofs.Open.{LaneTurns, has_turn, there}
-use Rattle.fts_serving.proofs.Own.{asked_none, asked_on, leave_none, none_items, shown_on, turn_asked, turn_leaves, before_leaves, named_back}
+use Rattle.fts_serving.proofs.Own.{asked_none, asked_on, none_items, turn_asked, turn_leaves, before_leaves, named_back}
 
 -- a pass that has added client's commands alone, and has left the lanes
 pub record InLane (base pass : PassView Entry) : Type 0 where

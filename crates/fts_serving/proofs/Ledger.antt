@@ -1,7 +1,6 @@
 -- Of lanes and workers that ran over a told list: what each pass added, by its number, and what follows for all of them.
-use Rattle.std.proofs.Common.{◌≡◌, ◌≢◌, refl, sym, ap, ◌∙◌, subst, inl, inr, ⊎_elim, ℕ, zero, suc, ◌+◌, ◌<◌, ◌≤◌, Bool, true, false, List, [], ◌∷◌, ◌++◌, length, map, drop, All, Option, Some, None, Ok, Err, append-nil, append_assoc, arith}
+use Rattle.std.proofs.Common.{◌≡◌, ◌≢◌, refl, sym, ap, ◌∙◌, subst, inl, inr, ⊎_elim, ℕ, zero, suc, ◌+◌, ◌<◌, ◌≤◌, true, false, List, [], ◌∷◌, ◌++◌, length, map, drop, Option, Some, None, Err, append-nil, append_assoc, arith}
 use Rattle.std.specs.Prelude.{◌⊎◌, max, IsSome}
-use Rattle.fts_tables.specs.Coming.{Coming}
 use Rattle.fts_tables.specs.SettingsData.{SettingsData, IsSettings}
 use Rattle.fts_tables.specs.Tables.{Tables, empty_tables}
 use Rattle.fts_tables.specs.Limits.{eligible_rows}
@@ -10,12 +9,9 @@ use Rattle.fts_tables.specs.History.{IsLegal, out_of_list, tables_of}
 use Rattle.fts_tables.specs.declared.commands.Entry.{Entry}
 use Rattle.fts_tables.specs.declared.commands.Command.TheVariants.{Claim, Restart}
 use Rattle.fts_tables.specs.declared.commands.Refusal.TheVariants.{Idle}
-use Rattle.fts_disk.specs.Disk.{DiskState}
-use Rattle.fts_store.specs.Calls.{Call}
-use Rattle.fts_store.specs.Store.{StoreState}
 use Rattle.fts_turnstile.specs.declared.turn.Turn.{Turn}
 use Rattle.fts_turnstile.specs.History.{AllGiven, AllNamed, Among, NoneBy, OnlyOthersSince, items_of, shown_after}
-use Rattle.fts_turnstile.specs.Passes.{PassView, TurnstileView, pass_given, seen_list}
+use Rattle.fts_turnstile.specs.Passes.{PassView, pass_given}
 use Rattle.fts_passes.specs.Crews.{AreSeenBy, passes_given}
 use Rattle.fts_keep.specs.Keeps.{KeepData}
 use Rattle.fts_keep.specs.Applied.{entry_by}
@@ -33,37 +29,36 @@ use Rattle.fts_workers.proofs.Accepted.{legal_front}
 use Rattle.fts_shop.specs.Shops.{IsToldList, ShopData, faults_shown, lanes_shown, writer_of}
 use Rattle.fts_shop.specs.Turns.{hand_data}
 use Rattle.fts_shop.specs.Workers.{StationData, WorkerDone, station_data, worker_end_of}
-use Rattle.fts_shop.specs.declared.ends.Turn.TheVariants.{Stale}
 use Rattle.fts_shop.specs.declared.ends.WorkerEnd.{WorkerEnd}
 use Rattle.fts_shop.specs.declared.ends.WorkerEnd.TheVariants.{Drained, DiskFailed as DiskFailedEnd, JournalFull as JournalFullEnd, Memory as MemoryEnd}
 use Rattle.fts_shop.specs.declared.station.Station.{Station}
-use Rattle.fts_top.specs.Doors.{DoorsData}
-use Rattle.fts_top.specs.Halls.{IsBoothServed, IsStationWorked}
-use Rattle.fts_top.specs.Lanes.{Sides}
-use Rattle.fts_top.specs.Seats.{booths_of, stations_of}
+use Rattle.fts_service.specs.Halls.{IsBoothServed, IsStationWorked}
+use Rattle.fts_service.specs.Seats.{booths_of, stations_of}
 use Rattle.fts_top.specs.Serves.{ClosesServed}
-use Rattle.fts_top.specs.Ends.{status_of}
-use Rattle.fts_top.specs.Openings.{SomeRose}
-use Rattle.fts_top.specs.Served.{are_doors_failed, end_when_served, worst_of}
-use Rattle.fts_top.specs.declared.lane.LaneStop.{LaneStop}
+use Rattle.fts_top.specs.Ends.{status_of, end_when_served}
+use Rattle.fts_service.specs.Openings.{SomeRose}
+use Rattle.fts_service.specs.Served.{are_doors_failed, worst_of}
+use Rattle.fts_service.specs.declared.lane.LaneStop.{LaneStop}
 use Rattle.fts_top.specs.declared.ends.RunEnd.{RunEnd}
 use Rattle.fts_top.specs.declared.ends.RunEnd.TheVariants.{Served}
 use Rattle.std.specs.List.{list_any}
-use Rattle.fts_top.specs.declared.lane.Booth.{Booth}
-use Rattle.fts_top.specs.declared.lane.Lane.{Lane}
+use Rattle.fts_service.specs.declared.lane.Booth.{Booth}
+use Rattle.fts_service.specs.declared.lane.Lane.{Lane}
 use Rattle.fts_ledger.specs.Claims.{IsOut, IsOwn, last_claim}
 use Rattle.fts_ledger.specs.Ledger.{AreFresh, FollowsOwn, KeepsItsFiles, KeepsLedger, MayKeep}
 use Rattle.fts_ledger.specs.Reports.{AddsAsked, AddsWork, HasNoRestart, IsUndisturbed, ReportsOwn}
-use Rattle.fts_serving.specs.Ends.{AreDrained, IsOpenedBy, KeepTheLedger, KeepsOwn, LeavesNothing, entries_added, stations_before}
-use Rattle.fts_serving.proofs.Last.{HasLast, IsBehind, IsLast, given_last, items_to, last_of, last_or_behind, last_there, none_above, none_among, none_last, not_behind, within}
+use Rattle.fts_serving.specs.Ends.{AreDrained, IsOpenedBy, KeepTheLedger, KeepsOwn, LeavesNothing}
+use Rattle.fts_serving.proofs.Last.{HasLast, given_last, items_to, last_of, last_or_behind, last_there, none_above, none_among, none_last, not_behind, within}
 use Rattle.fts_serving.proofs.Open.{LaneTurns, Rules, has_turn, none_open, open_all, open_behind, open_lanes, own_turn, there_behind}
 use Rattle.fts_serving.proofs.Own.{asked_none, named_back, none_items}
 use Rattle.fts_serving.proofs.Seats.{At, Seat, booths_given, drop_given, each_idle, each_weaker, each_with, giver_from, seat_at, seats, seen_behind, stations_given}
 use Rattle.fts_serving.specs.Finishes.{NoneRises, RecordPasses}
 use Rattle.fts_serving.proofs.Finishing.{doors_rose, ended_by, failed_doors, none_rises_at, rose_before, some_end}
 use Rattle.fts_serving.proofs.Faults.{Failed, full_by, last_fault, turn_fails, worker_fault}
-use Rattle.fts_serving.proofs.Stations.{FindsNone, between_same, drained_finds_none, worker_leaves}
-use Rattle.fts_serving.proofs.Whole.{Laws, OfLane, OfWorker, Sees, keeps, may, of_lane, of_worker, seen}
+use Rattle.fts_serving.proofs.Stations.{FindsNone, between_same, drained_finds_none}
+use Rattle.fts_serving.proofs.Whole.{Laws, OfWorker, keeps, may, of_lane, of_worker, seen}
+use Rattle.fts_store.specs.declared.store.Store as store
+use Rattle.fts_service.specs.Worlds.{World}
 
 -- the laws of lists that are cited here
 pub record ListLaws : Type 0 where
@@ -87,12 +82,12 @@ pub record ListLaws : Type 0 where
   pub earlier : (tables : Tables) (now later : ℕ) → now ≤ later → eligible_rows tables later ≡ [] → eligible_rows tables now ≡ []
 
 -- the laws of stations that are cited here
-pub record StoreLaws {E : Type 0} (store_state : E → StoreState) (store_calls : E → Option (List Call)) (store_faults : E → ℕ) : Type 0 where
-  pub own : Laws store_state store_calls store_faults
+pub record StoreLaws {E : Type 0} (stores : store.Ghosts E) : Type 0 where
+  pub own : Laws stores
   pub before : (pass : PassView Entry) (later : List (Turn Entry)) → IsUndisturbed pass.number pass.opening (items_of (pass.seen ++ later)) → KeepsItsFiles pass
-  pub follow : (old new : StationData E) (done : WorkerDone store_state store_calls store_faults old new) → MayKeep old.pass new.pass old.held
+  pub follow : (old new : StationData E) (done : WorkerDone stores old new) → MayKeep old.pass new.pass old.held
       → KeepsItsFiles new.pass
-      → FollowsOwn store_state store_calls store_faults old new × AreFresh store_state store_calls store_faults done.more old done.between
+      → FollowsOwn stores old new × AreFresh stores done.more old done.between
 
 -- what adds nothing works and asks for nothing
 work_none : (writer : ℕ) (entries : List Entry) → NoneOf writer entries → AddsWork writer entries
@@ -103,12 +98,11 @@ work_none writer (entry ∷ entries) none = ((λ is. absurd (none.0 is)), work_n
 le_max : (a b : ℕ) → b ≤ max a b
 le_max a b = omega arith
 
-module _ {D A E C W L : Type 0} (state : D → DiskState) (faults : D → ℕ) (store_state : E → StoreState) (store_calls : E → Option (List Call)) (store_faults : E → ℕ)
-    (sides : Sides L) (doors : A → DoorsData L) (door_faults : A → ℕ) (moments : C → Option Coming) (words : W → Option Coming)
+module _ {D A E C W L : Type 0} (world : World D A E C W L)
     {lanes workers : ℕ} {connections : Option ℕ} {keep : KeepData D} {lanes_before : List (Lane A C L)} {hands : List (Hand E C W)} {after : List (Lane A C L)}
     {hands_now : List (Hand E C W)} {closed : ShopData D} {end : RunEnd}
-    (lists : ListLaws) (laws : StoreLaws store_state store_calls store_faults)
-    (serves : ClosesServed state faults store_state store_calls store_faults sides doors door_faults moments words lanes workers connections keep lanes_before hands
+    (lists : ListLaws) (laws : StoreLaws world.stores)
+    (serves : ClosesServed world lanes workers connections keep lanes_before hands
     after hands_now closed end)
     (settings : SettingsData) (opened : IsOpenedBy keep.entries settings) (legal : IsLegal (keep.entries ++ items_of serves.ran.history.turns))
     (lanes_there : lanes ≤ length serves.opened) (hands_there : workers ≤ length hands) (some : 1 ≤ workers) where
@@ -149,9 +143,9 @@ module _ {D A E C W L : Type 0} (state : D → DiskState) (faults : D → ℕ) (
 
   -- the seats of lanes, by number
   lane_at : (n : ℕ) → 1 ≤ n → n ≤ lanes
-      → At (λ (booth : Booth D A C L). booth.pass) (IsBoothServed sides doors door_faults moments connections) turns first n
+      → At (λ (booth : Booth D A C L). booth.pass) (IsBoothServed world.sides world.doors world.clocks connections) turns first n
   lane_at n low high =
-      seat_at (λ (booth : Booth D A C L). booth.pass) (IsBoothServed sides doors door_faults moments connections) turns first
+      seat_at (λ (booth : Booth D A C L). booth.pass) (IsBoothServed world.sides world.doors world.clocks connections) turns first
       (booths_of serves.opened serves.rooms (passes_given (giver_from first 0) first.given)) serves.ran.booths
       (map (λ (station : Station D E C W). station.pass) serves.ran.stations) 0 (length serves.rooms)
       (booths_given D serves.opened serves.rooms first 0 first.given
@@ -160,13 +154,13 @@ module _ {D A E C W L : Type 0} (state : D → DiskState) (faults : D → ℕ) (
 
   -- a worker's work, from an empty bench
   abbrev Worked : Station D E C W → Station D E C W → Type 0
-  Worked old new = IsStationWorked store_state store_calls store_faults moments words old new × (old.bench.held ≡ [])
+  Worked old new = IsStationWorked world.stores world.clocks world.words old new × (old.bench.held ≡ [])
 
   abbrev passes_behind : List (PassView Entry)
   passes_behind = drop (length serves.rooms) (passes_given (giver_from first 0) first.given)
 
   worked : Each Worked (stations_of hands serves.benches passes_behind) serves.ran.stations
-  worked = each_idle (IsStationWorked store_state store_calls store_faults moments words) hands serves.benches passes_behind serves.ran.stations
+  worked = each_idle (IsStationWorked world.stores world.clocks world.words) hands serves.benches passes_behind serves.ran.stations
       serves.ran.worked serves.ran.idle
 
   stations_are : map (λ (station : Station D E C W). station.pass) (stations_of hands serves.benches passes_behind)
@@ -207,7 +201,7 @@ module _ {D A E C W L : Type 0} (state : D → DiskState) (faults : D → ℕ) (
   lane_of n low high =
       let at = lane_at n low high in
       let is = numbered n at.seat.given at.old.pass at.is at.seat.pass in
-      let of = of_lane sides doors door_faults moments connections turns at.old at.new (λ none. told (sym is.1.0 ∙ none)) is.1.1.1 named at.seat.since at.seat.holds in (
+      let of = of_lane world.sides world.doors world.clocks connections turns at.old at.new (λ none. told (sym is.1.0 ∙ none)) is.1.1.1 named at.seat.since at.seat.holds in (
         subst (λ m. AddsAsked m items) is.0 of.asked,
         (
           subst (λ m. LaneTurns m first.opening_shows turns) is.0 (subst (λ l. LaneTurns at.old.pass.number l turns) is.1.1.0 of.lane),
@@ -228,15 +222,15 @@ module _ {D A E C W L : Type 0} (state : D → DiskState) (faults : D → ℕ) (
     station_legal = subst (λ o. IsLegal (o ++ items)) (sym station_is.1.0) legal_first
 
     station_may : MayKeep old.pass new.pass old.bench.held
-    station_may = may store_state store_calls store_faults laws.own turns (station_data moments words old) (station_data moments words new) station_told
+    station_may = may world.stores laws.own turns (station_data world.clocks world.words old) (station_data world.clocks world.words new) station_told
         station_is.1.1.1 done.1 station_legal done.0 since
 
     station_keeps : KeepsLedger old.pass new.pass new.bench.held
-    station_keeps = keeps store_state store_calls store_faults laws.own turns (station_data moments words old) (station_data moments words new) station_told
+    station_keeps = keeps world.stores laws.own turns (station_data world.clocks world.words old) (station_data world.clocks world.words new) station_told
         station_is.1.1.1 done.1 station_legal done.0 since
 
     station_of_worker : OfWorker turns old.pass
-    station_of_worker = of_worker store_state store_calls store_faults laws.own turns (station_data moments words old) (station_data moments words new) station_told
+    station_of_worker = of_worker world.stores laws.own turns (station_data world.clocks world.words old) (station_data world.clocks world.words new) station_told
         station_is.1.1.1 done.1 station_legal done.0 since named
 
   worker_of : (n : ℕ) → lanes < n → n ≤ lanes + workers
@@ -289,14 +283,14 @@ module _ {D A E C W L : Type 0} (state : D → DiskState) (faults : D → ℕ) (
 
   -- each worker's own
   keeps_own : (old new : Station D E C W) → Seat (λ (station : Station D E C W). station.pass) Worked turns first old new
-      → KeepsOwn store_state store_calls store_faults (station_data moments words old) (station_data moments words new)
+      → KeepsOwn world.stores (station_data world.clocks world.words old) (station_data world.clocks world.words new)
   keeps_own old new seat =
       let is = numbered (suc seat.given) seat.given old.pass refl seat.pass in
       let done = seat.holds.0 in
       let files : KeepsItsFiles new.pass = laws.before new.pass seat.since.0
       (subst (λ t. IsUndisturbed new.pass.number new.pass.opening (items_of t)) seat.since.1
       (subst (λ o. IsUndisturbed new.pass.number o items) (sym (done.same.1 ∙ is.1.0 ∙ opening_is)) (undisturbed new.pass.number))) in
-      let follows = laws.follow (station_data moments words old) (station_data moments words new) done
+      let follows = laws.follow (station_data world.clocks world.words old) (station_data world.clocks world.words new) done
       (station_may old new seat.given seat.pass seat.since seat.holds) files in
       record {
         done = done;
@@ -319,8 +313,8 @@ module _ {D A E C W L : Type 0} (state : D → DiskState) (faults : D → ℕ) (
   failed_of old new seat ended fault end_is by =
       let is = numbered (suc seat.given) seat.given old.pass refl seat.pass in
       let done = seat.holds.0 in
-      let between = between_same store_state store_calls store_faults (station_data moments words old) (station_data moments words new) is.1.1.1 done in
-      let fails = turn_fails store_state store_calls store_faults done.between.pass new.pass done.between.hand (hand_data moments words new.hand) done.between.held done.last
+      let between = between_same world.stores (station_data world.clocks world.words old) (station_data world.clocks world.words new) is.1.1.1 done in
+      let fails = turn_fails world.stores done.between.pass new.pass done.between.hand (hand_data world.clocks world.words new.hand) done.between.held done.last
       new.bench.held fault (λ none. told (sym is.1.0 ∙ sym between.1 ∙ none)) done.ends (last_fault done.last ended fault (sym done.end_is ∙ end_is) by) in
       let shows : new.pass.opening_shows ≡ first.opening_shows = done.same.2 ∙ is.1.1.0 in
       let opens : new.pass.opening ≡ first.opening = done.same.1 ∙ is.1.0 in
@@ -336,15 +330,15 @@ module _ {D A E C W L : Type 0} (state : D → DiskState) (faults : D → ℕ) (
             (fails.tries.full used (fails.is ∙ ap (λ (f : KeepFault). Err f) full));
       }
 
-  pub stations : Each (λ old new. KeepsOwn store_state store_calls store_faults (station_data moments words old) (station_data moments words new))
+  pub stations : Each (λ old new. KeepsOwn world.stores (station_data world.clocks world.words old) (station_data world.clocks world.words new))
       (stations_of hands serves.benches passes_behind) serves.ran.stations
   stations = each_weaker (Seat (λ (station : Station D E C W). station.pass) Worked turns first)
-      (λ old new. KeepsOwn store_state store_calls store_faults (station_data moments words old) (station_data moments words new)) keeps_own
+      (λ old new. KeepsOwn world.stores (station_data world.clocks world.words old) (station_data world.clocks world.words new)) keeps_own
       (stations_of hands serves.benches passes_behind) serves.ran.stations
       station_seats
 
   -- where all ended drained
-  module _ (drained : AreDrained state faults store_state store_calls store_faults sides doors door_faults moments words serves) where
+  module _ (drained : AreDrained world serves) where
     -- work that ended so
     abbrev Drains : Station D E C W → Station D E C W → Type 0
     Drains old new = Worked old new × (new.end ≡ Some Drained)
@@ -370,9 +364,9 @@ module _ {D A E C W L : Type 0} (state : D → DiskState) (faults : D → ℕ) (
         let at = station_at Drains drains n low high in
         let is = numbered n at.seat.given at.old.pass at.is at.seat.pass in
         let done = at.seat.holds.0.0 in
-        let old = station_data moments words at.old in
-        let new = station_data moments words at.new in
-        let ends = drained_finds_none store_state store_calls store_faults old new (λ none. told (sym is.1.0 ∙ none)) is.1.1.1 done at.seat.holds.1 in
+        let old = station_data world.clocks world.words at.old in
+        let new = station_data world.clocks world.words at.new in
+        let ends = drained_finds_none world.stores old new (λ none. told (sym is.1.0 ∙ none)) is.1.1.1 done at.seat.holds.1 in
         let kept = station_keeps at.old at.new at.seat.given at.seat.pass at.seat.since at.seat.holds.0 in
         let number : at.new.pass.number ≡ n = done.same.3 ∙ is.0 in
         record {
@@ -509,7 +503,7 @@ module _ {D A E C W L : Type 0} (state : D → DiskState) (faults : D → ℕ) (
     pub nothing_left : LeavesNothing (keep.entries ++ items)
     nothing_left = record { none_out = none_among (out_of_list (keep.entries ++ items)) not_out; none_waits = none_waits }
 
-  pub ledger : KeepTheLedger state faults store_state store_calls store_faults sides doors door_faults moments words serves
+  pub ledger : KeepTheLedger world serves
   ledger = record {
     asked = asked;
     work = work;
@@ -520,7 +514,7 @@ module _ {D A E C W L : Type 0} (state : D → DiskState) (faults : D → ℕ) (
   }
 
   -- how they ended that nothing was in the way of
-  module _ (doors_stay : SomeRose door_faults lanes_before after → ⊥) (none_rises : NoneRises first.opening_shows turns) where
+  module _ (doors_stay : SomeRose world.doors lanes_before after → ⊥) (none_rises : NoneRises first.opening_shows turns) where
     abbrev lane_ends : List (Option LaneStop)
     lane_ends = map (λ (booth : Booth D A C L). booth.end) serves.ran.booths
 
@@ -528,9 +522,9 @@ module _ {D A E C W L : Type 0} (state : D → DiskState) (faults : D → ℕ) (
     worker_ends = map (λ (station : Station D E C W). station.end) serves.ran.stations
 
     no_doors : list_any are_doors_failed lane_ends ≡ true → ⊥
-    no_doors is = doors_stay (rose_before D sides doors door_faults moments connections lanes lanes_before serves.opened after serves.opens
-        (subst (λ l. SomeRose door_faults serves.opened l) (sym serves.ran.lanes_are)
-        (doors_rose D sides doors door_faults moments connections serves.opened serves.rooms (passes_given (giver_from first 0) first.given) serves.ran.booths
+    no_doors is = doors_stay (rose_before D world.doors world.sides world.clocks connections lanes lanes_before serves.opened after serves.opens
+        (subst (λ l. SomeRose world.doors serves.opened l) (sym serves.ran.lanes_are)
+        (doors_rose D world.doors world.sides world.clocks connections serves.opened serves.rooms (passes_given (giver_from first 0) first.given) serves.ran.booths
         (drop (length serves.rooms) serves.opened) serves.ran.served is)))
 
     -- a worker that ended by a fault

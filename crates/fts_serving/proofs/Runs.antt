@@ -5,56 +5,53 @@ use Rattle.std.specs.Prelude.{◌⊎◌, ◌&&◌, nat_le, nat_lt, unwrap_or, If
 use Rattle.std.specs.List.{AllByRecursion, list_any}
 use Rattle.std.proofs.lemmas.List.Elements.{All-cons, All-nil}
 use Rattle.fts_tables.specs.Coming.{Coming}
-use Rattle.fts_tables.specs.SettingsData.{IsSettings, SettingsData, has_worker_range}
+use Rattle.fts_tables.specs.SettingsData.{SettingsData, has_worker_range}
 use Rattle.fts_tables.specs.Tables.{empty_tables}
 use Rattle.fts_tables.specs.History.{IsLegal}
 use Rattle.fts_tables.specs.declared.commands.Entry.{Entry}
-use Rattle.fts_disk.specs.Disk.{DiskState, IsTold}
-use Rattle.fts_store.specs.Calls.{Call}
-use Rattle.fts_store.specs.Store.{StoreState}
+use Rattle.fts_disk.specs.Disk.{IsTold}
 use Rattle.fts_turnstile.specs.History.{items_of}
 use Rattle.fts_config.specs.Settings.{settings_of}
 use Rattle.fts_config.specs.declared.fault.SettingsFault.{SettingsFault}
-use Rattle.fts_keep.specs.Applied.{entry_by, fits}
+use Rattle.fts_keep.specs.Applied.{fits}
 use Rattle.fts_keep.specs.Damage.{IsDamaged}
-use Rattle.fts_keep.specs.Keeps.{KeepData, with_doubt}
-use Rattle.fts_keep.specs.Started.{Starts, restarted, restart_at}
+use Rattle.fts_keep.specs.Keeps.{with_doubt}
+use Rattle.fts_keep.specs.Started.{restarted, restart_at}
 use Rattle.fts_workers.proofs.Accepted.{legal_front}
-use Rattle.fts_workers.specs.declared.hand.Hand.{Hand}
 use Rattle.fts_shop.specs.Many.{Each}
-use Rattle.fts_shop.specs.Shops.{ShopData}
 use Rattle.fts_shop.specs.declared.ends.WorkerEnd.{WorkerEnd}
 use Rattle.fts_shop.specs.declared.ends.WorkerEnd.TheVariants as worker_ends
 use Rattle.fts_shop.specs.declared.station.Station.{Station}
-use Rattle.fts_top.specs.Doors.{DoorsData}
-use Rattle.fts_top.specs.Ends.{status_of}
-use Rattle.fts_top.specs.Halls.{IsStationWorked}
-use Rattle.fts_top.specs.Lanes.{Sides}
+use Rattle.fts_top.specs.Ends.{status_of, end_when_served}
+use Rattle.fts_service.specs.Halls.{IsStationWorked}
 use Rattle.fts_top.specs.Complete.{HasGoodSettings, IsUndamaged, RestartPasses, Stays}
-use Rattle.fts_top.specs.Openings.{AreOpened, SomeRose}
-use Rattle.fts_top.specs.Served.{end_when_served, served_end, severity_of, worse_of, worst_from, worst_of, are_doors_failed}
-use Rattle.fts_top.specs.Serves.{Closes, ClosesServed, ClosesUnserved, HoldsBehind, IsServingRun, ManyThreads, RunsServing, StopsUnstarted, WhyNoLane}
+use Rattle.fts_service.specs.Openings.{AreOpened, SomeRose}
+use Rattle.fts_service.specs.Served.{served_end, severity_of, worse_of, worst_from, worst_of, are_doors_failed}
+use Rattle.fts_top.specs.Serves.{Closes, ClosesServed, HoldsBehind, IsServingRun, ManyThreads, RunsServing, WhyNoLane}
 use Rattle.fts_top.specs.Runs.{IsStop}
 use Rattle.fts_top.specs.declared.ends.RunEnd.{RunEnd}
 use Rattle.fts_top.specs.declared.ends.RunEnd.TheVariants as run_ends
-use Rattle.fts_top.specs.declared.lane.Booth.{Booth}
-use Rattle.fts_top.specs.declared.lane.Lane.{Lane}
-use Rattle.fts_top.specs.declared.lane.LaneStop.{LaneStop}
+use Rattle.fts_service.specs.declared.lane.Booth.{Booth}
+use Rattle.fts_service.specs.declared.lane.Lane.{Lane}
+use Rattle.fts_service.specs.declared.lane.LaneStop.{LaneStop}
 use Rattle.fts_top.specs.declared.tally.Tally.{Tally}
-use Rattle.fts_top.specs.declared.together.ServedEnd.{ServedEnd}
-use Rattle.fts_top.specs.declared.together.ServedEnd.TheVariants as served_ends
-use Rattle.fts_serving.specs.Ends.{IsOpenedBy, KeepTheLedger, KeptWhereServed, LeavesDisk, LeavesNothing, stations_before}
+use Rattle.fts_service.specs.declared.together.ServedEnd.{ServedEnd}
+use Rattle.fts_service.specs.declared.together.ServedEnd.TheVariants as served_ends
+use Rattle.fts_serving.specs.Ends.{KeepTheLedger, KeptWhereServed, LeavesDisk, LeavesNothing, stations_before}
 use Rattle.fts_serving.specs.Finishes.{BreaksNoRule, EndsWell, Finishes}
 use Rattle.fts_serving.proofs.Ledger.{ListLaws, StoreLaws, ends_well, ledger}
+use Rattle.fts_disk.specs.declared.disk.Disk as disk
+use Rattle.fts_service.specs.declared.doors.Doors as doors
+use Rattle.fts_service.specs.Worlds.{World}
 
 -- opened lanes are as many
-pub opened_length : {A C L : Type 0} (doors : A → DoorsData L) (faults : A → ℕ) (count : ℕ) (olds news : List (Lane A C L)) → AreOpened doors faults count olds news
+pub opened_length : {A C L : Type 0} (all_doors : doors.Ghosts A L) (count : ℕ) (olds news : List (Lane A C L)) → AreOpened all_doors count olds news
     → length news ≡ length olds
-opened_length doors faults zero olds news opened = ap length opened
-opened_length doors faults (suc more) [] [] opened = refl
-opened_length doors faults (suc more) [] (new ∷ news) opened = absurd opened
-opened_length doors faults (suc more) (old ∷ olds) [] opened = absurd opened
-opened_length doors faults (suc more) (old ∷ olds) (new ∷ news) opened = ap suc (opened_length doors faults more olds news opened.1)
+opened_length all_doors zero olds news opened = ap length opened
+opened_length all_doors (suc more) [] [] opened = refl
+opened_length all_doors (suc more) [] (new ∷ news) opened = absurd opened
+opened_length all_doors (suc more) (old ∷ olds) [] opened = absurd opened
+opened_length all_doors (suc more) (old ∷ olds) (new ∷ news) opened = ap suc (opened_length all_doors more olds news opened.1)
 
 -- a list without its doubt is legal
 pub undoubted : (entries : List Entry) (doubt : Option Entry) → IsLegal (with_doubt entries doubt) → IsLegal entries
@@ -112,26 +109,26 @@ worked_worst stops ends is = by (list_any are_doors_failed stops) is
     by false is = let same : worst_of ends ≡ worker_ends.Drained = cc in ap severity_of same
 
 -- a stop has another status
-no_lane_status : {A C L : Type 0} (door_faults : A → ℕ) (before opened : List (Lane A C L)) (end : RunEnd) → WhyNoLane door_faults before opened end → status_of end ≡ 0 → ⊥
-no_lane_status door_faults before opened run_ends.NoMemory why is = absurd cc
-no_lane_status door_faults before opened run_ends.DoorsFailed why is = absurd cc
-no_lane_status door_faults before opened run_ends.NoCommand why is = absurd why
-no_lane_status door_faults before opened run_ends.SettingsUnread why is = absurd why
-no_lane_status door_faults before opened (run_ends.SettingsRule rule) why is = absurd why
-no_lane_status door_faults before opened run_ends.DiskFailed why is = absurd why
-no_lane_status door_faults before opened (run_ends.Damaged offset) why is = absurd why
-no_lane_status door_faults before opened (run_ends.JournalFull used) why is = absurd why
-no_lane_status door_faults before opened (run_ends.Session end) why is = absurd why
-no_lane_status door_faults before opened (run_ends.Shown whole) why is = absurd why
-no_lane_status door_faults before opened run_ends.SourcesUnmade why is = absurd why
-no_lane_status door_faults before opened run_ends.LineUnwritten why is = absurd why
-no_lane_status door_faults before opened (run_ends.Served end) why is = absurd why
+no_lane_status : {A C L : Type 0} (all_doors : doors.Ghosts A L) (before opened : List (Lane A C L)) (end : RunEnd) → WhyNoLane all_doors before opened end → status_of end ≡ 0 → ⊥
+no_lane_status all_doors before opened run_ends.NoMemory why is = absurd cc
+no_lane_status all_doors before opened run_ends.DoorsFailed why is = absurd cc
+no_lane_status all_doors before opened run_ends.NoCommand why is = absurd why
+no_lane_status all_doors before opened run_ends.SettingsUnread why is = absurd why
+no_lane_status all_doors before opened (run_ends.SettingsRule rule) why is = absurd why
+no_lane_status all_doors before opened run_ends.DiskFailed why is = absurd why
+no_lane_status all_doors before opened (run_ends.Damaged offset) why is = absurd why
+no_lane_status all_doors before opened (run_ends.JournalFull used) why is = absurd why
+no_lane_status all_doors before opened (run_ends.Session end) why is = absurd why
+no_lane_status all_doors before opened (run_ends.Shown whole) why is = absurd why
+no_lane_status all_doors before opened run_ends.SourcesUnmade why is = absurd why
+no_lane_status all_doors before opened run_ends.LineUnwritten why is = absurd why
+no_lane_status all_doors before opened (run_ends.Served end) why is = absurd why
 
 rule_status : (rule : _) → status_of (run_ends.SettingsRule rule) ≡ 0 → ⊥
 rule_status rule is = absurd cc
 
-module _ {D : Type 0} (state : D → DiskState) (faults : D → ℕ) where
-  stop_status : (text : Option (List ℕ)) (moments later : Option Coming) (disk left : D) (end : RunEnd) → IsStop state faults text moments later disk left end
+module _ {D : Type 0} (disks : disk.Ghosts D) where
+  stop_status : (text : Option (List ℕ)) (moments later : Option Coming) (disk left : D) (end : RunEnd) → IsStop disks text moments later disk left end
       → status_of end ≡ 0 → ⊥
   stop_status text moments later disk left run_ends.NoMemory stop is = absurd cc
   stop_status text moments later disk left run_ends.DoorsFailed stop is = absurd stop
@@ -163,11 +160,10 @@ restarted_some : (opening : List Entry) (now : ℕ) (settings : SettingsData) �
 restarted_some [] now settings is = absurd cc
 restarted_some (entry ∷ opening) now settings is = absurd cc
 
-module _ {D A E C W L : Type 0} (state : D → DiskState) (faults : D → ℕ) (store_state : E → StoreState) (store_calls : E → Option (List Call)) (store_faults : E → ℕ)
-    (sides : Sides L) (doors : A → DoorsData L) (door_faults : A → ℕ) (moments : C → Option Coming) (words : W → Option Coming)
-    (lists : ListLaws) (laws : StoreLaws store_state store_calls store_faults) where
+module _ {D A E C W L : Type 0} (world : World D A E C W L)
+    (lists : ListLaws) (laws : StoreLaws world.stores) where
   -- of a run of workers, each one's end
-  ended_all : (olds news : List (Station D E C W)) → Each (IsStationWorked store_state store_calls store_faults moments words) olds news
+  ended_all : (olds news : List (Station D E C W)) → Each (IsStationWorked world.stores world.clocks world.words) olds news
       → AllByRecursion (λ (s : Station D E C W). IsSome s.end) news
   ended_all [] [] each = tt
   ended_all [] (new ∷ news) each = absurd each
@@ -175,15 +171,15 @@ module _ {D A E C W L : Type 0} (state : D → DiskState) (faults : D → ℕ) (
   ended_all (old ∷ olds) (new ∷ news) each = (each.0.ended, ended_all olds news each.1)
 
   module _ {lanes : ℕ} {connections : Option ℕ} {text : Option (List ℕ)} {before after : ManyThreads D A E C W L} {end : RunEnd} {tally : Tally}
-      (runs : RunsServing state faults store_state store_calls store_faults sides doors door_faults moments words lanes connections text before after end tally)
-      (told : IsTold (state before.disk)) (lanes_eight : length before.lanes ≡ 8) (few : lanes ≤ 8) (hands_sixteen : length before.hands ≡ 16) where
+      (runs : RunsServing world lanes connections text before after end tally)
+      (told : IsTold (world.disks.state before.disk)) (lanes_eight : length before.lanes ≡ 8) (few : lanes ≤ 8) (hands_sixteen : length before.hands ≡ 16) where
     listed : runs.keep.entries ≡ restarted runs.opening runs.now runs.settings
     listed = (runs.starts.own told).listed
 
     some_entries : runs.keep.entries ≢ []
     some_entries none = restarted_some runs.opening runs.now runs.settings (sym listed ∙ none)
 
-    behind : HoldsBehind state runs.keep.entries runs.serves.added runs.serves.closed.keep tally
+    behind : HoldsBehind world.disks runs.keep.entries runs.serves.added runs.serves.closed.keep tally
     behind = runs.serves.told some_entries
 
     all_legal : IsLegal (runs.keep.entries ++ runs.serves.added)
@@ -192,35 +188,35 @@ module _ {D A E C W L : Type 0} (state : D → DiskState) (faults : D → ℕ) (
     workers_range : (1 ≤ runs.settings.workers) × (runs.settings.workers ≤ 16)
     workers_range = range_of runs.settings runs.kept.workers
 
-    ledger_of : (serves : ClosesServed state faults store_state store_calls store_faults sides doors door_faults moments words lanes runs.settings.workers connections
+    ledger_of : (serves : ClosesServed world lanes runs.settings.workers connections
         runs.keep before.lanes before.hands after.lanes after.hands runs.serves.closed end) → runs.serves.added ≡ items_of serves.ran.history.turns
-        → KeepTheLedger state faults store_state store_calls store_faults sides doors door_faults moments words serves
+        → KeepTheLedger world serves
     ledger_of serves is =
-        ledger state faults store_state store_calls store_faults sides doors door_faults moments words lists laws serves runs.settings
+        ledger world lists laws serves runs.settings
         (record { opening = runs.opening; now = runs.now; is = listed; kept = runs.kept })
         (subst (λ l. IsLegal (runs.keep.entries ++ l)) is all_legal)
-        (omega (arith, few, lanes_eight, opened_length doors door_faults lanes before.lanes serves.opened serves.opens))
+        (omega (arith, few, lanes_eight, opened_length world.doors lanes before.lanes serves.opened serves.opens))
         (omega (arith, workers_range.1, hands_sixteen)) workers_range.0
 
-    pub kept_where_served : KeptWhereServed state faults store_state store_calls store_faults sides doors door_faults moments words runs.serves.closes
+    pub kept_where_served : KeptWhereServed world runs.serves.closes
     kept_where_served = by runs.serves.closes
       where
-        by : (closes : Closes state faults store_state store_calls store_faults sides doors door_faults moments words lanes runs.settings.workers connections
+        by : (closes : Closes world lanes runs.settings.workers connections
             runs.keep before.lanes before.hands after.lanes after.hands runs.serves.closed end runs.serves.added)
-            → KeptWhereServed state faults store_state store_calls store_faults sides doors door_faults moments words closes
+            → KeptWhereServed world closes
         by (inl unserved) = tt
         by (inr served) = ledger_of served.0 served.1
 
-    pub leaves_disk : status_of end ≡ 0 → LeavesDisk state after.disk
+    pub leaves_disk : status_of end ≡ 0 → LeavesDisk world.disks after.disk
     leaves_disk zero_is = by runs.serves.closes
       where
-        by : Closes state faults store_state store_calls store_faults sides doors door_faults moments words lanes runs.settings.workers connections
-            runs.keep before.lanes before.hands after.lanes after.hands runs.serves.closed end runs.serves.added → LeavesDisk state after.disk
-        by (inl unserved) = absurd (no_lane_status door_faults before.lanes after.lanes end unserved.0.why zero_is)
+        by : Closes world lanes runs.settings.workers connections
+            runs.keep before.lanes before.hands after.lanes after.hands runs.serves.closed end runs.serves.added → LeavesDisk world.disks after.disk
+        by (inl unserved) = absurd (no_lane_status world.doors before.lanes after.lanes end unserved.0.why zero_is)
         by (inr served) =
             let serves = served.0 in
             let worst = worked_worst (map (λ (booth : Booth D A C L). booth.end) serves.ran.booths) (map (λ (station : Station D E C W). station.end) serves.ran.stations) (sym serves.ran.ended ∙ served_zero serves.served (ap status_of (sym serves.ended) ∙ zero_is)) in
-            let drained = drained_all worker_ends.Drained serves.ran.stations worst (ended_all (stations_before state faults store_state store_calls store_faults sides doors door_faults moments words serves) serves.ran.stations serves.ran.worked) in
+            let drained = drained_all worker_ends.Drained serves.ran.stations worst (ended_all (stations_before world serves) serves.ran.stations serves.ran.worked) in
             record {
               keep = runs.serves.closed.keep;
               disk_is = runs.serves.left_is;
@@ -230,8 +226,8 @@ module _ {D A E C W L : Type 0} (state : D → DiskState) (faults : D → ℕ) (
 
   -- what comes of a run that nothing was in the way of
   module _ (lanes : ℕ) (connections : Option ℕ) (text : Option (List ℕ)) (before after : ManyThreads D A E C W L) (end : RunEnd) (tally : Tally)
-      (rules : BreaksNoRule text (state before.disk)) (disk_stays : Stays (faults before.disk) (faults after.disk))
-      (doors_stay : SomeRose door_faults before.lanes after.lanes → ⊥) (lanes_eight : length before.lanes ≡ 8) (few : lanes ≤ 8) (hands_sixteen : length before.hands ≡ 16)
+      (rules : BreaksNoRule text (world.disks.state before.disk)) (disk_stays : Stays (world.disks.faults before.disk) (world.disks.faults after.disk))
+      (doors_stay : SomeRose world.doors before.lanes after.lanes → ⊥) (lanes_eight : length before.lanes ≡ 8) (few : lanes ≤ 8) (hands_sixteen : length before.hands ≡ 16)
       (not_command : status_of end ≢ 2) (not_unread : status_of end ≢ 8) where
     -- a text of settings that breaks no rule breaks none
     not_broken : (given : Option (List ℕ)) (fault : SettingsFault) → HasGoodSettings given → IfSome given (λ bytes. settings_of bytes ≡ Err fault) → ⊥
@@ -241,13 +237,13 @@ module _ {D A E C W L : Type 0} (state : D → DiskState) (faults : D → ℕ) (
         clash : true ≡ false → ⊥
         clash same = absurd cc
 
-    not_damaged : (offset : ℕ) → ((state before.disk).seen ≡ []) ⊎ IsUndamaged (state before.disk).seen
-        → (IsTold (state before.disk) → ((state before.disk).seen ≢ []) × IsDamaged (state before.disk).seen offset) → ⊥
+    not_damaged : (offset : ℕ) → ((world.disks.state before.disk).seen ≡ []) ⊎ IsUndamaged (world.disks.state before.disk).seen
+        → (IsTold (world.disks.state before.disk) → ((world.disks.state before.disk).seen ≢ []) × IsDamaged (world.disks.state before.disk).seen offset) → ⊥
     not_damaged offset (inl empty) cause = (cause rules.told).0 empty
     not_damaged offset (inr good) cause = good offset (cause rules.told).1
 
-    by_stop : (found : RunEnd) → end ≡ found → IsStop state faults text before.moments after.moments before.disk after.disk found
-        → (status_of end ≡ 1) ⊎ ((status_of end ≡ 11) × RestartPasses text (state before.disk) before.moments)
+    by_stop : (found : RunEnd) → end ≡ found → IsStop world.disks text before.moments after.moments before.disk after.disk found
+        → (status_of end ≡ 1) ⊎ ((status_of end ≡ 11) × RestartPasses text (world.disks.state before.disk) before.moments)
     by_stop run_ends.NoCommand is stop = absurd (not_command (ap status_of is))
     by_stop run_ends.SettingsUnread is stop = absurd (not_unread (ap status_of is))
     by_stop (run_ends.SettingsRule rule) is stop = absurd (not_broken text stop.0.fault rules.settings stop.0.told)
@@ -276,7 +272,7 @@ module _ {D A E C W L : Type 0} (state : D → DiskState) (faults : D → ℕ) (
     by_stop run_ends.DoorsFailed is stop = absurd stop
     by_stop (run_ends.Served found) is stop = absurd stop
 
-    by_unserved : (found : RunEnd) → end ≡ found → WhyNoLane door_faults before.lanes after.lanes found → status_of end ≡ 1
+    by_unserved : (found : RunEnd) → end ≡ found → WhyNoLane world.doors before.lanes after.lanes found → status_of end ≡ 1
     by_unserved run_ends.NoMemory is why = ap status_of is
     by_unserved run_ends.DoorsFailed is why = absurd (doors_stay why)
     by_unserved run_ends.NoCommand is why = absurd why
@@ -291,26 +287,26 @@ module _ {D A E C W L : Type 0} (state : D → DiskState) (faults : D → ℕ) (
     by_unserved run_ends.LineUnwritten is why = absurd why
     by_unserved (run_ends.Served found) is why = absurd why
 
-    pub finishes : (ran : IsServingRun state faults store_state store_calls store_faults sides doors door_faults moments words lanes connections end tally text before
-        after) → Finishes state faults store_state store_calls store_faults sides doors door_faults moments words ran
+    pub finishes : (ran : IsServingRun world lanes connections end tally text before
+        after) → Finishes world ran
     finishes (inl stops) = by_stop end refl stops.stop
     finishes (inr runs) = by runs.serves.closes
       where
-        by : (closes : Closes state faults store_state store_calls store_faults sides doors door_faults moments words lanes runs.settings.workers connections
+        by : (closes : Closes world lanes runs.settings.workers connections
             runs.keep before.lanes before.hands after.lanes after.hands runs.serves.closed end runs.serves.added)
-            → EndsWell state faults store_state store_calls store_faults sides doors door_faults moments words closes
+            → EndsWell world closes
         by (inl unserved) = by_unserved end refl unserved.0.why
         by (inr served) = λ none_rises.
-            ends_well state faults store_state store_calls store_faults sides doors door_faults moments words lists laws served.0 runs.settings
+            ends_well world lists laws served.0 runs.settings
             (record { opening = runs.opening; now = runs.now; is = listed runs rules.told lanes_eight few hands_sixteen; kept = runs.kept })
             (subst (λ l. IsLegal (runs.keep.entries ++ l)) served.1 (all_legal runs rules.told lanes_eight few hands_sixteen))
-            (omega (arith, few, lanes_eight, opened_length doors door_faults lanes before.lanes served.0.opened served.0.opens))
+            (omega (arith, few, lanes_eight, opened_length world.doors lanes before.lanes served.0.opened served.0.opens))
             (omega (arith, (workers_range runs rules.told lanes_eight few hands_sixteen).1, hands_sixteen))
             (workers_range runs rules.told lanes_eight few hands_sixteen).0 doors_stay none_rises
 
   pub run_leaves_disk : {lanes : ℕ} {connections : Option ℕ} {text : Option (List ℕ)} {before after : ManyThreads D A E C W L} {end : RunEnd} {tally : Tally}
-      → IsServingRun state faults store_state store_calls store_faults sides doors door_faults moments words lanes connections end tally text before after
-      → status_of end ≡ 0 → IsTold (state before.disk) → length before.lanes ≡ 8 → lanes ≤ 8 → length before.hands ≡ 16 → LeavesDisk state after.disk
+      → IsServingRun world lanes connections end tally text before after
+      → status_of end ≡ 0 → IsTold (world.disks.state before.disk) → length before.lanes ≡ 8 → lanes ≤ 8 → length before.hands ≡ 16 → LeavesDisk world.disks after.disk
   run_leaves_disk {text = text} {before = before} {after = after} {end = end} (inl stops) zero_is told lanes_eight few hands_sixteen =
-      absurd (stop_status state faults text before.moments after.moments before.disk after.disk end stops.stop zero_is)
+      absurd (stop_status world.disks text before.moments after.moments before.disk after.disk end stops.stop zero_is)
   run_leaves_disk (inr runs) zero_is told lanes_eight few hands_sixteen = leaves_disk runs told lanes_eight few hands_sixteen zero_is

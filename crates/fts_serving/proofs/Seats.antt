@@ -1,5 +1,5 @@
 -- The pass of each number, among those that pass 0 gave to lanes and workers in turn.
-use Rattle.std.proofs.Common.{◌≡◌, ◌⊎◌, refl, sym, ap, ◌∙◌, subst, inl, inr, ⊎_elim, ℕ, zero, suc, ◌+◌, ◌<◌, ◌≤◌, List, [], ◌∷◌, ◌++◌, length, map, drop, All, arith}
+use Rattle.std.proofs.Common.{◌≡◌, ◌⊎◌, refl, ap, ◌∙◌, inl, inr, ⊎_elim, ℕ, zero, suc, ◌+◌, ◌<◌, ◌≤◌, List, [], ◌∷◌, ◌++◌, length, map, drop, All, arith}
 use Rattle.std.proofs.lemmas.List.Elements.{All-head, All-tail}
 use Rattle.fts_tables.specs.declared.commands.Entry.{Entry}
 use Rattle.fts_turnstile.specs.declared.turn.Turn.{Turn}
@@ -8,9 +8,9 @@ use Rattle.fts_turnstile.specs.Passes.{PassView, pass_given}
 use Rattle.fts_passes.specs.Crews.{AreSeenBy, passes_given}
 use Rattle.fts_shop.specs.Many.{Each}
 use Rattle.fts_shop.specs.declared.station.Station.{Station}
-use Rattle.fts_top.specs.Seats.{booths_of, stations_of}
-use Rattle.fts_top.specs.declared.lane.Booth.{Booth}
-use Rattle.fts_top.specs.declared.lane.Lane.{Lane}
+use Rattle.fts_service.specs.Seats.{booths_of, stations_of}
+use Rattle.fts_service.specs.declared.lane.Booth.{Booth}
+use Rattle.fts_service.specs.declared.lane.Lane.{Lane}
 use Rattle.fts_wire.specs.RoomData.{RoomData}
 use Rattle.fts_workers.specs.Benches.{BenchData}
 use Rattle.fts_workers.specs.declared.hand.Hand.{Hand}

@@ -1,5 +1,5 @@
 -- How a worker's turns leave the lanes, and what its last turn found, where it ended drained.
-use Rattle.std.proofs.Common.{◌≡◌, ◌≢◌, refl, sym, ap, ◌∙◌, subst, inl, inr, ℕ, zero, suc, Bool, true, false, cond, List, [], ◌∷◌, ◌++◌, Option, Some, None, Result, Ok, Err, append_assoc}
+use Rattle.std.proofs.Common.{◌≡◌, ◌≢◌, refl, sym, ap, ◌∙◌, subst, ℕ, zero, suc, List, [], ◌∷◌, ◌++◌, Option, Some, Result, Ok, Err}
 use Rattle.fts_tables.specs.Coming.{Coming}
 use Rattle.fts_tables.specs.Step.{step}
 use Rattle.fts_tables.specs.History.{tables_of}
@@ -8,13 +8,11 @@ use Rattle.fts_tables.specs.declared.rows.FileState.TheVariants as state
 use Rattle.fts_tables.specs.declared.rows.Outcome.{Outcome}
 use Rattle.fts_tables.specs.declared.commands.Entry.{Entry}
 use Rattle.fts_tables.specs.declared.commands.Command.{Command}
-use Rattle.fts_tables.specs.declared.commands.Command.TheVariants.{Claim, Report}
+use Rattle.fts_tables.specs.declared.commands.Command.TheVariants.{Claim}
 use Rattle.fts_tables.specs.declared.commands.Answer.{Answer}
 use Rattle.fts_tables.specs.declared.commands.Answer.TheVariants.{Restarted, Submitted, Cancelled, PrioritySet, Claimed, Reported}
 use Rattle.fts_tables.specs.declared.commands.Refusal.{Refusal}
 use Rattle.fts_tables.specs.declared.commands.Refusal.TheVariants.{Idle}
-use Rattle.fts_store.specs.Calls.{Call}
-use Rattle.fts_store.specs.Store.{StoreState}
 use Rattle.fts_turnstile.specs.declared.turn.Turn.{Turn}
 use Rattle.fts_turnstile.specs.History.{items_of, shown_after}
 use Rattle.fts_turnstile.specs.Passes.{PassView, IsSame}
@@ -26,14 +24,14 @@ use Rattle.fts_workers.proofs.Accepted.{refused_of}
 use Rattle.fts_workers.specs.declared.held.Held.{Held}
 use Rattle.fts_shop.specs.Looked.{same_on}
 use Rattle.fts_shop.specs.Looking.{LeaveLanes}
-use Rattle.fts_shop.specs.Shops.{IsToldList, TakesTurn, TriedInTurn, lanes_in, lanes_shown, point}
-use Rattle.fts_shop.specs.Turns.{ClaimTurn, Copies, GoesOn, HandData, IsTurn, KeptTurn, ReportTurn, ReportsHeld, end_by_claim, end_by_fault, end_by_report, end_by_state, idle_end}
-use Rattle.fts_shop.specs.Workers.{AreTurns, StationData, TakesOne, WorkerDone, worker_end_of, end_without_lanes}
+use Rattle.fts_shop.specs.Shops.{IsToldList, TriedInTurn, lanes_shown, point}
+use Rattle.fts_shop.specs.Turns.{Copies, GoesOn, HandData, IsTurn, ReportsHeld, end_by_report, end_by_state, idle_end}
+use Rattle.fts_shop.specs.Workers.{AreTurns, StationData, WorkerDone, worker_end_of}
 use Rattle.fts_shop.specs.declared.ends.Turn.{Turn as TurnEnd}
 use Rattle.fts_shop.specs.declared.ends.Turn.TheVariants as turn_ends
-use Rattle.fts_shop.specs.declared.ends.WorkerEnd.{WorkerEnd}
 use Rattle.fts_shop.specs.declared.ends.WorkerEnd.TheVariants as worker_ends
 use Rattle.fts_serving.proofs.Own.{leave_on, turn_leaves}
+use Rattle.fts_store.specs.declared.store.Store as store
 
 -- a pass that has left the lanes
 pub record Leaves (base pass : PassView Entry) : Type 0 where
@@ -56,10 +54,10 @@ tried_leaves base {old} {new} was tried = record {
       (subst (λ l. LeaveLanes old.number l new.seen) (sym tried.taken.same.2) (turn_leaves tried.taken was.leaves tried.stay));
 }
 
-module _ {E : Type 0} (store_state : E → StoreState) (store_calls : E → Option (List Call)) (store_faults : E → ℕ) where
+module _ {E : Type 0} (stores : store.Ghosts E) where
   -- a copy more
   copy_leaves : (base : PassView Entry) {old new : PassView Entry} {store after : E} {file : ℕ} {outcome : Outcome} → Leaves base old
-      → Copies store_state store_calls store_faults old new store after file outcome → Leaves base new
+      → Copies stores old new store after file outcome → Leaves base new
   copy_leaves base {old} {new} was copied = record {
     same = same_on base old new was.same copied.same;
     leaves = subst (LeaveLanes new.number new.opening_shows) (sym copied.seen)
@@ -77,7 +75,7 @@ module _ {E : Type 0} (store_state : E → StoreState) (store_calls : E → Opti
 
   -- what follows a claim
   goes_leave : (base : PassView Entry) {old new : PassView Entry} (hand after : HandData E) (lanes : ℕ) (result : Result Answer KeepFault) (end : TurnEnd)
-      (left : List Held) → Leaves base old → GoesOn store_state store_calls store_faults lanes result old new hand after end left → Leaves base new
+      (left : List Held) → Leaves base old → GoesOn stores lanes result old new hand after end left → Leaves base new
   goes_leave base hand after lanes (Ok (Claimed file attempt)) end left was goes = tried_leaves base (copy_leaves base was goes.copied) goes.reported.tried
   goes_leave base hand after lanes (Ok (Restarted released)) end left was goes = absurd goes
   goes_leave base hand after lanes (Ok (Submitted job id)) end left was goes = absurd goes
@@ -88,14 +86,14 @@ module _ {E : Type 0} (store_state : E → StoreState) (store_calls : E → Opti
 
   -- a turn at a station
   turn_leaves_lanes : (base old new : PassView Entry) (hand after : HandData E) (held : List Held) (end : TurnEnd) (left : List Held) → Leaves base old
-      → IsTurn store_state store_calls store_faults old new hand after held end left → Leaves base new
+      → IsTurn stores old new hand after held end left → Leaves base new
   turn_leaves_lanes base old new hand after [] end left was turn =
       goes_leave base turn.behind after turn.lanes turn.result end left (tried_leaves base was turn.tried) turn.goes_on
   turn_leaves_lanes base old new hand after (held ∷ others) end left was turn =
       reports_leave base hand.moments after.moments (held ∷ others) end left was turn.reported
 
   turns_leave : (base : PassView Entry) (more : ℕ) (old new : StationData E) → Leaves base old.pass
-      → AreTurns store_state store_calls store_faults more old new → Leaves base new.pass
+      → AreTurns stores more old new → Leaves base new.pass
   turns_leave base zero old new was turns = subst (Leaves base) turns.2 was
   turns_leave base (suc more) old new was turns =
       turns_leave base more turns.0 new
@@ -103,13 +101,13 @@ module _ {E : Type 0} (store_state : E → StoreState) (store_calls : E → Opti
       turns.2.1.1
 
   -- a worker has left the lanes as they were, in all that its pass has seen
-  pub worker_leaves : (old new : StationData E) → old.pass.seen ≡ [] → WorkerDone store_state store_calls store_faults old new → Leaves old.pass new.pass
+  pub worker_leaves : (old new : StationData E) → old.pass.seen ≡ [] → WorkerDone stores old new → Leaves old.pass new.pass
   worker_leaves old new unseen done =
       turn_leaves_lanes old.pass done.between.pass new.pass done.between.hand new.hand done.between.held done.last new.held
       (turns_leave old.pass done.more old done.between (begun old.pass unseen) done.turns) done.ends
 
   -- its pass is the same before its last turn
-  pub between_same : (old new : StationData E) → old.pass.seen ≡ [] → (done : WorkerDone store_state store_calls store_faults old new)
+  pub between_same : (old new : StationData E) → old.pass.seen ≡ [] → (done : WorkerDone stores old new)
       → IsSame old.pass done.between.pass
   between_same old new unseen done = (turns_leave old.pass done.more old done.between (begun old.pass unseen) done.turns).same
 
@@ -168,7 +166,7 @@ no_lane_left : (lanes : ℕ) → idle_end lanes ≡ turn_ends.Stopping → lanes
 no_lane_left zero is = refl
 no_lane_left (suc more) is = absurd cc
 
-module _ {E : Type 0} (store_state : E → StoreState) (store_calls : E → Option (List Call)) (store_faults : E → ℕ) where
+module _ {E : Type 0} (stores : store.Ghosts E) where
   -- no report of a held file ends a turn so
   held_ends : (old new : PassView Entry) (moments later : Option Coming) (held : List Held) (left : List Held)
       → ReportsHeld old new moments later held turn_ends.Stopping left → ⊥
@@ -198,7 +196,7 @@ module _ {E : Type 0} (store_state : E → StoreState) (store_calls : E → Opti
 
   goes_none : {old claimed new : PassView Entry} (now word lanes : ℕ) (result : Result Answer KeepFault) (hand after : HandData E) (left : List Held)
       → IsToldList old → TriedInTurn old claimed (Claim now word) result lanes
-      → GoesOn store_state store_calls store_faults lanes result claimed new hand after turn_ends.Stopping left → FindsNone new × (left ≡ [])
+      → GoesOn stores lanes result claimed new hand after turn_ends.Stopping left → FindsNone new × (left ≡ [])
   goes_none now word lanes (Ok (Claimed file attempt)) hand after left told tried goes =
       absurd (report_ends file goes.reported.lanes goes.reported.result (sym goes.reported.ends))
   goes_none now word lanes (Ok (Restarted released)) hand after left told tried goes = absurd goes
@@ -216,17 +214,17 @@ module _ {E : Type 0} (store_state : E → StoreState) (store_calls : E → Opti
   goes_none now word lanes (Err (Damaged offset)) hand after left told tried goes = absurd (let is = goes.0 in cc)
 
   turn_none : (old new : PassView Entry) (hand after : HandData E) (held left : List Held) → IsToldList old
-      → IsTurn store_state store_calls store_faults old new hand after held turn_ends.Stopping left → FindsNone new × (left ≡ [])
+      → IsTurn stores old new hand after held turn_ends.Stopping left → FindsNone new × (left ≡ [])
   turn_none old new hand after [] left told turn =
       goes_none turn.now turn.word turn.lanes turn.result turn.behind after left told turn.tried turn.goes_on
   turn_none old new hand after (held ∷ others) left told turn = absurd (held_ends old new hand.moments after.moments (held ∷ others) left turn.reported)
 
   -- a worker that ended drained found none in its last turn, and holds nothing
-  pub drained_finds_none : (old new : StationData E) → IsToldList old.pass → old.pass.seen ≡ [] → (done : WorkerDone store_state store_calls store_faults old new)
+  pub drained_finds_none : (old new : StationData E) → IsToldList old.pass → old.pass.seen ≡ [] → (done : WorkerDone stores old new)
       → new.end ≡ Some worker_ends.Drained → FindsNone new.pass × (new.held ≡ [])
   drained_finds_none old new told unseen done is =
-      let was = turns_leave store_state store_calls store_faults old.pass done.more old done.between (begun old.pass unseen) done.turns in
+      let was = turns_leave stores old.pass done.more old done.between (begun old.pass unseen) done.turns in
       turn_none done.between.pass new.pass done.between.hand new.hand done.between.held new.held
       (λ none. told (sym was.same.1 ∙ none))
-      (subst (λ e. IsTurn store_state store_calls store_faults done.between.pass new.pass done.between.hand new.hand done.between.held e new.held)
+      (subst (λ e. IsTurn stores done.between.pass new.pass done.between.hand new.hand done.between.held e new.held)
       (drained_end done.last (sym done.end_is ∙ is)) done.ends)

@@ -1,30 +1,28 @@
 -- What is known of each pass in the one list of turns, by its number.
-use Rattle.std.proofs.Common.{◌≡◌, ◌≢◌, refl, sym, ap, ◌∙◌, subst, inl, inr, ℕ, suc, ◌+◌, ◌-◌, Bool, true, false, List, [], ◌∷◌, ◌++◌, Option, Some, arith}
-use Rattle.fts_tables.specs.Coming.{Coming}
+use Rattle.std.proofs.Common.{◌≡◌, ◌≢◌, sym, ap, ◌∙◌, subst, ℕ, ◌+◌, ◌-◌, true, List, [], ◌∷◌, ◌++◌, Option}
 use Rattle.fts_tables.specs.History.{IsLegal}
 use Rattle.fts_tables.specs.declared.commands.Entry.{Entry}
-use Rattle.fts_store.specs.Calls.{Call}
-use Rattle.fts_store.specs.Store.{StoreState}
 use Rattle.fts_turnstile.specs.declared.turn.Turn.{Turn}
 use Rattle.fts_turnstile.specs.History.{AllNamed, NoneBy, OnlyOthersSince, items_of}
 use Rattle.fts_turnstile.specs.Passes.{PassView, IsSame, seen_list}
 use Rattle.fts_workers.specs.declared.held.Held.{Held}
 use Rattle.fts_shop.specs.Looking.{LeaveLanes, NoneOf}
 use Rattle.fts_shop.specs.Shops.{IsToldList, writer_of}
-use Rattle.fts_shop.specs.Workers.{StationData, WorkerDone, station_data}
-use Rattle.fts_shop.specs.declared.ends.WorkerEnd.TheVariants as worker_ends
-use Rattle.fts_top.specs.Booths.{booth_data}
-use Rattle.fts_top.specs.Doors.{DoorsData}
-use Rattle.fts_top.specs.Halls.{IsBoothServed}
-use Rattle.fts_top.specs.Lanes.{Sides}
-use Rattle.fts_top.specs.declared.lane.Booth.{Booth}
+use Rattle.fts_shop.specs.Workers.{StationData, WorkerDone}
+use Rattle.fts_service.specs.Booths.{booth_data}
+use Rattle.fts_service.specs.Halls.{IsBoothServed}
+use Rattle.fts_service.specs.Lanes.{Sides}
+use Rattle.fts_service.specs.declared.lane.Booth.{Booth}
 use Rattle.fts_ledger.specs.Ledger.{KeepsLedger, MayKeep}
 use Rattle.fts_ledger.specs.Fitting.{FitsPass}
 use Rattle.fts_ledger.specs.Reports.{AddsAsked, AddsWork, ReportsOwn}
-use Rattle.fts_serving.proofs.Lanes.{LaneEnded, ended_asked, ended_there, ended_turns, lane_ended}
+use Rattle.fts_serving.proofs.Lanes.{ended_asked, ended_there, ended_turns, lane_ended}
 use Rattle.fts_serving.proofs.Open.{LaneTurns, has_turn, none_there}
 use Rattle.fts_serving.proofs.Own.{leave_none, leave_on, none_items, named_back}
-use Rattle.fts_serving.proofs.Stations.{FindsNone, Leaves, drained_finds_none, worker_leaves}
+use Rattle.fts_serving.proofs.Stations.{worker_leaves}
+use Rattle.fts_store.specs.declared.store.Store as store
+use Rattle.fts_service.specs.declared.doors.Doors as doors
+use Rattle.fts_tables.specs.declared.clock.Clock as clock
 
 -- a pass that has seen a beginning of the turns, behind which none is its own
 pub record Sees (turns : List (Turn Entry)) (old new : PassView Entry) : Type 0 where
@@ -51,14 +49,14 @@ pub record OfWorker (turns : List (Turn Entry)) (pass : PassView Entry) : Type 0
   pub own : ReportsOwn pass.number pass.opening [] (items_of turns)
   pub leaves : LeaveLanes pass.number pass.opening_shows turns
 
-pub of_lane : {D A C L : Type 0} (sides : Sides L) (doors : A → DoorsData L) (door_faults : A → ℕ) (moments : C → Option Coming) (connections : Option ℕ)
+pub of_lane : {D A C L : Type 0} (sides : Sides L) (all_doors : doors.Ghosts A L) (clocks : clock.Ghosts C) (connections : Option ℕ)
     (turns : List (Turn Entry)) (old new : Booth D A C L) → IsToldList old.pass → old.pass.seen ≡ [] → AllNamed writer_of turns
     → OnlyOthersSince (new.pass.number ∷ []) new.pass.seen turns
-    → IsBoothServed sides doors door_faults moments connections old new → OfLane turns old.pass
-of_lane sides doors door_faults moments connections turns old new told unseen named since served =
+    → IsBoothServed sides all_doors clocks connections old new → OfLane turns old.pass
+of_lane sides all_doors clocks connections turns old new told unseen named since served =
     let done = served.1 in
-    let ended = lane_ended sides connections (booth_data moments doors door_faults old).standing (booth_data moments doors door_faults new).standing
-    (booth_data moments doors door_faults old).doors (booth_data moments doors door_faults new).doors _ done.stop told unseen done.done in
+    let ended = lane_ended sides connections (booth_data clocks all_doors old).standing (booth_data clocks all_doors new).standing
+    (booth_data clocks all_doors old).doors (booth_data clocks all_doors new).doors _ done.stop told unseen done.done in
     let seen = sees turns old.pass new.pass served.0 since in
     record {
       asked = subst (λ t. AddsAsked old.pass.number (items_of t)) (sym seen.is)
@@ -69,9 +67,9 @@ of_lane sides doors door_faults moments connections turns old new told unseen na
     }
 
 -- the laws of `fts_ledger` that are cited here
-pub record Laws {E : Type 0} (store_state : E → StoreState) (store_calls : E → Option (List Call)) (store_faults : E → ℕ) : Type 0 where
+pub record Laws {E : Type 0} (stores : store.Ghosts E) : Type 0 where
   pub begins : (pass : PassView Entry) → NoneOf pass.number (items_of pass.seen) → FitsPass pass []
-  pub worker : (old new : StationData E) → WorkerDone store_state store_calls store_faults old new → MayKeep old.pass new.pass old.held
+  pub worker : (old new : StationData E) → WorkerDone stores old new → MayKeep old.pass new.pass old.held
       → KeepsLedger old.pass new.pass new.held
   pub legal : (pass : PassView Entry) (later : List (Turn Entry)) → IsLegal (pass.opening ++ items_of (pass.seen ++ later)) → IsLegal (seen_list pass)
   pub own : (old new : PassView Entry) (held : List Held) (later : List (Turn Entry)) → KeepsLedger old new held
@@ -80,9 +78,9 @@ pub record Laws {E : Type 0} (store_state : E → StoreState) (store_calls : E �
   pub work : (old new : PassView Entry) (held : List Held) (later : List (Turn Entry)) → KeepsLedger old new held
       → NoneOf old.number (items_of old.seen) → NoneOf old.number (items_of later) → AddsWork old.number (items_of (new.seen ++ later))
 
-module _ {E : Type 0} (store_state : E → StoreState) (store_calls : E → Option (List Call)) (store_faults : E → ℕ) (laws : Laws store_state store_calls store_faults)
+module _ {E : Type 0} (stores : store.Ghosts E) (laws : Laws stores)
     (turns : List (Turn Entry)) (old new : StationData E) (told : IsToldList old.pass) (unseen : old.pass.seen ≡ []) (empty : old.held ≡ [])
-    (legal : IsLegal (old.pass.opening ++ items_of turns)) (done : WorkerDone store_state store_calls store_faults old new)
+    (legal : IsLegal (old.pass.opening ++ items_of turns)) (done : WorkerDone stores old new)
     (since : OnlyOthersSince (new.pass.number ∷ []) new.pass.seen turns) where
   pub seen : Sees turns old.pass new.pass
   seen = sees turns old.pass new.pass done.same since
@@ -108,7 +106,7 @@ module _ {E : Type 0} (store_state : E → StoreState) (store_calls : E → Opti
 
   pub of_worker : AllNamed writer_of turns → OfWorker turns old.pass
   of_worker named =
-      let left = worker_leaves store_state store_calls store_faults old new unseen done in
+      let left = worker_leaves stores old new unseen done in
       record {
         work = subst (λ t. AddsWork old.pass.number (items_of t)) (sym seen.is) (laws.work old.pass new.pass new.held seen.later keeps unadded (none_later named));
         own = subst (λ t. ReportsOwn old.pass.number old.pass.opening [] (items_of t)) (sym seen.is)

@@ -2,14 +2,10 @@
 -- follows from, and that nothing is left to do where all workers ended drained.
 use Rattle.std.specs.Prelude.{◌≡◌, ◌≢◌, ◌⊎◌, ℕ, ◌≤◌, ◌<◌, List, [], ◌∷◌, ◌++◌, length, drop, All, Option, Some}
 use Rattle.std.proofs.Common.{inl, inr}
-use Rattle.fts_tables.specs.Coming.{Coming}
 use Rattle.fts_tables.specs.SettingsData.{SettingsData, IsSettings}
 use Rattle.fts_tables.specs.Limits.{eligible_rows}
-use Rattle.fts_tables.specs.History.{out_of_list, tables_of, IsLegal}
+use Rattle.fts_tables.specs.History.{out_of_list, tables_of}
 use Rattle.fts_tables.specs.declared.commands.Entry.{Entry}
-use Rattle.fts_disk.specs.Disk.{DiskState}
-use Rattle.fts_store.specs.Calls.{Call}
-use Rattle.fts_store.specs.Store.{StoreState}
 use Rattle.fts_turnstile.specs.History.{items_of}
 use Rattle.fts_passes.specs.Crews.{passes_given}
 use Rattle.fts_keep.specs.Keeps.{HoldsList, KeepData}
@@ -23,12 +19,13 @@ use Rattle.fts_shop.specs.declared.ends.WorkerEnd.TheVariants.{Drained}
 use Rattle.fts_shop.specs.declared.station.Station.{Station}
 use Rattle.fts_ledger.specs.Ledger.{AreFresh, FollowsOwn}
 use Rattle.fts_ledger.specs.Reports.{AddsAsked, AddsWork, IsUndisturbed, ReportsOwn}
-use Rattle.fts_top.specs.Doors.{DoorsData}
-use Rattle.fts_top.specs.Lanes.{Sides}
-use Rattle.fts_top.specs.Seats.{stations_of}
+use Rattle.fts_service.specs.Seats.{stations_of}
 use Rattle.fts_top.specs.Serves.{Closes, ClosesServed}
-use Rattle.fts_top.specs.declared.lane.Lane.{Lane}
+use Rattle.fts_service.specs.declared.lane.Lane.{Lane}
 use Rattle.fts_top.specs.declared.ends.RunEnd.{RunEnd}
+use Rattle.fts_disk.specs.declared.disk.Disk as disk
+use Rattle.fts_store.specs.declared.store.Store as store
+use Rattle.fts_service.specs.Worlds.{World}
 
 -- nothing is left to do behind these entries: no file is out, and no row may be claimed at the last moment
 pub record LeavesNothing (entries : List Entry) : Type 0 where
@@ -42,37 +39,36 @@ pub record IsOpenedBy (entries : List Entry) (settings : SettingsData) : Type 0 
   pub is : entries ≡ restarted opening now settings
   pub kept : IsSettings settings
 
-module _ {E : Type 0} (store_state : E → StoreState) (store_calls : E → Option (List Call)) (store_faults : E → ℕ) where
+module _ {E : Type 0} (stores : store.Ghosts E) where
   -- a worker's turns at a station: none was stale, and the store follows from the reports that the pass added
   pub record KeepsOwn (old new : StationData E) : Type 0 where
-    pub done : WorkerDone store_state store_calls store_faults old new
-    pub follows : FollowsOwn store_state store_calls store_faults old new
-    pub fresh : AreFresh store_state store_calls store_faults done.more old done.between
+    pub done : WorkerDone stores old new
+    pub follows : FollowsOwn stores old new
+    pub fresh : AreFresh stores done.more old done.between
     pub last : (file : ℕ) → done.last ≢ Stale file
 
 -- what is known of disks, stores, lines, doors, clocks and words
-module _ {D A E C W L : Type 0} (state : D → DiskState) (faults : D → ℕ) (store_state : E → StoreState) (store_calls : E → Option (List Call)) (store_faults : E → ℕ)
-    (sides : Sides L) (doors : A → DoorsData L) (door_faults : A → ℕ) (moments : C → Option Coming) (words : W → Option Coming)
+module _ {D A E C W L : Type 0} (world : World D A E C W L)
     {lanes workers : ℕ} {connections : Option ℕ} {keep : KeepData D} {before : List (Lane A C L)} {hands : List (Hand E C W)} {after : List (Lane A C L)}
     {hands_now : List (Hand E C W)} {closed : ShopData D} {end : RunEnd} where
   -- the stations before any worker took a turn
-  abbrev pub stations_before : ClosesServed state faults store_state store_calls store_faults sides doors door_faults moments words lanes workers connections keep
+  abbrev pub stations_before : ClosesServed world lanes workers connections keep
       before hands after hands_now closed end → List (Station D E C W)
   stations_before serves =
       stations_of hands serves.benches (drop (length serves.rooms) (passes_given (record serves.first { given = 0 }) serves.first.given))
 
   -- the entries behind the list that the keep was started with
-  abbrev pub entries_added : ClosesServed state faults store_state store_calls store_faults sides doors door_faults moments words lanes workers connections keep
+  abbrev pub entries_added : ClosesServed world lanes workers connections keep
       before hands after hands_now closed end → List Entry
   entries_added serves = items_of serves.ran.history.turns
 
   -- each worker ended since no lane was left and no row was eligible
-  abbrev pub AreDrained : ClosesServed state faults store_state store_calls store_faults sides doors door_faults moments words lanes workers connections keep
+  abbrev pub AreDrained : ClosesServed world lanes workers connections keep
       before hands after hands_now closed end → Type 0
   AreDrained serves = All (λ (station : Station D E C W). station.end ≡ Some Drained) serves.ran.stations
 
   -- lanes and workers kept the ledger
-  pub record KeepTheLedger (serves : ClosesServed state faults store_state store_calls store_faults sides doors door_faults moments words lanes workers connections keep
+  pub record KeepTheLedger (serves : ClosesServed world lanes workers connections keep
       before hands after hands_now closed end) : Type 0 where
     -- passes 1 and so on are the lanes', and add clients' commands alone; those behind are the workers', and add claims and reports alone
     pub asked : (pass : ℕ) → 1 ≤ pass → pass ≤ lanes → AddsAsked pass (entries_added serves)
@@ -80,20 +76,20 @@ module _ {D A E C W L : Type 0} (state : D → DiskState) (faults : D → ℕ) (
     -- each report is of a file whose last claim before it is the writer's own, so nobody takes a file from a writer that claimed it
     pub own : (writer : ℕ) → ReportsOwn writer keep.entries [] (entries_added serves)
     pub undisturbed : (writer : ℕ) → IsUndisturbed writer keep.entries (entries_added serves)
-    pub stations : Each (λ old new. KeepsOwn store_state store_calls store_faults (station_data moments words old) (station_data moments words new))
+    pub stations : Each (λ old new. KeepsOwn world.stores (station_data world.clocks world.words old) (station_data world.clocks world.words new))
         (stations_before serves) serves.ran.stations
     -- where all workers ended drained, nothing is left to do
     pub nothing_left : AreDrained serves → LeavesNothing (keep.entries ++ entries_added serves)
 
   -- so they did in a run that closed its shop, where its lanes began
-  abbrev pub KeptWhereServed : {added : List Entry} → Closes state faults store_state store_calls store_faults sides doors door_faults moments words lanes workers
+  abbrev pub KeptWhereServed : {added : List Entry} → Closes world lanes workers
       connections keep before hands after hands_now closed end added → Type 0
   KeptWhereServed (inl unserved) = Unit {0}
   KeptWhereServed (inr served) = KeepTheLedger served.0
 
 -- a disk was left with a list of its own, behind which nothing is left to do
-pub record LeavesDisk {D : Type 0} (state : D → DiskState) (disk : D) : Type 0 where
+pub record LeavesDisk {D : Type 0} (disks : disk.Ghosts D) (disk : D) : Type 0 where
   pub keep : KeepData D
   pub disk_is : disk ≡ keep.disk
-  pub holds : HoldsList (state keep.disk) keep.entries keep.doubt keep.tables keep.commands keep.used keep.in_doubt
+  pub holds : HoldsList (disks.state keep.disk) keep.entries keep.doubt keep.tables keep.commands keep.used keep.in_doubt
   pub nothing : LeavesNothing keep.entries

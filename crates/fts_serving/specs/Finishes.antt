@@ -3,34 +3,31 @@
 -- And which lines each lane has served by its end.
 use Rattle.std.specs.Prelude.{◌≡◌, ◌≢◌, ◌⊎◌, ℕ, false, List, [], ◌∷◌, ◌++◌, length, Option, Some, IfSome, IsOk}
 use Rattle.std.proofs.Common.{inl, inr}
-use Rattle.fts_tables.specs.Coming.{Coming}
 use Rattle.fts_tables.specs.Counts.{Rose}
 use Rattle.fts_tables.specs.Step.{step}
 use Rattle.fts_tables.specs.History.{tables_of}
 use Rattle.fts_tables.specs.declared.commands.Entry.{Entry}
 use Rattle.fts_disk.specs.Disk.{DiskState, IsTold}
-use Rattle.fts_store.specs.Calls.{Call}
-use Rattle.fts_store.specs.Store.{StoreState}
 use Rattle.fts_turnstile.specs.declared.turn.Turn.{Turn}
 use Rattle.fts_keep.specs.Applied.{fits}
 use Rattle.fts_keep.specs.Keeps.{KeepData, used_of}
 use Rattle.fts_workers.specs.declared.hand.Hand.{Hand}
 use Rattle.fts_shop.specs.Shops.{ShopData, faults_shown}
 use Rattle.fts_shop.specs.Many.{Each}
-use Rattle.fts_top.specs.Booths.{booth_data}
+use Rattle.fts_service.specs.Booths.{booth_data}
 use Rattle.fts_top.specs.Complete.{HasGoodSettings, IsUndamaged, RestartPasses, Stays}
-use Rattle.fts_top.specs.Doors.{DoorsData, PassThrough}
+use Rattle.fts_service.specs.Doors.{PassThrough}
 use Rattle.fts_top.specs.Ends.{status_of}
-use Rattle.fts_top.specs.Lanes.{BoothData, Sides}
-use Rattle.fts_top.specs.Openings.{SomeRose}
-use Rattle.fts_top.specs.Seats.{booths_of}
+use Rattle.fts_service.specs.Lanes.{BoothData}
+use Rattle.fts_service.specs.Seats.{booths_of}
 use Rattle.fts_top.specs.Serves.{Closes, ClosesServed, IsServingRun, ManyThreads}
 use Rattle.fts_passes.specs.Crews.{passes_given}
 use Rattle.fts_top.specs.declared.ends.RunEnd.{RunEnd}
-use Rattle.fts_top.specs.declared.lane.Booth.{Booth}
-use Rattle.fts_top.specs.declared.lane.Lane.{Lane}
+use Rattle.fts_service.specs.declared.lane.Booth.{Booth}
+use Rattle.fts_service.specs.declared.lane.Lane.{Lane}
 use Rattle.fts_top.specs.declared.tally.Tally.{Tally}
 use Rattle.fts_serving.specs.Ends.{entries_added}
+use Rattle.fts_service.specs.Worlds.{World}
 
 -- what a run is given is told and breaks no rule: the text of its settings, and the journal on its disk, or none yet
 pub record BreaksNoRule (text : Option (List ℕ)) (disk : DiskState) : Type 0 where
@@ -58,37 +55,36 @@ pub record IsAccountedFor {L : Type 0} (connections : Option ℕ) (old new : Boo
   pub through : PassThrough old.doors new.doors lines
   pub all : IfSome new.doors.coming (λ coming. coming ≡ []) ⊎ (connections ≡ Some (length lines))
 
-module _ {D A E C W L : Type 0} (state : D → DiskState) (faults : D → ℕ) (store_state : E → StoreState) (store_calls : E → Option (List Call)) (store_faults : E → ℕ)
-    (sides : Sides L) (doors : A → DoorsData L) (door_faults : A → ℕ) (moments : C → Option Coming) (words : W → Option Coming) where
+module _ {D A E C W L : Type 0} (world : World D A E C W L) where
   -- what is said of each used lane, before and behind its thread
   abbrev pub EachLane : (Booth D A C L → Booth D A C L → Type 0) → {lanes workers : ℕ} {connections : Option ℕ} {keep : KeepData D} {before : List (Lane A C L)}
       {hands : List (Hand E C W)} {after : List (Lane A C L)} {hands_now : List (Hand E C W)} {closed : ShopData D} {end : RunEnd}
-      → ClosesServed state faults store_state store_calls store_faults sides doors door_faults moments words lanes workers connections keep before hands after hands_now
+      → ClosesServed world lanes workers connections keep before hands after hands_now
       closed end → Type 0
   EachLane P serves = Each P (booths_of serves.opened serves.rooms (passes_given (record serves.first { given = 0 }) serves.first.given)) serves.ran.booths
 
   -- the count of a lane's doors rose
   abbrev pub DoorsRose : Booth D A C L → Booth D A C L → Type 0
-  DoorsRose old new = Rose (door_faults old.lane.doors) (door_faults new.lane.doors)
+  DoorsRose old new = Rose (world.doors.faults old.lane.doors) (world.doors.faults new.lane.doors)
 
   -- a lane's lines are accounted for
   abbrev pub LinesAre : Option ℕ → Booth D A C L → Booth D A C L → Type 0
-  LinesAre connections old new = IsAccountedFor connections (booth_data moments doors door_faults old) (booth_data moments doors door_faults new)
+  LinesAre connections old new = IsAccountedFor connections (booth_data world.clocks world.doors old) (booth_data world.clocks world.doors new)
 
   -- how lanes and workers ended that nothing was in the way of
   abbrev pub EndsWell : {lanes workers : ℕ} {connections : Option ℕ} {keep : KeepData D} {before : List (Lane A C L)} {hands : List (Hand E C W)}
       {after : List (Lane A C L)} {hands_now : List (Hand E C W)} {closed : ShopData D} {end : RunEnd} {added : List Entry}
-      → Closes state faults store_state store_calls store_faults sides doors door_faults moments words lanes workers connections keep before hands after hands_now closed
+      → Closes world lanes workers connections keep before hands after hands_now closed
       end added → Type 0
   EndsWell {keep = keep} {end = end} (inl unserved) = status_of end ≡ 1
   EndsWell {keep = keep} {end = end} (inr served) =
       NoneRises served.0.first.opening_shows served.0.ran.history.turns
       → (status_of end ≡ 0) ⊎ ((status_of end ≡ 1) ⊎ ((status_of end ≡ 11) × RecordPasses (keep.entries
-      ++ entries_added state faults store_state store_calls store_faults sides doors door_faults moments words served.0)))
+      ++ entries_added world served.0)))
 
   -- how a run did that was to serve, where nothing was in its way
   abbrev pub Finishes : {lanes : ℕ} {connections : Option ℕ} {end : RunEnd} {tally : Tally} {text : Option (List ℕ)} {before after : ManyThreads D A E C W L}
-      → IsServingRun state faults store_state store_calls store_faults sides doors door_faults moments words lanes connections end tally text before after → Type 0
+      → IsServingRun world lanes connections end tally text before after → Type 0
   Finishes {end = end} {text = text} {before = before} (inl stops) =
-      (status_of end ≡ 1) ⊎ ((status_of end ≡ 11) × RestartPasses text (state before.disk) before.moments)
+      (status_of end ≡ 1) ⊎ ((status_of end ≡ 11) × RestartPasses text (world.disks.state before.disk) before.moments)
   Finishes (inr runs) = EndsWell runs.serves.closes

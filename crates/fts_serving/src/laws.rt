@@ -9,13 +9,14 @@ ghost use Rattle.fts_shop.specs.Shops.{ShopData};
 ghost use Rattle.fts_workers.specs.declared.hand.Hand.{Hand};
 ghost use Rattle.fts_top.specs.Complete.{Stays};
 ghost use Rattle.fts_top.specs.Ends.{status_of};
-ghost use Rattle.fts_top.specs.Openings.{SomeRose};
+ghost use Rattle.fts_service.specs.Openings.{SomeRose};
 ghost use Rattle.fts_top.specs.Serves.{ClosesServed, IsServingRun, ManyThreads, RunsServing};
 ghost use Rattle.fts_top.specs.declared.ends.RunEnd.{RunEnd};
-ghost use Rattle.fts_top.specs.declared.lane.Lane.{Lane};
+ghost use Rattle.fts_service.specs.declared.lane.Lane.{Lane};
 ghost use Rattle.fts_top.specs.declared.tally.Tally.{Tally};
 ghost use Rattle.fts_serving.specs.Ends.{IsOpenedBy, KeepTheLedger, KeptWhereServed, LeavesDisk, entries_added};
 ghost use Rattle.fts_serving.specs.Finishes.{BreaksNoRule, DoorsRose, EachLane, Finishes, LinesAre};
+ghost use Rattle.fts_service.specs.Worlds.{world_of};
 
 use fts_disk::Disk;
 use fts_laws::idle_claims_find_none;
@@ -33,16 +34,10 @@ use fts_top::Doors;
 pub fn lanes_and_workers_keep_the_ledger<D: Disk, E: Store, C: Clock, W: Words, A: Doors>()
     ensures ledger { (lanes workers : ℕ) (connections : Option ℕ) (settings : SettingsData) (keep : KeepData D) (before : List (Lane A C A.Line))
         (hands : List (Hand E C W)) (after : List (Lane A C A.Line)) (hands_now : List (Hand E C W)) (closed : ShopData D) (end : RunEnd)
-        → (serves : ClosesServed D.state D.faults E.state E.calls E.faults
-        (record { left = A.Line.Source.left; reads = A.Line.Source.reads; held = A.Line.Sink.held; read_faults = A.Line.Source.faults; write_faults = A.Line.Sink.faults })
-        A.doors A.faults C.moments W.words lanes workers connections keep before hands after hands_now closed end)
-        → IsOpenedBy keep.entries settings → IsLegal (keep.entries ++ entries_added D.state D.faults E.state E.calls E.faults
-        (record { left = A.Line.Source.left; reads = A.Line.Source.reads; held = A.Line.Sink.held; read_faults = A.Line.Source.faults; write_faults = A.Line.Sink.faults })
-        A.doors A.faults C.moments W.words serves)
+        → (serves : ClosesServed (world_of D.Disk E.Store A.Doors A.Line.Source A.Line.Sink C.Clock W.Words) lanes workers connections keep before hands after hands_now closed end)
+        → IsOpenedBy keep.entries settings → IsLegal (keep.entries ++ entries_added (world_of D.Disk E.Store A.Doors A.Line.Source A.Line.Sink C.Clock W.Words) serves)
         → lanes ≤ length before → workers ≤ length hands → 1 ≤ workers
-        → KeepTheLedger D.state D.faults E.state E.calls E.faults
-        (record { left = A.Line.Source.left; reads = A.Line.Source.reads; held = A.Line.Sink.held; read_faults = A.Line.Source.faults; write_faults = A.Line.Sink.faults })
-        A.doors A.faults C.moments W.words serves }
+        → KeepTheLedger (world_of D.Disk E.Store A.Doors A.Line.Source A.Line.Sink C.Clock W.Words) serves }
 {
     turns_keep_the_ledger::<E>();
     own_reports_disturb_nobody();
@@ -56,19 +51,13 @@ pub fn lanes_and_workers_keep_the_ledger<D: Disk, E: Store, C: Clock, W: Words, 
 /// behind which no file is out, and no row may be claimed at the last moment (`ends`). There are 8 lanes, of which it uses some, and 16 hands.
 pub fn runs_that_serve_leave_nothing<D: Disk, E: Store, C: Clock, W: Words, A: Doors>()
     ensures ledger { (lanes : ℕ) (connections : Option ℕ) (text : Option (List ℕ)) (before after : ManyThreads D A E C W A.Line) (end : RunEnd) (tally : Tally)
-        → (runs : RunsServing D.state D.faults E.state E.calls E.faults
-        (record { left = A.Line.Source.left; reads = A.Line.Source.reads; held = A.Line.Sink.held; read_faults = A.Line.Source.faults; write_faults = A.Line.Sink.faults })
-        A.doors A.faults C.moments W.words lanes connections text before after end tally)
+        → (runs : RunsServing (world_of D.Disk E.Store A.Doors A.Line.Source A.Line.Sink C.Clock W.Words) lanes connections text before after end tally)
         → IsTold (D.state before.disk) → length before.lanes ≡ 8 → lanes ≤ 8 → length before.hands ≡ 16
-        → KeptWhereServed D.state D.faults E.state E.calls E.faults
-        (record { left = A.Line.Source.left; reads = A.Line.Source.reads; held = A.Line.Sink.held; read_faults = A.Line.Source.faults; write_faults = A.Line.Sink.faults })
-        A.doors A.faults C.moments W.words runs.serves.closes }
+        → KeptWhereServed (world_of D.Disk E.Store A.Doors A.Line.Source A.Line.Sink C.Clock W.Words) runs.serves.closes }
     ensures ends { (lanes : ℕ) (connections : Option ℕ) (text : Option (List ℕ)) (before after : ManyThreads D A E C W A.Line) (end : RunEnd) (tally : Tally)
-        → IsServingRun D.state D.faults E.state E.calls E.faults
-        (record { left = A.Line.Source.left; reads = A.Line.Source.reads; held = A.Line.Sink.held; read_faults = A.Line.Source.faults; write_faults = A.Line.Sink.faults })
-        A.doors A.faults C.moments W.words lanes connections end tally text before after
+        → IsServingRun (world_of D.Disk E.Store A.Doors A.Line.Source A.Line.Sink C.Clock W.Words) lanes connections end tally text before after
         → status_of end ≡ 0 → IsTold (D.state before.disk) → length before.lanes ≡ 8 → lanes ≤ 8 → length before.hands ≡ 16
-        → LeavesDisk D.state after.disk }
+        → LeavesDisk D.Disk after.disk }
 {
     turns_keep_the_ledger::<E>();
     own_reports_disturb_nobody();
@@ -83,14 +72,10 @@ pub fn runs_that_serve_leave_nothing<D: Disk, E: Store, C: Clock, W: Words, A: D
 /// the words are accepted and the settings could be read is what its status says, which is neither 2 nor 8.
 pub fn runs_that_serve_come_to_their_end<D: Disk, E: Store, C: Clock, W: Words, A: Doors>()
     ensures ends { (lanes : ℕ) (connections : Option ℕ) (text : Option (List ℕ)) (before after : ManyThreads D A E C W A.Line) (end : RunEnd) (tally : Tally)
-        → BreaksNoRule text (D.state before.disk) → Stays (D.faults before.disk) (D.faults after.disk) → (SomeRose A.faults before.lanes after.lanes → ⊥)
+        → BreaksNoRule text (D.state before.disk) → Stays (D.faults before.disk) (D.faults after.disk) → (SomeRose A.Doors before.lanes after.lanes → ⊥)
         → length before.lanes ≡ 8 → lanes ≤ 8 → length before.hands ≡ 16 → status_of end ≢ 2 → status_of end ≢ 8
-        → (ran : IsServingRun D.state D.faults E.state E.calls E.faults
-        (record { left = A.Line.Source.left; reads = A.Line.Source.reads; held = A.Line.Sink.held; read_faults = A.Line.Source.faults; write_faults = A.Line.Sink.faults })
-        A.doors A.faults C.moments W.words lanes connections end tally text before after)
-        → Finishes D.state D.faults E.state E.calls E.faults
-        (record { left = A.Line.Source.left; reads = A.Line.Source.reads; held = A.Line.Sink.held; read_faults = A.Line.Source.faults; write_faults = A.Line.Sink.faults })
-        A.doors A.faults C.moments W.words ran }
+        → (ran : IsServingRun (world_of D.Disk E.Store A.Doors A.Line.Source A.Line.Sink C.Clock W.Words) lanes connections end tally text before after)
+        → Finishes (world_of D.Disk E.Store A.Doors A.Line.Source A.Line.Sink C.Clock W.Words) ran }
 {
     turns_keep_the_ledger::<E>();
     own_reports_disturb_nobody();
@@ -105,24 +90,14 @@ pub fn runs_that_serve_come_to_their_end<D: Disk, E: Store, C: Clock, W: Words, 
 pub fn lines_of_lanes_are_accounted_for<D: Disk, E: Store, C: Clock, W: Words, A: Doors>()
     ensures each { (lanes workers : ℕ) (connections : Option ℕ) (keep : KeepData D) (before : List (Lane A C A.Line))
         (hands : List (Hand E C W)) (after : List (Lane A C A.Line)) (hands_now : List (Hand E C W)) (closed : ShopData D) (end : RunEnd)
-        → (serves : ClosesServed D.state D.faults E.state E.calls E.faults
-        (record { left = A.Line.Source.left; reads = A.Line.Source.reads; held = A.Line.Sink.held; read_faults = A.Line.Source.faults; write_faults = A.Line.Sink.faults })
-        A.doors A.faults C.moments W.words lanes workers connections keep before hands after hands_now closed end)
-        → EachLane D.state D.faults E.state E.calls E.faults
-        (record { left = A.Line.Source.left; reads = A.Line.Source.reads; held = A.Line.Sink.held; read_faults = A.Line.Source.faults; write_faults = A.Line.Sink.faults })
-        A.doors A.faults C.moments W.words (λ old new. DoorsRose D.state D.faults E.state E.calls E.faults
-        (record { left = A.Line.Source.left; reads = A.Line.Source.reads; held = A.Line.Sink.held; read_faults = A.Line.Source.faults; write_faults = A.Line.Sink.faults })
-        A.doors A.faults C.moments W.words old new ⊎ LinesAre D.state D.faults E.state E.calls E.faults
-        (record { left = A.Line.Source.left; reads = A.Line.Source.reads; held = A.Line.Sink.held; read_faults = A.Line.Source.faults; write_faults = A.Line.Sink.faults })
-        A.doors A.faults C.moments W.words connections old new) serves }
+        → (serves : ClosesServed (world_of D.Disk E.Store A.Doors A.Line.Source A.Line.Sink C.Clock W.Words) lanes workers connections keep before hands after hands_now closed end)
+        → EachLane (world_of D.Disk E.Store A.Doors A.Line.Source A.Line.Sink C.Clock W.Words)
+        (λ old new. DoorsRose (world_of D.Disk E.Store A.Doors A.Line.Source A.Line.Sink C.Clock W.Words) old new
+        ⊎ LinesAre (world_of D.Disk E.Store A.Doors A.Line.Source A.Line.Sink C.Clock W.Words) connections old new) serves }
     ensures all { (lanes workers : ℕ) (connections : Option ℕ) (keep : KeepData D) (before : List (Lane A C A.Line))
         (hands : List (Hand E C W)) (after : List (Lane A C A.Line)) (hands_now : List (Hand E C W)) (closed : ShopData D) (end : RunEnd)
-        → (serves : ClosesServed D.state D.faults E.state E.calls E.faults
-        (record { left = A.Line.Source.left; reads = A.Line.Source.reads; held = A.Line.Sink.held; read_faults = A.Line.Source.faults; write_faults = A.Line.Sink.faults })
-        A.doors A.faults C.moments W.words lanes workers connections keep before hands after hands_now closed end)
-        → status_of end ≢ 9 → EachLane D.state D.faults E.state E.calls E.faults
-        (record { left = A.Line.Source.left; reads = A.Line.Source.reads; held = A.Line.Sink.held; read_faults = A.Line.Source.faults; write_faults = A.Line.Sink.faults })
-        A.doors A.faults C.moments W.words (LinesAre D.state D.faults E.state E.calls E.faults
-        (record { left = A.Line.Source.left; reads = A.Line.Source.reads; held = A.Line.Sink.held; read_faults = A.Line.Source.faults; write_faults = A.Line.Sink.faults })
-        A.doors A.faults C.moments W.words connections) serves }
+        → (serves : ClosesServed (world_of D.Disk E.Store A.Doors A.Line.Source A.Line.Sink C.Clock W.Words) lanes workers connections keep before hands after hands_now closed end)
+        → status_of end ≢ 9
+        → EachLane (world_of D.Disk E.Store A.Doors A.Line.Source A.Line.Sink C.Clock W.Words)
+        (LinesAre (world_of D.Disk E.Store A.Doors A.Line.Source A.Line.Sink C.Clock W.Words) connections) serves }
 {}

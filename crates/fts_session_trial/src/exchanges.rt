@@ -1,11 +1,13 @@
 //! Exchanges over a folder: the requests of `NAME.http`, the replies of `NAME.reply.http`, byte for byte, and in `NAME.after` the status of the run
 //! and which file of the grid is then equal to which, or is not there. Each has a new folder with the settings of `fts.toml` and the same sources.
 use crate::stand::{hands_over, no_memory, session};
-use fts_disk::FileDisk;
-use fts_store::FolderStore;
+use fts_disk::{Disk, FileDisk};
+use fts_files::SystemFiles;
+use fts_store::{FolderStore, Store};
 use fts_tables::Memory;
 use fts_wire::{MemorySink, MemorySource};
-use std::{fs, io};
+use std::fs::{self, File, Files};
+use std::io;
 
 /// The folder that an exchange is played in.
 const STAND: &str = "stand";
@@ -124,7 +126,7 @@ fn is_left(rt: &HostRuntime, status: u8, after: &str) -> io::Result<bool> {
 }
 
 /// As many stores over the grid as there are hands.
-fn stores(rt: &HostRuntime) -> io::Result<Vec<FolderStore<&HostRuntime>>> {
+fn stores(rt: &HostRuntime) -> io::Result<Vec<FolderStore<SystemFiles<&HostRuntime>>>> {
     let alloc = rt.alloc();
     let mut stores = Vec::new(alloc);
     for _ in 0..16 {
@@ -136,27 +138,53 @@ fn stores(rt: &HostRuntime) -> io::Result<Vec<FolderStore<&HostRuntime>>> {
     Ok(stores)
 }
 
-/// Plays an exchange in a folder of its own.
-fn play(rt: &HostRuntime, name: &str) -> io::Result<bool> {
+/// Answers the requests of an exchange over this disk and these stores. The status, and whether the reply is the one that is written down.
+fn answered<D: Disk + Drop, E: Store + Drop>(
+    rt: &HostRuntime,
+    name: &str,
+    disk: D,
+    stores: Vec<E>,
+) -> io::Result<(u8, bool)> {
     let alloc = rt.alloc();
-    make_stand(rt)?;
     let settings = fs::read(rt, "fts.toml")?;
-    let journal = format!(in alloc; "{STAND}/fts.journal")?;
     let ended = session(
         alloc,
         settings.as_slice(),
         MemorySource::new(read_part(rt, name, ".http")?, Vec::new(alloc)),
         MemorySink::new(alloc, Vec::new(alloc)),
-        FileDisk::open(rt, journal.as_str()),
-        hands_over(alloc, stores(rt)?)?,
+        disk,
+        hands_over(alloc, stores)?,
     )?;
     let reply = read_part(rt, name, ".reply.http")?;
+    let is_reply = ended.output.bytes() == reply.as_slice();
+    Ok((ended.ending.status, is_reply))
+}
+
+/// Answers the requests of an exchange over these stores, with this journal's file.
+fn answered_on_file<R: Files<File = File> + Drop, E: Store + Drop>(
+    rt: &HostRuntime,
+    files: R,
+    name: &str,
+    path: &str,
+    stores: Vec<E>,
+) -> io::Result<(u8, bool)> {
+    answered(rt, name, FileDisk::open(files, path), stores)
+}
+
+/// Answers the requests of an exchange in its folder.
+fn answered_in_folder(rt: &HostRuntime, name: &str) -> io::Result<(u8, bool)> {
+    let path = format!(in rt.alloc(); "{STAND}/fts.journal")?;
+    answered_on_file(rt, rt, name, path.as_str(), stores(rt)?)
+}
+
+/// Plays an exchange in a folder of its own.
+fn play(rt: &HostRuntime, name: &str) -> io::Result<bool> {
+    let alloc = rt.alloc();
+    make_stand(rt)?;
+    let (status, is_reply) = answered_in_folder(rt, name)?;
     let path = format!(in alloc; "{name}.after")?;
     let after = fs::read_to_string(rt, path.as_str())?;
-    Ok(
-        ended.output.bytes() == reply.as_slice()
-            && is_left(rt, ended.ending.status, after.as_str())?,
-    )
+    Ok(is_reply && is_left(rt, status, after.as_str())?)
 }
 
 /// Plays each exchange, and prints which is otherwise than it is written.

@@ -1,7 +1,6 @@
 -- What a keep answers to a claim and to a report, over every disk.
 use Rattle.std.proofs.Common.{◌≡◌, refl, sym, ap, ◌∙◌, subst, ℕ, ◌+◌, max, Bool, true, false, cond, ◌&&◌, ◌==◌, Option, Some, None, Result, Ok, Err}
 use Rattle.std.specs.Prelude.{if◌then◌else◌, nat_lt}
-use Rattle.fts_disk.specs.Disk.{DiskState}
 use Rattle.fts_tables.specs.Tables.{Tables, is_active, row_at, job_at}
 use Rattle.fts_tables.specs.Choice.{pick}
 use Rattle.fts_tables.specs.Moves.{reported, reported_failure, reported_without_cancel, canceled, is_retryable}
@@ -16,13 +15,14 @@ use Rattle.fts_tables.specs.declared.commands.Command.TheVariants.{Restart, Subm
 use Rattle.fts_tables.specs.declared.commands.Answer.{Answer}
 use Rattle.fts_tables.specs.declared.commands.Answer.TheVariants.{Claimed, Reported}
 use Rattle.fts_tables.specs.declared.commands.Refusal.{Refusal}
-use Rattle.fts_tables.specs.declared.commands.Refusal.TheVariants.{Idle, NoFile, Stale}
+use Rattle.fts_tables.specs.declared.commands.Refusal.TheVariants.{Idle, Stale}
 use Rattle.fts_keep.specs.Keeps.{KeepData}
-use Rattle.fts_keep.specs.Applied.{Applied, applied_to, applied_by, entry_by, fits}
+use Rattle.fts_keep.specs.Applied.{Applied, applied_by, entry_by, fits}
 use Rattle.fts_keep.specs.declared.fault.KeepFault.{KeepFault}
 use Rattle.fts_keep.specs.declared.fault.KeepFault.TheVariants.{Rule, DiskFailed, JournalFull, Damaged, Memory}
 use Rattle.fts_shop.specs.Shops.{AnswersClaim, AnswersReport, AnswersTo, IsEndState}
 use Rattle.fts_shop.proofs.Rows.{row_at-id}
+use Rattle.fts_disk.specs.declared.disk.Disk as disk
 
 -- what fits comes to what it is
 fit_of : (fit : Bool) (used : ℕ) (found done : Tables × Answer) → (if fit then Ok found else Err (JournalFull used)) ≡ Ok done → found ≡ done
@@ -105,9 +105,9 @@ report_answer tables now file (Some row) attempt outcome after answer at is =
     subst (λ id. AnswersReport id (Ok answer)) (row_at-id tables.rows file row at)
     (report_of_answer tables now row attempt outcome (job_at tables.jobs row.job) after answer is)
 
-module _ {D : Type 0} (state : D → DiskState) (faults : D → ℕ) (old new : KeepData D) (writer : ℕ) where
+module _ {D : Type 0} (disks : disk.Ghosts D) (old new : KeepData D) (writer : ℕ) where
   claim_answers : (now word : ℕ) (result : Result Answer KeepFault)
-      → Applied state faults old new (entry_by writer (Claim now word)) result → AnswersClaim result
+      → Applied disks.state disks.faults old new (entry_by writer (Claim now word)) result → AnswersClaim result
   claim_answers now word (Ok answer) applied =
       claim_answer old.tables (max now old.tables.moment) (pick old.tables (max now old.tables.moment) word) new.tables answer
       (step_of old.used (entry_by writer (Claim now word)) (step old.tables (Claim now word)) (new.tables, answer) applied.done)
@@ -120,7 +120,7 @@ module _ {D : Type 0} (state : D → DiskState) (faults : D → ℕ) (old new : 
   claim_answers now word (Err Memory) applied = tt
 
   report_answers : (now file attempt : ℕ) (outcome : Outcome) (result : Result Answer KeepFault)
-      → Applied state faults old new (entry_by writer (Report now file attempt outcome)) result → AnswersReport file result
+      → Applied disks.state disks.faults old new (entry_by writer (Report now file attempt outcome)) result → AnswersReport file result
   report_answers now file attempt outcome (Ok answer) applied =
       report_answer old.tables (max now old.tables.moment) file (row_at old.tables.rows file) attempt outcome new.tables answer refl
       (step_of old.used (entry_by writer (Report now file attempt outcome)) (step old.tables (Report now file attempt outcome))
@@ -133,7 +133,7 @@ module _ {D : Type 0} (state : D → DiskState) (faults : D → ℕ) (old new : 
 
   -- what the keep answers is an answer to the command
   pub answers_to : (command : Command) (result : Result Answer KeepFault)
-      → Applied state faults old new (entry_by writer command) result → AnswersTo command result
+      → Applied disks.state disks.faults old new (entry_by writer command) result → AnswersTo command result
   answers_to (Claim now word) result applied = claim_answers now word result applied
   answers_to (Report now file attempt outcome) result applied = report_answers now file attempt outcome result applied
   answers_to (Restart now settings) result applied = tt

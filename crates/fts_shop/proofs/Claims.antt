@@ -1,10 +1,9 @@
 -- A claimed file has its row, so the order of its copy comes with it.
 use Rattle.std.proofs.Common.{◌≡◌, refl, sym, ap, ◌∙◌, subst, ℕ, ◌+◌, ◌==◌, max, Bool, true, false, cond, List, [], ◌∷◌, map, Option, Some, None, option_map, IsSome, IsTrue, Result, Ok, Err}
-use Rattle.fts_disk.specs.Disk.{DiskState}
 use Rattle.fts_tables.specs.Tables.{Tables, AreWellFormed, is_submitted, row_at}
 use Rattle.fts_tables.specs.Choice.{pick}
 use Rattle.fts_tables.specs.Moves.{change_row, claimed}
-use Rattle.fts_tables.specs.Step.{Outcomes, step, claim, with_rows}
+use Rattle.fts_tables.specs.Step.{step, claim, with_rows}
 use Rattle.fts_tables.specs.History.{tables_of, IsLegal, claimed_file}
 use Rattle.fts_tables.specs.declared.rows.FileRow.{FileRow}
 use Rattle.fts_tables.specs.declared.commands.Entry.{Entry}
@@ -17,6 +16,7 @@ use Rattle.fts_keep.specs.declared.fault.KeepFault.{KeepFault}
 use Rattle.fts_workers.specs.Copies.{order_in}
 use Rattle.fts_shop.specs.Within.{HasOrder, order_claimed}
 use Rattle.fts_shop.proofs.Answered.{step_of, same_done}
+use Rattle.fts_disk.specs.declared.disk.Disk as disk
 
 -- a row of an id is there still once rows were changed that keep their ids
 there_still : (change : FileRow → FileRow) → ((row : FileRow) → (change row).id ≡ row.id) → (rows : List FileRow) (id : ℕ) → IsSome (row_at rows id)
@@ -53,12 +53,12 @@ some_map : {A B : Type 0} (f : A → B) (found : Option A) → IsSome found → 
 some_map f (Some x) there = refl
 some_map f None there = there
 
-module _ {D : Type 0} (state : D → DiskState) (faults : D → ℕ) (old new : KeepData D) (writer now word : ℕ)
+module _ {D : Type 0} (disks : disk.Ghosts D) (old new : KeepData D) (writer now word : ℕ)
     (formed : (entries : List Entry) → IsLegal entries → AreWellFormed (tables_of entries))
     (waited : (tables : Tables) (now word file : ℕ) → AreWellFormed tables → claimed_file (step tables (Claim now word)) ≡ Some file
     → (row : FileRow) × (row_at tables.rows file ≡ Some row) × IsTrue (is_submitted row.state))
-    (kept : IsKeep state old) where
-  pub has_order : (answer : Result Answer KeepFault) → Applied state faults old new (entry_by writer (Claim now word)) answer
+    (kept : IsKeep disks.state old) where
+  pub has_order : (answer : Result Answer KeepFault) → Applied disks.state disks.faults old new (entry_by writer (Claim now word)) answer
       → HasOrder answer (order_claimed new.tables answer)
   has_order (Ok (Claimed file attempt)) applied =
       let some = kept.fold.some in

@@ -1,5 +1,5 @@
 -- A copy of a claimed file, by the order that came with its claim.
-use Rattle.std.proofs.Common.{◌≡◌, refl, sym, ap, ◌∙◌, subst, inl, inr, ⊎_elim, ℕ, ◌+◌, ◌*◌, ◌≤◌, ◌<◌, min, arith, List, [], ◌∷◌, Option, Some, None, option_map}
+use Rattle.std.proofs.Common.{◌≡◌, sym, ap, ◌∙◌, subst, inl, inr, ⊎_elim, ℕ, ◌+◌, ◌*◌, ◌≤◌, ◌<◌, arith, List, [], ◌∷◌, Option, Some, None, option_map}
 use Rattle.std.specs.Prelude.{option_to_list}
 use Rattle.std.proofs.lemmas.Grind.{div_ceil_times}
 use Rattle.fts_tables.specs.Coming.{Coming}
@@ -10,18 +10,17 @@ use Rattle.fts_tables.specs.declared.commands.Entry.{Entry}
 use Rattle.fts_tables.specs.declared.rows.FileRow.{FileRow}
 use Rattle.fts_tables.specs.declared.rows.Outcome.{Outcome}
 use Rattle.fts_tables.specs.declared.rows.Outcome.TheVariants.{Verified, SourceMissing, DestinationExists, SourceSize, SourceDigest, ReadBackDiffers, StoreFailed, Stopped}
-use Rattle.fts_store.specs.Calls.{Call}
-use Rattle.fts_store.specs.Store.{StoreState}
 use Rattle.fts_copy.specs.Copy.{Order}
 use Rattle.fts_copy.specs.Watch.{NoesBy, VerifiedAsks, pieces}
 use Rattle.fts_turnstile.specs.Passes.{PassView, seen_list}
-use Rattle.fts_workers.specs.Copies.{Copy, copies_of_file, order_in}
+use Rattle.fts_workers.specs.Copies.{Copy, order_in}
 use Rattle.fts_shop.specs.Shops.{IsToldList}
 use Rattle.fts_shop.specs.Looking.{looks_in, Unasked}
 use Rattle.fts_workers.specs.declared.held.Held.{Held}
 use Rattle.fts_shop.specs.declared.ends.Turn.{Turn}
 use Rattle.fts_shop.specs.Turns.{Copies, IsLookedAfter, ReportTurn, ReportsHeld, held_with}
 use Rattle.fts_shop.specs.Parts.{CopiesOrder, HasSize}
+use Rattle.fts_store.specs.declared.store.Store as store
 
 -- a copy, by its parts
 abbrev copy_as : Order → Outcome → Copy
@@ -67,12 +66,12 @@ reported_as old new moments later file attempt outcome end left reports =
     let same : outcome ≡ reports.0 = cc in
     subst (λ o. ReportTurn old new moments later (held_with file attempt outcome) o end left) (sym same) reports.1
 
-module _ {E : Type 0} (state : E → StoreState) (calls : E → Option (List Call)) (faults : E → ℕ) (old new : PassView Entry) (store after : E)
+module _ {E : Type 0} (stores : store.Ghosts E) (old new : PassView Entry) (store after : E)
     (file : ℕ) (order : Order) (outcome : Outcome) where
   -- the copy of a claimed file
-  pub copies_of : CopiesOrder state calls faults old new store after file order outcome → HasSize outcome
+  pub copies_of : CopiesOrder stores old new store after file order outcome → HasSize outcome
       → (IsToldList old → Some order ≡ option_map (order_in (tables_of (seen_list old))) (row_at (tables_of (seen_list old)).rows file))
-      → Copies state calls faults old new store after file outcome
+      → Copies stores old new store after file outcome
   copies_of copied small is = record {
     same = copied.watched.same;
     since = copied.watched.since;

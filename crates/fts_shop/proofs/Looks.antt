@@ -1,16 +1,16 @@
 -- One asking of the watch is a turn that adds nothing.
-use Rattle.std.proofs.Common.{◌≡◌, ◌≢◌, refl, sym, ap, ◌∙◌, subst, inl, ℕ, ◌+◌, ◌≤◌, ◌<◌, ◌==◌, ◌&&◌, min, Bool, true, false, cond, List, [], ◌∷◌, ◌++◌, append-nil, append_assoc, eq-eqb, arith}
-use Rattle.fts_disk.specs.Disk.{DiskState}
+use Rattle.std.proofs.Common.{◌≡◌, ◌≢◌, refl, sym, ap, ◌∙◌, subst, inl, ℕ, ◌+◌, ◌≤◌, ◌<◌, ◌==◌, ◌&&◌, Bool, true, false, cond, List, [], ◌∷◌, ◌++◌, append-nil, append_assoc, eq-eqb, arith}
 use Rattle.fts_tables.specs.History.{tables_of}
 use Rattle.fts_tables.specs.declared.commands.Entry.{Entry}
 use Rattle.fts_turnstile.specs.declared.turn.Turn.{Turn}
 use Rattle.fts_turnstile.specs.History.{items_of, shown_after, turn_of, AllName, AllNamed, NoneBy}
-use Rattle.fts_turnstile.specs.Passes.{PassView, IsSame, TookTurn, numbers_of, seen_list, own_items}
+use Rattle.fts_turnstile.specs.Passes.{PassView, IsSame, TookTurn, seen_list, own_items}
 use Rattle.fts_shop.specs.Shops.{ShopData, shop_entries, writer_of, shop_shows, lanes_shown, IsToldList}
 use Rattle.fts_shop.specs.Within.{is_cancel_asked, IsLookIn}
 use Rattle.fts_shop.specs.Looking.{looks_in, is_empty, Unasked, LeaveLanes, NoneOf, IsWatched}
-use Rattle.fts_shop.specs.Looked.{items_on, seen_on, looks_on, unasked_on, shown_on, lanes_on, none_on, asked_stays}
+use Rattle.fts_shop.specs.Looked.{items_on, looks_on, unasked_on, shown_on, lanes_on, none_on}
 use Rattle.fts_shop.proofs.Took.{some_met, nothing_added, list_left}
+use Rattle.fts_disk.specs.declared.disk.Disk as disk
 
 -- the entries of a turn are of none but its writer
 none_named : (number other : ℕ) (entries : List Entry) → AllName writer_of other entries → other ≢ number → NoneOf number entries
@@ -41,14 +41,14 @@ others_lanes : (number : ℕ) (joined shown : List ℕ) (turns : List (Turn Entr
 others_lanes number joined shown [] others = tt
 others_lanes number joined shown (turn ∷ turns) others = ((λ mine. absurd (others.0 (inl mine))), others_lanes number joined turn.shows turns others.1)
 
-module _ {D : Type 0} (state : D → DiskState) (faults : D → ℕ) (work : ShopData D → ShopData D → Type 0) (old new : PassView Entry) (same : IsSame old new)
-    (took : TookTurn shop_entries writer_of (shop_shows faults) work old new) (file : ℕ) (asked : Bool)
-    (looked : IsLookIn state file took.before took.after asked) where
+module _ {D : Type 0} (disks : disk.Ghosts D) (work : ShopData D → ShopData D → Type 0) (old new : PassView Entry) (same : IsSame old new)
+    (took : TookTurn shop_entries writer_of (shop_shows disks) work old new) (file : ℕ) (asked : Bool)
+    (looked : IsLookIn disks file took.before took.after asked) where
   abbrev last : Turn Entry
-  last = turn_of old.number took.added (shop_shows faults took.after)
+  last = turn_of old.number took.added (shop_shows disks took.after)
 
   none : took.added ≡ []
-  none = nothing_added faults work old new same took (ap (λ (s : ShopData D). s.keep.entries) looked.same)
+  none = nothing_added disks work old new same took (ap (λ (s : ShopData D). s.keep.entries) looked.same)
 
   -- it is one look
   one_look : looks_in old.number (last ∷ []) ≡ 1
@@ -65,7 +65,7 @@ module _ {D : Type 0} (state : D → DiskState) (faults : D → ℕ) (work : Sho
   -- what was asked is so of that list
   asked_there : IsToldList old → is_cancel_asked (tables_of (seen_list old ++ items_of took.between)) file ≡ asked
   asked_there told =
-      let folded = (looked.kept.fold.holds (looked.told (some_met faults work old new same took told))).folded in
+      let folded = (looked.kept.fold.holds (looked.told (some_met disks work old new same took told))).folded in
       ap (λ list. is_cancel_asked (tables_of list) file) (sym met)
       ∙ ap (λ tables. is_cancel_asked tables file) (sym folded) ∙ sym looked.is
 
@@ -99,4 +99,4 @@ module _ {D : Type 0} (state : D → DiskState) (faults : D → ℕ) (work : Sho
       is_no false is still low = is
 
       met_again : seen_list new ≡ seen_list old ++ items_of took.between
-      met_again = sym (list_left faults work old new same took) ∙ ap (λ (s : ShopData D). s.keep.entries) looked.same ∙ met
+      met_again = sym (list_left disks work old new same took) ∙ ap (λ (s : ShopData D). s.keep.entries) looked.same ∙ met

@@ -1,9 +1,7 @@
 -- A turn of the lock, as the turnstile says it, is a turn as workers and lanes say it; and what was tried in it is what they say of a command.
 use Rattle.std.proofs.Common.{◌≡◌, ◌≢◌, refl, sym, ap, ◌∙◌, subst, ℕ, List, [], ◌∷◌, ◌++◌, append-nil, append_assoc, Result, Ok, Err, IsOk}
 use Rattle.std.proofs.lemmas.List.{append_cancel_left}
-use Rattle.fts_disk.specs.Disk.{DiskState, IsTold}
 use Rattle.fts_tables.specs.Counts.{Rose}
-use Rattle.fts_tables.specs.Tables.{Tables}
 use Rattle.fts_tables.specs.History.{tables_of}
 use Rattle.fts_tables.specs.declared.commands.Entry.{Entry}
 use Rattle.fts_tables.specs.declared.commands.Command.{Command}
@@ -11,15 +9,16 @@ use Rattle.fts_tables.specs.declared.commands.Answer.{Answer}
 use Rattle.fts_turnstile.specs.declared.turn.Turn.{Turn}
 use Rattle.fts_turnstile.specs.History.{items_of, turn_of, AllName, AllNamed}
 use Rattle.fts_turnstile.specs.Passes.{PassView, IsSame, TookTurn, seen_list}
-use Rattle.fts_keep.specs.Keeps.{KeepData, IsKeep, used_of}
-use Rattle.fts_keep.specs.Applied.{Applied, KeepsList, applied_to, entry_by}
+use Rattle.fts_keep.specs.Keeps.{KeepData}
+use Rattle.fts_keep.specs.Applied.{Applied, applied_to, entry_by}
 use Rattle.fts_keep.specs.declared.fault.KeepFault.{KeepFault}
 use Rattle.fts_keep.specs.declared.fault.KeepFault.TheVariants.{Rule, DiskFailed, JournalFull, Damaged, Memory}
 use Rattle.fts_workers.specs.Rounds.{applied_over}
-use Rattle.fts_shop.specs.Shops.{ShopData, shop_entries, writer_of, shop_shows, faults_shown, lanes_shown, TakesTurn, point, shown_before, HasFault, IsToldList, CameTo, added_by, AnswersTo, TriedInTurn}
+use Rattle.fts_shop.specs.Shops.{ShopData, shop_entries, writer_of, shop_shows, faults_shown, lanes_shown, TakesTurn, point, HasFault, IsToldList, CameTo, added_by, TriedInTurn}
 use Rattle.fts_shop.specs.Within.{TriesIn}
 use Rattle.fts_shop.specs.Looked.{items_on}
 use Rattle.fts_shop.proofs.Answered.{answers_to}
+use Rattle.fts_disk.specs.declared.disk.Disk as disk
 
 -- one turn more, whose entries are of its writer
 pub named_more : (turns : List (Turn Entry)) (turn : Turn Entry) → AllNamed writer_of turns → AllName writer_of turn.number turn.items
@@ -32,19 +31,19 @@ pub some_more : (entries more : List Entry) → entries ≢ [] → entries ++ mo
 some_more [] more some = absurd (some refl)
 some_more (entry ∷ entries) more some = λ none. cc
 
-module _ {D : Type 0} (faults : D → ℕ) (work : ShopData D → ShopData D → Type 0) (old new : PassView Entry) (same : IsSame old new)
-    (took : TookTurn shop_entries writer_of (shop_shows faults) work old new) where
+module _ {D : Type 0} (disks : disk.Ghosts D) (work : ShopData D → ShopData D → Type 0) (old new : PassView Entry) (same : IsSame old new)
+    (took : TookTurn shop_entries writer_of (shop_shows disks) work old new) where
   -- the turn
   abbrev pub taken_of : TakesTurn old new
   taken_of = record {
     between = took.between;
-    turn = turn_of old.number took.added (shop_shows faults took.after);
+    turn = turn_of old.number took.added (shop_shows disks took.after);
     others = took.others;
     mine = refl;
     seen = took.seen;
     same = same;
     named = subst (λ turns. AllNamed writer_of turns) (sym took.seen)
-        (named_more (old.seen ++ took.between) (turn_of old.number took.added (shop_shows faults took.after)) took.all_named took.named);
+        (named_more (old.seen ++ took.between) (turn_of old.number took.added (shop_shows disks took.after)) took.all_named took.named);
   }
 
   -- the list that the turn left is what the pass has then seen
@@ -54,7 +53,7 @@ module _ {D : Type 0} (faults : D → ℕ) (work : ShopData D → ShopData D →
       ∙ append_assoc old.opening (items_of (old.seen ++ took.between)) took.added
       ∙ ap (λ list. old.opening ++ list)
       (ap (λ list. items_of (old.seen ++ took.between) ++ list) (sym (append-nil took.added))
-      ∙ sym (items_on (old.seen ++ took.between) (turn_of old.number took.added (shop_shows faults took.after) ∷ [])))
+      ∙ sym (items_on (old.seen ++ took.between) (turn_of old.number took.added (shop_shows disks took.after) ∷ [])))
       ∙ (λ i. sym same.1 i ++ items_of (sym took.seen i))
 
   -- where the list held an entry at the beginning, it holds one in the turn
@@ -66,8 +65,8 @@ module _ {D : Type 0} (faults : D → ℕ) (work : ShopData D → ShopData D →
   nothing_added is = append_cancel_left took.before.keep.entries took.added []
       (sym took.appended ∙ is ∙ sym (append-nil took.before.keep.entries))
 
-  module _ (state : D → DiskState) (command : Command) (answer : Result Answer KeepFault) (lanes : ℕ)
-      (tries : TriesIn state faults old.number command took.before took.after answer lanes) where
+  module _ (command : Command) (answer : Result Answer KeepFault) (lanes : ℕ)
+      (tries : TriesIn disks old.number command took.before took.after answer lanes) where
     abbrev entry : Entry
     entry = entry_by old.number command
 
@@ -78,10 +77,10 @@ module _ {D : Type 0} (faults : D → ℕ) (work : ShopData D → ShopData D →
         (λ i. applied_to (holds.folded i) (holds.fills i) entry) ∙ ap (λ list. applied_over list entry) took.began
 
     -- a rise of the disk's count is one that is shown
-    rose_shown : Rose (faults took.before.keep.disk) (faults took.after.keep.disk) → HasFault taken_of
-    rose_shown rose = subst (λ n. Rose n (faults took.after.keep.disk)) (ap faults_shown took.showed) rose
+    rose_shown : Rose (disks.faults took.before.keep.disk) (disks.faults took.after.keep.disk) → HasFault taken_of
+    rose_shown rose = subst (λ n. Rose n (disks.faults took.after.keep.disk)) (ap faults_shown took.showed) rose
 
-    came_to : (result : Result Answer KeepFault) → Applied state faults took.before.keep took.after.keep entry result → IsToldList old
+    came_to : (result : Result Answer KeepFault) → Applied disks.state disks.faults took.before.keep took.after.keep entry result → IsToldList old
         → CameTo (applied_over (point taken_of) entry) (HasFault taken_of) result
     came_to (Ok found) applied some = (took.after.keep.tables, sym (would_is some) ∙ applied.done)
     came_to (Err (Rule refusal)) applied some = sym (would_is some) ∙ applied.0
@@ -90,7 +89,7 @@ module _ {D : Type 0} (faults : D → ℕ) (work : ShopData D → ShopData D →
     came_to (Err Memory) applied some = tt
     came_to (Err (Damaged offset)) applied some = absurd applied
 
-    added_is : (result : Result Answer KeepFault) → Applied state faults took.before.keep took.after.keep entry result → IsToldList old
+    added_is : (result : Result Answer KeepFault) → Applied disks.state disks.faults took.before.keep took.after.keep entry result → IsToldList old
         → took.added ≡ added_by entry result
     added_is (Ok found) applied some =
         append_cancel_left took.before.keep.entries took.added (entry ∷ []) (sym took.appended ∙ (applied.listed (tries.told (some_met some))).0)
@@ -106,8 +105,8 @@ module _ {D : Type 0} (faults : D → ℕ) (work : ShopData D → ShopData D →
       taken = taken_of;
       came = came_to answer tries.applied;
       added = added_is answer tries.applied;
-      answers = answers_to state faults took.before.keep took.after.keep old.number command answer tries.applied;
-      cause = λ failed. rose_shown (subst (λ result. Applied state faults took.before.keep took.after.keep entry result) failed tries.applied).rose;
+      answers = answers_to disks took.before.keep took.after.keep old.number command answer tries.applied;
+      cause = λ failed. rose_shown (subst (λ result. Applied disks.state disks.faults took.before.keep took.after.keep entry result) failed tries.applied).rose;
       left = tries.left ∙ ap lanes_shown took.showed;
       stay = tries.stay ∙ ap lanes_shown took.showed;
     }

@@ -1,13 +1,12 @@
 -- Turns at a station, one more behind those before it.
-use Rattle.std.proofs.Common.{◌≡◌, refl, sym, subst, ℕ, zero, suc, List, Option, None}
+use Rattle.std.proofs.Common.{◌≡◌, sym, subst, ℕ, zero, suc, List, None}
 use Rattle.fts_tables.specs.declared.commands.Entry.{Entry}
-use Rattle.fts_store.specs.Calls.{Call}
-use Rattle.fts_store.specs.Store.{StoreState}
 use Rattle.fts_turnstile.specs.Passes.{PassView}
 use Rattle.fts_workers.specs.declared.held.Held.{Held}
 use Rattle.fts_shop.specs.Turns.{HandData, IsTurn}
 use Rattle.fts_shop.specs.Workers.{StationData, TakesOne, AreTurns, worker_end_of}
 use Rattle.fts_shop.specs.declared.ends.Turn.{Turn}
+use Rattle.fts_store.specs.declared.store.Store as store
 
 -- what a station has at a turn
 pub record IsAlike {E : Type 0} (one other : StationData E) : Type 0 where
@@ -15,17 +14,17 @@ pub record IsAlike {E : Type 0} (one other : StationData E) : Type 0 where
   pub held : one.held ≡ other.held
   pub pass : one.pass ≡ other.pass
 
-module _ {E : Type 0} (state : E → StoreState) (calls : E → Option (List Call)) (faults : E → ℕ) where
+module _ {E : Type 0} (stores : store.Ghosts E) where
   -- a turn from what is alike
-  turn_from : (one other new : StationData E) (end : Turn) → IsAlike one other → TakesOne state calls faults other new end
-      → TakesOne state calls faults one new end
+  turn_from : (one other new : StationData E) (end : Turn) → IsAlike one other → TakesOne stores other new end
+      → TakesOne stores one new end
   turn_from one other new end alike takes =
-      subst (λ (p : PassView Entry). IsTurn state calls faults p new.pass one.hand new.hand one.held end new.held) (sym alike.pass)
-      (subst (λ (h : HandData E). IsTurn state calls faults other.pass new.pass h new.hand one.held end new.held) (sym alike.hand)
-      (subst (λ (hs : List Held). IsTurn state calls faults other.pass new.pass other.hand new.hand hs end new.held) (sym alike.held) takes))
+      subst (λ (p : PassView Entry). IsTurn stores p new.pass one.hand new.hand one.held end new.held) (sym alike.pass)
+      (subst (λ (h : HandData E). IsTurn stores other.pass new.pass h new.hand one.held end new.held) (sym alike.hand)
+      (subst (λ (hs : List Held). IsTurn stores other.pass new.pass other.hand new.hand hs end new.held) (sym alike.held) takes))
 
-  pub turns_more : (more : ℕ) (old next after new : StationData E) (end : Turn) → AreTurns state calls faults more old next
-      → TakesOne state calls faults next after end → worker_end_of end ≡ None → IsAlike after new → AreTurns state calls faults (suc more) old new
+  pub turns_more : (more : ℕ) (old next after new : StationData E) (end : Turn) → AreTurns stores more old next
+      → TakesOne stores next after end → worker_end_of end ≡ None → IsAlike after new → AreTurns stores (suc more) old new
   turns_more zero old next after new end turns takes on alike =
       let first = turn_from old next after end (record { hand = turns.0; held = turns.1; pass = turns.2 }) takes in
       (after, end, (first, (on, (alike.hand, alike.held, alike.pass))))

@@ -18,6 +18,7 @@ use Rattle.fts_keep.specs.Applied.{Applies, entry_by}
 use Rattle.fts_keep.specs.declared.fault.KeepFault.{KeepFault}
 use Rattle.fts_keep.specs.declared.fault.KeepFault.TheVariants.{Rule, DiskFailed, JournalFull, Damaged, Memory}
 use Rattle.fts_workers.specs.Rounds.{applied_over}
+use Rattle.fts_disk.specs.declared.disk.Disk as disk
 
 -- what contracts see of a shop: a keep, and how many lanes are left
 pub record ShopData (D : Type 0) : Type 0 where
@@ -41,8 +42,8 @@ abbrev pub writer_of : Entry → ℕ
 writer_of entry = entry.writer
 
 -- what a shop shows besides: its disk's count of faults, and the lanes left
-abbrev pub shop_shows : {D : Type 0} → (D → ℕ) → ShopData D → List ℕ
-shop_shows faults shop = faults shop.keep.disk ∷ shop.lanes ∷ []
+abbrev pub shop_shows : {D : Type 0} → disk.Ghosts D → ShopData D → List ℕ
+shop_shows disks shop = disks.faults shop.keep.disk ∷ shop.lanes ∷ []
 
 -- the count of faults that is shown
 abbrev pub faults_shown : List ℕ → ℕ

@@ -10,8 +10,6 @@ use Rattle.fts_tables.specs.declared.rows.FileState.{FileState}
 use Rattle.fts_tables.specs.declared.rows.FileState.TheVariants as state
 use Rattle.fts_tables.specs.declared.rows.Outcome.{Outcome}
 use Rattle.fts_tables.specs.declared.rows.Outcome.TheVariants.{Verified, SourceMissing, DestinationExists, SourceSize, SourceDigest, ReadBackDiffers, StoreFailed, Stopped}
-use Rattle.fts_store.specs.Calls.{Call}
-use Rattle.fts_store.specs.Store.{StoreState}
 use Rattle.fts_copy.specs.Copy.{Order}
 use Rattle.fts_copy.specs.Watch.{pieces}
 use Rattle.fts_turnstile.specs.declared.turn.Turn.{Turn}
@@ -27,6 +25,9 @@ use Rattle.fts_shop.specs.Shops.{IsToldList, TriedInTurn}
 use Rattle.fts_shop.specs.Looking.{looks_in, Unasked, LeaveLanes, NoneOf}
 use Rattle.fts_shop.specs.declared.ends.Turn.{Turn as TurnEnd}
 use Rattle.fts_shop.specs.declared.ends.Turn.TheVariants as turn_ends
+use Rattle.fts_store.specs.declared.store.Store as store
+use Rattle.fts_tables.specs.declared.clock.Clock as clock
+use Rattle.fts_tables.specs.declared.words.Words as words
 
 -- what a bench holds between two turns: one file at most, whose copy has ended
 abbrev pub IsReady : List Held → Type 0
@@ -46,7 +47,7 @@ IsLookedAfter StoreFailed looks unasked = Unit {0}
 IsLookedAfter Stopped looks unasked = Unit {0}
 
 -- a copy outside every turn, with looks in turns of its own
-pub record Copies {E : Type 0} (state : E → StoreState) (calls : E → Option (List Call)) (faults : E → ℕ) (old new : PassView Entry) (store after : E)
+pub record Copies {E : Type 0} (stores : store.Ghosts E) (old new : PassView Entry) (store after : E)
     (file : ℕ) (outcome : Outcome) : Type 0 where
   pub same : IsSame old new
   pub since : List (Turn Entry)
@@ -54,9 +55,10 @@ pub record Copies {E : Type 0} (state : E → StoreState) (calls : E → Option 
   pub only_looks : own_items new ≡ own_items old
   pub others : NoneOf old.number (items_of since)
   pub lanes : LeaveLanes old.number (shown_after old.opening_shows old.seen) since
-  -- the store's calls are those of the copy of an order, over every store and every disk; over a told list it is the order of the file's row
+  -- the store's calls are those of the copy of an order, with the removal of its part behind one that wasn't verified, over every store and every
+  -- disk; over a told list it is the order of the file's row
   pub order : Order
-  pub made : IsCopied (state store) (state after) (calls store) (calls after) (faults store) (faults after) (record { order = order; outcome = outcome })
+  pub made : IsCopied (stores.state store) (stores.state after) (stores.calls store) (stores.calls after) (stores.faults store) (stores.faults after) (record { order = order; outcome = outcome })
   pub of_file : IsToldList old → copies_of_file (tables_of (seen_list old)) file outcome ≡ record { order = order; outcome = outcome } ∷ []
   pub looked : IsToldList old → IsLookedAfter outcome (looks_in old.number since) (Unasked old.number file (seen_list old) since)
   pub stopped : IsToldList old → outcome ≡ Stopped → is_cancel_asked (tables_of (seen_list new)) file ≡ true
@@ -136,19 +138,19 @@ pub record HandData (E : Type 0) : Type 0 where
   pub words : Option Coming
 
 -- the same of a hand, by what its clock and its words tell
-abbrev pub hand_data : {E C W : Type 0} → (C → Option Coming) → (W → Option Coming) → Hand E C W → HandData E
-hand_data moments words hand = record { store = hand.store; moments = moments hand.clock; words = words hand.words }
+abbrev pub hand_data : {E C W : Type 0} → clock.Ghosts C → words.Ghosts W → Hand E C W → HandData E
+hand_data clocks draws hand = record { store = hand.store; moments = clocks.moments hand.clock; words = draws.words hand.words }
 
 -- a claimed file as the bench holds it once its copy has ended
 abbrev pub held_with : ℕ → ℕ → Outcome → Held
 held_with file attempt outcome = record { file = file; attempt = attempt; outcome = Some outcome }
 
-module _ {E : Type 0} (store_state : E → StoreState) (store_calls : E → Option (List Call)) (store_faults : E → ℕ) where
+module _ {E : Type 0} (stores : store.Ghosts E) where
   -- a claimed file was copied, and its report tried
   pub record WorksOn (old new : PassView Entry) (hand after : HandData E) (file attempt : ℕ) (end : TurnEnd) (left : List Held) : Type 0 where
     pub outcome : Outcome
     pub between : PassView Entry
-    pub copied : Copies store_state store_calls store_faults old between hand.store after.store file outcome
+    pub copied : Copies stores old between hand.store after.store file outcome
     pub words : after.words ≡ hand.words
     pub reported : ReportTurn between new hand.moments after.moments (held_with file attempt outcome) outcome end left
 

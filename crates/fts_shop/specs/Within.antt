@@ -1,7 +1,7 @@
 -- What is done to a shop within one turn.
-use Rattle.std.specs.Prelude.{◌≡◌, ◌≢◌, ℕ, Bool, false, List, [], Option, None, IsSome, option_map, Result, Ok, Err}
+use Rattle.std.specs.Prelude.{◌≡◌, ◌≢◌, ℕ, Bool, false, [], Option, None, IsSome, option_map, Result, Ok, Err}
 use Rattle.std.specs.Option.{option_map_or}
-use Rattle.fts_disk.specs.Disk.{DiskState, IsTold}
+use Rattle.fts_disk.specs.Disk.{IsTold}
 use Rattle.fts_tables.specs.Tables.{Tables, row_at}
 use Rattle.fts_tables.specs.declared.commands.Command.{Command}
 use Rattle.fts_tables.specs.declared.commands.Answer.{Answer}
@@ -13,16 +13,17 @@ use Rattle.fts_keep.specs.Applied.{Applied, entry_by}
 use Rattle.fts_keep.specs.declared.fault.KeepFault.{KeepFault}
 use Rattle.fts_workers.specs.Copies.{order_in}
 use Rattle.fts_shop.specs.Shops.{ShopData, shop_entries, writer_of}
+use Rattle.fts_disk.specs.declared.disk.Disk as disk
 
 -- a command of a writer was tried: what it came to, by its answer, what it added, and the lanes left, which stay
-pub record TriesIn {D : Type 0} (state : D → DiskState) (faults : D → ℕ) (writer : ℕ) (command : Command) (old new : ShopData D)
+pub record TriesIn {D : Type 0} (disks : disk.Ghosts D) (writer : ℕ) (command : Command) (old new : ShopData D)
     (answer : Result Answer KeepFault) (lanes : ℕ) : Type 0 where
   -- what a keep's type keeps, and that only over a disk that tells its contents entries are seen
-  pub kept : IsKeep state old.keep
-  pub told : old.keep.entries ≢ [] → IsTold (state old.keep.disk)
-  pub keeps : IsKeep state new.keep
-  pub still_told : new.keep.entries ≢ [] → IsTold (state new.keep.disk)
-  pub applied : Applied state faults old.keep new.keep (entry_by writer command) answer
+  pub kept : IsKeep disks.state old.keep
+  pub told : old.keep.entries ≢ [] → IsTold (disks.state old.keep.disk)
+  pub keeps : IsKeep disks.state new.keep
+  pub still_told : new.keep.entries ≢ [] → IsTold (disks.state new.keep.disk)
+  pub applied : Applied disks.state disks.faults old.keep new.keep (entry_by writer command) answer
   pub appends : Appends shop_entries writer_of writer old new
   pub left : lanes ≡ old.lanes
   pub stay : new.lanes ≡ old.lanes
@@ -52,8 +53,8 @@ abbrev pub is_cancel_asked : Tables → ℕ → Bool
 is_cancel_asked tables file = option_map_or (λ row. row.cancel_asked) (row_at tables.rows file) false
 
 -- a look whether cancel was asked of a file, which changes nothing
-pub record IsLookIn {D : Type 0} (state : D → DiskState) (file : ℕ) (old new : ShopData D) (asked : Bool) : Type 0 where
-  pub kept : IsKeep state old.keep
-  pub told : old.keep.entries ≢ [] → IsTold (state old.keep.disk)
+pub record IsLookIn {D : Type 0} (disks : disk.Ghosts D) (file : ℕ) (old new : ShopData D) (asked : Bool) : Type 0 where
+  pub kept : IsKeep disks.state old.keep
+  pub told : old.keep.entries ≢ [] → IsTold (disks.state old.keep.disk)
   pub same : new ≡ old
   pub is : asked ≡ is_cancel_asked old.keep.tables file

@@ -1,8 +1,5 @@
 -- What a worker does at its station: turns, until one says that no lane is left and nothing is eligible, or ends by a fault with no lane left.
 use Rattle.std.specs.Prelude.{◌≡◌, ℕ, zero, suc, Bool, true, false, List, [], ◌∷◌, Option, Some, None, IsSome}
-use Rattle.fts_tables.specs.Coming.{Coming}
-use Rattle.fts_store.specs.Calls.{Call}
-use Rattle.fts_store.specs.Store.{StoreState}
 use Rattle.fts_tables.specs.declared.commands.Entry.{Entry}
 use Rattle.fts_turnstile.specs.Passes.{PassView, IsSame}
 use Rattle.fts_workers.specs.declared.held.Held.{Held}
@@ -12,6 +9,9 @@ use Rattle.fts_shop.specs.declared.ends.Turn.TheVariants as turn_ends
 use Rattle.fts_shop.specs.declared.ends.WorkerEnd.{WorkerEnd}
 use Rattle.fts_shop.specs.declared.ends.WorkerEnd.TheVariants as worker_ends
 use Rattle.fts_shop.specs.declared.station.Station.{Station}
+use Rattle.fts_store.specs.declared.store.Store as store
+use Rattle.fts_tables.specs.declared.clock.Clock as clock
+use Rattle.fts_tables.specs.declared.words.Words as words
 
 -- what contracts see of a station
 pub record StationData (E : Type 0) : Type 0 where
@@ -22,9 +22,9 @@ pub record StationData (E : Type 0) : Type 0 where
   pub end : Option WorkerEnd
 
 -- the same of a station, by what its clock and its words tell
-abbrev pub station_data : {D E C W : Type 0} → (C → Option Coming) → (W → Option Coming) → Station D E C W → StationData E
-station_data moments words station = record {
-  hand = hand_data moments words station.hand;
+abbrev pub station_data : {D E C W : Type 0} → clock.Ghosts C → words.Ghosts W → Station D E C W → StationData E
+station_data clocks draws station = record {
+  hand = hand_data clocks draws station.hand;
   held = station.bench.held;
   places = station.bench.places;
   pass = station.pass;
@@ -62,10 +62,10 @@ is_restful (turn_ends.DiskFailed lanes) = true
 is_restful (turn_ends.JournalFull used lanes) = true
 is_restful (turn_ends.Memory lanes) = true
 
-module _ {E : Type 0} (state : E → StoreState) (calls : E → Option (List Call)) (faults : E → ℕ) where
+module _ {E : Type 0} (stores : store.Ghosts E) where
   -- one turn at a station
   abbrev pub TakesOne : StationData E → StationData E → TurnEnd → Type 0
-  TakesOne old new end = IsTurn state calls faults old.pass new.pass old.hand new.hand old.held end new.held
+  TakesOne old new end = IsTurn stores old.pass new.pass old.hand new.hand old.held end new.held
 
   -- turns, one after the other, after none of which a worker ends
   abbrev pub AreTurns : ℕ → StationData E → StationData E → Type 0

@@ -39,7 +39,7 @@ impl<D: Disk> Logged for Shop<D> {
 
     ghost names = { writer_of };
 
-    ghost shows = { shop_shows D.faults };
+    ghost shows = { shop_shows D.Disk };
 }
 
 impl<D: Disk> Shop<D> {

@@ -39,7 +39,7 @@ pub struct ClaimTried {
 /// Tries a command of a writer.
 pub fn try_in<D: Disk>(shop: &mut Shop<D>, writer: u32, command: Command) -> Tried
     requires priority { IsTrue (has_priority command) }
-    ensures { TriesIn D.state D.faults writer command shop.old shop.new result.answer result.lanes }
+    ensures { TriesIn D.Disk writer command shop.old shop.new result.answer result.lanes }
 {
     let lanes = shop.lanes();
     let keep = shop.keep();
@@ -51,7 +51,7 @@ pub fn try_in<D: Disk>(shop: &mut Shop<D>, writer: u32, command: Command) -> Tri
 
 /// Tries a claim of a writer, and brings the order of the claimed file's copy.
 pub fn claim_in<D: Disk>(shop: &mut Shop<D>, writer: u32, now: u64, word: u64) -> ClaimTried
-    ensures tries { TriesIn D.state D.faults writer (ClaimAt now word) shop.old shop.new result.answer result.lanes }
+    ensures tries { TriesIn D.Disk writer (ClaimAt now word) shop.old shop.new result.answer result.lanes }
     ensures order { result.order ≡ order_claimed shop.new.keep.tables result.answer }
     ensures some { HasOrder result.answer result.order }
     ensures inside { IfSome result.order StaysInside }
@@ -72,7 +72,7 @@ pub fn claim_in<D: Disk>(shop: &mut Shop<D>, writer: u32, now: u64, word: u64) -
 
 /// Looks whether cancel was asked of a file.
 pub fn look_in<D: Disk>(shop: &mut Shop<D>, file: u32) -> bool
-    ensures { IsLookIn D.state file shop.old shop.new result }
+    ensures { IsLookIn D.Disk file shop.old shop.new result }
 {
     match row_of_file(shop.keep().desk(), file) {
         Some(row) => row.cancel_asked,

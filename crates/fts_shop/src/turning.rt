@@ -1,6 +1,7 @@
 //! A turn of a worker: a file that is held from before is reported first; else one is claimed, copied outside every turn, and reported.
 //! Keeps: the bench holds one file at most, whose copy has ended (`IsReady`).
-//! Order: a claim in one turn of the lock, the gate, the copy with its looks, each in a turn of its own, and the report in one turn.
+//! Order: a claim in one turn of the lock, the gate, the copy with its looks, each in a turn of its own, the removal of its part where it wasn't
+//! verified, and the report in one turn.
 //! What a turn is, by its commands, their answers and its end, is `IsTurn` of `specs/Turns.antt`. Called by `worker`, again and again.
 ghost use Rattle.std.specs.Prelude.{◌≡◌, ◌≢◌, [], Some, Ok, option_map};
 ghost use Rattle.fts_tables.specs.History.{tables_of};
@@ -67,7 +68,8 @@ fn size_fits(outcome: Outcome)
     }
 }
 
-// Copies an order outside every turn, and looks in turns of the pass whether its file is still wanted.
+// Copies an order outside every turn, and looks in turns of the pass whether its file is still wanted. Behind the copy its part is removed,
+// where it wasn't verified, outside every turn too.
 fn copy_order<D: Disk, E: Store, R: Wait>(
     rt: &R,
     shop: &Turnstile<Shop<D>>,
@@ -81,7 +83,7 @@ fn copy_order<D: Disk, E: Store, R: Wait>(
     requires inside { StaysInside order }
     ensures same { IsSame pass.old pass.new }
     ensures bench { bench.new ≡ bench.old }
-    ensures copies { CopiesOrder E.state E.calls E.faults pass.old pass.new store.old store.new file order result }
+    ensures copies { CopiesOrder E.Store pass.old pass.new store.old store.new file order result }
 {
     let mut watch = ShopWatch {
         rt,
@@ -142,7 +144,7 @@ fn work_on<D: Disk, E: Store, C: Clock, W: Words, R: Wait>(
     requires inside { StaysInside claimed.order }
     requires order { IsToldList pass.old
         → Some claimed.order ≡ option_map (order_in (tables_of (seen_list pass.old))) (row_at (tables_of (seen_list pass.old)).rows claimed.file) }
-    ensures works { WorksOn E.state E.calls E.faults pass.old pass.new (hand_data C.moments W.words hand.old) (hand_data C.moments W.words hand.new)
+    ensures works { WorksOn E.Store pass.old pass.new (hand_data C.Clock W.Words hand.old) (hand_data C.Clock W.Words hand.new)
         claimed.file claimed.attempt result bench.new.held }
     ensures same { IsSame pass.old pass.new }
     ensures places { bench.new.places ≡ bench.old.places }
@@ -178,7 +180,7 @@ pub fn turn<D: Disk, E: Store, C: Clock, W: Words, G: Gate, R: Wait>(
 ) -> Turn
     requires own { IsOf shop.now pass.old }
     requires ready { IsReady bench.old.held }
-    ensures turn { IsTurn E.state E.calls E.faults pass.old pass.new (hand_data C.moments W.words hand.old) (hand_data C.moments W.words hand.new)
+    ensures turn { IsTurn E.Store pass.old pass.new (hand_data C.Clock W.Words hand.old) (hand_data C.Clock W.Words hand.new)
         bench.old.held result bench.new.held }
     ensures same { IsSame pass.old pass.new }
     ensures places { bench.new.places ≡ bench.old.places }

@@ -76,7 +76,7 @@ pub fn worker<D: Disk, E: Store, C: Clock, W: Words, G: Gate, R: Wait>(
 )
     requires own { IsOf shop.now station.old.pass }
     requires ready { IsReady station.old.bench.held }
-    ensures { WorkerDone E.state E.calls E.faults (station_data C.moments W.words station.old) (station_data C.moments W.words station.new) }
+    ensures { WorkerDone E.Store (station_data C.Clock W.Words station.old) (station_data C.Clock W.Words station.new) }
 {
     for _ in rt.forever() {
         let end = turn(
@@ -115,7 +115,7 @@ impl<'a, D: Disk, E: Store, C: Clock, W: Words, G: Gate> Work<Floor<'a, D, G>, S
 
     ghost ready = { λ floor station. IsOf floor.shop.now station.pass × IsReady station.bench.held };
 
-    ghost done = { λ floor old new. WorkerDone E.state E.calls E.faults (station_data C.moments W.words old) (station_data C.moments W.words new) };
+    ghost done = { λ floor old new. WorkerDone E.Store (station_data C.Clock W.Words old) (station_data C.Clock W.Words new) };
 
     fn work<R: Wait>(rt: &R, shared: &Floor<'a, D, G>, job: &mut Station<D, E, C, W>) {
         worker(rt, shared.shop, job, shared.gate);
@@ -132,7 +132,7 @@ pub fn run_workers<
     R: Threads + Wait + Sync,
 >(rt: &R, shop: &Turnstile<Shop<D>>, stations: &mut [Station<D, E, C, W>], gate: &G)
     requires { All (λ station. IsOf shop.now station.pass × IsReady station.bench.held) stations.old }
-    ensures { Each (λ old new. WorkerDone E.state E.calls E.faults (station_data C.moments W.words old) (station_data C.moments W.words new))
+    ensures { Each (λ old new. WorkerDone E.Store (station_data C.Clock W.Words old) (station_data C.Clock W.Words new))
         stations.old stations.new }
 {
     let floor = Floor { shop, gate };

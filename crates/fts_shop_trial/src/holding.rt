@@ -28,6 +28,11 @@ impl Raised {
         self.count.fetch_add(1, Ordering::SeqCst);
     }
 
+    /// How often it was raised.
+    pub fn count(&self) -> u64 {
+        self.count.load(Ordering::SeqCst)
+    }
+
     /// Whether it was raised.
     pub fn is_raised(&self) -> bool {
         self.count.load(Ordering::SeqCst) > 0

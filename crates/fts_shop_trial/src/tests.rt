@@ -55,6 +55,7 @@ fn each_copied_one(
 struct Seen {
     finished: usize,
     each: bool,
+    begun: u64,
     late: bool,
 }
 
@@ -80,10 +81,12 @@ fn two_workers<R: Threads + Wait + Sync>(rt: &R, alloc: Global) -> Result<Seen, 
         |shop: &mut Shop<MemoryDisk>| rows_in(shop, FileState::Finished),
     );
     let each = each_copied_one(&mut stations);
+    let begun = gate.begun.count();
     let late = gate.late.is_raised();
     Ok(Seen {
         finished,
         each,
+        begun,
         late,
     })
 }
@@ -95,6 +98,7 @@ fn two_workers_copy_a_file_each_at_once(rt: HostRuntime) -> Result<(), Fail> {
         seen.finished == 2,
         "both files are FINISHED at their first attempt"
     );
+    assert!(rt; seen.begun == 2, "the gate was told twice");
     assert!(rt;
         seen.each,
         "each worker drained, and its store holds one of them"
@@ -146,6 +150,16 @@ struct Stopped {
     accepted: bool,
     canceled: usize,
     copied: usize,
+    has_part: bool,
+}
+
+/// Whether a store holds the part of file 1, or doesn't say.
+fn has_part(store: &mut MemoryStore) -> bool {
+    let at = PlaceRef {
+        endpoint: "https://b.example",
+        path: ".fts/part-1",
+    };
+    store.size(at) != Ok(None)
 }
 
 /// A worker on one file, and beside it a cancellation of its job.
@@ -168,10 +182,12 @@ fn cancelled<R: Threads + Wait + Sync>(rt: &R, alloc: Global) -> Result<Stopped,
         |shop: &mut Shop<MemoryDisk>| rows_in(shop, FileState::Canceled),
     );
     let copied = copied(&mut station.hand.store.inner);
+    let has_part = has_part(&mut station.hand.store.inner);
     Ok(Stopped {
         accepted,
         canceled,
         copied,
+        has_part,
     })
 }
 
@@ -182,6 +198,10 @@ fn a_cancellation_stops_a_copy_that_runs(rt: HostRuntime) -> Result<(), Fail> {
     assert!(rt;
         stopped.canceled == 1 && stopped.copied == 0,
         "the file is CANCELED, and its destination absent"
+    );
+    assert!(rt;
+        !stopped.has_part,
+        "the part of the copy that was stopped is gone"
     );
     Ok(())
 }

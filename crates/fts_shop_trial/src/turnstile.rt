@@ -5,9 +5,13 @@ ghost use Rattle.fts_turnstile.specs.Passes.{IsOf, IsSame, own_items, first_pass
 
 use fts_turnstile::{Logged, Memory, Pass, Turnstile};
 use std::alloc::{AllocError, Global};
+use std::io;
+use std::rt::Clock;
 use std::sync::Wait;
+use std::sync::atomic::{AtomicBool, Ordering};
 use std::test::Fail;
-use std::thread::{Threads, for_each_mut, join_mut};
+use std::thread::{Threads, for_each_mut, join_mut, sleep, yield_now};
+use std::time::{CpuClock, Duration};
 
 const LANES: usize = 24;
 
@@ -144,6 +148,72 @@ fn each_of_24_threads_adds_its_items_in_order(rt: HostRuntime) -> Result<(), Fai
         |counts: &mut Counts| counts.lanes_counted_to(20),
     );
     assert!(rt; whole, "each pass from 1 on counted to 20");
+    Ok(())
+}
+
+/// Says that it has the turn, and keeps it so long.
+fn keep_turn<R: Wait + Clock>(
+    rt: &R,
+    lock: &Turnstile<Counts>,
+    pass: &mut Pass<Counts>,
+    is_kept: &AtomicBool,
+    length: Duration,
+)
+    requires { IsOf lock.now pass.old }
+    ensures { IsSame pass.old pass.new }
+{
+    lock.with_turn(rt, pass, |_: &mut Counts| {
+        is_kept.store(true, Ordering::SeqCst);
+        sleep(rt, length);
+    });
+}
+
+/// Takes a turn once another has it, and says how much time of a processor that took.
+fn wait_behind<R: Wait + CpuClock>(
+    rt: &R,
+    lock: &Turnstile<Counts>,
+    pass: &mut Pass<Counts>,
+    is_kept: &AtomicBool,
+) -> io::Result<Duration>
+    requires { IsOf lock.now pass.old }
+    ensures { IsSame pass.old pass.new }
+{
+    for _ in rt.forever() {
+        if is_kept.load(Ordering::SeqCst) {
+            break;
+        }
+        yield_now();
+    }
+    let start = rt.thread_cpu_time()?;
+    count_up(rt, lock, pass, 1);
+    Ok(rt.thread_cpu_time()?.saturating_sub(start))
+}
+
+/// The time of a processor that a turn takes which waits for another one, of so long.
+fn wait_for_turn<R: Threads + Wait + Sync + Clock + CpuClock>(
+    rt: &R,
+    alloc: Global,
+    length: Duration,
+) -> Result<io::Result<Duration>, Memory> {
+    let (lock, mut first) = new_lock(alloc)?;
+    let mut second = lock.split(&mut first);
+    let is_kept = AtomicBool::new(false);
+    let mut took = Ok(Duration::ZERO);
+    join_mut(
+        rt,
+        &mut || keep_turn(rt, &lock, &mut first, &is_kept, length),
+        &mut || took = wait_behind(rt, &lock, &mut second, &is_kept),
+    );
+    Ok(took)
+}
+
+#[test]
+fn a_pass_that_waits_takes_next_to_no_time_of_a_processor(rt: HostRuntime) -> Result<(), Fail> {
+    let took = wait_for_turn(&rt, rt.alloc(), Duration::from_secs(5))??;
+    assert!(rt;
+        took < Duration::from_secs(1),
+        "it sleeps behind some looks, where the other has its turn for five seconds"
+    );
     Ok(())
 }
 

@@ -1,3 +1,11 @@
 mod Places
+mod Letters
+mod Above
+mod Prefixes
+mod Moved
+mod Metings
+mod Sweepings
+mod Lookings
+mod Counted
 mod Entries
 mod Appends

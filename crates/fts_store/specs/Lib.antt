@@ -3,3 +3,9 @@ pub mod Calls
 pub mod Held
 pub mod Memory
 pub mod Folder
+pub mod Paths
+pub mod Folders
+pub mod Opened
+pub mod FolderCalls
+pub mod Sweep
+pub mod Meeting

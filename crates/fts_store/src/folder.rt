@@ -1,244 +1,154 @@
-//! The real store: files in folders. It tells nothing of its files.
+//! The real store: files in folders, by the calls of a file system. It tells nothing of its files.
 //! An endpoint's files lie in the folder of its name, each slash of which is a comma, below the store's own folder (`stays_inside`).
 //! Where there is no such name, or a part of the path is a file, there is no file. A folder in a file's place, a full device, a name that
-//! is too long and any other error of the system is a failed call, and counted. A file that finds no room is emptied.
-//! Order of a rename: the file's data synced, the folders opened that are to be synced, the file moved, these folders synced.
-//! A file that is made is a new one: what had its name loses it. One that is moved to where the last look found nothing replaces nothing.
-//! At most two files are open: one that is read and one that is written, which is read by the same handle. A look at a size lets both go.
-ghost use Rattle.std.specs.Prelude.{◌≡◌, ◌≤◌, false, length, IsErr, IfOk};
+//! is too long and any other error of the system is a failed call, and counted.
+//! A file that is made is the open part: new, locked until it is moved or let go, and the only one that gets bytes or is moved. What had its
+//! name loses it, unless another run holds it. It is moved as `OpenPart` does, to where the last look found nothing without replacing anything.
+//! At most two files are open: one that is read, and the part. A look at a size lets both go, and so does a move.
+ghost use Rattle.std.specs.Prelude.{◌≡◌, ◌+◌, ◌≤◌, ℕ, List, length, take, option_map, IsErr, IfOk, OnOk, OnErr};
+ghost use Rattle.fts_files.specs.Reading.{reads_once};
+ghost use Rattle.fts_files.specs.Script.{Script, LeadsTo, either, fails};
+ghost use Rattle.fts_store.specs.FolderCalls.{with_opened, with_part, part_end, part_handle, takes_away};
 ghost use Rattle.fts_tables.specs.Counts.{CountsFaults};
 ghost use Rattle.fts_store.specs.Store.{place_at};
-ghost use Rattle.fts_store.specs.Folder.{stays_inside};
+ghost use Rattle.fts_store.specs.Opened.{is_free, is_open_at};
 
-use crate::inside::{failed, folder_of, path_of, stays_inside};
+use crate::folders::{Met, forget, have_all, meet, remember, to_meet, to_sync};
+use crate::inside::{folders_of, is_among_parts, path_of, stays_inside};
+use crate::meeting::meet_all;
+use crate::sweep::sweep;
 use crate::{Store, StoreFailed};
+use fts_files::{
+    FileSystem, OpenPart, SystemFiles, open_source, read_some, remove, remove_part, size,
+};
 use fts_tables::PlaceRef;
-use std::alloc::Global;
-use std::fs::{self, File, Files, OpenOptions};
-use std::io::{self, Write};
-use std::os::fd::AsRawFd;
-use std::os::unix::fs::FileExt;
+use std::alloc::{AllocError, Global};
+use std::fs::{File, Files};
 
-/// How often a read that was interrupted is tried.
-const READ_TRIES: u32 = 1_000;
-
-/// The folders whose names are known to be stable, at most.
-const MAX_STABLE_FOLDERS: usize = 256;
-
-/// An open file, and the place that it lies at.
+/// What is open, and the place that it lies at.
 #[derive(Drop)]
-struct Opened {
+struct Opened<T: Drop> {
     endpoint: String,
     path: String,
-    file: File,
+    file: T,
 }
 
 /// Files in folders.
-pub struct FolderStore<R> {
-    rt: R,
+#[derive(Drop)]
+pub struct FolderStore<F: FileSystem + Drop> {
+    files: F,
     alloc: Global,
     root: String,
-    reading: Option<Opened>,
-    writing: Option<Opened>,
-    /// Where the last look that found a file found it.
-    found: Option<String>,
+    reading: Option<Opened<F::Handle>>,
+    /// The open part.
+    writing: Option<Opened<OpenPart<F::Handle>>>,
     /// Where the last look found nothing.
     free: Option<String>,
     /// Folders whose names, and those of the folders above them, are stable.
     stable: Vec<String>,
+    /// The endpoints' own folders, as they were first met.
+    met: Vec<Met>,
     pub(crate) faults: u64,
 }
 
-impl<R: Drop> Drop for FolderStore<R> {
-    fn drop(self) {
-        let FolderStore {
-            rt: _,
-            alloc: _,
-            root: _,
-            reading: _,
-            writing: _,
-            found: _,
-            free: _,
-            stable: _,
-            faults: _,
-        } = self;
-    }
-}
-
-fn is_path(known: &Option<String>, path: &str) -> bool {
+fn is_free(known: &Option<String>, path: &str) -> bool
+    ensures { result ≡ is_free known.now path.now }
+{
     match known {
         Some(known) => known.as_str() == path,
         None => false,
     }
 }
 
-// A file of no bytes that wasn't there.
-fn create_new<R: Files<File = File>>(rt: &R, path: &str) -> io::Result<File> {
-    OpenOptions::new()
-        .read(true)
-        .write(true)
-        .create_new(true)
-        .open(rt, path)
-}
+impl<T: Drop> Opened<T> {
+    ghost use Rattle.std.specs.Prelude.{◌≡◌};
+    ghost use Rattle.fts_store.specs.Store.{place_at};
+    ghost use Rattle.fts_store.specs.Opened.{is_opened_at};
 
-// A file of no bytes in place of what has its name, which isn't followed.
-fn create_anew<R: Files<File = File>>(rt: &R, path: &str) -> io::Result<File> {
-    match create_new(rt, path) {
-        Err(error) if error.kind() == io::ErrorKind::AlreadyExists => {
-            fs::remove_file(rt, path)?;
-            create_new(rt, path)
-        }
-        Err(error) if error.kind() == io::ErrorKind::NotFound => {
-            fs::create_dir_all(rt, folder_of(path))?;
-            create_new(rt, path)
-        }
-        answer => answer,
-    }
-}
-
-// Moves a file to where nothing is: the name is made only where there is none. A file system that has no second names is asked just before.
-fn move_to_free<R: Files<File = File>>(rt: &R, old: &str, new: &str) -> io::Result<()> {
-    match fs::hard_link(rt, old, new) {
-        Ok(()) => fs::remove_file(rt, old),
-        Err(error) => match error.kind() {
-            io::ErrorKind::PermissionDenied | io::ErrorKind::Unsupported => {
-                if fs::exists(rt, new)? {
-                    return failed(io::ErrorKind::AlreadyExists);
-                }
-                fs::rename(rt, old, new)
-            }
-            _ => Err(error),
-        },
-    }
-}
-
-// Reads again where a signal interrupted a read.
-fn read_some(file: &File, offset: u64, into: &mut [u8]) -> io::Result<usize>
-    ensures { IfOk result (λ count. count ≤ length into.new) }
-{
-    for _ in 0..READ_TRIES {
-        match file.read_at(into, offset) {
-            Err(error) if error.kind() == io::ErrorKind::Interrupted => {}
-            answer => return answer,
-        }
-    }
-    failed(io::ErrorKind::Interrupted)
-}
-
-// A file that finds no room lets go of what it has.
-fn unless_full(file: &File, answer: io::Result<()>) -> io::Result<()> {
-    if let Err(error) = &answer {
-        if matches!(
-            error.kind(),
-            io::ErrorKind::StorageFull | io::ErrorKind::QuotaExceeded
-        ) {
-            let _emptied = file.set_len(0);
-        }
-    }
-    answer
-}
-
-// What is printed to a standard stream that was closed must not land in the file.
-fn above_streams(file: File) -> io::Result<File> {
-    if file.as_raw_fd() > 2 {
-        Ok(file)
-    } else {
-        file.try_clone()
-    }
-}
-
-fn is_stable(stable: &[String], folder: &str) -> bool {
-    stable.iter().any(|known| known.as_str() == folder)
-}
-
-// The folder is there. Where only its own name was missing, that one isn't known to be stable any more; where one above it was, none is.
-fn open_folder<R: Files<File = File>>(
-    rt: &R,
-    stable: &mut Vec<String>,
-    folder: &str,
-) -> io::Result<File> {
-    match File::open(rt, folder) {
-        Err(error) if error.kind() == io::ErrorKind::NotFound => {
-            match fs::create_dir(rt, folder) {
-                Ok(()) => stable.retain(|known| known.as_str() != folder),
-                Err(_) => {
-                    stable.clear();
-                    fs::create_dir_all(rt, folder)?;
-                }
-            }
-            File::open(rt, folder)
-        }
-        answer => answer,
-    }
-}
-
-// Opens what makes a folder's name stable: the folders above it, up to the first whose name is known to be stable, or the root's own.
-fn open_above<R: Files<File = File>>(
-    rt: &R,
-    root: &str,
-    stable: &[String],
-    folder: &str,
-    open: &mut Vec<File>,
-) -> io::Result<()> {
-    let mut below = folder;
-    for _ in 0..folder.len() {
-        if below.len() < root.len() || is_stable(stable, below) {
-            break;
-        }
-        let above = folder_of(below);
-        below = if above.is_empty() { "." } else { above };
-        open.push(File::open(rt, below)?)?;
-    }
-    Ok(())
-}
-
-// The folder's name is stable from now on, and so is each above it, up to the root's own.
-fn remember(alloc: Global, root: &str, stable: &mut Vec<String>, folder: &str) -> io::Result<()> {
-    let mut below = folder;
-    for _ in 0..folder.len() {
-        if below.len() < root.len() || is_stable(stable, below) {
-            break;
-        }
-        if stable.len() >= MAX_STABLE_FOLDERS {
-            stable.clear();
-        }
-        stable.push(String::from_str(alloc, below)?)?;
-        below = folder_of(below);
-    }
-    Ok(())
-}
-
-fn sync_all(folders: &[File]) -> io::Result<()> {
-    for folder in folders {
-        folder.sync_all()?;
-    }
-    Ok(())
-}
-
-impl Opened {
-    fn new(alloc: Global, at: PlaceRef<'_>, file: File) -> io::Result<Opened> {
-        Ok(Opened {
-            endpoint: String::from_str(alloc, at.endpoint)?,
-            path: String::from_str(alloc, at.path)?,
-            file: above_streams(file)?,
-        })
-    }
-
-    fn is_at(&self, at: PlaceRef<'_>) -> bool {
+    fn is_at(&self, at: PlaceRef<'_>) -> bool
+        ensures { result ≡ is_opened_at self.now (place_at at.entry) }
+    {
         self.endpoint.as_str() == at.endpoint && self.path.as_str() == at.path
     }
 }
 
-fn is_at(opened: &Option<Opened>, at: PlaceRef<'_>) -> bool {
+fn is_at<T: Drop>(opened: &Option<Opened<T>>, at: PlaceRef<'_>) -> bool
+    ensures { result ≡ is_open_at opened.now (place_at at.entry) }
+{
     match opened {
         Some(opened) => opened.is_at(at),
         None => false,
     }
 }
 
+// Reads what is open.
+fn read_opened<F: FileSystem>(
+    files: &mut F,
+    opened: &Option<Opened<F::Handle>>,
+    offset: u64,
+    into: &mut [u8],
+) -> Result<usize, StoreFailed>
+    ensures within { IfOk result (λ count. count ≤ length into.new) }
+    ensures script { (next : List ℕ → Script) → LeadsTo (with_opened F.number opened.now (λ file. reads_once file offset (length into.old) next 1000))
+        (F.calls files.old) (either (λ count. next (take count into.new)) fails result) (F.calls files.new) }
+{
+    match opened {
+        Some(opened) => Ok(read_some(files, &opened.file, offset, into)?),
+        None => Err(StoreFailed),
+    }
+}
+
+// Reads the open part.
+fn read_part<F: FileSystem>(
+    files: &mut F,
+    writing: &Option<Opened<OpenPart<F::Handle>>>,
+    offset: u64,
+    into: &mut [u8],
+) -> Result<usize, StoreFailed>
+    ensures within { IfOk result (λ count. count ≤ length into.new) }
+    ensures script { (next : List ℕ → Script) → LeadsTo (with_opened (λ part. F.number part.file) writing.now (λ file. reads_once file offset (length into.old) next 1000))
+        (F.calls files.old) (either (λ count. next (take count into.new)) fails result) (F.calls files.new) }
+{
+    match writing {
+        Some(part) => Ok(part.file.read_some(files, offset, into)?),
+        None => Err(StoreFailed),
+    }
+}
+
+// Puts bytes behind those of the open part.
+fn append_to<F: FileSystem>(
+    files: &mut F,
+    writing: &mut Option<Opened<OpenPart<F::Handle>>>,
+    bytes: &[u8],
+) -> Result<(), StoreFailed>
+    ensures script { (next : Script) → LeadsTo (with_part F.number writing.old bytes.now next)
+        (F.calls files.old) (either (λ done. next) fails result) (F.calls files.new) }
+    ensures end { OnOk result (part_end writing.new ≡ option_map (λ end. end + length bytes.now) (part_end writing.old)) }
+    ensures failed { OnErr result (part_end writing.new ≡ part_end writing.old) }
+    ensures handle { part_handle writing.new ≡ part_handle writing.old }
+{
+    match writing {
+        Some(part) => Ok(part.file.append(files, bytes)?),
+        None => Err(StoreFailed),
+    }
+}
+
+// Takes a name away; that of a part only where no run holds it, since another run that writes it would lose its file.
+fn take_away<F: FileSystem>(files: &mut F, at: PlaceRef<'_>, path: &str) -> Result<(), StoreFailed>
+    ensures { (next : Script) → LeadsTo (takes_away (place_at at.entry).path path.now next)
+        (F.calls files.old) (either (λ done. next) fails result) (F.calls files.new) }
+{
+    if is_among_parts(at.path.as_bytes()) {
+        Ok(remove_part(files, path)?)
+    } else {
+        Ok(remove(files, path)?)
+    }
+}
+
 // Counts a failure.
-fn count<T: Drop>(faults: &mut u64, answer: io::Result<T>) -> Result<T, StoreFailed>
+fn count<T: Drop>(faults: &mut u64, answer: Result<T, StoreFailed>) -> Result<T, StoreFailed>
     ensures value { IfOk result (λ value. answer ≡ Ok value) }
+    ensures done { IfOk answer (λ value. result ≡ Ok value) }
     ensures failed { IsErr answer → IsErr result }
     ensures cause { CountsFaults faults.old faults.new result }
 {
@@ -251,194 +161,229 @@ fn count<T: Drop>(faults: &mut u64, answer: io::Result<T>) -> Result<T, StoreFai
     }
 }
 
-impl<R: Files<File = File>> FolderStore<R> {
-    ghost use Rattle.std.specs.Prelude.{◌≡◌, ◌⊎◌, ◌≤◌, false, length, IfOk, IsErr};
+impl<R: Files<File = File> + Drop> FolderStore<SystemFiles<R>> {
+    ghost use Rattle.std.specs.Prelude.{◌≡◌};
+    ghost use Rattle.fts_store.specs.Folder.{folder_faults};
+
+    /// A store in a folder of the system, which is made once a file is.
+    pub fn new(rt: R, alloc: Global, root: String) -> FolderStore<SystemFiles<R>>
+        ensures { folder_faults result ≡ 0 }
+    {
+        FolderStore::over(SystemFiles::new(rt), alloc, root)
+    }
+}
+
+impl<F: FileSystem + Drop> FolderStore<F> {
+    ghost use Rattle.std.specs.Prelude.{◌≡◌, ◌⊎◌, ◌+◌, ◌≤◌, ℕ, Option, Some, None, option_map, List, false, length, take, string_bytes, IfOk, OnOk, OnErr, IfSome, IsErr};
+    ghost use Rattle.fts_files.specs.Script.{Script, LeadsTo, either, fails};
     ghost use Rattle.fts_store.specs.Store.{place_at};
     ghost use Rattle.fts_store.specs.Folder.{folder_faults, stays_inside};
+    ghost use Rattle.fts_store.specs.Sweep.{Sweeps};
+    ghost use Rattle.fts_store.specs.Meeting.{Meets};
+    ghost use Rattle.fts_store.specs.FolderCalls.{OpenMoved, IsUnasked, sizes_in, opens_in, reads_in, creates_in, appends_in, removes_in, with_opened, part_end, part_handle};
 
-    /// A store in a folder, which is made once a file is.
-    pub fn new(rt: R, alloc: Global, root: String) -> FolderStore<R>
+    /// A store in a folder of these files, which is made once a file is.
+    pub fn over(files: F, alloc: Global, root: String) -> FolderStore<F>
         ensures { folder_faults result ≡ 0 }
     {
         FolderStore {
-            rt,
+            files,
             alloc,
             root,
             reading: None,
             writing: None,
-            found: None,
             free: None,
             stable: Vec::new(alloc),
+            met: Vec::new(alloc),
             faults: 0,
         }
     }
 
-    fn let_go(&mut self, at: PlaceRef<'_>)
-        ensures { folder_faults self.new ≡ folder_faults self.old }
+    /// Takes the names away from the parts that a run left in the folders below this store's, unless another run holds them. What can't be read
+    /// or taken away is left, and counts no failure. Where memory is missing it ends early.
+    pub fn sweep(&mut self) -> Result<(), AllocError>
+        ensures faults { folder_faults self.new ≡ folder_faults self.old }
+        ensures swept { Sweeps (string_bytes self.old.root) (F.calls self.old.files) (F.calls self.new.files) }
     {
-        if is_at(&self.reading, at) {
-            self.reading = None;
-        }
-        if is_at(&self.writing, at) {
-            self.writing = None;
-        }
+        sweep(&mut self.files, self.alloc, self.root.as_str())
     }
 
-    fn look(&mut self, at: PlaceRef<'_>) -> io::Result<Option<u64>>
+    /// Looks at each folder below this store's, so that each endpoint's own folder that is there by now is never made again, and has to lie on the
+    /// device that it lies on now. It changes nothing, and what can't be looked at is met at its first use. Where memory is missing it ends early.
+    pub fn meet_all(&mut self) -> Result<(), AllocError>
+        ensures faults { folder_faults self.new ≡ folder_faults self.old }
+        ensures met { Meets (string_bytes self.old.root) (F.calls self.old.files) (F.calls self.new.files) self.old.met.items self.new.met.items }
+    {
+        meet_all(
+            &mut self.files,
+            self.alloc,
+            self.root.as_str(),
+            &mut self.met,
+        )
+    }
+
+    fn look(&mut self, at: PlaceRef<'_>) -> Result<Option<u64>, StoreFailed>
         ensures faults { folder_faults self.new ≡ folder_faults self.old }
         ensures outside { stays_inside (place_at at.entry) ≡ false → IsErr result }
+        ensures script { IsUnasked result (F.calls self.old.files) (F.calls self.new.files)
+            ⊎ ((next : Option ℕ → Script) → LeadsTo (sizes_in (string_bytes self.old.root) self.old.met.items (place_at at.entry) next)
+            (F.calls self.old.files) (either next fails result) (F.calls self.new.files)) }
     {
         self.reading = None;
         self.writing = None;
         self.free = None;
         let path = path_of(self.alloc, self.root.as_str(), at)?;
-        match fs::metadata(&self.rt, path.as_str()) {
-            Ok(found) if found.is_file() => {
-                self.found = Some(path);
-                Ok(Some(found.len()))
-            }
-            Ok(_) => failed(io::ErrorKind::IsADirectory),
-            Err(error) => match error.kind() {
-                io::ErrorKind::NotFound | io::ErrorKind::NotADirectory => {
-                    self.free = Some(path);
-                    Ok(None)
-                }
-                _ => Err(error),
-            },
+        let endpoint = to_meet(self.alloc, self.root.as_str(), &mut self.met, at)?;
+        let _was_there = meet(&mut self.files, &mut self.met, endpoint)?;
+        let found = size(&mut self.files, path.as_str())?;
+        if found.is_none() {
+            self.free = Some(path);
         }
+        Ok(found)
     }
 
-    // Opens a file that is there. A pipe would wait for its other end, so it isn't opened.
-    fn open(&self, at: PlaceRef<'_>, options: &OpenOptions) -> io::Result<Opened> {
+    // Opens a file that is there.
+    fn open(&mut self, at: PlaceRef<'_>) -> Result<Opened<F::Handle>, StoreFailed>
+        ensures faults { folder_faults self.new ≡ folder_faults self.old }
+        ensures script { IsUnasked result (F.calls self.old.files) (F.calls self.new.files)
+            ⊎ ((next : ℕ → Script) → LeadsTo (opens_in (string_bytes self.old.root) self.old.met.items (place_at at.entry) next)
+            (F.calls self.old.files) (either (λ opened. next (F.number opened.file)) fails result) (F.calls self.new.files)) }
+    {
         let path = path_of(self.alloc, self.root.as_str(), at)?;
-        if !is_path(&self.found, path.as_str())
-            && !fs::metadata(&self.rt, path.as_str())?.is_file()
-        {
-            return failed(io::ErrorKind::IsADirectory);
-        }
-        Opened::new(self.alloc, at, options.open(&self.rt, path.as_str())?)
+        let named = String::from_str(self.alloc, at.path)?;
+        let endpoint = String::from_str(self.alloc, at.endpoint)?;
+        let own = to_meet(self.alloc, self.root.as_str(), &mut self.met, at)?;
+        let _was_there = meet(&mut self.files, &mut self.met, own)?;
+        let file = open_source(&mut self.files, path.as_str())?;
+        Ok(Opened {
+            endpoint,
+            path: named,
+            file,
+        })
     }
 
-    fn read(&mut self, at: PlaceRef<'_>, offset: u64, into: &mut [u8]) -> io::Result<usize>
+    fn read(&mut self, at: PlaceRef<'_>, offset: u64, into: &mut [u8]) -> Result<usize, StoreFailed>
         ensures faults { folder_faults self.new ≡ folder_faults self.old }
         ensures within { IfOk result (λ count. count ≤ length into.new) }
         ensures outside { stays_inside (place_at at.entry) ≡ false → IsErr result }
+        ensures script { IsUnasked result (F.calls self.old.files) (F.calls self.new.files)
+            ⊎ ((next : List ℕ → Script)
+            → LeadsTo (reads_in F.number (string_bytes self.old.root) self.old.met.items self.old.writing self.old.reading (place_at at.entry) offset (length into.old) next)
+            (F.calls self.old.files) (either (λ count. next (take count into.new)) fails result) (F.calls self.new.files)) }
     {
         if !stays_inside(at) {
-            return failed(io::ErrorKind::InvalidInput);
+            return Err(StoreFailed);
         }
-        if let Some(opened) = &self.writing {
-            if opened.is_at(at) {
-                return read_some(&opened.file, offset, into);
-            }
+        if is_at(&self.writing, at) {
+            return read_part(&mut self.files, &self.writing, offset, into);
         }
-        if !is_at(&self.reading, at) {
-            self.reading = None;
-            self.reading = Some(self.open(at, OpenOptions::new().read(true))?);
+        if is_at(&self.reading, at) {
+            return read_opened(&mut self.files, &self.reading, offset, into);
         }
-        match &self.reading {
-            Some(opened) => read_some(&opened.file, offset, into),
-            None => failed(io::ErrorKind::NotFound),
-        }
+        self.reading = None;
+        let opened = self.open(at)?;
+        let answer = read_some(&mut self.files, &opened.file, offset, into);
+        self.reading = Some(opened);
+        Ok(answer?)
     }
 
-    fn make(&mut self, at: PlaceRef<'_>) -> io::Result<()>
+    fn make(&mut self, at: PlaceRef<'_>) -> Result<(), StoreFailed>
         ensures faults { folder_faults self.new ≡ folder_faults self.old }
         ensures outside { stays_inside (place_at at.entry) ≡ false → IsErr result }
+        ensures script { IsUnasked result (F.calls self.old.files) (F.calls self.new.files)
+            ⊎ ((next : ℕ → Script) → LeadsTo (creates_in (string_bytes self.old.root) self.old.met.items (place_at at.entry) next)
+            (F.calls self.old.files) (either (λ done. with_opened (λ part. F.number part.file) self.new.writing next) fails result) (F.calls self.new.files)) }
+        ensures end { OnOk result (part_end self.new.writing ≡ Some 0) }
     {
+        self.reading = None;
         self.writing = None;
-        self.let_go(at);
         let path = path_of(self.alloc, self.root.as_str(), at)?;
-        let file = create_anew(&self.rt, path.as_str())?;
-        self.writing = Some(Opened::new(self.alloc, at, file)?);
+        let named = String::from_str(self.alloc, at.path)?;
+        let endpoint = String::from_str(self.alloc, at.endpoint)?;
+        let folders = folders_of(self.alloc, path.as_str())?;
+        let own = to_meet(self.alloc, self.root.as_str(), &mut self.met, at)?;
+        let made = have_all(&mut self.files, &mut self.met, own, &folders)?;
+        forget(&mut self.stable, made, &folders);
+        let file = OpenPart::make(&mut self.files, path.as_str())?;
+        self.writing = Some(Opened {
+            endpoint,
+            path: named,
+            file,
+        });
         Ok(())
     }
 
-    fn write(&mut self, at: PlaceRef<'_>, bytes: &[u8]) -> io::Result<()>
+    fn write(&mut self, at: PlaceRef<'_>, bytes: &[u8]) -> Result<(), StoreFailed>
         ensures faults { folder_faults self.new ≡ folder_faults self.old }
         ensures outside { stays_inside (place_at at.entry) ≡ false → IsErr result }
+        ensures script { (next : Script) → LeadsTo (appends_in F.number self.old.writing (place_at at.entry) bytes.now next)
+            (F.calls self.old.files) (either (λ done. next) fails result) (F.calls self.new.files) }
+        ensures end { OnOk result (part_end self.new.writing ≡ option_map (λ end. end + length bytes.now) (part_end self.old.writing)) }
+        ensures failed { OnErr result (part_end self.new.writing ≡ part_end self.old.writing) }
+        ensures handle { part_handle self.new.writing ≡ part_handle self.old.writing }
     {
         if !stays_inside(at) {
-            return failed(io::ErrorKind::InvalidInput);
+            return Err(StoreFailed);
         }
         if !is_at(&self.writing, at) {
-            self.writing = None;
-            self.writing = Some(self.open(at, OpenOptions::new().read(true).append(true))?);
+            return Err(StoreFailed);
         }
-        match &mut self.writing {
-            Some(opened) => {
-                let answer = opened.file.write_all(bytes);
-                unless_full(&opened.file, answer)
-            }
-            None => failed(io::ErrorKind::NotFound),
-        }
+        append_to(&mut self.files, &mut self.writing, bytes)
     }
 
-    // The data of a file is stable at `Ok`.
-    fn sync(&mut self, at: PlaceRef<'_>) -> io::Result<()>
-        ensures { folder_faults self.new ≡ folder_faults self.old }
-    {
-        match &self.writing {
-            Some(opened) if opened.is_at(at) => {
-                unless_full(&opened.file, opened.file.sync_data())
-            }
-            _ => self
-                .open(at, OpenOptions::new().read(true))?
-                .file
-                .sync_data(),
-        }
-    }
-
-    fn shift(&mut self, from: PlaceRef<'_>, to: PlaceRef<'_>) -> io::Result<()>
+    fn shift(&mut self, from: PlaceRef<'_>, to: PlaceRef<'_>) -> Result<(), StoreFailed>
         ensures faults { folder_faults self.new ≡ folder_faults self.old }
         ensures outside { (stays_inside (place_at from.entry) ≡ false) ⊎ (stays_inside (place_at to.entry) ≡ false) → IsErr result }
+        ensures moved { OnOk result (IfSome self.old.writing (λ part. OpenMoved (F.number part.file.file) (string_bytes self.old.root) self.old.stable.items self.old.free
+            (place_at from.entry) (place_at to.entry) (F.calls self.new.files))) }
+        ensures let_go { (self.new.reading ≡ None) × (self.new.writing ≡ None) }
     {
+        self.reading = None;
+        let part = match self.writing.take() {
+            Some(part) if part.is_at(from) => part,
+            _ => return Err(StoreFailed),
+        };
         let old = path_of(self.alloc, self.root.as_str(), from)?;
         let new = path_of(self.alloc, self.root.as_str(), to)?;
-        self.sync(from)?;
-        self.reading = None;
-        self.writing = None;
-        self.found = None;
-        let folder = folder_of(new.as_str());
-        let mut folders = Vec::new(self.alloc);
-        folders.push(open_folder(&self.rt, &mut self.stable, folder)?)?;
-        open_above(
-            &self.rt,
-            self.root.as_str(),
-            &self.stable,
-            folder,
-            &mut folders,
-        )?;
-        let was_free = is_path(&self.free, new.as_str());
+        let folders = folders_of(self.alloc, new.as_str())?;
+        let own = to_meet(self.alloc, self.root.as_str(), &mut self.met, to)?;
+        let overwrite = !is_free(&self.free, new.as_str());
         self.free = None;
-        if was_free {
-            move_to_free(&self.rt, old.as_str(), new.as_str())?;
-        } else {
-            fs::rename(&self.rt, old.as_str(), new.as_str())?;
-        }
-        sync_all(&folders)?;
-        remember(self.alloc, self.root.as_str(), &mut self.stable, folder)
+        let missing = have_all(&mut self.files, &mut self.met, own, &folders)?;
+        forget(&mut self.stable, missing, &folders);
+        let synced = to_sync(self.root.as_str(), &self.stable, &folders);
+        part.file.put_in_place(
+            &mut self.files,
+            old.as_str(),
+            new.as_str(),
+            synced,
+            overwrite,
+        )?;
+        remember(self.alloc, &mut self.stable, synced);
+        Ok(())
     }
 
-    fn erase(&mut self, at: PlaceRef<'_>) -> io::Result<()>
+    fn erase(&mut self, at: PlaceRef<'_>) -> Result<(), StoreFailed>
         ensures faults { folder_faults self.new ≡ folder_faults self.old }
         ensures outside { stays_inside (place_at at.entry) ≡ false → IsErr result }
+        ensures script { IsUnasked result (F.calls self.old.files) (F.calls self.new.files)
+            ⊎ ((next : Script) → LeadsTo (removes_in (string_bytes self.old.root) self.old.met.items (place_at at.entry) next)
+            (F.calls self.old.files) (either (λ done. next) fails result) (F.calls self.new.files)) }
+        ensures let_go { (self.new.reading ≡ None) × (self.new.writing ≡ None) }
     {
-        self.let_go(at);
-        self.found = None;
+        self.reading = None;
+        self.writing = None;
         let path = path_of(self.alloc, self.root.as_str(), at)?;
-        match fs::remove_file(&self.rt, path.as_str()) {
-            Err(error) => match error.kind() {
-                io::ErrorKind::NotFound | io::ErrorKind::NotADirectory => Ok(()),
-                _ => Err(error),
-            },
-            Ok(()) => Ok(()),
-        }
+        let folder = to_meet(self.alloc, self.root.as_str(), &mut self.met, at)?;
+        let _was_there = meet(&mut self.files, &mut self.met, folder)?;
+        take_away(&mut self.files, at, path.as_str())
     }
 }
 
-impl<R: Files<File = File>> Store for FolderStore<R> {
-    ghost use Rattle.std.specs.Prelude.{◌≡◌, ◌⊎◌, ◌≤◌, false, length, None, IfOk, IsErr};
+impl<F: FileSystem + Drop> Store for FolderStore<F> {
+    ghost use Rattle.std.specs.Prelude.{◌≡◌, ◌⊎◌, ◌+◌, ◌≤◌, ℕ, Option, Some, None, option_map, List, false, length, take, string_bytes, IfOk, OnOk, OnErr, IfSome, IsErr};
+    ghost use Rattle.fts_files.specs.Script.{Script, LeadsTo, either, fails};
+    ghost use Rattle.fts_store.specs.FolderCalls.{OpenMoved, IsUnasked, sizes_in, opens_in, reads_in, creates_in, appends_in, removes_in, with_opened, part_end, part_handle};
     ghost use Rattle.fts_tables.specs.Counts.{CountsFaults};
     ghost use Rattle.fts_store.specs.Store.{untold, place_at};
     ghost use Rattle.fts_store.specs.Folder.{folder_faults, stays_inside};
@@ -452,6 +397,9 @@ impl<R: Files<File = File>> Store for FolderStore<R> {
     fn size(&mut self, at: PlaceRef<'_>) -> Result<Option<u64>, StoreFailed>
         ensures cause { CountsFaults (folder_faults self.old) (folder_faults self.new) result }
         ensures outside { stays_inside (place_at at.entry) ≡ false → IsErr result }
+        ensures script { IsUnasked result (F.calls self.old.files) (F.calls self.new.files)
+            ⊎ ((next : Option ℕ → Script) → LeadsTo (sizes_in (string_bytes self.old.root) self.old.met.items (place_at at.entry) next)
+            (F.calls self.old.files) (either next fails result) (F.calls self.new.files)) }
     {
         let answer = self.look(at);
         count(&mut self.faults, answer)
@@ -466,6 +414,10 @@ impl<R: Files<File = File>> Store for FolderStore<R> {
         ensures within { IfOk result (λ count. count ≤ length into.new) }
         ensures cause { CountsFaults (folder_faults self.old) (folder_faults self.new) result }
         ensures outside { stays_inside (place_at at.entry) ≡ false → IsErr result }
+        ensures script { IsUnasked result (F.calls self.old.files) (F.calls self.new.files)
+            ⊎ ((next : List ℕ → Script)
+            → LeadsTo (reads_in F.number (string_bytes self.old.root) self.old.met.items self.old.writing self.old.reading (place_at at.entry) offset (length into.old) next)
+            (F.calls self.old.files) (either (λ count. next (take count into.new)) fails result) (F.calls self.new.files)) }
     {
         let answer = self.read(at, offset, into);
         count(&mut self.faults, answer)
@@ -474,6 +426,10 @@ impl<R: Files<File = File>> Store for FolderStore<R> {
     fn create(&mut self, at: PlaceRef<'_>) -> Result<(), StoreFailed>
         ensures cause { CountsFaults (folder_faults self.old) (folder_faults self.new) result }
         ensures outside { stays_inside (place_at at.entry) ≡ false → IsErr result }
+        ensures script { IsUnasked result (F.calls self.old.files) (F.calls self.new.files)
+            ⊎ ((next : ℕ → Script) → LeadsTo (creates_in (string_bytes self.old.root) self.old.met.items (place_at at.entry) next)
+            (F.calls self.old.files) (either (λ done. with_opened (λ part. F.number part.file) self.new.writing next) fails result) (F.calls self.new.files)) }
+        ensures end { OnOk result (part_end self.new.writing ≡ Some 0) }
     {
         let answer = self.make(at);
         count(&mut self.faults, answer)
@@ -482,6 +438,11 @@ impl<R: Files<File = File>> Store for FolderStore<R> {
     fn append(&mut self, at: PlaceRef<'_>, bytes: &[u8]) -> Result<(), StoreFailed>
         ensures cause { CountsFaults (folder_faults self.old) (folder_faults self.new) result }
         ensures outside { stays_inside (place_at at.entry) ≡ false → IsErr result }
+        ensures script { (next : Script) → LeadsTo (appends_in F.number self.old.writing (place_at at.entry) bytes.now next)
+            (F.calls self.old.files) (either (λ done. next) fails result) (F.calls self.new.files) }
+        ensures end { OnOk result (part_end self.new.writing ≡ option_map (λ end. end + length bytes.now) (part_end self.old.writing)) }
+        ensures failed { OnErr result (part_end self.new.writing ≡ part_end self.old.writing) }
+        ensures handle { part_handle self.new.writing ≡ part_handle self.old.writing }
     {
         let answer = self.write(at, bytes);
         count(&mut self.faults, answer)
@@ -490,6 +451,8 @@ impl<R: Files<File = File>> Store for FolderStore<R> {
     fn rename(&mut self, from: PlaceRef<'_>, to: PlaceRef<'_>) -> Result<(), StoreFailed>
         ensures cause { CountsFaults (folder_faults self.old) (folder_faults self.new) result }
         ensures outside { (stays_inside (place_at from.entry) ≡ false) ⊎ (stays_inside (place_at to.entry) ≡ false) → IsErr result }
+        ensures moved { OnOk result (IfSome self.old.writing (λ part. OpenMoved (F.number part.file.file) (string_bytes self.old.root) self.old.stable.items self.old.free
+            (place_at from.entry) (place_at to.entry) (F.calls self.new.files))) }
     {
         let answer = self.shift(from, to);
         count(&mut self.faults, answer)
@@ -498,6 +461,9 @@ impl<R: Files<File = File>> Store for FolderStore<R> {
     fn remove(&mut self, at: PlaceRef<'_>) -> Result<(), StoreFailed>
         ensures cause { CountsFaults (folder_faults self.old) (folder_faults self.new) result }
         ensures outside { stays_inside (place_at at.entry) ≡ false → IsErr result }
+        ensures script { IsUnasked result (F.calls self.old.files) (F.calls self.new.files)
+            ⊎ ((next : Script) → LeadsTo (removes_in (string_bytes self.old.root) self.old.met.items (place_at at.entry) next)
+            (F.calls self.old.files) (either (λ done. next) fails result) (F.calls self.new.files)) }
     {
         let answer = self.erase(at);
         count(&mut self.faults, answer)

@@ -4,10 +4,13 @@
 #![tactic(auto)]
 
 mod folder;
+mod folders;
 mod held;
 mod inside;
+mod meeting;
 mod memory;
 mod store;
+mod sweep;
 
 pub use folder::FolderStore;
 pub use held::StoredFile;

@@ -1,7 +1,10 @@
 //! Copies: with ample memory, and digests that another program gave; failures and noes one by one, real folders, and real files that change
 //! while they are copied. Files in memory that change are in `copy_changes`.
+ghost use Rattle.std.specs.Prelude.{IsSome};
+
 use crate::copy_changing::WritingWatch;
 use fts_copy::{CopyRoom, CountingWatch, copy_verified};
+use fts_files::SystemFiles;
 use fts_store::{FolderStore, MemoryStore, Store, StoredFile};
 use fts_tables::{
     EndpointName, FileRow, FileState, Items, Label, Memory, Outcome, PathKey, Place, PlaceRef,
@@ -29,7 +32,8 @@ pub(crate) const ABC_PLUS: [u8; 16] =
 pub(crate) const AB_PLUS: [u8; 16] =
     *b"\xb7\x1a\x12\x24\x21\x99\xbd\x3a\xe7\xc0\x7d\xda\xee\xcd\xfc\x16";
 
-const OTHER: [u8; 16] = *b"\x90\x01\x50\x98\x3c\xd2\x4f\xb0\xd6\x96\x3f\x7d\x28\xe1\x7f\x73";
+pub(crate) const OTHER: [u8; 16] =
+    *b"\x90\x01\x50\x98\x3c\xd2\x4f\xb0\xd6\x96\x3f\x7d\x28\xe1\x7f\x73";
 
 fn place(alloc: Global, endpoint: &str, path: &str) -> Result<Place, Memory> {
     let endpoint = EndpointName::read(alloc, endpoint)?;
@@ -61,7 +65,7 @@ pub(crate) fn row(alloc: Global, size: u64, wanted: Option<[u8; 16]>) -> Result<
     })
 }
 
-fn dest() -> PlaceRef<'static> {
+pub(crate) fn dest() -> PlaceRef<'static> {
     PlaceRef {
         endpoint: "https://b.example",
         path: "store/f1",
@@ -89,7 +93,7 @@ fn holding(alloc: Global, bytes: Vec<u8>, fails: u32, loses: u32) -> Result<Memo
     Ok(MemoryStore::new(alloc, Items::from_vec(files), fail, drop))
 }
 
-fn holding_abc(alloc: Global, fails: u32, loses: u32) -> Result<MemoryStore, Memory> {
+pub(crate) fn holding_abc(alloc: Global, fails: u32, loses: u32) -> Result<MemoryStore, Memory> {
     holding(alloc, b"abc".to_vec(alloc)?, fails, loses)
 }
 
@@ -100,7 +104,9 @@ pub(crate) fn copied<E: Store>(
     row: &FileRow,
     overwrite: bool,
     yeses: u64,
-) -> (Outcome, u64) {
+) -> (Outcome, u64)
+    ensures { IsSome room.new }
+{
     let mut watch = CountingWatch::new(yeses);
     room.load(row, overwrite);
     let outcome = copy_verified(store, room, &mut watch);
@@ -350,7 +356,7 @@ fn holds<R: Files<File = File> + Alloc>(rt: &R, path: &str, want: &str) -> bool 
 
 const HELD: &str = "grid-of-a-copy/https:,,b.example/store/f1";
 
-type Folders = FolderStore<HostRuntime>;
+type Folders = FolderStore<SystemFiles<HostRuntime>>;
 
 /// A store of real folders, and what copies in it.
 #[derive(Drop)]

@@ -8,7 +8,7 @@ use std::alloc::{AllocError, Global};
 use std::test::Fail;
 
 /// A copy's three files, of which the source holds `abc`.
-fn three_files(alloc: Global, dest: Vec<u8>) -> Changing {
+pub(crate) fn three_files(alloc: Global, dest: Vec<u8>) -> Changing {
     Changing {
         source: Some(b"abc"),
         later: None,

@@ -22,7 +22,7 @@ pub struct Changing {
     pub part: Vec<u8>,
     pub dest: Vec<u8>,
     /// A letter for each call: S and s for a size and a read of the source, D for a size of the destination, c, a, p and m where the part is made,
-    /// appended to, read and moved, x for a removal, and ? for any other.
+    /// appended to, read and moved, x where it is removed, and ? for any other.
     pub calls: Vec<u8>,
     pub faults: u64,
 }
@@ -138,10 +138,11 @@ impl Store for Changing {
         Ok(())
     }
 
-    fn remove(&mut self, _at: PlaceRef<'_>) -> Result<(), StoreFailed> {
-        if !self.is_done(b'x') {
+    fn remove(&mut self, at: PlaceRef<'_>) -> Result<(), StoreFailed> {
+        if !self.is_done(if is_part(at) { b'x' } else { b'?' }) {
             return failed(&mut self.faults);
         }
+        self.part.clear();
         Ok(())
     }
 }

@@ -1,5 +1,7 @@
-//! What no clause says of stores and copies: that each call succeeds with ample memory, over memory and over real folders, and what a copy leaves
-//! where a call fails or its files change meanwhile. A module a crate: `store`, `copy`; `copy_changes` has the files that change.
+//! What no clause says of files, stores and copies: that each call is the system's and succeeds with ample memory, over memory and over real
+//! folders, and what a copy leaves where a call fails or its files change meanwhile. A module a crate: `files`, `store`, `copy`; `files_noting`
+//! is a file system that notes its calls, `store_edges` has folders that others work on too, `copy_changes` the files that change, `copy_tidied` what stays
+//! behind a copy.
 //! Tests stand here and not in the crates, so that a changed row builds no library again, and many tests share one check.
 #![tactic(auto)]
 
@@ -10,4 +12,12 @@ mod copy_changes;
 #[cfg(test)]
 mod copy_changing;
 #[cfg(test)]
+mod copy_tidied;
+#[cfg(test)]
+mod files;
+#[cfg(test)]
+mod files_noting;
+#[cfg(test)]
 mod store;
+#[cfg(test)]
+mod store_edges;

@@ -167,8 +167,17 @@ fn is_refused<E: Store>(store: &mut E, path: &str, removed: Result<(), StoreFail
         && store.append(at(path), b"x") == Err(StoreFailed)
         && store.read_at(at(path), 0, &mut into) == Err(StoreFailed)
         && store.remove(at(path)) == removed
-        && store.rename(at("a/file"), at(path)) == Err(StoreFailed)
+        && store.create(at("a/part")).is_ok()
+        && store.rename(at("a/part"), at(path)) == Err(StoreFailed)
         && store.size(at("a/file")) == Ok(Some(0))
+}
+
+/// Whether what isn't being written by this store is neither moved nor extended.
+fn moves_and_extends_nothing<E: Store>(store: &mut E) -> bool {
+    store.rename(at("a"), at("b")) == Err(StoreFailed)
+        && store.rename(at("a/file"), at("b")) == Err(StoreFailed)
+        && store.append(at("b"), b"x") == Err(StoreFailed)
+        && store.append(at("a/file"), b"x") == Err(StoreFailed)
 }
 
 #[test]
@@ -200,14 +209,8 @@ fn a_folder_refuses_what_is_no_file_of_its_own(rt: HostRuntime) -> Result<(), Fa
     }
     let is_absent = store.size(at("b")) == Ok(None) && store.size(at("a/file")) == Ok(Some(0));
     assert!(rt; is_absent, "no such name");
-    assert!(rt;
-        store.rename(at("a"), at("b")) == Err(StoreFailed),
-        "a folder is moved"
-    );
-    assert!(rt;
-        store.append(at("b"), b"x") == Err(StoreFailed),
-        "nothing is there"
-    );
+    let is_no_part = moves_and_extends_nothing(&mut store);
+    assert!(rt; is_no_part, "what isn't being written");
     fs::remove_dir_all(&rt, root)?;
     Ok(())
 }
@@ -227,11 +230,11 @@ fn link_a_part(rt: &HostRuntime, root: &str) -> Result<(), Fail> {
     Ok(())
 }
 
-/// Whether a part is made and extended, and no file is at the destination.
-fn is_part_made<E: Store>(store: &mut E) -> bool {
-    store.create(at(PART)).is_ok()
+/// Whether a part is made and extended behind a look at the destination, which finds this.
+fn is_part_made<E: Store>(store: &mut E, found: Option<u64>) -> bool {
+    store.size(at("d")) == Ok(found)
+        && store.create(at(PART)).is_ok()
         && store.append(at(PART), b"abcd").is_ok()
-        && store.size(at("d")) == Ok(None)
 }
 
 #[test]
@@ -250,7 +253,7 @@ fn a_part_is_made_anew_and_replaces_what_was_looked_at_alone(rt: HostRuntime) ->
         ),
     ] {
         let _old = fs::remove_file(&rt, HELD);
-        let is_made = is_part_made(&mut store);
+        let is_made = is_part_made(&mut store, None);
         if !there.is_empty() {
             fs::write(&rt, HELD, there)?;
         }
@@ -263,7 +266,7 @@ fn a_part_is_made_anew_and_replaces_what_was_looked_at_alone(rt: HostRuntime) ->
         outside.as_slice() == b"kept".as_slice(),
         "the link's target is kept"
     );
-    let is_replaced = store.size(at("d")) == Ok(Some(5))
+    let is_replaced = is_part_made(&mut store, Some(5))
         && store.rename(at(PART), at("d")).is_ok()
         && store.size(at("d")) == Ok(Some(4));
     assert!(rt; is_replaced, "a file that was seen is replaced");

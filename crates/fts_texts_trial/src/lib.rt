@@ -6,6 +6,8 @@
 #[cfg(test)]
 mod config;
 #[cfg(test)]
+mod interrupts;
+#[cfg(test)]
 mod jobdoc;
 #[cfg(test)]
 mod jobdoc_cases;

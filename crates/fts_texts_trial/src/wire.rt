@@ -111,102 +111,114 @@ fn is_read_so(rt: &HostRuntime, input: &[u8], want: &str) -> Result<bool, Fail> 
     Ok(notes.as_slice() == want.as_bytes())
 }
 
+/// A row: a sentence, what is read, and the notes of it.
+type InputRow = (&'static str, &'static str, &'static str);
+
+/// Requests, and ends within one.
+const REQUESTS: [InputRow; 14] = [
+    ("the empty input", "", "end"),
+    ("empty lines alone", "\r\n\n\r", "end"),
+    ("an empty line and a letter", "\r\nG", "inside"),
+    (
+        "empty lines, and a request",
+        "\r\n\n\rGET / HTTP/1.1\r\n\r\n",
+        "GET / ;end",
+    ),
+    (
+        "two bodies, and an empty line between",
+        "POST /jobs HTTP/1.1\r\nContent-Length: 1\r\n\r\n[\r\nPOST /jobs HTTP/1.1\r\nContent-Length: 02\r\n\r\n{}",
+        "POST /jobs [;POST /jobs {};end",
+    ),
+    (
+        "a length between other fields",
+        "PUT /jobs HTTP/1.1\r\nAccept: */*\r\nContent-Length: 2\r\nHost: a\r\n\r\n{}",
+        "PUT /jobs {};end",
+    ),
+    (
+        "line feeds alone",
+        "GET / HTTP/1.1\nHost: a\n\n",
+        "GET / ;end",
+    ),
+    (
+        "mixed ends of lines, mixed case, and blanks around",
+        "POST / HTTP/1.1\r\nHost:\ncoNTent-LENgth:\t 1 \t\r\n\nx",
+        "POST / x;end",
+    ),
+    (
+        "a path beyond ASCII, and two question marks",
+        "GET /é?limit=1?2 HTTP/1.1\r\n\r\n",
+        "GET /é|limit=1?2 ;end",
+    ),
+    (
+        "an empty query",
+        "OPTIONS *? HTTP/1.1\r\n\r\n",
+        "OPTIONS *| ;end",
+    ),
+    (
+        "two requests with no body",
+        "HEAD /jobs HTTP/1.1\r\nHost: a\r\n\r\nGET / HTTP/1.1\r\nHost: a\r\n\r\n",
+        "HEAD /jobs ;GET / ;end",
+    ),
+    ("an end within the first line", "POST / HT", "inside"),
+    (
+        "an end before the last line feed",
+        "GET / HTTP/1.1\r\nHost: a\r\n\r",
+        "inside",
+    ),
+    ("zero bytes, and no end", "\0\n\0", "inside"),
+];
+
 #[test]
 fn requests_are_the_same_however_they_are_cut(rt: HostRuntime) -> Result<(), Fail> {
-    for (case, input, want) in [
-        ("the empty input", "", "end"),
-        ("empty lines alone", "\r\n\n\r", "end"),
-        ("an empty line and a letter", "\r\nG", "inside"),
-        (
-            "empty lines, and a request",
-            "\r\n\n\rGET / HTTP/1.1\r\n\r\n",
-            "GET / ;end",
-        ),
-        (
-            "two bodies, and an empty line between",
-            "POST /jobs HTTP/1.1\r\nContent-Length: 1\r\n\r\n[\r\nPOST /jobs HTTP/1.1\r\nContent-Length: 02\r\n\r\n{}",
-            "POST /jobs [;POST /jobs {};end",
-        ),
-        (
-            "a length between other fields",
-            "PUT /jobs HTTP/1.1\r\nAccept: */*\r\nContent-Length: 2\r\nHost: a\r\n\r\n{}",
-            "PUT /jobs {};end",
-        ),
-        (
-            "line feeds alone",
-            "GET / HTTP/1.1\nHost: a\n\n",
-            "GET / ;end",
-        ),
-        (
-            "mixed ends of lines, mixed case, and blanks around",
-            "POST / HTTP/1.1\r\nHost:\ncoNTent-LENgth:\t 1 \t\r\n\nx",
-            "POST / x;end",
-        ),
-        (
-            "a path beyond ASCII, and two question marks",
-            "GET /é?limit=1?2 HTTP/1.1\r\n\r\n",
-            "GET /é|limit=1?2 ;end",
-        ),
-        (
-            "an empty query",
-            "OPTIONS *? HTTP/1.1\r\n\r\n",
-            "OPTIONS *| ;end",
-        ),
-        (
-            "two requests with no body",
-            "HEAD /jobs HTTP/1.1\r\nHost: a\r\n\r\nGET / HTTP/1.1\r\nHost: a\r\n\r\n",
-            "HEAD /jobs ;GET / ;end",
-        ),
-        ("an end within the first line", "POST / HT", "inside"),
-        (
-            "an end before the last line feed",
-            "GET / HTTP/1.1\r\nHost: a\r\n\r",
-            "inside",
-        ),
-        ("zero bytes, and no end", "\0\n\0", "inside"),
-    ] {
+    for (case, input, want) in REQUESTS {
         let is_so = is_read_so(&rt, input.as_bytes(), want)?;
         assert!(rt; is_so, "{case}");
     }
     Ok(())
 }
 
+/// A row: a sentence and a head.
+type HeadRow = (&'static str, &'static str);
+
+/// Heads that the grammar has not.
+const REFUSED: [HeadRow; 17] = [
+    ("a folded field", "GET / HTTP/1.1\r\nA: b\r\n c\r\n\r\n"),
+    (
+        "a blank before the colon",
+        "GET / HTTP/1.1\r\nHost : a\r\n\r\n",
+    ),
+    (
+        "a blank before the first field",
+        "GET / HTTP/1.1\r\n Host: a\r\n\r\n",
+    ),
+    ("a field with no colon", "GET / HTTP/1.1\r\nHost\r\n\r\n"),
+    ("a field with no name", "GET / HTTP/1.1\r\n: a\r\n\r\n"),
+    (
+        "a control byte in a value",
+        "GET / HTTP/1.1\r\nA: \x01\r\n\r\n",
+    ),
+    (
+        "a carriage return in a value",
+        "GET / HTTP/1.1\r\nA: b\rc\r\n\r\n",
+    ),
+    (
+        "a carriage return for a field",
+        "GET / HTTP/1.1\r\n\r\r\n\r\n",
+    ),
+    ("two blanks behind the method", "GET  / HTTP/1.1\r\n\r\n"),
+    ("a blank before the method", " GET / HTTP/1.1\r\n\r\n"),
+    ("a bracket in the method", "GE(T / HTTP/1.1\r\n\r\n"),
+    ("no version", "GET /\r\n\r\n"),
+    ("another version", "GET / HTTP/1.2\r\n\r\n"),
+    ("a version in lower case", "GET / http/1.1\r\n\r\n"),
+    ("a blank behind the version", "GET / HTTP/1.1 \r\n\r\n"),
+    ("a control byte in the target", "GET /\x7f HTTP/1.1\r\n\r\n"),
+    ("a zero byte for the first line", "\0\n\n"),
+];
+
 #[test]
 fn heads_outside_the_grammar_are_refused(rt: HostRuntime) -> Result<(), Fail> {
-    for (case, input) in [
-        ("a folded field", "GET / HTTP/1.1\r\nA: b\r\n c\r\n\r\n"),
-        (
-            "a blank before the colon",
-            "GET / HTTP/1.1\r\nHost : a\r\n\r\n",
-        ),
-        (
-            "a blank before the first field",
-            "GET / HTTP/1.1\r\n Host: a\r\n\r\n",
-        ),
-        ("a field with no colon", "GET / HTTP/1.1\r\nHost\r\n\r\n"),
-        ("a field with no name", "GET / HTTP/1.1\r\n: a\r\n\r\n"),
-        (
-            "a control byte in a value",
-            "GET / HTTP/1.1\r\nA: \x01\r\n\r\n",
-        ),
-        (
-            "a carriage return in a value",
-            "GET / HTTP/1.1\r\nA: b\rc\r\n\r\n",
-        ),
-        (
-            "a carriage return for a field",
-            "GET / HTTP/1.1\r\n\r\r\n\r\n",
-        ),
-        ("two blanks behind the method", "GET  / HTTP/1.1\r\n\r\n"),
-        ("a blank before the method", " GET / HTTP/1.1\r\n\r\n"),
-        ("a bracket in the method", "GE(T / HTTP/1.1\r\n\r\n"),
-        ("no version", "GET /\r\n\r\n"),
-        ("another version", "GET / HTTP/1.2\r\n\r\n"),
-        ("a version in lower case", "GET / http/1.1\r\n\r\n"),
-        ("a blank behind the version", "GET / HTTP/1.1 \r\n\r\n"),
-        ("a control byte in the target", "GET /\x7f HTTP/1.1\r\n\r\n"),
-        ("a zero byte for the first line", "\0\n\n"),
-    ] {
+    for (case, input) in REFUSED {
         let is_refused = is_read_so(&rt, input.as_bytes(), "bad head")?;
         assert!(rt; is_refused, "{case}");
     }
@@ -216,67 +228,70 @@ fn heads_outside_the_grammar_are_refused(rt: HostRuntime) -> Result<(), Fail> {
     Ok(())
 }
 
+/// Fields of a request with the body `x`.
+const FIELDS: [InputRow; 13] = [
+    (
+        "chunks, and a length that is no number",
+        "Content-Length: x\r\nTransfer-Encoding: chunked",
+        "chunked",
+    ),
+    (
+        "a length twice",
+        "Content-Length: 1\r\nContent-Length: 1",
+        "bad length",
+    ),
+    ("an empty length", "Content-Length: ", "bad length"),
+    ("a length with a sign", "Content-Length: +1", "bad length"),
+    (
+        "two lengths in one field",
+        "Content-Length: 1, 1",
+        "bad length",
+    ),
+    (
+        "a length of 19 digits",
+        "Content-Length: 0000000000000000001",
+        "POST / x;end",
+    ),
+    (
+        "a length of 20 digits",
+        "Content-Length: 00000000000000000001",
+        "bad length",
+    ),
+    (
+        "the greatest length of 19 digits",
+        "Content-Length: 9999999999999999999",
+        "body too large",
+    ),
+    (
+        "a byte more than the limit",
+        "Content-Length: 1048577",
+        "body too large",
+    ),
+    (
+        "as many bytes as the limit",
+        "Content-Length: 1048576",
+        "inside",
+    ),
+    (
+        "the last request",
+        "Content-Length: 1\r\nConnection: Close",
+        "POST / x.end",
+    ),
+    (
+        "the last request, by the second field",
+        "Content-Length: 1\r\nConnection: te\r\nCONNECTION: close",
+        "POST / x.end",
+    ),
+    (
+        "a connection that stays",
+        "Content-Length: 1\r\nConnection: keep-alive",
+        "POST / x;end",
+    ),
+];
+
 #[test]
 fn fields_say_the_length_and_the_end(rt: HostRuntime) -> Result<(), Fail> {
-    for (case, fields, want) in [
-        (
-            "chunks, and a length that is no number",
-            "Content-Length: x\r\nTransfer-Encoding: chunked",
-            "chunked",
-        ),
-        (
-            "a length twice",
-            "Content-Length: 1\r\nContent-Length: 1",
-            "bad length",
-        ),
-        ("an empty length", "Content-Length: ", "bad length"),
-        ("a length with a sign", "Content-Length: +1", "bad length"),
-        (
-            "two lengths in one field",
-            "Content-Length: 1, 1",
-            "bad length",
-        ),
-        (
-            "a length of 19 digits",
-            "Content-Length: 0000000000000000001",
-            "POST / x;end",
-        ),
-        (
-            "a length of 20 digits",
-            "Content-Length: 00000000000000000001",
-            "bad length",
-        ),
-        (
-            "the greatest length of 19 digits",
-            "Content-Length: 9999999999999999999",
-            "body too large",
-        ),
-        (
-            "a byte more than the limit",
-            "Content-Length: 1048577",
-            "body too large",
-        ),
-        (
-            "as many bytes as the limit",
-            "Content-Length: 1048576",
-            "inside",
-        ),
-        (
-            "the last request",
-            "Content-Length: 1\r\nConnection: Close",
-            "POST / x.end",
-        ),
-        (
-            "the last request, by the second field",
-            "Content-Length: 1\r\nConnection: te\r\nCONNECTION: close",
-            "POST / x.end",
-        ),
-        (
-            "a connection that stays",
-            "Content-Length: 1\r\nConnection: keep-alive",
-            "POST / x;end",
-        ),
-    ] {
+    for (case, fields, want) in FIELDS {
         let input = repeated(&rt, "POST / HTTP/1.1\r\n", fields, 1, "\r\n\r\nx")?;
         let is_so = is_read_so(&rt, input.as_slice(), want)?;
         assert!(rt; is_so, "{case}");
@@ -287,42 +302,44 @@ fn fields_say_the_length_and_the_end(rt: HostRuntime) -> Result<(), Fail> {
     Ok(())
 }
 
-/// Two heads of curl, one each of Python's http.client, of Go and of a browser.
+/// Two requests of curl, one each of Python's http.client, of Go and of a browser.
+const CLIENTS: [InputRow; 5] = [
+    (
+        "curl, with no body",
+        "GET /jobs HTTP/1.1\r\nHost: localhost:8446\r\nUser-Agent: curl/8.5.0\r\nAccept: */*\r\n\r\n",
+        "GET /jobs ;end",
+    ),
+    (
+        "curl, with a body",
+        "POST /jobs HTTP/1.1\r\nHost: 127.0.0.1:8446\r\nUser-Agent: curl/8.5.0\r\nAccept: */*\r\n\
+         Content-Type: application/json\r\nContent-Length: 2\r\n\r\n{}",
+        "POST /jobs {};end",
+    ),
+    (
+        "Python's http.client",
+        "POST /jobs?limit=5 HTTP/1.1\r\nHost: localhost:8446\r\nAccept-Encoding: identity\r\nContent-Length: 2\r\nContent-Type: application/json\r\n\r\n{}",
+        "POST /jobs|limit=5 {};end",
+    ),
+    (
+        "Go's client",
+        "PUT /jobs HTTP/1.1\r\nHost: localhost:8446\r\nUser-Agent: Go-http-client/1.1\r\nContent-Length: 2\r\n\
+         Content-Type: application/json\r\nAccept-Encoding: gzip\r\nConnection: close\r\n\r\n{}",
+        "PUT /jobs {}.end",
+    ),
+    (
+        "a browser",
+        "GET /jobs HTTP/1.1\r\nHost: localhost:8446\r\n\
+         User-Agent: Mozilla/5.0 (X11; Linux x86_64; rv:128.0) Gecko/20100101 Firefox/128.0\r\n\
+         Accept: text/html,application/xhtml+xml,application/xml;q=0.9,*/*;q=0.8\r\nAccept-Language: en-US,en;q=0.5\r\n\
+         Accept-Encoding: gzip, deflate, br, zstd\r\nDNT: 1\r\nConnection: keep-alive\r\nUpgrade-Insecure-Requests: 1\r\n\
+         Sec-Fetch-Dest: document\r\nSec-Fetch-Mode: navigate\r\nSec-Fetch-Site: none\r\nPriority: u=0, i\r\n\r\n",
+        "GET /jobs ;end",
+    ),
+];
+
 #[test]
 fn heads_of_clients_are_read(rt: HostRuntime) -> Result<(), Fail> {
-    for (case, input, want) in [
-        (
-            "curl, with no body",
-            "GET /jobs HTTP/1.1\r\nHost: localhost:8446\r\nUser-Agent: curl/8.5.0\r\nAccept: */*\r\n\r\n",
-            "GET /jobs ;end",
-        ),
-        (
-            "curl, with a body",
-            "POST /jobs HTTP/1.1\r\nHost: 127.0.0.1:8446\r\nUser-Agent: curl/8.5.0\r\nAccept: */*\r\n\
-             Content-Type: application/json\r\nContent-Length: 2\r\n\r\n{}",
-            "POST /jobs {};end",
-        ),
-        (
-            "Python's http.client",
-            "POST /jobs?limit=5 HTTP/1.1\r\nHost: localhost:8446\r\nAccept-Encoding: identity\r\nContent-Length: 2\r\nContent-Type: application/json\r\n\r\n{}",
-            "POST /jobs|limit=5 {};end",
-        ),
-        (
-            "Go's client",
-            "PUT /jobs HTTP/1.1\r\nHost: localhost:8446\r\nUser-Agent: Go-http-client/1.1\r\nContent-Length: 2\r\n\
-             Content-Type: application/json\r\nAccept-Encoding: gzip\r\nConnection: close\r\n\r\n{}",
-            "PUT /jobs {}.end",
-        ),
-        (
-            "a browser",
-            "GET /jobs HTTP/1.1\r\nHost: localhost:8446\r\n\
-             User-Agent: Mozilla/5.0 (X11; Linux x86_64; rv:128.0) Gecko/20100101 Firefox/128.0\r\n\
-             Accept: text/html,application/xhtml+xml,application/xml;q=0.9,*/*;q=0.8\r\nAccept-Language: en-US,en;q=0.5\r\n\
-             Accept-Encoding: gzip, deflate, br, zstd\r\nDNT: 1\r\nConnection: keep-alive\r\nUpgrade-Insecure-Requests: 1\r\n\
-             Sec-Fetch-Dest: document\r\nSec-Fetch-Mode: navigate\r\nSec-Fetch-Site: none\r\nPriority: u=0, i\r\n\r\n",
-            "GET /jobs ;end",
-        ),
-    ] {
+    for (case, input, want) in CLIENTS {
         let is_so = is_read_so(&rt, input.as_bytes(), want)?;
         assert!(rt; is_so, "{case}");
     }
@@ -345,90 +362,103 @@ fn repeated(
     Ok(bytes)
 }
 
+/// A row: a sentence, a front, a text and how often it comes, a back, and the notes of it all.
+type SizeRow = (
+    &'static str,
+    &'static str,
+    &'static str,
+    usize,
+    &'static str,
+    &'static str,
+);
+
+/// Heads about the greatest size.
+const SIZES: [SizeRow; 10] = [
+    (
+        "64 fields",
+        "GET / HTTP/1.1\r\n",
+        "A: b\r\n",
+        64,
+        "\r\n",
+        "GET / ;end",
+    ),
+    (
+        "65 fields",
+        "GET / HTTP/1.1\r\n",
+        "A: b\r\n",
+        65,
+        "\r\n",
+        "head too large",
+    ),
+    (
+        "65 fields without the end",
+        "GET / HTTP/1.1\r\n",
+        "A: b\r\n",
+        65,
+        "",
+        "inside",
+    ),
+    (
+        "65 broken fields",
+        "GET\n",
+        "A\n",
+        65,
+        "\n",
+        "head too large",
+    ),
+    (
+        "16,384 bytes",
+        "GET / HTTP/1.1\r\nA: ",
+        "a",
+        16_361,
+        "\r\n\r\n",
+        "GET / ;end",
+    ),
+    (
+        "a byte more",
+        "GET / HTTP/1.1\r\nA: ",
+        "a",
+        16_362,
+        "\r\n\r\n",
+        "head too large",
+    ),
+    (
+        "empty lines, 16,384 bytes in all",
+        "",
+        "\r\n",
+        8_183,
+        "GET / HTTP/1.1\r\n\r\n",
+        "GET / ;end",
+    ),
+    (
+        "empty lines, and a byte more",
+        "\n",
+        "\r\n",
+        8_183,
+        "GET / HTTP/1.1\r\n\r\n",
+        "head too large",
+    ),
+    (
+        "16,384 bytes of empty lines",
+        "",
+        "\r\n",
+        8_192,
+        "",
+        "head too large",
+    ),
+    (
+        "16,383 bytes of empty lines",
+        "\r",
+        "\r\n",
+        8_191,
+        "",
+        "end",
+    ),
+];
+
 #[test]
 fn heads_have_a_greatest_size(rt: HostRuntime) -> Result<(), Fail> {
-    for (case, front, text, count, back, want) in [
-        (
-            "64 fields",
-            "GET / HTTP/1.1\r\n",
-            "A: b\r\n",
-            64,
-            "\r\n",
-            "GET / ;end",
-        ),
-        (
-            "65 fields",
-            "GET / HTTP/1.1\r\n",
-            "A: b\r\n",
-            65,
-            "\r\n",
-            "head too large",
-        ),
-        (
-            "65 fields without the end",
-            "GET / HTTP/1.1\r\n",
-            "A: b\r\n",
-            65,
-            "",
-            "inside",
-        ),
-        (
-            "65 broken fields",
-            "GET\n",
-            "A\n",
-            65,
-            "\n",
-            "head too large",
-        ),
-        (
-            "16,384 bytes",
-            "GET / HTTP/1.1\r\nA: ",
-            "a",
-            16_361,
-            "\r\n\r\n",
-            "GET / ;end",
-        ),
-        (
-            "a byte more",
-            "GET / HTTP/1.1\r\nA: ",
-            "a",
-            16_362,
-            "\r\n\r\n",
-            "head too large",
-        ),
-        (
-            "empty lines, 16,384 bytes in all",
-            "",
-            "\r\n",
-            8_183,
-            "GET / HTTP/1.1\r\n\r\n",
-            "GET / ;end",
-        ),
-        (
-            "empty lines, and a byte more",
-            "\n",
-            "\r\n",
-            8_183,
-            "GET / HTTP/1.1\r\n\r\n",
-            "head too large",
-        ),
-        (
-            "16,384 bytes of empty lines",
-            "",
-            "\r\n",
-            8_192,
-            "",
-            "head too large",
-        ),
-        (
-            "16,383 bytes of empty lines",
-            "\r",
-            "\r\n",
-            8_191,
-            "",
-            "end",
-        ),
-    ] {
+    for (case, front, text, count, back, want) in SIZES {
         let input = repeated(&rt, front, text, count, back)?;
         let is_so = is_read_so(&rt, input.as_slice(), want)?;
         assert!(rt; is_so, "{case}");

@@ -1,19 +1,18 @@
 -- A shop that was closed holds the list that its keep began with, and the items of all turns behind it.
 use Rattle.std.proofs.Common.{◌≡◌, ◌≢◌, ◌==◌, inl, inr, ℕ, ◌+◌, ◌-◌, List, [], ◌∷◌, ◌++◌, length, filter, Option, refl, sym, ap, ◌∙◌, subst, arith, append-nil}
+use Rattle.fts_top.specs.Ends.{end_when_served}
 use Rattle.fts_tables.specs.Tables.{Tables}
 use Rattle.fts_tables.specs.Coming.{Coming, Gives}
 use Rattle.fts_tables.specs.SettingsData.{SettingsData, IsSettings}
 use Rattle.fts_tables.specs.History.{tables_of, IsLegal}
 use Rattle.fts_tables.specs.declared.commands.Entry.{Entry}
 use Rattle.fts_laws.specs.Attempts.{attempts_in, claims_in}
-use Rattle.fts_disk.specs.Disk.{DiskState, IsTold}
+use Rattle.fts_disk.specs.Disk.{IsTold}
 use Rattle.fts_turnstile.specs.declared.turn.Turn.{Turn}
 use Rattle.fts_turnstile.specs.History.{items_of, items_by, AllNamed}
 use Rattle.fts_turnstile.specs.Passes.{TurnstileView, PassView}
 use Rattle.fts_passes.specs.Crews.{IsFirst, passes_given}
-use Rattle.fts_store.specs.Calls.{Call}
-use Rattle.fts_store.specs.Store.{StoreState}
-use Rattle.fts_keep.specs.Keeps.{KeepData, HoldsList, IsKeep, with_doubt}
+use Rattle.fts_keep.specs.Keeps.{KeepData, IsKeep}
 use Rattle.fts_keep.specs.Started.{StartFault, StartsNot}
 use Rattle.fts_keep.specs.declared.fault.KeepFault.{KeepFault}
 use Rattle.fts_keep.proofs.Lists.{legal_list}
@@ -21,20 +20,19 @@ use Rattle.fts_workers.specs.declared.hand.Hand.{Hand}
 use Rattle.fts_wire.specs.RoomData.{RoomData}
 use Rattle.fts_workers.specs.Benches.{BenchData}
 use Rattle.fts_shop.specs.Shops.{ShopData, shop_of, writer_of}
-use Rattle.fts_top.specs.Doors.{DoorsData}
-use Rattle.fts_top.specs.Lanes.{Sides}
-use Rattle.fts_top.specs.Locked.{IsLocked, IsUntouched, giver_of}
-use Rattle.fts_top.specs.Openings.{AreOpened}
+use Rattle.fts_service.specs.Locked.{IsLocked, IsUntouched}
+use Rattle.fts_service.specs.Openings.{AreOpened}
 use Rattle.fts_top.specs.Runs.{AreRead, IsStop, start_end}
-use Rattle.fts_top.specs.Served.{end_when_served}
 use Rattle.fts_top.specs.Serves.{Closes, HoldsBehind, StopsUnstarted, WhyNoLane, many_threads, tally_since}
-use Rattle.fts_top.specs.Serving.{RanTogether}
-use Rattle.fts_top.specs.Tallies.{no_tally, tally_of, tally_with}
+use Rattle.fts_service.specs.Serving.{RanTogether}
+use Rattle.fts_top.specs.Tallies.{no_tally, tally_with}
 use Rattle.fts_top.specs.declared.ends.RunEnd.{RunEnd}
-use Rattle.fts_top.specs.declared.lane.Lane.{Lane}
+use Rattle.fts_service.specs.declared.lane.Lane.{Lane}
 use Rattle.fts_top.specs.declared.tally.Tally.{Tally}
-use Rattle.fts_top.specs.declared.together.ServedEnd.{ServedEnd}
+use Rattle.fts_service.specs.declared.together.ServedEnd.{ServedEnd}
 use Rattle.fts_top.proofs.Started.{unstarted}
+use Rattle.fts_disk.specs.declared.disk.Disk as disk
+use Rattle.fts_service.specs.Worlds.{World}
 
 -- a list behind one that holds an entry holds one
 some_behind : (first more all : List Entry) → first ≢ [] → all ≡ first ++ more → all ≢ []
@@ -45,11 +43,10 @@ some_behind (entry ∷ first) more all some e none = cc
 more_of : (before more after : ℕ) → after ≡ before + more → after - before ≡ more
 more_of before more after e = omega (arith, e)
 
-module _ {D A E C W L : Type 0} (state : D → DiskState) (faults : D → ℕ) (store_state : E → StoreState) (store_calls : E → Option (List Call)) (store_faults : E → ℕ)
-    (sides : Sides L) (doors : A → DoorsData L) (door_faults : A → ℕ) (moments : C → Option Coming) (words : W → Option Coming)
+module _ {D A E C W L : Type 0} (world : World D A E C W L)
     (lanes workers : ℕ) (connections : Option ℕ) (keep : KeepData D) (before after : List (Lane A C L)) (hands hands_now : List (Hand E C W)) (closed : ShopData D)
     (end : RunEnd) (added : List Entry)
-    (closes : Closes state faults store_state store_calls store_faults sides doors door_faults moments words lanes workers connections keep before hands after hands_now
+    (closes : Closes world lanes workers connections keep before hands after hands_now
     closed end added) where
   -- it holds what it held, and these entries
   pub closed_list : closed.keep.entries ≡ keep.entries ++ added
@@ -63,12 +60,12 @@ module _ {D A E C W L : Type 0} (state : D → DiskState) (faults : D → ℕ) (
         ∙ ap (λ l. keep.entries ++ l) (sym served.1)
   ]
 
-  module _ (old_sound : IsKeep state keep) (sound : IsKeep state closed.keep) (old_told : keep.entries ≢ [] → IsTold (state keep.disk))
-      (told : closed.keep.entries ≢ [] → IsTold (state closed.keep.disk)) (tally : Tally) (counted : tally ≡ tally_since keep closed.keep)
+  module _ (old_sound : IsKeep world.disks.state keep) (sound : IsKeep world.disks.state closed.keep) (old_told : keep.entries ≢ [] → IsTold (world.disks.state keep.disk))
+      (told : closed.keep.entries ≢ [] → IsTold (world.disks.state closed.keep.disk)) (tally : Tally) (counted : tally ≡ tally_since keep closed.keep)
       (counts : (entries more : List Entry) → IsLegal (entries ++ more) → attempts_in (tables_of (entries ++ more)).rows ≡ attempts_in (tables_of entries).rows + claims_in more)
     where
       -- over a disk that tells its contents the list is its own
-      pub holds_behind : keep.entries ≢ [] → HoldsBehind state keep.entries added closed.keep tally
+      pub holds_behind : keep.entries ≢ [] → HoldsBehind world.disks keep.entries added closed.keep tally
       holds_behind some =
           let holds = sound.fold.holds (told (some_behind keep.entries added closed.keep.entries some closed_list)) in
           let held = old_sound.fold.holds (old_told some) in
@@ -85,25 +82,24 @@ module _ {D A E C W L : Type 0} (state : D → DiskState) (faults : D → ℕ) (
             counted = counted ∙ ap (λ n. tally_with n closed.keep.tables) claims ∙ ap (λ t. tally_with (claims_in added) t) now;
           }
 
-module _ {D A E C W L : Type 0} (state : D → DiskState) (faults : D → ℕ) (store_state : E → StoreState) (store_calls : E → Option (List Call)) (store_faults : E → ℕ)
-    (sides : Sides L) (doors : A → DoorsData L) (door_faults : A → ℕ) (moments : C → Option Coming) (words : W → Option Coming)
+module _ {D A E C W L : Type 0} (world : World D A E C W L)
     (lanes workers : ℕ) (connections : Option ℕ) (keep : KeepData D) (before after : List (Lane A C L)) (hands hands_now : List (Hand E C W)) (closed : ShopData D)
     (end : RunEnd) where
   -- a shop that no lane served
-  pub closes_unserved : IsUntouched faults (shop_of keep lanes) closed → AreOpened doors door_faults lanes before after → hands_now ≡ hands
-      → WhyNoLane door_faults before after end
-      → (added : List Entry) × Closes state faults store_state store_calls store_faults sides doors door_faults moments words lanes workers connections keep before hands
+  pub closes_unserved : IsUntouched world.disks (shop_of keep lanes) closed → AreOpened world.doors lanes before after → hands_now ≡ hands
+      → WhyNoLane world.doors before after end
+      → (added : List Entry) × Closes world lanes workers connections keep before hands
       after hands_now closed end added
   closes_unserved untouched opened same why = ([], inl (record { untouched = untouched; opened = opened; hands_are = same; why = why }, refl))
 
   -- a shop that lanes and workers served
   pub closes_served : (lock : TurnstileView Entry) (first : PassView Entry) (passes : List (PassView Entry))
-      → IsLocked faults (shop_of keep lanes) (lanes + workers) lock first passes → (opened : List (Lane A C L)) → AreOpened doors door_faults lanes before opened
+      → IsLocked world.disks (shop_of keep lanes) (lanes + workers) lock first passes → (opened : List (Lane A C L)) → AreOpened world.doors lanes before opened
       → (rooms : List RoomData) (benches : List BenchData) → length rooms ≡ lanes → length benches ≡ workers → (served : ServedEnd)
-      → RanTogether faults store_state store_calls store_faults sides doors door_faults moments words first connections opened after hands hands_now rooms benches closed served
+      → RanTogether world first connections opened after hands hands_now rooms benches closed served
       → end ≡ end_when_served served
       → ((turns : List (Turn Entry)) (n : ℕ) → AllNamed writer_of turns → filter (λ item. writer_of item == n) (items_of turns) ≡ items_by (n ∷ []) turns)
-      → (added : List Entry) × Closes state faults store_state store_calls store_faults sides doors door_faults moments words lanes workers connections keep before hands
+      → (added : List Entry) × Closes world lanes workers connections keep before hands
       after hands_now closed end added
   closes_served lock first passes locked opened opens rooms benches many workers_are served ran ended names = (
     items_of ran.history.turns,
@@ -128,36 +124,35 @@ module _ {D A E C W L : Type 0} (state : D → DiskState) (faults : D → ℕ) (
   )
 
 -- pass 0 of a lock that was just made, and the passes that it gave
-pub first_is : {D : Type 0} (faults : D → ℕ) (shop : ShopData D) (count : ℕ) (lock : TurnstileView Entry) (first : PassView Entry) (passes : List (PassView Entry))
-    → IsLocked faults shop count lock first passes → IsFirst first
-first_is faults shop count lock first passes locked = record {
+pub first_is : {D : Type 0} (disks : disk.Ghosts D) (shop : ShopData D) (count : ℕ) (lock : TurnstileView Entry) (first : PassView Entry) (passes : List (PassView Entry))
+    → IsLocked disks shop count lock first passes → IsFirst first
+first_is disks shop count lock first passes locked = record {
   number = ap (λ pass. pass.number) locked.first_is;
   unjoined = ap (λ pass. pass.joined) locked.first_is;
   unseen = ap (λ pass. pass.seen) locked.first_is;
 }
 
-pub passes_are : {D : Type 0} (faults : D → ℕ) (shop : ShopData D) (count : ℕ) (lock : TurnstileView Entry) (first : PassView Entry) (passes : List (PassView Entry))
-    → IsLocked faults shop count lock first passes → passes ≡ passes_given (record first { given = 0 }) first.given
-passes_are faults shop count lock first passes locked =
+pub passes_are : {D : Type 0} (disks : disk.Ghosts D) (shop : ShopData D) (count : ℕ) (lock : TurnstileView Entry) (first : PassView Entry) (passes : List (PassView Entry))
+    → IsLocked disks shop count lock first passes → passes ≡ passes_given (record first { given = 0 }) first.given
+passes_are disks shop count lock first passes locked =
     locked.passes_are ∙ sym (ap (λ pass. passes_given (record pass { given = 0 }) pass.given) locked.first_is)
 
-pub given_are : {D : Type 0} (faults : D → ℕ) (shop : ShopData D) (count : ℕ) (lock : TurnstileView Entry) (first : PassView Entry) (passes : List (PassView Entry))
-    → IsLocked faults shop count lock first passes → first.given ≡ count
-given_are faults shop count lock first passes locked = ap (λ pass. pass.given) locked.first_is
+pub given_are : {D : Type 0} (disks : disk.Ghosts D) (shop : ShopData D) (count : ℕ) (lock : TurnstileView Entry) (first : PassView Entry) (passes : List (PassView Entry))
+    → IsLocked disks shop count lock first passes → first.given ≡ count
+given_are disks shop count lock first passes locked = ap (λ pass. pass.given) locked.first_is
 
 -- a run whose keep could not be started
-pub unstarted_run : {D A E C W L : Type 0} (state : D → DiskState) (faults : D → ℕ) (store_state : E → StoreState) (store_calls : E → Option (List Call))
-    (store_faults : E → ℕ) (sides : Sides L) (doors : A → DoorsData L) (door_faults : A → ℕ) (moments : C → Option Coming) (words : W → Option Coming)
+pub unstarted_run : {D A E C W L : Type 0} (world : World D A E C W L)
     (text : Option (List ℕ)) (lanes : List (Lane A C L)) (hands : List (Hand E C W)) (before later : Option Coming) (disk left closed : D) (settings : SettingsData) (now : ℕ)
     (fault : KeepFault) (end : RunEnd) (tally : Tally) → IsSettings settings → AreRead text settings → Gives before later now
-    → StartFault state faults disk left settings now fault × StartsNot state faults disk left settings now → end ≡ start_end fault → tally ≡ no_tally → closed ≡ left
-    → StopsUnstarted state faults store_state store_calls store_faults sides doors door_faults moments words text (many_threads disk lanes hands before)
+    → StartFault world.disks.state world.disks.faults disk left settings now fault × StartsNot world.disks.state world.disks.faults disk left settings now → end ≡ start_end fault → tally ≡ no_tally → closed ≡ left
+    → StopsUnstarted world text (many_threads disk lanes hands before)
     (many_threads closed lanes hands later) end tally
-unstarted_run state faults store_state store_calls store_faults sides doors door_faults moments words text lanes hands before later disk left closed settings now fault end
+unstarted_run world text lanes hands before later disk left closed settings now fault end
     tally valid read tick started ended counted same = record {
-      stop = subst (λ (e : RunEnd). IsStop state faults text before later disk closed e) (sym ended)
-          (subst (λ d. IsStop state faults text before later disk d (start_end fault)) (sym same)
-          (unstarted state faults text before later disk left fault
+      stop = subst (λ (e : RunEnd). IsStop world.disks text before later disk closed e) (sym ended)
+          (subst (λ d. IsStop world.disks text before later disk d (start_end fault)) (sym same)
+          (unstarted world.disks text before later disk left fault
           (record { settings = settings; kept = valid; read = read; now = now; moment = tick; cause = started.0; leaves = started.1 })));
       counted = counted;
       lanes = refl;

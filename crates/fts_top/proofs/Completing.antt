@@ -11,12 +11,10 @@ use Rattle.fts_tables.specs.SettingsData.{SettingsData}
 use Rattle.fts_tables.specs.declared.limits.TheConstants.{MAX_REQUESTS}
 use Rattle.fts_config.specs.Settings.{settings_of}
 use Rattle.fts_config.specs.declared.fault.SettingsFault.{SettingsFault}
-use Rattle.fts_disk.specs.Disk.{DiskState, IsTold}
-use Rattle.fts_store.specs.Calls.{Call}
-use Rattle.fts_store.specs.Store.{StoreState}
+use Rattle.fts_disk.specs.Disk.{IsTold}
 use Rattle.fts_wire.specs.RequestData.{RequestData}
 use Rattle.fts_wire.specs.RoomData.{RoomData}
-use Rattle.fts_wire.specs.Requests.{Next, Closed, EndsInside, Refuses, Asks, next_of, AreRequests}
+use Rattle.fts_wire.specs.Requests.{Next, Closed, EndsInside, Refuses, next_of, AreRequests}
 use Rattle.fts_wire.specs.Taken.{pending, IsNext}
 use Rattle.fts_wire.specs.Faults.{status_of as fault_status}
 use Rattle.fts_wire.specs.declared.fault.WireFault.{WireFault}
@@ -33,21 +31,23 @@ use Rattle.fts_workers.specs.declared.ends.RoundEnd.TheVariants as round_ends
 use Rattle.fts_words.specs.declared.asked.Asked.{Asked}
 use Rattle.fts_words.specs.declared.asked.Asked.TheVariants as asks
 use Rattle.fts_top.specs.Asked.{DoesAsked}
-use Rattle.fts_top.specs.Connections.{Reading, Exchange, requests_of, responses_of, AreRequestsIn, GoOn, EndsByClose as ClosedByLast, TriesOneMore, AreWritten, Ends, is_there, AreServed, LastAnswered, IsConnection}
+use Rattle.fts_session.specs.Connections.{Reading, Exchange, requests_of, responses_of, AreRequestsIn, GoOn, EndsByClose as ClosedByLast, AreWritten, Ends, is_there, AreServed, LastAnswered}
 use Rattle.fts_top.specs.Ends.{status_of, line_status, round_status, session_status}
-use Rattle.fts_top.specs.Looks.{IsLook, IsLookStop, LookStops, Shows, WritesText}
-use Rattle.fts_top.specs.Shown.{shown_text}
+use Rattle.fts_top.specs.Looks.{IsLook, IsLookStop, Shows, WritesText}
+use Rattle.fts_show.specs.Shown.{shown_text}
 use Rattle.fts_top.specs.Runs.{OneThread, OverDisks, OverHands, one_thread, IsStop, StopsEarly, RunsSession, IsSessionRun}
-use Rattle.fts_top.specs.Sessions.{AnswersNext, FollowedByRound, LastRounds}
-use Rattle.fts_top.specs.Complete.{NoneCloses, EndsWell, HasGoodSettings, IsUndamaged, BreaksNoRule, Stays, AnswersUnlessMemory, AnswersAsDefined, AnswersAll, Finishes, FinishesShowing, ShowsAll, Completes, failures_of, begun}
-use Rattle.fts_top.specs.declared.ends.LineEnd.{LineEnd}
-use Rattle.fts_top.specs.declared.ends.LineEnd.TheVariants as line_ends
-use Rattle.fts_top.specs.declared.ends.SessionEnd.{SessionEnd}
+use Rattle.fts_session.specs.Sessions.{AnswersNext, FollowedByRound, LastRounds}
+use Rattle.fts_top.specs.Complete.{NoneCloses, EndsWell, HasGoodSettings, IsUndamaged, BreaksNoRule, Stays, AnswersUnlessMemory, AnswersAsDefined, AnswersAll, Finishes, FinishesShowing, Completes, failures_of, begun}
+use Rattle.fts_session.specs.declared.ends.LineEnd.{LineEnd}
+use Rattle.fts_session.specs.declared.ends.LineEnd.TheVariants as line_ends
+use Rattle.fts_session.specs.declared.ends.SessionEnd.{SessionEnd}
 use Rattle.fts_top.specs.declared.ends.RunEnd.{RunEnd}
 use Rattle.fts_top.specs.declared.ends.RunEnd.TheVariants.{NoMemory, NoCommand, SettingsUnread, SettingsRule, DiskFailed, Damaged, JournalFull, Session, Shown, SourcesUnmade, LineUnwritten, DoorsFailed, Served}
 use Rattle.fts_top.specs.declared.tally.Tally.{Tally}
 use Rattle.fts_top.proofs.Inputs.{InputEnd, Between, ByClose, ByNumber, Holds, EndsSo, IsEnd, same_input, holds_between, holds_all, holds_close, held_well}
 use Rattle.fts_top.proofs.Steady.{served_on, last_rounds_on, stays_within, served_unless_memory, defined_or_wanting, limit_met, last_not_busy}
+use Rattle.fts_disk.specs.declared.disk.Disk as disk
+use Rattle.fts_store.specs.declared.store.Store as store
 
 none_closes : (exchanges : List Exchange) → GoOn exchanges → NoneCloses (requests_of exchanges)
 none_closes [] go_on = All-nil (λ (request : RequestData). request.close ≡ false)
@@ -188,13 +188,13 @@ not_by_line end session line status ended has not is = not (ap status_of ended �
     of_line : (one : LineEnd) (last : RoundEnd) → one ≡ line → session_status (record { line = one; last = last }) ≡ status
     of_line one last same = ap (λ (l : LineEnd). unwrap_or (line_status l) (round_status last)) same ∙ ap (λ (o : Option ℕ). unwrap_or o (round_status last)) has
 
-module _ {D E : Type 0} (state : D → DiskState) (faults : D → ℕ) (store_state : E → StoreState) (store_calls : E → Option (List Call)) (store_faults : E → ℕ)
+module _ {D E : Type 0} (disks : disk.Ghosts D) (stores : store.Ghosts E)
     (text : Option (List ℕ)) (before after : OneThread D E) (end : RunEnd) (tally : Tally) (requests : List RequestData)
-    (rules : BreaksNoRule text (state before.disk) before.input.left requests) (disk : Stays (faults before.disk) (faults after.disk))
+    (rules : BreaksNoRule text (disks.state before.disk) before.input.left requests) (disk : Stays (disks.faults before.disk) (disks.faults after.disk))
     (not_disk : status_of end ≢ 4) (not_read : status_of end ≢ 5) (not_sent : status_of end ≢ 6) where
-  module _ (run : RunsSession state faults store_state store_calls store_faults text before after end tally) where
+  module _ (run : RunsSession disks stores text before after end tally) where
     abbrev begun_at : Walk
-    begun_at = begun state faults store_state store_calls store_faults text before after end tally run
+    begun_at = begun disks stores text before after end tally run
 
     line_closed : EndsClosed requests run.ran.session.connection.served run.ran.session.connection.last before.output after.output run.ran.session_end.line
     line_closed = by_input before.input.left rules.ends_well run.ran.session.connection.requests
@@ -215,11 +215,11 @@ module _ {D E : Type 0} (state : D → DiskState) (faults : D → ℕ) (store_st
     stays : Stays begun_at.faults run.ran.session.connection.middle.faults
     stays =
         let rounds = last_rounds_on run.settings.workers run.ran.session.between run.ran.session_end.last run.ran.final run.ran.session.rounds in
-        stays_within (faults before.disk) begun_at.faults run.ran.session.connection.middle.faults (faults after.disk) run.starts.counts
+        stays_within (disks.faults before.disk) begun_at.faults run.ran.session.connection.middle.faults (disks.faults after.disk) run.starts.counts
         (omega (arith, ap (λ (walk : Walk). walk.faults) between_is, rounds.counts, run.ran.faults_left)) disk
 
     abbrev Answered : (Walk → RequestData → Reply → Walk → Type 0) → Type 0
-    Answered Answers = AnswersAll state faults store_state store_calls store_faults text before after end tally Answers requests run
+    Answered Answers = AnswersAll disks stores text before after end tally Answers requests run
 
     answered_all : Answered AnswersUnlessMemory
     answered_all = record {
@@ -237,7 +237,7 @@ module _ {D E : Type 0} (state : D → DiskState) (faults : D → ℕ) (store_st
         rounds.fills (subst (λ (walk : Walk). walk.used ≡ used_of walk.entries) (sym between_is) (served.fills (own.holds.fills ∙ ap used_of own.listed)))
 
     abbrev Finished : Type 0
-    Finished = Finishes state faults store_state store_calls store_faults text before after end tally requests
+    Finished = Finishes disks stores text before after end tally requests
 
     by_replies : status_of end ≡ 0
         → AreServed AnswersAsDefined (FollowedByRound run.settings.workers) begun_at run.ran.session.connection.served run.ran.session.connection.middle
@@ -270,15 +270,15 @@ module _ {D E : Type 0} (state : D → DiskState) (faults : D → ℕ) (store_st
   not_broken None fault good is = good
   not_broken (Some bytes) fault good is = true≢false (sym (subst (λ (r : Result SettingsData SettingsFault). IsOk r) is good))
 
-  not_damaged : (offset : ℕ) → ((state before.disk).seen ≡ []) ⊎ IsUndamaged (state before.disk).seen
-      → (IsTold (state before.disk) → ((state before.disk).seen ≢ []) × IsDamaged (state before.disk).seen offset) → ⊥
+  not_damaged : (offset : ℕ) → ((disks.state before.disk).seen ≡ []) ⊎ IsUndamaged (disks.state before.disk).seen
+      → (IsTold (disks.state before.disk) → ((disks.state before.disk).seen ≢ []) × IsDamaged (disks.state before.disk).seen offset) → ⊥
   not_damaged offset (inl empty) cause = (cause rules.told).0 empty
   not_damaged offset (inr good) cause = good offset (cause rules.told).1
 
   module _ (not_command : status_of end ≢ 2) (not_unread : status_of end ≢ 8) where
-    by_stop : (e : RunEnd) → end ≡ e → IsStop state faults text before.moments after.moments before.disk after.disk e
-        → StopsEarly state faults store_state store_calls store_faults text before after end tally
-        → Finishes state faults store_state store_calls store_faults text before after end tally requests
+    by_stop : (e : RunEnd) → end ≡ e → IsStop disks text before.moments after.moments before.disk after.disk e
+        → StopsEarly disks stores text before after end tally
+        → Finishes disks stores text before after end tally requests
     by_stop NoCommand is stop stops = absurd (not_command (ap status_of is))
     by_stop SettingsUnread is stop stops = absurd (not_unread (ap status_of is))
     by_stop (SettingsRule rule) is stop stops = absurd (not_broken text stop.0.fault rules.settings stop.0.told)
@@ -308,19 +308,19 @@ module _ {D E : Type 0} (state : D → DiskState) (faults : D → ℕ) (store_st
     by_stop DoorsFailed is stop stops = absurd stop
     by_stop (Served worst) is stop stops = absurd stop
 
-    run_finishes : IsSessionRun state faults store_state store_calls store_faults end tally text before after
-        → Finishes state faults store_state store_calls store_faults text before after end tally requests
+    run_finishes : IsSessionRun disks stores end tally text before after
+        → Finishes disks stores text before after end tally requests
     run_finishes (inl stops) = by_stop end refl stops.stop stops
     run_finishes (inr run) = ran_finishes run
 
-module _ {D E : Type 0} (state : D → DiskState) (faults : D → ℕ) (store_state : E → StoreState) (store_calls : E → Option (List Call)) (store_faults : E → ℕ)
+module _ {D E : Type 0} (disks : disk.Ghosts D) (stores : store.Ghosts E)
     (text : Option (List ℕ)) (before after : OneThread D E) (end : RunEnd) (tally : Tally)
-    (not_unread : status_of end ≢ 8) (not_sent : status_of end ≢ 6) (disk : Stays (faults before.disk) (faults after.disk))
-    (good : HasGoodSettings text) (told : IsTold (state before.disk)) (undamaged : IsUndamaged (state before.disk).seen) where
+    (not_unread : status_of end ≢ 8) (not_sent : status_of end ≢ 6) (disk : Stays (disks.faults before.disk) (disks.faults after.disk))
+    (good : HasGoodSettings text) (told : IsTold (disks.state before.disk)) (undamaged : IsUndamaged (disks.state before.disk).seen) where
   abbrev FinishedShowing : Type 0
-  FinishedShowing = FinishesShowing state faults store_state store_calls store_faults text before after end tally
+  FinishedShowing = FinishesShowing disks stores text before after end tally
 
-  by_look_stop : (e : RunEnd) → end ≡ e → IsLookStop state faults text before.disk after.disk e → after.output ≡ before.output → FinishedShowing
+  by_look_stop : (e : RunEnd) → end ≡ e → IsLookStop disks text before.disk after.disk e → after.output ≡ before.output → FinishedShowing
   by_look_stop NoMemory is stop unwritten = inr (ap status_of is, unwritten)
   by_look_stop SettingsUnread is stop unwritten = absurd (not_unread (ap status_of is))
   by_look_stop (SettingsRule rule) is stop unwritten = absurd (is_good text stop.0.fault good stop.0.told)
@@ -339,7 +339,7 @@ module _ {D E : Type 0} (state : D → DiskState) (faults : D → ℕ) (store_st
   by_look_stop DoorsFailed is stop unwritten = absurd stop
   by_look_stop (Served worst) is stop unwritten = absurd stop
 
-  by_whole : (whole : Bool) → end ≡ Shown whole → (shows : Shows state faults text before.disk after.disk before.output after.output end tally)
+  by_whole : (whole : Bool) → end ≡ Shown whole → (shows : Shows disks text before.disk after.disk before.output after.output end tally)
       → WritesText (shown_text shows.tables) before.output after.output whole → FinishedShowing
   by_whole false is shows written = absurd (not_sent (ap status_of is))
   by_whole true is shows written = inl (record {
@@ -349,53 +349,53 @@ module _ {D E : Type 0} (state : D → DiskState) (faults : D → ℕ) (store_st
     status = ap status_of is;
   })
 
-  look_finishes : IsLook state faults end tally text before.disk after.disk before.output after.output → FinishedShowing
+  look_finishes : IsLook disks end tally text before.disk after.disk before.output after.output → FinishedShowing
   look_finishes (inl stops) = by_look_stop end refl stops.stop stops.unwritten
   look_finishes (inr shows) = by_whole shows.whole shows.ended shows shows.written
 
 -- what one thread does comes to its end
-pub completes : {D E : Type 0} (state : D → DiskState) (faults : D → ℕ) (store_state : E → StoreState) (store_calls : E → Option (List Call)) (store_faults : E → ℕ)
+pub completes : {D E : Type 0} (disks : disk.Ghosts D) (stores : store.Ghosts E)
     (text : Option (List ℕ)) (before after : OneThread D E) (end : RunEnd) (tally : Tally) (settings settings2 input input2 output output2 : ℕ) (asked : Option Asked)
-    → DoesAsked state faults store_state store_calls store_faults asked end tally text before after
+    → DoesAsked disks stores asked end tally text before after
     → (status_of end ≡ 2 → asked ≡ None) → (status_of end ≡ 8 → Rose settings settings2) → (status_of end ≡ 5 → Rose input input2) → (status_of end ≡ 6 → Rose output output2)
-    → (status_of end ≡ 4 → Rose (faults before.disk) (faults after.disk))
-    → Completes state faults store_state store_calls store_faults text before after end tally asked
-    (failures_of settings input output (faults before.disk)) (failures_of settings2 input2 output2 (faults after.disk))
-completes state faults store_state store_calls store_faults text before after end tally settings settings2 input input2 output output2 None does words unread read sent failed = tt
-completes state faults store_state store_calls store_faults text before after end tally settings settings2 input input2 output output2 (Some asks.Session) does words unread read sent failed =
-    λ none requests rules. run_finishes state faults store_state store_calls store_faults text before after end tally requests rules none.disk (λ e. none.disk (failed e)) (λ e. none.input (read e))
+    → (status_of end ≡ 4 → Rose (disks.faults before.disk) (disks.faults after.disk))
+    → Completes disks stores text before after end tally asked
+    (failures_of settings input output (disks.faults before.disk)) (failures_of settings2 input2 output2 (disks.faults after.disk))
+completes disks stores text before after end tally settings settings2 input input2 output output2 None does words unread read sent failed = tt
+completes disks stores text before after end tally settings settings2 input input2 output output2 (Some asks.Session) does words unread read sent failed =
+    λ none requests rules. run_finishes disks stores text before after end tally requests rules none.disk (λ e. none.disk (failed e)) (λ e. none.input (read e))
     (λ e. none.output (sent e)) (λ e. some (words e)) (λ e. none.settings (unread e)) does
   where
     some : Some asks.Session ≡ None → ⊥
     some e = cc
-completes state faults store_state store_calls store_faults text before after end tally settings settings2 input input2 output output2 (Some asks.Show) does words unread read sent failed =
-    λ settings_stay output_stays disk_stays good told undamaged. look_finishes state faults store_state store_calls store_faults text before after end tally (λ e. settings_stay (unread e))
+completes disks stores text before after end tally settings settings2 input input2 output output2 (Some asks.Show) does words unread read sent failed =
+    λ settings_stay output_stays disk_stays good told undamaged. look_finishes disks stores text before after end tally (λ e. settings_stay (unread e))
     (λ e. output_stays (sent e)) disk_stays good told undamaged does.0
-completes state faults store_state store_calls store_faults text before after end tally settings settings2 input input2 output output2 (Some (asks.Load number)) does words unread read sent failed = tt
-completes state faults store_state store_calls store_faults text before after end tally settings settings2 input input2 output output2 (Some (asks.Serve port lanes connections)) does words unread read sent failed = tt
+completes disks stores text before after end tally settings settings2 input input2 output output2 (Some (asks.Load number)) does words unread read sent failed = tt
+completes disks stores text before after end tally settings settings2 input input2 output output2 (Some (asks.Serve port lanes connections)) does words unread read sent failed = tt
 
 -- the same over the disk and the first hand
-pub completes_over : {D E H : Type 0} (state : D → DiskState) (faults : D → ℕ) (store_state : E → StoreState) (store_calls : E → Option (List Call)) (store_faults : E → ℕ)
+pub completes_over : {D E H : Type 0} (disks : disk.Ghosts D) (stores : store.Ghosts E)
     (store_of : H → E) (words_of : H → Option Coming) (text : Option (List ℕ)) (input input2 : Reading) (output output2 : Option (List ℕ)) (moments moments2 : Option Coming)
     (end : RunEnd) (tally : Tally) (asked : Option Asked) (settings settings2 reads reads2 writes writes2 : ℕ) (old new : Option D) (hands hands2 : List H)
-    → OverDisks old new (λ disk left. OverHands hands hands2 (λ hand now. DoesAsked state faults store_state store_calls store_faults asked end tally text
+    → OverDisks old new (λ disk left. OverHands hands hands2 (λ hand now. DoesAsked disks stores asked end tally text
     (one_thread disk (store_of hand) input output moments (words_of hand)) (one_thread left (store_of now) input2 output2 moments2 (words_of now))))
     → (status_of end ≡ 2 → asked ≡ None) → (status_of end ≡ 8 → Rose settings settings2) → (status_of end ≡ 5 → Rose reads reads2) → (status_of end ≡ 6 → Rose writes writes2)
-    → (status_of end ≡ 4 → OverDisks old new (λ disk left. Rose (faults disk) (faults left)))
-    → OverDisks old new (λ disk left. OverHands hands hands2 (λ hand now. Completes state faults store_state store_calls store_faults text
+    → (status_of end ≡ 4 → OverDisks old new (λ disk left. Rose (disks.faults disk) (disks.faults left)))
+    → OverDisks old new (λ disk left. OverHands hands hands2 (λ hand now. Completes disks stores text
     (one_thread disk (store_of hand) input output moments (words_of hand)) (one_thread left (store_of now) input2 output2 moments2 (words_of now)) end tally asked
-    (failures_of settings reads writes (faults disk)) (failures_of settings2 reads2 writes2 (faults left))))
-completes_over state faults store_state store_calls store_faults store_of words_of text input input2 output output2 moments moments2 end tally asked settings settings2 reads reads2 writes writes2
+    (failures_of settings reads writes (disks.faults disk)) (failures_of settings2 reads2 writes2 (disks.faults left))))
+completes_over disks stores store_of words_of text input input2 output output2 moments moments2 end tally asked settings settings2 reads reads2 writes writes2
     None new hands hands2 does words unread read sent failed = tt
-completes_over state faults store_state store_calls store_faults store_of words_of text input input2 output output2 moments moments2 end tally asked settings settings2 reads reads2 writes writes2
+completes_over disks stores store_of words_of text input input2 output output2 moments moments2 end tally asked settings settings2 reads reads2 writes writes2
     (Some disk) None hands hands2 does words unread read sent failed = does
-completes_over state faults store_state store_calls store_faults store_of words_of text input input2 output output2 moments moments2 end tally asked settings settings2 reads reads2 writes writes2
+completes_over disks stores store_of words_of text input input2 output output2 moments moments2 end tally asked settings settings2 reads reads2 writes writes2
     (Some disk) (Some left) [] hands2 does words unread read sent failed = tt
-completes_over state faults store_state store_calls store_faults store_of words_of text input input2 output output2 moments moments2 end tally asked settings settings2 reads reads2 writes writes2
+completes_over disks stores store_of words_of text input input2 output output2 moments moments2 end tally asked settings settings2 reads reads2 writes writes2
     (Some disk) (Some left) (hand ∷ others) [] does words unread read sent failed = does
-completes_over state faults store_state store_calls store_faults store_of words_of text input input2 output output2 moments moments2 end tally asked settings settings2 reads reads2 writes writes2
+completes_over disks stores store_of words_of text input input2 output output2 moments moments2 end tally asked settings settings2 reads reads2 writes writes2
     (Some disk) (Some left) (hand ∷ others) (now ∷ others_now) does words unread read sent failed = (
-      completes state faults store_state store_calls store_faults text (one_thread disk (store_of hand) input output moments (words_of hand))
+      completes disks stores text (one_thread disk (store_of hand) input output moments (words_of hand))
           (one_thread left (store_of now) input2 output2 moments2 (words_of now)) end tally settings settings2 reads reads2 writes writes2 asked does.0 words unread read sent failed,
       does.1,
     )

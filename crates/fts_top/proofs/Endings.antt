@@ -7,13 +7,12 @@ use Rattle.fts_keep.specs.declared.fault.KeepFault.{KeepFault}
 use Rattle.fts_keep.specs.declared.fault.KeepFault.TheVariants as faults_of_keep
 use Rattle.fts_shop.specs.declared.ends.WorkerEnd.{WorkerEnd}
 use Rattle.fts_shop.specs.declared.ends.WorkerEnd.TheVariants as worker_ends
-use Rattle.fts_top.specs.Ends.{status_of, worker_status, IsServingStatus}
+use Rattle.fts_top.specs.Ends.{status_of, worker_status, IsServingStatus, end_when_served}
 use Rattle.fts_top.specs.Runs.{HasNoSettings, start_end}
-use Rattle.fts_top.specs.Served.{end_when_served}
 use Rattle.fts_top.specs.declared.ends.RunEnd.{RunEnd}
 use Rattle.fts_top.specs.declared.ends.RunEnd.TheVariants.{NoMemory, NoCommand, SettingsUnread, SettingsRule, DiskFailed, Damaged, JournalFull, Session, Shown, SourcesUnmade, LineUnwritten, DoorsFailed, Served}
-use Rattle.fts_top.specs.declared.together.ServedEnd.{ServedEnd}
-use Rattle.fts_top.specs.declared.together.ServedEnd.TheVariants as served_ends
+use Rattle.fts_service.specs.declared.together.ServedEnd.{ServedEnd}
+use Rattle.fts_service.specs.declared.together.ServedEnd.TheVariants as served_ends
 
 -- a start that failed
 pub start_status : (fault : KeepFault) → IsServingStatus (status_of (start_end fault))

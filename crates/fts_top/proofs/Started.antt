@@ -7,9 +7,7 @@ use Rattle.fts_tables.specs.Step.{step}
 use Rattle.fts_tables.specs.History.{tables_of, tables_from, tables_after, out_step, out_from, out_of_list, IsLegal}
 use Rattle.fts_tables.specs.declared.commands.Entry.{Entry}
 use Rattle.fts_tables.specs.declared.rows.Outcome.{Outcome}
-use Rattle.fts_disk.specs.Disk.{DiskState, IsTold, LeavesOnly}
-use Rattle.fts_store.specs.Calls.{Call}
-use Rattle.fts_store.specs.Store.{StoreState}
+use Rattle.fts_disk.specs.Disk.{IsTold, LeavesOnly}
 use Rattle.fts_keep.specs.Keeps.{KeepData, IsImageOf, IsImageSince, with_doubt}
 use Rattle.fts_keep.specs.Started.{restart_at, restarted, StartsOver, StartFault, StartsNot}
 use Rattle.fts_keep.specs.declared.fault.KeepFault.{KeepFault}
@@ -18,15 +16,17 @@ use Rattle.fts_workers.specs.Benches.{BenchData, held_as, held_over, kept_of, Ke
 use Rattle.fts_workers.specs.Copies.{Copy, copies_from, copies_kept, FollowsReports}
 use Rattle.fts_workers.specs.Rounds.{IsWorkedOver}
 use Rattle.fts_workers.specs.declared.held.Held.{Held}
-use Rattle.fts_top.specs.Connections.{Reading}
+use Rattle.fts_session.specs.Connections.{Reading}
 use Rattle.fts_laws.specs.Attempts.{claims_in}
 use Rattle.fts_top.specs.Tallies.{tally_with, no_tally}
-use Rattle.fts_top.specs.Sessions.{IsSession, IsOver, IsReady, walk_of, kept_at, thread}
+use Rattle.fts_session.specs.Sessions.{IsSession, IsOver, IsReady, walk_of, kept_at, thread}
 use Rattle.fts_top.specs.Runs.{one_thread, begun_with, AreRead, HasNoSettings, IsStop, StartsWith, LeavesList, ServesKeep, StopsEarly, RunsSession, IsSessionRun, start_end}
 use Rattle.fts_top.specs.declared.ends.RunEnd.{RunEnd}
 use Rattle.fts_top.specs.declared.ends.RunEnd.TheVariants.{NoMemory, NoCommand, SettingsUnread, SettingsRule, DiskFailed, Damaged, JournalFull, Session, Shown, SourcesUnmade, LineUnwritten, DoorsFailed, Served}
 use Rattle.fts_top.specs.declared.tally.Tally.{Tally}
-use Rattle.fts_top.proofs.Keeping.{legal_behind, joined, weakened, since_more}
+use Rattle.fts_session.proofs.Keeping.{legal_behind, joined, weakened, since_more}
+use Rattle.fts_disk.specs.declared.disk.Disk as disk
+use Rattle.fts_store.specs.declared.store.Store as store
 
 -- how a list with a Restart behind it is legal
 restarted_legal : (opening : List Entry) (now : ℕ) (settings : SettingsData) → IsLegal opening → IsLegal (restarted opening now settings)
@@ -56,18 +56,18 @@ started_over keep bench opening now settings legal folded counted empty = record
 }
 
 -- so a thread that has claimed nothing is ready
-pub started_ready : {D E : Type 0} (state : D → DiskState) (faults : D → ℕ) (disk : D) (settings : SettingsData) (now : ℕ) (keep : KeepData D) (bench : BenchData)
-    (store : E) (moments words : Option Coming) (opening : List Entry) → StartsOver state faults disk settings now keep opening → bench.held ≡ []
+pub started_ready : {D E : Type 0} (disks : disk.Ghosts D) (disk : D) (settings : SettingsData) (now : ℕ) (keep : KeepData D) (bench : BenchData)
+    (store : E) (moments words : Option Coming) (opening : List Entry) → StartsOver disks.state disks.faults disk settings now keep opening → bench.held ≡ []
     → IsReady (thread keep bench 0 store moments words)
-started_ready state faults disk settings now keep bench store moments words opening starts empty = record {
+started_ready disks disk settings now keep bench store moments words opening starts empty = record {
   over = (restarted opening now settings, started_over keep bench opening now settings starts.legal starts.folded starts.counted empty);
   kept = subst KeepsOne (sym empty) tt;
   few = omega arith;
 }
 
-module _ {D : Type 0} (state : D → DiskState) (faults : D → ℕ) where
+module _ {D : Type 0} (disks : disk.Ghosts D) where
   -- a run with no settings stopped before anything was started
-  pub unsettled : (text : Option (List ℕ)) (moments : Option Coming) (disk : D) (end : RunEnd) → HasNoSettings text end → IsStop state faults text moments moments disk disk end
+  pub unsettled : (text : Option (List ℕ)) (moments : Option Coming) (disk : D) (end : RunEnd) → HasNoSettings text end → IsStop disks text moments moments disk disk end
   unsettled text moments disk NoMemory h = inl (record { disk_is = refl; moments_are = refl })
   unsettled text moments disk SettingsUnread h = record { disk_is = refl; moments_are = refl }
   unsettled text moments disk (SettingsRule rule) h = (h, record { disk_is = refl; moments_are = refl })
@@ -84,21 +84,21 @@ module _ {D : Type 0} (state : D → DiskState) (faults : D → ℕ) where
 
   -- a keep that could not be started stops the run
   pub unstarted : (text : Option (List ℕ)) (moments later : Option Coming) (disk left : D) (fault : KeepFault)
-      → StartsWith state faults text moments later disk left fault → IsStop state faults text moments later disk left (start_end fault)
+      → StartsWith disks text moments later disk left fault → IsStop disks text moments later disk left (start_end fault)
   unstarted text moments later disk left faults_of_keep.DiskFailed h = h
   unstarted text moments later disk left (faults_of_keep.Damaged offset) h = h
   unstarted text moments later disk left (faults_of_keep.JournalFull used) h = h
   unstarted text moments later disk left faults_of_keep.Memory h = inr h
   unstarted text moments later disk left (faults_of_keep.Rule refusal) h = absurd h.cause
 
-module _ {D E : Type 0} (state : D → DiskState) (faults : D → ℕ) (store_state : E → StoreState) (store_calls : E → Option (List Call)) (store_faults : E → ℕ) where
+module _ {D E : Type 0} (disks : disk.Ghosts D) (stores : store.Ghosts E) where
   -- a run that has no settings
   pub stops_unset : (text : Option (List ℕ)) (moments words : Option Coming) (disk closed : D) (store : E) (input : Reading) (output : Option (List ℕ)) (found end : RunEnd) (tally : Tally)
       → HasNoSettings text found → end ≡ found → tally ≡ no_tally → closed ≡ disk
-      → StopsEarly state faults store_state store_calls store_faults text (one_thread disk store input output moments words) (one_thread closed store input output moments words) end tally
+      → StopsEarly disks stores text (one_thread disk store input output moments words) (one_thread closed store input output moments words) end tally
   stops_unset text moments words disk closed store input output found end tally unset ended counted same = record {
-    stop = subst (λ (e : RunEnd). IsStop state faults text moments moments disk closed e) (sym ended)
-        (subst (λ (d : D). IsStop state faults text moments moments disk d found) (sym same) (unsettled state faults text moments disk found unset));
+    stop = subst (λ (e : RunEnd). IsStop disks text moments moments disk closed e) (sym ended)
+        (subst (λ (d : D). IsStop disks text moments moments disk d found) (sym same) (unsettled disks text moments disk found unset));
     counted = counted;
     untaken = refl;
     unwritten = refl;
@@ -108,20 +108,20 @@ module _ {D E : Type 0} (state : D → DiskState) (faults : D → ℕ) (store_st
 
   pub stopped_unset : (text : Option (List ℕ)) (moments words : Option Coming) (disk closed : D) (store : E) (input : Reading) (output : Option (List ℕ)) (found end : RunEnd) (tally : Tally)
       → HasNoSettings text found → end ≡ found → tally ≡ no_tally → closed ≡ disk
-      → IsSessionRun state faults store_state store_calls store_faults end tally text (one_thread disk store input output moments words) (one_thread closed store input output moments words)
+      → IsSessionRun disks stores end tally text (one_thread disk store input output moments words) (one_thread closed store input output moments words)
   stopped_unset text moments words disk closed store input output found end tally unset ended counted same =
       inl (stops_unset text moments words disk closed store input output found end tally unset ended counted same)
 
   -- a run whose keep could not be started
   pub stops : (text : Option (List ℕ)) (before later words : Option Coming) (disk left closed : D) (store : E) (input : Reading) (output : Option (List ℕ)) (settings : SettingsData) (now : ℕ)
       (fault : KeepFault) (end : RunEnd) (tally : Tally) → IsSettings settings → AreRead text settings → Gives before later now
-      → StartFault state faults disk left settings now fault × StartsNot state faults disk left settings now
+      → StartFault disks.state disks.faults disk left settings now fault × StartsNot disks.state disks.faults disk left settings now
       → end ≡ start_end fault → tally ≡ no_tally → closed ≡ left
-      → StopsEarly state faults store_state store_calls store_faults text (one_thread disk store input output before words) (one_thread closed store input output later words) end tally
+      → StopsEarly disks stores text (one_thread disk store input output before words) (one_thread closed store input output later words) end tally
   stops text before later words disk left closed store input output settings now fault end tally valid read tick started ended counted same = record {
-    stop = subst (λ (e : RunEnd). IsStop state faults text before later disk closed e) (sym ended)
-        (subst (λ (d : D). IsStop state faults text before later disk d (start_end fault)) (sym same)
-        (unstarted state faults text before later disk left fault
+    stop = subst (λ (e : RunEnd). IsStop disks text before later disk closed e) (sym ended)
+        (subst (λ (d : D). IsStop disks text before later disk d (start_end fault)) (sym same)
+        (unstarted disks text before later disk left fault
         (record { settings = settings; kept = valid; read = read; now = now; moment = tick; cause = started.0; leaves = started.1 })));
     counted = counted;
     untaken = refl;
@@ -132,16 +132,16 @@ module _ {D E : Type 0} (state : D → DiskState) (faults : D → ℕ) (store_st
 
   pub stopped : (text : Option (List ℕ)) (before later words : Option Coming) (disk left closed : D) (store : E) (input : Reading) (output : Option (List ℕ)) (settings : SettingsData) (now : ℕ)
       (fault : KeepFault) (end : RunEnd) (tally : Tally) → IsSettings settings → AreRead text settings → Gives before later now
-      → StartFault state faults disk left settings now fault × StartsNot state faults disk left settings now
+      → StartFault disks.state disks.faults disk left settings now fault × StartsNot disks.state disks.faults disk left settings now
       → end ≡ start_end fault → tally ≡ no_tally → closed ≡ left
-      → IsSessionRun state faults store_state store_calls store_faults end tally text (one_thread disk store input output before words) (one_thread closed store input output later words)
+      → IsSessionRun disks stores end tally text (one_thread disk store input output before words) (one_thread closed store input output later words)
   stopped text before later words disk left closed store input output settings now fault end tally valid read tick started ended counted same =
       inl (stops text before later words disk left closed store input output settings now fault end tally valid read tick started ended counted same)
 
-  module _ (settings : SettingsData) (now : ℕ) (keep : KeepData D) (opening : List Entry) (disk left : D) (starts : StartsOver state faults disk settings now keep opening)
+  module _ (settings : SettingsData) (now : ℕ) (keep : KeepData D) (opening : List Entry) (disk left : D) (starts : StartsOver disks.state disks.faults disk settings now keep opening)
       (bench : BenchData) (empty : bench.held ≡ []) (places : bench.places ≡ settings.workers) (store store_now : E)
       (moments later words words_later : Option Coming) (kept : List ℕ) (input after : Reading) (held output : Option (List ℕ)) (end : RunEnd) (tally : Tally)
-      (serves : ServesKeep state faults store_state store_calls store_faults (thread keep bench 0 store moments words) bench.places left store_now later words_later
+      (serves : ServesKeep disks stores (thread keep bench 0 store moments words) bench.places left store_now later words_later
       kept input after held output end tally) where
     -- what was added, and the list at the end
     abbrev since : List Entry
@@ -159,34 +159,34 @@ module _ {D E : Type 0} (state : D → DiskState) (faults : D → ℕ) (store_st
 
     -- the session began with nothing kept
     session_is : kept ≡ [] → IsSession [] settings.workers input after held output serves.session_end
-        (begun_with (restarted opening now settings) keep.used (faults keep.disk) moments words) (walk_of faults final_list serves.last)
+        (begun_with (restarted opening now settings) keep.used (disks.faults keep.disk) moments words) (walk_of disks.faults final_list serves.last)
     session_is none =
         let ran = serves.session.goes (restarted opening now settings) begun_over in
         subst (λ (k : Option Outcome). IsSession [] settings.workers input after held output serves.session_end
-        (record { entries = restarted opening now settings; used = keep.used; faults = faults keep.disk; kept = k; moments = moments; words = words })
-        (walk_of faults final_list serves.last)) (ap kept_of empty)
-        (subst (λ (w : ℕ). IsSession [] w input after held output serves.session_end (walk_of faults (restarted opening now settings) (thread keep bench 0 store moments words))
-        (walk_of faults final_list serves.last)) places
+        (record { entries = restarted opening now settings; used = keep.used; faults = disks.faults keep.disk; kept = k; moments = moments; words = words })
+        (walk_of disks.faults final_list serves.last)) (ap kept_of empty)
+        (subst (λ (w : ℕ). IsSession [] w input after held output serves.session_end (walk_of disks.faults (restarted opening now settings) (thread keep bench 0 store moments words))
+        (walk_of disks.faults final_list serves.last)) places
         (subst (λ (k : List ℕ). IsSession k bench.places input after held output serves.session_end
-        (walk_of faults (restarted opening now settings) (thread keep bench 0 store moments words)) (walk_of faults final_list serves.last)) none ran))
+        (walk_of disks.faults (restarted opening now settings) (thread keep bench 0 store moments words)) (walk_of disks.faults final_list serves.last)) none ran))
 
     -- the store follows from the reports of the run
-    store_follows : FollowsReports store_state store_calls store_faults [] (copies_from (λ writer. true) (tables_of (restarted opening now settings)) since)
+    store_follows : FollowsReports stores.state stores.calls stores.faults [] (copies_from (λ writer. true) (tables_of (restarted opening now settings)) since)
         (copies_kept (tables_of final_list) (held_over final_list (kept_of serves.last.bench.held))) store store_now
     store_follows =
         let follows = serves.session.follows in
         let begun = ap (λ (l : List Held). copies_kept keep.tables l) empty in
         let ended = ap (λ t. copies_kept t serves.last.bench.held) final_over.list.folded ∙ ap (λ (l : List Held). copies_kept (tables_of final_list) l) final_over.held in
-        subst (λ (s : E). FollowsReports store_state store_calls store_faults [] (copies_from (λ writer. true) (tables_of (restarted opening now settings)) since)
+        subst (λ (s : E). FollowsReports stores.state stores.calls stores.faults [] (copies_from (λ writer. true) (tables_of (restarted opening now settings)) since)
         (copies_kept (tables_of final_list) (held_over final_list (kept_of serves.last.bench.held))) store s) (sym serves.store_is)
-        (subst (λ (l : List Copy). FollowsReports store_state store_calls store_faults [] (copies_from (λ writer. true) (tables_of (restarted opening now settings)) since)
+        (subst (λ (l : List Copy). FollowsReports stores.state stores.calls stores.faults [] (copies_from (λ writer. true) (tables_of (restarted opening now settings)) since)
         l store serves.last.store) ended
-        (subst (λ t. FollowsReports store_state store_calls store_faults [] (copies_from (λ writer. true) t since) (kept_at serves.last) store serves.last.store) starts.folded
-        (subst (λ (l : List Copy). FollowsReports store_state store_calls store_faults l (copies_from (λ writer. true) keep.tables since) (kept_at serves.last) store serves.last.store)
+        (subst (λ t. FollowsReports stores.state stores.calls stores.faults [] (copies_from (λ writer. true) t since) (kept_at serves.last) store serves.last.store) starts.folded
+        (subst (λ (l : List Copy). FollowsReports stores.state stores.calls stores.faults l (copies_from (λ writer. true) keep.tables since) (kept_at serves.last) store serves.last.store)
         begun follows)))
 
     -- what a told disk is left with
-    left_list : (told : IsTold (state disk)) → LeavesList state faults (starts.own told).opened left opening final_list
+    left_list : (told : IsTold (disks.state disk)) → LeavesList disks (starts.own told).opened left opening final_list
     left_list told =
         let own = starts.own told in
         let told_keep = starts.told ∙ told in
@@ -194,18 +194,18 @@ module _ {D E : Type 0} (state : D → DiskState) (faults : D → ℕ) (store_st
         let told_last = extends.told ∙ told_keep in
         let listed : serves.last.keep.entries ≡ final_list = extends.listed told_keep ∙ ap (λ l. l ++ since) own.listed in
         let holds = serves.sound.fold.holds told_last in
-        let early = weakened (state own.opened) (state keep.disk) (IsImageSince opening keep.entries) (IsImageSince opening serves.last.keep.entries) own.images
+        let early = weakened (disks.state own.opened) (disks.state keep.disk) (IsImageSince opening keep.entries) (IsImageSince opening serves.last.keep.entries) own.images
         (λ c image. subst (λ l. IsImageSince opening l c) (sym (extends.listed told_keep)) (since_more opening keep.entries since c image)) in
-        let all = joined (state own.opened) (state keep.disk) (state serves.last.keep.disk) (IsImageSince opening serves.last.keep.entries) early
+        let all = joined (disks.state own.opened) (disks.state keep.disk) (disks.state serves.last.keep.disk) (IsImageSince opening serves.last.keep.entries) early
         (extends.images opening (restart_at now settings ∷ []) own.listed told_keep) in
         record {
-          since = subst (λ (d : D). LeavesOnly (state own.opened) (state d) (IsImageSince opening final_list)) (sym serves.closed)
-              (subst (λ l. LeavesOnly (state own.opened) (state serves.last.keep.disk) (IsImageSince opening l)) listed all);
+          since = subst (λ (d : D). LeavesOnly (disks.state own.opened) (disks.state d) (IsImageSince opening final_list)) (sym serves.closed)
+              (subst (λ l. LeavesOnly (disks.state own.opened) (disks.state serves.last.keep.disk) (IsImageSince opening l)) listed all);
           doubt = serves.last.keep.doubt;
           legal = subst (λ l. IsLegal (with_doubt l serves.last.keep.doubt)) listed holds.legal;
           images = λ c leave. subst (λ l. IsImageOf l serves.last.keep.doubt c) listed
-              (holds.images c (subst (λ (d : D). (state d).may_leave c) serves.closed leave));
-          counts = omega (arith, own.counts, extends.counts, ap faults serves.closed);
+              (holds.images c (subst (λ (d : D). (disks.state d).may_leave c) serves.closed leave));
+          counts = omega (arith, own.counts, extends.counts, ap disks.faults serves.closed);
         }
 
     -- the claims of the run
@@ -214,7 +214,7 @@ module _ {D E : Type 0} (state : D → DiskState) (faults : D → ℕ) (store_st
 
     -- the run from its beginning
     pub runs : (text : Option (List ℕ)) (before : Option Coming) → IsSettings settings → AreRead text settings → Gives before moments now → kept ≡ []
-        → RunsSession state faults store_state store_calls store_faults text (one_thread disk store input held before words)
+        → RunsSession disks stores text (one_thread disk store input held before words)
         (one_thread left store_now after output later words_later) end tally
     runs text before valid read tick none = record {
       settings = settings;
@@ -227,13 +227,13 @@ module _ {D E : Type 0} (state : D → DiskState) (faults : D → ℕ) (store_st
       opening = opening;
       starts = starts;
       ran = record {
-        final = walk_of faults final_list serves.last;
+        final = walk_of disks.faults final_list serves.last;
         session_end = serves.session_end;
         session = session_is none;
         ended = serves.ended;
         moments_left = serves.moments_are;
         words_left = serves.words_are;
-        faults_left = ap faults serves.closed;
+        faults_left = ap disks.faults serves.closed;
         since = since;
         grown = refl;
         legal = final_over.list.legal;
@@ -241,7 +241,7 @@ module _ {D E : Type 0} (state : D → DiskState) (faults : D → ℕ) (store_st
         counted = serves.counted ∙ ap (λ t. tally_with serves.last.claims t) final_over.list.folded
             ∙ ap (λ n. tally_with n (tables_of final_list)) claims_are;
       };
-      tells = ap (λ (d : D). (state d).told) serves.closed ∙ serves.session.extends.told ∙ starts.told;
+      tells = ap (λ (d : D). (disks.state d).told) serves.closed ∙ serves.session.extends.told ∙ starts.told;
       leaves = left_list;
     }
 
@@ -252,6 +252,6 @@ module _ {D E : Type 0} (state : D → DiskState) (faults : D → ℕ) (store_st
     runs_settings text before valid read tick none = refl
 
     pub ran : (text : Option (List ℕ)) (before : Option Coming) → IsSettings settings → AreRead text settings → Gives before moments now → kept ≡ []
-        → IsSessionRun state faults store_state store_calls store_faults end tally text (one_thread disk store input held before words)
+        → IsSessionRun disks stores end tally text (one_thread disk store input held before words)
         (one_thread left store_now after output later words_later)
     ran text before valid read tick none = inr (runs text before valid read tick none)

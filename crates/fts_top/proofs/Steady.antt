@@ -1,5 +1,5 @@
 -- What a session leaves of the disk's count and of the bytes that are used, and what its last round says of the journal's limit.
-use Rattle.std.proofs.Common.{◌≡◌, ◌⊎◌, inl, inr, ℕ, zero, suc, ◌+◌, ◌-◌, ◌<◌, ◌≤◌, Bool, true, false, List, [], ◌∷◌, ◌++◌, length, Option, Some, None, Ok, Err, refl, ap, sym, ◌∙◌, subst, arith}
+use Rattle.std.proofs.Common.{◌≡◌, ◌⊎◌, inl, inr, ℕ, zero, suc, ◌+◌, ◌-◌, ◌<◌, ◌≤◌, Bool, true, false, List, [], ◌∷◌, ◌++◌, length, Ok, Err, refl, ap, sym, ◌∙◌, subst, arith}
 use Rattle.std.specs.Prelude.{if◌then◌else◌, IsOk}
 use Rattle.std.specs.List.{Any}
 use Rattle.fts_tables.specs.Counts.{Rose}
@@ -8,22 +8,21 @@ use Rattle.fts_tables.specs.Step.{Outcomes, step}
 use Rattle.fts_tables.specs.History.{tables_of, out_of_list}
 use Rattle.fts_tables.specs.declared.commands.Answer.{Answer}
 use Rattle.fts_tables.specs.declared.commands.Entry.{Entry}
-use Rattle.fts_keep.specs.Applied.{applied_by, entry_by, fits}
+use Rattle.fts_keep.specs.Applied.{applied_by, fits}
 use Rattle.fts_keep.specs.Keeps.{used_of, used_after}
-use Rattle.fts_keep.specs.declared.fault.KeepFault.{KeepFault}
-use Rattle.fts_keep.specs.declared.fault.KeepFault.TheVariants.{Rule, JournalFull as Full}
+use Rattle.fts_keep.specs.declared.fault.KeepFault.TheVariants.{JournalFull as Full}
 use Rattle.fts_keep.proofs.Lists.{filled_as_listed}
-use Rattle.fts_workers.specs.Rounds.{Walk, Adds, AddsNone, StopsBy, FillsUp, WorksOff, IsRound, Reports, ReportStops, Claims, ClaimStops, FindsNone, applied_at, report_in}
+use Rattle.fts_workers.specs.Rounds.{Walk, Adds, AddsNone, FillsUp, WorksOff, IsRound, report_in}
 use Rattle.fts_workers.specs.Benches.{calm_end}
 use Rattle.fts_workers.specs.declared.ends.RoundEnd.{RoundEnd}
-use Rattle.fts_workers.specs.declared.ends.RoundEnd.TheVariants.{JournalFull, Clear, Busy}
+use Rattle.fts_workers.specs.declared.ends.RoundEnd.TheVariants.{JournalFull, Busy}
 use Rattle.fts_wire.specs.RequestData.{RequestData}
 use Rattle.fts_wire.specs.declared.response.Reply.{Reply}
 use Rattle.fts_routes.specs.Refusals.{no_memory}
 use Rattle.fts_routes.specs.Replies.{Way, AsDefined, WithoutMemory, WithoutDisk, CausedBy, said_so}
-use Rattle.fts_top.specs.Connections.{Exchange, AreServed}
-use Rattle.fts_top.specs.Sessions.{AnswersNext, FollowedByRound, AreLastRounds, LastRounds, said_at}
-use Rattle.fts_top.specs.Complete.{Stays, AnswersBy, AnswersAsDefined, AnswersUnlessMemory, IsOfRound, RoundPasses}
+use Rattle.fts_session.specs.Connections.{Exchange, AreServed}
+use Rattle.fts_session.specs.Sessions.{AnswersNext, FollowedByRound, AreLastRounds, LastRounds, said_at}
+use Rattle.fts_top.specs.Complete.{Stays, AnswersAsDefined, AnswersUnlessMemory, IsOfRound, RoundPasses}
 
 -- the count of faults never fell, and the bytes that are used are those of the list, where they were
 pub record GoesOn (old new : Walk) : Type 0 where

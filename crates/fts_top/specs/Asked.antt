@@ -1,8 +1,5 @@
 -- What a run of one thread does, by what its words ask for.
 use Rattle.std.specs.Prelude.{◌≡◌, ℕ, List, Option, Some, None}
-use Rattle.fts_disk.specs.Disk.{DiskState}
-use Rattle.fts_store.specs.Calls.{Call}
-use Rattle.fts_store.specs.Store.{StoreState}
 use Rattle.fts_words.specs.declared.asked.Asked.{Asked}
 use Rattle.fts_words.specs.declared.asked.Asked.TheVariants as asks
 use Rattle.fts_top.specs.Loads.{IsLoad}
@@ -11,15 +8,17 @@ use Rattle.fts_top.specs.Runs.{OneThread, StopsEarly, IsSessionRun}
 use Rattle.fts_top.specs.declared.ends.RunEnd.{RunEnd}
 use Rattle.fts_top.specs.declared.ends.RunEnd.TheVariants.{NoCommand}
 use Rattle.fts_top.specs.declared.tally.Tally.{Tally}
+use Rattle.fts_disk.specs.declared.disk.Disk as disk
+use Rattle.fts_store.specs.declared.store.Store as store
 
-module _ {D E : Type 0} (state : D → DiskState) (faults : D → ℕ) (store_state : E → StoreState) (store_calls : E → Option (List Call)) (store_faults : E → ℕ) where
+module _ {D E : Type 0} (disks : disk.Ghosts D) (stores : store.Ghosts E) where
   -- words that are not accepted ask for nothing; `serve` is not for one thread
   abbrev pub DoesAsked : Option Asked → RunEnd → Tally → Option (List ℕ) → OneThread D E → OneThread D E → Type 0
-  DoesAsked None end tally text before after = (end ≡ NoCommand) × StopsEarly state faults store_state store_calls store_faults text before after end tally
-  DoesAsked (Some asks.Session) end tally text before after = IsSessionRun state faults store_state store_calls store_faults end tally text before after
+  DoesAsked None end tally text before after = (end ≡ NoCommand) × StopsEarly disks stores text before after end tally
+  DoesAsked (Some asks.Session) end tally text before after = IsSessionRun disks stores end tally text before after
   DoesAsked (Some asks.Show) end tally text before after =
-      IsLook state faults end tally text before.disk after.disk before.output after.output × LooksOnly before after
-  DoesAsked (Some (asks.Load number)) end tally text before after = IsLoad state faults store_state store_calls store_faults number end tally text before after
+      IsLook disks end tally text before.disk after.disk before.output after.output × LooksOnly before after
+  DoesAsked (Some (asks.Load number)) end tally text before after = IsLoad disks stores number end tally text before after
   DoesAsked (Some (asks.Serve port lanes connections)) end tally text before after = ⊥
 
 -- a run does one thing where the words ask to serve, by the lanes and the connections that they name, and another where they don't

@@ -14,8 +14,6 @@ use Rattle.fts_tables.specs.declared.limits.TheConstants.{MAX_REQUESTS}
 use Rattle.fts_tables.specs.declared.rows.Outcome.{Outcome}
 use Rattle.fts_config.specs.Settings.{settings_of}
 use Rattle.fts_disk.specs.Disk.{DiskState, IsTold}
-use Rattle.fts_store.specs.Calls.{Call}
-use Rattle.fts_store.specs.Store.{StoreState}
 use Rattle.fts_wire.specs.RequestData.{RequestData}
 use Rattle.fts_wire.specs.Requests.{AreRequests, next_of, Closed}
 use Rattle.fts_wire.specs.declared.response.Reply.{Reply}
@@ -28,14 +26,16 @@ use Rattle.fts_routes.specs.Replies.{Way, AsDefined, WithoutMemory}
 use Rattle.fts_workers.specs.Rounds.{Walk, report_in}
 use Rattle.fts_words.specs.declared.asked.Asked.{Asked}
 use Rattle.fts_words.specs.declared.asked.Asked.TheVariants as asks
-use Rattle.fts_top.specs.Connections.{Exchange, requests_of, responses_of, AreWritten, AreServed}
+use Rattle.fts_session.specs.Connections.{Exchange, requests_of, responses_of, AreWritten, AreServed}
 use Rattle.fts_top.specs.Ends.{status_of}
 use Rattle.fts_top.specs.Looks.{WritesText}
 use Rattle.fts_top.specs.Runs.{OneThread, AreRead, begun_with, StopsEarly, RunsSession}
-use Rattle.fts_top.specs.Sessions.{AnswersNext, FollowedByRound}
-use Rattle.fts_top.specs.Shown.{shown_text}
+use Rattle.fts_session.specs.Sessions.{AnswersNext, FollowedByRound}
+use Rattle.fts_show.specs.Shown.{shown_text}
 use Rattle.fts_top.specs.declared.ends.RunEnd.{RunEnd}
 use Rattle.fts_top.specs.declared.tally.Tally.{Tally}
+use Rattle.fts_disk.specs.declared.disk.Disk as disk
+use Rattle.fts_store.specs.declared.store.Store as store
 
 -- none of these requests says close
 abbrev pub NoneCloses : List RequestData → Type 0
@@ -134,19 +134,19 @@ pub record RoundPasses (entries : List Entry) : Type 0 where
   pub accepted : IsOk (step (tables_of entries) entry.command)
   pub passes : fits (used_of entries) entry ≡ false
 
-module _ {D E : Type 0} (state : D → DiskState) (faults : D → ℕ) (store_state : E → StoreState) (store_calls : E → Option (List Call)) (store_faults : E → ℕ)
+module _ {D E : Type 0} (disks : disk.Ghosts D) (stores : store.Ghosts E)
     (text : Option (List ℕ)) (before after : OneThread D E) (end : RunEnd) (tally : Tally) where
   -- where the session of a run began: behind its Restart
-  abbrev pub begun : RunsSession state faults store_state store_calls store_faults text before after end tally → Walk
-  begun run = begun_with (restarted run.opening run.now run.settings) run.keep.used (faults run.keep.disk) run.moments before.words
+  abbrev pub begun : RunsSession disks stores text before after end tally → Walk
+  begun run = begun_with (restarted run.opening run.now run.settings) run.keep.used (disks.faults run.keep.disk) run.moments before.words
 
   -- the exchanges of a run whose responses were written whole
-  abbrev pub exchanges_of : RunsSession state faults store_state store_calls store_faults text before after end tally → List Exchange
+  abbrev pub exchanges_of : RunsSession disks stores text before after end tally → List Exchange
   exchanges_of run = run.ran.session.connection.served
 
   -- a run answered these requests and no others, each so, and wrote all responses whole
   pub record AnswersAll (Answers : Walk → RequestData → Reply → Walk → Type 0) (requests : List RequestData)
-      (run : RunsSession state faults store_state store_calls store_faults text before after end tally) : Type 0 where
+      (run : RunsSession disks stores text before after end tally) : Type 0 where
     pub all : requests_of (exchanges_of run) ≡ requests
     pub answered : AreServed Answers (FollowedByRound run.settings.workers) (begun run) (exchanges_of run) run.ran.session.connection.middle
     pub last : run.ran.session.connection.last ≡ []
@@ -154,32 +154,32 @@ module _ {D E : Type 0} (state : D → DiskState) (faults : D → ℕ) (store_st
 
   -- all requests were answered as the machine does, and the status is 0
   pub record DoesAll (requests : List RequestData) : Type 0 where
-    pub run : RunsSession state faults store_state store_calls store_faults text before after end tally
+    pub run : RunsSession disks stores text before after end tally
     pub answers : AnswersAll AnswersAsDefined requests run
     pub status : status_of end ≡ 0
 
   -- all requests were answered, and memory was wanting in place of a reply or for the last round
   pub record WantsMemoryWithin (requests : List RequestData) : Type 0 where
-    pub run : RunsSession state faults store_state store_calls store_faults text before after end tally
+    pub run : RunsSession disks stores text before after end tally
     pub answers : AnswersAll AnswersUnlessMemory requests run
     pub wanting : (status_of end ≡ 1) ⊎ ((status_of end ≡ 0) × Any (λ (exchange : Exchange). exchange.reply ≡ no_memory) (exchanges_of run))
 
   -- memory was wanting to begin, and the status is 1
   pub record WantsMemoryFirst : Type 0 where
-    pub stops : StopsEarly state faults store_state store_calls store_faults text before after end tally
+    pub stops : StopsEarly disks stores text before after end tally
     pub status : status_of end ≡ 1
 
   -- all requests were answered, and then a claim or a report didn't fit the journal
   pub record FillsWithin (requests : List RequestData) : Type 0 where
-    pub run : RunsSession state faults store_state store_calls store_faults text before after end tally
+    pub run : RunsSession disks stores text before after end tally
     pub answers : AnswersAll AnswersUnlessMemory requests run
     pub passes : RoundPasses run.ran.final.entries
     pub status : status_of end ≡ 11
 
   -- the Restart didn't fit it, and nothing was answered
   pub record FillsFirst : Type 0 where
-    pub stops : StopsEarly state faults store_state store_calls store_faults text before after end tally
-    pub passes : RestartPasses text (state before.disk) before.moments
+    pub stops : StopsEarly disks stores text before after end tally
+    pub passes : RestartPasses text (disks.state before.disk) before.moments
     pub status : status_of end ≡ 11
 
   -- a session that nothing was in the way of: it did all, or memory was wanting, or a record passed the journal's limit
@@ -189,7 +189,7 @@ module _ {D E : Type 0} (state : D → DiskState) (faults : D → ℕ) (store_st
   -- a look that nothing was in the way of: the text of the tables of the disk's own list was written whole, or memory was wanting and nothing was
   pub record ShowsAll : Type 0 where
     pub entries : List Entry
-    pub whole : IsWhole (state before.disk).seen entries
+    pub whole : IsWhole (disks.state before.disk).seen entries
     pub written : WritesText (shown_text (tables_of entries)) before.output after.output true
     pub status : status_of end ≡ 0
 
@@ -200,9 +200,9 @@ module _ {D E : Type 0} (state : D → DiskState) (faults : D → ℕ) (store_st
   abbrev pub Completes : Option Asked → Failures → Failures → Type 0
   Completes None old new = Unit {0}
   Completes (Some asks.Session) old new =
-      NoneRose old new → (requests : List RequestData) → BreaksNoRule text (state before.disk) before.input.left requests → Finishes requests
+      NoneRose old new → (requests : List RequestData) → BreaksNoRule text (disks.state before.disk) before.input.left requests → Finishes requests
   Completes (Some asks.Show) old new =
       Stays old.settings new.settings → Stays old.output new.output → Stays old.disk new.disk
-      → HasGoodSettings text → IsTold (state before.disk) → IsUndamaged (state before.disk).seen → FinishesShowing
+      → HasGoodSettings text → IsTold (disks.state before.disk) → IsUndamaged (disks.state before.disk).seen → FinishesShowing
   Completes (Some (asks.Load number)) old new = Unit {0}
   Completes (Some (asks.Serve port lanes connections)) old new = Unit {0}

@@ -4,9 +4,11 @@ use Rattle.fts_workers.specs.declared.ends.RoundEnd.{RoundEnd}
 use Rattle.fts_workers.specs.declared.ends.RoundEnd.TheVariants as round_ends
 use Rattle.fts_shop.specs.declared.ends.WorkerEnd.{WorkerEnd}
 use Rattle.fts_shop.specs.declared.ends.WorkerEnd.TheVariants as worker_ends
-use Rattle.fts_top.specs.declared.ends.SessionEnd.{SessionEnd}
-use Rattle.fts_top.specs.declared.ends.LineEnd.{LineEnd}
-use Rattle.fts_top.specs.declared.ends.LineEnd.TheVariants as line_ends
+use Rattle.fts_service.specs.declared.together.ServedEnd.{ServedEnd}
+use Rattle.fts_service.specs.declared.together.ServedEnd.TheVariants as served_ends
+use Rattle.fts_session.specs.declared.ends.SessionEnd.{SessionEnd}
+use Rattle.fts_session.specs.declared.ends.LineEnd.{LineEnd}
+use Rattle.fts_session.specs.declared.ends.LineEnd.TheVariants as line_ends
 use Rattle.fts_top.specs.declared.ends.RunEnd.{RunEnd}
 use Rattle.fts_top.specs.declared.ends.RunEnd.TheVariants.{NoMemory, NoCommand, SettingsUnread, SettingsRule, DiskFailed, Damaged, JournalFull, Session, Shown, SourcesUnmade, LineUnwritten, DoorsFailed, Served}
 
@@ -53,6 +55,11 @@ status_of SourcesUnmade = 13
 status_of LineUnwritten = 6
 status_of DoorsFailed = 9
 status_of (Served end) = worker_status end
+
+-- how a run ends whose lanes and workers ended so together
+abbrev pub end_when_served : ServedEnd → RunEnd
+end_when_served served_ends.DoorsFailed = DoorsFailed
+end_when_served (served_ends.Worked end) = Served end
 
 -- a status with which a run that serves may end: it is of a command, and has nothing of a session's input and output
 abbrev pub IsServingStatus : ℕ → Type 0

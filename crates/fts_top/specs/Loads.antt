@@ -1,28 +1,28 @@
 -- What a run of `load` is: a keep is started under the settings, the files of the number are made in the store, and a session answers the load's own
 -- requests, whose responses are dropped. A session that ended well is followed by one line, from the tally.
-use Rattle.std.specs.Prelude.{◌≡◌, ◌≢◌, ◌⊎◌, ℕ, Bool, true, false, if◌then◌else◌, List, [], ◌∷◌, ◌++◌, codes, decimal, Option, Some, None, Ok, Err}
+use Rattle.std.specs.Prelude.{◌≡◌, ◌≢◌, ◌⊎◌, ℕ, Bool, if◌then◌else◌, List, [], ◌∷◌, ◌++◌, codes, decimal, Option, Some, None, Ok, Err}
 use Rattle.fts_tables.specs.Coming.{Coming, Gives}
 use Rattle.fts_tables.specs.SettingsData.{SettingsData, IsSettings}
 use Rattle.fts_tables.specs.History.{tables_of}
 use Rattle.fts_tables.specs.declared.commands.Entry.{Entry}
 use Rattle.fts_tables.specs.declared.settings.Endpoint.{Endpoint}
-use Rattle.fts_disk.specs.Disk.{DiskState, IsTold}
-use Rattle.fts_store.specs.Calls.{Call}
-use Rattle.fts_store.specs.Store.{StoreState}
+use Rattle.fts_disk.specs.Disk.{IsTold}
 use Rattle.fts_store.specs.declared.store.StoreFailed.{StoreFailed}
 use Rattle.fts_keep.specs.Keeps.{KeepData}
 use Rattle.fts_keep.specs.Started.{restarted, StartsOver}
 use Rattle.fts_load.specs.Made.{MakesSources}
 use Rattle.fts_load.specs.Requests.{requests}
-use Rattle.fts_top.specs.Connections.{Reading, reading_of}
+use Rattle.fts_session.specs.Connections.{Reading, reading_of}
 use Rattle.fts_top.specs.Ends.{status_of}
 use Rattle.fts_top.specs.Looks.{WritesText}
 use Rattle.fts_top.specs.Runs.{AreRead, OneThread, LeavesList, StopsEarly, RunsSession, ServesKeep}
-use Rattle.fts_top.specs.Sessions.{ThreadData}
+use Rattle.fts_session.specs.Sessions.{ThreadData}
 use Rattle.fts_top.specs.Tallies.{tally_of, tally_with}
 use Rattle.fts_top.specs.declared.ends.RunEnd.{RunEnd}
 use Rattle.fts_top.specs.declared.ends.RunEnd.TheVariants.{SourcesUnmade, LineUnwritten}
 use Rattle.fts_top.specs.declared.tally.Tally.{Tally}
+use Rattle.fts_disk.specs.declared.disk.Disk as disk
+use Rattle.fts_store.specs.declared.store.Store as store
 
 -- the name of the first of some endpoints, and that of the last
 abbrev pub first_name : List Endpoint → List ℕ
@@ -72,13 +72,13 @@ pub record WritesNothing (held now : Option (List ℕ)) (ran end : RunEnd) : Typ
 abbrev pub EndsLoad : List ℕ → Option (List ℕ) → Option (List ℕ) → RunEnd → RunEnd → Type 0
 EndsLoad line held now ran end = WritesLine line held now ran end ⊎ WritesNothing held now ran end
 
-module _ {D E : Type 0} (state : D → DiskState) (faults : D → ℕ) (store_state : E → StoreState) (store_calls : E → Option (List Call)) (store_faults : E → ℕ) where
+module _ {D E : Type 0} (disks : disk.Ghosts D) (stores : store.Ghosts E) where
   -- over a keep that was started the files were not made, and it was closed
   pub record LeavesKeep (number : ℕ) (source : List ℕ) (at : ThreadData D E) (left : D) (store : E) (later words_later : Option Coming)
       (held now : Option (List ℕ)) (end : RunEnd) (tally : Tally) : Type 0 where
     pub failed : StoreFailed
-    pub sources : MakesSources {E = StoreFailed} source number (store_state at.store) (store_state store) (store_calls at.store) (store_calls store)
-        (store_faults at.store) (store_faults store) (Err failed)
+    pub sources : MakesSources {E = StoreFailed} source number (stores.state at.store) (stores.state store) (stores.calls at.store) (stores.calls store)
+        (stores.faults at.store) (stores.faults store) (Err failed)
     pub ended : end ≡ SourcesUnmade
     pub counted : tally ≡ tally_with 0 at.keep.tables
     pub closed : left ≡ at.keep.disk
@@ -90,11 +90,11 @@ module _ {D E : Type 0} (state : D → DiskState) (faults : D → ℕ) (store_st
   pub record SessionOver (number : ℕ) (source : List ℕ) (at : ThreadData D E) (left : D) (store : E) (later words_later : Option Coming) (kept : List ℕ) (input : Reading)
       (held now : Option (List ℕ)) (end : RunEnd) (tally : Tally) : Type 0 where
     pub made : E
-    pub sources : MakesSources {E = StoreFailed} source number (store_state at.store) (store_state made) (store_calls at.store) (store_calls made)
-        (store_faults at.store) (store_faults made) (Ok tt)
+    pub sources : MakesSources {E = StoreFailed} source number (stores.state at.store) (stores.state made) (stores.calls at.store) (stores.calls made)
+        (stores.faults at.store) (stores.faults made) (Ok tt)
     pub rest : Reading
     pub ran_end : RunEnd
-    pub serves : ServesKeep state faults store_state store_calls store_faults (record at { store = made }) at.bench.places
+    pub serves : ServesKeep disks stores (record at { store = made }) at.bench.places
         left store later words_later kept input rest None None ran_end tally
     pub ends : EndsLoad (load_line tally) held now ran_end end
 
@@ -114,12 +114,12 @@ module _ {D E : Type 0} (state : D → DiskState) (faults : D → ℕ) (store_st
     pub moment : Gives before.moments after.moments now
     pub keep : KeepData D
     pub opening : List Entry
-    pub starts : StartsOver state faults before.disk settings now keep opening
+    pub starts : StartsOver disks.state disks.faults before.disk settings now keep opening
     pub closed : after.disk ≡ keep.disk
-    pub leaves : (told : IsTold (state before.disk)) → LeavesList state faults (starts.own told).opened after.disk opening (restarted opening now settings)
+    pub leaves : (told : IsTold (disks.state before.disk)) → LeavesList disks (starts.own told).opened after.disk opening (restarted opening now settings)
     pub failed : StoreFailed
-    pub sources : MakesSources {E = StoreFailed} (source_of settings) number (store_state before.store) (store_state after.store)
-        (store_calls before.store) (store_calls after.store) (store_faults before.store) (store_faults after.store) (Err failed)
+    pub sources : MakesSources {E = StoreFailed} (source_of settings) number (stores.state before.store) (stores.state after.store)
+        (stores.calls before.store) (stores.calls after.store) (stores.faults before.store) (stores.faults after.store) (Err failed)
     pub ended : end ≡ SourcesUnmade
     pub counted : tally ≡ tally_of [] (tables_of (restarted opening now settings))
     pub untaken : after.input ≡ before.input
@@ -132,16 +132,16 @@ module _ {D E : Type 0} (state : D → DiskState) (faults : D → ℕ) (store_st
     pub given : Reading
     pub rest : Reading
     pub ran_end : RunEnd
-    pub ran : RunsSession state faults store_state store_calls store_faults text
+    pub ran : RunsSession disks stores text
         (record before { store = made; input = given; output = None }) (record after { input = rest; output = None }) ran_end tally
     pub requests : given ≡ load_reading ran.settings
-    pub sources : MakesSources {E = StoreFailed} (source_of ran.settings) number (store_state before.store) (store_state made)
-        (store_calls before.store) (store_calls made) (store_faults before.store) (store_faults made) (Ok tt)
+    pub sources : MakesSources {E = StoreFailed} (source_of ran.settings) number (stores.state before.store) (stores.state made)
+        (stores.calls before.store) (stores.calls made) (stores.faults before.store) (stores.faults made) (Ok tt)
     pub untaken : after.input ≡ before.input
     pub ends : EndsLoad (load_line tally) before.output after.output ran_end end
 
   -- what `load` did: it stopped before its keep was there, or at its files, or it ran a session
   abbrev pub IsLoad : ℕ → RunEnd → Tally → Option (List ℕ) → OneThread D E → OneThread D E → Type 0
   IsLoad number end tally text before after =
-      StopsEarly state faults store_state store_calls store_faults text before after end tally
+      StopsEarly disks stores text before after end tally
       ⊎ (StopsUnmade number text before after end tally ⊎ RunsLoad number text before after end tally)

@@ -7,8 +7,8 @@ use Rattle.fts_workers.specs.declared.ends.RoundEnd.{RoundEnd}
 use Rattle.fts_workers.specs.declared.ends.RoundEnd.TheVariants as round_ends
 use Rattle.fts_shop.specs.declared.ends.WorkerEnd.{WorkerEnd}
 use Rattle.fts_shop.specs.declared.ends.WorkerEnd.TheVariants as worker_ends
-use Rattle.fts_top.specs.declared.ends.LineEnd.{LineEnd}
-use Rattle.fts_top.specs.declared.ends.LineEnd.TheVariants as line_ends
+use Rattle.fts_session.specs.declared.ends.LineEnd.{LineEnd}
+use Rattle.fts_session.specs.declared.ends.LineEnd.TheVariants as line_ends
 use Rattle.fts_top.specs.declared.ends.RunEnd.{RunEnd}
 use Rattle.fts_top.specs.declared.ends.RunEnd.TheVariants.{NoMemory, NoCommand, SettingsUnread, SettingsRule, DiskFailed, Damaged, JournalFull, Session, Shown, SourcesUnmade, LineUnwritten, DoorsFailed, Served}
 

@@ -10,23 +10,27 @@ use Rattle.fts_config.specs.Faults.{rule_of}
 use Rattle.fts_config.specs.Settings.{settings_of}
 use Rattle.fts_config.specs.declared.fault.SettingsFault.{SettingsFault}
 use Rattle.fts_config.specs.declared.fault.SettingsFault.TheVariants.{Memory as SettingsMemory}
-use Rattle.fts_disk.specs.Disk.{DiskState, IsTold, LeavesOnly}
+use Rattle.fts_disk.specs.Disk.{IsTold, LeavesOnly}
 use Rattle.fts_keep.specs.Keeps.{KeepData, IsKeep, with_doubt, IsImageOf, IsImageSince}
 use Rattle.fts_keep.specs.Started.{restarted, StartsOver, StartFault, StartsNot}
 use Rattle.fts_keep.specs.declared.fault.KeepFault.{KeepFault}
 use Rattle.fts_keep.specs.declared.fault.KeepFault.TheVariants as faults_of_keep
-use Rattle.fts_top.specs.Connections.{Reading}
-use Rattle.fts_store.specs.Calls.{Call}
-use Rattle.fts_store.specs.Store.{StoreState}
+use Rattle.fts_session.specs.Connections.{Reading, reading_in}
 use Rattle.fts_workers.specs.Benches.{held_over}
 use Rattle.fts_workers.specs.Copies.{copies_from, copies_kept, FollowsReports}
 use Rattle.fts_workers.specs.Rounds.{Walk}
-use Rattle.fts_top.specs.Sessions.{IsSession, ThreadData, Works}
+use Rattle.fts_session.specs.Sessions.{IsSession, ThreadData, Works}
 use Rattle.fts_top.specs.Tallies.{tally_of, tally_with, no_tally}
-use Rattle.fts_top.specs.declared.ends.SessionEnd.{SessionEnd}
+use Rattle.fts_session.specs.declared.ends.SessionEnd.{SessionEnd}
 use Rattle.fts_top.specs.declared.ends.RunEnd.{RunEnd}
 use Rattle.fts_top.specs.declared.ends.RunEnd.TheVariants.{NoMemory, NoCommand, SettingsUnread, SettingsRule, DiskFailed, Damaged, JournalFull, Session, Shown, SourcesUnmade, LineUnwritten, DoorsFailed, Served}
 use Rattle.fts_top.specs.declared.tally.Tally.{Tally}
+use Rattle.fts_disk.specs.declared.disk.Disk as disk
+use Rattle.fts_store.specs.declared.store.Store as store
+use Rattle.fts_tables.specs.declared.clock.Clock as clock
+use Rattle.fts_tables.specs.declared.words.Words as words
+use Rattle.fts_wire.specs.declared.outside.Source as source
+use Rattle.fts_wire.specs.declared.outside.Sink as sink
 
 -- what one thread meets: its disk, its store, its input, the bytes that its output holds, and the moments and words to come, where they are told
 pub record OneThread (D E : Type 0) : Type 0 where
@@ -41,6 +45,11 @@ pub record OneThread (D E : Type 0) : Type 0 where
 abbrev pub one_thread : {D E : Type 0} → D → E → Reading → Option (List ℕ) → Option Coming → Option Coming → OneThread D E
 one_thread disk store input output moments words =
     record { disk = disk; store = store; input = input; output = output; moments = moments; words = words }
+
+-- the same, by what its input, its output, its clock and its words show
+abbrev pub one_thread_at : {D E S K C W : Type 0} → source.Ghosts S → sink.Ghosts K → clock.Ghosts C → words.Ghosts W → D → E → S → K → C → W → OneThread D E
+one_thread_at sources sinks clocks draws disk store input output at words =
+    one_thread disk store (reading_in sources input) (sinks.held output) (clocks.moments at) (draws.words words)
 
 -- this is so of the first hand before and after; the others are as they were
 abbrev pub OverHands : {H : Type 0} → List H → List H → (H → H → Type 0) → Type 0
@@ -96,19 +105,19 @@ start_end (faults_of_keep.Rule refusal) = NoMemory
 
 -- what a list leaves of the disk: since the journal was opened or made each image is one of the list, as it was at some time, with one entry
 -- more at most; and at the end each is one of the list itself, with one doubt at most
-pub record LeavesList {D : Type 0} (state : D → DiskState) (faults : D → ℕ) (opened disk : D) (opening final : List Entry) : Type 0 where
-  pub since : LeavesOnly (state opened) (state disk) (IsImageSince opening final)
+pub record LeavesList {D : Type 0} (disks : disk.Ghosts D) (opened disk : D) (opening final : List Entry) : Type 0 where
+  pub since : LeavesOnly (disks.state opened) (disks.state disk) (IsImageSince opening final)
   pub doubt : Option Entry
   pub legal : IsLegal (with_doubt final doubt)
-  pub images : (content : List ℕ) → (state disk).may_leave content → IsImageOf final doubt content
-  pub counts : faults opened ≤ faults disk
+  pub images : (content : List ℕ) → (disks.state disk).may_leave content → IsImageOf final doubt content
+  pub counts : disks.faults opened ≤ disks.faults disk
 
 -- nothing was started: the disk is as it was, and no moment was taken
 pub record StopsBefore {D : Type 0} (moments later : Option Coming) (disk left : D) : Type 0 where
   pub disk_is : left ≡ disk
   pub moments_are : later ≡ moments
 
-module _ {D : Type 0} (state : D → DiskState) (faults : D → ℕ) where
+module _ {D : Type 0} (disks : disk.Ghosts D) where
   -- a keep was not started, for this fault
   pub record StartsWith (text : Option (List ℕ)) (moments later : Option Coming) (disk left : D) (fault : KeepFault) : Type 0 where
     pub settings : SettingsData
@@ -116,8 +125,8 @@ module _ {D : Type 0} (state : D → DiskState) (faults : D → ℕ) where
     pub read : AreRead text settings
     pub now : ℕ
     pub moment : Gives moments later now
-    pub cause : StartFault state faults disk left settings now fault
-    pub leaves : StartsNot state faults disk left settings now
+    pub cause : StartFault disks.state disks.faults disk left settings now fault
+    pub leaves : StartsNot disks.state disks.faults disk left settings now
 
   -- how a run may stop before its first request
   abbrev pub IsStop : Option (List ℕ) → Option Coming → Option Coming → D → D → RunEnd → Type 0
@@ -140,10 +149,10 @@ abbrev pub begun_with : List Entry → ℕ → ℕ → Option Coming → Option 
 begun_with entries used count moments words = record { entries = entries; used = used; faults = count; kept = None; moments = moments; words = words }
 
 -- what is seen of disks and stores: what is known of each, and its count of faults
-module _ {D E : Type 0} (state : D → DiskState) (faults : D → ℕ) (store_state : E → StoreState) (store_calls : E → Option (List Call)) (store_faults : E → ℕ) where
+module _ {D E : Type 0} (disks : disk.Ghosts D) (stores : store.Ghosts E) where
   -- a run stopped before its first request: it did not read its input, wrote no response, called no store and took no word
   pub record StopsEarly (text : Option (List ℕ)) (before after : OneThread D E) (end : RunEnd) (tally : Tally) : Type 0 where
-    pub stop : IsStop state faults text before.moments after.moments before.disk after.disk end
+    pub stop : IsStop disks text before.moments after.moments before.disk after.disk end
     pub counted : tally ≡ no_tally
     pub untaken : after.input ≡ before.input
     pub unwritten : after.output ≡ before.output
@@ -156,16 +165,16 @@ module _ {D E : Type 0} (state : D → DiskState) (faults : D → ℕ) (store_st
     pub final : Walk
     pub session_end : SessionEnd
     pub session : IsSession [] settings.workers before.input after.input before.output after.output session_end
-        (begun_with (restarted opening now settings) keep.used (faults keep.disk) moments before.words) final
+        (begun_with (restarted opening now settings) keep.used (disks.faults keep.disk) moments before.words) final
     pub ended : end ≡ Session session_end
     pub moments_left : after.moments ≡ final.moments
     pub words_left : after.words ≡ final.words
-    pub faults_left : faults after.disk ≡ final.faults
+    pub faults_left : disks.faults after.disk ≡ final.faults
     pub since : List Entry
     pub grown : final.entries ≡ restarted opening now settings ++ since
     pub legal : IsLegal final.entries
     -- the copies made are those that the reports stand for, in order, and one at most whose report is to come
-    pub store : FollowsReports store_state store_calls store_faults [] (copies_from (λ writer. true) (tables_of (restarted opening now settings)) since)
+    pub store : FollowsReports stores.state stores.calls stores.faults [] (copies_from (λ writer. true) (tables_of (restarted opening now settings)) since)
         (copies_kept (tables_of final.entries) (held_over final.entries final.kept)) before.store after.store
     pub counted : tally ≡ tally_of since (tables_of final.entries)
 
@@ -179,10 +188,10 @@ module _ {D E : Type 0} (state : D → DiskState) (faults : D → ℕ) (store_st
     pub moment : Gives before.moments moments now
     pub keep : KeepData D
     pub opening : List Entry
-    pub starts : StartsOver state faults before.disk settings now keep opening
+    pub starts : StartsOver disks.state disks.faults before.disk settings now keep opening
     pub ran : RanOver before after settings now moments keep opening end tally
-    pub tells : (state after.disk).told ≡ (state before.disk).told
-    pub leaves : (told : IsTold (state before.disk)) → LeavesList state faults (starts.own told).opened after.disk opening ran.final.entries
+    pub tells : (disks.state after.disk).told ≡ (disks.state before.disk).told
+    pub leaves : (told : IsTold (disks.state before.disk)) → LeavesList disks (starts.own told).opened after.disk opening ran.final.entries
 
   -- a keep was served, which was closed then: it left this disk
   pub record ServesKeep (at : ThreadData D E) (workers : ℕ) (left : D) (store : E) (later words_later : Option Coming) (kept : List ℕ) (input after : Reading)
@@ -194,8 +203,8 @@ module _ {D E : Type 0} (state : D → DiskState) (faults : D → ℕ) (store_st
     pub store_is : store ≡ last.store
     pub moments_are : later ≡ last.moments
     pub words_are : words_later ≡ last.words
-    pub session : Works state faults store_state store_calls store_faults (IsSession kept workers input after held now session_end) at last
-    pub sound : IsKeep state last.keep
+    pub session : Works disks stores (IsSession kept workers input after held now session_end) at last
+    pub sound : IsKeep disks.state last.keep
     pub counted : tally ≡ tally_with last.claims last.keep.tables
 
   -- what a run did that ended so: it stopped before its first request, or ran a session

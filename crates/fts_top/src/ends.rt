@@ -1,37 +1,13 @@
 //! How a connection, a session and a run end. Each end has its exit status (`specs/Ends.antt`) and the line that it notes (`specs/Notes.antt`).
 ghost use Rattle.std.specs.Prelude.{◌≡◌};
-ghost use Rattle.fts_top.specs.Ends.{line_status, round_status, session_status, worker_status, status_of};
+ghost use Rattle.fts_top.specs.Ends.{line_status, round_status, session_status, worker_status, status_of, end_when_served};
 ghost use Rattle.fts_top.specs.Runs.{start_end};
-ghost use Rattle.fts_top.specs.Served.{end_when_served};
 
-use crate::together::ServedEnd;
 use fts_keep::KeepFault;
+use fts_service::ServedEnd;
+use fts_session::{LineEnd, SessionEnd};
 use fts_shop::WorkerEnd;
 use fts_workers::RoundEnd;
-
-/// How a connection ended.
-#[derive(Clone, Copy, Debug, PartialEq, Eq)]
-pub enum LineEnd {
-    /// The input ended between requests.
-    Closed,
-    /// What came was refused with this status.
-    Refused { status: u16 },
-    /// The input ended inside a request.
-    EndsInside,
-    /// As many requests were answered as a connection may have.
-    Many,
-    /// A read failed.
-    SourceFailed,
-    /// A write failed.
-    SinkFailed,
-}
-
-/// How a session ended: its connection, and its last round.
-#[derive(Clone, Copy, Debug, PartialEq, Eq)]
-pub struct SessionEnd {
-    pub line: LineEnd,
-    pub last: RoundEnd,
-}
 
 /// How a run ended.
 #[derive(Clone, Copy, Debug, PartialEq, Eq)]
@@ -64,31 +40,27 @@ pub enum RunEnd {
     Served { end: WorkerEnd },
 }
 
-impl LineEnd {
-    /// The exit status, where it didn't end well.
-    fn status(self) -> Option<u8>
-        ensures { result ≡ line_status self }
-    {
-        match self {
-            LineEnd::Closed => None,
-            LineEnd::SourceFailed => Some(5),
-            LineEnd::SinkFailed => Some(6),
-            LineEnd::EndsInside => Some(10),
-            LineEnd::Refused { status: _ } => Some(12),
-            LineEnd::Many => Some(14),
-        }
+/// The exit status of a connection, where it didn't end well.
+fn line_end_status(end: LineEnd) -> Option<u8>
+    ensures { result ≡ line_status end }
+{
+    match end {
+        LineEnd::Closed => None,
+        LineEnd::SourceFailed => Some(5),
+        LineEnd::SinkFailed => Some(6),
+        LineEnd::EndsInside => Some(10),
+        LineEnd::Refused { status: _ } => Some(12),
+        LineEnd::Many => Some(14),
     }
 }
 
-impl SessionEnd {
-    /// The exit status: the connection's where that didn't end well, and else the last round's.
-    fn status(self) -> u8
-        ensures { result ≡ session_status self }
-    {
-        match self.line.status() {
-            Some(status) => status,
-            None => round_end_status(self.last),
-        }
+/// The exit status of a session: the connection's where that didn't end well, and else the last round's.
+fn session_end_status(end: SessionEnd) -> u8
+    ensures { result ≡ session_status end }
+{
+    match line_end_status(end.line) {
+        Some(status) => status,
+        None => round_end_status(end.last),
     }
 }
 
@@ -129,7 +101,7 @@ impl RunEnd {
             RunEnd::Damaged { offset: _ } => 7,
             RunEnd::SettingsUnread => 8,
             RunEnd::JournalFull { used: _ } => 11,
-            RunEnd::Session { end } => end.status(),
+            RunEnd::Session { end } => session_end_status(end),
             RunEnd::Shown { whole: true } => 0,
             RunEnd::Shown { whole: false } => 6,
             RunEnd::SourcesUnmade => 13,

@@ -7,39 +7,21 @@
 //! the journal behind the settings.
 #![tactic(auto)]
 
-mod connection;
-mod crew;
 mod done;
-mod doors;
 mod ends;
-mod hall;
-mod lane;
-mod lanes;
 mod loads;
-mod locked;
 mod looks;
-mod memory_doors;
 mod notes;
-mod opening;
 mod reading;
-mod responding;
-mod seats;
 mod service;
-mod session;
-mod shown;
 mod tally;
-mod together;
 mod top;
 
-pub use connection::serve_connection;
-pub use doors::{Doors, DoorsFailed};
-pub use ends::LineEnd;
-pub use hall::{Hall, serve_all};
-pub use lane::{Booth, Lane, LaneStop, serve_lane};
-pub use lanes::{LaneFloor, Lanes, run_lanes};
-pub use memory_doors::MemoryDoors;
-pub use opening::{make_benches, make_rooms, open_doors};
-pub use seats::{cycle, leave_booths, leave_stations, seat_hands, seat_lanes};
+pub use fts_service::{
+    Booth, Doors, DoorsFailed, Hall, Lane, LaneStop, MemoryDoors, ServedEnd, cycle, leave_booths,
+    leave_stations, make_benches, make_rooms, open_doors, run_lanes, seat_hands, seat_lanes,
+    serve_all, serve_connection, serve_lane, served,
+};
+pub use fts_session::LineEnd;
 pub use tally::{Ending, Tally};
-pub use together::{ServedEnd, served};
 pub use top::{Outside, run, run_alone};

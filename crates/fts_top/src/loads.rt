@@ -8,22 +8,22 @@ ghost use Rattle.fts_tables.specs.Counts.{Rose, CountsFaults};
 ghost use Rattle.fts_tables.specs.SettingsData.{IsSettings};
 ghost use Rattle.fts_wire.specs.Response.{Sends};
 ghost use Rattle.fts_load.specs.Requests.{requests};
-ghost use Rattle.fts_top.specs.Connections.{Reading, reading_of};
+ghost use Rattle.fts_session.specs.Connections.{Reading, reading_of};
 ghost use Rattle.fts_top.specs.Ends.{status_of};
 ghost use Rattle.fts_top.specs.Loads.{EndsLoad, IsLoad, LoadsKeep, load_line, first_name, last_name, source_of, dest_of};
 ghost use Rattle.fts_top.specs.Runs.{one_thread, AreRead};
-ghost use Rattle.fts_top.specs.Sessions.{IsReady, thread};
+ghost use Rattle.fts_session.specs.Sessions.{IsReady, thread};
 ghost use Rattle.fts_top.specs.Tallies.{tally_with};
 
 use crate::Tally;
 use crate::done::{Done, make_tally, stop};
 use crate::ends::RunEnd;
 use crate::reading::load_settings;
-use crate::session::Working;
 use crate::top::serve;
 use fts_disk::Disk;
 use fts_keep::Keep;
 use fts_load::{DroppingSink, LoadInput, make_requests, make_sources};
+use fts_session::Working;
 use fts_store::{Store, StoreFailed};
 use fts_tables::{Clock, Endpoint, EndpointName, Memory, Settings, Words};
 use fts_wire::{Room, Sink, SinkFailed, Source, send_parts};
@@ -52,7 +52,7 @@ pub fn run_load<F: Source, K: Sink, D: Disk, E: Store, C: Clock, W: Words>(
     draws: &mut W,
 ) -> Done<D>
     ensures words { status_of result.end ≢ 2 }
-    ensures load { (input : Reading) → IsLoad D.state D.faults E.state E.calls E.faults number result.end result.tally (F.left settings.old)
+    ensures load { (input : Reading) → IsLoad D.Disk E.Store number result.end result.tally (F.left settings.old)
         (one_thread disk store.old input (K.held output.old) (C.moments clock.old) (W.words draws.old))
         (one_thread result.disk store.new input (K.held output.new) (C.moments clock.new) (W.words draws.new)) }
     ensures settings { status_of result.end ≡ 8 → Rose (F.faults settings.old) (F.faults settings.new) }
@@ -78,7 +78,7 @@ fn load_under<K: Sink, D: Disk, E: Store, C: Clock, W: Words>(
     draws: &mut W,
 ) -> Done<D>
     ensures words { status_of result.end ≢ 2 }
-    ensures load { (text : Option (List ℕ)) → AreRead text settings → (input : Reading) → IsLoad D.state D.faults E.state E.calls E.faults number result.end result.tally text
+    ensures load { (text : Option (List ℕ)) → AreRead text settings → (input : Reading) → IsLoad D.Disk E.Store number result.end result.tally text
         (one_thread disk store.old input (K.held output.old) (C.moments clock.old) (W.words draws.old))
         (one_thread result.disk store.new input (K.held output.new) (C.moments clock.new) (W.words draws.new)) }
     ensures others { (status_of result.end ≢ 5) × (status_of result.end ≢ 8) }
@@ -147,7 +147,7 @@ fn load_over<K: Sink, D: Disk, E: Store, C: Clock, W: Words>(
     draws: &mut W,
 ) -> Done<D>
     requires ready { (now : E) → IsReady (thread keep prepared.bench 0 now (C.moments clock.old) (W.words draws.old)) }
-    ensures load { LoadsKeep D.state D.faults E.state E.calls E.faults number prepared.source
+    ensures load { LoadsKeep D.Disk E.Store number prepared.source
         (thread keep prepared.bench 0 store.old (C.moments clock.old) (W.words draws.old))
         result.disk store.new (C.moments clock.new) (W.words draws.new) prepared.room.kept (reading_of (Some prepared.input.left) prepared.input.reads)
         (K.held output.old) (K.held output.new) result.end result.tally }

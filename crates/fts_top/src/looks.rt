@@ -9,9 +9,9 @@ ghost use Rattle.fts_top.specs.Looks.{HasSettings, IsLook};
 use crate::done::{Done, make_tally, stop};
 use crate::ends::RunEnd;
 use crate::reading::load_settings;
-use crate::shown::send_tables;
 use fts_disk::Disk;
 use fts_keep::Keep;
+use fts_show::send_tables;
 use fts_wire::{Sink, SinkFailed, Source};
 use std::alloc::Global;
 
@@ -23,7 +23,7 @@ pub fn show<F: Source, K: Sink, D: Disk>(
     disk: D,
 ) -> Done<D>
     ensures words { status_of result.end ≢ 2 }
-    ensures look { IsLook D.state D.faults result.end result.tally (F.left settings.old) disk result.disk (K.held output.old) (K.held output.new) }
+    ensures look { IsLook D.Disk result.end result.tally (F.left settings.old) disk result.disk (K.held output.old) (K.held output.new) }
     ensures settings { status_of result.end ≡ 8 → Rose (F.faults settings.old) (F.faults settings.new) }
     ensures others { status_of result.end ≢ 5 }
     ensures output { status_of result.end ≡ 6 → Rose (K.faults output.old) (K.faults output.new) }
@@ -38,7 +38,7 @@ pub fn show<F: Source, K: Sink, D: Disk>(
 /// Shows the tables of the disk's journal.
 fn show_journal<K: Sink, D: Disk>(alloc: Global, output: &mut K, disk: D) -> Done<D>
     ensures words { status_of result.end ≢ 2 }
-    ensures look { (text : Option (List ℕ)) → HasSettings text → IsLook D.state D.faults result.end result.tally text disk result.disk (K.held output.old) (K.held output.new) }
+    ensures look { (text : Option (List ℕ)) → HasSettings text → IsLook D.Disk result.end result.tally text disk result.disk (K.held output.old) (K.held output.new) }
     ensures others { (status_of result.end ≢ 8) × (status_of result.end ≢ 5) }
     ensures output { status_of result.end ≡ 6 → Rose (K.faults output.old) (K.faults output.new) }
     ensures disk { status_of result.end ≡ 4 → Rose (D.faults disk) (D.faults result.disk) }

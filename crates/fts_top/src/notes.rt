@@ -3,7 +3,8 @@ ghost use Rattle.fts_tables.specs.Counts.{CountsFaults};
 ghost use Rattle.fts_wire.specs.Response.{Sends};
 ghost use Rattle.fts_top.specs.Notes.{round_note_of, session_note_of, worker_note_of, note_of, note_with, IsNoted};
 
-use crate::ends::{LineEnd, RunEnd, SessionEnd};
+use crate::ends::RunEnd;
+use fts_session::{LineEnd, SessionEnd};
 use fts_shop::WorkerEnd;
 use fts_wire::{Sink, SinkFailed, send_all, send_parts};
 use fts_workers::RoundEnd;

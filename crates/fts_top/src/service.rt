@@ -13,22 +13,22 @@ ghost use Rattle.fts_shop.specs.Shops.{shop_of};
 ghost use Rattle.fts_words.specs.Words.{asked_in, IsToServe};
 ghost use Rattle.fts_top.specs.Asked.{DoesOrServes};
 ghost use Rattle.fts_top.specs.Ends.{status_of, IsServingStatus};
-ghost use Rattle.fts_top.specs.Locked.{IsLocked};
+ghost use Rattle.fts_service.specs.Locked.{IsLocked};
 ghost use Rattle.fts_top.specs.Runs.{AreRead};
 ghost use Rattle.fts_top.specs.Serves.{IsServingRun, ServesShop, Closes, many_threads};
 ghost use Rattle.fts_top.specs.Tallies.{tally_with};
+ghost use Rattle.fts_service.specs.Worlds.{world_of};
 
-use crate::crew::{Seats, Served, serve_seated};
 use crate::done::{Done, make_tally, stop};
-use crate::doors::{Doors, DoorsFailed};
 use crate::ends::RunEnd;
-use crate::lane::Lane;
-use crate::locked::{Locked, lock_shop, unlock};
-use crate::opening::{make_benches, make_rooms, open_doors};
 use crate::reading::load_settings;
 use fts_disk::Disk;
 use fts_keep::Keep;
 use fts_laws::{claims_raise_attempts, count_attempts};
+use fts_service::{
+    Doors, DoorsFailed, Lane, Locked, Seats, Served, lock_shop, make_benches, make_rooms,
+    open_doors, serve_seated, unlock,
+};
 use fts_shop::Shop;
 use fts_store::Store;
 use fts_tables::{Clock, Memory, Settings, Words};
@@ -131,7 +131,7 @@ fn serve_locked<
 where
     A::Line: Send,
     requires own { IsOf locked.lock locked.first }
-    requires locked { (keep : KeepData D) × IsLocked D.faults (shop_of keep order.lanes) (order.lanes + length seats.benches.items)
+    requires locked { (keep : KeepData D) × IsLocked D.Disk (shop_of keep order.lanes) (order.lanes + length seats.benches.items)
         locked.lock locked.first locked.passes.items }
     requires rooms { length seats.rooms.items ≡ order.lanes }
     requires lanes { (1 ≤ order.lanes) × (order.lanes ≤ length lanes.old.items) }
@@ -140,10 +140,8 @@ where
     requires room { (length seats.rooms.items ≤ vec_capacity seats.booths) × (length seats.benches.items ≤ vec_capacity seats.stations) }
     requires idle { All (λ bench. bench.held ≡ []) seats.benches.items }
     requires some { IfSome order.connections (λ most. 1 ≤ most) }
-    ensures closes { (keep : KeepData D) → IsLocked D.faults (shop_of keep order.lanes) (order.lanes + length seats.benches.items)
-        locked.lock locked.first locked.passes.items → (added : List Entry) × Closes D.state D.faults E.state E.calls E.faults
-        (record { left = A.Line.Source.left; reads = A.Line.Source.reads; held = A.Line.Sink.held; read_faults = A.Line.Source.faults; write_faults = A.Line.Sink.faults })
-        A.doors A.faults C.moments W.words
+    ensures closes { (keep : KeepData D) → IsLocked D.Disk (shop_of keep order.lanes) (order.lanes + length seats.benches.items)
+        locked.lock locked.first locked.passes.items → (added : List Entry) × Closes (world_of D.Disk E.Store A.Doors A.Line.Source A.Line.Sink C.Clock W.Words)
         order.lanes (length seats.benches.items) order.connections keep lanes.old.items hands.old.items lanes.new.items hands.new.items result.0 result.1 added }
     ensures status { IsServingStatus (status_of result.1) × ((status_of result.1 == 8) ≡ false) }
     ensures lanes { length lanes.new.items ≡ length lanes.old.items }
@@ -204,9 +202,7 @@ where
     requires room { (length seats.rooms.items ≤ vec_capacity seats.booths) × (length seats.benches.items ≤ vec_capacity seats.stations) }
     requires idle { All (λ bench. bench.held ≡ []) seats.benches.items }
     requires some { IfSome order.connections (λ most. 1 ≤ most) }
-    ensures serves { ServesShop D.state D.faults E.state E.calls E.faults
-        (record { left = A.Line.Source.left; reads = A.Line.Source.reads; held = A.Line.Sink.held; read_faults = A.Line.Source.faults; write_faults = A.Line.Sink.faults })
-        A.doors A.faults C.moments W.words
+    ensures serves { ServesShop (world_of D.Disk E.Store A.Doors A.Line.Source A.Line.Sink C.Clock W.Words)
         order.lanes (length seats.benches.items) order.connections keep lanes.old.items hands.old.items lanes.new.items hands.new.items
         result.disk result.end result.tally }
     ensures status { IsServingStatus (status_of result.end) × ((status_of result.end == 8) ≡ false) }
@@ -252,9 +248,7 @@ where
     requires order { (1 ≤ order.lanes) × (order.lanes ≤ 8) × IfSome order.connections (λ most. 1 ≤ most) }
     requires lanes { length lanes.old.items ≡ 8 }
     requires hands { length hands.old.items ≡ 16 }
-    ensures run { (text : Option (List ℕ)) → AreRead text settings → IsServingRun D.state D.faults E.state E.calls E.faults
-        (record { left = A.Line.Source.left; reads = A.Line.Source.reads; held = A.Line.Sink.held; read_faults = A.Line.Source.faults; write_faults = A.Line.Sink.faults })
-        A.doors A.faults C.moments W.words
+    ensures run { (text : Option (List ℕ)) → AreRead text settings → IsServingRun (world_of D.Disk E.Store A.Doors A.Line.Source A.Line.Sink C.Clock W.Words)
         order.lanes order.connections result.end result.tally text (many_threads disk lanes.old.items hands.old.items (C.moments clock.old))
         (many_threads result.disk lanes.new.items hands.new.items (C.moments clock.new)) }
     ensures settings { (status_of result.end == 8) ≡ false }
@@ -299,9 +293,7 @@ where
     requires order { (1 ≤ order.lanes) × (order.lanes ≤ 8) × IfSome order.connections (λ most. 1 ≤ most) }
     requires lanes { length lanes.old.items ≡ 8 }
     requires hands { length hands.old.items ≡ 16 }
-    ensures run { IsServingRun D.state D.faults E.state E.calls E.faults
-        (record { left = A.Line.Source.left; reads = A.Line.Source.reads; held = A.Line.Sink.held; read_faults = A.Line.Source.faults; write_faults = A.Line.Sink.faults })
-        A.doors A.faults C.moments W.words
+    ensures run { IsServingRun (world_of D.Disk E.Store A.Doors A.Line.Source A.Line.Sink C.Clock W.Words)
         order.lanes order.connections result.end result.tally (F.left settings.old) (many_threads disk lanes.old.items hands.old.items (C.moments clock.old))
         (many_threads result.disk lanes.new.items hands.new.items (C.moments clock.new)) }
     ensures settings { status_of result.end ≡ 8 → Rose (F.faults settings.old) (F.faults settings.new) }
@@ -339,9 +331,7 @@ where
     requires asked { IsToServe (asked_in (map string_bytes words.now)) }
     requires lanes { length lanes.old.items ≡ 8 }
     requires hands { length hands.old.items ≡ 16 }
-    ensures run { DoesOrServes (asked_in (map string_bytes words.now)) ⊥ (λ lanes_asked connections. IsServingRun D.state D.faults E.state E.calls E.faults
-        (record { left = A.Line.Source.left; reads = A.Line.Source.reads; held = A.Line.Sink.held; read_faults = A.Line.Source.faults; write_faults = A.Line.Sink.faults })
-        A.doors A.faults C.moments W.words
+    ensures run { DoesOrServes (asked_in (map string_bytes words.now)) ⊥ (λ lanes_asked connections. IsServingRun (world_of D.Disk E.Store A.Doors A.Line.Source A.Line.Sink C.Clock W.Words)
         lanes_asked connections result.end result.tally (F.left settings.old) (many_threads disk lanes.old.items hands.old.items (C.moments clock.old))
         (many_threads result.disk lanes.new.items hands.new.items (C.moments clock.new))) }
     ensures settings { status_of result.end ≡ 8 → Rose (F.faults settings.old) (F.faults settings.new) }

@@ -10,24 +10,24 @@ ghost use Rattle.fts_top.specs.Ends.{status_of, IsServingStatus};
 ghost use Rattle.fts_top.specs.Notes.{note_of, IsNoted};
 ghost use Rattle.fts_top.specs.Asked.{DoesAsked, DoesOrServes};
 ghost use Rattle.fts_top.specs.Complete.{Completes, failures_of};
-ghost use Rattle.fts_top.specs.Connections.{reading_of};
-ghost use Rattle.fts_top.specs.Sessions.{IsReady, thread};
+ghost use Rattle.fts_session.specs.Connections.{reading_in};
+ghost use Rattle.fts_session.specs.Sessions.{IsReady, thread, thread_at};
 ghost use Rattle.fts_top.specs.Serves.{IsServingRun, many_threads};
-ghost use Rattle.fts_top.specs.Runs.{one_thread, OverDisks, OverHands, AreRead, IsSessionRun, ServesKeep};
+ghost use Rattle.fts_top.specs.Runs.{OverDisks, OverHands, AreRead, IsSessionRun, ServesKeep, one_thread_at};
+ghost use Rattle.fts_service.specs.Worlds.{world_of};
 
 use crate::Ending;
 use crate::done::{Done, make_tally, stop};
-use crate::doors::Doors;
 use crate::ends::RunEnd;
-use crate::lane::Lane;
 use crate::loads::run_load;
 use crate::looks::show;
 use crate::notes::write_note;
 use crate::reading::load_settings;
 use crate::service::serve_as_asked;
-use crate::session::{Working, run_session};
 use fts_disk::Disk;
 use fts_keep::Keep;
+use fts_service::{Doors, Lane};
+use fts_session::{Working, run_session};
 use fts_store::Store;
 use fts_tables::{Clock, Memory, Settings, Words};
 use fts_wire::{Room, Sink, Source};
@@ -89,14 +89,10 @@ where
     ensures run { (end : RunEnd) × ((result.status ≡ status_of end)
         × (OverDisks outside.old.disk outside.new.disk (λ disk left. DoesOrServes (asked_in (map string_bytes words.now))
         (OverHands outside.old.hands.items outside.new.hands.items
-        (λ hand now. DoesAsked D.state D.faults E.state E.calls E.faults (asked_in (map string_bytes words.now)) end result.tally (F.left outside.old.settings)
-        (one_thread disk hand.store (reading_of (S.left outside.old.input) (S.reads outside.old.input)) (K.held outside.old.output)
-        (C.moments outside.old.clock) (W.words hand.words))
-        (one_thread left now.store (reading_of (S.left outside.new.input) (S.reads outside.new.input)) (K.held outside.new.output)
-        (C.moments outside.new.clock) (W.words now.words))) × (outside.new.lanes ≡ outside.old.lanes))
-        (λ lanes connections. IsServingRun D.state D.faults E.state E.calls E.faults
-        (record { left = A.Line.Source.left; reads = A.Line.Source.reads; held = A.Line.Sink.held; read_faults = A.Line.Source.faults; write_faults = A.Line.Sink.faults })
-        A.doors A.faults C.moments W.words lanes connections end result.tally (F.left outside.old.settings)
+        (λ hand now. DoesAsked D.Disk E.Store (asked_in (map string_bytes words.now)) end result.tally (F.left outside.old.settings)
+        (one_thread_at S.Source K.Sink C.Clock W.Words disk hand.store outside.old.input outside.old.output outside.old.clock hand.words)
+        (one_thread_at S.Source K.Sink C.Clock W.Words left now.store outside.new.input outside.new.output outside.new.clock now.words)) × (outside.new.lanes ≡ outside.old.lanes))
+        (λ lanes connections. IsServingRun (world_of D.Disk E.Store A.Doors A.Line.Source A.Line.Sink C.Clock W.Words) lanes connections end result.tally (F.left outside.old.settings)
         (many_threads disk outside.old.lanes.items outside.old.hands.items (C.moments outside.old.clock))
         (many_threads left outside.new.lanes.items outside.new.hands.items (C.moments outside.new.clock))
         × (outside.new.input ≡ outside.old.input) × (outside.new.output ≡ outside.old.output)))
@@ -104,11 +100,9 @@ where
     // Where nothing breaks a rule and no device fails, it comes to its end.
     ensures complete { (IsToServe (asked_in (map string_bytes words.now)) → ⊥) → (end : RunEnd) × ((result.status ≡ status_of end)
         × OverDisks outside.old.disk outside.new.disk (λ disk left. OverHands outside.old.hands.items outside.new.hands.items
-        (λ hand now. Completes D.state D.faults E.state E.calls E.faults (F.left outside.old.settings)
-        (one_thread disk hand.store (reading_of (S.left outside.old.input) (S.reads outside.old.input)) (K.held outside.old.output)
-        (C.moments outside.old.clock) (W.words hand.words))
-        (one_thread left now.store (reading_of (S.left outside.new.input) (S.reads outside.new.input)) (K.held outside.new.output)
-        (C.moments outside.new.clock) (W.words now.words)) end result.tally (asked_in (map string_bytes words.now))
+        (λ hand now. Completes D.Disk E.Store (F.left outside.old.settings)
+        (one_thread_at S.Source K.Sink C.Clock W.Words disk hand.store outside.old.input outside.old.output outside.old.clock hand.words)
+        (one_thread_at S.Source K.Sink C.Clock W.Words left now.store outside.new.input outside.new.output outside.new.clock now.words) end result.tally (asked_in (map string_bytes words.now))
         (failures_of (F.faults outside.old.settings) (S.faults outside.old.input) (K.faults outside.old.output) (D.faults disk))
         (failures_of (F.faults outside.new.settings) (S.faults outside.new.input) (K.faults outside.new.output) (D.faults left))))) }
     ensures settings { result.status ≡ 8 → Rose (F.faults outside.old.settings) (F.faults outside.new.settings) }
@@ -153,9 +147,7 @@ where
     requires lanes { length outside.old.lanes.items ≡ 8 }
     ensures run { (end : RunEnd) × ((result.status ≡ status_of end)
         × (OverDisks outside.old.disk outside.new.disk (λ disk left. DoesOrServes (asked_in (map string_bytes words.now)) ⊥
-        (λ lanes connections. IsServingRun D.state D.faults E.state E.calls E.faults
-        (record { left = A.Line.Source.left; reads = A.Line.Source.reads; held = A.Line.Sink.held; read_faults = A.Line.Source.faults; write_faults = A.Line.Sink.faults })
-        A.doors A.faults C.moments W.words lanes connections end result.tally (F.left outside.old.settings)
+        (λ lanes connections. IsServingRun (world_of D.Disk E.Store A.Doors A.Line.Source A.Line.Sink C.Clock W.Words) lanes connections end result.tally (F.left outside.old.settings)
         (many_threads disk outside.old.lanes.items outside.old.hands.items (C.moments outside.old.clock))
         (many_threads left outside.new.lanes.items outside.new.hands.items (C.moments outside.new.clock))))
         × IsNoted (N.held outside.old.notes) (N.held outside.new.notes) (N.faults outside.old.notes) (N.faults outside.new.notes) (note_of end))) }
@@ -219,20 +211,16 @@ pub fn run_alone<
     // Its end decides the status and the note, and is the end of what it did.
     ensures run { IfSome result (λ ending. (end : RunEnd) × ((ending.status ≡ status_of end)
         × (OverDisks outside.old.disk outside.new.disk (λ disk left. OverHands outside.old.hands.items outside.new.hands.items
-        (λ hand now. DoesAsked D.state D.faults E.state E.calls E.faults (asked_in (map string_bytes words.now)) end ending.tally (F.left outside.old.settings)
-        (one_thread disk hand.store (reading_of (S.left outside.old.input) (S.reads outside.old.input)) (K.held outside.old.output)
-        (C.moments outside.old.clock) (W.words hand.words))
-        (one_thread left now.store (reading_of (S.left outside.new.input) (S.reads outside.new.input)) (K.held outside.new.output)
-        (C.moments outside.new.clock) (W.words now.words))))
+        (λ hand now. DoesAsked D.Disk E.Store (asked_in (map string_bytes words.now)) end ending.tally (F.left outside.old.settings)
+        (one_thread_at S.Source K.Sink C.Clock W.Words disk hand.store outside.old.input outside.old.output outside.old.clock hand.words)
+        (one_thread_at S.Source K.Sink C.Clock W.Words left now.store outside.new.input outside.new.output outside.new.clock now.words)))
         × IsNoted (N.held outside.old.notes) (N.held outside.new.notes) (N.faults outside.old.notes) (N.faults outside.new.notes) (note_of end)))) }
     // Where nothing breaks a rule and no device fails, it comes to its end.
     ensures complete { IfSome result (λ ending. (end : RunEnd) × ((ending.status ≡ status_of end)
         × OverDisks outside.old.disk outside.new.disk (λ disk left. OverHands outside.old.hands.items outside.new.hands.items
-        (λ hand now. Completes D.state D.faults E.state E.calls E.faults (F.left outside.old.settings)
-        (one_thread disk hand.store (reading_of (S.left outside.old.input) (S.reads outside.old.input)) (K.held outside.old.output)
-        (C.moments outside.old.clock) (W.words hand.words))
-        (one_thread left now.store (reading_of (S.left outside.new.input) (S.reads outside.new.input)) (K.held outside.new.output)
-        (C.moments outside.new.clock) (W.words now.words)) end ending.tally (asked_in (map string_bytes words.now))
+        (λ hand now. Completes D.Disk E.Store (F.left outside.old.settings)
+        (one_thread_at S.Source K.Sink C.Clock W.Words disk hand.store outside.old.input outside.old.output outside.old.clock hand.words)
+        (one_thread_at S.Source K.Sink C.Clock W.Words left now.store outside.new.input outside.new.output outside.new.clock now.words) end ending.tally (asked_in (map string_bytes words.now))
         (failures_of (F.faults outside.old.settings) (S.faults outside.old.input) (K.faults outside.old.output) (D.faults disk))
         (failures_of (F.faults outside.new.settings) (S.faults outside.new.input) (K.faults outside.new.output) (D.faults left)))))) }
     ensures settings { IfSome result (λ ending. ending.status ≡ 8 → Rose (F.faults outside.old.settings) (F.faults outside.new.settings)) }
@@ -290,9 +278,9 @@ fn do_command<F: Source, S: Source, K: Sink, D: Disk, E: Store, C: Clock, W: Wor
     ensures words { (status_of result.end ≡ 2) ↔ (asked_in (map string_bytes words.now) ≡ None) }
     ensures untouched { asked_in (map string_bytes words.now) ≡ None → (settings.new ≡ settings.old) × (input.new ≡ input.old)
         × (output.new ≡ output.old) × (result.disk ≡ disk) × (clock.new ≡ clock.old) }
-    ensures run { DoesAsked D.state D.faults E.state E.calls E.faults (asked_in (map string_bytes words.now)) result.end result.tally (F.left settings.old)
-        (one_thread disk store.old (reading_of (S.left input.old) (S.reads input.old)) (K.held output.old) (C.moments clock.old) (W.words draws.old))
-        (one_thread result.disk store.new (reading_of (S.left input.new) (S.reads input.new)) (K.held output.new) (C.moments clock.new) (W.words draws.new)) }
+    ensures run { DoesAsked D.Disk E.Store (asked_in (map string_bytes words.now)) result.end result.tally (F.left settings.old)
+        (one_thread_at S.Source K.Sink C.Clock W.Words disk store.old input.old output.old clock.old draws.old)
+        (one_thread_at S.Source K.Sink C.Clock W.Words result.disk store.new input.new output.new clock.new draws.new) }
     ensures settings { status_of result.end ≡ 8 → Rose (F.faults settings.old) (F.faults settings.new) }
     ensures input { status_of result.end ≡ 5 → Rose (S.faults input.old) (S.faults input.new) }
     ensures output { status_of result.end ≡ 6 → Rose (K.faults output.old) (K.faults output.new) }
@@ -327,9 +315,9 @@ fn begin_session<F: Source, S: Source, K: Sink, D: Disk, E: Store, C: Clock, W: 
     draws: &mut W,
 ) -> Done<D>
     ensures words { status_of result.end ≢ 2 }
-    ensures run { IsSessionRun D.state D.faults E.state E.calls E.faults result.end result.tally (F.left settings.old)
-        (one_thread disk store.old (reading_of (S.left input.old) (S.reads input.old)) (K.held output.old) (C.moments clock.old) (W.words draws.old))
-        (one_thread result.disk store.new (reading_of (S.left input.new) (S.reads input.new)) (K.held output.new) (C.moments clock.new) (W.words draws.new)) }
+    ensures run { IsSessionRun D.Disk E.Store result.end result.tally (F.left settings.old)
+        (one_thread_at S.Source K.Sink C.Clock W.Words disk store.old input.old output.old clock.old draws.old)
+        (one_thread_at S.Source K.Sink C.Clock W.Words result.disk store.new input.new output.new clock.new draws.new) }
     ensures settings { status_of result.end ≡ 8 → Rose (F.faults settings.old) (F.faults settings.new) }
     ensures input { status_of result.end ≡ 5 → Rose (S.faults input.old) (S.faults input.new) }
     ensures output { status_of result.end ≡ 6 → Rose (K.faults output.old) (K.faults output.new) }
@@ -353,9 +341,9 @@ fn serve_under<S: Source, K: Sink, D: Disk, E: Store, C: Clock, W: Words>(
     draws: &mut W,
 ) -> Done<D>
     ensures words { status_of result.end ≢ 2 }
-    ensures run { (text : Option (List ℕ)) → AreRead text settings → IsSessionRun D.state D.faults E.state E.calls E.faults result.end result.tally text
-        (one_thread disk store.old (reading_of (S.left input.old) (S.reads input.old)) (K.held output.old) (C.moments clock.old) (W.words draws.old))
-        (one_thread result.disk store.new (reading_of (S.left input.new) (S.reads input.new)) (K.held output.new) (C.moments clock.new) (W.words draws.new)) }
+    ensures run { (text : Option (List ℕ)) → AreRead text settings → IsSessionRun D.Disk E.Store result.end result.tally text
+        (one_thread_at S.Source K.Sink C.Clock W.Words disk store.old input.old output.old clock.old draws.old)
+        (one_thread_at S.Source K.Sink C.Clock W.Words result.disk store.new input.new output.new clock.new draws.new) }
     ensures settings { status_of result.end ≢ 8 }
     ensures input { status_of result.end ≡ 5 → Rose (S.faults input.old) (S.faults input.new) }
     ensures output { status_of result.end ≡ 6 → Rose (K.faults output.old) (K.faults output.new) }
@@ -394,11 +382,11 @@ pub fn serve<S: Source, K: Sink, D: Disk, E: Store, C: Clock, W: Words>(
     store: &mut E,
     draws: &mut W,
 ) -> Done<D>
-    requires ready { IsReady (thread working.keep working.bench working.claims store.old (C.moments clock.old) (W.words draws.old)) }
-    ensures serves { ServesKeep D.state D.faults E.state E.calls E.faults
-        (thread working.keep working.bench working.claims store.old (C.moments clock.old) (W.words draws.old)) working.bench.places
+    requires ready { IsReady (thread_at C.Clock W.Words working store.old clock.old draws.old) }
+    ensures serves { ServesKeep D.Disk E.Store
+        (thread_at C.Clock W.Words working store.old clock.old draws.old) working.bench.places
         result.disk store.new (C.moments clock.new) (W.words draws.new) room.old.kept
-        (reading_of (S.left input.old) (S.reads input.old)) (reading_of (S.left input.new) (S.reads input.new)) (K.held output.old) (K.held output.new)
+        (reading_in S.Source input.old) (reading_in S.Source input.new) (K.held output.old) (K.held output.new)
         result.end result.tally }
     ensures input { status_of result.end ≡ 5 → Rose (S.faults input.old) (S.faults input.new) }
     ensures output { status_of result.end ≡ 6 → Rose (K.faults output.old) (K.faults output.new) }

@@ -3,7 +3,7 @@ use Rattle.std.proofs.Common.{◌≡◌, ℕ, ◌+◌, ◌-◌, min, ◌<◌, �
 use Rattle.std.proofs.lemmas.List.{length-take, nil_from_length}
 use Rattle.std.proofs.Math.Seq.{drop-append-add}
 use Rattle.fts_tables.specs.Counts.{Rose, CountsFaults}
-use Rattle.fts_wire.specs.Outside.{Reads, IsTakenOf}
+use Rattle.fts_wire.specs.Outside.{Reads, IsTakenOf, raised}
 use Rattle.fts_wire.proofs.Pieces.{taken_then, gives_piece}
 use Rattle.fts_wire.specs.ReadAll.{IsAll, IsRefused}
 use Rattle.fts_wire.specs.declared.whole_input.ReadAllFault.TheVariants.{TooLong, SourceFailed, Memory}
@@ -69,3 +69,9 @@ few_more limit held n bytes into long few room = omega (arith, length-append byt
 -- one byte more than there is room for
 pub one_over : (limit held n most : ℕ) (bytes : List ℕ) → held ≡ length bytes → length bytes ≤ limit → limit - held < n → n ≤ most → most ≤ limit - held + 1 → length bytes + n ≡ limit + 1
 one_over limit held n most bytes long few more within cut = omega arith
+
+-- a read that gave a byte or more is one more, and so are the bytes
+pub read_more : (first before after n : ℕ) (bytes into more : List ℕ) → before ≤ first + length bytes → after ≡ raised before 1 → ¬ (n ≡ 0) → n ≤ length into
+    → more ≡ bytes ++ take n into → after ≤ first + length more
+read_more first before after n bytes into more few one some within long =
+    omega (arith, few, one, some, within, ap length long, length-append bytes (take n into), length-take n into)

@@ -1,5 +1,6 @@
 //! A source over a reader and a sink over a writer: files, standard streams, sockets.
 //! They tell nothing of bytes, and count each failure. A writer that takes nothing of a piece that is not empty has failed.
+//! A call that a signal interrupted did nothing (EINTR of POSIX), and is made again.
 //! Keeps: where the reader or the writer itself tells its bytes, a call has done to them what it answers (`read`, clause `reader`; `write`,
 //! clause `writer`). So a failure is not answered as the end of the input, nor as written.
 //! Made by the program, at the outside.
@@ -9,7 +10,38 @@ ghost use Rattle.fts_tables.specs.Counts.{CountsFaults};
 ghost use Rattle.fts_wire.specs.Outside.{Reads, Writes, raised};
 
 use crate::{Sink, SinkFailed, Source, SourceFailed};
-use std::io::{Read, Write};
+use std::io::{self, ErrorKind, Read, Write};
+
+/// How often a call that was interrupted is made.
+const TRIES: u32 = 1_000;
+
+// Reads, again where a signal interrupted it.
+fn read_some<R: Read>(reader: &mut R, into: &mut [u8]) -> io::Result<usize>
+    ensures bound { IfOk result (λ n. n ≤ length into.new) }
+    ensures reader { ReadConsumes (R.remaining reader.old) (R.remaining reader.new) result into.new }
+{
+    'tries: for _ in 0..TRIES {
+        match reader.read(into) {
+            Err(error) if error.kind() == ErrorKind::Interrupted => {}
+            answer => return answer,
+        }
+    }
+    Err(io::Error::from(ErrorKind::Interrupted))
+}
+
+// Writes, again where a signal interrupted it.
+fn write_some<W: Write>(writer: &mut W, bytes: &[u8]) -> io::Result<usize>
+    ensures bound { IfOk result (λ n. n ≤ length bytes.now) }
+    ensures writer { WriteAppends (W.contents writer.old) (W.contents writer.new) result bytes.now }
+{
+    'tries: for _ in 0..TRIES {
+        match writer.write(bytes) {
+            Err(error) if error.kind() == ErrorKind::Interrupted => {}
+            answer => return answer,
+        }
+    }
+    Err(io::Error::from(ErrorKind::Interrupted))
+}
 
 /// A source over a reader.
 #[derive(Drop)]
@@ -53,7 +85,7 @@ impl<R: Read> Source for StdSource<R> {
         ensures reader { ReadConsumes (R.remaining self.old.reader) (R.remaining self.new.reader) result into.new }
     {
         self.reads = self.reads.saturating_add(1);
-        match self.reader.read(into) {
+        match read_some(&mut self.reader, into) {
             Ok(n) => Ok(n),
             Err(_) => {
                 self.faults = self.faults.saturating_add(1);
@@ -96,7 +128,7 @@ impl<W: Write> Sink for StdSink<W> {
         ensures cause { CountsFaults self.old.faults self.new.faults result }
         ensures writer { WriteAppends (W.contents self.old.writer) (W.contents self.new.writer) result bytes.now }
     {
-        match self.writer.write(bytes) {
+        match write_some(&mut self.writer, bytes) {
             Ok(n) => {
                 if n > 0 || bytes.is_empty() {
                     return Ok(n);

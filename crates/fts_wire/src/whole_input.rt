@@ -1,9 +1,10 @@
 //! A source read to its end, up to a limit.
-//! Keeps: the bytes are all that were left, in order; nothing is read beyond the byte that shows that there are too many (`read_all`).
+//! Keeps: the bytes are all that were left, in order; nothing is read beyond the byte that shows that there are too many, and nothing behind the end
+//! (`read_all`).
 //! Called by fts_top, for the settings' text.
-ghost use Rattle.std.specs.Prelude.{◌≡◌, ◌≤◌, ◌<◌, length, Err, IfOk, IfErr};
+ghost use Rattle.std.specs.Prelude.{◌≡◌, ◌+◌, ◌≤◌, ◌<◌, length, Err, IfOk, IfErr};
 ghost use Rattle.fts_tables.specs.Counts.{Rose, CountsFaults};
-ghost use Rattle.fts_wire.specs.Outside.{Reads};
+ghost use Rattle.fts_wire.specs.Outside.{Reads, raised};
 ghost use Rattle.fts_wire.specs.ReadAll.{IsAll, IsRefused};
 
 use crate::buffer::PIECE_BYTES;
@@ -22,7 +23,8 @@ pub enum ReadAllFault {
 }
 
 /// All bytes that are left, in order, to the end of the input, where they are at most `limit`.
-/// Where they are more, one more than the limit is taken. After another fault the bytes taken are lost, and the rest is left.
+/// Where they are more, one more than the limit is taken. It is read once more than there are bytes at most. After another fault the bytes taken
+/// are lost, and the rest is left.
 pub fn read_all<S: Source>(
     alloc: Global,
     source: &mut S,
@@ -33,6 +35,10 @@ pub fn read_all<S: Source>(
     ensures failed { result ≡ Err ReadAllFault.SourceFailed → Rose (S.faults source.old) (S.faults source.new) }
     ensures faults { S.faults source.old ≤ S.faults source.new }
     ensures beside { S.beside source.new ≡ S.beside source.old }
+
+    // Each read but the last gives a byte that is kept.
+    ensures reads { S.reads source.new ≤ S.reads source.old + (limit + 1) }
+    ensures few { IfOk result (λ bytes. S.reads source.new ≤ S.reads source.old + (length bytes.items + 1)) }
 {
     let mut bytes = Vec::new(alloc);
     let mut piece = make_piece(alloc)?;
@@ -61,6 +67,7 @@ fn read_piece<S: Source>(source: &mut S, piece: &mut Vec<u8>) -> Result<usize, S
     ensures bound { IfOk result (λ n. n ≤ length piece.new.items) }
     ensures room { length piece.new.items ≡ length piece.old.items }
     ensures read { Reads (S.left source.old) (S.left source.new) piece.new.items result }
+    ensures counted { S.reads source.new ≡ raised (S.reads source.old) 1 }
     ensures cause { CountsFaults (S.faults source.old) (S.faults source.new) result }
     ensures beside { S.beside source.new ≡ S.beside source.old }
 {

@@ -14,7 +14,8 @@ use Rattle.fts_tables.specs.declared.rows.Outcome.TheVariants.{StoreFailed}
 use Rattle.fts_store.specs.Calls.{Call}
 use Rattle.fts_store.specs.Store.{StoreState, IsTold, Stays}
 use Rattle.fts_copy.specs.Copy.{Order, StaysInside, order_of, IsCopy, KeepsDest}
-use Rattle.fts_copy.specs.Script.{Plays, copy_of, log_of}
+use Rattle.fts_copy.specs.Script.{Log, Plays, copy_of, log_of}
+use Rattle.fts_copy.specs.Tidying.{IsTidied}
 use Rattle.fts_workers.specs.declared.held.Held.{Held}
 
 -- a copy: what was asked for, and how it ended
@@ -55,14 +56,30 @@ abbrev pub copies_kept : Tables → List Held → List Copy
 copies_kept tables [] = []
 copies_kept tables (held ∷ others) = option_map_or (copies_of_file tables held.file) held.outcome [] ++ copies_kept tables others
 
--- One copy leads from a store's state, its calls and its count of faults to these. Over every store its calls are those of the copy's script, its
--- paths stay inside their endpoints, and a failure was counted; over one that tells its files what it leaves of them is known.
+-- A copy by itself leads from a store's state, its calls and what a watch tells, and its count of faults to these. Over every store its calls are those
+-- of the copy's script, and a failure was counted; over one that tells its files what it leaves of them is known.
+pub record IsMade (old new : StoreState) (log told : Log) (faults later : ℕ) (copy : Copy) : Type 0 where
+  pub stays : Stays old new
+  pub script : Plays (copy_of copy.order) log told copy.outcome
+  pub ends : IsTold old → IsCopy copy.order old new copy.outcome
+  pub destination : IsTold old → KeepsDest copy.order old.files new.files copy.outcome
+  pub counts : faults ≤ later
+  pub cause : copy.outcome ≡ StoreFailed → Rose faults later
+
+-- A copy was made, and led somewhere between; from there its part was removed, where it ended otherwise than verified. The watch is asked no more then.
+pub record IsMadeAndTidied (old new : StoreState) (log told : Log) (faults later : ℕ) (copy : Copy) : Type 0 where
+  pub between : StoreState
+  pub called : Option (List Call)
+  pub met : ℕ
+  pub made : IsMade old between log (log_of called told.answers) faults met copy
+  pub tidied : IsTidied copy.order copy.outcome between new called told.calls met later
+
+-- One copy leads from a store's state, its calls and its count of faults to these: it was made and its part tidied behind it. Over every store its
+-- paths stay inside their endpoints, the count never falls, and a failure that ended it was counted.
 pub record IsCopied (old new : StoreState) (calls called : Option (List Call)) (faults later : ℕ) (copy : Copy) : Type 0 where
   pub inside : StaysInside copy.order
   pub stays : Stays old new
-  pub script : Plays (copy_of copy.order) (log_of calls None) (log_of called None) copy.outcome
-  pub ends : IsTold old → IsCopy copy.order old new copy.outcome
-  pub destination : IsTold old → KeepsDest copy.order old.files new.files copy.outcome
+  pub done : IsMadeAndTidied old new (log_of calls None) (log_of called None) faults later copy
   pub counts : faults ≤ later
   pub cause : copy.outcome ≡ StoreFailed → Rose faults later
 

@@ -4,14 +4,14 @@
 ghost use Rattle.std.specs.Prelude.{◌≡◌, ◌≤◌, ◌<◌, [], ◌∷◌, ◌++◌, List, length, IfOk, IsTrue, ◌↔◌};
 ghost use Rattle.fts_tables.specs.Counts.{Rose};
 ghost use Rattle.fts_tables.specs.Tables.{AreWellFormed};
-ghost use Rattle.fts_store.specs.Store.{IsTold, Stays};
-ghost use Rattle.fts_copy.specs.Copy.{IsCopy, KeepsDest};
-ghost use Rattle.fts_copy.specs.Script.{Plays, copy_of, log_of};
+ghost use Rattle.fts_store.specs.Store.{Stays};
+ghost use Rattle.fts_copy.specs.Script.{log_of};
 ghost use Rattle.fts_copy.specs.Watch.{NoesBy, VerifiedAsks};
+ghost use Rattle.fts_workers.specs.Copies.{IsMadeAndTidied};
 
-use crate::copying::{copy_loaded, load_order};
+use crate::copying::{copy_and_tidy, copy_loaded, load_order};
 use crate::{Held, RoundEnd};
-use fts_copy::{CopyRoom, Loaded, Watch, copy_verified};
+use fts_copy::{CopyRoom, Loaded, Watch};
 use fts_desk::Desk;
 use fts_store::Store;
 use fts_tables::{Memory, Outcome};
@@ -88,8 +88,9 @@ impl Bench {
         }
     }
 
-    /// Copies an order to its end by its own room, while the watch says that it is wanted. What the bench holds stays.
-    /// The outcome, what it leaves of the store, the calls and the counts are those of `copy_verified`.
+    /// Copies an order to its end by its own room, while the watch says that it is wanted, and behind the copy removes its part, where that ended
+    /// otherwise than verified. What the bench holds stays. The outcome, and what is known of the store between, its calls and the counts there are
+    /// those of `copy_verified`; from there the store is led on as `remove_part` says, whose failure is counted and changes no outcome.
     pub fn copy<E: Store, V: Watch>(
         &mut self,
         order: Loaded,
@@ -98,9 +99,9 @@ impl Bench {
     ) -> Outcome
         ensures bench { self.new ≡ self.old }
         ensures stays { Stays (E.state store.old) (E.state store.new) }
-        ensures copy { IsTold (E.state store.old) → IsCopy order (E.state store.old) (E.state store.new) result }
-        ensures script { Plays (copy_of order) (log_of (E.calls store.old) (V.answers watch.old)) (log_of (E.calls store.new) (V.answers watch.new)) result }
-        ensures destination { IsTold (E.state store.old) → KeepsDest order (E.state store.old).files (E.state store.new).files result }
+        ensures copied { IsMadeAndTidied (E.state store.old) (E.state store.new)
+            (log_of (E.calls store.old) (V.answers watch.old)) (log_of (E.calls store.new) (V.answers watch.new))
+            (E.faults store.old) (E.faults store.new) (record { order = order; outcome = result }) }
         ensures no_fewer_faults { E.faults store.old ≤ E.faults store.new }
         ensures store_failed { result ≡ Outcome.StoreFailed → Rose (E.faults store.old) (E.faults store.new) }
         ensures noes { NoesBy result (V.noes watch.old) (V.noes watch.new) }
@@ -108,7 +109,7 @@ impl Bench {
         ensures later { V.later watch.old watch.new }
     {
         self.room.take(order);
-        copy_verified(store, &mut self.room, watch)
+        copy_and_tidy(store, &mut self.room, watch)
     }
 
     /// Holds the first file no longer.

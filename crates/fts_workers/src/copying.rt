@@ -1,14 +1,18 @@
-//! One copy of a round: the order that a file's row asks for is loaded, and copied to its end.
-//! Over every store its calls are those of the copy's script, and it isn't called off (`IsCopied` of `specs/Copies.antt`).
-//! Called by the bench, for the first file that it holds.
-ghost use Rattle.std.specs.Prelude.{◌≡◌, false, Some, IsSome, IfSome, option_map};
+//! One copy of a round: the order that a file's row asks for is loaded, and copied to its end; and then its part is removed, where the copy ended
+//! otherwise than verified. Over every store its calls are those of the copy's script and that one behind them, and it isn't called off
+//! (`IsCopied` of `specs/Copies.antt`). Called by the bench, for the first file that it holds, and for an order that it is given.
+ghost use Rattle.std.specs.Prelude.{◌≡◌, ◌≤◌, false, Some, IsSome, IfSome, option_map};
+ghost use Rattle.fts_tables.specs.Counts.{Rose};
 ghost use Rattle.fts_tables.specs.Tables.{AreWellFormed, job_at, row_at};
+ghost use Rattle.fts_store.specs.Store.{Stays};
 ghost use Rattle.fts_copy.specs.Copy.{StaysInside};
 ghost use Rattle.fts_workers.specs.Benches.{is_stopped};
-ghost use Rattle.fts_workers.specs.Copies.{IsCopied, order_in};
+ghost use Rattle.fts_copy.specs.Script.{log_of};
+ghost use Rattle.fts_copy.specs.Watch.{NoesBy, VerifiedAsks};
+ghost use Rattle.fts_workers.specs.Copies.{IsCopied, IsMadeAndTidied, order_in};
 
 use crate::watch::AlwaysWanted;
-use fts_copy::{CopyRoom, Loaded, copy_verified};
+use fts_copy::{CopyRoom, Loaded, Watch, copy_verified, remove_part};
 use fts_desk::Desk;
 use fts_store::Store;
 use fts_tables::laws::found_rows_stand;
@@ -68,7 +72,31 @@ pub fn order_of_file(desk: &Desk, file: u32) -> Option<Loaded>
     Some(Loaded::of(row, job.overwrite))
 }
 
-/// Copies what was loaded, to its end.
+/// Copies what was loaded, to its end, and behind it removes its part, where the copy ended otherwise than verified: the file's bytes take no room
+/// then, and no handle of theirs stays open. The outcome is that of the copy, whatever the removal came to: the store counts one that fails.
+pub fn copy_and_tidy<E: Store, V: Watch>(
+    store: &mut E,
+    room: &mut CopyRoom,
+    watch: &mut V,
+) -> Outcome
+    requires loaded { IsSome room.old }
+    ensures room { room.new ≡ room.old }
+    ensures stays { Stays (E.state store.old) (E.state store.new) }
+    ensures copied { IfSome room.old (λ order. IsMadeAndTidied (E.state store.old) (E.state store.new)
+        (log_of (E.calls store.old) (V.answers watch.old)) (log_of (E.calls store.new) (V.answers watch.new))
+        (E.faults store.old) (E.faults store.new) (record { order = order; outcome = result })) }
+    ensures no_fewer_faults { E.faults store.old ≤ E.faults store.new }
+    ensures store_failed { result ≡ Outcome.StoreFailed → Rose (E.faults store.old) (E.faults store.new) }
+    ensures noes { NoesBy result (V.noes watch.old) (V.noes watch.new) }
+    ensures asked { VerifiedAsks result (V.askings watch.old) (V.askings watch.new) }
+    ensures later { V.later watch.old watch.new }
+{
+    let outcome = copy_verified(store, room, watch);
+    remove_part(store, room, outcome);
+    outcome
+}
+
+/// Copies what was loaded, to its end, with a watch that always says yes, and removes its part behind it.
 pub fn copy_loaded<E: Store>(store: &mut E, room: &mut CopyRoom) -> Outcome
     requires loaded { IsSome room.old }
     requires inside { IfSome room.old StaysInside }
@@ -78,5 +106,5 @@ pub fn copy_loaded<E: Store>(store: &mut E, room: &mut CopyRoom) -> Outcome
         (E.faults store.old) (E.faults store.new) (record { order = order; outcome = result })) }
 {
     let mut watch = AlwaysWanted::new();
-    copy_verified(store, room, &mut watch)
+    copy_and_tidy(store, room, &mut watch)
 }

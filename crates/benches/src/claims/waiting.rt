@@ -1,6 +1,6 @@
 //! Desks on which files wait, and submissions. Three activities, and as many sources as destinations; each file has a destination of its own.
 //! Settings and jobs are spelled as entries and read back (`entries`).
-ghost use Rattle.std.specs.Prelude.{◌<◌};
+ghost use Rattle.std.specs.Prelude.{◌<◌, ◌≤◌};
 
 use crate::entries::entry;
 use fts_desk::{Desk, DeskFault};
@@ -17,7 +17,10 @@ pub const FILES: u32 = 200;
 /// How many sources there are, and how many destinations, where links are few: sixteen.
 pub const ENDS: u32 = 4;
 
-/// What stands in a restart before its endpoints: a limit of 100 on each link.
+/// As many sources there may be here, and as many destinations.
+const MOST_ENDS: u32 = 64;
+
+/// What stands in a restart before the number of its endpoints: a limit of 100 on each link.
 const RESTART: &[u8] = b"\x00\x01\x80\xe2\xcf\xaa\x06\x02vo\x10\x64";
 
 /// What stands behind an endpoint's name: limits of 1,000 both ways.
@@ -26,22 +29,14 @@ const END_LIMITS: &[u8] = b"\xe8\x07\xe8\x07";
 /// What stands behind the endpoints: no limits of links alone, and three activities.
 const SHARES: &[u8] = b"\x00\x03\x07default\x01\x06urgent\x05\x04bulk\x02";
 
-/// What stands before the number of a source, and of a destination.
-const SOURCE: &str = "https://s";
-
-const DEST: &str = "https://d";
-
-/// As many sources there may be here, and as many destinations.
-const MOST_ENDS: u32 = 64;
-
 /// What stands before the kind of a job.
 const SUBMIT: &[u8] = b"\x00\x02\x80\xe2\xcf\xaa\x06";
 
 /// What stands between a job's priority and the number of its files: three retries, a delay of 86,400 seconds, no overwriting.
 const OPTIONS: &[u8] = b"\x03\x80\xa3\x05\x00";
 
-/// The activities of a job's files, in turn.
-const ACTIVITIES: [&str; 4] = ["default", "urgent", "bulk", "default"];
+/// The activities of a job's files, in turn, each with its length.
+const ACTIVITIES: [&str; 4] = ["\x07default", "\x06urgent", "\x04bulk", "\x07default"];
 
 /// Which jobs fill a desk: how many sources and destinations there are, on how many links files go, and how many priorities jobs have.
 #[derive(Clone, Copy)]
@@ -49,13 +44,6 @@ pub struct Layout {
     pub ends: u32,
     pub links: u32,
     pub priorities: u32,
-}
-
-/// The numbers of a file's ends.
-#[derive(Clone, Copy)]
-struct Ends {
-    source: u32,
-    dest: u32,
 }
 
 /// What is submitted, of each job alike.
@@ -69,45 +57,75 @@ pub enum Kind {
     Replica,
 }
 
+/// A file: its job, its place in the job's list of files, the number of its path at both ends, and its link among those of as many ends.
+#[derive(Clone, Copy)]
+struct Planned {
+    job: u32,
+    index: u32,
+    path: u32,
+    link: u32,
+    ends: u32,
+}
+
+/// Adds pieces, one behind the other.
+fn push_all(bytes: &mut Vec<u8>, pieces: &[&[u8]]) -> Result<(), AllocError> {
+    for piece in pieces {
+        bytes.extend_from_slice(piece)?;
+    }
+    Ok(())
+}
+
 /// Adds a number below 16,384, as an entry spells it.
 fn push_number(bytes: &mut Vec<u8>, number: u32) -> Result<(), AllocError>
     requires { number < 16384 }
 {
     if number >= 128 {
-        bytes.push((number % 128) as u8 + 128)?;
-        bytes.push((number / 128) as u8)?;
+        bytes.extend_from_slice(&[(number % 128) as u8 + 128, (number / 128) as u8])
     } else {
-        bytes.push(number as u8)?;
+        bytes.extend_from_slice(&[number as u8])
     }
-    Ok(())
 }
 
-/// Adds a short text, as an entry spells it: at most 127 bytes of it.
-fn push_text(bytes: &mut Vec<u8>, text: &str) -> Result<(), AllocError> {
-    let length = text.len().min(127);
-    bytes.push(length as u8)?;
-    bytes.extend_from_slice(&text.as_bytes()[..length])
+/// How many digits a number below a million has.
+fn digits(number: u32) -> u8
+    ensures { result ≤ 6 }
+{
+    match number {
+        0..=9 => 1,
+        10..=99 => 2,
+        100..=999 => 3,
+        1_000..=9_999 => 4,
+        10_000..=99_999 => 5,
+        _ => 6,
+    }
 }
 
-/// Adds an endpoint, by the text before its number.
-fn push_end(bytes: &mut Vec<u8>, alloc: Global, begin: &str, end: u32) -> Result<(), AllocError> {
-    let name = format!(in alloc; "{begin}{end}")?;
-    push_text(bytes, name.as_str())
-}
-
-/// Adds a job's path of a number.
-fn push_path(bytes: &mut Vec<u8>, alloc: Global, job: u32, path: u32) -> Result<(), AllocError> {
-    let path = format!(in alloc; "data/{job}/{path}")?;
-    push_text(bytes, path.as_str())
-}
-
-/// The ends of the link of a number.
-fn ends_of(link: u32, ends: u32) -> Ends {
+/// A file of any size, behind its place in the list: the ends with the path, each text behind its length, and the activity.
+fn file_text(alloc: Global, file: Planned) -> Result<String, AllocError> {
+    let Planned {
+        job,
+        index,
+        path,
+        link,
+        ends,
+    } = file;
     let ends = ends.clamp(1, MOST_ENDS);
-    Ends {
-        source: link % ends,
-        dest: link / ends % ends,
-    }
+    let (source, dest) = (link % ends, link / ends % ends);
+    let (from, to) = (char::from(9 + digits(source)), char::from(9 + digits(dest)));
+    let at = char::from(6 + digits(job) + digits(path));
+    let activity = ACTIVITIES[index as usize / 16 % 4];
+    format!(in alloc;
+        "{from}https://s{source}{at}data/{job}/{path}{to}https://d{dest}{at}data/{job}/{path}\x00\x00{activity}"
+    )
+}
+
+/// Adds a file.
+fn push_file(bytes: &mut Vec<u8>, alloc: Global, file: Planned) -> Result<(), AllocError>
+    requires { file.index < 16384 }
+{
+    push_number(bytes, file.index)?;
+    let text = file_text(alloc, file)?;
+    bytes.extend_from_slice(text.as_bytes())
 }
 
 /// The link of a job's file. Each job goes over the links from the first one on, or goes on from the job before where they are more than its files.
@@ -119,52 +137,6 @@ fn link_of(job: u32, index: u32, links: u32) -> u32 {
     }
 }
 
-/// A file of any size: its job, its place in the job's list of files, its ends, and the number of its path at both.
-#[derive(Clone, Copy)]
-struct Planned {
-    job: u32,
-    index: u32,
-    ends: Ends,
-    path: u32,
-}
-
-/// Adds a file.
-fn push_file(bytes: &mut Vec<u8>, alloc: Global, file: Planned) -> Result<(), AllocError>
-    requires { file.index < 16384 }
-{
-    push_number(bytes, file.index)?;
-    push_end(bytes, alloc, SOURCE, file.ends.source)?;
-    push_path(bytes, alloc, file.job, file.path)?;
-    push_end(bytes, alloc, DEST, file.ends.dest)?;
-    push_path(bytes, alloc, file.job, file.path)?;
-    bytes.extend_from_slice(b"\x00\x00")?;
-    push_text(bytes, ACTIVITIES[file.index as usize / 16 % 4])
-}
-
-/// Adds the files of a plain job of `FILES`.
-fn push_files(
-    bytes: &mut Vec<u8>,
-    alloc: Global,
-    job: u32,
-    layout: Layout,
-) -> Result<(), AllocError> {
-    for index in 0..FILES {
-        let ends = ends_of(link_of(job, index, layout.links), layout.ends);
-        let path = index;
-        push_file(
-            bytes,
-            alloc,
-            Planned {
-                job,
-                index,
-                ends,
-                path,
-            },
-        )?;
-    }
-    Ok(())
-}
-
 /// Adds a plain job of `FILES` files. Links and priorities take turns.
 fn push_filling(
     bytes: &mut Vec<u8>,
@@ -172,18 +144,118 @@ fn push_filling(
     job: u32,
     layout: Layout,
 ) -> Result<(), AllocError> {
-    let priority = 1 + job % layout.priorities.clamp(1, 5);
-    bytes.extend_from_slice(SUBMIT)?;
-    bytes.extend_from_slice(&[0, 0, 0, priority as u8])?;
-    bytes.extend_from_slice(OPTIONS)?;
+    let priority = (1 + job % layout.priorities.clamp(1, 5)) as u8;
+    push_all(bytes, &[SUBMIT, &[0, 0, 0, priority], OPTIONS])?;
     push_number(bytes, FILES)?;
-    push_files(bytes, alloc, job, layout)
+    for index in 0..FILES {
+        let link = link_of(job, index, layout.links);
+        let (path, ends) = (index, layout.ends);
+        push_file(
+            bytes,
+            alloc,
+            Planned {
+                job,
+                index,
+                path,
+                link,
+                ends,
+            },
+        )?;
+    }
+    Ok(())
 }
 
 /// The submission of such a job.
 pub fn filling(alloc: Global, job: u32, layout: Layout) -> io::Result<Entry> {
     let mut bytes = Vec::new(alloc);
     push_filling(&mut bytes, alloc, job, layout)?;
+    entry(alloc, bytes.as_slice())
+}
+
+/// Adds what stands before the files of a job of a kind. The ids of jobs that follow each other lie far apart, above and below.
+fn push_kind(bytes: &mut Vec<u8>, job: u32, kind: Kind) -> Result<(), AllocError> {
+    let id = (job as u128 + 1).wrapping_mul(0xb504_f333_f9de_6484_597d_89b3_754a_be9f);
+    match kind {
+        Kind::Plain => push_all(bytes, &[SUBMIT, b"\x00\x00\x00\x03", OPTIONS, b"\x01"]),
+        Kind::WithId => push_all(
+            bytes,
+            &[
+                SUBMIT,
+                b"\x00\x00\x01",
+                &id.to_be_bytes(),
+                b"\x03",
+                OPTIONS,
+                b"\x01",
+            ],
+        ),
+        Kind::Replica => push_all(bytes, &[SUBMIT, b"\x01\x00\x00\x03", OPTIONS, b"\x02"]),
+    }
+}
+
+/// Adds the first file of a job, over this link.
+fn push_first(bytes: &mut Vec<u8>, alloc: Global, job: u32, link: u32) -> Result<(), AllocError> {
+    let (index, path, ends) = (0, 0, ENDS);
+    push_file(
+        bytes,
+        alloc,
+        Planned {
+            job,
+            index,
+            path,
+            link,
+            ends,
+        },
+    )
+}
+
+/// Adds a job of a kind.
+fn push_submission(
+    bytes: &mut Vec<u8>,
+    alloc: Global,
+    job: u32,
+    kind: Kind,
+) -> Result<(), AllocError> {
+    push_kind(bytes, job, kind)?;
+    match kind {
+        Kind::Plain | Kind::WithId => push_first(bytes, alloc, job, job % 16),
+        Kind::Replica => {
+            push_first(bytes, alloc, job, job % 4)?;
+            push_first(bytes, alloc, job, (job % 4 + 1) % 4)
+        }
+    }
+}
+
+/// The submission of a job of a kind.
+pub fn submission(alloc: Global, job: u32, kind: Kind) -> io::Result<Entry> {
+    let mut bytes = Vec::new(alloc);
+    push_submission(&mut bytes, alloc, job, kind)?;
+    entry(alloc, bytes.as_slice())
+}
+
+/// Adds endpoints whose names have ten bytes or eleven and begin alike.
+fn push_ends(bytes: &mut Vec<u8>, alloc: Global, begin: &str, ends: u32) -> Result<(), AllocError> {
+    for end in 0..ends {
+        let length = char::from(9 + digits(end));
+        let name = format!(in alloc; "{length}{begin}{end}")?;
+        push_all(bytes, &[name.as_bytes(), END_LIMITS])?;
+    }
+    Ok(())
+}
+
+/// Adds a restart with as many sources and destinations.
+fn push_restart(bytes: &mut Vec<u8>, alloc: Global, ends: u32) -> Result<(), AllocError> {
+    let ends = ends.clamp(1, MOST_ENDS);
+    push_all(bytes, &[RESTART])?;
+    push_number(bytes, 2 * ends)?;
+    push_ends(bytes, alloc, "https://s", ends)?;
+    push_ends(bytes, alloc, "https://d", ends)?;
+    push_all(bytes, &[SHARES])
+}
+
+/// Such a restart.
+fn restart(alloc: Global, ends: u32) -> io::Result<Entry> {
+    let mut bytes = Vec::new(alloc);
+    push_restart(&mut bytes, alloc, ends)?;
     entry(alloc, bytes.as_slice())
 }
 
@@ -197,97 +269,6 @@ pub fn apply(desk: &mut Desk, command: &Command) -> io::Result<Answer> {
         Err(DeskFault::Rule(_)) => Err(io::Error::other("the desk refuses a command")),
         Err(DeskFault::Memory) => Err(io::Error::from(io::ErrorKind::OutOfMemory)),
     }
-}
-
-/// Adds what stands before a job's options: its kind, its id, and its priority. The ids of jobs that follow each other lie far apart, above and below.
-fn push_kind(bytes: &mut Vec<u8>, job: u32, kind: Kind) -> Result<(), AllocError> {
-    match kind {
-        Kind::Plain => bytes.extend_from_slice(b"\x00\x00\x00\x03"),
-        Kind::WithId => {
-            let id = (job as u128 + 1).wrapping_mul(0xb504_f333_f9de_6484_597d_89b3_754a_be9f);
-            bytes.extend_from_slice(b"\x00\x00\x01")?;
-            bytes.extend_from_slice(&id.to_be_bytes())?;
-            bytes.extend_from_slice(&[3])
-        }
-        Kind::Replica => bytes.extend_from_slice(b"\x01\x00\x00\x03"),
-    }
-}
-
-/// Adds the one file of a job, over this link.
-fn push_only_file(
-    bytes: &mut Vec<u8>,
-    alloc: Global,
-    job: u32,
-    link: u32,
-) -> Result<(), AllocError> {
-    let ends = ends_of(link, ENDS);
-    let (index, path) = (0, 0);
-    push_file(
-        bytes,
-        alloc,
-        Planned {
-            job,
-            index,
-            ends,
-            path,
-        },
-    )
-}
-
-/// Adds a job of a kind.
-fn push_submission(
-    bytes: &mut Vec<u8>,
-    alloc: Global,
-    job: u32,
-    kind: Kind,
-) -> Result<(), AllocError> {
-    bytes.extend_from_slice(SUBMIT)?;
-    push_kind(bytes, job, kind)?;
-    bytes.extend_from_slice(OPTIONS)?;
-    match kind {
-        Kind::Plain | Kind::WithId => {
-            bytes.push(1)?;
-            push_only_file(bytes, alloc, job, job % 16)
-        }
-        Kind::Replica => {
-            bytes.push(2)?;
-            push_only_file(bytes, alloc, job, job % 4)?;
-            push_only_file(bytes, alloc, job, (job % 4 + 1) % 4)
-        }
-    }
-}
-
-/// The submission of a job of a kind.
-pub fn submission(alloc: Global, job: u32, kind: Kind) -> io::Result<Entry> {
-    let mut bytes = Vec::new(alloc);
-    push_submission(&mut bytes, alloc, job, kind)?;
-    entry(alloc, bytes.as_slice())
-}
-
-/// Adds endpoints whose names begin alike.
-fn push_ends(bytes: &mut Vec<u8>, alloc: Global, begin: &str, ends: u32) -> Result<(), AllocError> {
-    for end in 0..ends {
-        push_end(bytes, alloc, begin, end)?;
-        bytes.extend_from_slice(END_LIMITS)?;
-    }
-    Ok(())
-}
-
-/// Adds a restart with as many sources and destinations.
-fn push_restart(bytes: &mut Vec<u8>, alloc: Global, ends: u32) -> Result<(), AllocError> {
-    let ends = ends.clamp(1, MOST_ENDS);
-    bytes.extend_from_slice(RESTART)?;
-    push_number(bytes, 2 * ends)?;
-    push_ends(bytes, alloc, SOURCE, ends)?;
-    push_ends(bytes, alloc, DEST, ends)?;
-    bytes.extend_from_slice(SHARES)
-}
-
-/// Such a restart.
-fn restart(alloc: Global, ends: u32) -> io::Result<Entry> {
-    let mut bytes = Vec::new(alloc);
-    push_restart(&mut bytes, alloc, ends)?;
-    entry(alloc, bytes.as_slice())
 }
 
 /// A desk without jobs, with as many sources and destinations.

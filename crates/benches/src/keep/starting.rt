@@ -3,13 +3,14 @@
 use super::{RESTART, settings, started};
 use crate::clock;
 use crate::entries::{SUBMIT, entry};
-use crate::floor::JOURNAL_PATH;
+use crate::files::{self, JOURNAL_PATH};
 use crate::journal::seen_journal;
-use fts_disk::FileDisk;
+use fts_disk::Disk;
 use fts_journal::Journal;
 use fts_keep::Keep;
 use std::alloc::{AllocError, Global};
-use std::{fs, io};
+use std::io;
+use std::os::unix::fs::FileExt;
 
 /// Both sides are measured so many times, in turn.
 const TIMES: u32 = 5;
@@ -29,34 +30,33 @@ fn push_journal(bytes: &mut Vec<u8>, count: u32) -> Result<(), AllocError> {
     for _ in 0..count {
         push_body(bytes, SUBMIT)?;
     }
-    bytes.push(0)?;
-    Ok(())
+    bytes.extend_from_slice(&[0])
 }
 
 /// Writes such a journal.
 fn write_journal(rt: &HostRuntime, count: u32) -> io::Result<()> {
     let mut bytes = Vec::new(rt.alloc());
     push_journal(&mut bytes, count)?;
-    fs::write(rt, JOURNAL_PATH, &bytes)
+    files::create(rt, JOURNAL_PATH)?.write_all_at(&bytes, 0)
 }
 
 /// Prints the number of jobs of a keep.
-fn print_jobs(rt: &HostRuntime, keep: Keep<FileDisk>) -> io::Result<()> {
+fn print_jobs<D: Disk + Drop>(rt: &HostRuntime, keep: Keep<D>) -> io::Result<()> {
     println!(rt; "  {} jobs", keep.desk().jobs().len())
 }
 
 /// The seconds that a start takes.
 fn start_once(rt: &HostRuntime, path: &str) -> io::Result<f64> {
     let settings = settings(rt.alloc())?;
-    let begun = clock::now(rt)?;
+    let begun = clock::now(rt);
     let keep = started(rt, path, settings)?;
-    let taken = clock::since(rt, begun);
+    let taken = clock::now(rt) - begun;
     print_jobs(rt, keep)?;
-    taken
+    Ok(taken)
 }
 
 /// Whether each body is read as an entry.
-fn is_read(alloc: Global, journal: &mut Journal<FileDisk>) -> bool {
+fn is_read<D: Disk>(alloc: Global, journal: &mut Journal<D>) -> bool {
     let mut body = Vec::new(alloc);
     for n in 0..journal.count() {
         if n >= journal.count()
@@ -71,12 +71,13 @@ fn is_read(alloc: Global, journal: &mut Journal<FileDisk>) -> bool {
 
 /// The seconds in which the journal is opened and its entries are read alone.
 fn read_once(rt: &HostRuntime, path: &str) -> io::Result<f64> {
-    let begun = clock::now(rt)?;
+    let begun = clock::now(rt);
     let mut journal = seen_journal(rt, path)?;
-    if !is_read(rt.alloc(), &mut journal) {
-        return Err(io::Error::other("an entry is not read"));
+    if is_read(rt.alloc(), &mut journal) {
+        Ok(clock::now(rt) - begun)
+    } else {
+        Err(io::Error::other("an entry is not read"))
     }
-    clock::since(rt, begun)
 }
 
 /// Measures both sides once, and prints one line.
@@ -97,7 +98,7 @@ pub fn measure(rt: &HostRuntime, count: u32) -> io::Result<()> {
         write_journal(rt, count)?;
         measure_once(rt, JOURNAL_PATH)?;
     }
-    fs::remove_file(rt, JOURNAL_PATH)
+    files::remove(rt, JOURNAL_PATH)
 }
 
 /// The same over a journal that is there. Each start puts one Restart more behind it.

@@ -1,13 +1,9 @@
-use Rattle.std.proofs.Common.{◌≡◌, ◌-◌}
-use Rattle.fts_disk.specs.declared.raw.Pages.TheVariants.{Sound}
+use Rattle.std.proofs.Common.{◌+◌, ◌-◌, ◌*◌, ◌/◌}
+use Rattle.fts_files.specs.Script.{Script, LeadsTo}
+use Rattle.fts_disk.specs.Guard.{zeros_on}
 use Rattle.fts_disk.proofs.guard.write_zeros.Given as goal
 
--- so far no write failed, and the handle is the same
+-- so many pieces were written
 abbrev pub invariant-zeros : goal.invariant-zeros
-invariant-zeros g l = record {
-  sound : g.F.RawFile.pages l.fn.file ≡ Sound → g.F.RawFile.pages l.file ≡ Sound;
-  handle : g.F.RawFile.handle l.file ≡ g.F.RawFile.handle l.fn.file;
-}
-
-abbrev pub decreases-zeros : goal.decreases-zeros
-decreases-zeros g l = l.to - l.at
+invariant-zeros g l = (next : Script) → LeadsTo (zeros_on (g.F.FileSystem.number l.file) next l.to l.from ((l.to - l.from + 65535) / 65536)) (g.F.FileSystem.calls l.initial.files)
+    (zeros_on (g.F.FileSystem.number l.file) next l.to (l.from + l.i * 65536) ((l.to - l.from + 65535) / 65536 - l.i)) (g.F.FileSystem.calls l.files)

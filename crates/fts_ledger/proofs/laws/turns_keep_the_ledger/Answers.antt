@@ -7,7 +7,7 @@ pub returns-clause-begins : goal.returns-clause-begins
 returns-clause-begins g c = λ pass none. fits_none pass none
 
 pub returns-clause-turn : goal.returns-clause-turn
-returns-clause-turn g c = turn_keeps g.E.Store.state g.E.Store.calls g.E.Store.faults (record {
+returns-clause-turn g c = turn_keeps g.E.Store (record {
   formed = c.tables_are_well_formed.ensures.formed;
   outs = c.files_out_are_the_active_rows.ensures.out;
   stay = c.rows_stay.ensures.stay;
@@ -16,7 +16,7 @@ returns-clause-turn g c = turn_keeps g.E.Store.state g.E.Store.calls g.E.Store.f
 })
 
 pub returns-clause-turns : goal.returns-clause-turns
-returns-clause-turns g c = turns_keep g.E.Store.state g.E.Store.calls g.E.Store.faults (record {
+returns-clause-turns g c = turns_keep g.E.Store (record {
   formed = c.tables_are_well_formed.ensures.formed;
   outs = c.files_out_are_the_active_rows.ensures.out;
   stay = c.rows_stay.ensures.stay;
@@ -25,7 +25,7 @@ returns-clause-turns g c = turns_keep g.E.Store.state g.E.Store.calls g.E.Store.
 })
 
 pub returns-clause-worker : goal.returns-clause-worker
-returns-clause-worker g c = worker_keeps g.E.Store.state g.E.Store.calls g.E.Store.faults (record {
+returns-clause-worker g c = worker_keeps g.E.Store (record {
   formed = c.tables_are_well_formed.ensures.formed;
   outs = c.files_out_are_the_active_rows.ensures.out;
   stay = c.rows_stay.ensures.stay;

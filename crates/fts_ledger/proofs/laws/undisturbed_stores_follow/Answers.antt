@@ -3,7 +3,7 @@ use Rattle.fts_ledger.proofs.Stores.{copies_in_all, turn_follows, turns_follow, 
 use Rattle.fts_ledger.proofs.laws.undisturbed_stores_follow.Goals as goal
 
 pub returns-clause-turn : goal.returns-clause-turn
-returns-clause-turn g c = turn_follows g.E.Store.state g.E.Store.calls g.E.Store.faults (record {
+returns-clause-turn g c = turn_follows g.E.Store (record {
   formed = c.tables_are_well_formed.ensures.formed;
   outs = c.files_out_are_the_active_rows.ensures.out;
   stay = c.rows_stay.ensures.stay;
@@ -12,7 +12,7 @@ returns-clause-turn g c = turn_follows g.E.Store.state g.E.Store.calls g.E.Store
 }) c.orders_stay.ensures.active
 
 pub returns-clause-turns : goal.returns-clause-turns
-returns-clause-turns g c = turns_follow g.E.Store.state g.E.Store.calls g.E.Store.faults (record {
+returns-clause-turns g c = turns_follow g.E.Store (record {
   formed = c.tables_are_well_formed.ensures.formed;
   outs = c.files_out_are_the_active_rows.ensures.out;
   stay = c.rows_stay.ensures.stay;
@@ -21,7 +21,7 @@ returns-clause-turns g c = turns_follow g.E.Store.state g.E.Store.calls g.E.Stor
 }) c.orders_stay.ensures.active
 
 pub returns-clause-worker : goal.returns-clause-worker
-returns-clause-worker g c = worker_follows g.E.Store.state g.E.Store.calls g.E.Store.faults (record {
+returns-clause-worker g c = worker_follows g.E.Store (record {
   formed = c.tables_are_well_formed.ensures.formed;
   outs = c.files_out_are_the_active_rows.ensures.out;
   stay = c.rows_stay.ensures.stay;

@@ -3,6 +3,7 @@ use Rattle.std.proofs.Common.{arith}
 use Rattle.fts_serving.proofs.Ledger.{ListLaws, StoreLaws, ledger}
 use Rattle.fts_serving.proofs.Runs.{opened_length}
 use Rattle.fts_serving.proofs.laws.lanes_and_workers_keep_the_ledger.Goals as goal
+use Rattle.fts_service.specs.Worlds.{world_of}
 
 pub returns : goal.returns
 returns g c =
@@ -19,7 +20,7 @@ returns g c =
       idle = c.idle_claims_find_none.ensures.none;
       earlier = c.idle_claims_find_none.ensures.earlier;
     } in
-    let laws : StoreLaws g.E.Store.state g.E.Store.calls g.E.Store.faults = record {
+    let laws : StoreLaws g.E.Store = record {
       own = record {
         begins = c.turns_keep_the_ledger.ensures.begins;
         worker = c.turns_keep_the_ledger.ensures.worker;
@@ -32,8 +33,6 @@ returns g c =
     } in
     record {
       ledger = λ lanes workers connections settings keep before hands after hands_now closed end serves opened legal lanes_there hands_there some.
-          ledger g.D.Disk.state g.D.Disk.faults g.E.Store.state g.E.Store.calls g.E.Store.faults
-          (record { left = g.A.Line.Source.left; reads = g.A.Line.Source.reads; held = g.A.Line.Sink.held; read_faults = g.A.Line.Source.faults; write_faults = g.A.Line.Sink.faults })
-          g.A.Doors.doors g.A.Doors.faults g.C.Clock.moments g.W.Words.words lists laws serves settings opened legal
-          (omega (arith, lanes_there, opened_length g.A.Doors.doors g.A.Doors.faults lanes before serves.opened serves.opens)) hands_there some;
+          ledger (world_of g.D.Disk g.E.Store g.A.Doors g.A.Line.Source g.A.Line.Sink g.C.Clock g.W.Words) lists laws serves settings opened legal
+          (omega (arith, lanes_there, opened_length g.A.Doors lanes before serves.opened serves.opens)) hands_there some;
     }

@@ -2,6 +2,7 @@
 use Rattle.fts_serving.proofs.Ledger.{ListLaws, StoreLaws}
 use Rattle.fts_serving.proofs.Runs.{finishes}
 use Rattle.fts_serving.proofs.laws.runs_that_serve_come_to_their_end.Goals as goal
+use Rattle.fts_service.specs.Worlds.{world_of}
 
 pub returns : goal.returns
 returns g c =
@@ -18,7 +19,7 @@ returns g c =
       idle = c.idle_claims_find_none.ensures.none;
       earlier = c.idle_claims_find_none.ensures.earlier;
     } in
-    let laws : StoreLaws g.E.Store.state g.E.Store.calls g.E.Store.faults = record {
+    let laws : StoreLaws g.E.Store = record {
       own = record {
         begins = c.turns_keep_the_ledger.ensures.begins;
         worker = c.turns_keep_the_ledger.ensures.worker;
@@ -31,8 +32,6 @@ returns g c =
     } in
     record {
       ends = λ lanes connections text before after end tally rules disk_stays doors_stay lanes_eight few hands_sixteen not_command not_unread.
-          finishes g.D.Disk.state g.D.Disk.faults g.E.Store.state g.E.Store.calls g.E.Store.faults
-          (record { left = g.A.Line.Source.left; reads = g.A.Line.Source.reads; held = g.A.Line.Sink.held; read_faults = g.A.Line.Source.faults; write_faults = g.A.Line.Sink.faults })
-          g.A.Doors.doors g.A.Doors.faults g.C.Clock.moments g.W.Words.words lists laws lanes connections text before after end tally rules disk_stays doors_stay lanes_eight few
+          finishes (world_of g.D.Disk g.E.Store g.A.Doors g.A.Line.Source g.A.Line.Sink g.C.Clock g.W.Words) lists laws lanes connections text before after end tally rules disk_stays doors_stay lanes_eight few
           hands_sixteen not_command not_unread;
     }

@@ -2,6 +2,7 @@
 use Rattle.fts_serving.proofs.Ledger.{ListLaws, StoreLaws}
 use Rattle.fts_serving.proofs.Runs.{kept_where_served, run_leaves_disk}
 use Rattle.fts_serving.proofs.laws.runs_that_serve_leave_nothing.Goals as goal
+use Rattle.fts_service.specs.Worlds.{world_of}
 
 pub returns-clause-ledger : goal.returns-clause-ledger
 returns-clause-ledger g c =
@@ -18,7 +19,7 @@ returns-clause-ledger g c =
       idle = c.idle_claims_find_none.ensures.none;
       earlier = c.idle_claims_find_none.ensures.earlier;
     } in
-    let laws : StoreLaws g.E.Store.state g.E.Store.calls g.E.Store.faults = record {
+    let laws : StoreLaws g.E.Store = record {
       own = record {
         begins = c.turns_keep_the_ledger.ensures.begins;
         worker = c.turns_keep_the_ledger.ensures.worker;
@@ -30,9 +31,7 @@ returns-clause-ledger g c =
       follow = c.undisturbed_stores_follow.ensures.worker;
     } in
     λ lanes connections text before after end tally runs told lanes_eight few hands_sixteen.
-    kept_where_served g.D.Disk.state g.D.Disk.faults g.E.Store.state g.E.Store.calls g.E.Store.faults
-    (record { left = g.A.Line.Source.left; reads = g.A.Line.Source.reads; held = g.A.Line.Sink.held; read_faults = g.A.Line.Source.faults; write_faults = g.A.Line.Sink.faults })
-    g.A.Doors.doors g.A.Doors.faults g.C.Clock.moments g.W.Words.words lists laws runs told lanes_eight few hands_sixteen
+    kept_where_served (world_of g.D.Disk g.E.Store g.A.Doors g.A.Line.Source g.A.Line.Sink g.C.Clock g.W.Words) lists laws runs told lanes_eight few hands_sixteen
 
 pub returns-clause-ends : goal.returns-clause-ends
 returns-clause-ends g c =
@@ -49,7 +48,7 @@ returns-clause-ends g c =
       idle = c.idle_claims_find_none.ensures.none;
       earlier = c.idle_claims_find_none.ensures.earlier;
     } in
-    let laws : StoreLaws g.E.Store.state g.E.Store.calls g.E.Store.faults = record {
+    let laws : StoreLaws g.E.Store = record {
       own = record {
         begins = c.turns_keep_the_ledger.ensures.begins;
         worker = c.turns_keep_the_ledger.ensures.worker;
@@ -61,6 +60,4 @@ returns-clause-ends g c =
       follow = c.undisturbed_stores_follow.ensures.worker;
     } in
     λ lanes connections text before after end tally runs zero_is told lanes_eight few hands_sixteen.
-    run_leaves_disk g.D.Disk.state g.D.Disk.faults g.E.Store.state g.E.Store.calls g.E.Store.faults
-    (record { left = g.A.Line.Source.left; reads = g.A.Line.Source.reads; held = g.A.Line.Sink.held; read_faults = g.A.Line.Source.faults; write_faults = g.A.Line.Sink.faults })
-    g.A.Doors.doors g.A.Doors.faults g.C.Clock.moments g.W.Words.words lists laws runs zero_is told lanes_eight few hands_sixteen
+    run_leaves_disk (world_of g.D.Disk g.E.Store g.A.Doors g.A.Line.Source g.A.Line.Sink g.C.Clock g.W.Words) lists laws runs zero_is told lanes_eight few hands_sixteen

@@ -9,5 +9,5 @@ returns-clause-some g c =
     let answer = c.try_in-answer.result.answer in
     let is : c.match-answer.order ≡ order_claimed c.try_in-answer.new.shop.keep.tables answer = search rules in
     subst (λ order. HasOrder answer order) (sym is)
-    (has_order g.D.Disk.state g.D.Disk.faults c.args.shop.now.keep c.try_in-answer.new.shop.keep c.args.writer c.args.now c.args.word
+    (has_order g.D.Disk c.args.shop.now.keep c.try_in-answer.new.shop.keep c.args.writer c.args.now c.args.word
     c.tables_are_well_formed.ensures.formed c.claimed_files_were_in.ensures.waited c.try_in-answer.ensures.kept answer c.try_in-answer.ensures.applied)

@@ -13,14 +13,14 @@ returns-in-Ok-clause-turn g c =
     let accepted : Answer → Result Answer KeepFault = λ answer. Ok answer in
     let claimed : c.try_claim-answer.result.answer ≡ Ok (Claimed c.claimed_of-claimed.result.file c.claimed_of-claimed.result.attempt) =
     c.in-Ok.is ∙ ap accepted c.claimed_of-claimed.ensures.answer in
-    let old = hand_data g.C.Clock.moments g.W.Words.words c.args.hand.now in
-    let after = hand_data g.C.Clock.moments g.W.Words.words c.work_on.new.hand in
+    let old = hand_data g.C.Clock g.W.Words c.args.hand.now in
+    let after = hand_data g.C.Clock g.W.Words c.work_on.new.hand in
     let behind : HandData g.row.E.Denot = record {
       store = c.args.hand.now.store;
       moments = g.C.Clock.moments c.now-now.new.self;
       words = g.W.Words.words c.next-word.new.self;
     } in
-    subst (λ (hs : List Held). IsTurn g.E.Store.state g.E.Store.calls g.E.Store.faults c.args.pass.now c.work_on.new.pass old after hs c.work_on.result
+    subst (λ (hs : List Held). IsTurn g.E.Store c.args.pass.now c.work_on.new.pass old after hs c.work_on.result
     c.work_on.new.bench.held) (sym none)
     (record {
       now = c.now-now.result;
@@ -33,20 +33,20 @@ returns-in-Ok-clause-turn g c =
       result = c.try_claim-answer.result.answer;
       lanes = c.try_claim-answer.result.lanes;
       tried = c.try_claim-answer.ensures.tried;
-      goes_on = subst (λ (answer : Result Answer KeepFault). GoesOn g.E.Store.state g.E.Store.calls g.E.Store.faults c.try_claim-answer.result.lanes answer
+      goes_on = subst (λ (answer : Result Answer KeepFault). GoesOn g.E.Store c.try_claim-answer.result.lanes answer
           c.try_claim-answer.new.pass c.work_on.new.pass behind after c.work_on.result c.work_on.new.bench.held) (sym claimed) c.work_on.ensures.works;
     })
 
 pub returns-in-Err-clause-turn : goal.returns-in-Err-clause-turn
 returns-in-Err-clause-turn g c =
     let none : c.args.bench.now.held ≡ [] = search rules in
-    let old = hand_data g.C.Clock.moments g.W.Words.words c.args.hand.now in
+    let old = hand_data g.C.Clock g.W.Words c.args.hand.now in
     let behind : HandData g.row.E.Denot = record {
       store = c.args.hand.now.store;
       moments = g.C.Clock.moments c.now-now.new.self;
       words = g.W.Words.words c.next-word.new.self;
     } in
-    subst (λ (hs : List Held). IsTurn g.E.Store.state g.E.Store.calls g.E.Store.faults c.args.pass.now c.try_claim-answer.new.pass old behind hs
+    subst (λ (hs : List Held). IsTurn g.E.Store c.args.pass.now c.try_claim-answer.new.pass old behind hs
     c.end_of_claim.result c.args.bench.now.held) (sym none)
     (record {
       now = c.now-now.result;
@@ -59,7 +59,7 @@ returns-in-Err-clause-turn g c =
       result = c.try_claim-answer.result.answer;
       lanes = c.try_claim-answer.result.lanes;
       tried = c.try_claim-answer.ensures.tried;
-      goes_on = subst (λ (answer : Result Answer KeepFault). GoesOn g.E.Store.state g.E.Store.calls g.E.Store.faults c.try_claim-answer.result.lanes answer
+      goes_on = subst (λ (answer : Result Answer KeepFault). GoesOn g.E.Store c.try_claim-answer.result.lanes answer
           c.try_claim-answer.new.pass c.try_claim-answer.new.pass behind behind c.end_of_claim.result c.args.bench.now.held) (sym c.in-Err.is)
           (c.end_of_claim.ensures, record { pass = refl; hand_is = refl; nothing = none });
     })

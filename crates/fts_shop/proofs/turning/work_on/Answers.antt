@@ -2,7 +2,7 @@
 use Rattle.std.proofs.Common.{◌≡◌, refl, sym, ap, ◌∙◌, subst, ◌<◌, length, List, [], ◌∷◌, ◌++◌, arith}
 use Rattle.fts_workers.specs.Benches.{BenchData}
 use Rattle.fts_workers.specs.declared.held.Held.{Held}
-use Rattle.fts_shop.specs.Turns.{ReportsHeld, IsReady, held_with}
+use Rattle.fts_shop.specs.Turns.{ReportsHeld, held_with}
 use Rattle.fts_shop.proofs.Copied.{copies_of, reported_as}
 use Rattle.fts_shop.proofs.turning.work_on.Goals as goal
 
@@ -27,7 +27,7 @@ returns-clause-works g c =
     record {
       outcome = outcome;
       between = c.copy_order-outcome.new.pass;
-      copied = copies_of g.E.Store.state g.E.Store.calls g.E.Store.faults c.args.pass.now c.copy_order-outcome.new.pass c.args.hand.now.store
+      copied = copies_of g.E.Store c.args.pass.now c.copy_order-outcome.new.pass c.args.hand.now.store
           c.copy_order-outcome.new.store c.args.claimed.file c.args.claimed.order outcome c.copy_order-outcome.ensures.copies c.size_fits.ensures
           c.requires.order;
       words = refl;

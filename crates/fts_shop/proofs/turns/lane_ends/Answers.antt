@@ -1,5 +1,5 @@
 -- A lane ends in one turn.
-use Rattle.std.proofs.Common.{rules, of_calls, ◌≡◌, ◌∙◌, ap, ◌-◌, ℕ, List}
+use Rattle.std.proofs.Common.{rules, ◌≡◌, ◌∙◌, ap, ◌-◌, ℕ, List}
 use Rattle.fts_shop.specs.Shops.{ShopData, lanes_shown}
 use Rattle.fts_shop.proofs.Took.{taken_of, nothing_added}
 use Rattle.fts_shop.proofs.turns.lane_ends.Goals as goal
@@ -9,8 +9,8 @@ returns g c =
     let t = c.with_turn.ensures.took in let d = t.did in let m = d.met in
     let said : t.after ≡ record t.before { lanes = t.before.lanes - 1 } = search rules in
     record {
-      taken = taken_of g.D.Disk.faults _ c.args.pass.now c.with_turn.new.pass c.with_turn.ensures.same t;
-      nothing = nothing_added g.D.Disk.faults _ c.args.pass.now c.with_turn.new.pass c.with_turn.ensures.same t
+      taken = taken_of g.D.Disk _ c.args.pass.now c.with_turn.new.pass c.with_turn.ensures.same t;
+      nothing = nothing_added g.D.Disk _ c.args.pass.now c.with_turn.new.pass c.with_turn.ensures.same t
           (ap (λ (s : ShopData g.row.D.Denot). s.keep.entries) said);
       one_less = ap (λ (s : ShopData g.row.D.Denot). s.lanes) said ∙ ap (λ (shown : List ℕ). lanes_shown shown - 1) t.showed;
     }

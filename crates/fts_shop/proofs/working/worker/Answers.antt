@@ -1,9 +1,9 @@
 -- A turn more, after which the worker goes on, or ends.
-use Rattle.std.proofs.Common.{rules, ◌≡◌, ◌∙◌, refl, sym, ap, suc, Option, None}
+use Rattle.std.proofs.Common.{◌≡◌, ◌∙◌, refl, sym, ap, suc, Option}
 use Rattle.fts_tables.specs.Coming.{Coming}
 use Rattle.fts_shop.specs.Turns.{HandData}
 use Rattle.fts_shop.specs.Looked.{same_on}
-use Rattle.fts_shop.specs.Workers.{StationData, station_data, worker_end_of}
+use Rattle.fts_shop.specs.Workers.{StationData, station_data}
 use Rattle.fts_shop.proofs.Worked.{turns_more}
 use Rattle.fts_shop.proofs.working.worker.Goals as goal
 
@@ -12,7 +12,7 @@ returns-in-Some-end_after g c =
     let inv = c.loop.invariant in
     record {
       more = inv.turns.0;
-      between = station_data g.C.Clock.moments g.W.Words.words c.loop.station;
+      between = station_data g.C.Clock g.W.Words c.loop.station;
       turns = inv.turns.1;
       last = c.turn-end.result;
       ends = c.turn-end.ensures.turn;
@@ -26,8 +26,8 @@ returns-in-Some-end_after g c =
 pub loop-preserved-then-rests_after : goal.loop-preserved-then-rests_after
 loop-preserved-then-rests_after g c =
     let inv = c.loop.invariant in
-    let old = station_data g.C.Clock.moments g.W.Words.words c.args.station.now in
-    let now = station_data g.C.Clock.moments g.W.Words.words c.loop.station in
+    let old = station_data g.C.Clock g.W.Words c.args.station.now in
+    let now = station_data g.C.Clock g.W.Words c.loop.station in
     let hand = c.turn-end.new.hand in
     let with_moments : Option Coming → HandData g.row.E.Denot = λ moments. record {
       store = hand.store;
@@ -45,7 +45,7 @@ loop-preserved-then-rests_after g c =
     record {
       turns = (
         suc inv.turns.0,
-        turns_more g.E.Store.state g.E.Store.calls g.E.Store.faults inv.turns.0 old now (with_hand (with_moments (g.C.Clock.moments hand.clock)))
+        turns_more g.E.Store inv.turns.0 old now (with_hand (with_moments (g.C.Clock.moments hand.clock)))
             (with_hand (with_moments (g.C.Clock.moments c.rest.new.self))) c.turn-end.result inv.turns.1 c.turn-end.ensures.turn
             (sym c.in_default.ensures) (record { hand = rested; held = refl; pass = refl }),
       );
@@ -57,8 +57,8 @@ loop-preserved-then-rests_after g c =
 pub loop-preserved : goal.loop-preserved
 loop-preserved g c =
     let inv = c.loop.invariant in
-    let old = station_data g.C.Clock.moments g.W.Words.words c.args.station.now in
-    let now = station_data g.C.Clock.moments g.W.Words.words c.loop.station in
+    let old = station_data g.C.Clock g.W.Words c.args.station.now in
+    let now = station_data g.C.Clock g.W.Words c.loop.station in
     let hand = c.turn-end.new.hand in
     let of : HandData g.row.E.Denot = record {
       store = hand.store;
@@ -75,7 +75,7 @@ loop-preserved g c =
     record {
       turns = (
         suc inv.turns.0,
-        turns_more g.E.Store.state g.E.Store.calls g.E.Store.faults inv.turns.0 old now after after c.turn-end.result inv.turns.1
+        turns_more g.E.Store inv.turns.0 old now after after c.turn-end.result inv.turns.1
             c.turn-end.ensures.turn (sym c.in_default.ensures) (record { hand = refl; held = refl; pass = refl }),
       );
       same = same_on c.args.station.now.pass c.loop.station.pass c.turn-end.new.pass inv.same c.turn-end.ensures.same;

@@ -7,8 +7,8 @@ use Rattle.fts_shop.proofs.working.worker.Given as goal
 
 abbrev pub invariant-loop : goal.invariant-loop
 invariant-loop g l = record {
-  turns : (more : ℕ) × AreTurns g.E.Store.state g.E.Store.calls g.E.Store.faults more
-      (station_data g.C.Clock.moments g.W.Words.words l.initial.station) (station_data g.C.Clock.moments g.W.Words.words l.station);
+  turns : (more : ℕ) × AreTurns g.E.Store more
+      (station_data g.C.Clock g.W.Words l.initial.station) (station_data g.C.Clock g.W.Words l.station);
   same : IsSame l.initial.station.pass l.station.pass;
   ready : IsReady l.station.bench.held;
   places : l.station.bench.places ≡ l.initial.station.bench.places;

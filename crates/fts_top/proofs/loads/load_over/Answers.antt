@@ -2,7 +2,7 @@
 use Rattle.std.proofs.Common.{List, ℕ, Some, Ok, inr, subst}
 use Rattle.fts_store.specs.declared.store.StoreFailed.{StoreFailed}
 use Rattle.fts_load.specs.Made.{MakesSources}
-use Rattle.fts_top.specs.Connections.{reading_of}
+use Rattle.fts_session.specs.Connections.{reading_of}
 use Rattle.fts_top.proofs.loads.load_over.Goals as goal
 
 pub serve-done-requires : goal.serve-done-requires

@@ -1,6 +1,6 @@
 -- The tables that were viewed were shown, whole or in part.
 use Rattle.std.proofs.Common.{Bool, inr, refl, sym, subst}
-use Rattle.fts_top.specs.Shown.{shown_text}
+use Rattle.fts_show.specs.Shown.{shown_text}
 use Rattle.fts_top.specs.Looks.{WritesText}
 use Rattle.fts_top.proofs.looks.show_journal.Goals.{in-Ok-send_tables, in-Err-send_tables}
 use Rattle.fts_top.proofs.looks.show_journal.Goals as goal

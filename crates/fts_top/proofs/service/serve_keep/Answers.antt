@@ -1,28 +1,29 @@
 -- A keep that was served and closed.
-use Rattle.std.proofs.Common.{◌≡◌, ◌+◌, ◌-◌, List, length, refl, sym, ap, ◌∙◌, subst, arith}
+use Rattle.std.proofs.Common.{◌≡◌, ◌+◌, ◌-◌, length, refl, sym, ap, ◌∙◌, subst}
 use Rattle.fts_laws.specs.Attempts.{attempts_in}
-use Rattle.fts_shop.specs.Shops.{ShopData, shop_of}
-use Rattle.fts_top.specs.Locked.{IsLocked, IsUntouched}
+use Rattle.fts_shop.specs.Shops.{shop_of}
+use Rattle.fts_service.specs.Locked.{IsLocked, IsUntouched}
 use Rattle.fts_top.specs.Serves.{WhyNoLane}
 use Rattle.fts_top.specs.Tallies.{tally_with}
 use Rattle.fts_top.proofs.Closing.{closes_unserved, holds_behind}
-use Rattle.fts_top.proofs.Opened.{opened_none}
+use Rattle.fts_service.proofs.Opened.{opened_none}
 use Rattle.fts_top.proofs.service.serve_keep.Goals as goal
+use Rattle.fts_service.specs.Worlds.{world_of}
 
 pub serve_locked-shop-requires-clause-locked : goal.serve_locked-shop-requires-clause-locked
 serve_locked-shop-requires-clause-locked g c κs within = (
   c.args.keep,
-  subst (λ n. IsLocked g.D.Disk.faults (shop_of c.args.keep c.args.order.lanes) (c.args.order.lanes + n) c.in-Ok.locked.lock c.in-Ok.locked.first c.in-Ok.locked.passes.items)
+  subst (λ n. IsLocked g.D.Disk (shop_of c.args.keep c.args.order.lanes) (c.args.order.lanes + n) c.in-Ok.locked.lock c.in-Ok.locked.first c.in-Ok.locked.passes.items)
       (c.len.ensures ∙ c.args.seats.benches.ok.0)
-      (subst (λ shop. IsLocked g.D.Disk.faults shop (c.args.order.lanes + c.len.result) c.in-Ok.locked.lock c.in-Ok.locked.first c.in-Ok.locked.passes.items)
+      (subst (λ shop. IsLocked g.D.Disk shop (c.args.order.lanes + c.len.result) c.in-Ok.locked.lock c.in-Ok.locked.first c.in-Ok.locked.passes.items)
       c.new.ensures c.in-Ok.ensures.locked),
 )
 
 pub returns-in-Ok-clause-serves : goal.returns-in-Ok-clause-serves
 returns-in-Ok-clause-serves g c =
-    let locked = subst (λ n. IsLocked g.D.Disk.faults (shop_of c.args.keep c.args.order.lanes) (c.args.order.lanes + n) c.in-Ok.locked.lock c.in-Ok.locked.first
+    let locked = subst (λ n. IsLocked g.D.Disk (shop_of c.args.keep c.args.order.lanes) (c.args.order.lanes + n) c.in-Ok.locked.lock c.in-Ok.locked.first
     c.in-Ok.locked.passes.items) (c.len.ensures ∙ c.args.seats.benches.ok.0)
-    (subst (λ shop. IsLocked g.D.Disk.faults shop (c.args.order.lanes + c.len.result) c.in-Ok.locked.lock c.in-Ok.locked.first c.in-Ok.locked.passes.items)
+    (subst (λ shop. IsLocked g.D.Disk shop (c.args.order.lanes + c.len.result) c.in-Ok.locked.lock c.in-Ok.locked.first c.in-Ok.locked.passes.items)
     c.new.ensures c.in-Ok.ensures.locked) in
     let closes = c.serve_locked-shop.ensures.closes c.args.keep locked in
     let closed = c.serve_locked-shop.result.0 in
@@ -36,19 +37,18 @@ returns-in-Ok-clause-serves g c =
       left_is = c.close_shop.ensures.disk;
       sound = c.close_shop.ensures.sound;
       counted = counted;
-      told = holds_behind _ _ _ _ _ _ _ _ _ _ _ _ _ _ _ _ _ _ _ _ _ closes.1 c.desk.ensures.kept c.close_shop.ensures.sound c.desk.ensures.told c.close_shop.ensures.told
+      told = holds_behind _ _ _ _ _ _ _ _ _ _ _ _ closes.1 c.desk.ensures.kept c.close_shop.ensures.sound c.desk.ensures.told c.close_shop.ensures.told
           c.close_shop.result.tally counted c.claims_raise_attempts.ensures.lists;
     }
 
 pub returns-in-Err-clause-serves : goal.returns-in-Err-clause-serves
 returns-in-Err-clause-serves g c =
     let closed = c.in-Err.shop in
-    let closes = closes_unserved g.D.Disk.state g.D.Disk.faults g.E.Store.state g.E.Store.calls g.E.Store.faults _ g.A.Doors.doors g.A.Doors.faults g.C.Clock.moments
-    g.W.Words.words c.args.order.lanes (length c.args.seats.benches.items) c.args.order.connections c.args.keep c.args.lanes.now.items c.args.lanes.now.items
+    let closes = closes_unserved (world_of g.D.Disk g.E.Store g.A.Doors g.A.Line.Source g.A.Line.Sink g.C.Clock g.W.Words) c.args.order.lanes (length c.args.seats.benches.items) c.args.order.connections c.args.keep c.args.lanes.now.items c.args.lanes.now.items
     c.args.hands.now.items c.args.hands.now.items closed c.close_shop-in-Err.result.end
-    (subst (λ shop. IsUntouched g.D.Disk.faults shop closed) c.new.ensures c.in-Err.ensures.back)
-    (opened_none g.A.Doors.doors g.A.Doors.faults c.args.order.lanes c.args.lanes.now.items) refl
-    (subst (WhyNoLane g.A.Doors.faults c.args.lanes.now.items c.args.lanes.now.items) (sym c.close_shop-in-Err.ensures.end) tt) in
+    (subst (λ shop. IsUntouched g.D.Disk shop closed) c.new.ensures c.in-Err.ensures.back)
+    (opened_none g.A.Doors c.args.order.lanes c.args.lanes.now.items) refl
+    (subst (WhyNoLane g.A.Doors c.args.lanes.now.items c.args.lanes.now.items) (sym c.close_shop-in-Err.ensures.end) tt) in
     let attempts : c.count_attempts-attempts.result ≡ attempts_in c.args.keep.tables.rows =
     c.count_attempts-attempts.ensures.sum ∙ ap attempts_in (c.rows.ensures.rows ∙ ap (λ t. t.rows) c.desk.ensures.tables) in
     let counted = c.close_shop-in-Err.ensures.tally ∙ ap (λ n. tally_with (attempts_in closed.keep.tables.rows - n) closed.keep.tables) attempts in
@@ -59,6 +59,6 @@ returns-in-Err-clause-serves g c =
       left_is = c.close_shop-in-Err.ensures.disk;
       sound = c.close_shop-in-Err.ensures.sound;
       counted = counted;
-      told = holds_behind _ _ _ _ _ _ _ _ _ _ _ _ _ _ _ _ _ _ _ _ _ closes.1 c.desk.ensures.kept c.close_shop-in-Err.ensures.sound c.desk.ensures.told
+      told = holds_behind _ _ _ _ _ _ _ _ _ _ _ _ closes.1 c.desk.ensures.kept c.close_shop-in-Err.ensures.sound c.desk.ensures.told
           c.close_shop-in-Err.ensures.told c.close_shop-in-Err.result.tally counted c.claims_raise_attempts.ensures.lists;
     }

@@ -1,17 +1,18 @@
 -- A shop that lanes and workers served, and one whose doors failed.
-use Rattle.std.proofs.Common.{◌≡◌, ◌==◌, false, ◌+◌, length, refl, sym, ap, ◌∙◌, subst, arith}
+use Rattle.std.proofs.Common.{◌≡◌, ◌==◌, false, ◌+◌, length, refl, sym, ap, ◌∙◌, subst}
 use Rattle.fts_top.specs.Ends.{status_of, IsServingStatus}
 use Rattle.fts_top.specs.declared.ends.RunEnd.{RunEnd}
 use Rattle.fts_top.proofs.Closing.{closes_served, closes_unserved}
-use Rattle.fts_top.proofs.Opened.{opened_back, rose_back}
+use Rattle.fts_service.proofs.Opened.{opened_back, rose_back}
 use Rattle.fts_top.proofs.Endings.{served_settings, served_status}
 use Rattle.fts_top.proofs.service.serve_locked.Goals as goal
+use Rattle.fts_service.specs.Worlds.{world_of}
 
 pub returns-in-Ok-clause-closes : goal.returns-in-Ok-clause-closes
 returns-in-Ok-clause-closes g c = λ keep locked.
-    let opened = opened_back g.A.Doors.doors g.A.Doors.faults c.args.order.lanes c.args.lanes.now.len c.as_mut_slice.result.now c.args.lanes.now.items c.open_doors.new.lanes
+    let opened = opened_back g.A.Doors c.args.order.lanes c.args.lanes.now.len c.as_mut_slice.result.now c.args.lanes.now.items c.open_doors.new.lanes
     c.open_doors.ensures.opened c.as_mut_slice.ensures.value c.args.lanes.now.ok.0 in
-    closes_served g.D.Disk.state g.D.Disk.faults g.E.Store.state g.E.Store.calls g.E.Store.faults _ g.A.Doors.doors g.A.Doors.faults g.C.Clock.moments g.W.Words.words
+    closes_served (world_of g.D.Disk g.E.Store g.A.Doors g.A.Line.Source g.A.Line.Sink g.C.Clock g.W.Words)
     c.args.order.lanes (length c.args.seats.benches.items) c.args.order.connections keep c.args.lanes.now.items _ c.args.hands.now.items _ c.serve_seated-shop.result.shop
     c.of_served.result c.args.locked.lock c.args.locked.first c.args.locked.passes.items locked _ opened c.args.seats.rooms.items c.args.seats.benches.items c.requires.rooms refl
     c.serve_seated-shop.result.end c.serve_seated-shop.ensures.ran c.of_served.ensures c.items_that_name.ensures
@@ -23,14 +24,14 @@ returns-in-Ok-clause-status g c =
 
 pub returns-in-Err-clause-closes : goal.returns-in-Err-clause-closes
 returns-in-Err-clause-closes g c = λ keep locked.
-    closes_unserved g.D.Disk.state g.D.Disk.faults g.E.Store.state g.E.Store.calls g.E.Store.faults _ g.A.Doors.doors g.A.Doors.faults g.C.Clock.moments g.W.Words.words
+    closes_unserved (world_of g.D.Disk g.E.Store g.A.Doors g.A.Line.Source g.A.Line.Sink g.C.Clock g.W.Words)
     c.args.order.lanes (length c.args.seats.benches.items) c.args.order.connections keep c.args.lanes.now.items _ c.args.hands.now.items _ c.unlock.result _
     (record {
       listed = c.unlock.ensures.list ∙ ap (λ first. first.opening) locked.first_is ∙ locked.opening;
       showed = c.unlock.ensures.shows ∙ ap (λ first. first.opening_shows) locked.first_is ∙ locked.shows;
     })
-    (opened_back g.A.Doors.doors g.A.Doors.faults c.args.order.lanes c.args.lanes.now.len c.as_mut_slice.result.now c.args.lanes.now.items c.open_doors.new.lanes
+    (opened_back g.A.Doors c.args.order.lanes c.args.lanes.now.len c.as_mut_slice.result.now c.args.lanes.now.items c.open_doors.new.lanes
     c.open_doors.ensures.opened c.as_mut_slice.ensures.value c.args.lanes.now.ok.0)
     refl
-    (rose_back g.A.Doors.doors g.A.Doors.faults c.args.order.lanes c.args.lanes.now.len c.as_mut_slice.result.now c.args.lanes.now.items c.open_doors.new.lanes
+    (rose_back g.A.Doors c.args.order.lanes c.args.lanes.now.len c.as_mut_slice.result.now c.args.lanes.now.items c.open_doors.new.lanes
     c.open_doors.ensures.opened c.in-Err.ensures.cause c.as_mut_slice.ensures.value c.args.lanes.now.ok.0)

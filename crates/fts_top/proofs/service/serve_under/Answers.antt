@@ -1,9 +1,10 @@
 -- A keep that was started and served, and one that could not be started.
-use Rattle.std.proofs.Common.{◌≡◌, ◌≤◌, inl, inr, List, length, Option, refl, sym, ap, ◌∙◌, subst, arith}
+use Rattle.std.proofs.Common.{◌≡◌, ◌≤◌, inl, inr, length, ap, ◌∙◌, subst, arith}
 use Rattle.fts_tables.specs.SettingsData.{SettingsData, IsSettings}
 use Rattle.fts_top.proofs.Closing.{unstarted_run}
 use Rattle.fts_top.proofs.Endings.{few_workers}
 use Rattle.fts_top.proofs.service.serve_under.Goals as goal
+use Rattle.fts_service.specs.Worlds.{world_of}
 
 pub serve_keep-requires-clause-hands : goal.serve_keep-requires-clause-hands
 serve_keep-requires-clause-hands g c κs within =
@@ -28,8 +29,7 @@ returns-in-Ok-start-clause-run g c = λ text read.
     })
 
 pub returns-in-Err-clause-run : goal.returns-in-Err-clause-run
-returns-in-Err-clause-run g c = λ text read. inl (unstarted_run g.D.Disk.state g.D.Disk.faults g.E.Store.state g.E.Store.calls g.E.Store.faults _ g.A.Doors.doors
-    g.A.Doors.faults g.C.Clock.moments g.W.Words.words text c.args.lanes.now.items c.args.hands.now.items (g.C.Clock.moments c.args.clock.now)
+returns-in-Err-clause-run g c = λ text read. inl (unstarted_run (world_of g.D.Disk g.E.Store g.A.Doors g.A.Line.Source g.A.Line.Sink g.C.Clock g.W.Words) text c.args.lanes.now.items c.args.hands.now.items (g.C.Clock.moments c.args.clock.now)
     (g.C.Clock.moments c.now-now.new.self) c.args.disk c.in-Err.disk c.stop-in-Err.result.disk c.args.settings c.now-now.result c.in-Err.fault
     c.stop-in-Err.result.end c.stop-in-Err.result.tally (subst IsSettings c.settings.view_is c.settings.invariant) read c.now-now.ensures c.in-Err.ensures.err
     (c.stop-in-Err.ensures.end ∙ c.of_start.ensures) c.stop-in-Err.ensures.tally c.stop-in-Err.ensures.disk)

@@ -27,7 +27,7 @@ returns-clause-complete g c =
       run.0,
       (
         run.1.0,
-        completes_over g.D.Disk.state g.D.Disk.faults g.E.Store.state g.E.Store.calls g.E.Store.faults (λ hand. hand.store) (λ hand. g.W.Words.words hand.words)
+        completes_over g.D.Disk g.E.Store (λ hand. hand.store) (λ hand. g.W.Words.words hand.words)
             _ _ _ _ _ _ _ run.0 _ _ _ _ _ _ _ _ _ _ _ _ run.1.1.0 (λ e. (returns-clause-words g c).0 (run.1.0 ∙ e)) (λ e. returns-clause-settings g c (run.1.0 ∙ e))
             (λ e. returns-clause-input g c (run.1.0 ∙ e)) (λ e. returns-clause-output g c (run.1.0 ∙ e)) (λ e. returns-clause-disk g c (run.1.0 ∙ e)),
       ),

@@ -1,6 +1,6 @@
 -- A keep that was served and closed.
 use Rattle.std.proofs.Common.{refl, ap, ◌∙◌}
-use Rattle.fts_top.specs.Sessions.{thread}
+use Rattle.fts_session.specs.Sessions.{thread}
 use Rattle.fts_top.specs.Tallies.{tally_with}
 use Rattle.fts_top.proofs.top.serve.Goals as goal
 

@@ -1,7 +1,7 @@
 -- A session over a keep that was started, and a keep that could not be.
 use Rattle.std.proofs.Common.{subst, ap, ◌∙◌}
 use Rattle.fts_tables.specs.SettingsData.{SettingsData, IsSettings}
-use Rattle.fts_top.specs.Connections.{reading_of}
+use Rattle.fts_session.specs.Connections.{reading_of}
 use Rattle.fts_top.proofs.Started.{ran, stopped, started_ready}
 use Rattle.fts_top.proofs.top.serve_under.Goals as goal
 
@@ -9,14 +9,14 @@ pub serve-requires : goal.serve-requires
 serve-requires g c =
     let started = c.in-Ok-start.ensures.ok in
     record {
-      ready = started_ready g.D.Disk.state g.D.Disk.faults c.args.disk c.args.settings c.now-now.result c.in-Ok-start.keep c.in-Ok-new.bench c.args.store.now
+      ready = started_ready g.D.Disk c.args.disk c.args.settings c.now-now.result c.in-Ok-start.keep c.in-Ok-new.bench c.args.store.now
           (g.C.Clock.moments c.now-now.new.self) (g.W.Words.words c.args.draws.now) started.0 started.1 c.in-Ok-new.ensures.held;
     }
 
 pub returns-in-Ok-start-clause-run : goal.returns-in-Ok-start-clause-run
 returns-in-Ok-start-clause-run g c = λ text read.
     let started = c.in-Ok-start.ensures.ok in
-    ran g.D.Disk.state g.D.Disk.faults g.E.Store.state g.E.Store.calls g.E.Store.faults c.args.settings c.now-now.result c.in-Ok-start.keep started.0 c.args.disk c.serve.result.disk started.1
+    ran g.D.Disk g.E.Store c.args.settings c.now-now.result c.in-Ok-start.keep started.0 c.args.disk c.serve.result.disk started.1
     c.in-Ok-new.bench c.in-Ok-new.ensures.held (c.in-Ok-new.ensures.places ∙ ap (λ (s : SettingsData). s.workers) c.settings.view_is) c.args.store.now c.serve.new.store
     (g.C.Clock.moments c.now-now.new.self) (g.C.Clock.moments c.serve.new.clock) (g.W.Words.words c.args.draws.now) (g.W.Words.words c.serve.new.draws) c.in-Ok.room.kept
     (reading_of (g.S.Source.left c.args.input.now) (g.S.Source.reads c.args.input.now)) (reading_of (g.S.Source.left c.serve.new.input) (g.S.Source.reads c.serve.new.input))
@@ -25,7 +25,7 @@ returns-in-Ok-start-clause-run g c = λ text read.
 
 pub returns-clause-run : goal.returns-clause-run
 returns-clause-run g c = λ text read.
-    stopped g.D.Disk.state g.D.Disk.faults g.E.Store.state g.E.Store.calls g.E.Store.faults text (g.C.Clock.moments c.args.clock.now) (g.C.Clock.moments c.now-now.new.self)
+    stopped g.D.Disk g.E.Store text (g.C.Clock.moments c.args.clock.now) (g.C.Clock.moments c.now-now.new.self)
     (g.W.Words.words c.args.draws.now) c.args.disk c.in-Err.disk c.stop-in-Err.result.disk c.args.store.now
     (reading_of (g.S.Source.left c.args.input.now) (g.S.Source.reads c.args.input.now)) (g.K.Sink.held c.args.output.now) c.args.settings c.now-now.result c.in-Err.fault
     c.stop-in-Err.result.end c.stop-in-Err.result.tally (subst IsSettings c.settings.view_is c.settings.invariant) read c.now-now.ensures c.in-Err.ensures.err

@@ -2,7 +2,7 @@
 use Rattle.std.proofs.Common.{◌≡◌, ℕ, ◌≤◌, ◌<◌, List, ◌++◌, length, take, ap, sym, ◌∙◌, subst, arith}
 use Rattle.fts_wire.specs.Outside.{IsTakenOf}
 use Rattle.fts_wire.specs.declared.outside.SourceFailed.{SourceFailed}
-use Rattle.fts_wire.proofs.WholeInput.{piece_taken, all_taken, too_many, part_taken, lost, rose_since, cut_piece, few_more, one_over}
+use Rattle.fts_wire.proofs.WholeInput.{piece_taken, all_taken, too_many, part_taken, lost, rose_since, cut_piece, few_more, one_over, read_more}
 use Rattle.fts_wire.proofs.whole_input.read_all.Goals as goal
 
 pub returns-in-Err-clause-refused : goal.returns-in-Err-clause-refused
@@ -46,5 +46,6 @@ reading-preserved g c =
       few = subst (λ (bytes : List ℕ). length bytes ≤ c.args.limit) (sym more) few;
       some = subst (λ n. 0 < n) (sym c.read_piece.ensures.room) cut.0;
       faults = omega (arith, c.reading.invariant.faults, c.read_piece.ensures.cause.keeps);
+      reads = read_more _ _ _ c.in-Ok.n c.reading.bytes.items c.read_piece.new.piece.items _ c.reading.invariant.reads c.read_piece.ensures.counted c.if-n-eq0.false c.in-Ok.ensures.bound more;
       beside = c.read_piece.ensures.beside ∙ c.reading.invariant.beside;
     }

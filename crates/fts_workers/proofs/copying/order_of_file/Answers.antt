@@ -1,5 +1,5 @@
 -- The row that is found by an id has it.
-use Rattle.std.proofs.Common.{◌≡◌, subst, sym, Some, option_map}
+use Rattle.std.proofs.Common.{◌≡◌, subst, sym, Some}
 use Rattle.fts_tables.specs.Tables.{row_at}
 use Rattle.fts_workers.proofs.Numbered.{row_at-id}
 use Rattle.fts_workers.proofs.copying.order_of_file.Goals as goal

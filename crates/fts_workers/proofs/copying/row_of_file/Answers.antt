@@ -1,6 +1,6 @@
 -- The row at the place before an id is the one that is found by it.
-use Rattle.std.proofs.Common.{◌≡◌, sym, ap, ◌∙◌, arith, ℕ, ◌≤◌, ◌-◌, ◌<◌, List, length, get_or, Option, Some, None, option_map, ltb, Bool, true}
-use Rattle.std.specs.Prelude.{slice_get, is_some}
+use Rattle.std.proofs.Common.{◌≡◌, sym, ap, ◌∙◌, arith, ℕ, ◌≤◌, ◌-◌, ◌<◌, List, length, get_or, Option, Some, None, option_map}
+use Rattle.std.specs.Prelude.{slice_get}
 use Rattle.std.specs.Option.{IfSome, MatchOption}
 use Rattle.std.proofs.lemmas.Option.{slice_get_read, slice_get_past}
 use denote.Bor.{Bor}

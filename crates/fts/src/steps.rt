@@ -1,0 +1,72 @@
+//! What doors and lines decide by what the system answered. The socket loops carry it out and decide nothing else.
+//! Keeps: each is one function of its answer, with an equation over the system's own numbers (`specs/Steps.antt`).
+//! Called by `TcpDoors` and `TcpLine`.
+ghost use Rattle.std.specs.Prelude.{◌≡◌};
+ghost use Rattle.std.specs.Net.Addr.{ipv4_octets};
+ghost use Rattle.fts.specs.Steps.{IsLeft, drains_on, is_end, loopback, may_send, untaken_by};
+
+use std::io::{self, ErrorKind};
+use std::net::Ipv4Addr;
+use std::time::Duration;
+
+/// What follows a connection that was not taken.
+#[derive(Clone, Copy, Debug, PartialEq, Eq)]
+pub enum Untaken {
+    /// It is gone, and the next one may be there.
+    Gone,
+    /// None can be taken for now.
+    NotYet,
+    /// There is no listener.
+    NoListener,
+}
+
+/// What a refused accept means, by the system's number (errno of POSIX, as Linux numbers it; 0 where it gave none). Want of descriptors or of
+/// memory ends once other lines are closed.
+pub fn untaken_by(errno: u32) -> Untaken
+    ensures { result ≡ untaken_by errno }
+{
+    match errno {
+        4 | 103 => Untaken::Gone,
+        9 | 22 | 88 => Untaken::NoListener,
+        _ => Untaken::NotYet,
+    }
+}
+
+/// The address that a service listens on: this machine's own, which no other machine reaches.
+pub fn address() -> Ipv4Addr
+    ensures { ipv4_octets result ≡ loopback }
+{
+    Ipv4Addr::new(127, 0, 0, 1)
+}
+
+/// What is left of a time, which is not 0. An error of its own kind, `TimedOut`, where nothing is left.
+pub fn time_left(whole: Duration, passed: Duration) -> io::Result<Duration>
+    ensures { IsLeft whole passed result }
+{
+    match whole.checked_sub(passed) {
+        Some(left) if !left.is_zero() => Ok(left),
+        Some(_) | None => Err(io::Error::from(ErrorKind::TimedOut)),
+    }
+}
+
+/// Whether more is taken in at the end of a line, behind a read that gave so many bytes, where so many came in all, and so many at most are taken in.
+pub fn drains_on(count: usize, taken: usize, most: usize) -> bool
+    ensures { result ≡ drains_on count taken most }
+{
+    count != 0 && taken < most
+}
+
+/// Whether a read shows that the input has ended: there was room for so many bytes, and it gave none.
+pub fn is_end(count: usize, room: usize) -> bool
+    ensures { result ≡ is_end count room }
+{
+    count == 0 && room > 0
+}
+
+/// Whether a client may still be sending where its line ends, so that what comes is taken in before the line is closed: its input hasn't ended,
+/// and no read and no write of the line has failed so far.
+pub fn may_send(is_at_end: bool, read_faults: u64, write_faults: u64) -> bool
+    ensures { result ≡ may_send is_at_end read_faults write_faults }
+{
+    !is_at_end && read_faults == 0 && write_faults == 0
+}

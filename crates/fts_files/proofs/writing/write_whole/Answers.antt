@@ -1,0 +1,12 @@
+use Rattle.std.proofs.Common.{sym, ◌∙◌}
+use Rattle.fts_files.specs.Writing.{writes_whole}
+use Rattle.fts_files.proofs.Playing.{then_leads, chosen, left}
+use Rattle.fts_files.proofs.writing.write_whole.Goals as goal
+
+pub returns-then-not-fits_file-clause-script : goal.returns-then-not-fits_file-clause-script
+unfolding writes_whole
+returns-then-not-fits_file-clause-script g c next = left _ _ _ _ (sym c.fits_file.ensures ∙ c.if-not-fits_file.true)
+
+pub returns-clause-script : goal.returns-clause-script
+unfolding writes_whole
+returns-clause-script g c next = then_leads (chosen _ _ _ _ (sym c.fits_file.ensures ∙ c.if-not-fits_file.false)) (c.write_pieces.ensures next)

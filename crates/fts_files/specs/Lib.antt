@@ -1,0 +1,10 @@
+pub mod Errno
+pub mod Calls
+pub mod Script
+pub mod Reach
+pub mod Opening
+pub mod Writing
+pub mod Reading
+pub mod Making
+pub mod Moving
+pub mod Moved

@@ -1,0 +1,29 @@
+-- A request is answered over the keep that the shop lends.
+use Rattle.std.proofs.Common.{◌≡◌, ◌≢◌, refl, subst, [], ◌++◌}
+use Rattle.fts_disk.specs.Disk.{IsTold}
+use Rattle.fts_wire.specs.RequestData.{RequestData}
+use Rattle.fts_keep.specs.Keeps.{KeepData, IsKeep}
+use Rattle.fts_routes.specs.Replies.{Answers}
+use Rattle.fts_shop.proofs.Rows.{all_name}
+use Rattle.fts_service.proofs.connection.answer_in.Goals as goal
+
+pub returns : goal.returns
+returns g c =
+    let value = c.keep-keep.ensures.value in
+    let grows = c.answer.ensures.grows in
+    record {
+      kept = subst (λ (k : KeepData g.row.D.Denot). IsKeep g.D.Disk.state k) value c.desk-desk.ensures.kept;
+      told = subst (λ (k : KeepData g.row.D.Denot). k.entries ≢ [] → IsTold (g.D.Disk.state k.disk)) value c.desk-desk.ensures.told;
+      answers = subst (λ (k : KeepData g.row.D.Denot). Answers g.D.Disk.state g.D.Disk.faults k c.answer.new.keep c.args.writer
+          c.args.room.now.request c.args.now c.answer.result) value
+          (subst (λ (r : RequestData). Answers g.D.Disk.state g.D.Disk.faults c.keep-keep.result.now c.answer.new.keep c.args.writer
+          r c.args.now c.answer.result) c.request.ensures c.answer.ensures.answers);
+      appends = record {
+        added = grows.added;
+        appended = subst (λ (k : KeepData g.row.D.Denot). c.answer.new.keep.entries ≡ k.entries ++ grows.added) value grows.appended;
+        named = all_name c.args.writer grows.added grows.by;
+      };
+      stay = refl;
+      phrase = c.answer.ensures.phrase;
+      methods = c.answer.ensures.methods;
+    }

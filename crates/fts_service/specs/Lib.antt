@@ -1,0 +1,12 @@
+pub mod Doors
+pub mod MemoryDoors
+pub mod Within
+pub mod Lanes
+pub mod Worlds
+pub mod Booths
+pub mod Halls
+pub mod Openings
+pub mod Seats
+pub mod Served
+pub mod Locked
+pub mod Serving
