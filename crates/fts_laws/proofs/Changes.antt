@@ -5,7 +5,7 @@ use Rattle.std.proofs.lemmas.List.Sums.{sum_by-cons}
 use Rattle.fts_tables.specs.Tables.{is_active, is_submitted, is_not_used, is_finished, is_failed, rows_of_job}
 use Rattle.fts_tables.specs.JobData.{JobData}
 use Rattle.fts_tables.specs.Choice.{next_alternative}
-use Rattle.fts_tables.specs.Moves.{submitted, canceled, cancelled, submit_if_not_used, submit_chosen, reported, reported_failure, reported_without_cancel, is_retryable, followed, followed_finish, followed_failure, new_row, new_rows, rows_of_kind}
+use Rattle.fts_tables.specs.Moves.{submitted, canceled, canceled_for, cancelled_for, submit_if_not_used, submit_chosen, reported, reported_failure, reported_without_cancel, is_retryable, followed, followed_finish, followed_failure, new_row, new_rows, rows_of_kind}
 use Rattle.fts_tables.specs.Step.{released}
 use Rattle.fts_tables.specs.declared.limits.TheConstants.{LAST_MOMENT}
 use Rattle.fts_tables.specs.declared.rows.NewFile.{NewFile}
@@ -17,6 +17,7 @@ use Rattle.fts_tables.specs.declared.rows.FileState.{FileState}
 use Rattle.fts_tables.specs.declared.rows.FileState.TheVariants.{Submitted, Failed, NotUsed}
 use Rattle.fts_tables.specs.declared.rows.Outcome.{Outcome}
 use Rattle.fts_tables.specs.declared.rows.Outcome.TheVariants.{Verified, SourceMissing, DestinationExists, SourceSize, SourceDigest, ReadBackDiffers, StoreFailed, Stopped}
+use Rattle.fts_tables.specs.declared.rows.Reason.{Reason}
 use Rattle.fts_tables.specs.declared.rows.Reason.TheVariants.{Ended}
 use Rattle.fts_laws.specs.Attempts.{attempts_in}
 
@@ -48,11 +49,11 @@ woken_attempt row true true = refl
 woken_attempt row true false = refl
 woken_attempt row false is_unused = refl
 
--- a row after a cancellation
-pub cancelled_attempt : (row : FileRow) → (cancelled row).attempt ≡ row.attempt
-cancelled_attempt row = by_state (is_submitted row.state || is_not_used row.state) (is_active row.state)
+-- a row after a cancellation for any reason
+pub cancelled_attempt : (reason : Reason) (row : FileRow) → (cancelled_for reason row).attempt ≡ row.attempt
+cancelled_attempt reason row = by_state (is_submitted row.state || is_not_used row.state) (is_active row.state)
   where
-    by_state : (waits runs : Bool) → (if waits then canceled row else (if runs then record row { cancel_asked = true } else row)).attempt ≡ row.attempt
+    by_state : (waits runs : Bool) → (if waits then canceled_for reason row else (if runs then record row { cancel_asked = true } else row)).attempt ≡ row.attempt
     by_state true runs = refl
     by_state false true = refl
     by_state false false = refl

@@ -1,13 +1,15 @@
 -- One accepted step: one attempt more where it is a claim, and as many otherwise.
 use Rattle.std.proofs.Common.{◌≡◌, ℕ, ◌+◌, ◌-◌, ◌≤◌, Bool, true, false, cond, List, ◌++◌, length, map, Option, Some, None, Err, refl, ◌∙◌, arith}
-use Rattle.std.specs.Prelude.{max, not, ◌&&◌, ◌==◌, nat_lt, option_and_then, slice_get, if◌then◌else◌}
+use Rattle.std.specs.Prelude.{max, not, ◌&&◌, ◌==◌, nat_lt, option_and_then, slice_get, is_some, if◌then◌else◌}
 use Rattle.std.specs.List.{list_any}
 use Rattle.std.proofs.lemmas.List.Sums.{sum_by-append}
 use Rattle.fts_tables.specs.JobData.{JobData}
 use Rattle.fts_tables.specs.Tables.{Tables, AreWellFormed, is_active, job_at, row_at, rows_of_job, number_of_id}
+use Rattle.fts_tables.specs.Limits.{endpoint_at, is_banned}
 use Rattle.fts_tables.specs.Choice.{pick}
-use Rattle.fts_tables.specs.Moves.{change_row, cancelled, is_cancellable, is_settled_job, reported, followed, rows_of_new}
-use Rattle.fts_tables.specs.Step.{Outcomes, released, submit_within, submit_by, cancel_rows, cancel_row, cancel_one, cancel_file, set_priority, claim, report_of, report, step}
+use Rattle.fts_tables.specs.Waits.{is_overdue, waits_at, goes_with}
+use Rattle.fts_tables.specs.Moves.{change_row, cancelled_for, is_cancellable, is_settled_job, reported, followed, rows_of_new}
+use Rattle.fts_tables.specs.Step.{Outcomes, released, submit_within, submit_by, cancel_rows, cancel_row, cancel_one, cancel_file, set_priority, claim, report_of, report, ban_only, ban_and_cancel, ban, unban, expire, step}
 use Rattle.fts_tables.specs.History.{IsAccepted, tables_after}
 use Rattle.fts_tables.specs.declared.limits.TheConstants.{MAX_JOBS, MAX_ROWS}
 use Rattle.fts_tables.specs.declared.rows.FileRow.{FileRow}
@@ -15,8 +17,10 @@ use Rattle.fts_tables.specs.declared.rows.JobRow.{JobRow}
 use Rattle.fts_tables.specs.declared.rows.JobKind.{JobKind}
 use Rattle.fts_tables.specs.declared.rows.JobKind.TheVariants.{Plain, Replica, Multihop}
 use Rattle.fts_tables.specs.declared.rows.Outcome.{Outcome}
+use Rattle.fts_tables.specs.declared.rows.Reason.{Reason}
+use Rattle.fts_tables.specs.declared.rows.Reason.TheVariants.{Cancelled, Expired}
 use Rattle.fts_tables.specs.declared.commands.Command.{Command}
-use Rattle.fts_tables.specs.declared.commands.Command.TheVariants.{Restart, Submit, CancelJob, CancelFile, SetPriority, Claim, Report}
+use Rattle.fts_tables.specs.declared.commands.Command.TheVariants.{Restart, Submit, CancelJob, CancelFile, SetPriority, Claim, Report, Ban, Unban, Expire}
 use Rattle.fts_tables.specs.declared.commands.Refusal.TheVariants.{NoJob}
 use Rattle.fts_laws.specs.Attempts.{attempts_in, is_claim}
 use Rattle.fts_laws.proofs.Changes.{attempt_if, attempts_in-followed, attempts_in-map, cancelled_attempt, kind_attempts, released_attempt, reported_attempt}
@@ -62,20 +66,22 @@ module _ (tables : Tables) where
   by_submit None now new accepted = by_submit_within now new accepted
   by_submit (Some number) now new accepted = absurd accepted
 
-  -- some rows cancelled
-  by_cancel : (test : FileRow → Bool) → attempts_in (map (λ row. if test row then cancelled row else row) tables.rows) ≡ attempts_in tables.rows + 0
-  by_cancel test = none_more (map (λ row. if test row then cancelled row else row) tables.rows)
-      (attempts_in-map (λ row. if test row then cancelled row else row) (λ row. attempt_if (test row) row (cancelled row) (cancelled_attempt row)) tables.rows)
+  -- some rows cancelled, for any reason
+  by_cancel : (reason : Reason) (test : FileRow → Bool)
+      → attempts_in (map (λ row. if test row then cancelled_for reason row else row) tables.rows) ≡ attempts_in tables.rows + 0
+  by_cancel reason test = none_more (map (λ row. if test row then cancelled_for reason row else row) tables.rows)
+      (attempts_in-map (λ row. if test row then cancelled_for reason row else row)
+      (λ row. attempt_if (test row) row (cancelled_for reason row) (cancelled_attempt reason row)) tables.rows)
 
   -- a cancellation of a job
   by_cancel_job : (now : ℕ) (job : JobRow) → Adds 0 (cancel_rows tables now job)
   by_cancel_job now job = by_if 0
       (not (is_settled_job (rows_of_job tables.rows job.number)) && list_any is_cancellable (rows_of_job tables.rows job.number)) _ _
-      (λ accepted. by_cancel (λ row. row.job == job.number)) (λ accepted. absurd accepted)
+      (λ accepted. by_cancel Cancelled (λ row. row.job == job.number)) (λ accepted. absurd accepted)
 
   -- a cancellation of one row
   by_cancel_row : (now : ℕ) (job : JobRow) (row : FileRow) → Adds 0 (cancel_row tables now job row)
-  by_cancel_row now job row = by_if 0 (is_cancellable row) _ _ (λ accepted. by_cancel (λ other. other.id == row.id)) (λ accepted. absurd accepted)
+  by_cancel_row now job row = by_if 0 (is_cancellable row) _ _ (λ accepted. by_cancel Cancelled (λ other. other.id == row.id)) (λ accepted. absurd accepted)
 
   -- a cancellation of a file, by the kind of its job
   by_cancel_one : (now : ℕ) (job : JobRow) (row : FileRow) (kind : JobKind) → Adds 0 (cancel_one tables now job row kind)
@@ -113,6 +119,22 @@ module _ (tables : Tables) where
   by_report now attempt outcome None accepted = absurd accepted
   by_report now attempt outcome (Some row) accepted = by_report_of now attempt outcome row (job_at tables.jobs row.job) accepted
 
+  -- a ban, with or without the files that wait there
+  by_ban : (now : ℕ) (storage : List ℕ) (cancel : Bool) → Adds 0 (ban tables now storage cancel)
+  by_ban now storage cancel = by_if 0 (is_some (endpoint_at tables.settings storage)) _ _
+      (by_if 0 cancel (ban_and_cancel tables now storage) (ban_only tables now storage)
+      (λ accepted. by_cancel Cancelled (goes_with tables.jobs tables.rows (waits_at storage))) (λ accepted. none_more tables.rows refl))
+      (λ accepted. absurd accepted)
+
+  -- the end of a ban leaves the rows
+  by_unban : (now : ℕ) (storage : List ℕ) → Adds 0 (unban tables now storage)
+  by_unban now storage = by_if 0 (is_banned tables.banned storage) _ _ (λ accepted. none_more tables.rows refl) (λ accepted. absurd accepted)
+
+  -- the end of the files that are overdue
+  by_expire : (now : ℕ) → Adds 0 (expire tables now)
+  by_expire now = by_if 0 (list_any (is_overdue tables.jobs now) tables.rows) _ _
+      (λ accepted. by_cancel Expired (goes_with tables.jobs tables.rows (is_overdue tables.jobs now))) (λ accepted. absurd accepted)
+
   module _ (picks_stand : PicksStand) (formed : AreWellFormed tables) where
     -- a claim
     by_claim : (now word : ℕ) (picked : Option FileRow) → pick tables now word ≡ picked → Adds 1 (claim tables now picked)
@@ -138,3 +160,6 @@ module _ (tables : Tables) where
     step_adds (Claim now word) accepted = by_claim (max now tables.moment) word (pick tables (max now tables.moment) word) refl accepted
     step_adds (Report now file attempt outcome) accepted =
         by_report (max now tables.moment) attempt outcome (row_at tables.rows file) accepted
+    step_adds (Ban now storage cancel) accepted = by_ban (max now tables.moment) storage cancel accepted
+    step_adds (Unban now storage) accepted = by_unban (max now tables.moment) storage accepted
+    step_adds (Expire now) accepted = by_expire (max now tables.moment) accepted

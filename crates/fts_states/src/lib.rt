@@ -8,8 +8,10 @@ mod cancels;
 mod jobs;
 mod reports;
 mod restarts;
+mod waits;
 
 pub use cancels::{CancelStep, after_cancel};
 pub use jobs::job_state;
 pub use reports::{After, Follow, after_report};
 pub use restarts::after_restart;
+pub use waits::{is_overdue, overdue_from};
