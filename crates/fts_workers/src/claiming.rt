@@ -3,7 +3,7 @@
 //! Order of a step: the expiry, and at the same moment the claim, unless the expiry met a fault.
 //! A round has a moment of its own for its expiry and for each claim, and expires once for all of them: it calls `expire` and `claim`. A turn has
 //! one moment for both, and calls `claim_step`.
-ghost use Rattle.fts_workers.specs.ClaimSteps.{IsExpiry, IsClaim, IsClaimStep};
+ghost use Rattle.fts_workers.specs.ClaimSteps.{IsExpiry, IsClaim, IsClaimStep, KeepsBy};
 
 use fts_disk::Disk;
 use fts_keep::{Keep, KeepFault};
@@ -44,7 +44,8 @@ pub(crate) fn claim<D: Disk>(
 /// One step of a worker: the files that are overdue are cancelled, and at the same moment a file is claimed, unless the expiry met a fault.
 /// In the tables that the claim meets no row is overdue.
 pub fn claim_step<D: Disk>(keep: &mut Keep<D>, writer: u32, now: u64, word: u64) -> ClaimStep
-    ensures { IsClaimStep D.state D.faults writer keep.old keep.new now word result.expiry result.claim }
+    ensures step { IsClaimStep D.state D.faults writer keep.old keep.new now word result.expiry result.claim }
+    ensures keeps { KeepsBy D.state D.faults writer keep.old keep.new }
 {
     let expiry = expire(keep, writer, now);
     // A keep's type says what holds between the two commands.
