@@ -81,9 +81,13 @@ reported_so tables now file attempt outcome after answer is = by_row (row_at tab
           Reported row.id (reported job at outcome row).state,
         )) (Err (Stale row.state row.attempt)) ≡ Ok (after, answer) → (state : FileState) × (answer ≡ Reported file state)
     by_test row job true id came =
-        let state = (reported job at outcome row).state in
-        (state, sym (same (with_rows tables at (followed job (reported job at outcome row) (change_row row.id (reported job at outcome) tables.rows)),
-        Reported row.id state) (after, answer) came) ∙ ap (λ n. Reported n state) id)
+        let state = (reported job at outcome row).state in (
+          state,
+          sym (same (
+            with_rows tables at (followed job (reported job at outcome row) (change_row row.id (reported job at outcome) tables.rows)),
+            Reported row.id state,
+          ) (after, answer) came) ∙ ap (λ n. Reported n state) id,
+        )
     by_test row job false id came = absurd cc
 
     by_job : (row : FileRow) (found : Option JobRow) → row.id ≡ file → report_of tables at row attempt outcome found ≡ Ok (after, answer)
@@ -123,9 +127,11 @@ module _ (outs : (entries : List Entry) → IsLegal entries → AreTheActive (ou
       let named : claimed_file (step tables (Claim now word)) ≡ Some so.row.id = ap claimed_file came.is
       ∙ ap (λ (a : Answer). claimed_file (Ok (came.after, a))) so.answer_is in
       let out = ap (λ (a : Answer). out_step (out_of_list walk.entries) (Ok (came.after, a))) so.answer_is
-      ∙ ap (λ files. files ++ so.row.id ∷ []) (without-none so.row.id (out_of_list walk.entries) (was_in walk.entries now word so.row.id legal named)) in
-      (so.row.id, counts_one walk next (entry_by 0 (Claim now word)) (out_of_list walk.entries ++ so.row.id ∷ []) 1 came legal
-      (claims.adds.listed ∙ ap (λ (e : Entry). walk.entries ++ e ∷ []) claims.tried.is) out refl)
+      ∙ ap (λ files. files ++ so.row.id ∷ []) (without-none so.row.id (out_of_list walk.entries) (was_in walk.entries now word so.row.id legal named)) in (
+        so.row.id,
+        counts_one walk next (entry_by 0 (Claim now word)) (out_of_list walk.entries ++ so.row.id ∷ []) 1 came legal
+            (claims.adds.listed ∙ ap (λ (e : Entry). walk.entries ++ e ∷ []) claims.tried.is) out refl,
+      )
 
   -- a report takes its file from those that are out
   report_counts : (walk next : Walk) (file : ℕ) (files : List ℕ) → IsLegal walk.entries → out_of_list walk.entries ≡ file ∷ files → Reports walk file next
