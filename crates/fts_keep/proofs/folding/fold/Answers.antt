@@ -1,5 +1,6 @@
 -- Each exit of the loop, by the lemmas of `Folded`.
 use Rattle.std.proofs.Common.{◌≡◌, ◌∙◌, ap, sym, subst, ◌+◌, ◌≤◌, slice_get, Some, length, rules, arith}
+use Rattle.fts_journal.specs.Journal.{filled_by}
 use Rattle.fts_keep.specs.Faults.{fault_of}
 use Rattle.fts_keep.specs.Folding.{HasFolded, FoldFault}
 use Rattle.fts_keep.proofs.Folded.{folded_none, folded_more, leaves_none, leaves_more, read_fault, take_fault, on_err, take_all}
@@ -18,7 +19,7 @@ body-requires g c = omega (arith, c.loop-n.invariant.leaves.count, c.count-n-end
 
 pub returns-in_err-body-clause-leaves : goal.returns-in_err-body-clause-leaves
 returns-in_err-body-clause-leaves g c = leaves_more g.D.Disk.state g.D.Disk.faults g.met.D.Disk.lawful c.args.journal.now c.loop-n.journal c.body.new.self
-    c.loop-n.invariant.leaves c.body.ensures.told c.body.ensures.kept c.body.ensures.counts c.body.ensures.keeps c.body.ensures.doubt
+    c.loop-n.invariant.leaves c.body.ensures.told c.body.ensures.kept c.body.ensures.counts c.body.ensures.sizes c.body.ensures.keeps c.body.ensures.doubt
 
 pub returns-in_err-body-clause-fault : goal.returns-in_err-body-clause-fault
 returns-in_err-body-clause-fault g c = on_err c.from_residual.result (fault_of c.in_err-body.field-0.0)
@@ -37,7 +38,7 @@ take_entry-requires-clause-low g c = omega
 
 pub returns-in_err-take_entry-clause-leaves : goal.returns-in_err-take_entry-clause-leaves
 returns-in_err-take_entry-clause-leaves g c = leaves_more g.D.Disk.state g.D.Disk.faults g.met.D.Disk.lawful c.args.journal.now c.loop-n.journal c.body.new.self
-    c.loop-n.invariant.leaves c.body.ensures.told c.body.ensures.kept c.body.ensures.counts c.body.ensures.keeps c.body.ensures.doubt
+    c.loop-n.invariant.leaves c.body.ensures.told c.body.ensures.kept c.body.ensures.counts c.body.ensures.sizes c.body.ensures.keeps c.body.ensures.doubt
 
 pub returns-in_err-take_entry-clause-fault : goal.returns-in_err-take_entry-clause-fault
 returns-in_err-take_entry-clause-fault g c = on_err c.from_residual-in_err-take_entry.result c.in_err-take_entry.field-0.0
@@ -70,10 +71,12 @@ loop-n-preserved g c =
     (arith, c.len.ensures, ap length c.deref.ensures.value) in
     record {
       leaves = leaves_more g.D.Disk.state g.D.Disk.faults g.met.D.Disk.lawful c.args.journal.now c.loop-n.journal c.body.new.self
-          c.loop-n.invariant.leaves c.body.ensures.told c.body.ensures.kept c.body.ensures.counts c.body.ensures.keeps c.body.ensures.doubt;
+          c.loop-n.invariant.leaves c.body.ensures.told c.body.ensures.kept c.body.ensures.counts c.body.ensures.sizes c.body.ensures.keeps c.body.ensures.doubt;
       folded = subst (λ k. HasFolded g.D.Disk.state c.args.journal.now c.take_entry.new.desk.tables k (c.loop-n.n + 1)) long
           (folded_more g.D.Disk.state c.args.journal.now c.loop-n.desk.tables c.take_entry.new.desk.tables c.loop-n.gate c.loop-n.n c.deref.result.now
           c.loop-n.invariant.folded c.in_ok-take_entry.ensures.takes
+          (ap (λ s. slice_get s c.loop-n.n) (sym c.loop-n.invariant.leaves.sizes) ∙ c.in_ok-body.ensures.long
+          ∙ ap (λ b. Some (length b)) (sym c.deref.ensures.value))
           (λ told. ap (λ b. slice_get b c.loop-n.n) (sym (c.loop-n.invariant.leaves.bodies told))
           ∙ c.in_ok-body.ensures.read (c.loop-n.invariant.leaves.told ∙ told) ∙ ap (λ b. Some b) (sym c.deref.ensures.value)));
       commands = omega (arith, c.in_ok-take_entry.ensures.commands, c.loop-n.invariant.commands);
@@ -95,7 +98,9 @@ returns-clause-folded g c =
       all = c.loop-n.invariant.commands ∙ all ∙ c.count-n-end.ensures.count;
       low = omega (arith, c.used.ensures.least, c.used.ensures.used);
       high = omega (arith, c.used.ensures.most, c.used.ensures.used);
-      fills = λ told. sym c.used.ensures.used ∙ c.used.ensures.offset told;
       proper = folded.proper;
+      fills = sym c.used.ensures.used ∙ c.used.ensures.filled
+          ∙ ap filled_by (sym (take_all c.args.journal.now.sizes c.loop-n.n (c.count-n-end.ensures.sizes ∙ sym all)))
+          ∙ sym folded.passes ∙ folded.fills;
       spells = λ told. sym (take_all c.args.journal.now.bodies c.loop-n.n (c.count-n-end.ensures.told told ∙ sym all)) ∙ folded.spells told;
     }
