@@ -3,6 +3,7 @@ use Rattle.std.proofs.Common.{◌≡◌, refl, ap, sym, ◌∙◌, subst, ℕ, �
 use Rattle.std.specs.List.{flat_map, sum_by}
 use Rattle.std.proofs.lemmas.Bool.{le-leb, leb-true}
 use Rattle.std.proofs.lemmas.List.{length-append}
+use Rattle.std.proofs.lemmas.List.Sums.{sum_by-cons}
 use Rattle.std.proofs.lemmas.List.Elements.{All-head, All-tail}
 use Rattle.fts_tables.specs.Tables.{Tables, empty_tables}
 use Rattle.fts_tables.specs.Step.{Outcomes, step}
@@ -43,7 +44,13 @@ block_long body = omega (arith, length-append (1 ∷ size_bytes (length body)) b
 blocks_long : (entries : List Entry) → length (flat_map block (bodies_of entries)) ≡ sum_by entry_bytes entries
 blocks_long [] = refl
 blocks_long (entry ∷ entries) =
-    omega (arith, blocks_long entries, block_long (spelled entry), length-append (block (spelled entry)) (flat_map block (bodies_of entries)))
+    omega (
+      arith,
+      blocks_long entries,
+      block_long (spelled entry),
+      length-append (block (spelled entry)) (flat_map block (bodies_of entries)),
+      sum_by-cons entry_bytes entry entries,
+    )
 
 -- so a list fills what its entries take
 pub used_listed : (entries : List Entry) → used_of entries ≡ used_by entry_bytes entries
@@ -61,7 +68,7 @@ open_more : (used : ℕ) (entries : List Entry) (entry : Entry) → OpenBelow en
     → OpenBelow entry_bytes used (entries ++ entry ∷ [])
 open_more used [] entry below last = (λ is. omega (arith, last is), tt)
 open_more used (first ∷ entries) entry below last =
-    (below.0, open_more (used + entry_bytes first) entries entry below.1 (λ is. omega (arith, last is)))
+    (below.0, open_more (used + entry_bytes first) entries entry below.1 (λ is. omega (arith, last is, sum_by-cons entry_bytes first entries)))
 
 -- the front of such a list
 open_front : (used : ℕ) (entries more : List Entry) → OpenBelow entry_bytes used (entries ++ more) → OpenBelow entry_bytes used entries
@@ -71,7 +78,8 @@ open_front used (entry ∷ entries) more below = (below.0, open_front (used + en
 -- a list that ends below the first limit
 open_short : (used : ℕ) (entries : List Entry) → used + sum_by entry_bytes entries < MAX_OPENING_BYTES → OpenBelow entry_bytes used entries
 open_short used [] short = tt
-open_short used (entry ∷ entries) short = (λ is. omega (arith, short), open_short (used + entry_bytes entry) entries (omega (arith, short)))
+open_short used (entry ∷ entries) short = let sum = sum_by-cons entry_bytes entry entries in
+    (λ is. omega (arith, short, sum), open_short (used + entry_bytes entry) entries (omega (arith, short, sum)))
 
 -- the restarts of the front cost no more than those of the whole
 cost_front : (tables : Tables) (entries more : List Entry)

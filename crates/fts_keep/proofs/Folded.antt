@@ -2,7 +2,7 @@
 use Rattle.std.proofs.Common.{◌≡◌, refl, ap, sym, ◌∙◌, subst, ℕ, zero, suc, ◌+◌, ◌≤◌, List, [], ◌∷◌, ◌++◌, length, take, drop, slice_get, Option, Some, Result, Ok, Err, IfErr, inl, inr, ◌⊎◌, arith, add-one}
 use Rattle.std.proofs.lemmas.List.{length-append}
 use Rattle.std.proofs.lemmas.List.Elements.{All-nil, All-push}
-use Rattle.std.proofs.lemmas.List.Sums.{sum_by_push}
+use Rattle.std.proofs.lemmas.List.Sums.{sum_by_push, sum_by-take-le}
 use Rattle.std.specs.List.{sum_by}
 use Rattle.std.specs.Result.{IsErrAnd}
 use Rattle.fts_tables.specs.Counts.{Rose}
@@ -54,8 +54,12 @@ step_done : (before after : Tables) (answer : Answer) (came : Outcomes) → came
 step_done before after answer (Ok done) is = (tt, ap (λ (d : Tables × Answer). d.0) (let same : done ≡ (after, answer) = cc in same))
 step_done before after answer (Err refusal) is = absurd cc
 
+-- the first so many sizes fill no more than all
+pub filled_to : (sizes : List ℕ) (n : ℕ) → filled_by (take n sizes) ≤ filled_by sizes
+filled_to sizes n = omega (arith, sum_by-take-le (λ s. 5 + s) sizes n)
+
 -- the bytes that one size more fills
-passes_more : (sizes : List ℕ) (n size : ℕ) → slice_get sizes n ≡ Some size → filled_by (take n sizes) + 5 + size ≡ filled_by (take (suc n) sizes)
+pub passes_more : (sizes : List ℕ) (n size : ℕ) → slice_get sizes n ≡ Some size → filled_by (take n sizes) + 5 + size ≡ filled_by (take (suc n) sizes)
 passes_more sizes n size is = omega
     (arith, sum_by_push (λ s. 5 + s) (take n sizes) size, ap (λ l. sum_by (λ s. 5 + s) l) (take_at_place sizes n size is))
 
