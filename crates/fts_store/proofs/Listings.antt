@@ -1,13 +1,13 @@
 -- Names that are read, and lists of names that are gone through one by one.
-use Rattle.std.proofs.Common.{◌≡◌, ◌⊎◌, inl, inr, ℕ, zero, suc, ◌+◌, ◌<◌, ◌≤◌, Bool, true, false, Option, Result, Ok, Err, IsErr, IsOk, List, [], ◌∷◌, ◌++◌, length, take, drop, filter, map, get_or, drop-cons, refl, sym, ◌∙◌, ap, subst, arith}
+use Rattle.std.proofs.Common.{◌≡◌, ◌⊎◌, inl, inr, ℕ, zero, suc, ◌+◌, ◌<◌, ◌≤◌, Bool, true, false, Option, Result, Ok, Err, IsErr, List, [], ◌∷◌, ◌++◌, length, take, drop, filter, map, get_or, drop-cons, refl, sym, ◌∙◌, ap, subst, arith}
 use Rattle.std.specs.Prelude.{if◌then◌else◌}
 use Rattle.std.specs.Str.{IsUtf8, is_utf8}
 use Rattle.std.proofs.lemmas.Str.{IsUtf8-from_is_utf8, is_utf8-from_IsUtf8}
 use Rattle.std.proofs.lemmas.List.{map-append}
 use Rattle.std.proofs.lemmas.List.Elements.{filter-append}
 use Rattle.fts_files.specs.Calls.{Call, Answer, Names, with_call}
-use Rattle.fts_files.specs.Script.{Script, LeadsTo, either, fails}
-use Rattle.fts_files.proofs.Playing.{then_leads, leads_same, does_leads}
+use Rattle.fts_files.specs.Script.{Script, LeadsTo, fails}
+use Rattle.fts_files.proofs.Playing.{then_leads, does_leads}
 use Rattle.fts_store.specs.FolderCalls.{UpToMemory}
 use Rattle.fts_store.specs.Listing.{names_told, lists}
 

@@ -1,5 +1,5 @@
 -- Looks at folders below the root, one behind the other.
-use Rattle.std.proofs.Common.{◌≡◌, ◌⊎◌, inl, inr, codes, ℕ, ◌+◌, ◌<◌, ◌≤◌, Option, Result, Ok, Err, IsErr, IsOk, List, [], ◌∷◌, ◌++◌, length, map, drop, filter, get_or, refl, sym, ◌∙◌, ap, subst}
+use Rattle.std.proofs.Common.{◌≡◌, ◌⊎◌, inl, inr, codes, ℕ, ◌+◌, ◌<◌, ◌≤◌, Option, Result, Ok, Err, IsErr, IsOk, List, [], ◌++◌, length, map, drop, filter, get_or, refl, sym, ◌∙◌, ap, subst}
 use Rattle.std.specs.Prelude.{if◌then◌else◌}
 use Rattle.fts_files.specs.Calls.{Call, Answer, Look, Names, with_call}
 use Rattle.fts_files.specs.Script.{Script, LeadsTo}

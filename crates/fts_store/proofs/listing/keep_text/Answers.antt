@@ -1,4 +1,4 @@
-use Rattle.std.proofs.Common.{◌++◌, ◌∷◌, [], map, string_bytes, List, ap, sym, ◌∙◌}
+use Rattle.std.proofs.Common.{◌++◌, ◌∷◌, [], map, string_bytes, ap, sym, ◌∙◌}
 use Rattle.std.proofs.lemmas.List.{map-append}
 use Rattle.fts_store.proofs.Listings.{no_text, a_text, nothing_more}
 use Rattle.fts_store.proofs.listing.keep_text.Goals as goal
