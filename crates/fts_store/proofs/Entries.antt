@@ -85,7 +85,8 @@ find-none : {X : Type 0} (p : X → Bool) (xs : List X) → position p xs ≡ No
 find-none p xs is = find_at p xs ∙ ap (slice_get xs) (none_at_end p xs is) ∙ slice_get_past xs (length xs) (omega arith)
 
 -- the file that was taken out of an entry with room takes as much
-pub room_there : (made made_now : List Entry) (n : ℕ) (place : Place) (count : ℕ) (file : Option (Vec ℕ Global)) → ((d : Entry) → file ≡ (get_or made_now n d).file)
+pub room_there : (made made_now : List Entry) (n : ℕ) (place : Place) (count : ℕ) (file : Option (Vec ℕ Global))
+    → ((d : Entry) → file ≡ (get_or made_now n d).file)
     → EntryTakes (find (is_entry_at place) made) count → made_now ≡ made → IsEntryOf made_now n place → Takes file count
 room_there made made_now n place count file taken takes same is = by_found (find (is_entry_at place) made) refl takes
   where
@@ -93,7 +94,8 @@ room_there made made_now n place count file taken takes same is = by_found (find
     by_found None there takes = absurd takes
     by_found (Some entry) there takes =
         let found : find (is_entry_at place) made ≡ Some (get_or made_now n entry) =
-        ap (find (is_entry_at place)) (sym same) ∙ find-position (is_entry_at place) made_now n is ∙ slice_get-get_or made_now n entry (entry_inside made_now n place is) in
+        ap (find (is_entry_at place)) (sym same) ∙ find-position (is_entry_at place) made_now n is
+        ∙ slice_get-get_or made_now n entry (entry_inside made_now n place is) in
         let has : EntryTakes (Some (get_or made_now n entry)) count = subst (λ o. EntryTakes o count) (sym there ∙ found) takes in
         subst (λ f. Takes f count) (sym (taken entry)) has
 
