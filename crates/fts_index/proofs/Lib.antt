@@ -6,3 +6,5 @@ mod Sought
 mod Counted
 mod LinksInOrder
 mod TableLists
+mod CountedDues
+mod RowsComing
