@@ -8,3 +8,4 @@ mod LinksInOrder
 mod TableLists
 mod CountedDues
 mod RowsComing
+mod DueRows

@@ -84,12 +84,12 @@ take_next passes (first ∷ rows) (suc place) row at =
       take_next passes rows place row at,
     )
 
--- of a file that comes in nothing else is there yet
-abbrev is_of : ℕ → Due → Bool
+-- whether a moment is a file's
+abbrev pub is_of : ℕ → Due → Bool
 is_of file due = due.file == file
 
 -- a row comes in with its own number alone
-comes_with : (file : ℕ) (moment : Option ℕ) (row : FileRow) → comes_in (is_of file) moment row ≡ true → row.id ≡ file
+pub comes_with : (file : ℕ) (moment : Option ℕ) (row : FileRow) → comes_in (is_of file) moment row ≡ true → row.id ≡ file
 comes_with file None row is =
     let never : false ≡ true = (and_parts (is_submitted row.state) false is).1 in
     cc

@@ -1,7 +1,7 @@
 -- Lists of the moments at which waiting files become overdue, with room for more, and such a list where a file's moment changes.
 use Rattle.std.specs.Prelude.{◌≡◌, ℕ, ◌+◌, ◌<◌, Bool, false, ◌==◌, if◌then◌else◌, List, length, count_by, Option, is_some, IsTrue, IfSome}
 use Rattle.std.specs.Option.{option_map_or}
-use Rattle.fts_tables.specs.Dues.{Due, is_due_before}
+use Rattle.fts_tables.specs.Dues.{Due, is_due_before, AreInOrder}
 use Rattle.ordered.specs.Orders.{has_key}
 
 -- the moments in order, how many files may ever have one there, and how many there is room for
@@ -28,3 +28,10 @@ pub record MayChange (file : ℕ) (was is : Option ℕ) (list : DueList) : Type 
   pub there : IfSome was (λ moment. IsTrue (has_key is_due_before (due_at file moment) list.dues))
   pub once : count_by (λ (due : Due). due.file == file) list.dues ≡ (if is_some was then 1 else 0)
   pub fewer : IfSome is (λ moment. length list.dues < list.files + (if is_some was then 1 else 0))
+
+-- a file's moment has changed, and nothing else
+pub record HasChanged (file : ℕ) (was is : Option ℕ) (old new : DueList) : Type 0 where
+  pub counts : (test : Due → Bool) → count_by test new.dues + counted test file was ≡ count_by test old.dues + counted test file is
+  pub order : AreInOrder new.dues
+  pub files : new.files ≡ old.files
+  pub room : new.room ≡ old.room

@@ -1,8 +1,8 @@
 -- The moments at which the waiting files of rows become overdue, beside the rows.
-use Rattle.std.specs.Prelude.{◌≡◌, ℕ, ◌+◌, ◌≤◌, Bool, true, ◌&&◌, nat_le, if◌then◌else◌, List, length, count_by, Option, None, is_some}
+use Rattle.std.specs.Prelude.{◌≡◌, ℕ, ◌+◌, ◌≤◌, Bool, true, ◌&&◌, nat_le, if◌then◌else◌, List, length, count_by, slice_get, Option, Some, None, is_some}
 use Rattle.fts_tables.specs.Tables.{AreNumberedFrom, is_submitted}
 use Rattle.fts_tables.specs.Waits.{row_overdue_from}
-use Rattle.fts_tables.specs.Dues.{Due, IsDuesOf}
+use Rattle.fts_tables.specs.Dues.{Due, IsDuesOf, AreInOrder}
 use Rattle.fts_tables.specs.declared.rows.FileRow.{FileRow}
 use Rattle.fts_tables.specs.declared.rows.JobRow.{JobRow}
 use Rattle.fts_index.specs.DueLists.{DueList, passes_at}
@@ -30,3 +30,18 @@ pub record MayAdd (rows : List FileRow) (moment : Option ℕ) (list : DueList) :
   pub numbered : AreNumberedFrom (λ row. row.id) first rows
   pub behind : count_by (λ (due : Due). nat_le first due.file) list.dues ≡ 0
   pub room : is_some moment ≡ true → list.files + length rows ≤ list.room
+
+-- rows have come in where they wait, each may have its moment, and nothing else has changed
+pub record HasAdded (rows : List FileRow) (moment : Option ℕ) (old new : DueList) : Type 0 where
+  pub counts : (test : Due → Bool) → count_by test new.dues ≡ count_by test old.dues + count_by (comes_in test moment) rows
+  pub order : AreInOrder new.dues
+  pub files : new.files ≡ old.files + (if is_some moment then length rows else 0)
+  pub room : new.room ≡ old.room
+
+-- a row that waits, with a file and a moment
+pub record HasDueRow (jobs : List JobRow) (rows : List FileRow) (due : Due) : Type 0 where
+  pub place : ℕ
+  pub row : FileRow
+  pub there : slice_get rows place ≡ Some row
+  pub file : row.id ≡ due.file
+  pub from : due_from jobs row ≡ Some due.moment

@@ -10,23 +10,20 @@ ghost use Rattle.std.specs.Prelude.{
   ◌+◌,
   ◌==◌,
   Bool,
-  if◌then◌else◌,
   [],
   max,
   length,
   count_by,
   slice_get,
-  is_some,
   IsTrue,
-  IsFalse,
   OnOk,
   OnErr,
   IfSome,
 };
 ghost use Rattle.ordered.specs.Orders.{AreSortedBy, has_key};
-ghost use Rattle.fts_tables.specs.Dues.{AreInOrder, is_due_before, is_first_due};
-ghost use Rattle.fts_index.specs.DueLists.{due_at, counted, MayChange};
-ghost use Rattle.fts_index.specs.RowDues.{comes_in, MayAdd};
+ghost use Rattle.fts_tables.specs.Dues.{is_due_before, is_first_due};
+ghost use Rattle.fts_index.specs.DueLists.{due_at, counted, MayChange, HasChanged};
+ghost use Rattle.fts_index.specs.RowDues.{comes_in, MayAdd, HasAdded};
 
 use fts_tables::{FileRow, Memory};
 use ordered::{Key, Ordered};
@@ -157,10 +154,7 @@ impl Dues {
     /// doesn't limit their time nothing changes.
     pub fn add_rows(&mut self, rows: &[FileRow], moment: Option<u64>)
         requires may { MayAdd rows.now moment self.old }
-        ensures counts { (test : Due → Bool) → count_by test self.new.dues ≡ count_by test self.old.dues + count_by (comes_in test moment) rows.now }
-        ensures order { AreInOrder self.new.dues }
-        ensures files { self.new.files ≡ self.old.files + (if is_some moment then length rows.now else 0) }
-        ensures room { self.new.room ≡ self.old.room }
+        ensures added { HasAdded rows.now moment self.old self.new }
     {
         if moment.is_some() {
             put_rows(&mut self.dues, rows, moment);
@@ -171,10 +165,7 @@ impl Dues {
     /// A file that had a moment, or none, has another one or none from now on. Of equal ones nothing changes.
     pub fn change(&mut self, file: u32, was: Option<u64>, is: Option<u64>)
         requires may { MayChange file was is self.old }
-        ensures counts { (test : Due → Bool) → count_by test self.new.dues + counted test file was ≡ count_by test self.old.dues + counted test file is }
-        ensures order { AreInOrder self.new.dues }
-        ensures files { self.new.files ≡ self.old.files }
-        ensures room { self.new.room ≡ self.old.room }
+        ensures changed { HasChanged file was is self.old self.new }
     {
         if was != is {
             take_out(&mut self.dues, file, was);

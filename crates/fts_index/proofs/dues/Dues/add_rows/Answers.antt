@@ -1,6 +1,7 @@
-use Rattle.std.proofs.Common.{◌+◌, true, sym, ap, ◌∙◌, arith}
-use Rattle.std.specs.Prelude.{count_by}
+use Rattle.std.proofs.Common.{◌≡◌, ℕ, true, cond, length, refl, ap, sym, ◌∙◌, subst, arith}
+use Rattle.std.specs.Prelude.{is_some}
 use Rattle.std.proofs.lemmas.List.Sums.{count_by-le-length}
+use Rattle.fts_tables.specs.Dues.{AreInOrder}
 use Rattle.fts_index.specs.DueLists.{DueList}
 use Rattle.fts_index.specs.RowDues.{comes_in}
 use Rattle.fts_index.proofs.CountedDues.{in_order, count_all}
@@ -26,6 +27,15 @@ invariant_of-self c =
       small = omega (arith, c.self.invariant.small, c.put_rows.ensures.room);
     }
 
-pub returns-else-is_some-clause-counts : goal.returns-else-is_some-clause-counts
-returns-else-is_some-clause-counts c = λ test.
-    omega (arith, none_come test c.args.moment c.args.rows.now (sym c.is_some.ensures ∙ c.if-is_some.false))
+pub returns-else-is_some : goal.returns-else-is_some
+returns-else-is_some c =
+    let none = sym c.is_some.ensures ∙ c.if-is_some.false in
+    let same : ◌≡◌ {A = ℕ} (cond (is_some c.args.moment) (length c.args.rows.now) 0) 0 = ap (λ answer. cond answer (length c.args.rows.now) 0) none in
+    record {
+      added = record {
+        counts = λ test. omega (arith, none_come test c.args.moment c.args.rows.now none);
+        order = subst (λ (list : DueList). AreInOrder list.dues) c.self.view_is c.self.invariant.order;
+        files = omega (arith, same);
+        room = refl;
+      };
+    }

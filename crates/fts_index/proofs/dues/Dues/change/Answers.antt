@@ -18,4 +18,5 @@ invariant_of-self c = record {
       (subst (MayChange c.args.file c.args.was c.args.is) (sym c.self.view_is) c.requires.may) c.self.invariant.few
       (c.take_out.ensures.counts (λ due. true)) (c.put_in.ensures.counts (λ due. true));
   inside = omega (arith, c.self.invariant.inside, c.take_out.ensures.room, c.put_in.ensures.room);
+  small = omega (arith, c.self.invariant.small, c.take_out.ensures.room, c.put_in.ensures.room);
 }
