@@ -178,7 +178,7 @@ cancelled-attempt : KeepsAttempt cancelled
 cancelled-attempt = cancelled_for-attempt CancelledReason
 
 -- nor does it of a row of one job alone
-cancelled_of-attempt : (number : ℕ) → KeepsAttempt (cancelled_of number)
+cancelled_of-attempt : (number : ℕ) → KeepsAttempt (cancelled_of CancelledReason number)
 cancelled_of-attempt number row = by_test (row.job == number)
   where
     by_test : (answer : Bool) → (cond answer (cancelled row) row).attempt ≡ row.attempt
@@ -308,9 +308,9 @@ module _ (tables : Tables) (commands now : ℕ) (bounds : AreBounded commands ta
   bounded_cancel_rows job = by_test (not (is_settled_job (rows_of_job tables.rows job.number)) && list_any is_cancellable (rows_of_job tables.rows job.number))
     where
       by_test : (answer : Bool) → BoundedAfter (suc commands)
-          (cond {A = Outcomes} answer (Ok (with_rows tables now (map (cancelled_of job.number) tables.rows), Cancelled job.number))
+          (cond {A = Outcomes} answer (Ok (with_rows tables now (map (cancelled_of CancelledReason job.number) tables.rows), Cancelled job.number))
           (Err (Unchanged job.number)))
-      by_test true = bounded_same (suc commands) tables.jobs (cancelled_of job.number) (cancelled_of-attempt job.number) tables.rows
+      by_test true = bounded_same (suc commands) tables.jobs (cancelled_of CancelledReason job.number) (cancelled_of-attempt job.number) tables.rows
           (bounded_later commands tables.jobs tables.rows bounds)
       by_test false = tt
 

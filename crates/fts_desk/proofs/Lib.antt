@@ -19,5 +19,8 @@ mod KnownLinks
 mod CancelledRows
 mod RowsBeside
 mod CancelledParts
+mod CanceledCounts
+mod Counted
+mod GoneTogether
 mod SubmittedParts
 pub mod Crosses
