@@ -1,9 +1,11 @@
 -- What is counted of rows, where one of them changes at its place and keeps its file.
-use Rattle.std.proofs.Common.{◌≡◌, ℕ, zero, suc, ◌<◌, List, [], ◌∷◌, length, get_or, set, Some, refl, ap, sym, ◌∙◌, subst, arith, inl, inr}
-use Rattle.std.specs.Prelude.{◌+◌, ◌&&◌, Bool, Option, count_by, slice_get, slice_set, if◌then◌else◌}
+use Rattle.std.proofs.Common.{◌≡◌, ℕ, zero, suc, ◌<◌, true, false, List, [], ◌∷◌, length, map, get_or, set, Some, refl, ap, sym, ◌∙◌, subst, arith, inl, inr}
+use Rattle.std.specs.Prelude.{◌+◌, ◌&&◌, ◌==◌, Bool, Option, count_by, slice_get, slice_set, if◌then◌else◌}
 use Rattle.std.proofs.lemmas.List.{length-set}
 use Rattle.std.proofs.lemmas.Option.{same_Some, slice_get_cases, slice_get-get_or}
 use Rattle.fts_tables.specs.Tables.{AreNumberedFrom}
+use Rattle.fts_tables.specs.Waits.{overdue_from}
+use Rattle.fts_tables.specs.Step.{with_priority}
 use Rattle.fts_tables.specs.Laws.{FileOfRow, file_of}
 use Rattle.fts_tables.specs.declared.rows.FileRow.{FileRow}
 use Rattle.fts_tables.specs.declared.rows.JobRow.{JobRow}
@@ -14,6 +16,7 @@ use Rattle.fts_index.specs.RowDues.{due_from, AreDuesOf}
 use Rattle.fts_desk.specs.Loaded.{added_by, AreLoadsOf, MayRecount}
 use Rattle.fts_desk.specs.Counted.{AreCountsOf, AreCountsBefore, IsCountedAt}
 use Rattle.fts_desk.specs.Places.{change_at}
+use Rattle.fts_desk.specs.Standing.{prioritized}
 use Rattle.fts_desk.specs.declared.kept.Counts.{Counts}
 use Rattle.fts_desk.specs.declared.counts.Tally.{Tally}
 use Rattle.fts_desk.proofs.CancelledParts.{read_set, numbered-set}
@@ -118,3 +121,23 @@ module _ (jobs : List JobRow) (rows : List FileRow) (place : ℕ) (was : Tally) 
       (law jobs old_rows place earlier.before row row.id counts.dues new there ids refl (ap (λ (file : FileOfRow). file.job) same) earlier.of_rows.dues
       (subst (λ moment. HasChanged row.id (due_from jobs earlier.before) moment counts.dues new) now
       (subst (λ moment. HasChanged row.id moment is counts.dues new) earlier.counted.due changed)))
+
+-- another priority of a job leaves what is counted
+pub counts_prioritized : ((jobs : List JobRow) (change : JobRow → JobRow) (rows : List FileRow) (list : DueList)
+    → ((job : JobRow) → (change job).number ≡ job.number) → ((job : JobRow) → overdue_from (change job) ≡ overdue_from job)
+    → AreDuesOf jobs rows list → AreDuesOf (map change jobs) rows list)
+    → (number priority : ℕ) (jobs : List JobRow) (rows : List FileRow) (counts : Counts) → AreCountsOf jobs rows counts
+    → AreCountsOf (map (prioritized number priority) jobs) rows counts
+counts_prioritized law number priority jobs rows counts of_rows = record {
+  loads = of_rows.loads;
+  dues = law jobs (prioritized number priority) rows counts.dues (λ job. numbers job (job.number == number)) (λ job. moments job (job.number == number))
+      of_rows.dues;
+}
+  where
+    numbers : (job : JobRow) (answer : Bool) → (if answer then with_priority priority job else job).number ≡ job.number
+    numbers job true = refl
+    numbers job false = refl
+
+    moments : (job : JobRow) (answer : Bool) → overdue_from (if answer then with_priority priority job else job) ≡ overdue_from job
+    moments job true = refl
+    moments job false = refl

@@ -1,11 +1,11 @@
 -- Files that pass a test are cancelled one after the other, each with its whole job where that goes as a whole: what is left to go ends in the same rows.
-use Rattle.std.proofs.Common.{◌≡◌, ℕ, zero, suc, ◌+◌, Bool, true, false, cond, ◌≤◌, List, [], ◌∷◌, length, map, take, Option, Some, None, refl, ap, sym, ◌∙◌, subst, arith}
+use Rattle.std.proofs.Common.{◌≡◌, ℕ, zero, suc, ◌+◌, Bool, true, false, cond, ◌<◌, ◌≤◌, List, [], ◌∷◌, length, map, take, Option, Some, None, inl, inr, refl, ap, sym, ◌∙◌, subst, arith}
 use Rattle.std.specs.Prelude.{◌&&◌, ◌||◌, ◌==◌, slice_get, option_map, if◌then◌else◌}
 use Rattle.std.specs.List.{AllByRecursion, list_any}
 use Rattle.std.specs.Option.{option_map_or}
 use Rattle.std.proofs.lemmas.Bool.{or_parts, eqb-true, eqb-false, eq-eqb, ne_eqb}
 use Rattle.std.proofs.lemmas.List.{take-map}
-use Rattle.std.proofs.lemmas.Option.{same_Some, slice_get-map, slice_get_within}
+use Rattle.std.proofs.lemmas.Option.{same_Some, slice_get-map, slice_get_within, slice_get_cases}
 use Rattle.fts_tables.specs.Tables.{AreNumberedFrom, is_submitted, is_active, is_not_used, job_at}
 use Rattle.fts_tables.specs.Moves.{canceled_for, cancelled_for, change_row}
 use Rattle.fts_tables.specs.Waits.{goes_as_a_whole, is_of_a_whole, goes_with, rows_cancelled}
@@ -354,3 +354,29 @@ module _ (reason : Reason) (jobs : List JobRow) (test : FileRow → Bool) (fails
   turn_formed true formed = formed-map (λ row. if goes_by jobs hit row then cancelled_for reason row else row)
       (λ row. file_if_cancelled reason row (goes_by jobs hit row)) jobs rows formed
   turn_formed false formed = formed
+
+-- what a turn of a walk leaves
+pub record IsTurned (reason : Reason) (jobs : List JobRow) (test : FileRow → Bool) (rows : List FileRow) (place : ℕ) (new : List FileRow) : Type 0 where
+  pub formed : AreFormed jobs new
+  pub ends : rows_cancelled reason jobs test new ≡ rows_cancelled reason jobs test rows
+  pub passed : list_any test (take (place + 1) new) ≡ false
+
+-- a turn at a place
+pub walk_turn : (reason : Reason) (jobs : List JobRow) (test : FileRow → Bool) → FailsThen reason test → (rows : List FileRow) (place : ℕ)
+    → place < length rows → AreFormed jobs rows → list_any test (take place rows) ≡ false → (new : List FileRow)
+    → ((row : FileRow) → slice_get rows place ≡ Some row → new ≡ (if test row then gone_with reason jobs row rows else rows))
+    → IsTurned reason jobs test rows place new
+walk_turn reason jobs test fails rows place inside formed passed new is = elim (slice_get_cases rows place).1 [
+  | inl found ↦ here found.0 found.2
+  | inr past ↦ absurd (omega (arith, past.0, inside))
+]
+  where
+    here : (row : FileRow) → slice_get rows place ≡ Some row → IsTurned reason jobs test rows place new
+    here row at =
+        let next : suc place ≡ place + 1 = omega arith in
+        subst (IsTurned reason jobs test rows place) (sym (is row at)) (record {
+          formed = turn_formed reason jobs test fails rows place row at (test row) formed;
+          ends = turn_ends reason jobs test fails rows place row at formed.rows (test row) refl;
+          passed = subst (λ count. list_any test (take count (if test row then gone_with reason jobs row rows else rows)) ≡ false) next
+              (turn_passed reason jobs test fails rows place row at (test row) refl passed);
+        })

@@ -1,4 +1,5 @@
 mod AddedRows
+mod Banned
 mod Bounded
 mod ChangedRows
 mod Claiming

@@ -1,6 +1,7 @@
 -- What is counted of the rows beside them: the loads of the links, and the moments from which waiting files are overdue.
-use Rattle.std.specs.Prelude.{◌≡◌, ◌≢◌, ℕ, ◌+◌, ◌<◌, ◌≤◌, List, length, slice_set, slice_get, Some}
+use Rattle.std.specs.Prelude.{◌≡◌, ◌≢◌, ℕ, ◌+◌, ◌<◌, ◌≤◌, nat_le, if◌then◌else◌, List, [], ◌∷◌, length, slice_set, slice_get, Option, Some, None}
 use Rattle.fts_tables.specs.Tables.{is_live}
+use Rattle.fts_tables.specs.Dues.{Due}
 use Rattle.fts_tables.specs.Laws.{file_of}
 use Rattle.fts_tables.specs.declared.rows.FileRow.{FileRow}
 use Rattle.fts_tables.specs.declared.rows.JobRow.{JobRow}
@@ -35,3 +36,8 @@ pub record AreCountsBefore (jobs : List JobRow) (rows : List FileRow) (place : �
 -- where a job limits its files' hours, there is room for so many files more among the moments
 abbrev pub HasRoomForDues : ℕ → ℕ → DueList → Type 0
 HasRoomForDues hours count list = hours ≢ 0 → list.files + count ≤ list.room
+
+-- the file of the first moment, where that has come
+abbrev pub first_due_file : ℕ → List Due → Option ℕ
+first_due_file now [] = None
+first_due_file now (due ∷ dues) = if nat_le due.moment now then Some due.file else None

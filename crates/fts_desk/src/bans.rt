@@ -2,15 +2,16 @@
 //! `check_ban` and `check_unban` answer as the machine's step does, `make_room` makes room for one name more, and `ban` and `unban` take no memory.
 //! The flags are filled again behind each change of the names, so that a claim asks for no name.
 //! A ban that cancels walks over all rows, and nothing else does but a restart.
-ghost use Rattle.std.specs.Prelude.{◌≡◌, ◌+◌, ◌≤◌, ℕ, Bool, is_some, length, map, vec_capacity, Ok, OnOk};
+ghost use Rattle.std.specs.Prelude.{◌≡◌, ◌+◌, ◌<◌, ◌≤◌, ℕ, Bool, List, if◌then◌else◌, is_some, length, slice_get, vec_capacity, Ok, Some, OnOk};
 ghost use Rattle.fts_tables.specs.Tables.{AreWellFormed};
 ghost use Rattle.fts_tables.specs.Limits.{endpoint_at, is_banned};
 ghost use Rattle.fts_tables.specs.Waits.{waits_at, rows_cancelled};
 ghost use Rattle.fts_tables.specs.Step.{step, with_ban, without_ban};
 ghost use Rattle.fts_tables.specs.History.{IsAccepted};
 ghost use Rattle.fts_tables.specs.declared.commands.Command.TheVariants.{Ban, Unban};
+ghost use Rattle.fts_tables.specs.declared.rows.FileRow.{FileRow};
 ghost use Rattle.fts_tables.specs.declared.rows.Reason.TheVariants.{Cancelled};
-ghost use Rattle.fts_desk.specs.Cancels.{count_canceled};
+ghost use Rattle.fts_desk.specs.Cancels.{gone_with, count_canceled};
 ghost use Rattle.fts_desk.specs.Kept.{tables_kept};
 ghost use Rattle.fts_desk.specs.Parts.{limits_of, flags_in, IsBeside};
 ghost use Rattle.fts_desk.specs.Standing.{AreFormed};
@@ -80,17 +81,15 @@ pub fn ban(kept: &mut Kept, now: u64, storage: EndpointName, cancel: bool) -> An
     requires accepted { IsAccepted (step (tables_kept kept.old) (Ban now storage cancel)) }
     ensures step { step (tables_kept kept.old) (Ban now storage cancel) ≡ Ok (tables_kept kept.new, result) }
 {
+    overdue_and_banned_rows_go();
     kept.moment = now.max(kept.moment);
-    let cancelled = if cancel {
-        cancel_waiting(
-            &mut kept.rows,
-            storage.as_str(),
-            &mut kept.beside,
-            &kept.jobs,
-        )
-    } else {
-        0
-    };
+    let cancelled = cancel_where_asked(
+        &mut kept.rows,
+        cancel,
+        storage.as_str(),
+        &mut kept.beside,
+        &kept.jobs,
+    );
     add_ban(&mut kept.banned, storage);
     refill(&mut kept.flags, &kept.settings, &kept.banned);
     Answer::Banned { cancelled }
@@ -143,6 +142,28 @@ fn waits_at(storage: &str, row: &FileRow) -> bool
         && (row.source.endpoint.as_str() == storage || row.dest.endpoint.as_str() == storage)
 }
 
+/// Cancels the files that wait at a storage where that is asked, and says how many rows became CANCELED.
+fn cancel_where_asked(
+    rows: &mut [FileRow],
+    cancel: bool,
+    storage: &str,
+    beside: &mut Beside,
+    jobs: &[JobRow],
+) -> u32
+    requires formed { AreFormed jobs.now rows.old }
+    requires beside { IsBeside jobs.now rows.old beside.old }
+    ensures rows { rows.new ≡ (if cancel then rows_cancelled Cancelled jobs.now (waits_at storage.now) rows.old else rows.old) }
+    ensures count { count_canceled rows.new ≡ count_canceled rows.old + result }
+    ensures beside { IsBeside jobs.now rows.new beside.new }
+    ensures limits { limits_of beside.new.parts ≡ limits_of beside.old.parts }
+{
+    if cancel {
+        cancel_waiting(rows, storage, beside, jobs)
+    } else {
+        0
+    }
+}
+
 /// Cancels the files that wait at a storage, and says how many rows became CANCELED.
 fn cancel_waiting(
     rows: &mut [FileRow],
@@ -159,9 +180,31 @@ fn cancel_waiting(
 {
     let mut cancelled = 0;
     for place in 0..rows.len() {
-        if waits_at(storage, &rows[place]) {
-            cancelled += cancel_with_job(rows, place, Reason::Cancelled, beside, jobs);
-        }
+        cancelled += cancel_if_waiting(rows, place, storage, beside, jobs);
     }
     cancelled
+}
+
+/// Cancels the file at a place where it waits at a storage, and says how many rows became CANCELED.
+fn cancel_if_waiting(
+    rows: &mut [FileRow],
+    place: usize,
+    storage: &str,
+    beside: &mut Beside,
+    jobs: &[JobRow],
+) -> u32
+    requires formed { AreFormed jobs.now rows.old }
+    requires beside { IsBeside jobs.now rows.old beside.old }
+    requires inside { place < length rows.old }
+    ensures rows { (row : FileRow) → slice_get rows.old place ≡ Some row
+        → rows.new ≡ (if waits_at storage.now row then gone_with Cancelled jobs.now row rows.old else rows.old) }
+    ensures count { count_canceled rows.new ≡ count_canceled rows.old + result }
+    ensures beside { IsBeside jobs.now rows.new beside.new }
+    ensures limits { limits_of beside.new.parts ≡ limits_of beside.old.parts }
+{
+    if waits_at(storage, &rows[place]) {
+        cancel_with_job(rows, place, Reason::Cancelled, beside, jobs)
+    } else {
+        0
+    }
 }

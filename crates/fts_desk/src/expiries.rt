@@ -10,6 +10,7 @@ ghost use Rattle.fts_tables.specs.History.{IsAccepted};
 ghost use Rattle.fts_tables.specs.declared.commands.Command.TheVariants.{Expire};
 ghost use Rattle.fts_tables.specs.declared.rows.Reason.TheVariants.{Expired};
 ghost use Rattle.fts_desk.specs.Cancels.{count_canceled};
+ghost use Rattle.fts_desk.specs.Counted.{first_due_file};
 ghost use Rattle.fts_desk.specs.Kept.{tables_kept};
 ghost use Rattle.fts_desk.specs.Parts.{limits_of, IsBeside};
 ghost use Rattle.fts_desk.specs.Standing.{AreFormed};

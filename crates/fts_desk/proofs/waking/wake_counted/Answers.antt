@@ -29,6 +29,11 @@ wait-requires-clause-room c = λ row at.
     site_room rows place woken woken_file read c.wake.new.row c.if-place-rows.true c.wake.ensures.row c.args.beside.now.parts c.leave.new.parts
     c.leave.ensures.same (c.requires.room (get_or rows place read) stood) row at
 
+pub recount-requires-clause-rows_numbered : goal.recount-requires-clause-rows_numbered
+recount-requires-clause-rows_numbered c =
+    site_numbered c.args.rows.now c.args.place woken woken_file c.index-rows-place-then-is_not_used.result c.wake.new.row c.if-place-rows.true
+    c.wake.ensures.row c.requires.numbered
+
 pub recount-requires-clause-before : goal.recount-requires-clause-before
 recount-requires-clause-before c =
     counts_before c.args.jobs.now c.args.rows.now _ c.args.place woken woken_file c.counted-was.result c.args.beside.now.counts c.if-place-rows.true
