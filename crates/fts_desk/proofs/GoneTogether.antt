@@ -317,7 +317,7 @@ any_more test (first ∷ rows) (suc place) row none at off =
     ap (λ answer. answer || list_any test (take (suc place) rows)) parts.0 ∙ any_more test rows place row parts.1 at off
 
 -- a row goes with itself
-goes_itself : (jobs : List JobRow) (hit : FileRow) → goes_by jobs hit hit ≡ true
+pub goes_itself : (jobs : List JobRow) (hit : FileRow) → goes_by jobs hit hit ≡ true
 goes_itself jobs hit = by_kind (is_of_a_whole jobs hit)
   where
     by_kind : (whole : Bool) → (if whole then hit.job == hit.job else hit.id == hit.id) ≡ true

@@ -22,6 +22,7 @@ mod RowsBeside
 mod CancelledParts
 mod CanceledCounts
 mod Counted
+mod Expiring
 mod GoneTogether
 mod SubmittedParts
 pub mod Crosses
