@@ -1,9 +1,8 @@
 -- What a ban, its end and an expiry leave, where they are accepted.
-use Rattle.std.proofs.Common.{◌≡◌, ℕ, ◌+◌, Bool, true, false, cond, List, Ok, Err, refl, ap, sym, ◌∙◌, arith}
+use Rattle.std.proofs.Common.{◌≡◌, ℕ, ◌+◌, Bool, true, false, cond, List, Ok, Err, ap, sym, ◌∙◌, arith}
 use Rattle.std.specs.Prelude.{is_some, if◌then◌else◌}
-use Rattle.std.specs.List.{list_any}
 use Rattle.fts_tables.specs.Tables.{Tables}
-use Rattle.fts_tables.specs.Limits.{endpoint_at, is_banned}
+use Rattle.fts_tables.specs.Limits.{endpoint_at}
 use Rattle.fts_tables.specs.Waits.{is_overdue, waits_at, rows_cancelled, count_cancelled}
 use Rattle.fts_tables.specs.Step.{Outcomes, ban, ban_and_cancel, ban_only, unban, expire, with_ban, without_ban, with_rows}
 use Rattle.fts_tables.specs.History.{IsAccepted}
@@ -12,7 +11,7 @@ use Rattle.fts_tables.specs.declared.rows.JobRow.{JobRow}
 use Rattle.fts_tables.specs.declared.rows.Reason.{Reason}
 use Rattle.fts_tables.specs.declared.rows.Reason.TheVariants.{Cancelled, Expired}
 use Rattle.fts_tables.specs.declared.commands.Answer.TheVariants.{Banned, Unbanned, Expired as ExpiredAnswer}
-use Rattle.fts_tables.specs.declared.commands.Refusal.TheVariants.{Idle, NoStorage, NotBanned}
+use Rattle.fts_tables.specs.declared.commands.Refusal.TheVariants.{NoStorage}
 use Rattle.fts_desk.specs.Cancels.{count_canceled}
 use Rattle.fts_desk.proofs.Found.{passed}
 

@@ -10,7 +10,7 @@ use Rattle.fts_tables.specs.Choice.{pick, next_alternative}
 use Rattle.fts_tables.specs.Moves.{change_row, submitted, canceled, claimed, is_retryable, reported_failure, reported_without_cancel, reported, submit_if_not_used, followed_finish, submit_chosen, followed_failure, followed, cancelled, cancelled_for, canceled_for, is_cancellable, is_settled_job, new_rows, rows_of_kind, job_of_new, rows_of_new}
 use Rattle.fts_tables.specs.Limits.{endpoint_at, is_banned}
 use Rattle.fts_tables.specs.Waits.{is_overdue, waits_at, goes_with, rows_cancelled, count_cancelled}
-use Rattle.fts_tables.specs.Step.{Outcomes, step, released, submit_by, submit_within, add_job, with_rows, cancel_rows, cancel_row, cancel_one, cancel_file, with_priority, set_priority, claim, report_of, report, ban, ban_and_cancel, ban_only, unban, expire, with_ban, without_ban}
+use Rattle.fts_tables.specs.Step.{Outcomes, step, released, submit_by, submit_within, add_job, with_rows, cancel_rows, cancel_row, cancel_one, cancel_file, with_priority, set_priority, claim, report_of, report, ban, ban_and_cancel, ban_only, unban, expire, without_ban}
 use Rattle.fts_tables.specs.History.{IsAccepted, tables_after}
 use Rattle.fts_tables.specs.declared.limits.TheConstants.{MAX_JOBS, MAX_ROWS, LAST_MOMENT}
 use Rattle.fts_tables.specs.declared.rows.NewFile.{NewFile}
@@ -26,7 +26,7 @@ use Rattle.fts_tables.specs.declared.rows.Outcome.{Outcome}
 use Rattle.fts_tables.specs.declared.rows.Outcome.TheVariants.{Verified, SourceMissing, DestinationExists, SourceSize, SourceDigest, ReadBackDiffers, StoreFailed, Stopped}
 use Rattle.fts_tables.specs.declared.commands.Command.{Command}
 use Rattle.fts_tables.specs.declared.commands.Command.TheVariants.{Restart, Submit, CancelJob, CancelFile, SetPriority, Claim, Report, Ban, Unban, Expire}
-use Rattle.fts_tables.specs.declared.commands.Answer.TheVariants.{Cancelled, PrioritySet, Reported, Banned, Unbanned, Expired}
+use Rattle.fts_tables.specs.declared.commands.Answer.TheVariants.{Cancelled, PrioritySet, Reported, Unbanned, Expired}
 use Rattle.fts_tables.specs.declared.commands.Refusal.TheVariants.{NoJob, NoFile, JobsFull, RowsFull, Idle, Stale, Unchanged, NoStorage, NotBanned}
 use Rattle.fts_desk.specs.Bounds.{IsFileCount, HaveFiles, AreCounted, AreBounded, BringsFiles}
 use Rattle.fts_desk.specs.Cancels.{cancelled_of}

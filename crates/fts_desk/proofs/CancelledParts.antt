@@ -1,9 +1,9 @@
 -- What a claim looks at, where a row is cancelled at its place: one that runs keeps its part, another waits no more.
 use Rattle.std.proofs.Common.{◌≡◌, ℕ, zero, suc, ◌<◌, Bool, true, false, List, [], ◌∷◌, length, get_or, set, Option, Some, None, refl, ap, sym, ◌∙◌, subst, arith}
-use Rattle.std.specs.Prelude.{◌&&◌, ◌||◌, ◌==◌, ◌+◌, count_by, slice_get, if◌then◌else◌}
+use Rattle.std.specs.Prelude.{◌||◌, ◌==◌, slice_get, if◌then◌else◌}
 use Rattle.std.proofs.lemmas.Bool.{and_parts}
 use Rattle.std.proofs.lemmas.Option.{same_Some, slice_get-get_or}
-use Rattle.fts_tables.specs.Tables.{AreNumberedFrom, is_submitted, is_active, is_not_used, is_live}
+use Rattle.fts_tables.specs.Tables.{AreNumberedFrom, is_submitted, is_active, is_not_used}
 use Rattle.fts_tables.specs.Moves.{canceled_for, cancelled_for}
 use Rattle.fts_tables.specs.declared.rows.FileRow.{FileRow}
 use Rattle.fts_tables.specs.declared.rows.JobRow.{JobRow}
@@ -11,16 +11,11 @@ use Rattle.fts_tables.specs.Laws.{FileOfRow, file_of}
 use Rattle.fts_tables.specs.declared.rows.FileState.{FileState}
 use Rattle.fts_tables.specs.declared.rows.Reason.{Reason}
 use Rattle.fts_tables.specs.declared.rows.FileState.TheVariants.{Submitted, Active, Finished, Failed, Canceled, NotUsed}
-use Rattle.fts_index.specs.Links.{Link, LinkLists}
-use Rattle.fts_index.specs.LiveLinks.{link_of_row}
 use Rattle.fts_claims.specs.Changes.{AreTiedTo, IsSamePart, AreSameParts}
 use Rattle.fts_claims.specs.declared.parts.ClaimParts.{ClaimParts}
 use Rattle.fts_desk.specs.Cancels.{cancelled_of}
-use Rattle.fts_desk.specs.Loaded.{added_by, AreLoadsOf, MayRecount}
 use Rattle.fts_desk.specs.Parts.{limits_of, AreTiedParts, MayWaitIn, HaveSameRooms}
 use Rattle.fts_desk.specs.Places.{change_at}
-use Rattle.fts_desk.proofs.ChangedRows.{change_at-set}
-use Rattle.fts_desk.proofs.Loaded.{site_may, site_done}
 
 -- a row after a cancellation, by its state
 abbrev pub cancelled_in : Reason → FileState → FileRow → FileRow

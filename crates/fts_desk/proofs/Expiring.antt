@@ -12,7 +12,7 @@ use Rattle.fts_tables.specs.declared.rows.FileRow.{FileRow}
 use Rattle.fts_tables.specs.declared.rows.JobRow.{JobRow}
 use Rattle.fts_tables.specs.declared.rows.Reason.{Reason}
 use Rattle.fts_index.specs.DueLists.{DueList}
-use Rattle.fts_index.specs.RowDues.{due_from, AreDuesOf, HasDueRow}
+use Rattle.fts_index.specs.RowDues.{AreDuesOf, HasDueRow}
 use Rattle.fts_desk.specs.Cancels.{goes_by, gone_with}
 use Rattle.fts_desk.specs.Counted.{first_due_file}
 use Rattle.fts_desk.proofs.ChangedRows.{id_at}

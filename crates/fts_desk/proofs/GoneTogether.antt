@@ -138,9 +138,10 @@ one_of_id start (first ∷ rows) zero hit numbered at =
     behind next [] numbered below = tt
     behind next (other ∷ others) numbered below =
         (λ same. absurd (omega (arith, eqb-true other.id hit.id same, numbered.0, below)), behind (suc next) others numbered.1 (omega (arith, below)))
-one_of_id start (first ∷ rows) (suc place) hit numbered at =
-    (λ same. absurd (omega (arith, eqb-true first.id hit.id same, numbered.0, id_at (suc start) rows place hit numbered.1 at)),
-    one_of_id (suc start) rows place hit numbered.1 at)
+one_of_id start (first ∷ rows) (suc place) hit numbered at = (
+  λ same. absurd (omega (arith, eqb-true first.id hit.id same, numbered.0, id_at (suc start) rows place hit numbered.1 at)),
+  one_of_id (suc start) rows place hit numbered.1 at,
+)
 
 -- all of a list, by each
 all_by : {P Q : FileRow → Type 0} → ((row : FileRow) → P row → Q row) → (rows : List FileRow) → AllByRecursion P rows → AllByRecursion Q rows

@@ -165,12 +165,7 @@ fn cancel_where_asked(
 }
 
 /// Cancels the files that wait at a storage, and says how many rows became CANCELED.
-fn cancel_waiting(
-    rows: &mut [FileRow],
-    storage: &str,
-    beside: &mut Beside,
-    jobs: &[JobRow],
-) -> u32
+fn cancel_waiting(rows: &mut [FileRow], storage: &str, beside: &mut Beside, jobs: &[JobRow]) -> u32
     requires formed { AreFormed jobs.now rows.old }
     requires beside { IsBeside jobs.now rows.old beside.old }
     ensures rows { rows.new ≡ rows_cancelled Cancelled jobs.now (waits_at storage.now) rows.old }

@@ -18,8 +18,8 @@ ghost use Rattle.fts_desk.specs.Kept.{tables_kept};
 ghost use Rattle.fts_desk.specs.Standing.{StandTogether, AreFormed};
 ghost use Rattle.fts_desk.specs.Prepared.{IsChecked};
 
-use crate::kept::{Beside, Kept};
 use crate::counts::{counted, recount};
+use crate::kept::{Beside, Kept};
 use crate::lookups::{find_job, find_row, job_place, rows_of_job, rows_stand_together};
 use crate::parts::{leave, wait};
 use fts_claims::{ClaimParts, same_parts_stay_tied};

@@ -221,12 +221,6 @@ pub fn claim(kept: &mut Kept, now: u64, place: usize, dest: Place) -> Answer
     leave(&mut kept.beside.parts, &kept.jobs, &kept.rows, place);
     let answer = claim_row(&mut kept.rows[place]);
     start(&mut kept.beside.parts, &kept.jobs, &kept.rows, place, dest);
-    recount(
-        &mut kept.beside.counts,
-        &kept.jobs,
-        &kept.rows,
-        place,
-        was,
-    );
+    recount(&mut kept.beside.counts, &kept.jobs, &kept.rows, place, was);
     answer
 }

@@ -52,13 +52,7 @@ pub fn counted(jobs: &[JobRow], rows: &[FileRow], place: usize) -> Tally
 }
 
 /// Counts the row at a place anew, which has changed since it counted for that.
-pub fn recount(
-    counts: &mut Counts,
-    jobs: &[JobRow],
-    rows: &[FileRow],
-    place: usize,
-    was: Tally,
-)
+pub fn recount(counts: &mut Counts, jobs: &[JobRow], rows: &[FileRow], place: usize, was: Tally)
     requires jobs_numbered { AreNumberedFrom (λ job. job.number) 1 jobs.now }
     requires rows_numbered { AreNumberedFrom (λ row. row.id) 1 rows.now }
     requires before { AreCountsBefore jobs.now rows.now place was counts.old }

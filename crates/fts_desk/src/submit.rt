@@ -43,8 +43,8 @@ ghost use Rattle.fts_desk.specs.Loaded.{AreLoadsOf, are_known, link_of_file};
 ghost use Rattle.fts_desk.specs.Prepared.{IsPrepared};
 
 use crate::DeskFault;
-use crate::find::seek_number;
 use crate::counts::count_new;
+use crate::find::seek_number;
 use crate::kept::{Counts, Kept};
 use crate::parts::{make_room_for_files, wait_from};
 use crate::sources::next_source;
@@ -115,7 +115,9 @@ fn make_room_for(kept: &mut Kept, hours: u32, files: &[NewFile]) -> Result<(), D
     if kept.jobs.reserve(1).is_err() || kept.rows.reserve(files.len()).is_err() {
         return Err(DeskFault::Memory);
     }
-    if kept.ids.make_room().is_err() || count_later(&mut kept.beside.counts, hours, files).is_err() {
+    if kept.ids.make_room().is_err()
+        || count_later(&mut kept.beside.counts, hours, files).is_err()
+    {
         return Err(DeskFault::Memory);
     }
     match make_room_for_files(&mut kept.beside.parts, files) {
@@ -206,7 +208,10 @@ pub fn submit(kept: &mut Kept, now: u64, job: NewJob) -> Answer
     kept.jobs.push_reserved(row);
     dues_of_other_jobs();
     dues_of_new_rows();
-    beside.counts.dues.add_rows(&kept.rows[from..], overdue_from(&row));
+    beside
+        .counts
+        .dues
+        .add_rows(&kept.rows[from..], overdue_from(&row));
     wait_from(&mut beside.parts, &kept.jobs, &kept.rows, from);
     Answer::Submitted { job: number, id }
 }

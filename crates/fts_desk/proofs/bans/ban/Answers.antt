@@ -1,5 +1,5 @@
 -- What a ban leaves is the machine's step.
-use Rattle.std.proofs.Common.{◌≡◌, ◌+◌, cond, List, Ok, ap, sym, subst, ◌∙◌}
+use Rattle.std.proofs.Common.{◌+◌, List, Ok, ap, sym, subst, ◌∙◌}
 use Rattle.std.specs.Prelude.{max, if◌then◌else◌}
 use Rattle.std.specs.Vec.{with_items}
 use Rattle.std.proofs.lemmas.List.{with_items_is}

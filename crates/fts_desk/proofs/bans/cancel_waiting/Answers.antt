@@ -1,20 +1,26 @@
 -- A turn of the walk of a ban that cancels, and what it leaves.
-use Rattle.std.proofs.Common.{◌≡◌, ◌+◌, ◌<◌, ◌≤◌, false, List, length, take, ap, sym, ◌∙◌, arith}
+use Rattle.std.proofs.Common.{◌<◌, ◌≤◌, length, ap, sym, ◌∙◌, arith}
 use Rattle.std.proofs.lemmas.List.{take_all}
 use Rattle.std.specs.Prelude.{bytes_eq, ◌||◌}
 use Rattle.std.specs.List.{list_any}
-use Rattle.fts_tables.specs.Waits.{waits_at, rows_cancelled}
+use Rattle.fts_tables.specs.Waits.{waits_at}
 use Rattle.fts_tables.specs.declared.rows.FileRow.{FileRow}
 use Rattle.fts_tables.specs.declared.rows.Reason.TheVariants.{Cancelled}
-use Rattle.fts_desk.specs.Cancels.{count_canceled}
 use Rattle.fts_desk.proofs.CanceledCounts.{canceled-few}
 use Rattle.fts_desk.proofs.GoneTogether.{walk_turn, none_left, waits_no_more}
 use Rattle.fts_desk.proofs.bans.cancel_waiting.Goals as goal
 
 pub overflow_add-cancelled : goal.overflow_add-cancelled
 overflow_add-cancelled c =
-    omega (arith, c.cancel_if_waiting-cancelled.ensures.count, c.loop-place.invariant.count, canceled-few c.cancel_if_waiting-cancelled.new.rows,
-    c.cancel_if_waiting-cancelled.auto.rows, c.loop-place.auto.rows, c.requires.beside.counts.loads.few)
+    omega (
+      arith,
+      c.cancel_if_waiting-cancelled.ensures.count,
+      c.loop-place.invariant.count,
+      canceled-few c.cancel_if_waiting-cancelled.new.rows,
+      c.cancel_if_waiting-cancelled.auto.rows,
+      c.loop-place.auto.rows,
+      c.requires.beside.counts.loads.few,
+    )
 
 pub loop-place-preserved : goal.loop-place-preserved
 loop-place-preserved c =

@@ -1,5 +1,5 @@
 -- A row that is cancelled at its place, and counts anew.
-use Rattle.std.proofs.Common.{◌≡◌, ◌+◌, ◌-◌, ◌<◌, List, length, sym, subst, ◌∙◌, arith}
+use Rattle.std.proofs.Common.{◌≡◌, ◌+◌, ◌-◌, ◌<◌, length, sym, subst, ◌∙◌, arith}
 use Rattle.fts_tables.specs.Tables.{AreNumberedFrom}
 use Rattle.fts_tables.specs.Moves.{cancelled_for}
 use Rattle.fts_tables.specs.declared.rows.FileRow.{FileRow}

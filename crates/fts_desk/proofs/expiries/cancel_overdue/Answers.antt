@@ -1,5 +1,5 @@
 -- A turn of the loop that takes the file of the first moment, and what the loop leaves.
-use Rattle.std.proofs.Common.{◌≡◌, ◌+◌, ◌-◌, ◌<◌, ◌≤◌, true, List, length, ap, sym, subst, ◌∙◌, arith}
+use Rattle.std.proofs.Common.{◌-◌, true, List, ap, sym, subst, ◌∙◌, arith}
 use Rattle.std.proofs.lemmas.Option.{slice_get_within}
 use Rattle.fts_tables.specs.Waits.{is_overdue, has_come, row_overdue_from, rows_cancelled}
 use Rattle.fts_tables.specs.declared.rows.FileRow.{FileRow}
@@ -27,8 +27,15 @@ cancel_with_job-cancelled-requires-clause-inside c =
 
 pub overflow_add-cancelled : goal.overflow_add-cancelled
 overflow_add-cancelled c =
-    omega (arith, c.cancel_with_job-cancelled.ensures.count, c.loop-file.invariant.count, canceled-few c.cancel_with_job-cancelled.new.rows,
-    c.cancel_with_job-cancelled.auto.rows, c.loop-file.auto.rows, c.requires.beside.counts.loads.few)
+    omega (
+      arith,
+      c.cancel_with_job-cancelled.ensures.count,
+      c.loop-file.invariant.count,
+      canceled-few c.cancel_with_job-cancelled.new.rows,
+      c.cancel_with_job-cancelled.auto.rows,
+      c.loop-file.auto.rows,
+      c.requires.beside.counts.loads.few,
+    )
 
 pub loop-file-preserved : goal.loop-file-preserved
 loop-file-preserved c =

@@ -1,7 +1,6 @@
 -- A turn of the loop that gives up the ACTIVE rows, and what it leaves.
-use Rattle.std.proofs.Common.{◌≡◌, ◌+◌, ◌<◌, cond, length, List, map, take, drop, ap, sym, subst, ◌∙◌, arith}
-use Rattle.std.specs.Prelude.{count_by}
-use Rattle.fts_tables.specs.Tables.{AreNumberedFrom, is_active}
+use Rattle.std.proofs.Common.{◌≡◌, ◌+◌, ◌<◌, cond, length, ap, sym, subst, ◌∙◌, arith}
+use Rattle.fts_tables.specs.Tables.{AreNumberedFrom}
 use Rattle.fts_tables.specs.Laws.{FileOfRow}
 use Rattle.fts_tables.specs.Step.{released}
 use Rattle.fts_tables.specs.declared.rows.FileRow.{FileRow}
