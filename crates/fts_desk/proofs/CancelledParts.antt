@@ -19,7 +19,8 @@ use Rattle.fts_desk.specs.Places.{change_at}
 
 -- a row after a cancellation, by its state
 abbrev pub cancelled_in : Reason → FileState → FileRow → FileRow
-cancelled_in reason state row = if is_submitted state || is_not_used state then canceled_for reason row else (if is_active state then record row { cancel_asked = true } else row)
+cancelled_in reason state row = if is_submitted state || is_not_used state then canceled_for reason row
+    else (if is_active state then record row { cancel_asked = true } else row)
 
 -- a row that runs keeps its part
 pub active_keeps_part : (reason : Reason) (row : FileRow) → is_active row.state ≡ true → IsSamePart row (cancelled_for reason row)
@@ -194,4 +195,5 @@ module _ (reason : Reason) (rows : List FileRow) (place : ℕ) (read written cha
 
   -- and it may come in
   pub may_wait_then : (parts : Option ClaimParts) (row : FileRow) → slice_get (set rows place changed) place ≡ Some row → MayWaitIn row parts
-  may_wait_then parts row at = subst (λ (row : FileRow). MayWaitIn row parts) (sym (read_is row at)) (cancelled_may_wait reason (get_or rows place written) parts)
+  may_wait_then parts row at =
+      subst (λ (row : FileRow). MayWaitIn row parts) (sym (read_is row at)) (cancelled_may_wait reason (get_or rows place written) parts)

@@ -68,7 +68,8 @@ module _ (reason : Reason) (rows : List FileRow) (job : JobRow) (numbered : AreN
       → ((at : ℕ) → place ≤ at → slice_get after at ≡ slice_get rows at)
       → after ≡ map (cancelled_of reason job.number) rows
   cancelled_all after place past done rest =
-      alike after (map (cancelled_of reason job.number) rows) (λ at. by_place at (less_or_not at place) ∙ sym (read_mapped (cancelled_of reason job.number) rows at))
+      alike after (map (cancelled_of reason job.number) rows)
+      (λ at. by_place at (less_or_not at place) ∙ sym (read_mapped (cancelled_of reason job.number) rows at))
     where
       less_or_not : (one other : ℕ) → (one < other) ⊎ (other ≤ one)
       less_or_not one other = grind arith
@@ -87,7 +88,8 @@ cancelled_turn_done reason rows now number place done rest at before = by_place 
     less_or_same : (one other : ℕ) → one < other + 1 → (one < other) ⊎ (one ≡ other)
     less_or_same one other less = grind arith
 
-    by_place : (at < place) ⊎ (at ≡ place) → slice_get (change_at place (cancelled_of reason number) now) at ≡ option_map (cancelled_of reason number) (slice_get rows at)
+    by_place : (at < place) ⊎ (at ≡ place)
+        → slice_get (change_at place (cancelled_of reason number) now) at ≡ option_map (cancelled_of reason number) (slice_get rows at)
     by_place (inl less) = changed_elsewhere now place at (cancelled_of reason number) (λ is. omega (arith, is, less)) ∙ done at less
     by_place (inr same) =
         ap (slice_get (change_at place (cancelled_of reason number) now)) same

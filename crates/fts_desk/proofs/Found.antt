@@ -111,7 +111,10 @@ module _ (tables : Tables) (now number file : ℕ) where
   -- what an accepted cancellation of a file leaves
   pub file_cancelled : IsAccepted (on_option (λ job. cancel_file tables now job (row_at tables.rows file)) (job_at tables.jobs number))
       → on_option (λ job. cancel_file tables now job (row_at tables.rows file)) (job_at tables.jobs number)
-      ≡ Ok (with_rows tables now (after_file CancelledReason (option_map (λ (job : JobRow). job.kind) (job_at tables.jobs number)) number file tables.rows), Cancelled number)
+      ≡ Ok (
+        with_rows tables now (after_file CancelledReason (option_map (λ (job : JobRow). job.kind) (job_at tables.jobs number)) number file tables.rows),
+        Cancelled number,
+      )
   file_cancelled accepted = by_found (job_at tables.jobs number) (row_at tables.rows file) refl refl accepted
     where
       by_found : (found : Option JobRow) (row : Option FileRow) → job_at tables.jobs number ≡ found → row_at tables.rows file ≡ row

@@ -78,7 +78,8 @@ fn pick_file(
     pick_waiter(&view, word)
 }
 
-/// The file that a claim takes now, over what stands beside these rows, where these flags are of the banned storages. None exactly where no row may be claimed; without settings none may.
+/// The file that a claim takes now, over what stands beside these rows, where these flags are of the banned storages. None exactly where no row may be
+/// claimed; without settings none may.
 fn find_file(
     parts: &mut Option<ClaimParts>,
     settings: &Option<Settings>,

@@ -30,7 +30,8 @@ loop-place-preserved c =
       rest = λ at behind. ap (λ (after : List FileRow). slice_get after at) c.cancel_if_of.ensures.rows
           ∙ cancelled_turn_rest c.args.reason rows c.loop-place.rows number place c.loop-place.invariant.rest at behind;
       numbered = subst (λ (rows : List FileRow). AreNumberedFrom (λ row. row.id) 1 rows) (sym c.cancel_if_of.ensures.rows)
-          (numbered-change 1 c.loop-place.rows place (cancelled_of c.args.reason number) (id_cancelled_of c.args.reason number) c.loop-place.invariant.numbered);
+          (numbered-change 1 c.loop-place.rows place (cancelled_of c.args.reason number)
+          (id_cancelled_of c.args.reason number) c.loop-place.invariant.numbered);
       count = elim c.if-cancel_if_of.branch [
         | then-cancel_if_of w ↦
             let one = c.cancel_if_of.ensures.count

@@ -45,7 +45,8 @@ returns c =
     record {
       step = job_cancelled tables (max c.args.now c.args.kept.now.moment) c.args.job c.requires.accepted
           ∙ rows_done tables (Cancelled c.args.job) (max c.args.now c.args.kept.now.moment) c.max-kept.result
-          (map (cancelled_of CancelledReason c.args.job) tables.rows) (with_items c.args.kept.now.rows c.cancel_all_of.new.rows).items (sym c.max-kept.ensures) rows;
+          (map (cancelled_of CancelledReason c.args.job) tables.rows)
+          (with_items c.args.kept.now.rows c.cancel_all_of.new.rows).items (sym c.max-kept.ensures) rows;
     }
 
 pub invariant_of-kept-clause-beside_rows : goal.invariant_of-kept-clause-beside_rows

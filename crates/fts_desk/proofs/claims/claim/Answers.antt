@@ -95,7 +95,8 @@ invariant_of-kept c =
     record {
       ids_of_jobs = c.args.kept.now.ids_of_jobs;
       beside_rows = record {
-        counts = subst (λ (jobs : List JobRow). AreCountsOf jobs (set rows c.args.place c.claim_row-answer.new.row) c.recount.new.counts) c.deref-7.ensures.value
+        counts = subst (λ (jobs : List JobRow). AreCountsOf jobs (set rows c.args.place c.claim_row-answer.new.row) c.recount.new.counts)
+            c.deref-7.ensures.value
             (subst (λ (rows : List FileRow). AreCountsOf c.deref-7.result.now rows c.recount.new.counts) c.deref-8.ensures.value c.recount.ensures.counts);
         parts = subst (λ jobs. AreTiedParts jobs (set rows c.args.place c.claim_row-answer.new.row) c.start.new.parts) c.deref-5.ensures.value
             (subst (λ rows. AreTiedParts c.deref-5.result.now rows c.start.new.parts) c.deref-6.ensures.value c.start.ensures.tied);
