@@ -10,7 +10,7 @@ use Rattle.fts_tables.specs.declared.commands.Entry.{Entry}
 use Rattle.fts_tables.specs.declared.commands.Command.{Command}
 use Rattle.fts_tables.specs.declared.commands.Command.TheVariants.{Claim, Report}
 use Rattle.fts_tables.specs.declared.commands.Answer.{Answer}
-use Rattle.fts_tables.specs.declared.commands.Answer.TheVariants.{Restarted, Submitted, Cancelled, PrioritySet, Claimed, Reported}
+use Rattle.fts_tables.specs.declared.commands.Answer.TheVariants.{Restarted, Submitted, Cancelled, PrioritySet, Claimed, Reported, Banned, Unbanned, Expired}
 use Rattle.fts_turnstile.specs.declared.turn.Turn.{Turn}
 use Rattle.fts_turnstile.specs.History.{AllName, AllNamed, NoneBy, items_of}
 use Rattle.fts_turnstile.specs.Passes.{PassView, IsSame, seen_list}
@@ -147,6 +147,9 @@ module _ {E : Type 0} (stores : store.Ghosts E) where
   grown_claim old new claimed behind after end left lanes (Ok (Cancelled job)) grown goes = absurd goes
   grown_claim old new claimed behind after end left lanes (Ok (PrioritySet job)) grown goes = absurd goes
   grown_claim old new claimed behind after end left lanes (Ok (Reported file state)) grown goes = absurd goes
+  grown_claim old new claimed behind after end left lanes (Ok (Banned count)) grown goes = absurd goes
+  grown_claim old new claimed behind after end left lanes (Ok Unbanned) grown goes = absurd goes
+  grown_claim old new claimed behind after end left lanes (Ok (Expired count)) grown goes = absurd goes
   grown_claim old new claimed behind after end left lanes (Err fault) grown goes = subst (Grown old) (sym goes.1.pass) grown
 
   -- a turn
@@ -192,6 +195,9 @@ module _ {E : Type 0} (stores : store.Ghosts E) where
     claim_goes old claimed new now word behind after end left lanes (Ok (Cancelled job)) opens number legal fits tried goes = absurd goes
     claim_goes old claimed new now word behind after end left lanes (Ok (PrioritySet job)) opens number legal fits tried goes = absurd goes
     claim_goes old claimed new now word behind after end left lanes (Ok (Reported file state)) opens number legal fits tried goes = absurd goes
+    claim_goes old claimed new now word behind after end left lanes (Ok (Banned count)) opens number legal fits tried goes = absurd goes
+    claim_goes old claimed new now word behind after end left lanes (Ok Unbanned) opens number legal fits tried goes = absurd goes
+    claim_goes old claimed new now word behind after end left lanes (Ok (Expired count)) opens number legal fits tried goes = absurd goes
     claim_goes old claimed new now word behind after end left lanes (Ok (Claimed file attempt)) opens number legal fits tried goes =
         let at = tried_for old claimed opening writer (Claim now word) (Ok (Claimed file attempt)) lanes opens number told tried in
         let before = items_of old.seen in

@@ -4,7 +4,7 @@ use Rattle.fts_tables.specs.History.{IsLegal}
 use Rattle.fts_tables.specs.declared.rows.Outcome.{Outcome}
 use Rattle.fts_tables.specs.declared.commands.Entry.{Entry}
 use Rattle.fts_tables.specs.declared.commands.Command.{Command}
-use Rattle.fts_tables.specs.declared.commands.Command.TheVariants.{Restart, Submit, CancelJob, CancelFile, SetPriority, Claim, Report}
+use Rattle.fts_tables.specs.declared.commands.Command.TheVariants.{Restart, Submit, CancelJob, CancelFile, SetPriority, Claim, Report, Ban, Unban, Expire}
 use Rattle.fts_turnstile.specs.declared.turn.Turn.{Turn}
 use Rattle.fts_turnstile.specs.History.{items_of}
 use Rattle.fts_turnstile.specs.Passes.{PassView, seen_list}
@@ -44,6 +44,9 @@ names file (SetPriority now job priority) is = absurd is
 names file (Claim now word) is = absurd is
 names file (Report now reported attempt outcome) is =
     record { now = now; attempt = attempt; outcome = outcome; is = ap (λ f. Report now f attempt outcome) is }
+names file (Ban now storage cancel) is = absurd is
+names file (Unban now storage) is = absurd is
+names file (Expire now) is = absurd is
 
 pub undisturbed : (opening entries : List Entry) → HasNoRestart entries → ((writer : ℕ) → ReportsOwn writer opening [] entries)
     → (writer : ℕ) → IsUndisturbed writer opening entries

@@ -12,7 +12,7 @@ use Rattle.fts_tables.specs.declared.commands.Entry.{Entry}
 use Rattle.fts_tables.specs.declared.commands.Refusal.{Refusal}
 use Rattle.fts_tables.specs.declared.commands.Command.TheVariants.{Claim, Report}
 use Rattle.fts_tables.specs.declared.commands.Answer.{Answer}
-use Rattle.fts_tables.specs.declared.commands.Answer.TheVariants.{Restarted, Submitted, Cancelled, PrioritySet, Claimed, Reported}
+use Rattle.fts_tables.specs.declared.commands.Answer.TheVariants.{Restarted, Submitted, Cancelled, PrioritySet, Claimed, Reported, Banned, Unbanned, Expired}
 use Rattle.fts_turnstile.specs.declared.turn.Turn.{Turn}
 use Rattle.fts_turnstile.specs.History.{items_of}
 use Rattle.fts_turnstile.specs.Passes.{PassView, seen_list}
@@ -57,6 +57,9 @@ fresh_report held file lanes (Cancelled job) answers is = absurd answers
 fresh_report held file lanes (PrioritySet job) answers is = absurd answers
 fresh_report held file lanes (Claimed claimed attempt) answers is = absurd answers
 fresh_report held file lanes (Reported reported left) answers is = fresh_state held file left answers.1 is
+fresh_report held file lanes (Banned count) answers is = absurd answers
+fresh_report held file lanes Unbanned answers is = absurd answers
+fresh_report held file lanes (Expired count) answers is = absurd answers
 
 fresh_idle : (file lanes : ℕ) → ◌≡◌ {A = TurnEnd} (idle_end lanes) (turn_ends.Stale file) → ⊥
 fresh_idle file zero is = absurd cc
@@ -168,6 +171,9 @@ module _ {E : Type 0} (stores : store.Ghosts E) (machine : Machine) (orders : Or
   claim_well old claimed new now word behind after end left lanes (Ok (Cancelled job)) opens number legal free tried goes = absurd goes
   claim_well old claimed new now word behind after end left lanes (Ok (PrioritySet job)) opens number legal free tried goes = absurd goes
   claim_well old claimed new now word behind after end left lanes (Ok (Reported file left_in)) opens number legal free tried goes = absurd goes
+  claim_well old claimed new now word behind after end left lanes (Ok (Banned count)) opens number legal free tried goes = absurd goes
+  claim_well old claimed new now word behind after end left lanes (Ok Unbanned) opens number legal free tried goes = absurd goes
+  claim_well old claimed new now word behind after end left lanes (Ok (Expired count)) opens number legal free tried goes = absurd goes
   claim_well old claimed new now word behind after end left lanes (Ok (Claimed file attempt)) opens number legal free tried goes =
       let at = tried_for old claimed opening writer (Claim now word) (Ok (Claimed file attempt)) lanes opens number told tried in
       let before = items_of old.seen in

@@ -11,7 +11,7 @@ use Rattle.fts_tables.specs.declared.commands.Refusal.{Refusal}
 use Rattle.fts_tables.specs.declared.commands.Command.{Command}
 use Rattle.fts_tables.specs.declared.commands.Command.TheVariants.{Claim, Report}
 use Rattle.fts_tables.specs.declared.commands.Answer.{Answer}
-use Rattle.fts_tables.specs.declared.commands.Answer.TheVariants.{Restarted, Submitted, Cancelled, PrioritySet, Claimed, Reported}
+use Rattle.fts_tables.specs.declared.commands.Answer.TheVariants.{Restarted, Submitted, Cancelled, PrioritySet, Claimed, Reported, Banned, Unbanned, Expired}
 use Rattle.fts_turnstile.specs.History.{Among}
 use Rattle.fts_keep.specs.Applied.{entry_by}
 use Rattle.fts_keep.specs.declared.fault.KeepFault.{KeepFault}
@@ -213,6 +213,9 @@ module _ (machine : Machine) (opening : List Entry) (writer : ℕ) where
                 absurd (there.1 (only_held one held.file (fits.whole one there.0 was) ∙ sym answers.0));
           };
         }
+    report_turned tables (Banned count) legal came answers = absurd answers
+    report_turned tables Unbanned legal came answers = absurd answers
+    report_turned tables (Expired count) legal came answers = absurd answers
 
     -- it was refused: then nothing that the writer claimed last is out
     pub refused_fits : (refusal : Refusal) → IsLegal (opening ++ (before ++ others))
