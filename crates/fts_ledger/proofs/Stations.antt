@@ -89,7 +89,7 @@ own_in_all old new held later keeps none_before none_later =
     keeps.own_reports))
     (own_none old.number old.opening (items_of new.seen) (items_of later) none_later))
 
--- and has added claims and reports alone
+-- and has added expiries, claims and reports alone
 pub work_in_all : (old new : PassView Entry) (held : List Held) (later : List (Turn Entry)) → KeepsLedger old new held → NoneOf old.number (items_of old.seen)
     → NoneOf old.number (items_of later) → AddsWork old.number (items_of (new.seen ++ later))
 work_in_all old new held later keeps none_before none_later =
