@@ -48,7 +48,7 @@ file = record {
 }
 
 abbrev job : JobData
-job = record { id = None; kind = Plain; strategy = Orderly; priority = 3; retry = 1; delay = 0; overwrite = false; files = file ∷ [] }
+job = record { id = None; kind = Plain; strategy = Orderly; priority = 3; retry = 1; delay = 0; overwrite = false; queue_hours = 0; files = file ∷ [] }
 
 -- the list when a lock was made: a restart, and a submission by writer 0
 abbrev opening : List Entry
