@@ -1,18 +1,19 @@
 -- Names that are read, and lists of names that are gone through one by one.
-use Rattle.std.proofs.Common.{◌≡◌, ◌⊎◌, inl, inr, ℕ, zero, suc, ◌+◌, ◌<◌, ◌≤◌, Bool, true, false, Option, Result, Ok, Err, IsErr, IsOk, List, [], ◌∷◌, ◌++◌, length, take, drop, filter, map, get_or, drop-cons, refl, sym, ◌∙◌, ap, subst, arith}
+use Rattle.std.proofs.Common.{◌≡◌, ◌⊎◌, inl, inr, ℕ, zero, suc, ◌+◌, ◌<◌, ◌≤◌, Bool, true, false, Option, Result, Ok, Err, IsErr, List, [], ◌∷◌, ◌++◌, length, take, drop, filter, map, get_or, drop-cons, refl, sym, ◌∙◌, ap, subst, arith}
 use Rattle.std.specs.Prelude.{if◌then◌else◌}
 use Rattle.std.specs.Str.{IsUtf8, is_utf8}
 use Rattle.std.proofs.lemmas.Str.{IsUtf8-from_is_utf8, is_utf8-from_IsUtf8}
 use Rattle.std.proofs.lemmas.List.{map-append}
 use Rattle.std.proofs.lemmas.List.Elements.{filter-append}
 use Rattle.fts_files.specs.Calls.{Call, Answer, Names, with_call}
-use Rattle.fts_files.specs.Script.{Script, LeadsTo, either, fails}
-use Rattle.fts_files.proofs.Playing.{then_leads, leads_same, does_leads}
+use Rattle.fts_files.specs.Script.{Script, LeadsTo, fails}
+use Rattle.fts_files.proofs.Playing.{then_leads, does_leads}
 use Rattle.fts_store.specs.FolderCalls.{UpToMemory}
 use Rattle.fts_store.specs.Listing.{names_told, lists}
 
 -- it stopped where memory was missing
-pub stops : {T E : Type 0} {one two : Script} {a b : Option (List Call)} (result : Result T E) (next : T → Script) → LeadsTo one a two b → IsErr result → UpToMemory result one next a b
+pub stops : {T E : Type 0} {one two : Script} {a b : Option (List Call)} (result : Result T E) (next : T → Script)
+    → LeadsTo one a two b → IsErr result → UpToMemory result one next a b
 stops (Ok value) next leads is = cc
 stops {one = one} {two = two} (Err memory) next leads is = (two, leads)
 
@@ -21,21 +22,24 @@ pub goes_on : {one two : Script} {a b : Option (List Call)} → LeadsTo one a tw
 goes_on leads = (fails, leads)
 
 -- steps before it
-pub up_to : {T E : Type 0} {one two : Script} {a b c : Option (List Call)} (result : Result T E) (next : T → Script) → LeadsTo one a two b → UpToMemory result two next b c → UpToMemory result one next a c
+pub up_to : {T E : Type 0} {one two : Script} {a b c : Option (List Call)} (result : Result T E) (next : T → Script)
+    → LeadsTo one a two b → UpToMemory result two next b c → UpToMemory result one next a c
 up_to result next first second = (second.0, then_leads first second.1)
 
 -- the names in a folder were read
-pub listed_leads : (folder want : List ℕ) (next : List (List ℕ) → Script) (names : List (List ℕ)) (old new : Option (List Call)) (answer : Answer) → folder ≡ want
-    → new ≡ with_call old (Names folder) answer → names ≡ names_told answer → LeadsTo (lists want next) old (next names) new
+pub listed_leads : (folder want : List ℕ) (next : List (List ℕ) → Script) (names : List (List ℕ)) (old new : Option (List Call)) (answer : Answer)
+    → folder ≡ want → new ≡ with_call old (Names folder) answer → names ≡ names_told answer → LeadsTo (lists want next) old (next names) new
 listed_leads folder want next names old new answer is call told =
     subst (λ f. LeadsTo (lists f next) old (next names) new) is
     (subst (λ n. LeadsTo (lists folder next) old (next n) new) (sym told) (does_leads (Names folder) (λ a. next (names_told a)) old new answer call))
 
 -- or memory was missing, behind that or before
-pub unlisted : {one : Script} {start : Option (List Call)} (folder : List ℕ) (next : List (List ℕ) → Script) (old new : Option (List Call)) → LeadsTo one start (lists folder next) old
+pub unlisted : {one : Script} {start : Option (List Call)} (folder : List ℕ) (next : List (List ℕ) → Script) (old new : Option (List Call))
+    → LeadsTo one start (lists folder next) old
     → ((new ≡ old) ⊎ ((answer : Answer) × (new ≡ with_call old (Names folder) answer))) → (rest : Script) × LeadsTo one start rest new
 unlisted {one} {start} folder next old new first (inl none) = (lists folder next, subst (λ log. LeadsTo one start (lists folder next) log) (sym none) first)
-unlisted folder next old new first (inr told) = (next (names_told told.0), then_leads first (does_leads (Names folder) (λ a. next (names_told a)) old new told.0 told.1))
+unlisted folder next old new first (inr told) =
+    (next (names_told told.0), then_leads first (does_leads (Names folder) (λ a. next (names_told a)) old new told.0 told.1))
 
 -- the names in a list: the next one, and those behind it
 pub behind : {T : Type 0} (names : List T) (i : ℕ) (name : T) → name ≡ get_or names i name → i < length names → drop i names ≡ name ∷ drop (i + 1) names
@@ -56,7 +60,8 @@ by_test f true one other = refl
 by_test f false one other = refl
 
 -- the first of a list, where it passes a test
-pub first_passes : {S T : Type 0} (f : List S → T) (test : S → Bool) (x : S) (xs : List S) → f (filter test (x ∷ xs)) ≡ (if test x then f (x ∷ filter test xs) else f (filter test xs))
+pub first_passes : {S T : Type 0} (f : List S → T) (test : S → Bool) (x : S) (xs : List S)
+    → f (filter test (x ∷ xs)) ≡ (if test x then f (x ∷ filter test xs) else f (filter test xs))
 first_passes f test x xs = by_test f (test x) (x ∷ filter test xs) (filter test xs)
 
 -- a test that can't hold
@@ -99,7 +104,8 @@ pub one_more : {T : Type 0} (piece : T → List ℕ) (pieces : List T) (i : ℕ)
 one_more piece pieces i x names here more is =
     let one : suc i ≡ i + 1 = omega arith in
     ap (λ l. l ++ filter is_utf8 (piece x ∷ [])) is ∙ sym (filter-append is_utf8 (map piece (take i pieces)) (piece x ∷ []))
-    ∙ ap (filter is_utf8) (sym (map-append piece (take i pieces) (x ∷ []))) ∙ ap (λ l. filter is_utf8 (map piece l)) (sym (ap (λ n. take n pieces) (sym one) ∙ take_one pieces i x here more))
+    ∙ ap (filter is_utf8) (sym (map-append piece (take i pieces) (x ∷ [])))
+    ∙ ap (λ l. filter is_utf8 (map piece l)) (sym (ap (λ n. take n pieces) (sym one) ∙ take_one pieces i x here more))
 
 -- all of them
 pub all_pieces : {T : Type 0} (piece : T → List ℕ) (pieces : List T) (i : ℕ) (names all : List (List ℕ)) → length pieces ≤ i

@@ -1,5 +1,5 @@
 -- Looks at folders below the root, one behind the other.
-use Rattle.std.proofs.Common.{◌≡◌, ◌⊎◌, inl, inr, codes, ℕ, ◌+◌, ◌<◌, ◌≤◌, Option, Result, Ok, Err, IsErr, IsOk, List, [], ◌∷◌, ◌++◌, length, map, drop, filter, get_or, refl, sym, ◌∙◌, ap, subst}
+use Rattle.std.proofs.Common.{◌≡◌, ◌⊎◌, inl, inr, codes, ℕ, ◌+◌, ◌<◌, ◌≤◌, Option, Result, Ok, Err, IsErr, IsOk, List, [], ◌++◌, length, map, drop, filter, get_or, refl, sym, ◌∙◌, ap, subst}
 use Rattle.std.specs.Prelude.{if◌then◌else◌}
 use Rattle.fts_files.specs.Calls.{Call, Answer, Look, Names, with_call}
 use Rattle.fts_files.specs.Script.{Script, LeadsTo}
@@ -27,20 +27,23 @@ met_none root old new met result failed (inr told) = inr (
 )
 
 -- nothing was asked, and nothing is known more
-pub stayed : (root : List ℕ) (names : List (List ℕ)) (next : List Known → Script) (old new : Option (List Call)) (met met_now : List Met) → new ≡ old → met_now ≡ met
-    → LeadsTo (looks_each root names (map known_of met) next) old (looks_each root names (map known_of met_now) next) new
+pub stayed : (root : List ℕ) (names : List (List ℕ)) (next : List Known → Script) (old new : Option (List Call)) (met met_now : List Met)
+    → new ≡ old → met_now ≡ met → LeadsTo (looks_each root names (map known_of met) next) old (looks_each root names (map known_of met_now) next) new
 stayed root names next old new met met_now unasked same =
     subst (λ log. LeadsTo (looks_each root names (map known_of met) next) old (looks_each root names (map known_of met_now) next) log) (sym unasked)
     (same_leads _ _ old (ap (λ m. looks_each root names (map known_of m) next) (sym same)))
 
 -- one look, and what it let know
-pub look_leads : (root name folder : List ℕ) (known known_now : List Known) (next : List Known → Script) (old new : Option (List Call)) (answer : Answer) → folder ≡ below_in root name
-    → new ≡ with_call old (Look folder) answer → known_now ≡ known ++ known_at folder (there_of (device_seen answer)) → LeadsTo (looks_at root name known next) old (next known_now) new
+pub look_leads : (root name folder : List ℕ) (known known_now : List Known) (next : List Known → Script) (old new : Option (List Call)) (answer : Answer)
+    → folder ≡ below_in root name → new ≡ with_call old (Look folder) answer → known_now ≡ known ++ known_at folder (there_of (device_seen answer))
+    → LeadsTo (looks_at root name known next) old (next known_now) new
 look_leads root name folder known known_now next old new answer is call now =
     subst (λ k. LeadsTo (looks_at root name known next) old (next k) new) (sym (now ∙ ap (λ f. known ++ known_at f (there_of (device_seen answer))) is))
-    (does_leads (Look (below_in root name)) (λ a. next (known ++ known_at (below_in root name) (there_of (device_seen a)))) old new answer (call ∙ ap (λ f. with_call old (Look f) answer) is))
+    (does_leads (Look (below_in root name)) (λ a. next (known ++ known_at (below_in root name) (there_of (device_seen a)))) old new answer
+    (call ∙ ap (λ f. with_call old (Look f) answer) is))
 
-module _ {T : Type 0} (text : T → List ℕ) (root : List ℕ) (names : List T) (i : ℕ) (known : List Known) (next : List Known → Script) (log : Option (List Call)) where
+module _ {T : Type 0} (text : T → List ℕ) (root : List ℕ) (names : List T) (i : ℕ) (known : List Known) (next : List Known → Script)
+    (log : Option (List Call)) where
   -- the next folder
   pub folder_seen : (name : T) → name ≡ get_or names i name → i < length names
       → LeadsTo (looks_each root (filter stays_below (map text (drop i names))) known next) log

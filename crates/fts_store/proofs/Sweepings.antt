@@ -1,5 +1,5 @@
 -- Steps of a sweep, one after the other.
-use Rattle.std.proofs.Common.{◌≡◌, ℕ, ◌+◌, ◌<◌, ◌≤◌, Option, Result, Ok, Err, List, [], ◌∷◌, length, map, drop, filter, get_or, refl, ◌∙◌, ap, subst}
+use Rattle.std.proofs.Common.{◌≡◌, ℕ, ◌+◌, ◌<◌, ◌≤◌, Option, Result, Ok, Err, List, length, map, drop, filter, get_or, refl, ◌∙◌, ap, subst}
 use Rattle.std.specs.Prelude.{if◌then◌else◌}
 use Rattle.fts_files.specs.Calls.{Call}
 use Rattle.fts_files.specs.Making.{removes_stale}
@@ -16,7 +16,8 @@ one_way next (Err failed) = refl
 
 -- a part was taken away, or left
 pub clear_leads : {T E : Type 0} (path want : List ℕ) (next : Script) (old new : Option (List Call)) (result : Result T E) → path ≡ want
-    → ((next ended : Script) → LeadsTo (removes_stale path next ended) old (either (λ done. next) ended result) new) → LeadsTo (removes_stale want next next) old next new
+    → ((next ended : Script) → LeadsTo (removes_stale path next ended) old (either (λ done. next) ended result) new)
+    → LeadsTo (removes_stale want next next) old next new
 clear_leads path want next old new result is leads =
     subst (λ p. LeadsTo (removes_stale p next next) old next new) is (then_leads (leads next next) (same_leads _ _ new (one_way next result)))
 
@@ -25,7 +26,8 @@ module _ {T : Type 0} (text : T → List ℕ) (root : List ℕ) (names : List T)
   pub part_leads : (name : T) → name ≡ get_or names i name → i < length names
       → LeadsTo (clears_each root (filter is_part_name (map text (drop i names))) next) log
       (if is_part_name (text name)
-      then removes_stale (below_in root (text name)) (clears_each root (filter is_part_name (map text (drop (i + 1) names))) next) (clears_each root (filter is_part_name (map text (drop (i + 1) names))) next)
+      then removes_stale (below_in root (text name)) (clears_each root (filter is_part_name (map text (drop (i + 1) names))) next)
+      (clears_each root (filter is_part_name (map text (drop (i + 1) names))) next)
       else clears_each root (filter is_part_name (map text (drop (i + 1) names))) next) log
   unfolding clears_each
   part_leads name is more = same_leads _ _ log (ap (λ l. clears_each root (filter is_part_name (map text l)) next) (behind names i name is more)

@@ -203,7 +203,8 @@ impl<F: FileSystem + Drop> FolderStore<F> {
     /// or taken away is left, and counts no failure. Where memory is missing it ends early, and that alone is the error.
     pub fn sweep(&mut self) -> Result<(), AllocError>
         ensures faults { folder_faults self.new ≡ folder_faults self.old }
-        ensures swept { (next : Script) → UpToMemory result (sweeps (string_bytes self.old.root) next) (λ done. next) (F.calls self.old.files) (F.calls self.new.files) }
+        ensures swept { (next : Script) → UpToMemory result (sweeps (string_bytes self.old.root) next) (λ done. next)
+            (F.calls self.old.files) (F.calls self.new.files) }
     {
         sweep(&mut self.files, self.alloc, self.root.as_str())
     }

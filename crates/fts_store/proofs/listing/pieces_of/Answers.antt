@@ -6,4 +6,5 @@ use Rattle.fts_store.proofs.listing.pieces_of.Goals as goal
 
 pub returns : goal.returns
 returns c = map_from_collect _ c.collect.ensures.ran
-    (YieldsList-from_slice_split _ (λ byte. byte == 0) c.args.listed.now c.split.ensures.rest c.split.ensures.done c.split.ensures.closure (λ x b q k. search (rules, tests)))
+    (YieldsList-from_slice_split _ (λ byte. byte == 0) c.args.listed.now c.split.ensures.rest c.split.ensures.done c.split.ensures.closure
+    (λ x b q k. search (rules, tests)))

@@ -17,8 +17,14 @@ returns-in_err-meet_one g c = (
   filter stays_below (map string_bytes (drop c.names.name-index c.args.names.now)),
   none_done c.from_residual.result (search rules),
   λ next. then_leads (c.names.invariant next)
-      (stayed c.args.root.now (filter stays_below (map string_bytes (drop c.names.name-index c.args.names.now))) next _ _ _ _ c.in_err-meet_one.ensures.unasked.0 c.in_err-meet_one.ensures.unasked.1),
+      (stayed c.args.root.now (filter stays_below (map string_bytes (drop c.names.name-index c.args.names.now))) next _ _ _ _
+      c.in_err-meet_one.ensures.unasked.0 c.in_err-meet_one.ensures.unasked.1),
 )
 
 pub returns : goal.returns
-returns g c = ([], (λ done. refl), λ next. then_leads (c.names.invariant next) (none_seen string_bytes _ c.args.names.now c.names.name-index _ next _ c.names-test.false))
+returns g c = (
+  [],
+  (λ done. refl),
+  λ next. then_leads (c.names.invariant next)
+      (none_seen string_bytes _ c.args.names.now c.names.name-index _ next _ c.names-test.false),
+)

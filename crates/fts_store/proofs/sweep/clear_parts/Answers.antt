@@ -1,6 +1,6 @@
 use Rattle.std.proofs.Common.{string_bytes, rules}
-use Rattle.fts_files.proofs.Playing.{then_leads, leads_same}
-use Rattle.fts_store.proofs.Listings.{stops, goes_on, up_to}
+use Rattle.fts_files.proofs.Playing.{then_leads}
+use Rattle.fts_store.proofs.Listings.{stops, goes_on}
 use Rattle.fts_store.proofs.Sweepings.{part_leads, parts_end}
 use Rattle.fts_store.proofs.sweep.clear_parts.Goals as goal
 

@@ -5,5 +5,6 @@ use Rattle.fts_store.proofs.sweep.clear_parts.Given as goal
 
 -- so many of the names were gone through
 abbrev pub invariant-names : goal.invariant-names
-invariant-names g l = (next : Script) → LeadsTo (clears_each l.folder (filter is_part_name (map string_bytes l.fn.names)) next) (g.F.FileSystem.calls l.initial.files)
+invariant-names g l = (next : Script) → LeadsTo (clears_each l.folder (filter is_part_name (map string_bytes l.fn.names)) next)
+    (g.F.FileSystem.calls l.initial.files)
     (clears_each l.folder (filter is_part_name (map string_bytes (drop l.name-index l.fn.names))) next) (g.F.FileSystem.calls l.files)

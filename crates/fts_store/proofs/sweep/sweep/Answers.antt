@@ -11,5 +11,6 @@ returns-in_err-names g c next =
 
 pub returns : goal.returns
 returns g c next =
-    up_to _ (λ done. next) (listed_leads _ _ (λ names. sweeps_each c.args.root.now (filter stays_below names) next) _ _ _ c.in_ok-names.ensures.0 refl c.in_ok-names.ensures.1 c.in_ok-names.ensures.2)
+    up_to _ (λ done. next) (listed_leads _ _ (λ names. sweeps_each c.args.root.now (filter stays_below names) next) _ _ _
+    c.in_ok-names.ensures.0 refl c.in_ok-names.ensures.1 c.in_ok-names.ensures.2)
     ((rw c.as_slice.ensures.value at c.sweep_folders.ensures) next)

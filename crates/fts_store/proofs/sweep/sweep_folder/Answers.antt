@@ -21,5 +21,6 @@ pub returns : goal.returns
 returns g c next =
     let is = c.as_str.ensures.value ∙ c.in_ok-folder.ensures in
     up_to _ (λ done. next) (then_leads (chosen _ _ next _ (sym (rw c.as_bytes.ensures.value at c.are_names.ensures) ∙ c.if-not-are_names.false))
-    (listed_leads c.as_str.result.now _ (λ names. clears_each (parts_in c.args.root.now c.args.name.now) (filter is_part_name names) next) _ _ _ c.in_ok-names.ensures.0 is c.in_ok-names.ensures.1 c.in_ok-names.ensures.2))
+    (listed_leads c.as_str.result.now _ (λ names. clears_each (parts_in c.args.root.now c.args.name.now) (filter is_part_name names) next) _ _ _
+    c.in_ok-names.ensures.0 is c.in_ok-names.ensures.1 c.in_ok-names.ensures.2))
     ((rw (c.as_slice.ensures.value, c.as_str-2.ensures.value, c.in_ok-folder.ensures) at c.clear_parts.ensures) next)

@@ -1,5 +1,5 @@
 use Rattle.std.proofs.Common.{string_bytes, rules}
-use Rattle.fts_files.proofs.Playing.{then_leads, leads_same}
+use Rattle.fts_files.proofs.Playing.{then_leads}
 use Rattle.fts_store.proofs.Listings.{stops, goes_on}
 use Rattle.fts_store.proofs.Sweepings.{folder_leads, folders_end}
 use Rattle.fts_store.proofs.sweep.sweep_folders.Goals as goal

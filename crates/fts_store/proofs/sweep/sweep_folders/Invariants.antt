@@ -5,5 +5,6 @@ use Rattle.fts_store.proofs.sweep.sweep_folders.Given as goal
 
 -- so many of the names were gone through
 abbrev pub invariant-names : goal.invariant-names
-invariant-names g l = (next : Script) → LeadsTo (sweeps_each l.root (filter stays_below (map string_bytes l.fn.names)) next) (g.F.FileSystem.calls l.initial.files)
+invariant-names g l = (next : Script) → LeadsTo (sweeps_each l.root (filter stays_below (map string_bytes l.fn.names)) next)
+    (g.F.FileSystem.calls l.initial.files)
     (sweeps_each l.root (filter stays_below (map string_bytes (drop l.name-index l.fn.names))) next) (g.F.FileSystem.calls l.files)
