@@ -14,7 +14,7 @@ use Rattle.fts_record.specs.Proper.{IsProper}
 use Rattle.fts_record.specs.Reading.{read_of}
 use Rattle.fts_desk.specs.DeskData.{DeskData}
 use Rattle.fts_disk.specs.Disk.{DiskState, IsTold, IsLawful, LeavesOnly}
-use Rattle.fts_journal.specs.Format.{Stands, front, used_by}
+use Rattle.fts_journal.specs.Format.{Stands, front}
 use Rattle.fts_journal.specs.Journal.{JournalData, IsMaking, IsImageOf as IsJournalImage}
 use Rattle.fts_keep.specs.Keeps.{KeepData, IsImageSince, StandsFor, bodies_of, with_doubt}
 use Rattle.fts_keep.specs.Views.{keep_of, entries_in, IsTied}
@@ -28,6 +28,7 @@ use Rattle.fts_keep.specs.declared.fault.KeepFault.TheVariants.{Rule, DiskFailed
 use Rattle.fts_keep.proofs.Moments.{joined, weakened, behind_still, still_still, quiet_still, rose_later}
 use Rattle.fts_keep.proofs.Lists.{none_more, legal_more, accepted_tables}
 use Rattle.fts_keep.proofs.Tying.{IsHeld, list_untold, seen_entries, seen_doubt, tie}
+use Rattle.fts_keep.proofs.Ending.{limit_more}
 use Rattle.fts_keep.proofs.Exits.{fits_by}
 
 -- an empty content stands for nothing
@@ -199,7 +200,7 @@ module _ {D : Type 0} (state : D → DiskState) (faults : D → ℕ) (reads : (e
             proper = folds.proper;
             counted = folds.counted;
             sure = leaves.in_doubt ∙ opens.sure;
-            fills = leaves.used ∙ folds.fills there ∙ ap used_by (folds.spells there);
+            fills = leaves.used ∙ folds.fills;
           }
 
       -- it is what the disk stood for
@@ -233,7 +234,14 @@ module _ {D : Type 0} (state : D → DiskState) (faults : D → ℕ) (reads : (e
       pub folded_tied : IsTied state desk folded
       folded_tied = tie state reads desk folded (omega (arith, folds.low, folds.all, leaves.used)) (omega (arith, folds.high, leaves.used))
           (folds.all ∙ sym leaves.count)
-          (folds.entries, record { folded = folds.folded; legal = folds.legal; counted = folds.counted })
+          (
+            folds.entries,
+            record {
+              list = record { folded = folds.folded; legal = folds.legal; counted = folds.counted };
+              proper = folds.proper;
+              fills = leaves.used ∙ folds.fills;
+            },
+          )
           (λ there. record { entries = folds.entries; doubt = None; held = opened_held (sym opens.told ∙ sym leaves.told ∙ there) })
           (λ there content left. let told = sym opens.told ∙ sym leaves.told ∙ there in
           subst (λ d. IsJournalImage folded.bodies d content) (sym (leaves.doubt (told_journal told) ∙ opens.no_doubt told))
@@ -287,8 +295,11 @@ module _ {D : Type 0} (state : D → DiskState) (faults : D → ℕ) (reads : (e
             counted = omega (arith, accepts.commands, folds.counted);
             before = folded.used;
             least = omega (arith, folds.low, folds.all, folds.counted, leaves.used);
-            room = fits_by folded.used restart (step desk.tables restart.command) (subst (λ came. IsOk came) (sym accepts.done) refl);
+            proper = folds.proper;
+            fills = leaves.used ∙ folds.fills;
+            room = has_room;
             filled = accepts.used;
+            limit = λ kept. limit_more folds.entries restart kept (ap (λ n. fits n restart) (sym (leaves.used ∙ folds.fills)) ∙ has_room);
             sure = accepts.no_doubt;
             told = accepts.told ∙ leaves.told ∙ opens.told;
             counts = omega (arith, opens.counts, leaves.counts, counts);
@@ -307,6 +318,9 @@ module _ {D : Type 0} (state : D → DiskState) (faults : D → ℕ) (reads : (e
                 };
           },
         )
+          where
+            has_room : fits folded.used restart ≡ true
+            has_room = fits_by folded.used restart (step desk.tables restart.command) (subst (λ came. IsOk came) (sym accepts.done) refl)
 
         -- it wasn't
         pub unstarted : (fault : KeepFault) → Applied state faults (keep_of state desk folded) (keep_of state next last) restart (Err fault)
