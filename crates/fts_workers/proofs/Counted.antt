@@ -1,12 +1,10 @@
 -- How many claims a round makes: those of the files that are out behind it, unless it stopped at a report.
 use Rattle.std.proofs.Common.{◌≡◌, refl, ap, sym, ◌∙◌, subst, inl, inr, ℕ, zero, suc, ◌+◌, ◌-◌, ◌≤◌, Bool, true, false, cond, List, [], ◌∷◌, ◌++◌, length, max, Option, Some, None, Ok, Err, IsOk, arith}
-use Rattle.std.specs.Prelude.{◌⊎◌, ◌==◌, ◌&&◌, count_by, is_some}
-use Rattle.std.specs.List.{list_any}
+use Rattle.std.specs.Prelude.{◌==◌, ◌&&◌, count_by, is_some}
 use Rattle.std.proofs.lemmas.List.{length-append}
 use Rattle.std.proofs.lemmas.List.Sums.{sum_by-append}
 use Rattle.fts_tables.specs.Tables.{Tables, empty_tables, is_active, job_at, row_at}
 use Rattle.fts_tables.specs.Laws.{AreTheActive}
-use Rattle.fts_tables.specs.Choice.{pick}
 use Rattle.fts_tables.specs.Moves.{change_row, followed, reported}
 use Rattle.fts_tables.specs.Step.{Outcomes, step, report, report_of, with_rows}
 use Rattle.fts_tables.specs.History.{tables_of, out_of_list, out_step, claimed_file, without, IsAccepted, IsLegal}
@@ -16,12 +14,12 @@ use Rattle.fts_tables.specs.declared.rows.JobRow.{JobRow}
 use Rattle.fts_tables.specs.declared.rows.Outcome.{Outcome}
 use Rattle.fts_tables.specs.declared.commands.Entry.{Entry}
 use Rattle.fts_tables.specs.declared.commands.Answer.{Answer}
-use Rattle.fts_tables.specs.declared.commands.Answer.TheVariants.{Claimed, Reported}
+use Rattle.fts_tables.specs.declared.commands.Answer.TheVariants.{Reported}
 use Rattle.fts_tables.specs.declared.commands.Refusal.TheVariants.{Stale}
 use Rattle.fts_tables.specs.declared.commands.Command.TheVariants.{Claim, Expire, Report}
 use Rattle.fts_keep.specs.Applied.{applied_by, entry_by}
 use Rattle.fts_workers.specs.Benches.{attempt_of, held_as, kept_of, newly_held}
-use Rattle.fts_workers.specs.Rounds.{Walk, Adds, AddsNone, Claims, Expires, ExpiresAndClaims, FillsUp, FindsNoneOverdue, Reports, WorksOff, applied_at, claims_among, is_claim, report_in}
+use Rattle.fts_workers.specs.Rounds.{Walk, Claims, Expires, ExpiresAndClaims, FillsUp, Reports, WorksOff, applied_at, claims_among, is_claim, report_in}
 use Rattle.fts_workers.specs.declared.held.Held.{Held}
 use Rattle.fts_workers.specs.declared.ends.RoundEnd.{RoundEnd}
 use Rattle.fts_workers.proofs.Accepted.{legal_more}
@@ -81,9 +79,13 @@ reported_so tables now file attempt outcome after answer is = by_row (row_at tab
           Reported row.id (reported job at outcome row).state,
         )) (Err (Stale row.state row.attempt)) ≡ Ok (after, answer) → (state : FileState) × (answer ≡ Reported file state)
     by_test row job true id came =
-        let state = (reported job at outcome row).state in
-        (state, sym (same (with_rows tables at (followed job (reported job at outcome row) (change_row row.id (reported job at outcome) tables.rows)),
-        Reported row.id state) (after, answer) came) ∙ ap (λ n. Reported n state) id)
+        let state = (reported job at outcome row).state in (
+          state,
+          sym (same (
+            with_rows tables at (followed job (reported job at outcome row) (change_row row.id (reported job at outcome) tables.rows)),
+            Reported row.id state,
+          ) (after, answer) came) ∙ ap (λ n. Reported n state) id,
+        )
     by_test row job false id came = absurd cc
 
     by_job : (row : FileRow) (found : Option JobRow) → row.id ≡ file → report_of tables at row attempt outcome found ≡ Ok (after, answer)
@@ -123,9 +125,11 @@ module _ (outs : (entries : List Entry) → IsLegal entries → AreTheActive (ou
       let named : claimed_file (step tables (Claim now word)) ≡ Some so.row.id = ap claimed_file came.is
       ∙ ap (λ (a : Answer). claimed_file (Ok (came.after, a))) so.answer_is in
       let out = ap (λ (a : Answer). out_step (out_of_list walk.entries) (Ok (came.after, a))) so.answer_is
-      ∙ ap (λ files. files ++ so.row.id ∷ []) (without-none so.row.id (out_of_list walk.entries) (was_in walk.entries now word so.row.id legal named)) in
-      (so.row.id, counts_one walk next (entry_by 0 (Claim now word)) (out_of_list walk.entries ++ so.row.id ∷ []) 1 came legal
-      (claims.adds.listed ∙ ap (λ (e : Entry). walk.entries ++ e ∷ []) claims.tried.is) out refl)
+      ∙ ap (λ files. files ++ so.row.id ∷ []) (without-none so.row.id (out_of_list walk.entries) (was_in walk.entries now word so.row.id legal named)) in (
+        so.row.id,
+        counts_one walk next (entry_by 0 (Claim now word)) (out_of_list walk.entries ++ so.row.id ∷ []) 1 came legal
+            (claims.adds.listed ∙ ap (λ (e : Entry). walk.entries ++ e ∷ []) claims.tried.is) out refl,
+      )
 
   -- a report takes its file from those that are out
   report_counts : (walk next : Walk) (file : ℕ) (files : List ℕ) → IsLegal walk.entries → out_of_list walk.entries ≡ file ∷ files → Reports walk file next

@@ -1,11 +1,11 @@
 -- What an expiry and a claim may be answered, and that no row is overdue behind an expiry.
-use Rattle.std.proofs.Common.{◌≡◌, refl, ap, sym, ◌∙◌, subst, ℕ, max, Bool, true, false, cond, Option, Some, None, Result, Ok, Err, arith}
+use Rattle.std.proofs.Common.{◌≡◌, ap, sym, ◌∙◌, subst, ℕ, max, Bool, true, false, cond, Result, Ok, Err, arith}
 use Rattle.std.specs.List.{list_any}
 use Rattle.fts_disk.specs.Disk.{DiskState}
 use Rattle.fts_tables.specs.Tables.{Tables}
 use Rattle.fts_tables.specs.Choice.{pick}
 use Rattle.fts_tables.specs.Waits.{is_overdue, rows_cancelled, count_cancelled}
-use Rattle.fts_tables.specs.Step.{Outcomes, step, claim, expire, with_rows}
+use Rattle.fts_tables.specs.Step.{Outcomes, step, expire, with_rows}
 use Rattle.fts_tables.specs.History.{tables_after}
 use Rattle.fts_tables.specs.declared.rows.Reason.TheVariants.{Expired as ExpiredReason}
 use Rattle.fts_tables.specs.declared.commands.Command.TheVariants.{Claim, Expire}
@@ -31,19 +31,19 @@ record HasExpired (tables : Tables) (now : ℕ) (after : Tables) (answer : Answe
   pub moment : after.moment ≡ now
   pub answers : AnswersExpiry (Ok answer)
 
+-- what an expiry makes, where some file is overdue
+abbrev expired_done : Tables → ℕ → Tables × Answer
+expired_done tables now = (
+  with_rows tables now (rows_cancelled ExpiredReason tables.jobs (is_overdue tables.jobs now) tables.rows),
+  Expired (count_cancelled tables.jobs (is_overdue tables.jobs now) tables.rows),
+)
+
 expired_so : (tables : Tables) (now : ℕ) (after : Tables) (answer : Answer) → expire tables now ≡ Ok (after, answer) → HasExpired tables now after answer
 expired_so tables now after answer is = by (list_any (is_overdue tables.jobs now) tables.rows) is
   where
-    done : Tables × Answer
-    done = (
-      with_rows tables now (rows_cancelled ExpiredReason tables.jobs (is_overdue tables.jobs now) tables.rows),
-      Expired (count_cancelled tables.jobs (is_overdue tables.jobs now) tables.rows),
-    )
-
-    by : (some : Bool) → cond {A = Outcomes} some (Ok done) (Err Idle) ≡ Ok (after, answer) → HasExpired tables now after answer
-    unfolding done
+    by : (some : Bool) → cond {A = Outcomes} some (Ok (expired_done tables now)) (Err Idle) ≡ Ok (after, answer) → HasExpired tables now after answer
     by true came =
-        let same = same_done done (after, answer) came in
+        let same = same_done (expired_done tables now) (after, answer) came in
         record {
           jobs = sym (ap (λ (d : Tables × Answer). d.0.jobs) same);
           moment = sym (ap (λ (d : Tables × Answer). d.0.moment) same);
@@ -55,11 +55,7 @@ expired_so tables now after answer is = by (list_any (is_overdue tables.jobs now
 expired_idle : (tables : Tables) (now : ℕ) (refusal : Refusal) → expire tables now ≡ Err refusal → refusal ≡ Idle
 expired_idle tables now refusal is = by (list_any (is_overdue tables.jobs now) tables.rows) is
   where
-    by : (some : Bool)
-        → cond {A = Outcomes} some (Ok (
-          with_rows tables now (rows_cancelled ExpiredReason tables.jobs (is_overdue tables.jobs now) tables.rows),
-          Expired (count_cancelled tables.jobs (is_overdue tables.jobs now) tables.rows),
-        )) (Err Idle) ≡ Err refusal → refusal ≡ Idle
+    by : (some : Bool) → cond {A = Outcomes} some (Ok (expired_done tables now)) (Err Idle) ≡ Err refusal → refusal ≡ Idle
     by true came = absurd cc
     by false came = sym (same_refusal Idle refusal came)
 
@@ -76,7 +72,8 @@ module _ {D : Type 0} (state : D → DiskState) (faults : D → ℕ) (old new : 
   expiry_answers (Err Memory) applied = tt
 
   -- and that none is overdue behind it, as a law of the machine says
-  pub expiry_gone : ((tables : Tables) (at : ℕ) → list_any (is_overdue tables.jobs (max at tables.moment)) (tables_after tables (step tables (Expire at))).rows ≡ false)
+  pub expiry_gone : ((tables : Tables) (at : ℕ)
+      → list_any (is_overdue tables.jobs (max at tables.moment)) (tables_after tables (step tables (Expire at))).rows ≡ false)
       → (answer : Result Answer KeepFault) → Applied state faults old new (entry_by writer (Expire now)) answer → goes_on answer ≡ true
       → HasNoneOverdue new.tables now
   expiry_gone law (Ok answer) applied on =

@@ -20,10 +20,12 @@ pub returns-in-Ok-clause-part : goal.returns-in-Ok-clause-part
 returns-in-Ok-clause-part g c =
     let before = (stand c.args.keep.now c.args.bench.now (g.C.Clock.moments c.args.clock.now) (g.W.Words.words c.args.words.now)) in
     let mid = (stand c.work_off.new.keep c.work_off.new.bench (g.C.Clock.moments c.work_off.new.clock) (g.W.Words.words c.args.words.now)) in
-    let after = (stand c.expire_and_fill_up.new.keep c.expire_and_fill_up.new.bench (g.C.Clock.moments c.expire_and_fill_up.new.clock) (g.W.Words.words c.expire_and_fill_up.new.words)) in
-    round_joined g.D.Disk.state g.D.Disk.faults g.E.Store.state g.E.Store.calls g.E.Store.faults c.args.bench.now.places c.expire_and_fill_up.result before mid after
-    c.args.store.now c.work_off.new.store c.in-Ok.ensures.none (c.in-Ok.ensures.part (g.W.Words.words c.args.words.now) c.args.bench.now.places)
-    (subst (λ n. MakesNoCopy g.D.Disk.state g.D.Disk.faults (ExpiresAndFills n c.expire_and_fill_up.result) mid after) c.work_off.ensures.places c.expire_and_fill_up.ensures.part)
+    let after = (stand c.expire_and_fill_up.new.keep c.expire_and_fill_up.new.bench (g.C.Clock.moments c.expire_and_fill_up.new.clock)
+    (g.W.Words.words c.expire_and_fill_up.new.words)) in
+    round_joined g.D.Disk.state g.D.Disk.faults g.E.Store.state g.E.Store.calls g.E.Store.faults c.args.bench.now.places c.expire_and_fill_up.result
+    before mid after c.args.store.now c.work_off.new.store c.in-Ok.ensures.none (c.in-Ok.ensures.part (g.W.Words.words c.args.words.now) c.args.bench.now.places)
+    (subst (λ n. MakesNoCopy g.D.Disk.state g.D.Disk.faults (ExpiresAndFills n c.expire_and_fill_up.result) mid after) c.work_off.ensures.places
+    c.expire_and_fill_up.ensures.part)
 
 pub returns-in-Ok-clause-kept : goal.returns-in-Ok-clause-kept
 returns-in-Ok-clause-kept g c =
