@@ -24,19 +24,7 @@ EndsBy (JournalFull used) end = end ≡ EndsByLimit used
 EndsBy (Damaged offset) end = ⊥
 EndsBy Memory end = end ≡ EndsByMemory
 
--- an answer to a claim
-abbrev pub IsClaimed : Answer → Type 0
-IsClaimed (Restarted released) = ⊥
-IsClaimed (Submitted job id) = ⊥
-IsClaimed (Cancelled job) = ⊥
-IsClaimed (PrioritySet job) = ⊥
-IsClaimed (Claimed file attempt) = Unit {0}
-IsClaimed (Reported file state) = ⊥
-IsClaimed (Banned cancelled) = ⊥
-IsClaimed Unbanned = ⊥
-IsClaimed (Expired cancelled) = ⊥
-
--- the file that it names is held, and isn't copied yet
+-- the file that an answer to a claim names is held, and isn't copied yet
 abbrev pub NamesHeld : Answer → Held → Type 0
 NamesHeld (Restarted released) held = ⊥
 NamesHeld (Submitted job id) held = ⊥

@@ -3,7 +3,8 @@
 //! Order of a step: the expiry, and at the same moment the claim, unless the expiry met a fault.
 //! A round has a moment of its own for its expiry and for each claim, and expires once for all of them: it calls `expire` and `claim`. A turn has
 //! one moment for both, and calls `claim_step`.
-ghost use Rattle.fts_workers.specs.ClaimSteps.{IsExpiry, IsClaim, IsClaimStep};
+ghost use Rattle.std.specs.Prelude.{◌≡◌};
+ghost use Rattle.fts_workers.specs.ClaimSteps.{IsExpiry, IsClaim, IsClaimStep, KeepsBy, goes_on};
 
 use fts_disk::Disk;
 use fts_keep::{Keep, KeepFault};
@@ -41,20 +42,38 @@ pub(crate) fn claim<D: Disk>(
     keep.apply(writer, Command::Claim { now, word })
 }
 
+// Whether a worker goes on to claim behind an expiry that was answered so.
+fn goes_on(expiry: Result<Answer, KeepFault>) -> bool
+    ensures { result ≡ goes_on expiry }
+{
+    match expiry {
+        Ok(_) => true,
+        Err(KeepFault::Rule(_)) => true,
+        Err(KeepFault::DiskFailed) => false,
+        Err(KeepFault::JournalFull { used: _ }) => false,
+        Err(KeepFault::Damaged { offset: _ }) => false,
+        Err(KeepFault::Memory) => false,
+    }
+}
+
 /// One step of a worker: the files that are overdue are cancelled, and at the same moment a file is claimed, unless the expiry met a fault.
 /// In the tables that the claim meets no row is overdue.
 pub fn claim_step<D: Disk>(keep: &mut Keep<D>, writer: u32, now: u64, word: u64) -> ClaimStep
-    ensures { IsClaimStep D.state D.faults writer keep.old keep.new now word result.expiry result.claim }
+    ensures step { IsClaimStep D.state D.faults writer keep.old keep.new now word result.expiry result.claim }
+    ensures keeps { KeepsBy D.state D.faults writer keep.old keep.new }
 {
     let expiry = expire(keep, writer, now);
     // A keep's type says what holds between the two commands.
     let _between = keep.desk();
-    let claim = match expiry {
-        Ok(_) | Err(KeepFault::Rule(_)) => Some(claim(keep, writer, now, word)),
-        Err(KeepFault::DiskFailed)
-        | Err(KeepFault::JournalFull { used: _ })
-        | Err(KeepFault::Damaged { offset: _ })
-        | Err(KeepFault::Memory) => None,
-    };
-    ClaimStep { expiry, claim }
+    if !goes_on(expiry) {
+        return ClaimStep {
+            expiry,
+            claim: None,
+        };
+    }
+    let answer = claim(keep, writer, now, word);
+    ClaimStep {
+        expiry,
+        claim: Some(answer),
+    }
 }
