@@ -13,11 +13,11 @@ use Rattle.fts_disk.specs.Disk.{DiskState, IsTold}
 use Rattle.fts_journal.specs.Journal.{JournalData}
 use Rattle.fts_keep.specs.Keeps.{KeepData, HoldsList, IsFilledBy, IsOver, IsFold, used_of, IsImageSince, Grows, DoubtHasCause, KeepsImages, StandsFor, with_doubt}
 use Rattle.fts_keep.specs.Views.{keep_of, entries_in, IsTied, IsKept}
-use Rattle.fts_keep.specs.Applied.{Applied, AppliesSafely, DoubtIsOwn, IsImageDuring, applied_by, fits}
-use Rattle.fts_keep.specs.Ending.{KeepsFirstLimit, LeavesRoom, HasRoom, IsNotFull, IsProperWhereFull}
+use Rattle.fts_keep.specs.Applied.{Applied, AppliesSafely, DoubtIsOwn, KeepsList, IsImageDuring, applied_to, applied_by, fits}
+use Rattle.fts_keep.specs.Ending.{KeepsFirstLimit, LeavesRoom, HasRoom, IsNotFull, ShowsProper, StaysFilled}
 use Rattle.fts_keep.specs.declared.fault.KeepFault.{KeepFault}
 use Rattle.fts_keep.specs.declared.fault.KeepFault.TheVariants.{Rule, DiskFailed, JournalFull, Damaged, Memory}
-use Rattle.fts_keep.proofs.Lists.{none_more, legal_list, proper_list, legal_more, accepted_by}
+use Rattle.fts_keep.proofs.Lists.{none_more, legal_list, proper_list, legal_more, accepted_by, filled_by_more}
 use Rattle.fts_keep.proofs.Exits.{fits_by}
 use Rattle.fts_keep.proofs.Moments.{weakened}
 use Rattle.fts_keep.proofs.Tying.{list_untold}
@@ -173,7 +173,7 @@ module _ {D : Type 0} (state : D → DiskState) (faults : D → ℕ) (old new : 
 
   -- behind such a list, where it leaves room, what settles something has room
   pub not_full : ((entries : List Entry) → IsLegal entries → All IsProper entries → LeavesRoom entries → HasRoom (tables_of entries) (used_of entries))
-      → IsProperWhereFull entry result → (entries : List Entry) → IsOver state old entries → LeavesRoom entries → settles entry.command ≡ true
+      → ShowsProper entry result → (entries : List Entry) → IsOver state old entries → LeavesRoom entries → settles entry.command ≡ true
       → IsNotFull result
   not_full has_room proper entries over room settling = by result applied proper
     where
@@ -184,7 +184,7 @@ module _ {D : Type 0} (state : D → DiskState) (faults : D → ℕ) (old new : 
       here = subst (λ t. HasRoom t old.used) (sym is.list.folded)
           (subst (λ n. HasRoom (tables_of entries) n) (sym is.fills) (has_room entries is.list.legal is.proper room))
 
-      by : (r : Result Answer KeepFault) → Applied state faults old new entry r → IsProperWhereFull entry r → IsNotFull r
+      by : (r : Result Answer KeepFault) → Applied state faults old new entry r → ShowsProper entry r → IsNotFull r
       by (Ok answer) a p = tt
       by (Err (JournalFull full)) a p = not_full_by old.tables old.used full entry (step old.tables entry.command)
           (λ accepted. here entry p settling accepted) a.0
@@ -193,21 +193,68 @@ module _ {D : Type 0} (state : D → DiskState) (faults : D → ℕ) (old new : 
       by (Err (Damaged offset)) a p = tt
       by (Err Memory) a p = tt
 
-  -- and its own list keeps the first limit
-  pub limit_kept : ((entries : List Entry) (more : Entry) → KeepsFirstLimit entries → fits (used_of entries) more ≡ true
-      → KeepsFirstLimit (entries ++ more ∷ [])) → IsTold (state old.disk) → KeepsFirstLimit old.entries → KeepsFirstLimit new.entries
-  limit_kept more told limit = by result applied
-    where
-      -- nothing was added
-      same : new.entries ≡ old.entries → KeepsFirstLimit new.entries
-      same is = subst (λ l. KeepsFirstLimit l) (sym is) limit
+  -- an entry that would be accepted fits
+  fits_here : IsTold (state old.disk) → IsOk (applied_to old.tables old.used entry) → fits (used_of old.entries) entry ≡ true
+  fits_here told would = ap (λ n. fits n entry) (sym (fold.holds told).fills) ∙ fits_by old.used entry (step old.tables entry.command) would
 
-      by : (r : Result Answer KeepFault) → Applied state faults old new entry r → KeepsFirstLimit new.entries
-      by (Ok answer) a = subst (λ l. KeepsFirstLimit l) (sym (a.listed told).0) (more old.entries entry limit
-          (ap (λ n. fits n entry) (sym (fold.holds told).fills)
-          ∙ fits_by old.used entry (step old.tables entry.command) (subst (λ came. IsOk came) (sym a.done) refl)))
-      by (Err (JournalFull full)) a = same (ap (λ (k : KeepData D). k.entries) a.1)
-      by (Err (Rule refusal)) a = same (ap (λ (k : KeepData D). k.entries) a.1)
-      by (Err DiskFailed) a = same a.keeps.entries
-      by (Err Memory) a = same a.keeps.entries
+  -- its own list, with the entry in doubt, keeps the first limit
+  pub limit_kept : ((entries : List Entry) (more : Entry) → KeepsFirstLimit entries → fits (used_of entries) more ≡ true
+      → KeepsFirstLimit (entries ++ more ∷ [])) → ((entries more : List Entry) → KeepsFirstLimit (entries ++ more) → KeepsFirstLimit entries)
+      → IsTold (state old.disk) → KeepsFirstLimit (with_doubt old.entries old.doubt) → KeepsFirstLimit (with_doubt new.entries new.doubt)
+  limit_kept more front told limit = by result applied
+    where
+      -- without the doubt
+      alone_by : (doubt : Option Entry) → KeepsFirstLimit (with_doubt old.entries doubt) → KeepsFirstLimit old.entries
+      alone_by None kept = kept
+      alone_by (Some doubted) kept = front old.entries (doubted ∷ []) kept
+
+      alone : KeepsFirstLimit old.entries
+      alone = alone_by old.doubt limit
+
+      -- with what the list is now, and the doubt
+      with : (entries : List Entry) (doubt : Option Entry) → new.entries ≡ entries → new.doubt ≡ doubt → KeepsFirstLimit (with_doubt entries doubt)
+          → KeepsFirstLimit (with_doubt new.entries new.doubt)
+      with entries doubt list is kept =
+          subst (λ l. KeepsFirstLimit (with_doubt l new.doubt)) (sym list) (subst (λ d. KeepsFirstLimit (with_doubt entries d)) (sym is) kept)
+
+      same : new ≡ old → KeepsFirstLimit (with_doubt new.entries new.doubt)
+      same is = with old.entries old.doubt (ap (λ (k : KeepData D). k.entries) is) (ap (λ (k : KeepData D). k.doubt) is) limit
+
+      by : (r : Result Answer KeepFault) → Applied state faults old new entry r → KeepsFirstLimit (with_doubt new.entries new.doubt)
+      by (Ok answer) a = with (old.entries ++ entry ∷ []) None (a.listed told).0 (a.listed told).1
+          (more old.entries entry alone (fits_here told (subst (λ came. IsOk came) (sym a.done) refl)))
+      by (Err (JournalFull full)) a = same a.1
+      by (Err (Rule refusal)) a = same a.1
+      by (Err DiskFailed) a = ⊎_elim (λ was. with old.entries old.doubt a.keeps.entries was limit)
+          (λ other. ⊎_elim (λ none. with old.entries None a.keeps.entries none alone)
+          (λ own. with old.entries (Some entry) a.keeps.entries own (more old.entries entry alone (fits_here told a.would))) other)
+          (a.doubt told)
+      by (Err Memory) a = ⊎_elim (λ was. with old.entries old.doubt a.keeps.entries was limit)
+          (λ none. with old.entries None a.keeps.entries none alone) (a.doubt told)
       by (Err (Damaged offset)) a = absurd a
+
+-- where nothing was accepted a keep is of what it was of
+filled_same : {D : Type 0} (state : D → DiskState) (old new : KeepData D) (entries : List Entry) → KeepsList state old new → IsFilledBy old entries
+    → IsFilledBy new entries
+filled_same state old new entries keeps filled = record {
+  list = record {
+    folded = keeps.tables ∙ filled.list.folded;
+    legal = filled.list.legal;
+    counted = keeps.commands ∙ filled.list.counted;
+  };
+  proper = filled.proper;
+  fills = keeps.used ∙ filled.fills;
+}
+
+-- a list that a keep is of grows with it
+pub stays_filled : {D : Type 0} (state : D → DiskState) (faults : D → ℕ) (old new : KeepData D) (entry : Entry) (result : Result Answer KeepFault)
+    → Applied state faults old new entry result → ShowsProper entry result → StaysFilled old new entry result
+stays_filled state faults old new entry (Ok answer) applied proper =
+    λ entries filled. filled_by_more state old new entries entry answer filled proper applied
+stays_filled state faults old new entry (Err (Rule refusal)) applied proper =
+    λ entries filled. subst (λ k. IsFilledBy k entries) (sym applied.1) filled
+stays_filled state faults old new entry (Err (JournalFull used)) applied proper =
+    λ entries filled. subst (λ k. IsFilledBy k entries) (sym applied.1) filled
+stays_filled state faults old new entry (Err DiskFailed) applied proper = λ entries filled. filled_same state old new entries applied.keeps filled
+stays_filled state faults old new entry (Err Memory) applied proper = λ entries filled. filled_same state old new entries applied.keeps filled
+stays_filled state faults old new entry (Err (Damaged offset)) applied proper = absurd applied

@@ -1,14 +1,14 @@
 -- The law of the journal's end over lists of entries, and what it says of one command.
-use Rattle.std.proofs.Common.{◌≡◌, refl, ap, sym, ◌∙◌, subst, ℕ, ◌+◌, ◌≤◌, ◌<◌, Bool, true, false, if◌then◌else◌, List, [], ◌∷◌, ◌++◌, length, Result, Ok, Err, All, arith}
+use Rattle.std.proofs.Common.{◌≡◌, refl, ap, ℕ, ◌+◌, ◌≤◌, ◌<◌, true, if◌then◌else◌, List, [], ◌∷◌, ◌++◌, length, All, arith}
 use Rattle.std.specs.List.{flat_map, sum_by}
 use Rattle.std.proofs.lemmas.Bool.{le-leb, leb-true}
 use Rattle.std.proofs.lemmas.List.{length-append}
 use Rattle.std.proofs.lemmas.List.Sums.{sum_by-cons}
 use Rattle.std.proofs.lemmas.List.Elements.{All-head, All-tail}
 use Rattle.fts_tables.specs.Tables.{Tables, empty_tables}
-use Rattle.fts_tables.specs.Step.{Outcomes, step}
+use Rattle.fts_tables.specs.Step.{step}
 use Rattle.fts_tables.specs.History.{tables_of, tables_after, IsAccepted, IsLegal}
-use Rattle.fts_tables.specs.Settling.{opens, journal_limit, settles, IsSized, AreSized, OpenBelow, restarts_from, restart_cost, used_by}
+use Rattle.fts_tables.specs.Settling.{opens, journal_limit, settles, IsSized, AreSized, OpenBelow, restarts_from, used_by}
 use Rattle.fts_tables.specs.declared.limits.TheConstants.{MAX_OPENING_BYTES, JOURNAL_END}
 use Rattle.fts_tables.specs.declared.commands.Command.{Command}
 use Rattle.fts_tables.specs.declared.commands.Command.TheVariants.{Restart, Submit, CancelJob, CancelFile, SetPriority, Claim, Report, Ban, Unban, Expire}
@@ -18,7 +18,7 @@ use Rattle.fts_record.specs.Proper.{IsProper}
 use Rattle.fts_journal.specs.Format.{header, block, size_bytes}
 use Rattle.fts_keep.specs.Keeps.{bodies_of, used_of}
 use Rattle.fts_keep.specs.Applied.{fits}
-use Rattle.fts_keep.specs.Ending.{entry_bytes, KeepsFirstLimit, LeavesRoom, HasRoom}
+use Rattle.fts_keep.specs.Ending.{entry_bytes, restarts_cost, KeepsFirstLimit, LeavesRoom, HasRoom}
 
 -- what settles something has room up to the journal's end
 limit_of_settling : (command : Command) → settles command ≡ true → journal_limit command ≡ JOURNAL_END
@@ -101,12 +101,13 @@ limit_more entries entry limit fit = open_more 8 entries entry limit (λ is. ome
 pub limit_short : (entries : List Entry) → used_of entries < MAX_OPENING_BYTES → KeepsFirstLimit entries
 limit_short entries short = open_short 8 entries (omega (arith, short, used_listed entries))
 
--- the front of a list that leaves room leaves room
-pub room_front : (entries more : List Entry) → LeavesRoom (entries ++ more) → LeavesRoom entries
-room_front entries more room = record {
-  limit = open_front 8 entries more room.limit;
-  restarts = omega (arith, room.restarts, cost_front empty_tables entries more);
-}
+-- the front of a list that keeps it keeps it
+pub limit_front : (entries more : List Entry) → KeepsFirstLimit (entries ++ more) → KeepsFirstLimit entries
+limit_front entries more limit = open_front 8 entries more limit
+
+-- and its restarts cost no more
+pub cost_less : (entries more : List Entry) → restarts_cost entries ≤ restarts_cost (entries ++ more)
+cost_less entries more = cost_front empty_tables entries more
 
 -- behind a list that leaves room there is room
 pub room_behind : ((entry : Entry) → IsProper entry → IsSized entry_bytes entry)

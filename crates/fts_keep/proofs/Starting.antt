@@ -16,7 +16,7 @@ use Rattle.fts_desk.specs.DeskData.{DeskData}
 use Rattle.fts_disk.specs.Disk.{DiskState, IsTold, IsLawful, LeavesOnly}
 use Rattle.fts_journal.specs.Format.{Stands, front}
 use Rattle.fts_journal.specs.Journal.{JournalData, IsMaking, IsImageOf as IsJournalImage}
-use Rattle.fts_keep.specs.Keeps.{KeepData, IsImageSince, StandsFor, bodies_of, with_doubt}
+use Rattle.fts_keep.specs.Keeps.{KeepData, IsFilledBy, IsImageSince, StandsFor, bodies_of, with_doubt}
 use Rattle.fts_keep.specs.Views.{keep_of, entries_in, IsTied}
 use Rattle.fts_keep.specs.Damage.{IsDamaged, IsWhole, DamageIsOne, fault_in}
 use Rattle.fts_keep.specs.Applied.{Applied, AppliesSafely, IsImageDuring, fits}
@@ -26,7 +26,7 @@ use Rattle.fts_keep.specs.Started.{restart_at, restarted, Opens, IsStill, IsOpen
 use Rattle.fts_keep.specs.declared.fault.KeepFault.{KeepFault}
 use Rattle.fts_keep.specs.declared.fault.KeepFault.TheVariants.{Rule, DiskFailed, JournalFull, Damaged, Memory}
 use Rattle.fts_keep.proofs.Moments.{joined, weakened, behind_still, still_still, quiet_still, rose_later}
-use Rattle.fts_keep.proofs.Lists.{none_more, legal_more, accepted_tables}
+use Rattle.fts_keep.proofs.Lists.{none_more, legal_more, accepted_tables, filled_by_more}
 use Rattle.fts_keep.proofs.Tying.{IsHeld, list_untold, seen_entries, seen_doubt, tie}
 use Rattle.fts_keep.proofs.Ending.{limit_more}
 use Rattle.fts_keep.proofs.Exits.{fits_by}
@@ -230,18 +230,18 @@ module _ {D : Type 0} (state : D → DiskState) (faults : D → ℕ) (reads : (e
         counts = opens.counts;
       }
 
+      -- and fills what is used
+      opened_filled : IsFilledBy (keep_of state desk folded) folds.entries
+      opened_filled = record {
+        list = record { folded = folds.folded; legal = folds.legal; counted = folds.counted };
+        proper = folds.proper;
+        fills = leaves.used ∙ folds.fills;
+      }
+
       -- the desk is tied to it
       pub folded_tied : IsTied state desk folded
       folded_tied = tie state reads desk folded (omega (arith, folds.low, folds.all, leaves.used)) (omega (arith, folds.high, leaves.used))
-          (folds.all ∙ sym leaves.count)
-          (
-            folds.entries,
-            record {
-              list = record { folded = folds.folded; legal = folds.legal; counted = folds.counted };
-              proper = folds.proper;
-              fills = leaves.used ∙ folds.fills;
-            },
-          )
+          (folds.all ∙ sym leaves.count) (folds.entries, opened_filled)
           (λ there. record { entries = folds.entries; doubt = None; held = opened_held (sym opens.told ∙ sym leaves.told ∙ there) })
           (λ there content left. let told = sym opens.told ∙ sym leaves.told ∙ there in
           subst (λ d. IsJournalImage folded.bodies d content) (sym (leaves.doubt (told_journal told) ∙ opens.no_doubt told))
@@ -285,9 +285,9 @@ module _ {D : Type 0} (state : D → DiskState) (faults : D → ℕ) (reads : (e
 
         -- the Restart was accepted
         pub started : (answer : Answer) → Applied state faults (keep_of state desk folded) (keep_of state next last) restart (Ok answer)
-            → IsTied state next last
+            → IsProper restart → IsTied state next last
             → Started state faults disk settings now (Ok (keep_of state next last))
-        started answer accepts tied = (
+        started answer accepts proper tied = (
           folds.entries,
           record {
             legal = folds.legal;
@@ -295,10 +295,10 @@ module _ {D : Type 0} (state : D → DiskState) (faults : D → ℕ) (reads : (e
             counted = omega (arith, accepts.commands, folds.counted);
             before = folded.used;
             least = omega (arith, folds.low, folds.all, folds.counted, leaves.used);
-            proper = folds.proper;
             fills = leaves.used ∙ folds.fills;
             room = has_room;
             filled = accepts.used;
+            over = filled_by_more state (keep_of state desk folded) (keep_of state next last) folds.entries restart answer opened_filled proper accepts;
             limit = λ kept. limit_more folds.entries restart kept (ap (λ n. fits n restart) (sym (leaves.used ∙ folds.fills)) ∙ has_room);
             sure = accepts.no_doubt;
             told = accepts.told ∙ leaves.told ∙ opens.told;

@@ -1,12 +1,14 @@
 -- The journal's end, as a list of entries meets it: whether the list kept the first limit, what its restarts cost, and what then has room.
-use Rattle.std.specs.Prelude.{◌≡◌, ℕ, ◌+◌, ◌≤◌, true, List, length, Result, Ok, Err}
+use Rattle.std.specs.Prelude.{◌≡◌, ℕ, ◌+◌, ◌≤◌, true, List, [], ◌∷◌, ◌++◌, length, Result, Ok, Err}
 use Rattle.fts_tables.specs.Tables.{Tables, empty_tables}
 use Rattle.fts_tables.specs.Step.{step}
 use Rattle.fts_tables.specs.History.{IsAccepted}
 use Rattle.fts_tables.specs.Settling.{settles, OpenBelow, restarts_from}
 use Rattle.fts_tables.specs.declared.commands.Entry.{Entry}
+use Rattle.fts_tables.specs.declared.commands.Answer.{Answer}
 use Rattle.fts_record.specs.Spelling.{spelled}
 use Rattle.fts_record.specs.Proper.{IsProper}
+use Rattle.fts_keep.specs.Keeps.{KeepData, IsFilledBy}
 use Rattle.fts_keep.specs.Applied.{fits}
 use Rattle.fts_keep.specs.declared.fault.KeepFault.{KeepFault}
 use Rattle.fts_keep.specs.declared.fault.KeepFault.TheVariants.{Rule, DiskFailed, JournalFull, Damaged, Memory}
@@ -45,11 +47,16 @@ IsNotFull (Err DiskFailed) = Unit {0}
 IsNotFull (Err (Damaged offset)) = Unit {0}
 IsNotFull (Err Memory) = Unit {0}
 
--- an entry for which the journal had no room was a proper one
-abbrev pub IsProperWhereFull : {T : Type 0} → Entry → Result T KeepFault → Type 0
-IsProperWhereFull entry (Ok done) = Unit {0}
-IsProperWhereFull entry (Err (JournalFull used)) = IsProper entry
-IsProperWhereFull entry (Err (Rule refusal)) = Unit {0}
-IsProperWhereFull entry (Err DiskFailed) = Unit {0}
-IsProperWhereFull entry (Err (Damaged offset)) = Unit {0}
-IsProperWhereFull entry (Err Memory) = Unit {0}
+-- an entry that was accepted, or for which the journal had no room, is a proper one
+abbrev pub ShowsProper : {T : Type 0} → Entry → Result T KeepFault → Type 0
+ShowsProper entry (Ok done) = IsProper entry
+ShowsProper entry (Err (JournalFull used)) = IsProper entry
+ShowsProper entry (Err (Rule refusal)) = Unit {0}
+ShowsProper entry (Err DiskFailed) = Unit {0}
+ShowsProper entry (Err (Damaged offset)) = Unit {0}
+ShowsProper entry (Err Memory) = Unit {0}
+
+-- over every disk: whatever list a keep's tables and bytes are of, they then are of that list with the entry where it was accepted, and else of it
+abbrev pub StaysFilled : {D : Type 0} → KeepData D → KeepData D → Entry → Result Answer KeepFault → Type 0
+StaysFilled old new entry (Ok answer) = (entries : List Entry) → IsFilledBy old entries → IsFilledBy new (entries ++ entry ∷ [])
+StaysFilled old new entry (Err fault) = (entries : List Entry) → IsFilledBy old entries → IsFilledBy new entries

@@ -1,17 +1,16 @@
 -- How a keep begins: the list that the disk stood for, or none on an empty disk, and then a Restart. And how a journal is only looked at.
-use Rattle.std.specs.Prelude.{◌≡◌, ◌≢◌, ◌⊎◌, ℕ, ◌+◌, ◌*◌, ◌≤◌, true, false, None, List, [], ◌∷◌, ◌++◌, length, Result, Ok, Err, All}
+use Rattle.std.specs.Prelude.{◌≡◌, ◌≢◌, ◌⊎◌, ℕ, ◌+◌, ◌*◌, ◌≤◌, true, false, None, List, [], ◌∷◌, ◌++◌, length, Result, Ok, Err}
 use Rattle.fts_tables.specs.SettingsData.{SettingsData}
 use Rattle.fts_tables.specs.Tables.{Tables}
 use Rattle.fts_tables.specs.History.{tables_of, IsLegal}
 use Rattle.fts_tables.specs.declared.commands.Entry.{Entry}
 use Rattle.fts_tables.specs.declared.commands.Command.TheVariants.{Restart}
 use Rattle.fts_record.specs.Spelling.{spelled}
-use Rattle.fts_record.specs.Proper.{IsProper}
 use Rattle.fts_tables.specs.Counts.{Rose}
 use Rattle.fts_disk.specs.Disk.{DiskState, IsTold, LeavesOnly}
 use Rattle.fts_journal.specs.Loading.{IsQuiet}
 use Rattle.fts_journal.specs.Journal.{IsMaking}
-use Rattle.fts_keep.specs.Keeps.{KeepData, HoldsList, StandsFor, used_of, IsImageSince}
+use Rattle.fts_keep.specs.Keeps.{KeepData, IsFilledBy, HoldsList, StandsFor, used_of, IsImageSince}
 use Rattle.fts_keep.specs.Damage.{IsWhole, IsDamaged}
 use Rattle.fts_keep.specs.Applied.{entry_by, fits}
 use Rattle.fts_keep.specs.Ending.{KeepsFirstLimit}
@@ -65,10 +64,10 @@ pub record StartsOver {D : Type 0} (state : D → DiskState) (faults : D → ℕ
   pub counted : keep.commands ≡ length opening + 1
   pub before : ℕ
   pub least : 8 + 6 * length opening ≤ before
-  pub proper : All IsProper opening
   pub fills : before ≡ used_of opening
   pub room : fits before (restart_at now settings) ≡ true
   pub filled : keep.used ≡ before + 5 + length (spelled (restart_at now settings))
+  pub over : IsFilledBy keep (restarted opening now settings)
   -- with the Restart the list keeps the first limit, where it did without
   pub limit : KeepsFirstLimit opening → KeepsFirstLimit (restarted opening now settings)
   pub sure : keep.in_doubt ≡ false

@@ -6,7 +6,7 @@ ghost use Rattle.fts_tables.specs.declared.limits.TheConstants.{JOURNAL_END, MAX
 ghost use Rattle.fts_record.specs.Spelling.{spelled};
 ghost use Rattle.fts_record.specs.Proper.{IsProper, has_priority};
 ghost use Rattle.fts_keep.specs.Applied.{Checks};
-ghost use Rattle.fts_keep.specs.Ending.{IsProperWhereFull};
+ghost use Rattle.fts_keep.specs.Ending.{ShowsProper};
 
 use crate::KeepFault;
 use crate::limits::journal_limit;
@@ -33,7 +33,7 @@ pub fn check(
     ensures body { IfOk result (λ checked. checked.1.items ≡ spelled entry.now) }
     ensures proper { OnOk result (IsProper entry.now) }
     ensures short { OnOk result (length (spelled entry.now) ≤ MAX_BODY_BYTES) }
-    ensures full { IsProperWhereFull entry.now result }
+    ensures shows { ShowsProper entry.now result }
 {
     let plan = match desk.prepare(&entry.command) {
         Ok(plan) => plan,

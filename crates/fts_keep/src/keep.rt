@@ -7,7 +7,7 @@ ghost use Rattle.fts_tables.specs.Settling.{settles};
 ghost use Rattle.fts_tables.specs.declared.commands.Entry.{Entry};
 ghost use Rattle.fts_record.specs.Proper.{has_priority};
 ghost use Rattle.fts_keep.specs.Applied.{Applied, AppliesSafely, DoubtIsOwn, entry_by};
-ghost use Rattle.fts_keep.specs.Ending.{KeepsFirstLimit, LeavesRoom, IsNotFull};
+ghost use Rattle.fts_keep.specs.Ending.{KeepsFirstLimit, LeavesRoom, IsNotFull, StaysFilled};
 ghost use Rattle.fts_keep.specs.Started.{Started, Viewed};
 
 use crate::KeepFault;
@@ -55,7 +55,7 @@ impl<D: Disk> Model for Keep<D> {
 impl<D: Disk> Keep<D> {
     ghost use Rattle.std.specs.Prelude.{◌≡◌, ◌≢◌, [], IsSome, IfOk, IfErr, IsTrue, Ok, Err};
     ghost use Rattle.fts_disk.specs.Disk.{IsTold};
-    ghost use Rattle.fts_keep.specs.Keeps.{IsOver, IsKeep, Grows, DoubtHasCause, KeepsImagesSinceAny};
+    ghost use Rattle.fts_keep.specs.Keeps.{with_doubt, IsOver, IsKeep, Grows, DoubtHasCause, KeepsImagesSinceAny};
 
     /// Makes a journal on an empty disk, or folds the one that is there, and then has a Restart of writer 0 accepted.
     /// `now` is in seconds since 1970. Gives the disk back where it isn't started; `Rule` never comes.
@@ -107,9 +107,11 @@ impl<D: Disk> Keep<D> {
         // Since any opening of the list each image is a beginning of it, with one entry more at most.
         ensures images { KeepsImagesSinceAny D.state self.old self.new }
         // The journal's end strands nobody: behind a list that leaves room, what settles something isn't refused for want of it. The list is the
-        // keep's own, or any that the keep may be of; its own keeps the first limit from call to call.
+        // keep's own, or any that the keep may be of; its own, with the entry in doubt, keeps the first limit from call to call.
         ensures room { (entries : List Entry) → IsOver D.state self.old entries → LeavesRoom entries → settles command ≡ true → IsNotFull result }
-        ensures limit { IsTold (D.state self.old.disk) → KeepsFirstLimit self.old.entries → KeepsFirstLimit self.new.entries }
+        ensures limit { IsTold (D.state self.old.disk) → KeepsFirstLimit (with_doubt self.old.entries self.old.doubt)
+            → KeepsFirstLimit (with_doubt self.new.entries self.new.doubt) }
+        ensures filled { StaysFilled self.old self.new (entry_by writer command) result }
     {
         the_end_strands_nobody();
         let entry = Entry { writer, command };

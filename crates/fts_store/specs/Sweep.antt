@@ -1,10 +1,12 @@
 -- What a store in a folder does with the parts that were left there: the names that it reads decide which calls follow.
-use Rattle.std.specs.Prelude.{ℕ, ◌&&◌, nat_le, not, Bool, List, [], ◌∷◌, ◌++◌, filter, drop, codes, bytes_eq, nat_eq}
+use Rattle.std.specs.Prelude.{ℕ, ◌&&◌, nat_le, not, Bool, Option, Result, List, [], ◌∷◌, ◌++◌, filter, drop, codes, bytes_eq, nat_eq}
 use Rattle.std.specs.List.{list_all, starts_with}
 use Rattle.fts_tables.specs.Names.{segments}
+use Rattle.fts_files.specs.Calls.{Call}
 use Rattle.fts_files.specs.Making.{removes_stale}
 use Rattle.fts_files.specs.Script.{Script}
 use Rattle.fts_store.specs.Folder.{is_name}
+use Rattle.fts_store.specs.FolderCalls.{UpToMemory}
 use Rattle.fts_store.specs.Listing.{below_in, lists, lists_root}
 
 -- a decimal digit
@@ -40,3 +42,7 @@ sweeps_each root (name ∷ names) next = sweeps_one root name (sweeps_each root 
 -- those of all folders below the root, by the names that are read there
 abbrev pub sweeps : List ℕ → Script → Script
 sweeps root next = lists_root root (λ names. sweeps_each root (filter stays_below names) next)
+
+-- these calls were made, or memory was missing behind some of them
+pub record Sweeps {T E : Type 0} (root : List ℕ) (result : Result T E) (old new : Option (List Call)) : Type 0 where
+  pub script : (next : Script) → UpToMemory result (sweeps root next) (λ done. next) old new

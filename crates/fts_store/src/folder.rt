@@ -178,9 +178,9 @@ impl<F: FileSystem + Drop> FolderStore<F> {
     ghost use Rattle.fts_files.specs.Script.{Script, LeadsTo, either, fails};
     ghost use Rattle.fts_store.specs.Store.{place_at};
     ghost use Rattle.fts_store.specs.Folder.{folder_faults, stays_inside};
-    ghost use Rattle.fts_store.specs.Sweep.{sweeps};
+    ghost use Rattle.fts_store.specs.Sweep.{Sweeps};
     ghost use Rattle.fts_store.specs.Meeting.{Meets};
-    ghost use Rattle.fts_store.specs.FolderCalls.{OpenMoved, IsUnasked, UpToMemory, sizes_in, opens_in, reads_in, creates_in, appends_in, removes_in, with_opened, part_end, part_handle};
+    ghost use Rattle.fts_store.specs.FolderCalls.{OpenMoved, IsUnasked, sizes_in, opens_in, reads_in, creates_in, appends_in, removes_in, with_opened, part_end, part_handle};
 
     /// A store in a folder of these files, which is made once a file is.
     pub fn over(files: F, alloc: Global, root: String) -> FolderStore<F>
@@ -203,8 +203,7 @@ impl<F: FileSystem + Drop> FolderStore<F> {
     /// or taken away is left, and counts no failure. Where memory is missing it ends early, and that alone is the error.
     pub fn sweep(&mut self) -> Result<(), AllocError>
         ensures faults { folder_faults self.new ≡ folder_faults self.old }
-        ensures swept { (next : Script) → UpToMemory result (sweeps (string_bytes self.old.root) next) (λ done. next)
-            (F.calls self.old.files) (F.calls self.new.files) }
+        ensures swept { Sweeps (string_bytes self.old.root) result (F.calls self.old.files) (F.calls self.new.files) }
     {
         sweep(&mut self.files, self.alloc, self.root.as_str())
     }

@@ -1,5 +1,5 @@
 //! Parts that were left: by a copy that ended otherwise than verified, or by a service that was ended.
-//! Keeps: the names that are read decide the calls (`sweeps`). Each part in the folder of parts of each folder below the root loses its name, where
+//! Keeps: the names that are read decide the calls (`Sweeps`). Each part in the folder of parts of each folder below the root loses its name, where
 //! it is a plain file that no run holds, and nothing else does. What can't be read or taken away is left, and so is all that follows where memory
 //! is missing. Called by `FolderStore::sweep`, once at a start.
 ghost use Rattle.std.specs.Prelude.{◌≡◌, if◌then◌else◌, IfOk, drop, filter, map, string_bytes};
@@ -8,7 +8,7 @@ ghost use Rattle.fts_files.specs.Making.{removes_stale};
 ghost use Rattle.fts_files.specs.Script.{Script};
 ghost use Rattle.fts_store.specs.FolderCalls.{UpToMemory};
 ghost use Rattle.fts_store.specs.Listing.{below_in};
-ghost use Rattle.fts_store.specs.Sweep.{is_digit, is_part_name, stays_below, parts_in, clears_each, sweeps_one, sweeps_each, sweeps};
+ghost use Rattle.fts_store.specs.Sweep.{is_digit, is_part_name, stays_below, parts_in, clears_each, sweeps_one, sweeps_each, Sweeps};
 
 use crate::inside::are_names;
 use crate::listing::{below, list, list_root};
@@ -128,7 +128,7 @@ pub(crate) fn sweep<F: FileSystem>(
     alloc: Global,
     root: &str,
 ) -> Result<(), AllocError>
-    ensures { (next : Script) → UpToMemory result (sweeps root.now next) (λ done. next) (F.calls files.old) (F.calls files.new) }
+    ensures { Sweeps root.now result (F.calls files.old) (F.calls files.new) }
 {
     let names = list_root(files, alloc, root)?;
     sweep_folders(files, alloc, root, names.as_slice())
