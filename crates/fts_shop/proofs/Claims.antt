@@ -1,6 +1,5 @@
 -- What a worker's step came to: a claimed file has its row, so the order of its copy comes with it.
-use Rattle.std.proofs.Common.{◌≡◌, refl, sym, ap, ◌∙◌, subst, ℕ, ◌+◌, ◌==◌, max, Bool, true, false, cond, List, [], ◌∷◌, ◌++◌, append_assoc, map, Option, Some, None, option_map, IsSome, IsTrue, Result, Ok, Err}
-use Rattle.std.proofs.lemmas.List.Elements.{All-append}
+use Rattle.std.proofs.Common.{◌≡◌, refl, sym, ap, ◌∙◌, subst, ℕ, ◌+◌, ◌==◌, max, Bool, true, false, cond, List, [], ◌∷◌, map, Option, Some, None, option_map, IsSome, IsTrue, Result, Ok, Err}
 use Rattle.fts_tables.specs.Tables.{Tables, AreWellFormed, is_submitted, row_at}
 use Rattle.fts_tables.specs.Choice.{pick}
 use Rattle.fts_tables.specs.Moves.{change_row, claimed}
@@ -11,17 +10,15 @@ use Rattle.fts_tables.specs.declared.commands.Entry.{Entry}
 use Rattle.fts_tables.specs.declared.commands.Command.TheVariants.{Claim}
 use Rattle.fts_tables.specs.declared.commands.Answer.{Answer}
 use Rattle.fts_tables.specs.declared.commands.Answer.TheVariants.{Restarted, Submitted, Cancelled, PrioritySet, Claimed, Reported, Banned, Unbanned, Expired}
-use Rattle.fts_turnstile.specs.History.{AllName}
 use Rattle.fts_keep.specs.Keeps.{KeepData, IsKeep}
 use Rattle.fts_keep.specs.Applied.{Applied, entry_by}
 use Rattle.fts_keep.specs.declared.fault.KeepFault.{KeepFault}
 use Rattle.fts_keep.specs.declared.fault.KeepFault.TheVariants.{Rule, DiskFailed, JournalFull, Damaged, Memory}
 use Rattle.fts_workers.specs.Copies.{order_in}
 use Rattle.fts_workers.specs.ClaimSteps.{AnswersClaim, AnswersExpiry, FollowsExpiry, IsClaimStep, goes_on}
-use Rattle.fts_shop.specs.Shops.{step_answer, writer_of}
+use Rattle.fts_shop.specs.Shops.{step_answer}
 use Rattle.fts_shop.specs.Within.{HasOrder, order_claimed}
 use Rattle.fts_shop.proofs.Answered.{step_of, same_done}
-use Rattle.fts_shop.proofs.Rows.{all_name}
 use Rattle.fts_disk.specs.declared.disk.Disk as disk
 
 -- a row of an id is there still once rows were changed that keep their ids
@@ -127,23 +124,3 @@ module _ {D : Type 0} (disks : disk.Ghosts D) (old new : KeepData D) (writer now
           → HasOrder (step_answer expiry tried) (order_claimed new.tables (step_answer expiry tried))
       by None follows = expiry_order new.tables expiry stepped.expired.answers
       by (Some result) follows = has_order disks stepped.between new writer now word formed waited stepped.kept result follows.1.claim.tried.applied
-
-  -- it adds entries of its writer alone
-  pub added_of_step : (added : List Entry) × ((new.entries ≡ old.entries ++ added) × AllName writer_of writer added)
-  added_of_step = by claim stepped.follows
-    where
-      by : (tried : Option (Result Answer KeepFault)) → FollowsExpiry disks.state disks.faults writer stepped.between new now word expiry tried
-          → (added : List Entry) × ((new.entries ≡ old.entries ++ added) × AllName writer_of writer added)
-      by None follows =
-          let first = stepped.expired.tried.keeps.grows in
-          (first.added, (ap (λ (k : KeepData D). k.entries) follows.1 ∙ first.appended, all_name writer first.added first.by))
-      by (Some result) follows =
-          let first = stepped.expired.tried.keeps.grows in
-          let second = follows.1.claim.tried.keeps.grows in (
-            first.added ++ second.added,
-            (
-              second.appended ∙ ap (λ list. list ++ second.added) first.appended ∙ append_assoc old.entries first.added second.added,
-              all_name writer (first.added ++ second.added)
-                  (All-append (λ (entry : Entry). entry.writer ≡ writer) first.added second.added first.by second.by),
-            ),
-          )
