@@ -1,10 +1,9 @@
 -- The last turn of all, and who took it.
-use Rattle.std.proofs.Common.{◌≡◌, ◌≢◌, refl, sym, ap, ◌∙◌, subst, inl, inr, ⊎_elim, ℕ, zero, suc, ◌+◌, ◌<◌, ◌≤◌, Bool, true, false, List, [], ◌∷◌, ◌++◌, append_assoc, arith}
+use Rattle.std.proofs.Common.{◌≡◌, ◌≢◌, refl, sym, ap, ◌∙◌, subst, inl, inr, ⊎_elim, ℕ, zero, suc, ◌+◌, ◌<◌, ◌≤◌, Bool, true, false, List, [], ◌∷◌, ◌++◌, arith}
 use Rattle.std.specs.Prelude.{◌⊎◌, ◌==◌}
 use Rattle.fts_tables.specs.declared.commands.Entry.{Entry}
 use Rattle.fts_turnstile.specs.declared.turn.Turn.{Turn}
-use Rattle.fts_turnstile.specs.History.{AllGiven, Among, NoneBy, items_of}
-use Rattle.fts_shop.specs.Looked.{items_on}
+use Rattle.fts_turnstile.specs.History.{AllGiven, Among, NoneBy}
 use Rattle.fts_serving.proofs.Open.{has_turn, there}
 
 -- a number is within a bound, or above it

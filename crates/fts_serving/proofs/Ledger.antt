@@ -48,7 +48,7 @@ use Rattle.fts_ledger.specs.Claims.{IsOut, IsOwn, last_claim}
 use Rattle.fts_ledger.specs.Ledger.{AreFresh, FollowsOwn, KeepsItsFiles, KeepsLedger, MayKeep}
 use Rattle.fts_ledger.specs.Reports.{AddsAsked, AddsWork, HasNoRestart, IsUndisturbed, ReportsOwn}
 use Rattle.fts_serving.specs.Ends.{AreDrained, IsOpenedBy, KeepTheLedger, KeepsOwn, LeavesNothing}
-use Rattle.fts_serving.proofs.Last.{HasLast, given_last, items_to, last_of, last_or_behind, last_there, none_above, none_among, none_last, not_behind, within}
+use Rattle.fts_serving.proofs.Last.{HasLast, given_last, last_of, last_or_behind, last_there, none_above, none_among, none_last, not_behind, within}
 use Rattle.fts_serving.proofs.Open.{LaneTurns, Rules, has_turn, none_open, open_all, open_behind, open_lanes, own_turn, there_behind}
 use Rattle.fts_serving.proofs.Own.{asked_none, named_back, none_items}
 use Rattle.fts_serving.proofs.Seats.{At, Seat, booths_given, drop_given, each_idle, each_weaker, each_with, giver_from, seat_at, seats, seen_behind, stations_given}
