@@ -3,7 +3,7 @@ use Rattle.std.proofs.Common.{◌≡◌, ◌+◌, Bool, take}
 use Rattle.std.specs.Prelude.{count_by}
 use Rattle.fts_index.specs.Links.{Link}
 use Rattle.fts_index.specs.LiveLinks.{live_links}
-use Rattle.fts_desk.proofs.loads.count_new.Given as goal
+use Rattle.fts_desk.proofs.counts.count_new.Given as goal
 
 abbrev pub invariant-loop-row : goal.invariant-loop-row
 invariant-loop-row l = record {
