@@ -1,14 +1,16 @@
 -- An accepted command keeps the bounds of the lists, with one command more.
 use Rattle.std.proofs.Common.{◌≡◌, ℕ, suc, ◌+◌, ◌<◌, ◌≤◌, Bool, true, false, cond, List, [], ◌∷◌, ◌++◌, length, map, Option, Some, None, Ok, Err, refl, ◌∙◌, arith, subst, length-append}
-use Rattle.std.specs.Prelude.{max, not, ◌&&◌, ◌||◌, ◌==◌, nat_lt, min, option_and_then, if◌then◌else◌}
+use Rattle.std.specs.Prelude.{max, not, ◌&&◌, ◌||◌, ◌==◌, nat_lt, min, option_and_then, is_some, if◌then◌else◌}
 use Rattle.std.specs.List.{list_any}
 use Rattle.std.proofs.lemmas.Bool.{ltb-true, ltb-false}
 use Rattle.std.proofs.lemmas.List.{length-map}
 use Rattle.fts_tables.specs.JobData.{JobData}
 use Rattle.fts_tables.specs.Tables.{Tables, is_submitted, is_active, is_finished, is_failed, is_not_used, job_at, row_at, rows_of_job, number_of_id}
 use Rattle.fts_tables.specs.Choice.{pick, next_alternative}
-use Rattle.fts_tables.specs.Moves.{change_row, submitted, canceled, claimed, is_retryable, reported_failure, reported_without_cancel, reported, submit_if_not_used, followed_finish, submit_chosen, followed_failure, followed, cancelled, is_cancellable, is_settled_job, new_rows, rows_of_kind, job_of_new, rows_of_new}
-use Rattle.fts_tables.specs.Step.{Outcomes, step, released, submit_by, submit_within, add_job, with_rows, cancel_rows, cancel_row, cancel_one, cancel_file, with_priority, set_priority, claim, report_of, report}
+use Rattle.fts_tables.specs.Moves.{change_row, submitted, canceled, claimed, is_retryable, reported_failure, reported_without_cancel, reported, submit_if_not_used, followed_finish, submit_chosen, followed_failure, followed, cancelled, cancelled_for, canceled_for, is_cancellable, is_settled_job, new_rows, rows_of_kind, job_of_new, rows_of_new}
+use Rattle.fts_tables.specs.Limits.{endpoint_at, is_banned}
+use Rattle.fts_tables.specs.Waits.{is_overdue, waits_at, goes_with, rows_cancelled, count_cancelled}
+use Rattle.fts_tables.specs.Step.{Outcomes, step, released, submit_by, submit_within, add_job, with_rows, cancel_rows, cancel_row, cancel_one, cancel_file, with_priority, set_priority, claim, report_of, report, ban, ban_and_cancel, ban_only, unban, expire, with_ban, without_ban}
 use Rattle.fts_tables.specs.History.{IsAccepted, tables_after}
 use Rattle.fts_tables.specs.declared.limits.TheConstants.{MAX_JOBS, MAX_ROWS, LAST_MOMENT}
 use Rattle.fts_tables.specs.declared.rows.NewFile.{NewFile}
@@ -18,13 +20,14 @@ use Rattle.fts_tables.specs.declared.rows.JobKind.{JobKind}
 use Rattle.fts_tables.specs.declared.rows.JobKind.TheVariants.{Plain, Replica, Multihop}
 use Rattle.fts_tables.specs.declared.rows.FileState.{FileState}
 use Rattle.fts_tables.specs.declared.rows.FileState.TheVariants.{Submitted, Failed, NotUsed}
-use Rattle.fts_tables.specs.declared.rows.Reason.TheVariants.{Ended}
+use Rattle.fts_tables.specs.declared.rows.Reason.{Reason}
+use Rattle.fts_tables.specs.declared.rows.Reason.TheVariants.{Ended, Cancelled as CancelledReason, Expired as ExpiredReason}
 use Rattle.fts_tables.specs.declared.rows.Outcome.{Outcome}
 use Rattle.fts_tables.specs.declared.rows.Outcome.TheVariants.{Verified, SourceMissing, DestinationExists, SourceSize, SourceDigest, ReadBackDiffers, StoreFailed, Stopped}
 use Rattle.fts_tables.specs.declared.commands.Command.{Command}
-use Rattle.fts_tables.specs.declared.commands.Command.TheVariants.{Restart, Submit, CancelJob, CancelFile, SetPriority, Claim, Report}
-use Rattle.fts_tables.specs.declared.commands.Answer.TheVariants.{Cancelled, PrioritySet, Reported}
-use Rattle.fts_tables.specs.declared.commands.Refusal.TheVariants.{NoJob, NoFile, JobsFull, RowsFull, Stale, Unchanged}
+use Rattle.fts_tables.specs.declared.commands.Command.TheVariants.{Restart, Submit, CancelJob, CancelFile, SetPriority, Claim, Report, Ban, Unban, Expire}
+use Rattle.fts_tables.specs.declared.commands.Answer.TheVariants.{Cancelled, PrioritySet, Reported, Banned, Unbanned, Expired}
+use Rattle.fts_tables.specs.declared.commands.Refusal.TheVariants.{NoJob, NoFile, JobsFull, RowsFull, Idle, Stale, Unchanged, NoStorage, NotBanned}
 use Rattle.fts_desk.specs.Bounds.{IsFileCount, HaveFiles, AreCounted, AreBounded, BringsFiles}
 use Rattle.fts_desk.specs.Cancels.{cancelled_of}
 use Rattle.fts_desk.specs.Standing.{prioritized}
@@ -161,14 +164,18 @@ released-attempt row = by_test (is_active row.state) row.cancel_asked
     by_test true false = refl
     by_test false asked = refl
 
--- a cancellation counts no attempt
-cancelled-attempt : KeepsAttempt cancelled
-cancelled-attempt row = by_test (is_submitted row.state || is_not_used row.state) (is_active row.state)
+-- a cancellation counts no attempt, whatever its reason
+cancelled_for-attempt : (reason : Reason) → KeepsAttempt (cancelled_for reason)
+cancelled_for-attempt reason row = by_test (is_submitted row.state || is_not_used row.state) (is_active row.state)
   where
-    by_test : (waits active : Bool) → (cond waits (canceled row) (cond active (record row { cancel_asked = true }) row)).attempt ≡ row.attempt
+    by_test : (waits active : Bool) → (cond waits (canceled_for reason row) (cond active (record row { cancel_asked = true }) row)).attempt ≡ row.attempt
     by_test true active = refl
     by_test false true = refl
     by_test false false = refl
+
+-- nor does it where it was asked
+cancelled-attempt : KeepsAttempt cancelled
+cancelled-attempt = cancelled_for-attempt CancelledReason
 
 -- nor does it of a row of one job alone
 cancelled_of-attempt : (number : ℕ) → KeepsAttempt (cancelled_of number)
@@ -377,6 +384,48 @@ module _ (tables : Tables) (commands now : ℕ) (bounds : AreBounded commands ta
       by_job None = tt
       by_job (Some job) = by_test job (is_active row.state && (row.attempt == attempt))
 
+  -- files that pass a test are cancelled
+  bounded_some_cancelled : (reason : Reason) (test : FileRow → Bool)
+      → AreBounded (suc commands) tables.jobs (rows_cancelled reason tables.jobs test tables.rows)
+  bounded_some_cancelled reason test =
+      bounded_same (suc commands) tables.jobs (λ row. if goes_with tables.jobs tables.rows test row then cancelled_for reason row else row)
+      (λ row. by_test row (goes_with tables.jobs tables.rows test row)) tables.rows (bounded_later commands tables.jobs tables.rows bounds)
+    where
+      by_test : (row : FileRow) (answer : Bool) → (cond answer (cancelled_for reason row) row).attempt ≡ row.attempt
+      by_test row true = cancelled_for-attempt reason row
+      by_test row false = refl
+
+  -- a ban
+  bounded_ban : (storage : List ℕ) (cancel : Bool) → BoundedAfter (suc commands) (ban tables now storage cancel)
+  bounded_ban storage cancel = by_test (is_some (endpoint_at tables.settings storage)) cancel
+    where
+      by_test : (answer cancel : Bool) → BoundedAfter (suc commands)
+          (cond {A = Outcomes} answer (cond {A = Outcomes} cancel (ban_and_cancel tables now storage) (ban_only tables now storage)) (Err NoStorage))
+      by_test true true = bounded_some_cancelled CancelledReason (waits_at storage)
+      by_test true false = bounded_later commands tables.jobs tables.rows bounds
+      by_test false cancel = tt
+
+  -- the end of a ban
+  bounded_unban : (storage : List ℕ) → BoundedAfter (suc commands) (unban tables now storage)
+  bounded_unban storage = by_test (is_banned tables.banned storage)
+    where
+      by_test : (answer : Bool) → BoundedAfter (suc commands)
+          (cond {A = Outcomes} answer (Ok (record tables { moment = now; banned = without_ban tables.banned storage }, Unbanned)) (Err NotBanned))
+      by_test true = bounded_later commands tables.jobs tables.rows bounds
+      by_test false = tt
+
+  -- an expiry
+  bounded_expire : BoundedAfter (suc commands) (expire tables now)
+  bounded_expire = by_test (list_any (is_overdue tables.jobs now) tables.rows)
+    where
+      by_test : (answer : Bool) → BoundedAfter (suc commands)
+          (cond {A = Outcomes} answer (Ok (
+            with_rows tables now (rows_cancelled ExpiredReason tables.jobs (is_overdue tables.jobs now) tables.rows),
+            Expired (count_cancelled tables.jobs (is_overdue tables.jobs now) tables.rows),
+          )) (Err Idle))
+      by_test true = bounded_some_cancelled ExpiredReason (is_overdue tables.jobs now)
+      by_test false = tt
+
   -- what is done to a job that may be missing
   bounded_job : (act : JobRow → Outcomes) → ((job : JobRow) → BoundedAfter (suc commands) (act job)) → (found : Option JobRow)
       → BoundedAfter (suc commands) (elim found [ None ↦ Err NoJob | Some job ↦ act job ])
@@ -403,6 +452,9 @@ bounded_step tables commands (Claim now word) bounds files =
     bounded_claim tables commands (max now tables.moment) bounds (pick tables (max now tables.moment) word)
 bounded_step tables commands (Report now file attempt outcome) bounds files =
     bounded_report tables commands (max now tables.moment) bounds (row_at tables.rows file) attempt outcome
+bounded_step tables commands (Ban now storage cancel) bounds files = bounded_ban tables commands (max now tables.moment) bounds storage cancel
+bounded_step tables commands (Unban now storage) bounds files = bounded_unban tables commands (max now tables.moment) bounds storage
+bounded_step tables commands (Expire now) bounds files = bounded_expire tables commands (max now tables.moment) bounds
 
 -- the tables after an accepted command keep the bounds
 pub bounds_kept : (tables : Tables) (commands : ℕ) (command : Command) → AreBounded commands tables.jobs tables.rows → BringsFiles command

@@ -78,11 +78,13 @@ no_file (Some row) is = absurd (differ is)
 -- what is found of lists that are the tables' is found of the tables
 pub file_of : (tables : Tables) (jobs : List JobRow) (rows : List FileRow) (now moment word : ℕ) (found : Option ℕ)
     → jobs ≡ tables.jobs → rows ≡ tables.rows → moment ≡ now
-    → option_map (λ (row : FileRow). row.id) (pick (record { jobs = jobs; rows = rows; moment = 0; settings = tables.settings }) moment word) ≡ found
+    → option_map (λ (row : FileRow). row.id)
+    (pick (record { jobs = jobs; rows = rows; moment = 0; settings = tables.settings; banned = tables.banned }) moment word) ≡ found
     → option_map (λ (row : FileRow). row.id) (pick tables now word) ≡ found
 file_of tables jobs rows now moment word found same_jobs same_rows same_moment is =
     let asked : List JobRow → List FileRow → ℕ → Option ℕ = λ jobs rows moment.
-    option_map (λ (row : FileRow). row.id) (pick (record { jobs = jobs; rows = rows; moment = 0; settings = tables.settings }) moment word) in
+    option_map (λ (row : FileRow). row.id)
+    (pick (record { jobs = jobs; rows = rows; moment = 0; settings = tables.settings; banned = tables.banned }) moment word) in
     sym (ap (asked jobs rows) same_moment ∙ (ap (λ rows. asked jobs rows now) same_rows ∙ ap (λ jobs. asked jobs tables.rows now) same_jobs)) ∙ is
 
 -- the row that is picked stands at the place before the file that was found
@@ -181,9 +183,9 @@ eligible_idle tables now row eligible =
     idle_waiting row.state (and_parts _ _ (and_parts _ _ (and_parts _ _ (and_parts _ _ eligible).0).0).0).0
 
 -- a row that may be claimed may run, where there is room for its destination
-pub eligible_may_run : ((jobs : List JobRow) (rows : List FileRow) (parts : ClaimParts) (place moment now : ℕ) (row : FileRow)
+pub eligible_may_run : ((jobs : List JobRow) (rows : List FileRow) (parts : ClaimParts) (banned : List (List ℕ)) (place moment now : ℕ) (row : FileRow)
     → AreNumberedFrom (λ row. row.id) 1 rows → AreTiedTo jobs rows parts → IsSettings parts.slots.settings → slice_get rows place ≡ Some row
-    → IsTrue (is_eligible (record { jobs = jobs; rows = rows; moment = moment; settings = Some parts.slots.settings }) now row)
+    → IsTrue (is_eligible (record { jobs = jobs; rows = rows; moment = moment; settings = Some parts.slots.settings; banned = banned }) now row)
     → (has_known_ends (Some parts.slots.settings) row ≡ true) × IsTrue (is_free parts.slots (link_of parts.slots.settings row))
     × IsFalse (is_busy parts.busy.places row.dest))
     → (tables : Tables) (parts : Option ClaimParts) (place now : ℕ) (row : FileRow) → AreNumberedFrom (λ row. row.id) 1 tables.rows
@@ -191,7 +193,7 @@ pub eligible_may_run : ((jobs : List JobRow) (rows : List FileRow) (parts : Clai
     → slice_get tables.rows place ≡ Some row → IsTrue (is_eligible tables now row) → MayRunIn row parts
 eligible_may_run law tables None place now row numbered tied of_settings rules room at eligible = tt
 eligible_may_run law tables (Some parts) place now row numbered tied of_settings rules room at eligible =
-    let found = law tables.jobs tables.rows parts place tables.moment now row numbered tied
+    let found = law tables.jobs tables.rows parts tables.banned place tables.moment now row numbered tied
     (subst (λ settings. IfSome settings IsSettings) (sym of_settings) rules) at
     (subst (λ settings. IsTrue (is_eligible (record tables { settings = settings }) now row)) (sym of_settings) eligible) in
     record { known = found.0; free = found.1; fresh = found.2; room = room }

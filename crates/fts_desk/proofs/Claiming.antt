@@ -4,7 +4,7 @@ use Rattle.std.specs.Prelude.{◌==◌, ◌&&◌, not, nat_le, slice_get, filter
 use Rattle.std.proofs.lemmas.Bool.{ne_eqb, eq-eqb}
 use Rattle.std.proofs.lemmas.Option.{slice_get-get_or}
 use Rattle.fts_tables.specs.Tables.{Tables, AreNumberedFrom, is_submitted, is_same_link}
-use Rattle.fts_tables.specs.Limits.{has_slots, has_known_ends, is_dest_busy, is_eligible}
+use Rattle.fts_tables.specs.Limits.{has_slots, has_banned_end, has_known_ends, is_dest_busy, is_eligible}
 use Rattle.fts_tables.specs.Choice.{least, is_link_before, pick_of_link, weights_of, pick}
 use Rattle.fts_tables.specs.Moves.{change_row, claimed}
 use Rattle.fts_tables.specs.Step.{claim, with_rows}
@@ -73,7 +73,13 @@ never_eligible : (tables : Tables) (now : ℕ) → tables.settings ≡ None → 
 never_eligible tables now none row =
     let before = is_submitted row.state && nat_le row.not_before now && has_slots tables row in
     let after = not (is_dest_busy tables.rows row) in
-    ap (λ settings. before && has_known_ends settings row && after) none ∙ off before after
+    let unbanned = not (has_banned_end tables.banned row) in
+    ap (λ settings. before && (unbanned && has_known_ends settings row) && after) none
+    ∙ (ap (λ ends. before && ends && after) (and_false unbanned) ∙ off before after)
+  where
+    and_false : (answer : Bool) → (answer && false) ≡ false
+    and_false true = refl
+    and_false false = refl
 
 -- so none is picked
 pub no_pick : (tables : Tables) (now word : ℕ) → tables.settings ≡ None → pick tables now word ≡ None

@@ -108,7 +108,7 @@ loads_known rows old new loaded links stay = record {
 }
 
 -- new rows of known links may count
-pub may_count_new : (rows added : List FileRow) (lists : LinkLists) → AreLoadsOf rows lists → length added ≤ 200000
+pub may_count_new : (rows added : List FileRow) (lists : LinkLists) → AreLoadsOf rows lists → length added ≤ 400000
     → are_known lists (map link_of_row added) ≡ true → MayCount (map link_of_row added) lists
 may_count_new rows added lists loaded few known = record {
   fewer = λ test. omega (arith, loaded.counts test, live-few test rows, loaded.few, length-map added link_of_row, few);
@@ -118,7 +118,7 @@ may_count_new rows added lists loaded few known = record {
 -- the loads after new rows counted
 pub loads_added : (rows added : List FileRow) (old new : LinkLists) → AreLoadsOf rows old
     → ((test : Link → Bool) → count_by test new.links ≡ count_by test old.links + count_by test (live_links added)) → new.known ≡ old.known
-    → are_known old (map link_of_row added) ≡ true → length rows + length added ≤ 200000 → AreLoadsOf (rows ++ added) new
+    → are_known old (map link_of_row added) ≡ true → length rows + length added ≤ 400000 → AreLoadsOf (rows ++ added) new
 loads_added rows added old new loaded counts known all few = record {
   counts = λ test. omega (arith, counts test, loaded.counts test, live-append test rows added);
   all_known = ap (λ links. list_all (is_among links) (map link_of_row (rows ++ added))) known
@@ -139,9 +139,9 @@ loads_are rows (row ∷ of_job) lists loaded law =
 
 -- new rows behind others, read as the rest of all
 module _ (before added all : List FileRow) (first : ℕ) (lists : LinkLists) (is : all ≡ before ++ added) (at : first ≡ length before)
-    (loaded : AreLoadsOf before lists) (known : are_known lists (map link_of_row added) ≡ true) (few : length all ≤ 200000) where
+    (loaded : AreLoadsOf before lists) (known : are_known lists (map link_of_row added) ≡ true) (few : length all ≤ 400000) where
   -- as many as are behind
-  few_added : length before + length added ≤ 200000
+  few_added : length before + length added ≤ 400000
   few_added = omega (arith, few, ap length is, length-append before added)
 
   -- they may count

@@ -117,7 +117,7 @@ recounted rows place before after was_live old new loaded at was same counts kno
       omega (arith, counts test, loaded.counts test, live-set test rows place before after at, added);
   all_known = ap (list_all (is_among new.known)) (links-set rows place before after at same)
       ∙ (ap (λ links. list_all (is_among links) (map link_of_row rows)) known ∙ loaded.all_known);
-  few = subst (λ count. count ≤ 200000) (sym (length-set rows place after)) loaded.few;
+  few = subst (λ count. count ≤ 400000) (sym (length-set rows place after)) loaded.few;
 }
 
 -- one row more in the front of a list

@@ -6,7 +6,7 @@ use Rattle.fts_tables.specs.declared.limits.TheConstants.{MAX_JOBS, MAX_ROWS, MA
 use Rattle.fts_tables.specs.declared.rows.FileRow.{FileRow}
 use Rattle.fts_tables.specs.declared.rows.JobRow.{JobRow}
 use Rattle.fts_tables.specs.declared.commands.Command.{Command}
-use Rattle.fts_tables.specs.declared.commands.Command.TheVariants.{Restart, Submit, CancelJob, CancelFile, SetPriority, Claim, Report}
+use Rattle.fts_tables.specs.declared.commands.Command.TheVariants.{Restart, Submit, CancelJob, CancelFile, SetPriority, Claim, Report, Ban, Unban, Expire}
 
 -- a number of files that a job may have
 abbrev pub IsFileCount : ℕ → Type 0
@@ -36,3 +36,6 @@ BringsFiles (CancelFile now job file) = Unit {0}
 BringsFiles (SetPriority now job priority) = Unit {0}
 BringsFiles (Claim now word) = Unit {0}
 BringsFiles (Report now file attempt outcome) = Unit {0}
+BringsFiles (Ban now storage cancel) = Unit {0}
+BringsFiles (Unban now storage) = Unit {0}
+BringsFiles (Expire now) = Unit {0}

@@ -1,5 +1,5 @@
 -- What a desk's fields mean, and what it keeps true of them.
-use Rattle.std.specs.Prelude.{◌≡◌, ℕ, max, ◌<◌, map, length, slice_get, Option, Some, None}
+use Rattle.std.specs.Prelude.{◌≡◌, ℕ, max, ◌<◌, Bool, List, map, length, slice_get, Option, Some, None}
 use Rattle.fts_tables.specs.Tables.{Tables}
 use Rattle.fts_tables.specs.Choice.{pick}
 use Rattle.fts_tables.specs.SettingsData.{SettingsData}
@@ -8,13 +8,14 @@ use Rattle.fts_tables.specs.History.{IsAccepted}
 use Rattle.fts_tables.specs.Laws.{IsStanding}
 use Rattle.fts_tables.specs.declared.limits.TheConstants.{MAX_COMMANDS}
 use Rattle.fts_tables.specs.declared.commands.Command.{Command}
-use Rattle.fts_tables.specs.declared.commands.Command.TheVariants.{Restart, Submit, CancelJob, CancelFile, SetPriority, Claim, Report}
+use Rattle.fts_tables.specs.declared.commands.Command.TheVariants.{Restart, Submit, CancelJob, CancelFile, SetPriority, Claim, Report, Ban, Unban, Expire}
 use Rattle.fts_desk.specs.DeskData.{DeskData}
 use Rattle.fts_desk.specs.Kept.{tables_kept, HasRoom}
 use Rattle.fts_desk.specs.Bounds.{AreBounded, BringsFiles}
 use Rattle.fts_desk.specs.declared.kept.Kept.{Kept}
 use Rattle.fts_desk.specs.declared.commands.Decided.{Decided}
 use Rattle.fts_desk.specs.declared.commands.Decided.TheVariants.{Nothing, Claim as Claimed, Restart as Restarted}
+use Rattle.fts_claims.specs.Ties.{flags_of}
 use Rattle.fts_claims.specs.Changes.{AreTiedTo}
 use Rattle.fts_claims.specs.declared.parts.ClaimParts.{ClaimParts}
 use Rattle.fts_tables.specs.declared.places.Place.{Place}
@@ -41,29 +42,33 @@ pub record IsPickedAt (tables : Tables) (now word place : ℕ) : Type 0 where
   pub inside : place < length tables.rows
   pub picked : pick tables (max now tables.moment) word ≡ slice_get tables.rows place
 
--- what a claim looks at after a restart
-pub record IsReleased (kept : Kept) (settings : SettingsData) (parts : ClaimParts) : Type 0 where
+-- what a claim looks at after a restart, and for each endpoint whether it is banned
+pub record IsReleased (kept : Kept) (settings : SettingsData) (parts : ClaimParts) (flags : List Bool) : Type 0 where
   pub tied : AreTiedTo kept.jobs.items (map released kept.rows.items) parts
   pub limits : parts.slots.settings ≡ settings
+  pub bans : flags ≡ flags_of settings kept.banned.items
 
 -- the place of the row that a claim picks, and that row's destination
 pub record IsClaimAt (kept : Kept) (now word place : ℕ) (copy : Place) : Type 0 where
   pub at : IsPickedAt (tables_kept kept) now word place
   pub dest : (row : FileRow) → slice_get kept.rows.items place ≡ Some row → row.dest ≡ copy
 
--- what was decided for a command: of a claim the place of its row and that row's destination, of a restart what a claim looks at from then on
+-- what was decided for a command: of a claim the place of its row and that row's destination, of a restart what a claim looks at from then on, with the flags
 abbrev pub IsDecided : Kept → Command → Decided → Type 0
 IsDecided kept (Restart now settings) Nothing = ⊥
 IsDecided kept (Restart now settings) (Claimed place dest) = ⊥
-IsDecided kept (Restart now settings) (Restarted parts) = IsReleased kept settings parts
+IsDecided kept (Restart now settings) (Restarted parts flags) = IsReleased kept settings parts flags.items
 IsDecided kept (Submit now job) decided = Unit {0}
 IsDecided kept (CancelJob now job) decided = Unit {0}
 IsDecided kept (CancelFile now job file) decided = Unit {0}
 IsDecided kept (SetPriority now job priority) decided = Unit {0}
 IsDecided kept (Claim now word) Nothing = ⊥
 IsDecided kept (Claim now word) (Claimed place dest) = IsClaimAt kept now word place dest
-IsDecided kept (Claim now word) (Restarted parts) = ⊥
+IsDecided kept (Claim now word) (Restarted parts flags) = ⊥
 IsDecided kept (Report now file attempt outcome) decided = Unit {0}
+IsDecided kept (Ban now storage cancel) decided = ⊥
+IsDecided kept (Unban now storage) decided = ⊥
+IsDecided kept (Expire now) decided = ⊥
 
 -- all that an accepted command needs besides: room, a job's files, and what was decided
 pub record IsPlanned (kept : Kept) (command : Command) (choice : Decided) : Type 0 where

@@ -3,7 +3,7 @@ use Rattle.std.specs.Prelude.{◌≡◌, ℕ, ◌+◌, ◌-◌, ◌<◌, ◌≤�
 use Rattle.fts_tables.specs.Tables.{Tables, job_at, row_at}
 use Rattle.fts_tables.specs.declared.limits.TheConstants.{MAX_JOBS, MAX_ROWS}
 use Rattle.fts_tables.specs.declared.commands.Command.{Command}
-use Rattle.fts_tables.specs.declared.commands.Command.TheVariants.{Restart, Submit, CancelJob, CancelFile, SetPriority, Claim, Report}
+use Rattle.fts_tables.specs.declared.commands.Command.TheVariants.{Restart, Submit, CancelJob, CancelFile, SetPriority, Claim, Report, Ban, Unban, Expire}
 use Rattle.fts_tables.specs.declared.commands.Refusal.TheVariants.{JobsFull, RowsFull}
 use Rattle.fts_desk.specs.Loaded.{are_known, link_of_file}
 use Rattle.fts_tables.specs.declared.rows.NewFile.{NewFile}
@@ -16,7 +16,13 @@ use Rattle.fts_desk.specs.declared.desk.DeskFault.TheVariants.{Rule, Memory}
 
 -- the machine's tables that these lists are
 abbrev pub tables_kept : Kept → Tables
-tables_kept kept = record { jobs = kept.jobs.items; rows = kept.rows.items; moment = kept.moment; settings = kept.settings }
+tables_kept kept = record {
+  jobs = kept.jobs.items;
+  rows = kept.rows.items;
+  moment = kept.moment;
+  settings = kept.settings;
+  banned = kept.banned.items;
+}
 
 -- no more jobs and rows than there may be
 pub record IsWithinLimits (kept : Kept) : Type 0 where
@@ -47,6 +53,9 @@ HasRoom kept (SetPriority now job priority) = Unit {0}
 HasRoom kept (Claim now word) = HasRoomToRun kept.beside.parts
 HasRoom kept (Report now file attempt outcome) = (row : FileRow) (job : JobRow) → row_at kept.rows.items file ≡ Some row
     → job_at kept.jobs.items row.job ≡ Some job → HasRoomToReport job (file - 1) kept.rows.items kept.beside.parts
+HasRoom kept (Ban now storage cancel) = length kept.banned.items + 1 ≤ vec_capacity kept.banned
+HasRoom kept (Unban now storage) = Unit {0}
+HasRoom kept (Expire now) = Unit {0}
 
 -- the limits on the numbers of jobs and rows, in the order of the machine's refusals; want of memory where both leave room
 abbrev pub IsRoomFor : ℕ → ℕ → ℕ → Result (Unit {0}) DeskFault → Type 0

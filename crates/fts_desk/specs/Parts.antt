@@ -1,5 +1,5 @@
 -- What a claim looks at, beside the rows: there from the first Restart on, tied to the rows and jobs, with room for what a command may add.
-use Rattle.std.specs.Prelude.{◌≡◌, ◌≢◌, ℕ, ◌+◌, ◌-◌, ◌<◌, ◌≤◌, true, List, length, slice_get, Option, Some, None, option_map, IfSome}
+use Rattle.std.specs.Prelude.{◌≡◌, ◌≢◌, ℕ, ◌+◌, ◌-◌, ◌<◌, ◌≤◌, Bool, true, List, [], length, slice_get, Option, Some, None, option_map, IfSome}
 use Rattle.fts_tables.specs.SettingsData.{SettingsData}
 use Rattle.fts_tables.specs.Limits.{has_known_ends}
 use Rattle.fts_tables.specs.declared.rows.FileRow.{FileRow}
@@ -9,6 +9,7 @@ use Rattle.fts_tables.specs.declared.rows.JobKind.{JobKind}
 use Rattle.fts_tables.specs.declared.rows.JobKind.TheVariants.{Plain}
 use Rattle.fts_states.specs.declared.reports.Follow.{Follow}
 use Rattle.fts_states.specs.declared.reports.Follow.TheVariants.{Nothing, NextHop, NextAlternative}
+use Rattle.fts_claims.specs.Ties.{flags_of}
 use Rattle.fts_claims.specs.Changes.{AreTiedTo, HasQueueRoom, IsSameRoom, HaveAtMostMore, HasRoomForFiles, HasRoomForRows, HasRoomsRisen, MayWait, MayRun}
 use Rattle.fts_claims.specs.declared.parts.ClaimParts.{ClaimParts}
 use Rattle.fts_desk.specs.Loaded.{AreLoadsOf}
@@ -17,6 +18,11 @@ use Rattle.fts_desk.specs.declared.kept.Beside.{Beside}
 -- the settings that the slots are of, where there are any
 abbrev pub limits_of : Option ClaimParts → Option SettingsData
 limits_of parts = option_map (λ (parts : ClaimParts). parts.slots.settings) parts
+
+-- for each endpoint of the settings, by its place, whether it is banned: nothing before the first Restart
+abbrev pub flags_in : Option SettingsData → List (List ℕ) → List Bool
+flags_in None banned = []
+flags_in (Some settings) banned = flags_of settings banned
 
 -- what a claim looks at is tied to these jobs and rows
 abbrev pub AreTiedParts : List JobRow → List FileRow → Option ClaimParts → Type 0

@@ -29,9 +29,10 @@ ghost use Rattle.fts_tables.specs.declared.commands.Answer.TheVariants.{Claimed}
 ghost use Rattle.fts_tables.specs.declared.rows.FileRow.{FileRow};
 ghost use Rattle.fts_tables.specs.declared.rows.JobRow.{JobRow};
 ghost use Rattle.fts_tables.specs.declared.limits.TheConstants.{MAX_COMMANDS};
+ghost use Rattle.fts_claims.specs.Ties.{flags_of};
 ghost use Rattle.fts_claims.specs.Changes.{AreTiedTo};
 ghost use Rattle.fts_desk.specs.Kept.{tables_kept};
-ghost use Rattle.fts_desk.specs.Parts.{limits_of, AreTiedParts, HasRoomToRun, MayRunIn};
+ghost use Rattle.fts_desk.specs.Parts.{limits_of, flags_in, AreTiedParts, HasRoomToRun, MayRunIn};
 ghost use Rattle.fts_desk.specs.Prepared.{IsPrepared};
 
 use crate::DeskFault;
@@ -45,12 +46,13 @@ use fts_tables::laws::{picked_rows_are_eligible, picked_rows_stand};
 use fts_tables::{Answer, FileRow, FileState, JobRow, Memory, Place, Refusal, Settings};
 use std::alloc::Global;
 
-/// The file that a claim takes now, over what stands beside these rows.
+/// The file that a claim takes now, over what stands beside these rows, where these flags are of the banned storages.
 fn pick_file(
     parts: &mut ClaimParts,
     settings: &Settings,
     jobs: &[JobRow],
     rows: &[FileRow],
+    flags: &[bool],
     moment: u64,
     word: u64,
 ) -> Option<u32>
@@ -59,8 +61,8 @@ fn pick_file(
     requires tied { AreTiedTo jobs.now rows.now parts.old }
     ensures tied { AreTiedTo jobs.now rows.now parts.new }
     ensures settings { parts.new.slots.settings ≡ settings.now }
-    ensures file { option_map (λ row. row.id)
-        (pick (record { jobs = jobs.now; rows = rows.now; moment = 0; settings = Some settings.now }) moment word) ≡ result }
+    ensures file { (banned : List (List ℕ)) → flags.now ≡ flags_of settings.now banned → option_map (λ row. row.id)
+        (pick (record { jobs = jobs.now; rows = rows.now; moment = 0; settings = Some settings.now; banned = banned }) moment word) ≡ result }
 {
     tied_rows_may_be_claimed();
     parts.waiting.ripen(moment);
@@ -71,16 +73,18 @@ fn pick_file(
         rows,
         jobs,
         settings,
+        flags,
     };
     pick_waiter(&view, word)
 }
 
-/// The file that a claim takes now, over what stands beside these rows. None exactly where no row may be claimed; without settings none may.
+/// The file that a claim takes now, over what stands beside these rows, where these flags are of the banned storages. None exactly where no row may be claimed; without settings none may.
 fn find_file(
     parts: &mut Option<ClaimParts>,
     settings: &Option<Settings>,
     jobs: &[JobRow],
     rows: &[FileRow],
+    flags: &[bool],
     moment: u64,
     word: u64,
 ) -> Option<u32>
@@ -89,12 +93,12 @@ fn find_file(
     requires tied { AreTiedParts jobs.now rows.now parts.old }
     ensures tied { AreTiedParts jobs.now rows.now parts.new }
     ensures settings { limits_of parts.new ≡ settings.now }
-    ensures file { option_map (λ row. row.id)
-        (pick (record { jobs = jobs.now; rows = rows.now; moment = 0; settings = settings.now }) moment word) ≡ result }
+    ensures file { (banned : List (List ℕ)) → flags.now ≡ flags_in settings.now banned → option_map (λ row. row.id)
+        (pick (record { jobs = jobs.now; rows = rows.now; moment = 0; settings = settings.now; banned = banned }) moment word) ≡ result }
 {
     match settings {
         Some(settings) => match parts {
-            Some(parts) => pick_file(parts, settings, jobs, rows, moment, word),
+            Some(parts) => pick_file(parts, settings, jobs, rows, flags, moment, word),
             None => None,
         },
         None => None,
@@ -147,6 +151,7 @@ pub fn find_claim(
         &kept.settings,
         &kept.jobs,
         &kept.rows,
+        &kept.flags,
         moment,
         word,
     );

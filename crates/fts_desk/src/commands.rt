@@ -15,7 +15,7 @@ ghost use Rattle.fts_desk.specs.declared.commands.Decided.TheVariants.{Nothing};
 ghost use Rattle.fts_desk.specs.Prepared.{IsPrepared, IsChecked};
 
 use crate::kept::Kept;
-use crate::{DeskFault, cancels, claims, priority, reports, restart, submit};
+use crate::{DeskFault, bans, cancels, claims, expiries, priority, reports, restart, submit};
 use fts_claims::ClaimParts;
 use fts_tables::{Answer, Command, Memory, NewJob, Place, Refusal, Settings};
 use std::alloc::Global;
@@ -27,8 +27,8 @@ pub enum Decided {
     Nothing,
     /// Of a claim the place of its row, and a copy of the row's destination.
     Claim { place: usize, dest: Place },
-    /// Of a restart what a claim looks at from then on.
-    Restart { parts: ClaimParts },
+    /// Of a restart what a claim looks at from then on, and for each endpoint whether it is banned.
+    Restart { parts: ClaimParts, flags: Vec<bool> },
 }
 
 /// Checks a command and makes room for it, or says why the machine refuses it.
@@ -47,6 +47,9 @@ pub fn decide(alloc: Global, kept: &mut Kept, command: &Command) -> Result<Decid
         Command::SetPriority { job, .. } => ruled(priority::check_priority(kept, *job)),
         Command::Claim { now, word } => decide_claim(alloc, kept, *now, *word),
         Command::Report { file, attempt, .. } => decide_report(kept, *file, *attempt),
+        Command::Ban { storage, .. } => not_yet(bans::check_ban(kept, storage)),
+        Command::Unban { storage, .. } => not_yet(bans::check_unban(kept, storage)),
+        Command::Expire { now } => not_yet(expiries::check_expire(kept, *now)),
     }
 }
 
@@ -57,8 +60,8 @@ fn decide_restart(alloc: Global, kept: &Kept, settings: &Settings) -> Result<Dec
     ensures decided { IfOk result (λ decided. (now : ℕ) → IsDecided kept.now (Restart now settings.now) decided) }
 {
     match restart::prepare_restart(alloc, kept, settings) {
-        Ok(parts) => Ok(Decided::Restart { parts }),
-        Err(fault) => Err(fault),
+        Ok((parts, flags)) => Ok(Decided::Restart { parts, flags }),
+        Err(Memory) => Err(DeskFault::Memory),
     }
 }
 
@@ -88,6 +91,17 @@ fn decide_report(kept: &mut Kept, file: u32, attempt: u32) -> Result<Decided, De
     match reports::make_room(kept, file) {
         Ok(()) => Ok(Decided::Nothing),
         Err(Memory) => Err(DeskFault::Memory),
+    }
+}
+
+/// The refusal of a command that isn't done yet, and else want of memory.
+fn not_yet(checked: Result<(), Refusal>) -> Result<Decided, DeskFault>
+    ensures answer { (outcome : Outcomes) → IsChecked outcome checked → IsPrepared outcome result }
+    ensures none { IfOk result (λ decided. ⊥) }
+{
+    match checked {
+        Ok(()) => Err(DeskFault::Memory),
+        Err(refusal) => Err(DeskFault::Rule(refusal)),
     }
 }
 
@@ -126,7 +140,9 @@ pub fn make_step(kept: &mut Kept, decided: Decided, command: Command) -> Answer
 {
     match command {
         Command::Restart { now, settings } => match decided {
-            Decided::Restart { parts } => restart::restart(kept, now, settings, parts),
+            Decided::Restart { parts, flags } => restart::restart(
+                kept, now, settings, parts, flags,
+            ),
             Decided::Nothing | Decided::Claim { .. } => unreachable!(),
         },
         Command::Submit { now, job } => submit::submit(kept, now, job),
@@ -145,5 +161,6 @@ pub fn make_step(kept: &mut Kept, decided: Decided, command: Command) -> Answer
             attempt,
             outcome,
         } => reports::report(kept, now, file, attempt, outcome),
+        Command::Ban { .. } | Command::Unban { .. } | Command::Expire { .. } => unreachable!(),
     }
 }

@@ -4,7 +4,7 @@
 //! Order: `prepare` refuses a command or makes room for it and keeps a copy; `commit` takes the copy and makes the machine's step.
 //! Called by `fts_top`, which commits what it prepared; a caller that keeps a journal writes the command between the two.
 ghost use Rattle.std.specs.Prelude.{◌≡◌, ◌↔◌, ◌+◌, ◌<◌, ◌≤◌, [], length, None, Some, IsSome, IfSome, OnOk, OnErr, Ok, option_map};
-ghost use Rattle.fts_tables.specs.Tables.{empty_tables, number_of_id, rows_of_job, job_at};
+ghost use Rattle.fts_tables.specs.Tables.{empty_tables, number_of_id, rows_of_job, job_at, row_at};
 ghost use Rattle.fts_tables.specs.Laws.{IsStanding};
 ghost use Rattle.fts_tables.specs.Step.{step};
 ghost use Rattle.fts_tables.specs.declared.limits.TheConstants.{MAX_JOBS, MAX_ROWS, MAX_COMMANDS};
@@ -16,9 +16,12 @@ use crate::bounds::steps_keep_bounds;
 use crate::commands::{Decided, decide, make_step};
 use crate::find::number_of_id;
 use crate::kept::{Beside, Kept};
+use crate::lookups::{find_job, find_row};
 use fts_index::{JobIds, Loads};
 use fts_tables::laws::steps_keep_standing;
-use fts_tables::{Answer, Command, FileRow, JobRow, JobState, LinkAt, Memory, Refusal, Settings};
+use fts_tables::{
+    Answer, Command, EndpointName, FileRow, JobRow, JobState, LinkAt, Memory, Refusal, Settings,
+};
 use std::alloc::Global;
 use std::marker::Model;
 use std::mem;
@@ -85,7 +88,9 @@ impl Desk {
                 rows: Vec::new(alloc),
                 moment: 0,
                 settings: None,
+                banned: Vec::new(alloc),
                 ids: JobIds::new(alloc),
+                flags: Vec::new(alloc),
                 beside: Beside {
                     loads: Loads::new(alloc),
                     parts: None,
@@ -165,6 +170,27 @@ impl Desk {
         self.kept.settings.as_ref()
     }
 
+    /// The banned storages, each once, in the order of their bans.
+    pub fn banned(&self) -> &[EndpointName]
+        ensures banned { result.now ≡ self.now.tables.banned }
+    {
+        &self.kept.banned
+    }
+
+    /// The job of a number. None exactly where there is none.
+    pub fn job(&self, number: u32) -> Option<&JobRow>
+        ensures job { option_map (λ job. job.now) result ≡ job_at self.now.tables.jobs number }
+    {
+        find_job(&self.kept.jobs, number)
+    }
+
+    /// The file row of an id. None exactly where there is none.
+    pub fn row(&self, id: u32) -> Option<&FileRow>
+        ensures row { option_map (λ row. row.now) result ≡ row_at self.now.tables.rows id }
+    {
+        find_row(&self.kept.rows, id)
+    }
+
     /// The least number of a job with this id. None exactly where no job has it.
     pub fn find(&self, id: u128) -> Option<u32>
         ensures { result ≡ number_of_id self.now.tables.jobs id }
@@ -200,5 +226,12 @@ impl Desk {
         ensures standing { IsStanding self.now.tables }
     {
         self.commands
+    }
+
+    /// A law, for who reads the tables: they have the machine's form, and no limit is passed.
+    pub fn standing(&self)
+        ensures standing { IsStanding self.now.tables }
+    {
+        let _commands = self.commands;
     }
 }

@@ -2,24 +2,27 @@
 //! Each command's module has a step over them, whose contract is the machine's step over those tables.
 ghost use Rattle.std.specs.Prelude.{◌≡◌, map};
 ghost use Rattle.std.proofs.Props.{props};
-ghost use Rattle.fts_desk.specs.Parts.{limits_of, IsBeside};
+ghost use Rattle.fts_desk.specs.Parts.{limits_of, flags_in, IsBeside};
 
 use fts_claims::ClaimParts;
 use fts_index::{JobIds, Loads};
-use fts_tables::{FileRow, JobRow, Settings};
+use fts_tables::{EndpointName, FileRow, JobRow, Settings};
 
 /// What the machine's tables are made of, and beside them the jobs' ids, the loads of the links, and from the first Restart on what a claim looks
-/// at: a job is found, an alternative chosen and a file claimed without a walk over all jobs or rows.
+/// at, and whether each endpoint is banned, by its place: a job is found, an alternative chosen and a file claimed without a walk over all jobs or rows.
 pub struct Kept {
     pub jobs: Vec<JobRow>,
     pub rows: Vec<FileRow>,
     pub moment: u64,
     pub settings: Option<Settings>,
+    pub banned: Vec<EndpointName>,
     pub ids: JobIds,
+    pub flags: Vec<bool>,
     pub beside: Beside,
     ghost ids_of_jobs: { ids.ids ≡ map (λ job. job.id) jobs.items },
     ghost beside_rows: { IsBeside jobs.items rows.items beside } by { Prim.hlevel props },
     ghost of_settings: { limits_of beside.parts ≡ settings },
+    ghost of_bans: { flags.items ≡ flags_in settings banned.items },
 }
 
 impl Drop for Kept {
@@ -29,7 +32,9 @@ impl Drop for Kept {
             rows: _,
             moment: _,
             settings: _,
+            banned: _,
             ids: _,
+            flags: _,
             beside: _,
         } = self;
     }

@@ -5,11 +5,13 @@
 #![tactic(auto)]
 
 mod answers;
+mod bans;
 mod bounds;
 mod cancels;
 mod claims;
 mod commands;
 mod desk;
+mod expiries;
 mod find;
 mod kept;
 mod loads;

@@ -1,46 +1,52 @@
 //! Restart: each ACTIVE row is given up, and the settings are the new ones. It is never refused.
-//! `prepare_restart` makes what a claim looks at anew, over the rows as they will stand and under the new settings; `restart` takes no memory.
+//! `prepare_restart` makes what a claim looks at anew, over the rows as they will stand and under the new settings, and which endpoints are banned by
+//! their new places; `restart` takes no memory.
 ghost use Rattle.std.specs.Prelude.{◌≡◌, ◌≤◌, ℕ, length, map, count_by, Ok, IfOk};
 ghost use Rattle.fts_tables.specs.Tables.{AreWellFormed, is_active};
 ghost use Rattle.fts_tables.specs.Step.{step, released};
 ghost use Rattle.fts_tables.specs.declared.commands.Command.TheVariants.{Restart};
 ghost use Rattle.fts_tables.specs.declared.limits.TheConstants.{MAX_ROWS};
 ghost use Rattle.fts_desk.specs.Loaded.{AreLoadsOf};
+ghost use Rattle.fts_claims.specs.Ties.{flags_of};
 ghost use Rattle.fts_claims.specs.Changes.{AreTiedTo};
 ghost use Rattle.fts_desk.specs.Kept.{tables_kept};
-ghost use Rattle.fts_desk.specs.Prepared.{IsPrepared};
 
-use crate::DeskFault;
 use crate::kept::Kept;
 use crate::loads::recount;
-use fts_claims::ClaimParts;
+use fts_claims::{ClaimParts, new_flags};
 use fts_index::Loads;
 use fts_states::after_restart;
 use fts_tables::{Answer, FileRow, Memory, Reason, Settings};
 use std::alloc::Global;
 
-/// What a claim looks at once the run has begun.
+/// What a claim looks at once the run has begun, and the flags of the endpoints.
 pub fn prepare_restart(
     alloc: Global,
     kept: &Kept,
     settings: &Settings,
-) -> Result<ClaimParts, DeskFault>
+) -> Result<(ClaimParts, Vec<bool>), Memory>
     requires formed { AreWellFormed (tables_kept kept.now) }
-    ensures tied { IfOk result (λ parts. AreTiedTo kept.now.jobs.items (map released kept.now.rows.items) parts) }
-    ensures settings { IfOk result (λ parts. parts.slots.settings ≡ settings.now) }
-    ensures answer { (now : ℕ) → IsPrepared (step (tables_kept kept.now) (Restart now settings.now)) result }
+    ensures tied { IfOk result (λ made. AreTiedTo kept.now.jobs.items (map released kept.now.rows.items) made.0) }
+    ensures settings { IfOk result (λ made. made.0.slots.settings ≡ settings.now) }
+    ensures flags { IfOk result (λ made. made.1.items ≡ flags_of settings.now kept.now.banned.items) }
 {
-    match ClaimParts::of_released(alloc, settings, &kept.jobs, &kept.rows) {
-        Ok(parts) => Ok(parts),
-        Err(Memory) => Err(DeskFault::Memory),
-    }
+    let flags = new_flags(alloc, settings, &kept.banned)?;
+    let parts = ClaimParts::of_released(alloc, settings, &kept.jobs, &kept.rows)?;
+    Ok((parts, flags))
 }
 
-/// Begins a run with these settings, and with what a claim looks at.
-pub fn restart(kept: &mut Kept, now: u64, settings: Settings, parts: ClaimParts) -> Answer
+/// Begins a run with these settings, with what a claim looks at, and with the flags of the endpoints.
+pub fn restart(
+    kept: &mut Kept,
+    now: u64,
+    settings: Settings,
+    parts: ClaimParts,
+    flags: Vec<bool>,
+) -> Answer
     requires few { length kept.old.rows.items ≤ MAX_ROWS }
     requires tied { AreTiedTo kept.old.jobs.items (map released kept.old.rows.items) parts }
     requires settings { parts.slots.settings ≡ settings }
+    requires flags { flags.items ≡ flags_of settings kept.old.banned.items }
     ensures step { step (tables_kept kept.old) (Restart now settings) ≡ Ok (tables_kept kept.new, result) }
     ensures jobs { kept.new.jobs.items ≡ kept.old.jobs.items }
     ensures rows { length kept.new.rows.items ≡ length kept.old.rows.items }
@@ -49,6 +55,7 @@ pub fn restart(kept: &mut Kept, now: u64, settings: Settings, parts: ClaimParts)
     kept.moment = kept.moment.max(now);
     kept.settings = Some(settings);
     kept.beside.parts = Some(parts);
+    kept.flags = flags;
     Answer::Restarted { released }
 }
 

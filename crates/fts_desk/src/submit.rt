@@ -152,6 +152,7 @@ pub fn submit(kept: &mut Kept, now: u64, job: NewJob) -> Answer
         retry,
         delay,
         overwrite,
+        queue_hours,
         files,
     } = job;
     let id = id_of_new(id, number);
@@ -171,6 +172,7 @@ pub fn submit(kept: &mut Kept, now: u64, job: NewJob) -> Answer
         delay,
         overwrite,
         strategy,
+        queue_hours,
         submitted_at: kept.moment,
         first: from as u32 + 1,
         count,

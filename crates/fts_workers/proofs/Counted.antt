@@ -1,12 +1,10 @@
 -- How many claims a round makes: those of the files that are out behind it, unless it stopped at a report.
 use Rattle.std.proofs.Common.{◌≡◌, refl, ap, sym, ◌∙◌, subst, inl, inr, ℕ, zero, suc, ◌+◌, ◌-◌, ◌≤◌, Bool, true, false, cond, List, [], ◌∷◌, ◌++◌, length, max, Option, Some, None, Ok, Err, IsOk, arith}
-use Rattle.std.specs.Prelude.{◌⊎◌, ◌==◌, ◌&&◌, count_by, is_some}
-use Rattle.std.specs.List.{list_any}
+use Rattle.std.specs.Prelude.{◌==◌, ◌&&◌, count_by, is_some}
 use Rattle.std.proofs.lemmas.List.{length-append}
 use Rattle.std.proofs.lemmas.List.Sums.{sum_by-append}
 use Rattle.fts_tables.specs.Tables.{Tables, empty_tables, is_active, job_at, row_at}
 use Rattle.fts_tables.specs.Laws.{AreTheActive}
-use Rattle.fts_tables.specs.Choice.{pick}
 use Rattle.fts_tables.specs.Moves.{change_row, followed, reported}
 use Rattle.fts_tables.specs.Step.{Outcomes, step, report, report_of, with_rows}
 use Rattle.fts_tables.specs.History.{tables_of, out_of_list, out_step, claimed_file, without, IsAccepted, IsLegal}
@@ -16,12 +14,12 @@ use Rattle.fts_tables.specs.declared.rows.JobRow.{JobRow}
 use Rattle.fts_tables.specs.declared.rows.Outcome.{Outcome}
 use Rattle.fts_tables.specs.declared.commands.Entry.{Entry}
 use Rattle.fts_tables.specs.declared.commands.Answer.{Answer}
-use Rattle.fts_tables.specs.declared.commands.Answer.TheVariants.{Claimed, Reported}
+use Rattle.fts_tables.specs.declared.commands.Answer.TheVariants.{Reported}
 use Rattle.fts_tables.specs.declared.commands.Refusal.TheVariants.{Stale}
 use Rattle.fts_tables.specs.declared.commands.Command.TheVariants.{Claim, Expire, Report}
 use Rattle.fts_keep.specs.Applied.{applied_by, entry_by}
 use Rattle.fts_workers.specs.Benches.{attempt_of, held_as, kept_of, newly_held}
-use Rattle.fts_workers.specs.Rounds.{Walk, Adds, AddsNone, Claims, Expires, ExpiresAndClaims, FillsUp, FindsNoneOverdue, Reports, WorksOff, applied_at, claims_among, is_claim, report_in}
+use Rattle.fts_workers.specs.Rounds.{Walk, Claims, Expires, ExpiresAndClaims, FillsUp, Reports, WorksOff, applied_at, claims_among, is_claim, report_in}
 use Rattle.fts_workers.specs.declared.held.Held.{Held}
 use Rattle.fts_workers.specs.declared.ends.RoundEnd.{RoundEnd}
 use Rattle.fts_workers.proofs.Accepted.{legal_more}

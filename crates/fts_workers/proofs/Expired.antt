@@ -2,12 +2,12 @@
 use Rattle.std.proofs.Common.{◌≡◌, refl, ap, sym, ◌∙◌, subst, inl, inr, ℕ, ◌≤◌, List, [], ◌∷◌, ◌++◌, max, Option, None, Ok, Err, IsOk}
 use Rattle.fts_tables.specs.Counts.{Rose}
 use Rattle.fts_tables.specs.Coming.{Coming, Gives}
-use Rattle.fts_tables.specs.Tables.{Tables, AreWellFormed}
+use Rattle.fts_tables.specs.Tables.{AreWellFormed}
 use Rattle.fts_tables.specs.Laws.{AreTheActive}
-use Rattle.fts_tables.specs.Step.{step}
 use Rattle.fts_tables.specs.History.{tables_of, out_of_list, IsLegal}
 use Rattle.fts_tables.specs.declared.commands.Entry.{Entry}
 use Rattle.fts_tables.specs.declared.commands.Answer.{Answer}
+use Rattle.fts_tables.specs.declared.commands.Refusal.{Refusal}
 use Rattle.fts_tables.specs.declared.commands.Refusal.TheVariants.{Idle}
 use Rattle.fts_tables.specs.declared.commands.Command.TheVariants.{Expire}
 use Rattle.fts_disk.specs.Disk.{DiskState}
@@ -17,7 +17,7 @@ use Rattle.fts_keep.specs.declared.fault.KeepFault.{KeepFault}
 use Rattle.fts_keep.specs.declared.fault.KeepFault.TheVariants.{Rule}
 use Rattle.fts_workers.specs.Benches.{BenchData, held_as, kept_of}
 use Rattle.fts_workers.specs.Copies.{copies_kept}
-use Rattle.fts_workers.specs.Rounds.{Expires, FindsNoneOverdue, IsWorkedOver, StopsBy, applied_at}
+use Rattle.fts_workers.specs.Rounds.{Expires, IsWorkedOver, StopsBy, applied_at}
 use Rattle.fts_workers.specs.Stops.{EndsBy}
 use Rattle.fts_workers.specs.Steps.{Stand, stand, walk_of, Walks, MakesNoCopy, ExpiresOn}
 use Rattle.fts_workers.specs.declared.ends.RoundEnd.{RoundEnd}
@@ -96,9 +96,10 @@ module _ {D : Type 0} (state : D → DiskState) (faults : D → ℕ) (formed : (
         }
 
   -- no row was overdue
-  pub expired_none : Applied state faults old new the_expiry (Err (Rule Idle)) → MakesNoCopy state faults (ExpiresOn bench.places (Ok tt)) before after
-  expired_none applied =
-      let keeps = fault_keeps state faults old new the_expiry (Rule Idle) applied in
+  pub expired_none : (refusal : Refusal) → refusal ≡ Idle → Applied state faults old new the_expiry (Err (Rule refusal))
+      → MakesNoCopy state faults (ExpiresOn bench.places (Ok tt)) before after
+  expired_none refusal is applied =
+      let keeps = fault_keeps state faults old new the_expiry (Rule refusal) applied in
       stays state faults (ExpiresOn bench.places (Ok tt)) old new bench moments later words words keeps (λ entries over. λ end last rest.
       inl (
         walk_of faults (entries ++ []) after,
@@ -106,7 +107,7 @@ module _ {D : Type 0} (state : D → DiskState) (faults : D → ℕ) (formed : (
           inr (record {
             entry = the_expiry;
             tried = record { now = now; moment = moment; words = refl; is = refl; kept = refl };
-            idle = comes_at entries over ∙ applied.0;
+            idle = comes_at entries over ∙ applied.0 ∙ ap (λ (r : Refusal). Err (Rule r)) is;
             none = record { listed = none_more entries; filled = keeps.used; counts = counts };
           }),
           rest,

@@ -1,11 +1,11 @@
 -- What an expiry and a claim may be answered, and that no row is overdue behind an expiry.
-use Rattle.std.proofs.Common.{◌≡◌, refl, ap, sym, ◌∙◌, subst, ℕ, max, Bool, true, false, cond, Option, Some, None, Result, Ok, Err, arith}
+use Rattle.std.proofs.Common.{◌≡◌, ap, sym, ◌∙◌, subst, ℕ, max, Bool, true, false, cond, Result, Ok, Err, arith}
 use Rattle.std.specs.List.{list_any}
 use Rattle.fts_disk.specs.Disk.{DiskState}
 use Rattle.fts_tables.specs.Tables.{Tables}
 use Rattle.fts_tables.specs.Choice.{pick}
 use Rattle.fts_tables.specs.Waits.{is_overdue, rows_cancelled, count_cancelled}
-use Rattle.fts_tables.specs.Step.{Outcomes, step, claim, expire, with_rows}
+use Rattle.fts_tables.specs.Step.{Outcomes, step, expire, with_rows}
 use Rattle.fts_tables.specs.History.{tables_after}
 use Rattle.fts_tables.specs.declared.rows.Reason.TheVariants.{Expired as ExpiredReason}
 use Rattle.fts_tables.specs.declared.commands.Command.TheVariants.{Claim, Expire}

@@ -97,4 +97,5 @@ invariant_of-kept c =
       };
       of_settings = same_limits 0 c.leave.new.parts c.start.new.parts c.start.ensures.same
           ∙ (same_limits 0 c.args.kept.now.beside.parts c.leave.new.parts c.leave.ensures.same ∙ c.args.kept.now.of_settings);
+      of_bans = c.args.kept.now.of_bans;
     }

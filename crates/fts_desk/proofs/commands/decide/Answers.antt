@@ -31,3 +31,13 @@ pub returns-in-Report-clause-planned : goal.returns-in-Report-clause-planned
 returns-in-Report-clause-planned c =
     planned_report c.decide_report.new.kept c.in-Report.now c.in-Report.file c.in-Report.attempt c.in-Report.outcome c.args.command.now
     c.decide_report.result c.in-Report.is c.decide_report.ensures.room
+
+pub returns-in-Ban-clause-answer : goal.returns-in-Ban-clause-answer
+returns-in-Ban-clause-answer c =
+    subst (λ (command : Command). IsPrepared (step (tables_kept c.args.kept.now) command) c.not_yet.result) (sym c.in-Ban.is)
+    (c.not_yet.ensures.answer _ (c.check_ban.ensures.answer c.in-Ban.now c.in-Ban.cancel))
+
+pub returns-in-Unban-clause-answer : goal.returns-in-Unban-clause-answer
+returns-in-Unban-clause-answer c =
+    subst (λ (command : Command). IsPrepared (step (tables_kept c.args.kept.now) command) c.not_yet-in-Unban.result) (sym c.in-Unban.is)
+    (c.not_yet-in-Unban.ensures.answer _ (c.check_unban.ensures.answer c.in-Unban.now))

@@ -71,5 +71,6 @@ invariant_of-kept c =
             c.prioritize_waiting.new.parts) c.deref-in-Some-2.ensures.value c.prioritize_waiting.ensures.tied);
       };
       of_settings = c.prioritize_waiting.ensures.limits ∙ c.args.kept.now.of_settings;
+      of_bans = c.args.kept.now.of_bans;
       ids_of_jobs = c.args.kept.now.ids_of_jobs ∙ sym (ids-prioritized c.args.job c.args.priority jobs) ∙ ap (map (λ (job : JobRow). job.id)) changed;
     }

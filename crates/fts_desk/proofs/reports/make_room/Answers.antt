@@ -37,6 +37,7 @@ invariant_of-kept c =
         parts = risen_tied c.args.kept.now.jobs.items c.args.kept.now.rows.items old new risen c.args.kept.now.beside_rows.parts;
       };
       of_settings = risen_limits old new risen ∙ c.args.kept.now.of_settings;
+      of_bans = c.args.kept.now.of_bans;
     }
 
 pub returns-in-Some-job_place-clause-room : goal.returns-in-Some-job_place-clause-room

@@ -18,4 +18,5 @@ invariant_of-kept c =
         parts = subst (λ (rows : List FileRow). AreTiedTo c.args.kept.now.jobs.items rows c.args.parts) (sym left) c.requires.tied;
       };
       of_settings = ap (λ settings. Some settings) c.requires.settings;
+      of_bans = c.requires.flags;
     }

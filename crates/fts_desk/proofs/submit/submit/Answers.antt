@@ -19,7 +19,7 @@ count_new-requires c =
     let rows = c.add_rows_of_kind.ensures.rows job files (ap (λ (new : JobData). new.strategy) (sym c.job.view_is)) in
     let first : c.len-from.result ≡ length before = omega (arith, c.len-from.ensures, c.args.kept.now.rows.ok.0) in
     let known = ap (are_known lists) (links_of_kind c.job.inside.kind before (c.len.result + 1) (length before + 1) job) ∙ c.requires.room.links in
-    let few : length c.deref.result.now ≤ 200000 =
+    let few : length c.deref.result.now ≤ 400000 =
     omega (arith, c.deref.ensures.len, ap length c.deref.ensures.value, c.add_rows_of_kind.ensures.count, ap length files, c.requires.room.count.row_limit) in
     record {
       may = rest_may_count before (rows_of_kind c.job.inside.kind before (c.len.result + 1) (length before + 1) job) c.deref.result.now (c.len-from.result)
@@ -95,7 +95,7 @@ invariant_of-kept-clause-beside_rows c =
     let rows = c.add_rows_of_kind.ensures.rows job files (ap (λ (new : JobData). new.strategy) (sym c.job.view_is)) in
     let first : c.len-from.result ≡ length before = omega (arith, c.len-from.ensures, c.args.kept.now.rows.ok.0) in
     let known = ap (are_known lists) (links_of_kind c.job.inside.kind before (c.len.result + 1) (length before + 1) job) ∙ c.requires.room.links in
-    let few : length c.deref.result.now ≤ 200000 =
+    let few : length c.deref.result.now ≤ 400000 =
     omega (arith, c.deref.ensures.len, ap length c.deref.ensures.value, c.add_rows_of_kind.ensures.count, ap length files, c.requires.room.count.row_limit) in
     record {
       loads = subst (λ rows. AreLoadsOf rows c.count_new.new.loads) c.deref.ensures.value
