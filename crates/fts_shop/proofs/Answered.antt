@@ -1,12 +1,12 @@
 -- What a keep answers to a claim and to a report, over every disk.
-use Rattle.std.proofs.Common.{◌≡◌, refl, sym, ap, ◌∙◌, subst, ℕ, ◌+◌, max, Bool, true, false, cond, ◌&&◌, ◌==◌, Option, Some, None, Result, Ok, Err}
+use Rattle.std.proofs.Common.{◌≡◌, refl, sym, ap, subst, ℕ, ◌+◌, max, Bool, true, false, cond, ◌&&◌, ◌==◌, Option, Some, None, Result, Ok, Err}
 use Rattle.std.specs.Prelude.{if◌then◌else◌, nat_lt}
 use Rattle.std.specs.List.{list_any}
 use Rattle.fts_tables.specs.Tables.{Tables, is_active, row_at, job_at}
 use Rattle.fts_tables.specs.Choice.{pick}
 use Rattle.fts_tables.specs.Moves.{reported, reported_failure, reported_without_cancel, canceled, is_retryable}
 use Rattle.fts_tables.specs.Waits.{is_overdue}
-use Rattle.fts_tables.specs.Step.{Outcomes, step, claim, expire, report, report_of}
+use Rattle.fts_tables.specs.Step.{Outcomes, step, claim, report, report_of}
 use Rattle.fts_tables.specs.declared.rows.FileRow.{FileRow}
 use Rattle.fts_tables.specs.declared.rows.JobRow.{JobRow}
 use Rattle.fts_tables.specs.declared.rows.Outcome.{Outcome}

@@ -1,5 +1,5 @@
 -- What a worker's step came to: a claimed file has its row, so the order of its copy comes with it.
-use Rattle.std.proofs.Common.{◌≡◌, refl, sym, ap, ◌∙◌, subst, ℕ, ◌+◌, ◌==◌, max, Bool, true, false, cond, List, [], ◌∷◌, map, Option, Some, None, option_map, IsSome, IsTrue, Result, Ok, Err}
+use Rattle.std.proofs.Common.{◌≡◌, refl, sym, ap, subst, ℕ, ◌+◌, ◌==◌, max, Bool, true, false, cond, List, [], ◌∷◌, map, Option, Some, None, option_map, IsSome, IsTrue, Result, Ok, Err}
 use Rattle.fts_tables.specs.Tables.{Tables, AreWellFormed, is_submitted, row_at}
 use Rattle.fts_tables.specs.Choice.{pick}
 use Rattle.fts_tables.specs.Moves.{change_row, claimed}
