@@ -170,7 +170,7 @@ module _ {D E : Type 0} (disks : disk.Ghosts D) (stores : store.Ghosts E)
     pub stops : StopsEarly disks stores text before after end tally
     pub status : status_of end ≡ 1
 
-  -- all requests were answered, and then a claim or a report didn't fit the journal
+  -- all requests were answered, and then a claim, a report or an expiry didn't fit the journal
   pub record FillsWithin (requests : List RequestData) : Type 0 where
     pub run : RunsSession disks stores text before after end tally
     pub answers : AnswersAll AnswersUnlessMemory requests run
