@@ -8,7 +8,7 @@ use Rattle.fts_tables.specs.SettingsData.{SettingsData, is_label}
 use Rattle.fts_tables.specs.JobData.{IsNewJob, goes_elsewhere}
 use Rattle.fts_joburl.specs.declared.fault.UrlFault.{UrlFault}
 use Rattle.fts_jobdoc.specs.Json.{files_of, param}
-use Rattle.fts_jobdoc.specs.Fields.{has_wrong_sources, has_wrong_destinations, has_bad_filesize, has_bad_activity, has_replicas, has_bad_retry, retry_of, has_bad_delay, delay_of, has_bad_priority, lacks_priority, priority_in, is_verified, is_set}
+use Rattle.fts_jobdoc.specs.Fields.{has_wrong_sources, has_wrong_destinations, has_bad_filesize, has_bad_activity, has_replicas, has_bad_retry, retry_of, has_bad_delay, delay_of, has_bad_priority, lacks_priority, priority_in, has_bad_queue_time, queue_hours_of, is_verified, is_set}
 use Rattle.fts_tables.specs.FirstFault.{first_fault, unless}
 use Rattle.fts_jobdoc.specs.Checks.{Gives}
 use Rattle.fts_jobdoc.specs.Ends.{ends_of, urls_of, first_url_fault, url_refused, url_rule, has_same_url, breaks_chain, all_ends_read}
@@ -16,7 +16,7 @@ use Rattle.fts_jobdoc.specs.Documents.{shape_rules, ends_rules, files_rules, par
 use Rattle.fts_jobdoc.specs.declared.ends.FileEnds.{FileEnds}
 use Rattle.fts_jobdoc.specs.declared.fault.DocFault.{DocFault}
 use Rattle.fts_jobdoc.specs.declared.fault.DocFault.TheVariants.{NotJson, Memory}
-use Rattle.fts_jobdoc.proofs.FieldRules.{within_or, retry_or, priority_given}
+use Rattle.fts_jobdoc.proofs.FieldRules.{within_or, number_or_none, priority_given}
 use Rattle.fts_jobdoc.proofs.Ruled.{first_fault-append, first_fault-cons, neither, all_kept, unbroken, and_parts}
 use Rattle.fts_jobdoc.proofs.JobRules.{all_fit, all_from, sizes_fit, activities_fit, files_apart}
 use Rattle.fts_jobdoc.proofs.KindRules.{few_files, files_shaped}
@@ -122,12 +122,6 @@ by_later document settings files ends =
     ∙ ap (option_or (first_fault (ends_rules settings ends)))
     (first_fault-append fields (params ++ kind) ∙ ap (option_or (first_fault fields)) (first_fault-append params kind))
 
--- a body that couldn't be read
-pub unread : {T : Type 0} (read : Data → Result T DocFault) (value : Option Data) (fault : DocFault)
-    → (fault ≡ Memory) ⊎ ((fault ≡ NotJson) × (value ≡ None)) → Gives (Err fault) (of_value read value)
-unread read value fault (inl memory) = inr (ap Err memory)
-unread read value fault (inr refused) = inl (ap Err refused.0 ∙ sym (ap (of_value read) refused.1))
-
 -- ---- what the rules keep
 
 -- where no fault is refused there is none
@@ -150,6 +144,7 @@ pub record Keeps (document : Data) : Type 0 where
   pub priority : has_bad_priority document ≡ false
   pub replicas : (list_any has_replicas (files_of document) && nat_lt 1 (length (files_of document))) ≡ false
   pub hops : (is_set (codes "multihop") document && (list_any has_replicas (files_of document) || breaks_chain (map ends_of (files_of document)))) ≡ false
+  pub queue_time : has_bad_queue_time document ≡ false
 
 -- where none is broken
 pub all_keep : (document : Data) (settings : SettingsData) → first_fault (rules_of document settings) ≡ None → Keeps document
@@ -180,11 +175,12 @@ all_keep document settings passed =
       priority = unbroken _ _ params.1.1.1.0;
       replicas = unbroken _ _ kind.0;
       hops = unbroken _ _ kind.1.0;
+      queue_time = unbroken _ _ kind.1.1.1.0;
     }
 
 -- the job of such a document keeps the rules of its type
 pub lawful : (document : Data) (settings : SettingsData) → first_fault (rules_of document settings) ≡ None → IsNewJob (new_job document settings)
-unfolding new_job kind_of priority_in retry_of delay_of has_bad_retry has_bad_delay has_bad_priority
+unfolding new_job kind_of priority_in retry_of delay_of queue_hours_of has_bad_retry has_bad_delay has_bad_priority has_bad_queue_time
 lawful document settings passed =
     let files = files_of document in
     let verified = is_verified document in
@@ -194,8 +190,9 @@ lawful document settings passed =
     refl k.replicas k.hops in
     record {
       priority = within_or 1 5 3 (param (codes "priority") document) k.priority refl;
-      retry = retry_or 10 (param (codes "retry") document) k.retry;
+      retry = number_or_none 10 (param (codes "retry") document) k.retry;
       delay = (and_parts (nat_le 0 (delay_of document)) _ (within_or 0 86400 0 (param (codes "retry_delay") document) k.delay refl)).1;
+      queue_hours = number_or_none 8760 (param (codes "max_time_in_queue") document) k.queue_time;
       file_count = shaped.count;
       apart = all_from goes_elsewhere verified (files_apart verified) files 0 fit;
       sizes = all_from (λ made. nat_le made.size 9223372036854775807) verified (sizes_fit verified) files 0 fit;

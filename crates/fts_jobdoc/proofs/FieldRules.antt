@@ -5,7 +5,7 @@ use Rattle.std.specs.Option.{option_map_or}
 use Rattle.std.specs.Ordering.{int_eq}
 use Rattle.serde_json.specs.Data.{Data, null, boolean, number, string, array, object, unsigned, negative, float}
 use Rattle.fts_tables.specs.SettingsData.{is_within}
-use Rattle.fts_jobdoc.specs.Json.{natural_of, is_natural_within, is_minus_one, fails, natural_or}
+use Rattle.fts_jobdoc.specs.Json.{natural_of, is_natural_within, is_from_minus_one, fails, natural_or}
 
 -- what isn't false is true
 pub is_true : (b : Bool) → not b ≡ false → b ≡ true
@@ -32,18 +32,18 @@ below_end : (high n : ℕ) (b : Bool) → b ≡ false → not (is_within 0 high 
 below_end high n true e kept = absurd (cc)
 below_end high n false e kept = grind (arith, tests)
 
--- retries that are there are a number of the range or -1, which is read as none
-pub retry_or : (high : ℕ) (found : Option Data) → fails (λ value. is_natural_within 0 high value || is_minus_one value) found ≡ false
+-- what is there is a number of the range, or -1, which is read as none
+pub number_or_none : (high : ℕ) (found : Option Data) → fails (is_from_minus_one high) found ≡ false
     → nat_le (natural_or 0 found) high ≡ true
-retry_or high None kept = grind (arith, tests)
-retry_or high (Some null) kept = grind (arith, tests)
-retry_or high (Some (boolean b)) kept = grind (arith, tests)
-retry_or high (Some (number (unsigned n))) kept = below_end high n _ (not_minus_one (nat_lt n (2 ^ 63)) n) kept
-retry_or high (Some (number (negative z))) kept = grind (arith, tests)
-retry_or high (Some (number (float x))) kept = grind (arith, tests)
-retry_or high (Some (string text)) kept = grind (arith, tests)
-retry_or high (Some (array _)) kept = grind (arith, tests)
-retry_or high (Some (object _)) kept = grind (arith, tests)
+number_or_none high None kept = grind (arith, tests)
+number_or_none high (Some null) kept = grind (arith, tests)
+number_or_none high (Some (boolean b)) kept = grind (arith, tests)
+number_or_none high (Some (number (unsigned n))) kept = below_end high n _ (not_minus_one (nat_lt n (2 ^ 63)) n) kept
+number_or_none high (Some (number (negative z))) kept = grind (arith, tests)
+number_or_none high (Some (number (float x))) kept = grind (arith, tests)
+number_or_none high (Some (string text)) kept = grind (arith, tests)
+number_or_none high (Some (array _)) kept = grind (arith, tests)
+number_or_none high (Some (object _)) kept = grind (arith, tests)
 
 -- a number of a range isn't above its end
 pub within_end : (low high n : ℕ) → is_within low high n ≡ true → n ≤ high

@@ -11,12 +11,12 @@ use Rattle.fts_tables.specs.declared.rows.NewFile.{NewFile}
 use Rattle.fts_tables.specs.declared.rows.JobKind.{JobKind}
 use Rattle.fts_tables.specs.declared.rows.JobKind.TheVariants.{Plain, Replica, Multihop}
 use Rattle.fts_jobdoc.specs.Json.{value_of, files_of}
-use Rattle.fts_jobdoc.specs.Fields.{is_no_object, has_wrong_sources, has_wrong_destinations, has_bad_filesize, size_of, has_bad_checksum, has_other_algorithm, wanted_of, has_bad_strategy, strategy_of, has_bad_activity, activity_of, has_replicas, has_wrong_params, has_bad_retry, retry_of, has_bad_delay, delay_of, has_bad_priority, lacks_priority, priority_in, has_bad_verify, is_verified, is_set, unoffered_in, has_bad_sid, sid_in}
+use Rattle.fts_jobdoc.specs.Fields.{is_no_object, has_wrong_sources, has_wrong_destinations, has_bad_filesize, size_of, has_bad_checksum, has_other_algorithm, wanted_of, has_bad_strategy, strategy_of, has_bad_activity, activity_of, has_replicas, has_wrong_params, has_bad_retry, retry_of, has_bad_delay, delay_of, has_bad_priority, lacks_priority, priority_in, has_bad_verify, is_verified, is_set, unoffered_in, has_bad_sid, has_bad_queue_time, queue_hours_of, sid_in}
 use Rattle.fts_jobdoc.specs.Ends.{ends_of, url_rule, has_unknown_endpoint, has_same_url, breaks_chain}
 use Rattle.fts_jobdoc.specs.Ids.{sid_id}
 use Rattle.fts_jobdoc.specs.declared.ends.FileEnds.{FileEnds}
 use Rattle.fts_jobdoc.specs.declared.fault.DocFault.{DocFault}
-use Rattle.fts_jobdoc.specs.declared.fault.DocFault.TheVariants.{NotJson, NotObject, NoFiles, TooManyFiles, FileNotObject, SourcesWrong, DestinationsWrong, UnknownEndpoint, SameUrl, BadFilesize, BadChecksum, OtherAlgorithm, BadStrategy, BadActivity, ParamsNotObject, BadRetry, BadDelay, BadPriority, BadVerify, NotOffered, ReplicaManyFiles, MultihopShape, BadSid}
+use Rattle.fts_jobdoc.specs.declared.fault.DocFault.TheVariants.{NotJson, NotObject, NoFiles, TooManyFiles, FileNotObject, SourcesWrong, DestinationsWrong, UnknownEndpoint, SameUrl, BadFilesize, BadChecksum, OtherAlgorithm, BadStrategy, BadActivity, ParamsNotObject, BadRetry, BadDelay, BadPriority, BadVerify, NotOffered, ReplicaManyFiles, MultihopShape, BadSid, BadQueueTime}
 
 -- ---- the rules in the order in which they are answered, each behind its number; rule 1 is that the body is JSON
 
@@ -86,7 +86,7 @@ has_replicas_among files = list_any has_replicas files && nat_lt 1 (length files
 abbrev pub has_wrong_hops : Data → List Data → List FileEnds → Bool
 has_wrong_hops document files ends = is_set (codes "multihop") document && (list_any has_replicas files || breaks_chain ends)
 
--- the job's kind, and its id
+-- the job's kind, its id, and the time that its files may wait
 unfoldable pub kind_rules : Data → List Data → List FileEnds → List (Option DocFault)
 kind_rules document files ends =
     -- 22
@@ -95,6 +95,8 @@ kind_rules document files ends =
     ∷ fault_if (has_wrong_hops document files ends) MultihopShape
     -- 24
     ∷ fault_if (has_bad_sid document) BadSid
+    -- 29
+    ∷ fault_if (has_bad_queue_time document) BadQueueTime
     ∷ []
 
 -- the rules behind the one on URLs
@@ -149,6 +151,7 @@ new_job document settings = record {
   retry = retry_of document;
   delay = delay_of document;
   overwrite = is_set (codes "overwrite") document;
+  queue_hours = queue_hours_of document;
   files = files_from (is_verified document) 0 (files_of document);
 }
 

@@ -3,9 +3,9 @@ use Rattle.std.specs.Prelude.{ℕ, List, codes}
 use Rattle.fts_joburl.specs.declared.fault.UrlFault.{UrlFault}
 use Rattle.fts_joburl.specs.declared.fault.UrlFault.TheVariants.{NotUrl, NoHost, HasQuery, HasFragment, HasUser, HasEscape, NoPath, TooLong, Reserved, HasPath, Memory as UrlMemory}
 use Rattle.fts_jobdoc.specs.declared.fault.DocFault.{DocFault}
-use Rattle.fts_jobdoc.specs.declared.fault.DocFault.TheVariants.{NotJson, NotObject, NoFiles, TooManyFiles, FileNotObject, SourcesWrong, DestinationsWrong, BadUrl, UnknownEndpoint, SameUrl, BadFilesize, BadChecksum, OtherAlgorithm, BadStrategy, BadActivity, ParamsNotObject, BadRetry, BadDelay, BadPriority, BadVerify, NotOffered, ReplicaManyFiles, MultihopShape, BadSid, Memory}
+use Rattle.fts_jobdoc.specs.declared.fault.DocFault.TheVariants.{NotJson, NotObject, NoFiles, TooManyFiles, FileNotObject, SourcesWrong, DestinationsWrong, BadUrl, UnknownEndpoint, SameUrl, BadFilesize, BadChecksum, OtherAlgorithm, BadStrategy, BadActivity, ParamsNotObject, BadRetry, BadDelay, BadPriority, BadVerify, NotOffered, ReplicaManyFiles, MultihopShape, BadSid, BadQueueTime, Memory}
 use Rattle.fts_jobdoc.specs.declared.fault.Unoffered.{Unoffered}
-use Rattle.fts_jobdoc.specs.declared.fault.Unoffered.TheVariants.{Reuse, BringOnline, CopyPinLifetime, ArchiveTimeout, MaxTimeInQueue}
+use Rattle.fts_jobdoc.specs.declared.fault.Unoffered.TheVariants.{Reuse, BringOnline, CopyPinLifetime, ArchiveTimeout}
 
 -- the number of the rule; want of memory is none, and has 0
 unfoldable pub rule_of : DocFault → ℕ
@@ -33,6 +33,7 @@ rule_of (NotOffered field) = 21
 rule_of ReplicaManyFiles = 22
 rule_of MultihopShape = 23
 rule_of BadSid = 24
+rule_of BadQueueTime = 29
 rule_of Memory = 0
 
 -- the message of a broken URL: the number of the URL's fault
@@ -55,7 +56,6 @@ unoffered_message Reuse = codes "not offered: reuse"
 unoffered_message BringOnline = codes "not offered: bring_online"
 unoffered_message CopyPinLifetime = codes "not offered: copy_pin_lifetime"
 unoffered_message ArchiveTimeout = codes "not offered: archive_timeout"
-unoffered_message MaxTimeInQueue = codes "not offered: max_time_in_queue"
 
 -- the message of the rule; want of memory has none
 unfoldable pub message_of : DocFault → List ℕ
@@ -83,4 +83,5 @@ message_of (NotOffered field) = unoffered_message field
 message_of ReplicaManyFiles = codes "replicas need one file"
 message_of MultihopShape = codes "bad multihop"
 message_of BadSid = codes "bad sid"
+message_of BadQueueTime = codes "bad max_time_in_queue"
 message_of Memory = codes ""

@@ -5,15 +5,15 @@ use Rattle.serde_json.specs.Data.{Data}
 use Rattle.serde_json.specs.Find.{as_str, as_bool}
 use Rattle.fts_tables.specs.FirstFault.{fault_if, first_fault}
 use Rattle.fts_tables.specs.SettingsData.{is_label, default_activity}
-use Rattle.fts_tables.specs.declared.limits.TheConstants.{MIN_PRIORITY, MAX_PRIORITY, MAX_RETRY, MAX_DELAY, MAX_SOURCES, MAX_SIZE, MAX_LABEL_BYTES}
+use Rattle.fts_tables.specs.declared.limits.TheConstants.{MIN_PRIORITY, MAX_PRIORITY, MAX_RETRY, MAX_DELAY, MAX_QUEUE_HOURS, MAX_SOURCES, MAX_SIZE, MAX_LABEL_BYTES}
 use Rattle.fts_tables.specs.declared.rows.Strategy.{Strategy}
 use Rattle.fts_tables.specs.declared.rows.Strategy.TheVariants.{Auto, Orderly}
-use Rattle.fts_jobdoc.specs.Json.{is_object, field, param, list_under, has_texts, is_this_text, is_on, is_natural_within, is_minus_one, fails, natural_or}
+use Rattle.fts_jobdoc.specs.Json.{is_object, field, param, list_under, has_texts, is_this_text, is_on, is_natural_within, is_from_minus_one, fails, natural_or}
 use Rattle.fts_jobdoc.specs.Checksums.{checksum_of}
 use Rattle.fts_jobdoc.specs.declared.checksum.Checksum.{Checksum}
 use Rattle.fts_jobdoc.specs.declared.checksum.Checksum.TheVariants.{NotGiven, Malformed, Other, Md5}
 use Rattle.fts_jobdoc.specs.declared.fault.Unoffered.{Unoffered}
-use Rattle.fts_jobdoc.specs.declared.fault.Unoffered.TheVariants.{Reuse, BringOnline, CopyPinLifetime, ArchiveTimeout, MaxTimeInQueue}
+use Rattle.fts_jobdoc.specs.declared.fault.Unoffered.TheVariants.{Reuse, BringOnline, CopyPinLifetime, ArchiveTimeout}
 
 -- ---- each file
 
@@ -116,7 +116,7 @@ has_wrong_params document = fails is_object (field (codes "params") document)
 
 -- `retry` is there and no whole number from -1 to the greatest
 unfoldable pub has_bad_retry : Data → Bool
-has_bad_retry document = fails (λ value. is_natural_within 0 MAX_RETRY value || is_minus_one value) (param (codes "retry") document)
+has_bad_retry document = fails (is_from_minus_one MAX_RETRY) (param (codes "retry") document)
 
 -- the retries of each file; -1 means none
 unfoldable pub retry_of : Data → ℕ
@@ -174,7 +174,6 @@ unoffered_in document =
     ∷ fault_if (asks_for (codes "bring_online") document) BringOnline
     ∷ fault_if (asks_for (codes "copy_pin_lifetime") document) CopyPinLifetime
     ∷ fault_if (asks_for (codes "archive_timeout") document) ArchiveTimeout
-    ∷ fault_if (asks_for (codes "max_time_in_queue") document) MaxTimeInQueue
     ∷ [])
 
 -- how ids are made
@@ -194,6 +193,14 @@ unfoldable pub has_bad_sid : Data → Bool
 has_bad_sid document =
     fails is_generator (param (codes "id_generator") document)
     || (is_deterministic document && not (option_map_or is_sid (param (codes "sid") document) false))
+
+-- `max_time_in_queue` is there and no whole number from -1 to the greatest
+unfoldable pub has_bad_queue_time : Data → Bool
+has_bad_queue_time document = fails (is_from_minus_one MAX_QUEUE_HOURS) (param (codes "max_time_in_queue") document)
+
+-- the hours that a file may wait; 0 is no limit, and so is -1
+unfoldable pub queue_hours_of : Data → ℕ
+queue_hours_of document = natural_or 0 (param (codes "max_time_in_queue") document)
 
 -- the client's own id, where the job's id is made of it
 unfoldable pub sid_in : Data → Option (List ℕ)

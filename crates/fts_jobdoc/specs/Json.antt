@@ -1,5 +1,5 @@
 -- Looking into the value of a document. JSON (RFC 8259) is what `serde_json` reads; null counts as absent.
-use Rattle.std.specs.Prelude.{ℕ, Bool, false, not, ◌&&◌, if◌then◌else◌, List, [], ◌∷◌, length, Option, Some, None, option_and_then, unwrap_or, is_some, bytes_eq, codes, negsuc}
+use Rattle.std.specs.Prelude.{ℕ, Bool, false, not, ◌&&◌, ◌||◌, if◌then◌else◌, List, [], ◌∷◌, length, Option, Some, None, option_and_then, unwrap_or, is_some, bytes_eq, codes, negsuc}
 use Rattle.std.specs.List.{list_all, filter_map}
 use Rattle.std.specs.Option.{option_map_or}
 use Rattle.std.specs.Ordering.{int_eq}
@@ -78,6 +78,10 @@ is_natural_within low high value = option_map_or (is_within low high) (natural_o
 -- whether a value is the whole number -1
 abbrev pub is_minus_one : Data → Bool
 is_minus_one value = option_map_or (λ number. int_eq number (negsuc 0)) (option_and_then as_i64 (as_number value)) false
+
+-- whether a value is a whole number from -1 to this one
+abbrev pub is_from_minus_one : ℕ → Data → Bool
+is_from_minus_one high value = is_natural_within 0 high value || is_minus_one value
 
 -- whether something is there and fails a test
 abbrev pub fails : (Data → Bool) → Option Data → Bool

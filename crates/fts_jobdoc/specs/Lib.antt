@@ -6,3 +6,4 @@ pub mod Fields
 pub mod Checks
 pub mod Ends
 pub mod Documents
+pub mod Bans

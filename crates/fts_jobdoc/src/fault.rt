@@ -14,7 +14,6 @@ pub enum Unoffered {
     BringOnline,
     CopyPinLifetime,
     ArchiveTimeout,
-    MaxTimeInQueue,
 }
 
 /// Why a document is refused: the rule that it breaks, the least of them.
@@ -44,11 +43,12 @@ pub enum DocFault {
     ReplicaManyFiles,
     MultihopShape,
     BadSid,
+    BadQueueTime,
     Memory,
 }
 
 impl DocFault {
-    /// The number of the rule, from 1 to 24, and 0 for want of memory.
+    /// The number of the rule: 1 to 24, or 29; and 0 for want of memory.
     #[tactic(auto, unfolding(crate::specs::Faults::rule_of))]
     pub fn rule(self) -> u32
         ensures { result ≡ rule_of self }
@@ -78,6 +78,7 @@ impl DocFault {
             DocFault::ReplicaManyFiles => 22,
             DocFault::MultihopShape => 23,
             DocFault::BadSid => 24,
+            DocFault::BadQueueTime => 29,
             DocFault::Memory => 0,
         }
     }
@@ -112,6 +113,7 @@ impl DocFault {
             DocFault::ReplicaManyFiles => "replicas need one file",
             DocFault::MultihopShape => "bad multihop",
             DocFault::BadSid => "bad sid",
+            DocFault::BadQueueTime => "bad max_time_in_queue",
             DocFault::Memory => "",
         }
     }
@@ -143,7 +145,6 @@ fn unoffered_message(field: Unoffered) -> &'static str
         Unoffered::BringOnline => "not offered: bring_online",
         Unoffered::CopyPinLifetime => "not offered: copy_pin_lifetime",
         Unoffered::ArchiveTimeout => "not offered: archive_timeout",
-        Unoffered::MaxTimeInQueue => "not offered: max_time_in_queue",
     }
 }
 

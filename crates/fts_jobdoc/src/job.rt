@@ -1,18 +1,18 @@
 //! A body as a new job, or the least rule that it breaks; and the priority that another body asks for.
 //! Rules first, job after: JSON, shape, URLs, places, files, parameters, kind; then the job is built, field by field, from what the rules keep.
 //! So each rule of a `NewJob` follows from rules that were asked (`proofs/JobRules.antt`). `specs/Documents.antt` is the whole definition.
-//! `read_job` is called by fts_top and fts_machine_trial; `read_priority` waits for its caller, as no request changes a priority yet.
+//! Called by fts_routes.
 //! Reading takes no more time than the document is long, but for a comparison of each place with each endpoint.
 ghost use Rattle.std.specs.Prelude.{◌≡◌, ◌⊎◌, ◌≤◌, ◌++◌, length, map, option_map, false, None, OnOk, IfOk};
 ghost use Rattle.serde_json.specs.View.{view};
 ghost use Rattle.fts_tables.specs.declared.limits.TheConstants.{MAX_FILES};
 ghost use Rattle.fts_jobdoc.specs.Json.{files_of};
-ghost use Rattle.fts_jobdoc.specs.Fields.{has_bad_retry, retry_of, has_bad_priority, priority_in, sid_in};
+ghost use Rattle.fts_jobdoc.specs.Fields.{has_bad_retry, retry_of, has_bad_priority, priority_in, has_bad_queue_time, queue_hours_of, sid_in};
 ghost use Rattle.fts_tables.specs.FirstFault.{first_fault, unless};
 ghost use Rattle.fts_jobdoc.specs.Checks.{Gives};
 ghost use Rattle.fts_jobdoc.specs.Ends.{ends_of};
 ghost use Rattle.fts_jobdoc.specs.Ids.{sid_id};
-ghost use Rattle.fts_jobdoc.specs.Documents.{job_of, job_in, priority_of, rules_of, new_job, new_file, new_files, files_from, kind_of};
+ghost use Rattle.fts_jobdoc.specs.Documents.{job_of, job_in, priority_of, priority_given, rules_of, new_job, new_file, new_files, files_from, kind_of};
 
 use crate::ends::{FileEnds, read_all_ends};
 use crate::files::{activity_of, size_of, some_has_replicas, strategy_of, wanted_digest};
@@ -26,12 +26,14 @@ use serde_json::Value;
 use std::alloc::Global;
 
 /// Reads the body of a submission, as `serde_json` reads JSON (RFC 8259), under the settings in force.
-/// The error is the least rule that is broken, from 1 to 24, or `Memory` where there was none to tell.
+/// The error is the first rule that is broken, of 1 to 24 and then 29, or `Memory` where there was none to tell.
 pub fn read_job(alloc: Global, body: &[u8], settings: &Settings) -> Result<NewJob, DocFault>
     ensures { (result ≡ job_of body.now settings.now) ⊎ (result ≡ Err DocFault.Memory) }
 {
-    let document = read_value(alloc, body)?;
-    job_in(alloc, &document, settings)
+    match read_value(alloc, body)? {
+        Some(document) => job_in(alloc, &document, settings),
+        None => Err(DocFault::NotJson),
+    }
 }
 
 /// Reads the body of a change of priority: from `MIN_PRIORITY` to `MAX_PRIORITY`.
@@ -39,9 +41,18 @@ pub fn read_job(alloc: Global, body: &[u8], settings: &Settings) -> Result<NewJo
 pub fn read_priority(alloc: Global, body: &[u8]) -> Result<u32, DocFault>
     ensures { (result ≡ priority_of body.now) ⊎ (result ≡ Err DocFault.Memory) }
 {
-    let document = read_value(alloc, body)?;
-    check_priority_document(&document)?;
-    Ok(priority_value(&document))
+    match read_value(alloc, body)? {
+        Some(document) => priority_given(&document),
+        None => Err(DocFault::NotJson),
+    }
+}
+
+/// The priority that a document asks for, or the least rule that it breaks.
+fn priority_given(document: &Value) -> Result<u32, DocFault>
+    ensures { result ≡ priority_given (view document.now) }
+{
+    check_priority_document(document)?;
+    Ok(priority_value(document))
 }
 
 /// The job of a document, or the least rule that it breaks.
@@ -92,6 +103,7 @@ fn make_job(
         retry: retry_value(document),
         delay: read_delay(document),
         overwrite: is_set(document, "overwrite"),
+        queue_hours: queue_hours_value(document),
         files: made,
     })
 }
@@ -136,6 +148,15 @@ fn retry_value(document: &Value) -> u32
     ensures { result ≡ retry_of (view document.now) }
 {
     natural_or(param(document, "retry"), 0) as u32
+}
+
+/// The hours that a file may wait, at most `MAX_QUEUE_HOURS`; 0 is no limit, and -1 means none.
+#[tactic(auto, unfolding(crate::specs::Fields::queue_hours_of))]
+fn queue_hours_value(document: &Value) -> u32
+    requires { has_bad_queue_time (view document.now) ≡ false }
+    ensures { result ≡ queue_hours_of (view document.now) }
+{
+    natural_or(param(document, "max_time_in_queue"), 0) as u32
 }
 
 /// The files of the job: file `k` of the document has index `k`, and there is one for each of its sources.

@@ -1,28 +1,27 @@
 //! Looking into the JSON value of a document (RFC 8259, as `serde_json` reads it): a small function for each question.
 //! Each answers a word of `specs/Json.antt`. Null counts as absent; of a key that is given twice the last value stays.
 //! A whole number is a JSON number that the value gives as a `u64` or an `i64`: `3.0`, `1e3` and `-0` are none.
-ghost use Rattle.std.specs.Prelude.{◌≡◌, ◌⊎◌, Some, None, IfOk, IfErr, map, option_map, option_and_then};
+ghost use Rattle.std.specs.Prelude.{◌≡◌, IfOk, map, option_map, option_and_then};
 ghost use Rattle.std.specs.List.{list_all};
 ghost use Rattle.serde_json.specs.Find.{as_str};
 ghost use Rattle.serde_json.specs.View.{view};
-ghost use Rattle.fts_jobdoc.specs.Json.{value_of, field, param, list_under, has_texts, is_this_text, is_on, is_natural_within, is_minus_one, fails, natural_or, is_object, is_text};
+ghost use Rattle.fts_jobdoc.specs.Json.{value_of, field, param, list_under, has_texts, is_this_text, is_on, is_natural_within, is_minus_one, is_from_minus_one, fails, natural_or, is_object, is_text};
 
-use crate::DocFault;
+use fts_tables::Memory;
 use serde_json::Value;
 use std::alloc::Global;
 
-/// The JSON value of a body.
-pub fn read_value(alloc: Global, body: &[u8]) -> Result<Value, DocFault>
-    ensures value { IfOk result (λ value. value_of body.now ≡ Some (view value)) }
-    ensures refused { IfErr result (λ fault. (fault ≡ DocFault.Memory) ⊎ ((fault ≡ DocFault.NotJson) × (value_of body.now ≡ None))) }
+/// The JSON value of a body, where it has one.
+pub fn read_value(alloc: Global, body: &[u8]) -> Result<Option<Value>, Memory>
+    ensures { IfOk result (λ value. option_map view value ≡ value_of body.now) }
 {
     match Value::from_slice(alloc, body) {
-        Ok(value) => Ok(value),
+        Ok(value) => Ok(Some(value)),
         Err(error) => {
             if error.is_memory() {
-                Err(DocFault::Memory)
+                Err(Memory)
             } else {
-                Err(DocFault::NotJson)
+                Ok(None)
             }
         }
     }
@@ -129,13 +128,20 @@ pub fn is_outside(found: Option<&Value>, low: u64, high: u64) -> bool
 }
 
 /// Whether a value is the whole number -1.
-pub fn is_minus_one(value: &Value) -> bool
+fn is_minus_one(value: &Value) -> bool
     ensures { result ≡ is_minus_one (view value.now) }
 {
     match value.as_i64() {
         Some(number) => number == -1,
         None => false,
     }
+}
+
+/// Whether a value is a whole number from -1 to this one.
+pub fn is_from_minus_one(value: &Value, high: u64) -> bool
+    ensures { result ≡ is_from_minus_one high (view value.now) }
+{
+    is_within(value, 0, high) || is_minus_one(value)
 }
 
 /// The whole number that is found, or what stands for one that is absent.

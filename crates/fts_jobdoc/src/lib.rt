@@ -1,9 +1,11 @@
-//! Job documents: a request's body, read as a new job or refused by the least broken of 24 rules; the priority that another body asks
-//! for; and the id that a client's own id stands for. JSON (RFC 8259) is what `serde_json` reads, a URL what `fts_joburl` reads.
-//! Each answer is one function of the body and the settings: `job_of`, `priority_of`, `sid_id` (`specs/Documents.antt`, `specs/Ids.antt`).
-//! Called by fts_top, for the body of a submission, and by fts_machine_trial. Nothing here knows of HTTP, or of the rows that a job becomes.
+//! Job documents: a request's body, read as a new job or refused by the least broken of 25 rules; the priority or the ban that another body
+//! asks for; and the id that a client's own id stands for. JSON (RFC 8259) is what `serde_json` reads, a URL what `fts_joburl` reads.
+//! Each answer is one function of the body and the settings: `job_of`, `priority_of` (`specs/Documents.antt`), `ban_of` (`specs/Bans.antt`),
+//! `sid_id` (`specs/Ids.antt`).
+//! Called by fts_routes, for the bodies of its requests, and by trials. Nothing here knows of HTTP, or of the rows that a job becomes.
 #![tactic(auto)]
 
+mod ban;
 mod checksum;
 mod ends;
 mod fault;
@@ -14,6 +16,7 @@ mod json;
 mod params;
 mod rules;
 
+pub use ban::{BanAsk, BanFault, read_ban, read_storage};
 pub use fault::{DocFault, Unoffered};
 pub use ids::sid_id;
 pub use job::{read_job, read_priority};

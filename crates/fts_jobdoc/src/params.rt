@@ -1,17 +1,17 @@
 //! The tests on a job's parameters, in the order of the rules, and what each parameter stands for where the rules hold.
 //! Each answers its definition in `specs/Fields.antt`. A parameter that is absent has its default. Called by `rules`, and by `job` for the values.
-ghost use Rattle.std.specs.Prelude.{◌≡◌, ◌||◌, false, option_map, codes};
+ghost use Rattle.std.specs.Prelude.{◌≡◌, false, option_map, codes};
 ghost use Rattle.std.specs.Option.{option_map_or};
 ghost use Rattle.serde_json.specs.View.{view};
-ghost use Rattle.fts_jobdoc.specs.Json.{param, fails, is_natural_within, is_minus_one};
-ghost use Rattle.fts_jobdoc.specs.Fields.{has_wrong_params, has_bad_retry, has_bad_delay, delay_of, has_bad_priority, lacks_priority, asks_for_verification, is_verify, has_bad_verify, is_verified, asks_for, is_set, unoffered_in, is_generator, is_deterministic, is_sid, has_bad_sid, sid_in};
+ghost use Rattle.fts_jobdoc.specs.Json.{param, fails};
+ghost use Rattle.fts_jobdoc.specs.Fields.{has_wrong_params, has_bad_retry, has_bad_delay, delay_of, has_bad_priority, lacks_priority, asks_for_verification, is_verify, has_bad_verify, is_verified, asks_for, is_set, unoffered_in, is_generator, is_deterministic, is_sid, has_bad_sid, has_bad_queue_time, sid_in};
 
 use crate::Unoffered;
 use crate::json::{
-    field, is_minus_one, is_object, is_on, is_outside, is_this_text, is_within, natural_or, param,
-    text_of,
+    field, is_from_minus_one, is_object, is_on, is_outside, is_this_text, is_within, natural_or,
+    param, text_of,
 };
-use fts_tables::limits::{MAX_DELAY, MAX_PRIORITY, MAX_RETRY, MIN_PRIORITY};
+use fts_tables::limits::{MAX_DELAY, MAX_PRIORITY, MAX_QUEUE_HOURS, MAX_RETRY, MIN_PRIORITY};
 use fts_tables::rules::is_label;
 use serde_json::Value;
 
@@ -32,15 +32,9 @@ pub fn has_bad_retry(document: &Value) -> bool
     ensures { result ≡ has_bad_retry (view document.now) }
 {
     match param(document, "retry") {
-        Some(retry) => !is_retry(retry),
+        Some(retry) => !is_from_minus_one(retry, MAX_RETRY as u64),
         None => false,
     }
-}
-
-fn is_retry(value: &Value) -> bool
-    ensures { result ≡ (is_natural_within 0 MAX_RETRY (view value.now) || is_minus_one (view value.now)) }
-{
-    is_within(value, 0, MAX_RETRY as u64) || is_minus_one(value)
 }
 
 /// Whether `retry_delay` is there and no whole number of its range, in seconds.
@@ -121,8 +115,6 @@ pub fn unoffered_in(document: &Value) -> Option<Unoffered>
         Some(Unoffered::CopyPinLifetime)
     } else if asks_for(document, "archive_timeout") {
         Some(Unoffered::ArchiveTimeout)
-    } else if asks_for(document, "max_time_in_queue") {
-        Some(Unoffered::MaxTimeInQueue)
     } else {
         None
     }
@@ -177,6 +169,17 @@ fn has_sid(document: &Value) -> bool
 {
     match text_of(param(document, "sid")) {
         Some(sid) => is_label(sid),
+        None => false,
+    }
+}
+
+/// Whether `max_time_in_queue` is there and no whole number from -1 to the greatest, in hours.
+#[tactic(auto, unfolding(crate::specs::Fields::has_bad_queue_time))]
+pub fn has_bad_queue_time(document: &Value) -> bool
+    ensures { result ≡ has_bad_queue_time (view document.now) }
+{
+    match param(document, "max_time_in_queue") {
+        Some(hours) => !is_from_minus_one(hours, MAX_QUEUE_HOURS as u64),
         None => false,
     }
 }

@@ -16,8 +16,8 @@ use crate::files::{
 };
 use crate::json::is_object;
 use crate::params::{
-    has_bad_delay, has_bad_priority, has_bad_retry, has_bad_sid, has_bad_verify, has_wrong_params,
-    is_set, is_verified, lacks_priority, unoffered_in,
+    has_bad_delay, has_bad_priority, has_bad_queue_time, has_bad_retry, has_bad_sid,
+    has_bad_verify, has_wrong_params, is_set, is_verified, lacks_priority, unoffered_in,
 };
 use fts_tables::Settings;
 use fts_tables::limits::MAX_FILES;
@@ -99,7 +99,7 @@ fn check_offered(document: &Value) -> Result<(), DocFault>
     }
 }
 
-/// The job's kind and its id, rules 22 to 24.
+/// The job's kind, its id, and the time that its files may wait: rules 22 to 24, and 29.
 #[tactic(auto, unfolding(crate::specs::Documents::kind_rules))]
 fn check_kind(document: &Value, files: &[Value], ends: &[FileEnds]) -> Result<(), DocFault>
     ensures { result ≡ unless (first_fault (kind_rules (view document.now) (map view files.now) ends.now)) tt }
@@ -109,7 +109,8 @@ fn check_kind(document: &Value, files: &[Value], ends: &[FileEnds]) -> Result<()
         has_wrong_hops(document, files, ends),
         DocFault::MultihopShape,
     )?;
-    refuse_if(has_bad_sid(document), DocFault::BadSid)
+    refuse_if(has_bad_sid(document), DocFault::BadSid)?;
+    refuse_if(has_bad_queue_time(document), DocFault::BadQueueTime)
 }
 
 fn has_replicas_among(files: &[Value]) -> bool
@@ -124,7 +125,7 @@ fn has_wrong_hops(document: &Value, files: &[Value], ends: &[FileEnds]) -> bool
     is_set(document, "multihop") && (some_has_replicas(files) || breaks_chain(ends))
 }
 
-/// The rules behind the one on URLs, 9 to 24.
+/// The rules behind the one on URLs: 9 to 24, and 29.
 pub fn check_later(
     document: &Value,
     settings: &Settings,

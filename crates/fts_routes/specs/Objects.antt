@@ -20,7 +20,7 @@ use Rattle.fts_tables.specs.declared.rows.JobState.TheVariants.{FinishedDirty, S
 use Rattle.fts_tables.specs.declared.rows.Outcome.{Outcome}
 use Rattle.fts_tables.specs.declared.rows.Outcome.TheVariants.{Verified, SourceMissing, DestinationExists, SourceSize, SourceDigest, ReadBackDiffers, StoreFailed, Stopped}
 use Rattle.fts_tables.specs.declared.rows.Reason.{Reason}
-use Rattle.fts_tables.specs.declared.rows.Reason.TheVariants.{Cancelled, Ended, None as NoReason}
+use Rattle.fts_tables.specs.declared.rows.Reason.TheVariants.{Cancelled, Ended, Expired, None as NoReason}
 use Rattle.fts_routes.specs.Json.{object_of, whole_number, id_text, digest_text}
 
 -- the word of a file's state
@@ -62,6 +62,7 @@ outcome_text Stopped = codes "stopped"
 abbrev pub reason_text : Reason → List ℕ
 reason_text NoReason = []
 reason_text Cancelled = codes "cancelled"
+reason_text Expired = codes "expired"
 reason_text (Ended outcome) = outcome_text outcome
 
 -- a place as a URL
@@ -166,3 +167,11 @@ endpoint_object endpoint = object_of (
 -- an activity with its weight
 abbrev pub weight_object : Weight → Data
 weight_object weight = object_of ((codes "activity", string weight.name) ∷ (codes "weight", whole_number weight.weight) ∷ [])
+
+-- a ban of a storage, and how many files it cancelled
+abbrev pub ban_object : List ℕ → ℕ → Data
+ban_object storage cancelled = object_of ((codes "cancelled", whole_number cancelled) ∷ (codes "storage", string storage) ∷ [])
+
+-- the end of a ban of a storage
+abbrev pub unban_object : List ℕ → Data
+unban_object storage = object_of ((codes "storage", string storage) ∷ [])

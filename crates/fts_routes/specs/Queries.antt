@@ -1,4 +1,5 @@
--- The query of a look at the jobs: which states, and how many. Of pairs with one name the first counts; other names are passed over.
+-- Queries: which states and how many jobs are looked at, and which storage's ban is to end. Of pairs with one name the first counts; other names
+-- are passed over.
 use Rattle.std.specs.Prelude.{ℕ, ◌==◌, ◌&&◌, Bool, if◌then◌else◌, List, [], ◌∷◌, length, take, filter, find, Option, Some, None, option_map, unwrap_or, bytes_eq, codes, Result, Ok, Err}
 use Rattle.std.specs.List.{list_all, list_any, slice_split}
 use Rattle.std.specs.Str.Lossy.{utf8_lossy}

@@ -4,7 +4,9 @@ use Rattle.serde_json.specs.Data.{Data, string}
 use Rattle.fts_wire.specs.declared.response.Allow.{Allow}
 use Rattle.fts_wire.specs.declared.response.Allow.TheVariants.{None as NoAllow}
 use Rattle.fts_wire.specs.declared.response.Reply.{Reply}
+use Rattle.fts_jobdoc.specs.Bans.{ban_rule_of, ban_message_of}
 use Rattle.fts_jobdoc.specs.Faults.{rule_of, message_of}
+use Rattle.fts_jobdoc.specs.declared.ban.BanFault.{BanFault}
 use Rattle.fts_jobdoc.specs.declared.fault.DocFault.{DocFault}
 use Rattle.fts_routes.specs.Json.{object_of, whole_number, id_text, body_of}
 use Rattle.fts_routes.specs.Queries.{QueryFault, BadStates, BadLimit}
@@ -30,6 +32,10 @@ shows value = reply_of 200 NoAllow value
 abbrev pub bad_document : DocFault → Reply
 bad_document fault = refusal_of (message_of fault) (rule_of fault) 400
 
+-- the document of a ban breaks a rule, the least that it breaks; or the query of the end of one names no storage
+abbrev pub bad_ban : BanFault → Reply
+bad_ban fault = refusal_of (ban_message_of fault) (ban_rule_of fault) 400
+
 -- the query breaks a rule
 abbrev pub bad_query : QueryFault → Reply
 bad_query BadStates = refusal_of (codes "bad state_in") 25 400
@@ -46,6 +52,14 @@ no_job = refusal_of (codes "no job") 31 404
 -- the job has no such file
 abbrev pub no_file : Reply
 no_file = refusal_of (codes "no file") 32 404
+
+-- the settings don't list the storage
+abbrev pub no_storage : Reply
+no_storage = refusal_of (codes "no storage") 39 404
+
+-- the storage isn't banned
+abbrev pub not_banned : Reply
+not_banned = refusal_of (codes "not banned") 46 404
 
 -- the route has no such method, but these
 abbrev pub no_method : Allow → Reply

@@ -23,6 +23,9 @@ priority_value-requires c = (all_keep (view c.args.document.now) c.args.settings
 pub retry_value-requires : goal.retry_value-requires
 retry_value-requires c = (all_keep (view c.args.document.now) c.args.settings.now c.requires.kept).retry
 
+pub queue_hours_value-requires : goal.queue_hours_value-requires
+queue_hours_value-requires c = (all_keep (view c.args.document.now) c.args.settings.now c.requires.kept).queue_time
+
 pub invariant_of-result : goal.invariant_of-result
 unfolding new_job
 invariant_of-result c =
@@ -34,6 +37,7 @@ invariant_of-result c =
       c.retry_value.ensures,
       c.read_delay.ensures,
       c.is_set.ensures,
+      c.queue_hours_value.ensures,
       c.in_ok-made.ensures,
       c.is_verified.ensures,
       c.requires.files,
@@ -51,6 +55,7 @@ returns c =
       c.retry_value.ensures,
       c.read_delay.ensures,
       c.is_set.ensures,
+      c.queue_hours_value.ensures,
       c.in_ok-made.ensures,
       c.is_verified.ensures,
       c.requires.files,

@@ -1,16 +1,19 @@
 -- The job of a body's value, and a body that has none.
-use Rattle.std.proofs.Common.{◌≡◌, Err, rules}
+use Rattle.std.proofs.Common.{◌≡◌, Option, Some, None, ap, inl, refl, sym, ◌∙◌}
+use Rattle.std.specs.Prelude.{option_map}
+use Rattle.serde_json.specs.View.{view}
 use Rattle.fts_jobdoc.specs.Json.{value_of}
-use Rattle.fts_jobdoc.specs.Documents.{job_in, job_of}
-use Rattle.fts_jobdoc.proofs.Chain.{unread}
+use Rattle.fts_jobdoc.specs.Documents.{job_of}
 use Rattle.fts_jobdoc.proofs.job.read_job.Goals as goal
 
-pub returns-in_err-document : goal.returns-in_err-document
+pub returns-in-Some : goal.returns-in-Some
 unfolding job_of
-returns-in_err-document c =
-    let is : c.from_residual.result ≡ Err c.in_err-document.field-0.0 = search rules in
-    rw is (unread (λ document. job_in document c.args.settings.now) (value_of c.args.body.now) c.in_err-document.field-0.0 c.in_err-document.ensures.refused)
+returns-in-Some c =
+    let value : value_of c.args.body.now ≡ Some (view c.in-Some.document) = sym c.in_ok-document.ensures ∙ ap (option_map view) c.in-Some.is in
+    rw value c.job_in.ensures
 
-pub returns : goal.returns
+pub returns-in-None : goal.returns-in-None
 unfolding job_of
-returns c = rw c.in_ok-document.ensures.value c.job_in.ensures
+returns-in-None c =
+    let value : value_of c.args.body.now ≡ None = sym c.in_ok-document.ensures ∙ ap (option_map view) c.in-None.is in
+    inl (rw value refl)

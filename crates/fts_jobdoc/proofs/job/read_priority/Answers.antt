@@ -1,26 +1,19 @@
--- The priority of a body's value, and each refusal.
-use Rattle.std.proofs.Common.{◌≡◌, Err, Ok, ap, inl, refl, rules}
+-- The priority of a body's value, and a body that has none.
+use Rattle.std.proofs.Common.{◌≡◌, Some, None, ap, inl, refl, sym, ◌∙◌}
+use Rattle.std.specs.Prelude.{option_map}
 use Rattle.serde_json.specs.View.{view}
 use Rattle.fts_jobdoc.specs.Json.{value_of}
-use Rattle.fts_jobdoc.specs.Documents.{priority_given, priority_of}
-use Rattle.fts_jobdoc.proofs.Chain.{unread, told, kept, priority_kept}
+use Rattle.fts_jobdoc.specs.Documents.{priority_of}
 use Rattle.fts_jobdoc.proofs.job.read_priority.Goals as goal
 
-pub returns-in_err-document : goal.returns-in_err-document
+pub returns-in-Some : goal.returns-in-Some
 unfolding priority_of
-returns-in_err-document c =
-    let is : c.from_residual.result ≡ Err c.in_err-document.field-0.0 = search rules in
-    rw is (unread priority_given (value_of c.args.body.now) c.in_err-document.field-0.0 c.in_err-document.ensures.refused)
+returns-in-Some c =
+    let value : value_of c.args.body.now ≡ Some (view c.in-Some.document) = sym c.in_ok-document.ensures ∙ ap (option_map view) c.in-Some.is in
+    inl (rw value c.priority_given.ensures)
 
-pub returns-in_err-check_priority_document : goal.returns-in_err-check_priority_document
+pub returns-in-None : goal.returns-in-None
 unfolding priority_of
-returns-in_err-check_priority_document c =
-    let is : c.from_residual-in_err-check_priority_document.result ≡ Err c.in_err-check_priority_document.field-0.0 = search rules in
-    rw is (inl (rw (c.in_ok-document.ensures.value, told _ c.in_err-check_priority_document.field-0.0 c.in_err-check_priority_document.ensures) refl))
-
-pub priority_value-requires : goal.priority_value-requires
-priority_value-requires c = priority_kept (view c.in_ok-document.document) c.in_ok-check_priority_document.ensures
-
-pub returns : goal.returns
-unfolding priority_of
-returns c = inl (rw (c.in_ok-document.ensures.value, kept _ c.in_ok-check_priority_document.ensures) (ap Ok c.priority_value.ensures))
+returns-in-None c =
+    let value : value_of c.args.body.now ≡ None = sym c.in_ok-document.ensures ∙ ap (option_map view) c.in-None.is in
+    inl (rw value refl)
