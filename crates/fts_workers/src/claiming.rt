@@ -22,7 +22,11 @@ pub struct ClaimStep {
 
 /// Cancels the files that are overdue at a moment. `Ok` says how many, and `Rule(Idle)` that none was; behind either of them none is.
 /// `DiskFailed` comes only where the disk counted a failure in the call, `JournalFull` exactly by the limit, and `Memory` freely.
-pub fn expire<D: Disk>(keep: &mut Keep<D>, writer: u32, now: u64) -> Result<Answer, KeepFault>
+pub(crate) fn expire<D: Disk>(
+    keep: &mut Keep<D>,
+    writer: u32,
+    now: u64,
+) -> Result<Answer, KeepFault>
     ensures { IsExpiry D.state D.faults writer keep.old keep.new now result }
 {
     overdue_and_banned_rows_go();

@@ -15,7 +15,7 @@ mod rounds;
 mod watch;
 
 pub use bench::Bench;
-pub use claiming::{ClaimStep, claim_step, expire};
+pub use claiming::{ClaimStep, claim_step};
 pub use copying::{order_of_file, row_of_file};
 pub use ends::RoundEnd;
 pub use gate::{Gate, NoGate};
