@@ -9,3 +9,4 @@ pub mod Adding
 pub mod Still
 pub mod Told
 pub mod Rows
+pub mod Counted
