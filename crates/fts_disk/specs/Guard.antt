@@ -1,6 +1,6 @@
 -- What is done with a file so that an answer is of the device, and not of pages that it may never get: each call of a guard as a script.
 use Rattle.std.specs.Prelude.{ℕ, zero, suc, ◌+◌, ◌-◌, ◌*◌, ◌/◌, nat_lt, nat_le, ◌==◌, ◌&&◌, not, min, max, Bool, if◌then◌else◌, List, length, replicate}
-use Rattle.fts_tables.specs.declared.limits.TheConstants.{MAX_JOURNAL_BYTES}
+use Rattle.fts_tables.specs.declared.limits.TheConstants.{JOURNAL_END}
 use Rattle.fts_files.specs.Calls.{SyncData, SyncAll, Forget, LookAtOpen}
 use Rattle.fts_files.specs.Script.{Script, Does, fails, unless_failed, with_seen}
 use Rattle.fts_files.specs.Reach.{fits_file}
@@ -25,7 +25,7 @@ restores file state next = restores_by file state next state.trust
 
 -- the end of the zeros for a write up to this end: that of its block, but no more than a journal may have
 abbrev pub ready_end : ℕ → ℕ
-ready_end end = max end (min ((end / 1048576 + 1) * 1048576) MAX_JOURNAL_BYTES)
+ready_end end = max end (min ((end / 1048576 + 1) * 1048576) JOURNAL_END)
 
 -- a write of so many bytes, from inside what is ready or from its end, that would pass it; the first bytes of an empty file need none
 abbrev pub needs_zeros : ℕ → ℕ → ℕ → Bool

@@ -11,7 +11,7 @@ ghost use Rattle.fts_disk.specs.Guard.{restores, ready_end, needs_zeros, readies
 
 use crate::DiskFailed;
 use fts_files::{Failed, FileSystem, fits_file, match_whole, read_whole, write_whole};
-use fts_tables::limits::MAX_JOURNAL_BYTES;
+use fts_tables::limits::JOURNAL_END;
 
 /// So many bytes are made ready at once.
 const READY_BYTES: u64 = 1 << 20;
@@ -71,7 +71,7 @@ fn ready_end(end: u64) -> u64
     ensures { result ≡ ready_end end }
 {
     let block_end = (end / READY_BYTES + 1) * READY_BYTES;
-    end.max(block_end.min(MAX_JOURNAL_BYTES))
+    end.max(block_end.min(JOURNAL_END))
 }
 
 // Whether a write of so many bytes would pass what is ready, from inside it or from its end. An empty file gets no zeros, so that what a crash

@@ -1,5 +1,5 @@
 -- A disk that is only looked at stays quiet, and a load goes on from gate to gate.
-use Rattle.std.proofs.Common.{◌≡◌, ℕ, ◌+◌, ◌≤◌, List, [], ◌∷◌, ◌++◌, length, drop, refl, sym, ◌∙◌, ap, subst, arith, length-append}
+use Rattle.std.proofs.Common.{◌≡◌, ℕ, ◌+◌, ◌≤◌, List, [], ◌∷◌, ◌++◌, length, drop, refl, sym, ◌∙◌, ap, subst}
 use Rattle.std.proofs.lemmas.List.{drop_at, drop_all}
 use Rattle.fts_disk.specs.Disk.{DiskState}
 use Rattle.fts_journal.specs.Format.{front}
@@ -15,10 +15,6 @@ quiet_quiet old mid new first second = record {
   images = λ c now. first.images c (second.images c now);
   moments = joins old mid new old.may_leave first.moments (weakened mid new mid.may_leave old.may_leave second.moments first.images);
 }
-
--- one place more
-pub one_longer : (spans longer : List Span) (span : Span) → longer ≡ spans ++ span ∷ [] → length longer ≡ length spans + 1
-one_longer spans longer span is = omega (arith, ap length is, length-append spans (span ∷ []))
 
 -- what isn't read yet is what follows
 rest_is : (content rest : List ℕ) (used : ℕ) (spans : List Span) → HasRead content rest used spans → rest ≡ drop used content

@@ -1,20 +1,24 @@
 -- What an applied command comes to, as callers need it: settings stay in force, the list only grows, and images compose.
-use Rattle.std.proofs.Common.{◌≡◌, refl, ap, sym, ◌∙◌, subst, inl, inr, ⊎_elim, ℕ, ◌≤◌, Bool, true, false, if◌then◌else◌, List, [], ◌∷◌, ◌++◌, Option, Some, None, IsSome, Result, Ok, Err}
+use Rattle.std.proofs.Common.{◌≡◌, refl, ap, sym, ◌∙◌, subst, inl, inr, ⊎_elim, ℕ, ◌≤◌, Bool, true, false, if◌then◌else◌, List, [], ◌∷◌, ◌++◌, Option, Some, None, IsSome, IsOk, Result, Ok, Err, All}
 use Rattle.std.proofs.lemmas.List.Elements.{All-nil, All-cons}
 use Rattle.fts_tables.specs.Tables.{Tables, empty_tables}
 use Rattle.fts_tables.specs.Step.{Outcomes, step}
-use Rattle.fts_tables.specs.History.{IsAccepted, IsLegal}
+use Rattle.fts_tables.specs.History.{tables_of, IsAccepted, IsLegal}
+use Rattle.fts_tables.specs.Settling.{settles}
 use Rattle.fts_tables.specs.declared.commands.Entry.{Entry}
 use Rattle.fts_tables.specs.declared.commands.Answer.{Answer}
+use Rattle.fts_record.specs.Proper.{IsProper}
 use Rattle.fts_desk.specs.DeskData.{DeskData}
 use Rattle.fts_disk.specs.Disk.{DiskState, IsTold}
 use Rattle.fts_journal.specs.Journal.{JournalData}
-use Rattle.fts_keep.specs.Keeps.{KeepData, HoldsList, IsFold, IsImageSince, Grows, DoubtHasCause, KeepsImages, StandsFor, with_doubt}
+use Rattle.fts_keep.specs.Keeps.{KeepData, HoldsList, IsFilledBy, IsOver, IsFold, used_of, IsImageSince, Grows, DoubtHasCause, KeepsImages, StandsFor, with_doubt}
 use Rattle.fts_keep.specs.Views.{keep_of, entries_in, IsTied, IsKept}
-use Rattle.fts_keep.specs.Applied.{Applied, AppliesSafely, DoubtIsOwn, IsImageDuring, applied_by, fits}
+use Rattle.fts_keep.specs.Applied.{Applied, AppliesSafely, DoubtIsOwn, KeepsList, IsImageDuring, applied_to, applied_by, fits}
+use Rattle.fts_keep.specs.Ending.{KeepsFirstLimit, LeavesRoom, HasRoom, IsNotFull, ShowsProper, StaysFilled}
 use Rattle.fts_keep.specs.declared.fault.KeepFault.{KeepFault}
 use Rattle.fts_keep.specs.declared.fault.KeepFault.TheVariants.{Rule, DiskFailed, JournalFull, Damaged, Memory}
-use Rattle.fts_keep.proofs.Lists.{none_more, legal_list, legal_more, accepted_by}
+use Rattle.fts_keep.proofs.Lists.{none_more, legal_list, proper_list, legal_more, accepted_by, filled_by_more}
+use Rattle.fts_keep.proofs.Exits.{fits_by}
 use Rattle.fts_keep.proofs.Moments.{weakened}
 use Rattle.fts_keep.proofs.Tying.{list_untold}
 use Rattle.fts_keep.proofs.Settled.{settings_stay}
@@ -148,3 +152,109 @@ images_since state faults old new entry opening since fold told grows is safe = 
     image content (inr done) = with (Some entry) content
         (legal_more empty_tables old.entries entry (legal_list old.entries old.doubt held.legal)
         (subst (λ t. IsAccepted (step t entry.command)) held.folded (accepted_by old.used entry (step old.tables entry.command) done.0))) done.1
+
+-- what the machine accepts isn't refused for want of room where there is room
+not_full_by : (tables : Tables) (used full : ℕ) (entry : Entry) (came : Outcomes) → (IsAccepted came → fits used entry ≡ true)
+    → applied_by used entry came ≡ Err (JournalFull full) → ⊥
+not_full_by tables used full entry (Err refusal) room is = cc
+not_full_by tables used full entry (Ok done) room is =
+    let no : Ok done ≡ Err (JournalFull full) = sym (ap (λ b. if b then Ok done else Err (JournalFull used)) (room tt)) ∙ is in cc
+
+module _ {D : Type 0} (state : D → DiskState) (faults : D → ℕ) (old new : KeepData D) (entry : Entry) (result : Result Answer KeepFault)
+    (applied : Applied state faults old new entry result) (fold : IsFold state old) where
+  -- a list that the keep may be of is legal and proper, makes its tables and fills its bytes
+  filled : (entries : List Entry) → IsOver state old entries → IsFilledBy old entries
+  filled entries (inr over) = over
+  filled entries (inl own) = let held = fold.holds own.0 in subst (λ l. IsFilledBy old l) (sym own.1) (record {
+    list = record { folded = held.folded; legal = legal_list old.entries old.doubt held.legal; counted = held.counted };
+    proper = proper_list old.entries old.doubt held.proper;
+    fills = held.fills;
+  })
+
+  -- behind such a list, where it leaves room, what settles something has room
+  pub not_full : ((entries : List Entry) → IsLegal entries → All IsProper entries → LeavesRoom entries → HasRoom (tables_of entries) (used_of entries))
+      → ShowsProper entry result → (entries : List Entry) → IsOver state old entries → LeavesRoom entries → settles entry.command ≡ true
+      → IsNotFull result
+  not_full has_room proper entries over room settling = by result applied proper
+    where
+      is : IsFilledBy old entries
+      is = filled entries over
+
+      here : HasRoom old.tables old.used
+      here = subst (λ t. HasRoom t old.used) (sym is.list.folded)
+          (subst (λ n. HasRoom (tables_of entries) n) (sym is.fills) (has_room entries is.list.legal is.proper room))
+
+      by : (r : Result Answer KeepFault) → Applied state faults old new entry r → ShowsProper entry r → IsNotFull r
+      by (Ok answer) a p = tt
+      by (Err (JournalFull full)) a p = not_full_by old.tables old.used full entry (step old.tables entry.command)
+          (λ accepted. here entry p settling accepted) a.0
+      by (Err (Rule refusal)) a p = tt
+      by (Err DiskFailed) a p = tt
+      by (Err (Damaged offset)) a p = tt
+      by (Err Memory) a p = tt
+
+  -- an entry that would be accepted fits
+  fits_here : IsTold (state old.disk) → IsOk (applied_to old.tables old.used entry) → fits (used_of old.entries) entry ≡ true
+  fits_here told would = ap (λ n. fits n entry) (sym (fold.holds told).fills) ∙ fits_by old.used entry (step old.tables entry.command) would
+
+  -- its own list, with the entry in doubt, keeps the first limit
+  pub limit_kept : ((entries : List Entry) (more : Entry) → KeepsFirstLimit entries → fits (used_of entries) more ≡ true
+      → KeepsFirstLimit (entries ++ more ∷ [])) → ((entries more : List Entry) → KeepsFirstLimit (entries ++ more) → KeepsFirstLimit entries)
+      → IsTold (state old.disk) → KeepsFirstLimit (with_doubt old.entries old.doubt) → KeepsFirstLimit (with_doubt new.entries new.doubt)
+  limit_kept more front told limit = by result applied
+    where
+      -- without the doubt
+      alone_by : (doubt : Option Entry) → KeepsFirstLimit (with_doubt old.entries doubt) → KeepsFirstLimit old.entries
+      alone_by None kept = kept
+      alone_by (Some doubted) kept = front old.entries (doubted ∷ []) kept
+
+      alone : KeepsFirstLimit old.entries
+      alone = alone_by old.doubt limit
+
+      -- with what the list is now, and the doubt
+      with : (entries : List Entry) (doubt : Option Entry) → new.entries ≡ entries → new.doubt ≡ doubt → KeepsFirstLimit (with_doubt entries doubt)
+          → KeepsFirstLimit (with_doubt new.entries new.doubt)
+      with entries doubt list is kept =
+          subst (λ l. KeepsFirstLimit (with_doubt l new.doubt)) (sym list) (subst (λ d. KeepsFirstLimit (with_doubt entries d)) (sym is) kept)
+
+      same : new ≡ old → KeepsFirstLimit (with_doubt new.entries new.doubt)
+      same is = with old.entries old.doubt (ap (λ (k : KeepData D). k.entries) is) (ap (λ (k : KeepData D). k.doubt) is) limit
+
+      by : (r : Result Answer KeepFault) → Applied state faults old new entry r → KeepsFirstLimit (with_doubt new.entries new.doubt)
+      by (Ok answer) a = with (old.entries ++ entry ∷ []) None (a.listed told).0 (a.listed told).1
+          (more old.entries entry alone (fits_here told (subst (λ came. IsOk came) (sym a.done) refl)))
+      by (Err (JournalFull full)) a = same a.1
+      by (Err (Rule refusal)) a = same a.1
+      by (Err DiskFailed) a = ⊎_elim (λ was. with old.entries old.doubt a.keeps.entries was limit)
+          (λ other. ⊎_elim (λ none. with old.entries None a.keeps.entries none alone)
+          (λ own. with old.entries (Some entry) a.keeps.entries own (more old.entries entry alone (fits_here told a.would))) other)
+          (a.doubt told)
+      by (Err Memory) a = ⊎_elim (λ was. with old.entries old.doubt a.keeps.entries was limit)
+          (λ none. with old.entries None a.keeps.entries none alone) (a.doubt told)
+      by (Err (Damaged offset)) a = absurd a
+
+-- where nothing was accepted a keep is of what it was of
+filled_same : {D : Type 0} (state : D → DiskState) (old new : KeepData D) (entries : List Entry) → KeepsList state old new → IsFilledBy old entries
+    → IsFilledBy new entries
+filled_same state old new entries keeps filled = record {
+  list = record {
+    folded = keeps.tables ∙ filled.list.folded;
+    legal = filled.list.legal;
+    counted = keeps.commands ∙ filled.list.counted;
+  };
+  proper = filled.proper;
+  fills = keeps.used ∙ filled.fills;
+}
+
+-- a list that a keep is of grows with it
+pub stays_filled : {D : Type 0} (state : D → DiskState) (faults : D → ℕ) (old new : KeepData D) (entry : Entry) (result : Result Answer KeepFault)
+    → Applied state faults old new entry result → ShowsProper entry result → StaysFilled old new entry result
+stays_filled state faults old new entry (Ok answer) applied proper =
+    λ entries filled. filled_by_more state old new entries entry answer filled proper applied
+stays_filled state faults old new entry (Err (Rule refusal)) applied proper =
+    λ entries filled. subst (λ k. IsFilledBy k entries) (sym applied.1) filled
+stays_filled state faults old new entry (Err (JournalFull used)) applied proper =
+    λ entries filled. subst (λ k. IsFilledBy k entries) (sym applied.1) filled
+stays_filled state faults old new entry (Err DiskFailed) applied proper = λ entries filled. filled_same state old new entries applied.keeps filled
+stays_filled state faults old new entry (Err Memory) applied proper = λ entries filled. filled_same state old new entries applied.keeps filled
+stays_filled state faults old new entry (Err (Damaged offset)) applied proper = absurd applied

@@ -7,6 +7,9 @@ use Rattle.fts_tables.specs.Counts.{Rose}
 use Rattle.fts_tables.specs.Tables.{Tables, empty_tables}
 use Rattle.fts_tables.specs.Step.{Outcomes, step}
 use Rattle.fts_tables.specs.History.{tables_of, IsAccepted, IsLegal}
+use Rattle.fts_tables.specs.Settling.{opens, journal_limit}
+use Rattle.fts_tables.specs.declared.limits.TheConstants.{MAX_OPENING_BYTES, JOURNAL_END}
+use Rattle.fts_tables.specs.declared.commands.Command.{Command}
 use Rattle.fts_tables.specs.declared.commands.Entry.{Entry}
 use Rattle.fts_tables.specs.declared.commands.Answer.{Answer}
 use Rattle.fts_record.specs.Spelling.{spelled}
@@ -19,13 +22,13 @@ use Rattle.fts_journal.specs.Journal.{JournalData, IsSound, FailsToAppend, Appen
 use Rattle.fts_journal.specs.declared.fault.JournalFault.{JournalFault}
 use Rattle.fts_journal.specs.declared.fault.JournalFault.TheVariants.{DiskFailed as JournalDiskFailed, Full, NotJournal, Cut, Memory as JournalMemory}
 use Rattle.fts_keep.specs.Faults.{fault_of}
-use Rattle.fts_keep.specs.Keeps.{KeepData, IsListOf, IsFold, bodies_of, used_of}
+use Rattle.fts_keep.specs.Keeps.{KeepData, IsFilledBy, IsFold, bodies_of, used_of}
 use Rattle.fts_keep.specs.Views.{keep_of, entries_in, IsTied, list_if, option_if}
 use Rattle.fts_keep.specs.Applied.{Applied, AppliesSafely, KeepsList, IsImageDuring, Checks, applied_to, applied_by, fits}
 use Rattle.fts_keep.specs.declared.fault.KeepFault.{KeepFault}
 use Rattle.fts_keep.specs.declared.fault.KeepFault.TheVariants.{Rule, DiskFailed, JournalFull, Damaged, Memory}
 use Rattle.fts_keep.proofs.Moments.{begun, joined, weakened, rose_later}
-use Rattle.fts_keep.proofs.Lists.{legal_list, legal_more, proper_list, bodies_more, filled_more, image_of, accepted_by, accepted_tables, list_more, spelled_some}
+use Rattle.fts_keep.proofs.Lists.{legal_list, legal_more, proper_list, bodies_more, filled_more, image_of, accepted_by, accepted_tables, filled_by_more, spelled_some}
 use Rattle.fts_keep.proofs.Tying.{IsHeld, option_told, seen_entries, seen_doubt, tie, held}
 
 -- what a settling did, by its clauses
@@ -86,9 +89,21 @@ fits_by used entry (Ok done) ok = by (fits used entry) ok
     by true ok = refl
     by false ok = absurd cc
 
+-- no command has room beyond the journal's end
+limit_below : (command : Command) → journal_limit command ≤ JOURNAL_END
+limit_below command = by (opens command)
+  where
+    by : (b : Bool) → (if b then MAX_OPENING_BYTES else JOURNAL_END) ≤ JOURNAL_END
+    by true = omega arith
+    by false = omega arith
+
 -- with the gate behind it
-room_by : (used : ℕ) (entry : Entry) (came : Outcomes) → IsOk (applied_by used entry came) → used + 6 + length (spelled entry) ≤ 67108864
-room_by used entry came ok = leb-true (used + 6 + length (spelled entry)) 67108864 (fits_by used entry came ok)
+room_by : (used : ℕ) (entry : Entry) (came : Outcomes) → IsOk (applied_by used entry came) → used + 6 + length (spelled entry) ≤ JOURNAL_END
+room_by used entry came ok = omega (
+  arith,
+  leb-true (used + 6 + length (spelled entry)) (journal_limit entry.command) (fits_by used entry came ok),
+  limit_below entry.command,
+)
 
 -- and comes to what its step comes to
 came_by : (used : ℕ) (entry : Entry) (came : Outcomes) (done : Tables × Answer) → came ≡ Ok done → IsOk (applied_by used entry came)
@@ -129,11 +144,15 @@ module _ {D : Type 0} (state : D → DiskState) (faults : D → ℕ) (reads : (e
   checked_safe told = begun (state journal.disk) (IsImageDuring old entry) (lawful journal.disk told)
       (λ content left. inl ((tied.fold.holds told).images content left))
 
-  -- tables and number are still those of a list
-  some_list : (mid : JournalData D) → (entries : List Entry) × IsListOf (keep_of state next mid) entries
-  some_list mid = (
-    tied.fold.some.0,
-    record { folded = tables ∙ tied.fold.some.1.folded; legal = tied.fold.some.1.legal; counted = commands ∙ tied.fold.some.1.counted },
+  -- tables and number are still those of a list, which fills what is used
+  filled_list : (mid : JournalData D) → mid.used ≡ journal.used → (entries : List Entry) × IsFilledBy (keep_of state next mid) entries
+  filled_list mid used = let filled = tied.fold.filled.1 in (
+    tied.fold.filled.0,
+    record {
+      list = record { folded = tables ∙ filled.list.folded; legal = filled.list.legal; counted = commands ∙ filled.list.counted };
+      proper = filled.proper;
+      fills = used ∙ filled.fills;
+    },
   )
 
   -- list, tables and numbers are as before
@@ -178,7 +197,7 @@ module _ {D : Type 0} (state : D → DiskState) (faults : D → ℕ) (reads : (e
         pub unsettled_tied : IsTied state next mid
         unsettled_tied = tie state reads next mid (omega (arith, commands, settles.kept.1, tied.fold.low)) (omega (arith, settles.kept.1, tied.fold.high))
             (commands ∙ tied.counted ∙ sym settles.kept.0)
-            (some_list mid) (λ told. record { entries = old.entries; doubt = old.doubt; held = unsettled_held (sym settles.told ∙ told) }) settles.images
+            (filled_list mid settles.kept.1) (λ told. record { entries = old.entries; doubt = old.doubt; held = unsettled_held (sym settles.told ∙ told) }) settles.images
 
         pub unsettled_applied : Applied state faults old (keep_of state next mid) entry (Err (fault_of fault))
         unsettled_applied = subst (λ f. Applied state faults old (keep_of state next mid) entry (Err (fault_of f))) (sym settles.cause.0) (record {
@@ -257,7 +276,7 @@ module _ {D : Type 0} (state : D → DiskState) (faults : D → ℕ) (reads : (e
           pub failed_tied : IsTied state next last
           failed_tied = tie state reads next last (omega (arith, commands, settles.kept.1, appends.err.1, tied.fold.low))
               (omega (arith, settles.kept.1, appends.err.1, tied.fold.high))
-              (commands ∙ tied.counted ∙ sym settles.kept.0 ∙ sym appends.err.0) (some_list last) (λ told. ⊎_elim
+              (commands ∙ tied.counted ∙ sym settles.kept.0 ∙ sym appends.err.0) (filled_list last (appends.err.1 ∙ settles.kept.1)) (λ told. ⊎_elim
               (λ sure. record { entries = old.entries; doubt = None; held = sure })
               (λ unsure. record { entries = old.entries; doubt = Some entry; held = unsure })
               (failed_held (sym settles.told ∙ sym appends.told ∙ told))) appends.images
@@ -334,7 +353,7 @@ module _ {D : Type 0} (state : D → DiskState) (faults : D → ℕ) (reads : (e
               (omega (arith, more, commands, appends.ok.1, settles.kept.1, tied.fold.low, ap length is_body, spelled_some entry))
               (omega (arith, appends.ok.1, settles.kept.1, ap length is_body, room_by journal.used entry (step desk.tables entry.command) checked))
               (omega (arith, more, commands, tied.counted, settles.kept.0, appends.ok.0))
-              (tied.fold.some.0 ++ entry ∷ [], list_more state old (keep_of state done last) tied.fold.some.0 entry answer tied.fold.some.1 done_applied)
+              (tied.fold.filled.0 ++ entry ∷ [], filled_by_more state old (keep_of state done last) tied.fold.filled.0 entry answer tied.fold.filled.1 proper done_applied)
               (λ told. record { entries = old.entries ++ entry ∷ []; doubt = None; held = done_held (sym settles.told ∙ sym appends.told ∙ told) })
               appends.images
 

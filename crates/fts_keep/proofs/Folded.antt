@@ -2,16 +2,19 @@
 use Rattle.std.proofs.Common.{◌≡◌, refl, ap, sym, ◌∙◌, subst, ℕ, zero, suc, ◌+◌, ◌≤◌, List, [], ◌∷◌, ◌++◌, length, take, drop, slice_get, Option, Some, Result, Ok, Err, IfErr, inl, inr, ◌⊎◌, arith, add-one}
 use Rattle.std.proofs.lemmas.List.{length-append}
 use Rattle.std.proofs.lemmas.List.Elements.{All-nil, All-push}
+use Rattle.std.proofs.lemmas.List.Sums.{sum_by_push, sum_by-take-le}
+use Rattle.std.specs.List.{sum_by}
 use Rattle.std.specs.Result.{IsErrAnd}
 use Rattle.fts_tables.specs.Counts.{Rose}
 use Rattle.fts_tables.specs.Tables.{Tables, empty_tables}
 use Rattle.fts_tables.specs.Step.{Outcomes, step}
 use Rattle.fts_tables.specs.History.{tables_after, IsAccepted}
 use Rattle.fts_tables.specs.declared.commands.Answer.{Answer}
+use Rattle.fts_record.specs.Spelling.{spelled}
 use Rattle.fts_record.specs.Proper.{IsProper}
 use Rattle.fts_record.specs.Reading.{entry_in}
 use Rattle.fts_disk.specs.Disk.{DiskState, IsTold, IsLawful}
-use Rattle.fts_journal.specs.Journal.{JournalData, Keeps}
+use Rattle.fts_journal.specs.Journal.{JournalData, Keeps, filled_by}
 use Rattle.fts_journal.specs.declared.fault.JournalFault.{JournalFault}
 use Rattle.fts_journal.specs.declared.fault.JournalFault.TheVariants.{DiskFailed as JournalDiskFailed, Memory as JournalMemory}
 use Rattle.fts_keep.specs.Faults.{fault_of}
@@ -20,7 +23,7 @@ use Rattle.fts_keep.specs.declared.fault.KeepFault.TheVariants.{Rule, DiskFailed
 use Rattle.fts_keep.specs.Keeps.{bodies_of}
 use Rattle.fts_keep.specs.Damage.{fault_behind, fault_at, fault_from, fault_in}
 use Rattle.fts_keep.specs.Folding.{Takes, TakesEntry, LeavesJournal, HasFolded, FoldFault}
-use Rattle.fts_keep.proofs.Lists.{tables_from-append, legal_more, bodies_more}
+use Rattle.fts_keep.proofs.Lists.{tables_from-append, legal_more, bodies_more, filled_more}
 use Rattle.fts_keep.proofs.Moments.{same_still, more_still, rose_later}
 
 -- the items from a place on
@@ -51,6 +54,15 @@ step_done : (before after : Tables) (answer : Answer) (came : Outcomes) → came
 step_done before after answer (Ok done) is = (tt, ap (λ (d : Tables × Answer). d.0) (let same : done ≡ (after, answer) = cc in same))
 step_done before after answer (Err refusal) is = absurd cc
 
+-- the first so many sizes fill no more than all
+pub filled_to : (sizes : List ℕ) (n : ℕ) → filled_by (take n sizes) ≤ filled_by sizes
+filled_to sizes n = omega (arith, sum_by-take-le (λ s. 5 + s) sizes n)
+
+-- the bytes that one size more fills
+pub passes_more : (sizes : List ℕ) (n size : ℕ) → slice_get sizes n ≡ Some size → filled_by (take n sizes) + 5 + size ≡ filled_by (take (suc n) sizes)
+passes_more sizes n size is = omega
+    (arith, sum_by_push (λ s. 5 + s) (take n sizes) size, ap (λ l. sum_by (λ s. 5 + s) l) (take_at_place sizes n size is))
+
 module _ {D : Type 0} (state : D → DiskState) (journal : JournalData D) where
   -- nothing was folded yet
   pub folded_none : HasFolded state journal empty_tables 8 0
@@ -60,14 +72,17 @@ module _ {D : Type 0} (state : D → DiskState) (journal : JournalData D) where
     legal = tt;
     counted = refl;
     proper = All-nil IsProper;
+    fills = refl;
+    passes = refl;
     spells = λ told. refl;
     behind = λ told. refl;
   }
 
   -- one entry more
   pub folded_more : (tables after : Tables) (gate n : ℕ) (body : List ℕ) → HasFolded state journal tables gate n → TakesEntry tables body after
+      → slice_get journal.sizes n ≡ Some (length body)
       → (IsTold (state journal.disk) → slice_get journal.bodies n ≡ Some body) → HasFolded state journal after (gate + 5 + length body) (n + 1)
-  folded_more tables after gate n body so_far takes here =
+  folded_more tables after gate n body so_far takes long here =
       let done = step_done tables after takes.answer (step tables takes.entry.command) takes.stepped in
       record {
         entries = so_far.entries ++ takes.entry ∷ [];
@@ -76,6 +91,9 @@ module _ {D : Type 0} (state : D → DiskState) (journal : JournalData D) where
         legal = legal_more empty_tables so_far.entries takes.entry so_far.legal (subst (λ t. IsAccepted (step t takes.entry.command)) so_far.folded done.0);
         counted = omega (arith, so_far.counted, length-append so_far.entries (takes.entry ∷ []));
         proper = All-push IsProper so_far.entries takes.entry so_far.proper takes.proper;
+        fills = ap (λ b. gate + 5 + length b) takes.spells ∙ ap (λ n. n + 5 + length (spelled takes.entry)) so_far.fills
+            ∙ sym (filled_more so_far.entries takes.entry);
+        passes = ap (λ n. n + 5 + length body) so_far.passes ∙ passes_more journal.sizes n (length body) long ∙ ap (λ k. filled_by (take k journal.sizes)) (sym (add-one n));
         spells = λ told. ap (λ k. take k journal.bodies) (add-one n) ∙ take_at_place journal.bodies n body (here told)
             ∙ ap (λ b. b ++ body ∷ []) (so_far.spells told)
             ∙ ap (λ x. bodies_of so_far.entries ++ x ∷ []) takes.spells ∙ sym (bodies_more so_far.entries takes.entry);
@@ -104,6 +122,7 @@ leaves_none state faults lawful journal = record {
   in_doubt = refl;
   told = refl;
   counts = omega arith;
+  sizes = refl;
   bodies = λ told. refl;
   doubt = λ told. refl;
   still = λ told. same_still (state journal.disk) (lawful journal.disk told);
@@ -113,15 +132,16 @@ leaves_none state faults lawful journal = record {
 pub leaves_more : {D : Type 0} (state : D → DiskState) (faults : D → ℕ) → ((disk : D) → IsTold (state disk) → IsLawful (state disk))
     → (old mid new : JournalData D) → LeavesJournal state faults old mid
     → (state new.disk).told ≡ (state mid.disk).told → (new.count ≡ mid.count) × (new.used ≡ mid.used) × (new.in_doubt ≡ mid.in_doubt)
-    → faults mid.disk ≤ faults new.disk
+    → faults mid.disk ≤ faults new.disk → new.sizes ≡ mid.sizes
     → (IsTold (state mid.disk) → Keeps (state mid.disk) (state new.disk) mid.bodies new.bodies) → (IsTold (state mid.disk) → new.doubt ≡ mid.doubt)
     → LeavesJournal state faults old new
-leaves_more state faults lawful old mid new so_far told kept counts keeps doubt = record {
+leaves_more state faults lawful old mid new so_far told kept counts sizes keeps doubt = record {
   count = kept.0 ∙ so_far.count;
   used = kept.1 ∙ so_far.used;
   in_doubt = kept.2 ∙ so_far.in_doubt;
   told = told ∙ so_far.told;
   counts = omega (arith, so_far.counts, counts);
+  sizes = sizes ∙ so_far.sizes;
   bodies = λ is. (keeps (so_far.told ∙ is)).same ∙ so_far.bodies is;
   doubt = λ is. doubt (so_far.told ∙ is) ∙ so_far.doubt is;
   still = λ is. more_still (state old.disk) (state mid.disk) (state new.disk) (so_far.still is) (lawful new.disk (told ∙ so_far.told ∙ is))

@@ -9,3 +9,4 @@ pub mod Folded
 pub mod Settled
 pub mod Starting
 pub mod Applying
+pub mod Ending

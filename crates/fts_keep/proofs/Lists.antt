@@ -1,14 +1,14 @@
 -- Lists of entries: their spellings, what one entry more makes of them, and the bytes that it fills.
-use Rattle.std.proofs.Common.{◌≡◌, refl, ap, sym, ◌∙◌, subst, ℕ, ◌+◌, ◌≤◌, inl, inr, Bool, true, false, if◌then◌else◌, List, [], ◌∷◌, ◌++◌, length, Option, Some, None, option_map, option_and_then, Ok, Err, IsOk, All, arith}
+use Rattle.std.proofs.Common.{◌≡◌, refl, ap, sym, ◌∙◌, subst, ℕ, ◌+◌, ◌≤◌, ◌==◌, inl, inr, Bool, true, false, if◌then◌else◌, List, [], ◌∷◌, ◌++◌, length, Option, Some, None, option_map, option_and_then, Ok, Err, IsOk, All, arith}
 use Rattle.std.proofs.lemmas.List.{append_assoc, map-append, length-append}
-use Rattle.std.proofs.lemmas.List.Elements.{All-nil, All-cons, All-head, All-tail}
+use Rattle.std.proofs.lemmas.List.Elements.{All-nil, All-cons, All-head, All-tail, All-push}
 use Rattle.std.specs.List.{flat_map}
 use Rattle.fts_tables.specs.Tables.{Tables, empty_tables}
 use Rattle.fts_tables.specs.Step.{Outcomes, step}
 use Rattle.fts_tables.specs.History.{tables_of, tables_from, tables_after, IsAccepted, IsLegalFrom, IsLegal}
 use Rattle.fts_tables.specs.declared.commands.Entry.{Entry}
 use Rattle.fts_tables.specs.declared.commands.Command.{Command}
-use Rattle.fts_tables.specs.declared.commands.Command.TheVariants.{Restart, Submit, CancelJob, CancelFile, SetPriority, Claim, Report}
+use Rattle.fts_tables.specs.declared.commands.Command.TheVariants.{Restart, Submit, CancelJob, CancelFile, SetPriority, Claim, Report, Ban, Unban, Expire}
 use Rattle.fts_tables.specs.declared.commands.Answer.{Answer}
 use Rattle.fts_record.specs.Spelling.{spelled, command_bytes, number_bytes}
 use Rattle.fts_record.specs.Proper.{IsProper}
@@ -16,7 +16,7 @@ use Rattle.fts_record.specs.Reading.{read_of}
 use Rattle.fts_disk.specs.Disk.{DiskState}
 use Rattle.fts_journal.specs.Format.{used_by, header, block, size_bytes, Stands}
 use Rattle.fts_journal.specs.Journal.{IsImageOf as IsJournalImage}
-use Rattle.fts_keep.specs.Keeps.{KeepData, IsListOf, used_of, used_after, bodies_of, with_doubt, IsImageOf}
+use Rattle.fts_keep.specs.Keeps.{KeepData, IsListOf, IsFilledBy, used_of, used_after, bodies_of, with_doubt, IsImageOf}
 use Rattle.fts_keep.specs.Views.{entries_in}
 use Rattle.fts_keep.specs.Applied.{Applies, applied_to, applied_by, fits, Accepts}
 use Rattle.fts_keep.specs.declared.fault.KeepFault.TheVariants.{JournalFull as Full}
@@ -93,16 +93,24 @@ filled_as_listed entries (entry ∷ more) =
     ∙ filled_as_listed (entries ++ entry ∷ []) more
     ∙ ap used_of (append_assoc entries (entry ∷ []) more)
 
+-- of either list
+some_of : (b : Bool) (one other : List ℕ) → 1 ≤ length one → 1 ≤ length other → 1 ≤ length (if b then one else other)
+some_of true one other first second = first
+some_of false one other first second = second
+
 -- the bytes of a command begin with one of its own
 command_some : (command : Command) → 1 ≤ length (command_bytes command)
 unfolding command_bytes
 command_some (Restart now s) = omega arith
-command_some (Submit now j) = omega arith
+command_some (Submit now j) = some_of (j.queue_hours == 0) _ _ (omega arith) (omega arith)
 command_some (CancelJob now j) = omega arith
 command_some (CancelFile now j f) = omega arith
 command_some (SetPriority now j priority) = omega arith
 command_some (Claim now word) = omega arith
 command_some (Report now f attempt o) = omega arith
+command_some (Ban now storage cancel) = omega arith
+command_some (Unban now storage) = omega arith
+command_some (Expire now) = omega arith
 
 -- a spelling has a byte
 pub spelled_some : (entry : Entry) → 1 ≤ length (spelled entry)
@@ -162,7 +170,7 @@ accepted_by used entry (Ok done) ok = tt
 accepted_by used entry (Err refusal) ok = absurd cc
 
 -- whatever list a keep is of: behind an accepted entry it is of that list with the entry
-pub list_more : {D : Type 0} (state : D → DiskState) (old new : KeepData D) (entries : List Entry) (entry : Entry) (answer : Answer)
+list_more : {D : Type 0} (state : D → DiskState) (old new : KeepData D) (entries : List Entry) (entry : Entry) (answer : Answer)
     → IsListOf old entries → Accepts state old new entry answer → IsListOf new (entries ++ entry ∷ [])
 list_more state old new entries entry answer list done = record {
   folded = accepted_tables entries entry old.tables new.tables old.used answer list.folded done.done;
@@ -170,4 +178,13 @@ list_more state old new entries entry answer list done = record {
       (subst (λ t. IsAccepted (step t entry.command)) list.folded
       (accepted_by old.used entry (step old.tables entry.command) (subst (λ came. IsOk came) (sym done.done) refl)));
   counted = omega (arith, done.commands, list.counted, length-append entries (entry ∷ []));
+}
+
+-- and that list fills what is used, where the one before did
+pub filled_by_more : {D : Type 0} (state : D → DiskState) (old new : KeepData D) (entries : List Entry) (entry : Entry) (answer : Answer)
+    → IsFilledBy old entries → IsProper entry → Accepts state old new entry answer → IsFilledBy new (entries ++ entry ∷ [])
+filled_by_more state old new entries entry answer filled proper done = record {
+  list = list_more state old new entries entry answer filled.list done;
+  proper = All-push IsProper entries entry filled.proper proper;
+  fills = done.used ∙ ap (λ n. n + 5 + length (spelled entry)) filled.fills ∙ sym (filled_more entries entry);
 }

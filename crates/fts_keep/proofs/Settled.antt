@@ -1,15 +1,15 @@
 -- Settings, once they are in force, stay so: a Restart puts others in their place, and no other command touches them.
-use Rattle.std.proofs.Common.{◌≡◌, refl, subst, ℕ, Bool, true, false, if◌then◌else◌, Option, Some, None, IsSome, rules, arith, option_and_then, max, Ok, Err}
+use Rattle.std.proofs.Common.{◌≡◌, refl, subst, ℕ, List, Bool, true, false, if◌then◌else◌, Option, Some, None, IsSome, rules, arith, option_and_then, max, Ok, Err}
 use Rattle.fts_tables.specs.JobData.{JobData}
 use Rattle.fts_tables.specs.Tables.{Tables, job_at, row_at, number_of_id}
-use Rattle.fts_tables.specs.Step.{Outcomes, step, submit_by, cancel_rows, cancel_row, cancel_one, cancel_file, set_priority, claim, report, report_of}
+use Rattle.fts_tables.specs.Step.{Outcomes, step, submit_by, cancel_rows, cancel_row, cancel_one, cancel_file, set_priority, claim, report, report_of, ban, unban, expire}
 use Rattle.fts_tables.specs.declared.rows.FileRow.{FileRow}
 use Rattle.fts_tables.specs.declared.rows.JobRow.{JobRow}
 use Rattle.fts_tables.specs.declared.rows.JobKind.{JobKind}
 use Rattle.fts_tables.specs.declared.rows.JobKind.TheVariants.{Plain, Replica, Multihop}
 use Rattle.fts_tables.specs.declared.rows.Outcome.{Outcome}
 use Rattle.fts_tables.specs.declared.commands.Command.{Command}
-use Rattle.fts_tables.specs.declared.commands.Command.TheVariants.{Restart, Submit, CancelJob, CancelFile, SetPriority, Claim, Report}
+use Rattle.fts_tables.specs.declared.commands.Command.TheVariants.{Restart, Submit, CancelJob, CancelFile, SetPriority, Claim, Report, Ban, Unban, Expire}
 use Rattle.fts_tables.specs.declared.commands.Answer.{Answer}
 use Rattle.fts_tables.specs.declared.commands.Refusal.TheVariants.{NoJob}
 use Rattle.fts_tables.specs.Choice.{pick}
@@ -67,6 +67,19 @@ module _ (tables : Tables) (some : IsSome tables.settings) (now : ℕ) where
   of_report None attempt outcome = tt
   of_report (Some row) attempt outcome = of_report_of row attempt outcome (job_at tables.jobs row.job)
 
+  of_ban : (storage : List ℕ) (cancel : Bool) → HasSettings (ban tables now storage cancel)
+  unfolding HasSettings
+  of_ban storage true = search (rules, either, some)
+  of_ban storage false = search (rules, either, some)
+
+  of_unban : (storage : List ℕ) → HasSettings (unban tables now storage)
+  unfolding HasSettings
+  of_unban storage = search (rules, either, some)
+
+  of_expiry : HasSettings (expire tables now)
+  unfolding HasSettings
+  of_expiry = search (rules, either, some)
+
   of_job : (found : Option JobRow) (act : JobRow → Outcomes) → ((job : JobRow) → HasSettings (act job))
       → HasSettings (elim found [ None ↦ Err NoJob | Some job ↦ act job ])
   unfolding HasSettings
@@ -88,6 +101,9 @@ of_step tables some (SetPriority now job priority) =
     (λ found. of_priority tables some (max now tables.moment) found priority)
 of_step tables some (Claim now word) = of_claim tables some (max now tables.moment) (pick tables (max now tables.moment) word)
 of_step tables some (Report now file attempt outcome) = of_report tables some (max now tables.moment) (row_at tables.rows file) attempt outcome
+of_step tables some (Ban now storage cancel) = of_ban tables some (max now tables.moment) storage cancel
+of_step tables some (Unban now storage) = of_unban tables some (max now tables.moment) storage
+of_step tables some (Expire now) = of_expiry tables some (max now tables.moment)
 
 -- settings in force stay so
 pub settings_stay : (tables after : Tables) (command : Command) (answer : Answer) → IsSome tables.settings → step tables command ≡ Ok (after, answer)

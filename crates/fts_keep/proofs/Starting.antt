@@ -14,9 +14,9 @@ use Rattle.fts_record.specs.Proper.{IsProper}
 use Rattle.fts_record.specs.Reading.{read_of}
 use Rattle.fts_desk.specs.DeskData.{DeskData}
 use Rattle.fts_disk.specs.Disk.{DiskState, IsTold, IsLawful, LeavesOnly}
-use Rattle.fts_journal.specs.Format.{Stands, front, used_by}
+use Rattle.fts_journal.specs.Format.{Stands, front}
 use Rattle.fts_journal.specs.Journal.{JournalData, IsMaking, IsImageOf as IsJournalImage}
-use Rattle.fts_keep.specs.Keeps.{KeepData, IsImageSince, StandsFor, bodies_of, with_doubt}
+use Rattle.fts_keep.specs.Keeps.{KeepData, IsFilledBy, IsImageSince, StandsFor, bodies_of, with_doubt}
 use Rattle.fts_keep.specs.Views.{keep_of, entries_in, IsTied}
 use Rattle.fts_keep.specs.Damage.{IsDamaged, IsWhole, DamageIsOne, fault_in}
 use Rattle.fts_keep.specs.Applied.{Applied, AppliesSafely, IsImageDuring, fits}
@@ -26,8 +26,9 @@ use Rattle.fts_keep.specs.Started.{restart_at, restarted, Opens, IsStill, IsOpen
 use Rattle.fts_keep.specs.declared.fault.KeepFault.{KeepFault}
 use Rattle.fts_keep.specs.declared.fault.KeepFault.TheVariants.{Rule, DiskFailed, JournalFull, Damaged, Memory}
 use Rattle.fts_keep.proofs.Moments.{joined, weakened, behind_still, still_still, quiet_still, rose_later}
-use Rattle.fts_keep.proofs.Lists.{none_more, legal_more, accepted_tables}
+use Rattle.fts_keep.proofs.Lists.{none_more, legal_more, accepted_tables, filled_by_more}
 use Rattle.fts_keep.proofs.Tying.{IsHeld, list_untold, seen_entries, seen_doubt, tie}
+use Rattle.fts_keep.proofs.Ending.{limit_more}
 use Rattle.fts_keep.proofs.Exits.{fits_by}
 
 -- an empty content stands for nothing
@@ -199,7 +200,7 @@ module _ {D : Type 0} (state : D → DiskState) (faults : D → ℕ) (reads : (e
             proper = folds.proper;
             counted = folds.counted;
             sure = leaves.in_doubt ∙ opens.sure;
-            fills = leaves.used ∙ folds.fills there ∙ ap used_by (folds.spells there);
+            fills = leaves.used ∙ folds.fills;
           }
 
       -- it is what the disk stood for
@@ -229,11 +230,18 @@ module _ {D : Type 0} (state : D → DiskState) (faults : D → ℕ) (reads : (e
         counts = opens.counts;
       }
 
+      -- and fills what is used
+      opened_filled : IsFilledBy (keep_of state desk folded) folds.entries
+      opened_filled = record {
+        list = record { folded = folds.folded; legal = folds.legal; counted = folds.counted };
+        proper = folds.proper;
+        fills = leaves.used ∙ folds.fills;
+      }
+
       -- the desk is tied to it
       pub folded_tied : IsTied state desk folded
       folded_tied = tie state reads desk folded (omega (arith, folds.low, folds.all, leaves.used)) (omega (arith, folds.high, leaves.used))
-          (folds.all ∙ sym leaves.count)
-          (folds.entries, record { folded = folds.folded; legal = folds.legal; counted = folds.counted })
+          (folds.all ∙ sym leaves.count) (folds.entries, opened_filled)
           (λ there. record { entries = folds.entries; doubt = None; held = opened_held (sym opens.told ∙ sym leaves.told ∙ there) })
           (λ there content left. let told = sym opens.told ∙ sym leaves.told ∙ there in
           subst (λ d. IsJournalImage folded.bodies d content) (sym (leaves.doubt (told_journal told) ∙ opens.no_doubt told))
@@ -277,9 +285,9 @@ module _ {D : Type 0} (state : D → DiskState) (faults : D → ℕ) (reads : (e
 
         -- the Restart was accepted
         pub started : (answer : Answer) → Applied state faults (keep_of state desk folded) (keep_of state next last) restart (Ok answer)
-            → IsTied state next last
+            → IsProper restart → IsTied state next last
             → Started state faults disk settings now (Ok (keep_of state next last))
-        started answer accepts tied = (
+        started answer accepts proper tied = (
           folds.entries,
           record {
             legal = folds.legal;
@@ -287,8 +295,11 @@ module _ {D : Type 0} (state : D → DiskState) (faults : D → ℕ) (reads : (e
             counted = omega (arith, accepts.commands, folds.counted);
             before = folded.used;
             least = omega (arith, folds.low, folds.all, folds.counted, leaves.used);
-            room = fits_by folded.used restart (step desk.tables restart.command) (subst (λ came. IsOk came) (sym accepts.done) refl);
+            fills = leaves.used ∙ folds.fills;
+            room = has_room;
             filled = accepts.used;
+            over = filled_by_more state (keep_of state desk folded) (keep_of state next last) folds.entries restart answer opened_filled proper accepts;
+            limit = λ kept. limit_more folds.entries restart kept (ap (λ n. fits n restart) (sym (leaves.used ∙ folds.fills)) ∙ has_room);
             sure = accepts.no_doubt;
             told = accepts.told ∙ leaves.told ∙ opens.told;
             counts = omega (arith, opens.counts, leaves.counts, counts);
@@ -307,6 +318,9 @@ module _ {D : Type 0} (state : D → DiskState) (faults : D → ℕ) (reads : (e
                 };
           },
         )
+          where
+            has_room : fits folded.used restart ≡ true
+            has_room = fits_by folded.used restart (step desk.tables restart.command) (subst (λ came. IsOk came) (sym accepts.done) refl)
 
         -- it wasn't
         pub unstarted : (fault : KeepFault) → Applied state faults (keep_of state desk folded) (keep_of state next last) restart (Err fault)

@@ -1,7 +1,7 @@
 -- A desk tied to its journal: what that says over a disk that tells its contents, and what it needs.
 use Rattle.std.proofs.Common.{◌≡◌, ◌≢◌, refl, ap, sym, ◌∙◌, ◌+◌, ◌*◌, ◌≤◌, ◌<◌, Bool, true, false, List, [], length, Option, Some, option_map, option_and_then, is_some, All}
 use Rattle.fts_tables.specs.History.{tables_of, IsLegal}
-use Rattle.fts_tables.specs.declared.limits.TheConstants.{MAX_JOURNAL_BYTES}
+use Rattle.fts_tables.specs.declared.limits.TheConstants.{JOURNAL_END}
 use Rattle.fts_tables.specs.declared.commands.Entry.{Entry}
 use Rattle.fts_record.specs.Spelling.{spelled}
 use Rattle.fts_record.specs.Proper.{IsProper}
@@ -9,7 +9,7 @@ use Rattle.fts_record.specs.Reading.{read_of}
 use Rattle.fts_desk.specs.DeskData.{DeskData}
 use Rattle.fts_disk.specs.Disk.{DiskState, IsTold}
 use Rattle.fts_journal.specs.Journal.{JournalData, IsSound}
-use Rattle.fts_keep.specs.Keeps.{HoldsList, IsListOf, bodies_of, used_of, with_doubt}
+use Rattle.fts_keep.specs.Keeps.{HoldsList, IsFilledBy, bodies_of, used_of, with_doubt}
 use Rattle.fts_keep.specs.Views.{entries_in, list_if, option_if, keep_of, IsTied}
 use Rattle.fts_keep.proofs.Lists.{entries_again, doubt_again, proper_list, image_of}
 
@@ -80,14 +80,15 @@ module _ {D : Type 0} (state : D → DiskState) (reads : (entry : Entry) → IsP
   }
 
   -- what ties a desk to its journal
-  pub tie : 8 + 6 * desk.commands ≤ journal.used → journal.used < MAX_JOURNAL_BYTES → desk.commands ≡ journal.count
-      → ((entries : List Entry) × IsListOf (keep_of state desk journal) entries)
+  pub tie : 8 + 6 * desk.commands ≤ journal.used → journal.used < JOURNAL_END → desk.commands ≡ journal.count
+      → ((entries : List Entry) × IsFilledBy (keep_of state desk journal) entries)
       → (IsTold (state journal.disk) → Holding desk journal) → IsSound (state journal.disk) journal.bodies journal.doubt → IsTied state desk journal
-  tie low high counted some holding sound = record {
+  tie low high counted filled holding sound = record {
     fold = record {
       low = low;
       high = high;
-      some = some;
+      some = (filled.0, filled.1.list);
+      filled = filled;
       holds = λ told. let h = holding told in
           rw (seen_entries h.entries h.doubt h.held told, seen_doubt h.entries h.doubt h.held told) (holds h.entries h.doubt h.held sound told);
     };

@@ -2,7 +2,7 @@
 use Rattle.std.specs.Prelude.{◌≡◌, ◌⊎◌, ℕ, ◌+◌, Bool, false, if◌then◌else◌, nat_le, Some, None, IsOk, List, [], ◌∷◌, ◌++◌, length, Result, Ok, Err}
 use Rattle.fts_tables.specs.Tables.{Tables}
 use Rattle.fts_tables.specs.Step.{Outcomes, step}
-use Rattle.fts_tables.specs.declared.limits.TheConstants.{MAX_JOURNAL_BYTES}
+use Rattle.fts_tables.specs.Settling.{journal_limit}
 use Rattle.fts_tables.specs.declared.commands.Entry.{Entry}
 use Rattle.fts_tables.specs.declared.commands.Command.{Command}
 use Rattle.fts_tables.specs.declared.commands.Answer.{Answer}
@@ -17,9 +17,9 @@ use Rattle.fts_keep.specs.declared.fault.KeepFault.TheVariants.{Rule, DiskFailed
 abbrev pub entry_by : ℕ → Command → Entry
 entry_by writer command = record { writer = writer; command = command }
 
--- whether an entry fits a journal of which so many bytes are used, with the gate behind it
+-- whether an entry fits a journal of which so many bytes are used: the gate behind it has to stand below the limit of its command
 abbrev pub fits : ℕ → Entry → Bool
-fits used entry = nat_le (used + 6 + length (spelled entry)) MAX_JOURNAL_BYTES
+fits used entry = nat_le (used + 6 + length (spelled entry)) (journal_limit entry.command)
 
 -- what comes of a command: new tables and an answer, or a refusal by the machine or by the journal's limit
 abbrev pub Applies : Type 0

@@ -4,16 +4,15 @@ use Rattle.fts_tables.specs.Counts.{Rose}
 use Rattle.fts_tables.specs.Tables.{Tables}
 use Rattle.fts_tables.specs.Step.{step}
 use Rattle.fts_tables.specs.History.{tables_of, IsLegal}
-use Rattle.fts_tables.specs.declared.limits.TheConstants.{MAX_JOURNAL_BYTES}
+use Rattle.fts_tables.specs.declared.limits.TheConstants.{JOURNAL_END}
 use Rattle.fts_tables.specs.declared.commands.Entry.{Entry}
 use Rattle.fts_tables.specs.declared.commands.Answer.{Answer}
 use Rattle.fts_record.specs.Spelling.{spelled}
 use Rattle.fts_record.specs.Proper.{IsProper}
 use Rattle.fts_record.specs.Reading.{entry_in}
 use Rattle.fts_disk.specs.Disk.{DiskState, IsTold}
-use Rattle.fts_journal.specs.Format.{used_by}
-use Rattle.fts_journal.specs.Journal.{JournalData}
-use Rattle.fts_keep.specs.Keeps.{bodies_of}
+use Rattle.fts_journal.specs.Journal.{JournalData, filled_by}
+use Rattle.fts_keep.specs.Keeps.{bodies_of, used_of}
 use Rattle.fts_keep.specs.Damage.{fault_at, fault_from, fault_in}
 use Rattle.fts_keep.specs.Started.{IsStill}
 use Rattle.fts_keep.specs.declared.fault.KeepFault.{KeepFault}
@@ -44,11 +43,12 @@ pub record LeavesJournal {D : Type 0} (state : D → DiskState) (faults : D → 
   pub in_doubt : new.in_doubt ≡ old.in_doubt
   pub told : (state new.disk).told ≡ (state old.disk).told
   pub counts : faults old.disk ≤ faults new.disk
+  pub sizes : new.sizes ≡ old.sizes
   pub bodies : IsTold (state old.disk) → new.bodies ≡ old.bodies
   pub doubt : IsTold (state old.disk) → new.doubt ≡ old.doubt
   pub still : IsTold (state old.disk) → IsStill (state old.disk) (state new.disk)
 
--- so many bodies were folded: the tables are those of a legal list; where the disk tells its contents its bodies begin with the spellings of
+-- so many bodies were folded: the tables are those of a legal list, and the next gate stands behind it and behind these bodies; where the disk tells its contents its bodies begin with the spellings of
 -- this list, and the first fault is one of the bodies that follow
 pub record HasFolded {D : Type 0} (state : D → DiskState) (journal : JournalData D) (tables : Tables) (gate n : ℕ) : Type 0 where
   pub entries : List Entry
@@ -56,6 +56,8 @@ pub record HasFolded {D : Type 0} (state : D → DiskState) (journal : JournalDa
   pub legal : IsLegal entries
   pub counted : n ≡ length entries
   pub proper : All IsProper entries
+  pub fills : gate ≡ used_of entries
+  pub passes : gate ≡ filled_by (take n journal.sizes)
   pub spells : IsTold (state journal.disk) → take n journal.bodies ≡ bodies_of entries
   pub behind : IsTold (state journal.disk) → fault_in journal.bodies ≡ fault_from tables gate (drop n journal.bodies)
 
@@ -67,9 +69,9 @@ pub record Folds {D : Type 0} (state : D → DiskState) (journal : JournalData D
   pub counted : commands ≡ length entries
   pub all : commands ≡ journal.count
   pub low : 8 + 6 * journal.count ≤ journal.used
-  pub high : journal.used < MAX_JOURNAL_BYTES
-  pub fills : IsTold (state journal.disk) → journal.used ≡ used_by journal.bodies
+  pub high : journal.used < JOURNAL_END
   pub proper : All IsProper entries
+  pub fills : journal.used ≡ used_of entries
   pub spells : IsTold (state journal.disk) → journal.bodies ≡ bodies_of entries
 
 -- why they weren't

@@ -3,6 +3,7 @@ pub mod Views
 pub mod Faults
 pub mod Damage
 pub mod Applied
+pub mod Ending
 pub mod Folding
 pub mod Opening
 pub mod Started

@@ -10,9 +10,10 @@ use Rattle.fts_tables.specs.Counts.{Rose}
 use Rattle.fts_disk.specs.Disk.{DiskState, IsTold, LeavesOnly}
 use Rattle.fts_journal.specs.Loading.{IsQuiet}
 use Rattle.fts_journal.specs.Journal.{IsMaking}
-use Rattle.fts_keep.specs.Keeps.{KeepData, HoldsList, StandsFor, used_of, IsImageSince}
+use Rattle.fts_keep.specs.Keeps.{KeepData, IsFilledBy, HoldsList, StandsFor, used_of, IsImageSince}
 use Rattle.fts_keep.specs.Damage.{IsWhole, IsDamaged}
 use Rattle.fts_keep.specs.Applied.{entry_by, fits}
+use Rattle.fts_keep.specs.Ending.{KeepsFirstLimit}
 use Rattle.fts_keep.specs.declared.fault.KeepFault.{KeepFault}
 use Rattle.fts_keep.specs.declared.fault.KeepFault.TheVariants.{Rule, DiskFailed, JournalFull, Damaged, Memory}
 
@@ -54,8 +55,8 @@ pub record Starts {D : Type 0} (state : D → DiskState) (faults : D → ℕ) (d
   pub images : LeavesOnly (state opened) (state keep.disk) (IsImageSince opening keep.entries)
   pub counts : faults opened ≤ faults keep.disk
 
--- A keep was started. Over every disk there is a list that is legal and, with the Restart behind it, makes its tables; and so many bytes were
--- used before that Restart. Over a disk that tells its contents the list is its own.
+-- A keep was started. Over every disk there is a list of proper entries that is legal and, with the Restart behind it, makes its tables; and as
+-- many bytes were used before that Restart as the list fills. Over a disk that tells its contents the list is its own.
 pub record StartsOver {D : Type 0} (state : D → DiskState) (faults : D → ℕ) (disk : D) (settings : SettingsData) (now : ℕ) (keep : KeepData D)
     (opening : List Entry) : Type 0 where
   pub legal : IsLegal opening
@@ -63,8 +64,12 @@ pub record StartsOver {D : Type 0} (state : D → DiskState) (faults : D → ℕ
   pub counted : keep.commands ≡ length opening + 1
   pub before : ℕ
   pub least : 8 + 6 * length opening ≤ before
+  pub fills : before ≡ used_of opening
   pub room : fits before (restart_at now settings) ≡ true
   pub filled : keep.used ≡ before + 5 + length (spelled (restart_at now settings))
+  pub over : IsFilledBy keep (restarted opening now settings)
+  -- with the Restart the list keeps the first limit, where it did without
+  pub limit : KeepsFirstLimit opening → KeepsFirstLimit (restarted opening now settings)
   pub sure : keep.in_doubt ≡ false
   pub told : (state keep.disk).told ≡ (state disk).told
   pub counts : faults disk ≤ faults keep.disk

@@ -6,6 +6,7 @@ ghost use Rattle.std.specs.Prelude.{◌≤◌, IsTrue};
 ghost use Rattle.fts_record.specs.Proper.{has_priority};
 ghost use Rattle.fts_keep.specs.Views.{keep_of, IsTied};
 ghost use Rattle.fts_keep.specs.Applied.{Applied, AppliesSafely};
+ghost use Rattle.fts_keep.specs.Ending.{ShowsProper};
 
 use crate::KeepFault;
 use crate::checking::check;
@@ -29,6 +30,7 @@ pub fn accept<D: Disk>(
     ensures applied { Applied D.state D.faults (keep_of D.state desk.old journal.old) (keep_of D.state desk.new journal.new) entry.now result }
     ensures safe { AppliesSafely D.state (keep_of D.state desk.old journal.old) (keep_of D.state desk.new journal.new) entry.now }
     ensures counts { D.faults journal.old.disk ≤ D.faults journal.new.disk }
+    ensures shows { ShowsProper entry.now result }
 {
     what_is_spelled_is_read();
     let (plan, body) = check(alloc, desk, journal.used(), entry)?;

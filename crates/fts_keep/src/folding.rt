@@ -3,14 +3,12 @@
 //! Where a body is no entry the fault is at the first field that isn't spelled; where its entry is refused, at its gate.
 //! Called by `Keep::start` and `Keep::view`.
 ghost use Rattle.std.specs.Prelude.{◌≡◌, ◌≤◌, ◌+◌, ◌<◌, ◌^◌, length, IfOk, IfErr, OnOk};
-ghost use Rattle.fts_tables.specs.declared.limits.TheConstants.{MAX_BODY_BYTES};
 ghost use Rattle.fts_keep.specs.Folding.{Takes, LeavesJournal, Folds, FoldFault};
 
 use crate::KeepFault;
 use fts_desk::{Desk, DeskFault};
 use fts_disk::Disk;
 use fts_journal::{FRONT_BYTES, HEADER_BYTES, Journal};
-use fts_record::laws::spellings_are_bodies;
 use fts_record::{ReadFault, read_entry};
 use std::alloc::Global;
 
@@ -20,9 +18,7 @@ fn take_entry(alloc: Global, desk: &mut Desk, body: &[u8], gate: u64) -> Result<
     requires low { gate < 2 ^ 62 }
     ensures takes { Takes desk.old.tables gate body.now desk.new.tables result }
     ensures commands { OnOk result (desk.new.commands ≡ desk.old.commands + 1) }
-    ensures short { OnOk result (length body.now ≤ MAX_BODY_BYTES) }
 {
-    spellings_are_bodies();
     let entry = match read_entry(alloc, body) {
         Ok(entry) => entry,
         Err(ReadFault::BadEntry { at }) => {
@@ -47,7 +43,7 @@ pub fn fold<D: Disk>(alloc: Global, journal: &mut Journal<D>) -> Result<Desk, Ke
     ensures folded { IfOk result (λ desk. Folds D.state journal.old desk.tables desk.commands) }
     ensures fault { IfErr result (FoldFault D.state D.faults journal.old journal.new) }
 {
-    // Each body takes six bytes of a journal that is short, so bodies can be counted, and their offsets too.
+    // Each body takes six bytes of a journal that has an end, so bodies can be counted, and their offsets too.
     journal.used();
     let mut desk = Desk::empty(alloc);
     let mut body = Vec::new(alloc);

@@ -2,15 +2,18 @@
 //! Keeps: the tables are the fold of the list, and every image of a told disk stands for the list, or for it with the entry in doubt (`IsKept`).
 //! Order: a start opens the journal, folds its entries and has a Restart accepted; each command after it is checked, journaled and then done.
 //! Called by the layers that answer requests and copy files. It knows neither.
-ghost use Rattle.std.specs.Prelude.{◌≡◌, IsSome, IfOk, IfErr, IsTrue, Ok, Err};
+ghost use Rattle.std.specs.Prelude.{◌≡◌, IsSome, IfOk, IfErr, IsTrue, Ok, Err, true, List};
+ghost use Rattle.fts_tables.specs.Settling.{settles};
+ghost use Rattle.fts_tables.specs.declared.commands.Entry.{Entry};
 ghost use Rattle.fts_record.specs.Proper.{has_priority};
 ghost use Rattle.fts_keep.specs.Applied.{Applied, AppliesSafely, DoubtIsOwn, entry_by};
+ghost use Rattle.fts_keep.specs.Ending.{KeepsFirstLimit, LeavesRoom, IsNotFull, StaysFilled};
 ghost use Rattle.fts_keep.specs.Started.{Started, Viewed};
 
 use crate::KeepFault;
 use crate::accepting::accept;
 use crate::folding::fold;
-use crate::laws::damage_is_one;
+use crate::laws::{damage_is_one, the_end_strands_nobody};
 use crate::opening::open;
 use fts_desk::Desk;
 use fts_disk::Disk;
@@ -52,7 +55,7 @@ impl<D: Disk> Model for Keep<D> {
 impl<D: Disk> Keep<D> {
     ghost use Rattle.std.specs.Prelude.{◌≡◌, ◌≢◌, [], IsSome, IfOk, IfErr, IsTrue, Ok, Err};
     ghost use Rattle.fts_disk.specs.Disk.{IsTold};
-    ghost use Rattle.fts_keep.specs.Keeps.{IsKeep, Grows, DoubtHasCause, KeepsImagesSinceAny};
+    ghost use Rattle.fts_keep.specs.Keeps.{with_doubt, IsOver, IsKeep, Grows, DoubtHasCause, KeepsImagesSinceAny};
 
     /// Makes a journal on an empty disk, or folds the one that is there, and then has a Restart of writer 0 accepted.
     /// `now` is in seconds since 1970. Gives the disk back where it isn't started; `Rule` never comes.
@@ -90,7 +93,8 @@ impl<D: Disk> Keep<D> {
     }
 
     /// Tries a command of a writer. At `Ok` the tables are the machine's and every crash leaves the command; a refusal leaves list and tables as
-    /// they were. `Rule` comes exactly where the machine refuses, `JournalFull` exactly by the journal's limit; `Damaged` never.
+    /// they were. `Rule` comes exactly where the machine refuses, `JournalFull` exactly by the limit of the journal that the command has; `Damaged`
+    /// never.
     /// After `DiskFailed` one entry is in doubt at most, an old one or this one, and the next command that passes its checks ends the doubt first.
     pub fn apply(&mut self, writer: u32, command: Command) -> Result<Answer, KeepFault>
         requires priority { IsTrue (has_priority command) }
@@ -102,7 +106,14 @@ impl<D: Disk> Keep<D> {
         ensures doubt_own { DoubtIsOwn D.state D.faults self.old self.new (entry_by writer command) }
         // Since any opening of the list each image is a beginning of it, with one entry more at most.
         ensures images { KeepsImagesSinceAny D.state self.old self.new }
+        // The journal's end strands nobody: behind a list that leaves room, what settles something isn't refused for want of it. The list is the
+        // keep's own, or any that the keep may be of; its own, with the entry in doubt, keeps the first limit from call to call.
+        ensures room { (entries : List Entry) → IsOver D.state self.old entries → LeavesRoom entries → settles command ≡ true → IsNotFull result }
+        ensures limit { IsTold (D.state self.old.disk) → KeepsFirstLimit (with_doubt self.old.entries self.old.doubt)
+            → KeepsFirstLimit (with_doubt self.new.entries self.new.doubt) }
+        ensures filled { StaysFilled self.old self.new (entry_by writer command) result }
     {
+        the_end_strands_nobody();
         let entry = Entry { writer, command };
         accept(self.alloc, &mut self.desk, &mut self.journal, &entry)
     }

@@ -1,8 +1,10 @@
 -- Each exit of the loop, by the lemmas of `Folded`.
-use Rattle.std.proofs.Common.{◌≡◌, ◌∙◌, ap, sym, subst, ◌+◌, ◌≤◌, slice_get, Some, length, rules, arith}
+use Rattle.std.proofs.Common.{◌≡◌, ◌∙◌, ap, sym, subst, suc, ◌+◌, ◌≤◌, slice_get, Some, length, rules, arith}
+use Rattle.fts_tables.specs.declared.limits.TheConstants.{JOURNAL_END}
+use Rattle.fts_journal.specs.Journal.{filled_by}
 use Rattle.fts_keep.specs.Faults.{fault_of}
 use Rattle.fts_keep.specs.Folding.{HasFolded, FoldFault}
-use Rattle.fts_keep.proofs.Folded.{folded_none, folded_more, leaves_none, leaves_more, read_fault, take_fault, on_err, take_all}
+use Rattle.fts_keep.proofs.Folded.{passes_more, filled_to, folded_none, folded_more, leaves_none, leaves_more, read_fault, take_fault, on_err, take_all}
 use Rattle.fts_keep.proofs.folding.fold.Goals as goal
 
 pub loop-n-init : goal.loop-n-init
@@ -10,7 +12,6 @@ loop-n-init g c = record {
   leaves = leaves_none g.D.Disk.state g.D.Disk.faults g.met.D.Disk.lawful c.args.journal.now;
   folded = subst (λ t. HasFolded g.D.Disk.state c.args.journal.now t 8 0) (sym c.empty-desk.ensures.tables) (folded_none g.D.Disk.state c.args.journal.now);
   commands = c.empty-desk.ensures.commands;
-  low = omega arith;
 }
 
 pub body-requires : goal.body-requires
@@ -18,7 +19,7 @@ body-requires g c = omega (arith, c.loop-n.invariant.leaves.count, c.count-n-end
 
 pub returns-in_err-body-clause-leaves : goal.returns-in_err-body-clause-leaves
 returns-in_err-body-clause-leaves g c = leaves_more g.D.Disk.state g.D.Disk.faults g.met.D.Disk.lawful c.args.journal.now c.loop-n.journal c.body.new.self
-    c.loop-n.invariant.leaves c.body.ensures.told c.body.ensures.kept c.body.ensures.counts c.body.ensures.keeps c.body.ensures.doubt
+    c.loop-n.invariant.leaves c.body.ensures.told c.body.ensures.kept c.body.ensures.counts c.body.ensures.sizes c.body.ensures.keeps c.body.ensures.doubt
 
 pub returns-in_err-body-clause-fault : goal.returns-in_err-body-clause-fault
 returns-in_err-body-clause-fault g c = on_err c.from_residual.result (fault_of c.in_err-body.field-0.0)
@@ -32,12 +33,17 @@ take_entry-requires-clause-few g c = omega
     (arith, c.loop-n.invariant.commands, c.count-n-end.ensures.count, c.loop-n-test.true, c.used.ensures.least, c.used.ensures.most)
 
 pub take_entry-requires-clause-low : goal.take_entry-requires-clause-low
-take_entry-requires-clause-low g c = omega
-    (arith, c.loop-n.invariant.low, c.count-n-end.ensures.count, c.loop-n-test.true, c.used.ensures.least, c.used.ensures.most)
+take_entry-requires-clause-low g c = omega (
+  arith,
+  c.loop-n.invariant.folded.passes,
+  filled_to c.args.journal.now.sizes c.loop-n.n,
+  c.used.ensures.filled,
+  c.used.ensures.most,
+)
 
 pub returns-in_err-take_entry-clause-leaves : goal.returns-in_err-take_entry-clause-leaves
 returns-in_err-take_entry-clause-leaves g c = leaves_more g.D.Disk.state g.D.Disk.faults g.met.D.Disk.lawful c.args.journal.now c.loop-n.journal c.body.new.self
-    c.loop-n.invariant.leaves c.body.ensures.told c.body.ensures.kept c.body.ensures.counts c.body.ensures.keeps c.body.ensures.doubt
+    c.loop-n.invariant.leaves c.body.ensures.told c.body.ensures.kept c.body.ensures.counts c.body.ensures.sizes c.body.ensures.keeps c.body.ensures.doubt
 
 pub returns-in_err-take_entry-clause-fault : goal.returns-in_err-take_entry-clause-fault
 returns-in_err-take_entry-clause-fault g c = on_err c.from_residual-in_err-take_entry.result c.in_err-take_entry.field-0.0
@@ -51,14 +57,15 @@ returns-in_err-take_entry-clause-fault g c = on_err c.from_residual-in_err-take_
 
 pub overflow_add-gate-in-loop-n : goal.overflow_add-gate-in-loop-n
 overflow_add-gate-in-loop-n g c =
-    let short : c.loop-n.gate + (5 + c.len.result) ≤ 100000000000000 = omega (
+    let long : slice_get c.args.journal.now.sizes c.loop-n.n ≡ Some (length c.deref.result.now) =
+    ap (λ s. slice_get s c.loop-n.n) (sym c.loop-n.invariant.leaves.sizes) ∙ c.in_ok-body.ensures.long ∙ ap (λ b. Some (length b)) (sym c.deref.ensures.value) in
+    let short : c.loop-n.gate + (5 + c.len.result) ≤ JOURNAL_END = omega (
       arith,
-      c.loop-n.invariant.low,
-      c.count-n-end.ensures.count,
-      c.loop-n-test.true,
-      c.used.ensures.least,
+      c.loop-n.invariant.folded.passes,
+      passes_more c.args.journal.now.sizes c.loop-n.n (length c.deref.result.now) long,
+      filled_to c.args.journal.now.sizes (suc c.loop-n.n),
+      c.used.ensures.filled,
       c.used.ensures.most,
-      c.in_ok-take_entry.ensures.short,
       c.len.ensures,
       ap length c.deref.ensures.value,
     ) in
@@ -70,14 +77,15 @@ loop-n-preserved g c =
     (arith, c.len.ensures, ap length c.deref.ensures.value) in
     record {
       leaves = leaves_more g.D.Disk.state g.D.Disk.faults g.met.D.Disk.lawful c.args.journal.now c.loop-n.journal c.body.new.self
-          c.loop-n.invariant.leaves c.body.ensures.told c.body.ensures.kept c.body.ensures.counts c.body.ensures.keeps c.body.ensures.doubt;
+          c.loop-n.invariant.leaves c.body.ensures.told c.body.ensures.kept c.body.ensures.counts c.body.ensures.sizes c.body.ensures.keeps c.body.ensures.doubt;
       folded = subst (λ k. HasFolded g.D.Disk.state c.args.journal.now c.take_entry.new.desk.tables k (c.loop-n.n + 1)) long
           (folded_more g.D.Disk.state c.args.journal.now c.loop-n.desk.tables c.take_entry.new.desk.tables c.loop-n.gate c.loop-n.n c.deref.result.now
           c.loop-n.invariant.folded c.in_ok-take_entry.ensures.takes
+          (ap (λ s. slice_get s c.loop-n.n) (sym c.loop-n.invariant.leaves.sizes) ∙ c.in_ok-body.ensures.long
+          ∙ ap (λ b. Some (length b)) (sym c.deref.ensures.value))
           (λ told. ap (λ b. slice_get b c.loop-n.n) (sym (c.loop-n.invariant.leaves.bodies told))
           ∙ c.in_ok-body.ensures.read (c.loop-n.invariant.leaves.told ∙ told) ∙ ap (λ b. Some b) (sym c.deref.ensures.value)));
       commands = omega (arith, c.in_ok-take_entry.ensures.commands, c.loop-n.invariant.commands);
-      low = omega (arith, c.loop-n.invariant.low, c.in_ok-take_entry.ensures.short, long);
     }
 
 pub returns-clause-leaves : goal.returns-clause-leaves
@@ -95,7 +103,9 @@ returns-clause-folded g c =
       all = c.loop-n.invariant.commands ∙ all ∙ c.count-n-end.ensures.count;
       low = omega (arith, c.used.ensures.least, c.used.ensures.used);
       high = omega (arith, c.used.ensures.most, c.used.ensures.used);
-      fills = λ told. sym c.used.ensures.used ∙ c.used.ensures.offset told;
       proper = folded.proper;
+      fills = sym c.used.ensures.used ∙ c.used.ensures.filled
+          ∙ ap filled_by (sym (take_all c.args.journal.now.sizes c.loop-n.n (c.count-n-end.ensures.sizes ∙ sym all)))
+          ∙ sym folded.passes ∙ folded.fills;
       spells = λ told. sym (take_all c.args.journal.now.bodies c.loop-n.n (c.count-n-end.ensures.told told ∙ sym all)) ∙ folded.spells told;
     }

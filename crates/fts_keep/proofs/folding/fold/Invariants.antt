@@ -1,4 +1,4 @@
-use Rattle.std.proofs.Common.{◌≡◌, ◌≤◌, ◌+◌, ◌*◌}
+use Rattle.std.proofs.Common.{◌≡◌}
 use Rattle.fts_keep.specs.Folding.{LeavesJournal, HasFolded}
 use Rattle.fts_keep.proofs.folding.fold.Given as goal
 
@@ -7,5 +7,4 @@ invariant-loop-n g l = record {
   leaves : LeavesJournal g.D.Disk.state g.D.Disk.faults l.fn.journal l.journal;
   folded : HasFolded g.D.Disk.state l.fn.journal l.desk.tables l.gate l.n;
   commands : l.desk.commands ≡ l.n;
-  low : l.gate ≤ 8 + l.n * 4194309;
 }

@@ -1,11 +1,13 @@
 -- What an acceptance comes to, as callers of the keep see it.
-use Rattle.std.proofs.Common.{◌≡◌, ◌++◌, subst, List}
+use Rattle.std.proofs.Common.{◌≡◌, ◌++◌, true, subst, List}
+use Rattle.fts_tables.specs.Settling.{settles}
 use Rattle.fts_tables.specs.declared.commands.Entry.{Entry}
 use Rattle.fts_disk.specs.Disk.{IsTold}
-use Rattle.fts_keep.specs.Keeps.{Grows, DoubtHasCause, KeepsImages}
+use Rattle.fts_keep.specs.Keeps.{with_doubt, IsOver, Grows, DoubtHasCause, KeepsImages}
 use Rattle.fts_keep.specs.Views.{keep_of}
 use Rattle.fts_keep.specs.Applied.{DoubtIsOwn, entry_by}
-use Rattle.fts_keep.proofs.Applying.{kept_after, grown, doubt_caused, doubt_of, images_since}
+use Rattle.fts_keep.specs.Ending.{KeepsFirstLimit, LeavesRoom, IsNotFull, StaysFilled}
+use Rattle.fts_keep.proofs.Applying.{kept_after, grown, doubt_caused, doubt_of, images_since, not_full, limit_kept, stays_filled}
 use Rattle.fts_keep.proofs.keep.Keep.apply.Goals as goal
 
 pub invariant_of-self : goal.invariant_of-self
@@ -43,3 +45,26 @@ returns-clause-images g c = subst (λ k. (opening since : List Entry) → k.entr
     (grown g.D.Disk.state g.D.Disk.faults c.self.inside.desk c.accept.new.desk c.self.inside.journal c.accept.new.journal
     (entry_by c.args.writer c.args.command)
     c.accept.ensures.counts c.accept.result c.accept.ensures.applied) is c.accept.ensures.safe)
+
+pub returns-clause-room : goal.returns-clause-room
+returns-clause-room g c = subst (λ k. (entries : List Entry) → IsOver g.D.Disk.state k entries → LeavesRoom entries → settles c.args.command ≡ true
+    → IsNotFull c.accept.result) c.self.view_is
+    (not_full g.D.Disk.state g.D.Disk.faults (keep_of g.D.Disk.state c.self.inside.desk c.self.inside.journal)
+    (keep_of g.D.Disk.state c.accept.new.desk c.accept.new.journal) (entry_by c.args.writer c.args.command)
+    c.accept.result c.accept.ensures.applied c.self.invariant.tied.fold c.the_end_strands_nobody.ensures.room c.accept.ensures.shows)
+
+pub returns-clause-limit : goal.returns-clause-limit
+returns-clause-limit g c = subst (λ k. IsTold (g.D.Disk.state k.disk) → KeepsFirstLimit (with_doubt k.entries k.doubt)
+    → KeepsFirstLimit (with_doubt (keep_of g.D.Disk.state c.accept.new.desk c.accept.new.journal).entries
+    (keep_of g.D.Disk.state c.accept.new.desk c.accept.new.journal).doubt)) c.self.view_is
+    (limit_kept g.D.Disk.state g.D.Disk.faults (keep_of g.D.Disk.state c.self.inside.desk c.self.inside.journal)
+    (keep_of g.D.Disk.state c.accept.new.desk c.accept.new.journal) (entry_by c.args.writer c.args.command)
+    c.accept.result c.accept.ensures.applied c.self.invariant.tied.fold c.the_end_strands_nobody.ensures.more
+    c.the_end_strands_nobody.ensures.front)
+
+pub returns-clause-filled : goal.returns-clause-filled
+returns-clause-filled g c = subst (λ k. StaysFilled k (keep_of g.D.Disk.state c.accept.new.desk c.accept.new.journal)
+    (entry_by c.args.writer c.args.command) c.accept.result) c.self.view_is
+    (stays_filled g.D.Disk.state g.D.Disk.faults (keep_of g.D.Disk.state c.self.inside.desk c.self.inside.journal)
+    (keep_of g.D.Disk.state c.accept.new.desk c.accept.new.journal) (entry_by c.args.writer c.args.command)
+    c.accept.result c.accept.ensures.applied c.accept.ensures.shows)

@@ -26,7 +26,7 @@ returns-in-Ok-accept-clause-ok g c = started g.D.Disk.state g.D.Disk.faults c.wh
     c.args.disk c.args.settings c.args.now
     c.in-Ok.journal c.fold.new.journal c.in-Ok.ensures.made c.in-Ok.ensures.ok c.fold.ensures.leaves c.in-Ok-fold.desk c.in-Ok-fold.ensures.folded
     c.accept.new.desk c.accept.new.journal c.accept.ensures.safe c.accept.ensures.counts
-    c.in-Ok-accept.field-0 c.in-Ok-accept.ensures.applied c.accept.ensures.tied
+    c.in-Ok-accept.field-0 c.in-Ok-accept.ensures.applied c.in-Ok-accept.ensures.shows c.accept.ensures.tied
 
 pub returns-in-Err-accept-clause-err : goal.returns-in-Err-accept-clause-err
 returns-in-Err-accept-clause-err g c = subst
