@@ -10,3 +10,5 @@ pub mod Still
 pub mod Told
 pub mod Rows
 pub mod Counted
+pub mod Asked
+pub mod Banning

@@ -1,5 +1,5 @@
 -- What is made of a plan before a command is applied: the reply, or the command with the reply that shows what it will leave.
-use Rattle.std.specs.Prelude.{◌≡◌, ◌≢◌, ℕ, ◌+◌, ◌++◌, length, IsTrue, Ok, Err}
+use Rattle.std.specs.Prelude.{◌≡◌, ℕ, ◌+◌, ◌==◌, Bool, not, ◌&&◌, ◌++◌, length, IsTrue, Ok, Err}
 use Rattle.serde_json.specs.Data.{Data}
 use Rattle.fts_tables.specs.Tables.{Tables}
 use Rattle.fts_tables.specs.Step.{Outcomes, step}
@@ -44,10 +44,9 @@ IsOfRequests NotBanned = Unit {0}
 IsOfRequests Idle = ⊥
 IsOfRequests (Stale state attempt) = ⊥
 
--- a reply that neither want of memory nor a failing disk is the cause of
-pub record IsDecided (reply : Reply) : Type 0 where
-  pub memory : reply.status ≢ 500
-  pub disk : reply.status ≢ 503
+-- whether a status is neither the one for want of memory nor the one for a failing disk
+abbrev pub is_decided : ℕ → Bool
+is_decided status = not (status == 500) && not (status == 503)
 
 -- the reply shows what a refused command left as it was; of other refusals it says nothing
 abbrev pub ShowsUnchanged : (Tables → Data) → Tables → Reply → Refusal → Type 0

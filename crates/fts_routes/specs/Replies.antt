@@ -212,7 +212,7 @@ reply_to_refusal tables shown (RowsFull rows) = rows_full
 reply_to_refusal tables shown (Unchanged job) = shows (shown tables)
 reply_to_refusal tables shown NoStorage = no_storage
 reply_to_refusal tables shown NotBanned = not_banned
--- no command of a request is refused so: these two come of claims, reports and expiries alone (`IsOfRequests`, `IsDecided`)
+-- no command of a request is refused so: these two come of claims, reports and expiries alone (`IsOfRequests`, `is_decided`)
 reply_to_refusal tables shown Idle = no_memory
 reply_to_refusal tables shown (Stale state attempt) = no_memory
 

@@ -11,7 +11,7 @@ ghost use Rattle.fts_wire.specs.Answered.{request_data};
 ghost use Rattle.fts_wire.specs.Response.{has_phrase, has_methods};
 ghost use Rattle.fts_tables.specs.Step.{step};
 ghost use Rattle.fts_routes.specs.Replies.{Answers, DoubtHasCause, Tries, said_to};
-ghost use Rattle.fts_routes.specs.Planned.{Comes, IsAsked, IsDecided, IsOfRequests, ShowsOutcome, ShowsUnchanged};
+ghost use Rattle.fts_routes.specs.Planned.{Comes, IsAsked, IsOfRequests, is_decided, ShowsOutcome, ShowsUnchanged};
 ghost use Rattle.fts_routes.specs.Replies.{reply_to_refusal, id_of_job, said};
 
 use crate::named::job_of_number;
@@ -45,7 +45,7 @@ pub fn answer<D: Disk>(
     ensures phrase { IsTrue (has_phrase result.status) }
     ensures methods { IsTrue (has_methods result.status result.allow) }
     // What is said as it is defined is never 500 or 503: these two have their causes outside of the tables.
-    ensures decided { IsDecided (said keep.old.tables keep.old.used writer (request_data request.now) now).reply }
+    ensures decided { IsTrue (is_decided (said keep.old.tables keep.old.used writer (request_data request.now) now).reply.status) }
 {
     match plan(alloc, keep.desk(), request, now) {
         Ok(Planned::Replies { reply }) => reply,

@@ -5,12 +5,13 @@
 ghost use Rattle.std.specs.Prelude.{◌≡◌, ℕ, Some, IfOk, IsSome, option_map, option_and_then};
 ghost use Rattle.std.specs.Option.{option_copied};
 ghost use Rattle.std.specs.Cow.{cow_str_bytes};
+ghost use Rattle.fts_tables.specs.SettingsData.{is_listed};
 ghost use Rattle.fts_tables.specs.Tables.{Tables};
 ghost use Rattle.fts_tables.specs.Step.{step};
 ghost use Rattle.fts_tables.specs.declared.commands.Command.TheVariants.{Ban};
 ghost use Rattle.fts_jobdoc.specs.Bans.{ban_of, storage_named};
 ghost use Rattle.fts_wire.specs.Answered.{request_data};
-ghost use Rattle.fts_routes.specs.Objects.{ban_object, unban_object};
+ghost use Rattle.fts_routes.specs.Objects.{ban_object, settings_in, unban_object};
 ghost use Rattle.fts_routes.specs.Queries.{storage_asked};
 ghost use Rattle.fts_routes.specs.Refusals.{bad_ban, shows};
 ghost use Rattle.fts_routes.specs.Replies.{plan_on_bans, if_ban, if_storage, banning, unbanning, cancelled_in};
@@ -85,11 +86,19 @@ fn cancelled_by_ban(desk: &Desk, storage: &str, cancel: bool) -> u32
     requires settings { IsSome desk.now.tables.settings }
     ensures { (now : ℕ) → result ≡ cancelled_in (step desk.now.tables (Ban now storage.now cancel)) }
 {
-    if cancel && is_listed(settings_of(desk).endpoints.as_slice(), storage) {
+    if cancel && is_known(desk, storage) {
         count_cancelled(desk, storage)
     } else {
         0
     }
+}
+
+/// Whether the settings in force list a storage.
+fn is_known(desk: &Desk, storage: &str) -> bool
+    requires settings { IsSome desk.now.tables.settings }
+    ensures { result ≡ is_listed (settings_in desk.now.tables).endpoints storage.now }
+{
+    is_listed(settings_of(desk).endpoints.as_slice(), storage)
 }
 
 fn show_ban(alloc: Global, storage: &str, cancelled: u32) -> Result<Reply, Memory>
