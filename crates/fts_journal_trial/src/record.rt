@@ -182,7 +182,7 @@ fn breaks_at(
 #[test]
 fn a_broken_head_of_a_job_is_named_by_its_place(rt: HostRuntime) -> Result<(), Fail> {
     for (case, changed, byte, want) in [
-        ("a command byte past the last", 1, 0x08, 1),
+        ("a command byte past the last", 1, 0x0c, 1),
         ("a moment with a needless byte", 6, 0x00, 2),
         ("a kind past the last", 7, 0x03, 7),
         ("a strategy past the last", 8, 0x02, 8),
