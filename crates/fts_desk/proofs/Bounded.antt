@@ -10,7 +10,7 @@ use Rattle.fts_tables.specs.Choice.{pick, next_alternative}
 use Rattle.fts_tables.specs.Moves.{change_row, submitted, canceled, claimed, is_retryable, reported_failure, reported_without_cancel, reported, submit_if_not_used, followed_finish, submit_chosen, followed_failure, followed, cancelled, cancelled_for, canceled_for, is_cancellable, is_settled_job, new_rows, rows_of_kind, job_of_new, rows_of_new}
 use Rattle.fts_tables.specs.Limits.{endpoint_at, is_banned}
 use Rattle.fts_tables.specs.Waits.{is_overdue, waits_at, goes_with, rows_cancelled, count_cancelled}
-use Rattle.fts_tables.specs.Step.{Outcomes, step, released, submit_by, submit_within, add_job, with_rows, cancel_rows, cancel_row, cancel_one, cancel_file, with_priority, set_priority, claim, report_of, report, ban, ban_and_cancel, ban_only, unban, expire, with_ban, without_ban}
+use Rattle.fts_tables.specs.Step.{Outcomes, step, released, submit_by, submit_within, add_job, with_rows, cancel_rows, cancel_row, cancel_one, cancel_file, with_priority, set_priority, claim, report_of, report, ban, ban_and_cancel, ban_only, unban, expire, without_ban}
 use Rattle.fts_tables.specs.History.{IsAccepted, tables_after}
 use Rattle.fts_tables.specs.declared.limits.TheConstants.{MAX_JOBS, MAX_ROWS, LAST_MOMENT}
 use Rattle.fts_tables.specs.declared.rows.NewFile.{NewFile}
@@ -26,7 +26,7 @@ use Rattle.fts_tables.specs.declared.rows.Outcome.{Outcome}
 use Rattle.fts_tables.specs.declared.rows.Outcome.TheVariants.{Verified, SourceMissing, DestinationExists, SourceSize, SourceDigest, ReadBackDiffers, StoreFailed, Stopped}
 use Rattle.fts_tables.specs.declared.commands.Command.{Command}
 use Rattle.fts_tables.specs.declared.commands.Command.TheVariants.{Restart, Submit, CancelJob, CancelFile, SetPriority, Claim, Report, Ban, Unban, Expire}
-use Rattle.fts_tables.specs.declared.commands.Answer.TheVariants.{Cancelled, PrioritySet, Reported, Banned, Unbanned, Expired}
+use Rattle.fts_tables.specs.declared.commands.Answer.TheVariants.{Cancelled, PrioritySet, Reported, Unbanned, Expired}
 use Rattle.fts_tables.specs.declared.commands.Refusal.TheVariants.{NoJob, NoFile, JobsFull, RowsFull, Idle, Stale, Unchanged, NoStorage, NotBanned}
 use Rattle.fts_desk.specs.Bounds.{IsFileCount, HaveFiles, AreCounted, AreBounded, BringsFiles}
 use Rattle.fts_desk.specs.Cancels.{cancelled_of}
@@ -178,7 +178,7 @@ cancelled-attempt : KeepsAttempt cancelled
 cancelled-attempt = cancelled_for-attempt CancelledReason
 
 -- nor does it of a row of one job alone
-cancelled_of-attempt : (number : ℕ) → KeepsAttempt (cancelled_of number)
+cancelled_of-attempt : (number : ℕ) → KeepsAttempt (cancelled_of CancelledReason number)
 cancelled_of-attempt number row = by_test (row.job == number)
   where
     by_test : (answer : Bool) → (cond answer (cancelled row) row).attempt ≡ row.attempt
@@ -308,9 +308,9 @@ module _ (tables : Tables) (commands now : ℕ) (bounds : AreBounded commands ta
   bounded_cancel_rows job = by_test (not (is_settled_job (rows_of_job tables.rows job.number)) && list_any is_cancellable (rows_of_job tables.rows job.number))
     where
       by_test : (answer : Bool) → BoundedAfter (suc commands)
-          (cond {A = Outcomes} answer (Ok (with_rows tables now (map (cancelled_of job.number) tables.rows), Cancelled job.number))
+          (cond {A = Outcomes} answer (Ok (with_rows tables now (map (cancelled_of CancelledReason job.number) tables.rows), Cancelled job.number))
           (Err (Unchanged job.number)))
-      by_test true = bounded_same (suc commands) tables.jobs (cancelled_of job.number) (cancelled_of-attempt job.number) tables.rows
+      by_test true = bounded_same (suc commands) tables.jobs (cancelled_of CancelledReason job.number) (cancelled_of-attempt job.number) tables.rows
           (bounded_later commands tables.jobs tables.rows bounds)
       by_test false = tt
 

@@ -1,34 +1,32 @@
 -- What a claim looks at, where a row is cancelled at its place: one that runs keeps its part, another waits no more.
 use Rattle.std.proofs.Common.{◌≡◌, ℕ, zero, suc, ◌<◌, Bool, true, false, List, [], ◌∷◌, length, get_or, set, Option, Some, None, refl, ap, sym, ◌∙◌, subst, arith}
-use Rattle.std.specs.Prelude.{◌&&◌, ◌||◌, ◌==◌, ◌+◌, count_by, slice_get, if◌then◌else◌}
+use Rattle.std.specs.Prelude.{◌||◌, ◌==◌, slice_get, if◌then◌else◌}
 use Rattle.std.proofs.lemmas.Bool.{and_parts}
 use Rattle.std.proofs.lemmas.Option.{same_Some, slice_get-get_or}
-use Rattle.fts_tables.specs.Tables.{AreNumberedFrom, is_submitted, is_active, is_not_used, is_live}
-use Rattle.fts_tables.specs.Moves.{canceled, cancelled}
+use Rattle.fts_tables.specs.Tables.{AreNumberedFrom, is_submitted, is_active, is_not_used}
+use Rattle.fts_tables.specs.Moves.{canceled_for, cancelled_for}
 use Rattle.fts_tables.specs.declared.rows.FileRow.{FileRow}
 use Rattle.fts_tables.specs.declared.rows.JobRow.{JobRow}
+use Rattle.fts_tables.specs.Laws.{FileOfRow, file_of}
 use Rattle.fts_tables.specs.declared.rows.FileState.{FileState}
+use Rattle.fts_tables.specs.declared.rows.Reason.{Reason}
 use Rattle.fts_tables.specs.declared.rows.FileState.TheVariants.{Submitted, Active, Finished, Failed, Canceled, NotUsed}
-use Rattle.fts_index.specs.Links.{Link, LinkLists}
-use Rattle.fts_index.specs.LiveLinks.{link_of_row}
 use Rattle.fts_claims.specs.Changes.{AreTiedTo, IsSamePart, AreSameParts}
 use Rattle.fts_claims.specs.declared.parts.ClaimParts.{ClaimParts}
 use Rattle.fts_desk.specs.Cancels.{cancelled_of}
-use Rattle.fts_desk.specs.Loaded.{added_by, AreLoadsOf, MayRecount}
 use Rattle.fts_desk.specs.Parts.{limits_of, AreTiedParts, MayWaitIn, HaveSameRooms}
 use Rattle.fts_desk.specs.Places.{change_at}
-use Rattle.fts_desk.proofs.ChangedRows.{change_at-set}
-use Rattle.fts_desk.proofs.Loaded.{site_may, site_done}
 
 -- a row after a cancellation, by its state
-abbrev cancelled_in : FileState → FileRow → FileRow
-cancelled_in state row = if is_submitted state || is_not_used state then canceled row else (if is_active state then record row { cancel_asked = true } else row)
+abbrev pub cancelled_in : Reason → FileState → FileRow → FileRow
+cancelled_in reason state row = if is_submitted state || is_not_used state then canceled_for reason row
+    else (if is_active state then record row { cancel_asked = true } else row)
 
 -- a row that runs keeps its part
-pub active_keeps_part : (row : FileRow) → is_active row.state ≡ true → IsSamePart row (cancelled row)
-active_keeps_part row active = by_state row.state active
+pub active_keeps_part : (reason : Reason) (row : FileRow) → is_active row.state ≡ true → IsSamePart row (cancelled_for reason row)
+active_keeps_part reason row active = by_state row.state active
   where
-    by_state : (state : FileState) → is_active state ≡ true → IsSamePart row (cancelled_in state row)
+    by_state : (state : FileState) → is_active state ≡ true → IsSamePart row (cancelled_in reason state row)
     by_state Submitted is = cc
     by_state Active is = record { id = refl; job = refl; source = refl; dest = refl; activity = refl; state = refl; not_before = refl }
     by_state Finished is = cc
@@ -37,10 +35,10 @@ active_keeps_part row active = by_state row.state active
     by_state NotUsed is = cc
 
 -- one that doesn't run doesn't run then
-pub idle_stays_idle : (row : FileRow) → is_active row.state ≡ false → is_active (cancelled row).state ≡ false
-idle_stays_idle row idle = by_state row.state refl
+pub idle_stays_idle : (reason : Reason) (row : FileRow) → is_active row.state ≡ false → is_active (cancelled_for reason row).state ≡ false
+idle_stays_idle reason row idle = by_state row.state refl
   where
-    by_state : (state : FileState) → row.state ≡ state → is_active (cancelled_in state row).state ≡ false
+    by_state : (state : FileState) → row.state ≡ state → is_active (cancelled_in reason state row).state ≡ false
     by_state Submitted is = refl
     by_state Active is = idle
     by_state Finished is = idle
@@ -49,10 +47,10 @@ idle_stays_idle row idle = by_state row.state refl
     by_state NotUsed is = refl
 
 -- no cancelled row waits
-cancelled_waits_not : (row : FileRow) → is_submitted (cancelled row).state ≡ false
-cancelled_waits_not row = by_state row.state refl
+pub cancelled_waits_not : (reason : Reason) (row : FileRow) → is_submitted (cancelled_for reason row).state ≡ false
+cancelled_waits_not reason row = by_state row.state refl
   where
-    by_state : (state : FileState) → row.state ≡ state → is_submitted (cancelled_in state row).state ≡ false
+    by_state : (state : FileState) → row.state ≡ state → is_submitted (cancelled_in reason state row).state ≡ false
     by_state Submitted is = refl
     by_state Active is = ap is_submitted is
     by_state Finished is = ap is_submitted is
@@ -60,11 +58,11 @@ cancelled_waits_not row = by_state row.state refl
     by_state Canceled is = ap is_submitted is
     by_state NotUsed is = refl
 
--- a cancelled row keeps its id
-id_cancelled : (row : FileRow) → (cancelled row).id ≡ row.id
-id_cancelled row = by_state row.state
+-- a cancelled row is the same file's
+pub file_cancelled : (reason : Reason) (row : FileRow) → file_of (cancelled_for reason row) ≡ file_of row
+file_cancelled reason row = by_state row.state
   where
-    by_state : (state : FileState) → (cancelled_in state row).id ≡ row.id
+    by_state : (state : FileState) → file_of (cancelled_in reason state row) ≡ file_of row
     by_state Submitted = refl
     by_state Active = refl
     by_state Finished = refl
@@ -72,18 +70,23 @@ id_cancelled row = by_state row.state
     by_state Canceled = refl
     by_state NotUsed = refl
 
+-- and so it is where only some rows are cancelled
+pub file_if_cancelled : (reason : Reason) (row : FileRow) (answer : Bool) → file_of (if answer then cancelled_for reason row else row) ≡ file_of row
+file_if_cancelled reason row true = file_cancelled reason row
+file_if_cancelled reason row false = refl
+
+-- a cancelled row keeps its id
+pub id_cancelled : (reason : Reason) (row : FileRow) → (cancelled_for reason row).id ≡ row.id
+id_cancelled reason row = ap (λ (file : FileOfRow). file.id) (file_cancelled reason row)
+
 -- and so it does where only a job's rows are cancelled
-pub id_cancelled_of : (job : ℕ) (row : FileRow) → (cancelled_of job row).id ≡ row.id
-id_cancelled_of job row = by_test (row.job == job)
-  where
-    by_test : (answer : Bool) → (if answer then cancelled row else row).id ≡ row.id
-    by_test true = id_cancelled row
-    by_test false = refl
+pub id_cancelled_of : (reason : Reason) (job : ℕ) (row : FileRow) → (cancelled_of reason job row).id ≡ row.id
+id_cancelled_of reason job row = ap (λ (file : FileOfRow). file.id) (file_if_cancelled reason row (row.job == job))
 
 -- a cancelled row may come in
-pub cancelled_may_wait : (row : FileRow) (parts : Option ClaimParts) → MayWaitIn (cancelled row) parts
-cancelled_may_wait row None = tt
-cancelled_may_wait row (Some parts) = λ waits. absurd (clash (sym (and_parts _ _ waits).0 ∙ cancelled_waits_not row))
+pub cancelled_may_wait : (reason : Reason) (row : FileRow) (parts : Option ClaimParts) → MayWaitIn (cancelled_for reason row) parts
+cancelled_may_wait reason row None = tt
+cancelled_may_wait reason row (Some parts) = λ waits. absurd (clash (sym (and_parts _ _ waits).0 ∙ cancelled_waits_not reason row))
   where
     clash : true ≡ false → ⊥
     clash is = cc
@@ -160,33 +163,9 @@ read_set [] place row read inside at = cc
 read_set (head ∷ rows) zero row read inside at = sym (same_Some row read at)
 read_set (head ∷ rows) (suc place) row read inside at = read_set rows place row read (omega arith) at
 
--- a row that is read, changed at its place with its link kept, and counted anew
-module _ (rows after : List FileRow) (place : ℕ) (change : FileRow → FileRow) (keeps : (row : FileRow) → link_of_row (change row) ≡ link_of_row row)
-    (read : FileRow) (was_live : Bool) (inside : place < length rows) (was : was_live ≡ is_live (get_or rows place read).state)
-    (changed : after ≡ change_at place change rows) (old : LinkLists) (loaded : AreLoadsOf rows old) where
-  -- the change, written at its place
-  is_set : after ≡ set rows place (change (get_or rows place read))
-  is_set = changed ∙ sym (change_at-set rows place change read (change (get_or rows place read)) inside refl)
-
-  -- it may count anew
-  pub placed_may : (last : FileRow) → MayRecount was_live (link_of_row (get_or after place last)) old
-  placed_may last = subst (λ (items : List FileRow). MayRecount was_live (link_of_row (get_or items place last)) old) (sym is_set)
-      (site_may rows place change keeps read read (change (get_or rows place read)) was_live inside was refl old loaded last)
-
-  -- and has
-  pub placed_done : (last : FileRow) (new : LinkLists)
-      → ((test : Link → Bool) → count_by test new.links + (if was_live && test (link_of_row (get_or after place last)) then 1 else 0)
-      ≡ count_by test old.links + added_by test (get_or after place last))
-      → new.known ≡ old.known → AreLoadsOf after new
-  placed_done last new counts known = subst (λ (items : List FileRow). AreLoadsOf items new) (sym is_set)
-      (site_done rows place change keeps read read (change (get_or rows place read)) was_live inside was refl old loaded last new
-      (subst (λ (items : List FileRow). (test : Link → Bool)
-      → count_by test new.links + (if was_live && test (link_of_row (get_or items place last)) then 1 else 0)
-      ≡ count_by test old.links + added_by test (get_or items place last)) is_set counts) known)
-
 -- a row that is looked at, read again, and written back cancelled
-module _ (rows : List FileRow) (place : ℕ) (read written changed : FileRow) (answer : Bool) (inside : place < length rows)
-    (asked : answer ≡ is_active (get_or rows place read).state) (is : changed ≡ cancelled (get_or rows place written)) where
+module _ (reason : Reason) (rows : List FileRow) (place : ℕ) (read written changed : FileRow) (answer : Bool) (inside : place < length rows)
+    (asked : answer ≡ is_active (get_or rows place read).state) (is : changed ≡ cancelled_for reason (get_or rows place written)) where
   -- what stood at the place
   stood : slice_get rows place ≡ Some (get_or rows place written)
   stood = slice_get-get_or rows place written inside
@@ -197,23 +176,24 @@ module _ (rows : List FileRow) (place : ℕ) (read written changed : FileRow) (a
       (same_Some (get_or rows place read) (get_or rows place written) (sym (slice_get-get_or rows place read inside) ∙ stood))
 
   -- what is read there now
-  read_is : (row : FileRow) → slice_get (set rows place changed) place ≡ Some row → row ≡ cancelled (get_or rows place written)
+  read_is : (row : FileRow) → slice_get (set rows place changed) place ≡ Some row → row ≡ cancelled_for reason (get_or rows place written)
   read_is row at = read_set rows place changed row inside at ∙ is
 
   -- where it ran, all parts are as they were
   pub running_alike : answer ≡ true → AreSameParts rows (set rows place changed)
   running_alike runs = parts_alike-set rows place (get_or rows place written) changed stood
-      (subst (λ (row : FileRow). IsSamePart (get_or rows place written) row) (sym is) (active_keeps_part (get_or rows place written) (sym ran ∙ runs)))
+      (subst (λ (row : FileRow). IsSamePart (get_or rows place written) row) (sym is) (active_keeps_part reason (get_or rows place written) (sym ran ∙ runs)))
 
   -- the rows are numbered as before
   pub numbered_then : AreNumberedFrom (λ row. row.id) 1 rows → AreNumberedFrom (λ row. row.id) 1 (set rows place changed)
   numbered_then numbered = numbered-set 1 rows place (get_or rows place written) changed stood
-      (ap (λ (row : FileRow). row.id) is ∙ id_cancelled (get_or rows place written)) numbered
+      (ap (λ (row : FileRow). row.id) is ∙ id_cancelled reason (get_or rows place written)) numbered
 
   -- where it didn't run, it doesn't now
   pub idle_then : answer ≡ false → (row : FileRow) → slice_get (set rows place changed) place ≡ Some row → is_active row.state ≡ false
-  idle_then idle row at = ap (λ (row : FileRow). is_active row.state) (read_is row at) ∙ idle_stays_idle (get_or rows place written) (sym ran ∙ idle)
+  idle_then idle row at = ap (λ (row : FileRow). is_active row.state) (read_is row at) ∙ idle_stays_idle reason (get_or rows place written) (sym ran ∙ idle)
 
   -- and it may come in
   pub may_wait_then : (parts : Option ClaimParts) (row : FileRow) → slice_get (set rows place changed) place ≡ Some row → MayWaitIn row parts
-  may_wait_then parts row at = subst (λ (row : FileRow). MayWaitIn row parts) (sym (read_is row at)) (cancelled_may_wait (get_or rows place written) parts)
+  may_wait_then parts row at =
+      subst (λ (row : FileRow). MayWaitIn row parts) (sym (read_is row at)) (cancelled_may_wait reason (get_or rows place written) parts)

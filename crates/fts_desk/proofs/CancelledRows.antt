@@ -4,9 +4,10 @@ use Rattle.std.specs.Prelude.{◌==◌, ◌⊎◌, slice_get, option_map}
 use Rattle.std.proofs.lemmas.Bool.{eqb-true}
 use Rattle.std.proofs.lemmas.Option.{same_Some}
 use Rattle.fts_tables.specs.Tables.{AreNumberedFrom}
-use Rattle.fts_tables.specs.Moves.{cancelled}
+use Rattle.fts_tables.specs.Moves.{cancelled_for}
 use Rattle.fts_tables.specs.declared.rows.FileRow.{FileRow}
 use Rattle.fts_tables.specs.declared.rows.JobRow.{JobRow}
+use Rattle.fts_tables.specs.declared.rows.Reason.{Reason}
 use Rattle.fts_desk.specs.Cancels.{cancelled_of}
 use Rattle.fts_desk.specs.Places.{change_at}
 use Rattle.fts_desk.specs.Standing.{StandTogether}
@@ -42,60 +43,62 @@ read_mapped change [] at = refl
 read_mapped change (row ∷ rows) zero = refl
 read_mapped change (row ∷ rows) (suc at) = read_mapped change rows at
 
-module _ (rows : List FileRow) (job : JobRow) (numbered : AreNumberedFrom (λ row. row.id) 1 rows) (stand : StandTogether rows job) where
+module _ (reason : Reason) (rows : List FileRow) (job : JobRow) (numbered : AreNumberedFrom (λ row. row.id) 1 rows) (stand : StandTogether rows job) where
   -- a row that does not stand among the job's rows stays as it is
   others_stay : (at : ℕ) → ((job.first - 1 ≤ at) × (at < job.first - 1 + job.count) → ⊥)
-      → option_map (cancelled_of job.number) (slice_get rows at) ≡ slice_get rows at
+      → option_map (cancelled_of reason job.number) (slice_get rows at) ≡ slice_get rows at
   others_stay at outside = by_row (slice_get rows at) refl
     where
       by_test : (row : FileRow) (answer : Bool) → (row.job == job.number) ≡ answer → slice_get rows at ≡ Some row
-          → cond answer (cancelled row) row ≡ row
+          → cond answer (cancelled_for reason row) row ≡ row
       by_test row false other there = refl
       by_test row true same there = absurd (outside (stands_inside rows job at row numbered stand there (eqb-true row.job job.number same)))
 
-      by_row : (found : Option FileRow) → slice_get rows at ≡ found → option_map (cancelled_of job.number) found ≡ found
+      by_row : (found : Option FileRow) → slice_get rows at ≡ found → option_map (cancelled_of reason job.number) found ≡ found
       by_row None there = refl
       by_row (Some row) there = ap (λ (other : FileRow). Some other) (by_test row (row.job == job.number) refl there)
 
   -- before the job's first row all is as it would be cancelled
-  pub cancelled_before : (at : ℕ) → at < job.first - 1 → slice_get rows at ≡ option_map (cancelled_of job.number) (slice_get rows at)
+  pub cancelled_before : (at : ℕ) → at < job.first - 1 → slice_get rows at ≡ option_map (cancelled_of reason job.number) (slice_get rows at)
   cancelled_before at before = sym (others_stay at (λ inside. omega (arith, inside.0, before)))
 
   -- where the rows up to behind the job's last are done, all are
   pub cancelled_all : (after : List FileRow) (place : ℕ) → job.first - 1 + job.count ≤ place
-      → ((at : ℕ) → at < place → slice_get after at ≡ option_map (cancelled_of job.number) (slice_get rows at))
+      → ((at : ℕ) → at < place → slice_get after at ≡ option_map (cancelled_of reason job.number) (slice_get rows at))
       → ((at : ℕ) → place ≤ at → slice_get after at ≡ slice_get rows at)
-      → after ≡ map (cancelled_of job.number) rows
+      → after ≡ map (cancelled_of reason job.number) rows
   cancelled_all after place past done rest =
-      alike after (map (cancelled_of job.number) rows) (λ at. by_place at (less_or_not at place) ∙ sym (read_mapped (cancelled_of job.number) rows at))
+      alike after (map (cancelled_of reason job.number) rows)
+      (λ at. by_place at (less_or_not at place) ∙ sym (read_mapped (cancelled_of reason job.number) rows at))
     where
       less_or_not : (one other : ℕ) → (one < other) ⊎ (other ≤ one)
       less_or_not one other = grind arith
 
-      by_place : (at : ℕ) → (at < place) ⊎ (place ≤ at) → slice_get after at ≡ option_map (cancelled_of job.number) (slice_get rows at)
+      by_place : (at : ℕ) → (at < place) ⊎ (place ≤ at) → slice_get after at ≡ option_map (cancelled_of reason job.number) (slice_get rows at)
       by_place at (inl before) = done at before
       by_place at (inr behind) = rest at behind ∙ sym (others_stay at (λ inside. omega (arith, inside.1, behind, past)))
 
 -- a turn: one place more is done
-pub cancelled_turn_done : (rows now : List FileRow) (number place : ℕ)
-    → ((at : ℕ) → at < place → slice_get now at ≡ option_map (cancelled_of number) (slice_get rows at))
+pub cancelled_turn_done : (reason : Reason) (rows now : List FileRow) (number place : ℕ)
+    → ((at : ℕ) → at < place → slice_get now at ≡ option_map (cancelled_of reason number) (slice_get rows at))
     → ((at : ℕ) → place ≤ at → slice_get now at ≡ slice_get rows at)
-    → (at : ℕ) → at < place + 1 → slice_get (change_at place (cancelled_of number) now) at ≡ option_map (cancelled_of number) (slice_get rows at)
-cancelled_turn_done rows now number place done rest at before = by_place (less_or_same at place before)
+    → (at : ℕ) → at < place + 1 → slice_get (change_at place (cancelled_of reason number) now) at ≡ option_map (cancelled_of reason number) (slice_get rows at)
+cancelled_turn_done reason rows now number place done rest at before = by_place (less_or_same at place before)
   where
     less_or_same : (one other : ℕ) → one < other + 1 → (one < other) ⊎ (one ≡ other)
     less_or_same one other less = grind arith
 
-    by_place : (at < place) ⊎ (at ≡ place) → slice_get (change_at place (cancelled_of number) now) at ≡ option_map (cancelled_of number) (slice_get rows at)
-    by_place (inl less) = changed_elsewhere now place at (cancelled_of number) (λ is. omega (arith, is, less)) ∙ done at less
+    by_place : (at < place) ⊎ (at ≡ place)
+        → slice_get (change_at place (cancelled_of reason number) now) at ≡ option_map (cancelled_of reason number) (slice_get rows at)
+    by_place (inl less) = changed_elsewhere now place at (cancelled_of reason number) (λ is. omega (arith, is, less)) ∙ done at less
     by_place (inr same) =
-        ap (slice_get (change_at place (cancelled_of number) now)) same
-        ∙ (changed_here now place (cancelled_of number)
-        ∙ ap (option_map (cancelled_of number)) (rest place (omega arith) ∙ ap (slice_get rows) (sym same)))
+        ap (slice_get (change_at place (cancelled_of reason number) now)) same
+        ∙ (changed_here now place (cancelled_of reason number)
+        ∙ ap (option_map (cancelled_of reason number)) (rest place (omega arith) ∙ ap (slice_get rows) (sym same)))
 
 -- and the others are as they were
-pub cancelled_turn_rest : (rows now : List FileRow) (number place : ℕ)
+pub cancelled_turn_rest : (reason : Reason) (rows now : List FileRow) (number place : ℕ)
     → ((at : ℕ) → place ≤ at → slice_get now at ≡ slice_get rows at)
-    → (at : ℕ) → place + 1 ≤ at → slice_get (change_at place (cancelled_of number) now) at ≡ slice_get rows at
-cancelled_turn_rest rows now number place rest at behind =
-    changed_elsewhere now place at (cancelled_of number) (λ is. omega (arith, is, behind)) ∙ rest at (omega (arith, behind))
+    → (at : ℕ) → place + 1 ≤ at → slice_get (change_at place (cancelled_of reason number) now) at ≡ slice_get rows at
+cancelled_turn_rest reason rows now number place rest at behind =
+    changed_elsewhere now place at (cancelled_of reason number) (λ is. omega (arith, is, behind)) ∙ rest at (omega (arith, behind))

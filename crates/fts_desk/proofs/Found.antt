@@ -14,6 +14,7 @@ use Rattle.fts_tables.specs.declared.rows.JobKind.TheVariants.{Plain, Replica, M
 use Rattle.fts_tables.specs.declared.commands.Answer.{Answer}
 use Rattle.fts_tables.specs.declared.commands.Refusal.{Refusal}
 use Rattle.fts_tables.specs.declared.commands.Answer.TheVariants.{Cancelled, PrioritySet}
+use Rattle.fts_tables.specs.declared.rows.Reason.TheVariants.{Cancelled as CancelledReason}
 use Rattle.fts_tables.specs.declared.commands.Refusal.TheVariants.{NoJob, NoFile, Unchanged}
 use Rattle.fts_desk.specs.Cancels.{cancelled_of, after_file}
 use Rattle.fts_desk.specs.Standing.{prioritized}
@@ -49,19 +50,19 @@ passed false done refusal accepted = absurd accepted
 
 -- what a cancellation of a job's rows leaves, where it is accepted
 pub rows_cancelled : (tables : Tables) (now : ℕ) (job : JobRow) → IsAccepted (cancel_rows tables now job)
-    → cancel_rows tables now job ≡ Ok (with_rows tables now (map (cancelled_of job.number) tables.rows), Cancelled job.number)
+    → cancel_rows tables now job ≡ Ok (with_rows tables now (map (cancelled_of CancelledReason job.number) tables.rows), Cancelled job.number)
 rows_cancelled tables now job accepted = passed _ _ _ accepted
 
 -- what a cancellation of a job leaves, where it is accepted
 pub job_cancelled : (tables : Tables) (now number : ℕ) → IsAccepted (on_job tables number (cancel_rows tables now))
-    → on_job tables number (cancel_rows tables now) ≡ Ok (with_rows tables now (map (cancelled_of number) tables.rows), Cancelled number)
+    → on_job tables number (cancel_rows tables now) ≡ Ok (with_rows tables now (map (cancelled_of CancelledReason number) tables.rows), Cancelled number)
 job_cancelled tables now number accepted = by_job (job_at tables.jobs number) refl accepted
   where
     by_job : (found : Option JobRow) → job_at tables.jobs number ≡ found → IsAccepted (on_option (cancel_rows tables now) found)
-        → on_option (cancel_rows tables now) found ≡ Ok (with_rows tables now (map (cancelled_of number) tables.rows), Cancelled number)
+        → on_option (cancel_rows tables now) found ≡ Ok (with_rows tables now (map (cancelled_of CancelledReason number) tables.rows), Cancelled number)
     by_job None is accepted = absurd accepted
     by_job (Some job) is accepted = rows_cancelled tables now job accepted
-        ∙ ap (λ other. Ok (with_rows tables now (map (cancelled_of other) tables.rows), Cancelled other)) (number_at tables.jobs number job is)
+        ∙ ap (λ other. Ok (with_rows tables now (map (cancelled_of CancelledReason other) tables.rows), Cancelled other)) (number_at tables.jobs number job is)
 
 -- the row that is found by an id has it
 pub id_at : (rows : List FileRow) (id : ℕ) (row : FileRow) → row_at rows id ≡ Some row → row.id ≡ id
@@ -81,7 +82,7 @@ row_cancelled tables now job row accepted = passed _ _ _ accepted
 -- what a cancellation of a file leaves, by the kind of its job
 one_cancelled : (tables : Tables) (now file : ℕ) (job : JobRow) (row : FileRow) (kind : JobKind) → row.id ≡ file
     → IsAccepted (cancel_one tables now job row kind)
-    → cancel_one tables now job row kind ≡ Ok (with_rows tables now (after_file (Some kind) job.number file tables.rows), Cancelled job.number)
+    → cancel_one tables now job row kind ≡ Ok (with_rows tables now (after_file CancelledReason (Some kind) job.number file tables.rows), Cancelled job.number)
 one_cancelled tables now file job row Plain same accepted = row_cancelled tables now job row accepted
     ∙ ap (λ id. Ok (with_rows tables now (change_row id cancelled tables.rows), Cancelled job.number)) same
 one_cancelled tables now file job row Replica same accepted = rows_cancelled tables now job accepted
@@ -97,26 +98,29 @@ module _ (tables : Tables) (now number file : ℕ) where
 
   -- what it leaves
   after_found : (job : JobRow) (row : FileRow) → job.number ≡ number → row.id ≡ file → IsAccepted (cancel_file tables now job (Some row))
-      → cancel_file tables now job (Some row) ≡ Ok (with_rows tables now (after_file (Some job.kind) number file tables.rows), Cancelled number)
+      → cancel_file tables now job (Some row) ≡ Ok (with_rows tables now (after_file CancelledReason (Some job.kind) number file tables.rows), Cancelled number)
   after_found job row is same accepted = by_test (row.job == job.number) accepted
     where
       by_test : (answer : Bool) → IsAccepted (cond answer (cancel_one tables now job row job.kind) (Err NoFile))
           → cond answer (cancel_one tables now job row job.kind) (Err NoFile)
-          ≡ Ok (with_rows tables now (after_file (Some job.kind) number file tables.rows), Cancelled number)
+          ≡ Ok (with_rows tables now (after_file CancelledReason (Some job.kind) number file tables.rows), Cancelled number)
       by_test true accepted = one_cancelled tables now file job row job.kind same accepted
-          ∙ ap (λ other. Ok (with_rows tables now (after_file (Some job.kind) other file tables.rows), Cancelled other)) is
+          ∙ ap (λ other. Ok (with_rows tables now (after_file CancelledReason (Some job.kind) other file tables.rows), Cancelled other)) is
       by_test false accepted = absurd accepted
 
   -- what an accepted cancellation of a file leaves
   pub file_cancelled : IsAccepted (on_option (λ job. cancel_file tables now job (row_at tables.rows file)) (job_at tables.jobs number))
       → on_option (λ job. cancel_file tables now job (row_at tables.rows file)) (job_at tables.jobs number)
-      ≡ Ok (with_rows tables now (after_file (option_map (λ (job : JobRow). job.kind) (job_at tables.jobs number)) number file tables.rows), Cancelled number)
+      ≡ Ok (
+        with_rows tables now (after_file CancelledReason (option_map (λ (job : JobRow). job.kind) (job_at tables.jobs number)) number file tables.rows),
+        Cancelled number,
+      )
   file_cancelled accepted = by_found (job_at tables.jobs number) (row_at tables.rows file) refl refl accepted
     where
       by_found : (found : Option JobRow) (row : Option FileRow) → job_at tables.jobs number ≡ found → row_at tables.rows file ≡ row
           → IsAccepted (on_option (λ job. cancel_file tables now job row) found)
           → on_option (λ job. cancel_file tables now job row) found
-          ≡ Ok (with_rows tables now (after_file (option_map (λ (job : JobRow). job.kind) found) number file tables.rows), Cancelled number)
+          ≡ Ok (with_rows tables now (after_file CancelledReason (option_map (λ (job : JobRow). job.kind) found) number file tables.rows), Cancelled number)
       by_found None row is at accepted = absurd accepted
       by_found (Some job) None is at accepted = absurd accepted
       by_found (Some job) (Some row) is at accepted = after_found job row (number_at tables.jobs number job is) (id_at tables.rows file row at) accepted

@@ -12,7 +12,7 @@ use Rattle.fts_tables.specs.declared.rows.FileState.TheVariants.{Submitted, Fail
 use Rattle.fts_tables.specs.declared.rows.Reason.TheVariants.{Ended}
 use Rattle.fts_tables.specs.declared.rows.Outcome.{Outcome}
 use Rattle.fts_tables.specs.declared.rows.Outcome.TheVariants.{Verified, SourceMissing, DestinationExists, SourceSize, SourceDigest, ReadBackDiffers, StoreFailed, Stopped}
-use Rattle.fts_desk.specs.Standing.{StandTogether}
+use Rattle.fts_desk.specs.Standing.{StandTogether, AreFormed}
 
 -- a failure that may be tried again, or not, is the same file's
 tried_file : (row : FileRow) (again : Bool) (retries moment : ℕ) (outcome : Outcome)
@@ -55,6 +55,21 @@ module _ (change : FileRow → FileRow) (keeps : (row : FileRow) → file_of (ch
   pub numbered-map : (start : ℕ) (rows : List FileRow) → AreNumberedFrom (λ row. row.id) start rows → AreNumberedFrom (λ row. row.id) start (map change rows)
   numbered-map start [] numbered = tt
   numbered-map start (row ∷ rows) numbered = (ap (λ (file : FileOfRow). file.id) (keeps row) ∙ numbered.0, numbered-map (suc start) rows numbered.1)
+
+  -- and so do the jobs
+  owned-map : (rows : List FileRow) → map (λ (row : FileRow). row.job) (map change rows) ≡ map (λ (row : FileRow). row.job) rows
+  owned-map [] = refl
+  owned-map (row ∷ rows) =
+      ap (λ job. job ∷ map (λ (row : FileRow). row.job) (map change rows)) (ap (λ (file : FileOfRow). file.job) (keeps row))
+      ∙ ap (λ jobs. row.job ∷ jobs) (owned-map rows)
+
+  -- so jobs and rows keep their form
+  pub formed-map : (jobs : List JobRow) (rows : List FileRow) → AreFormed jobs rows → AreFormed jobs (map change rows)
+  formed-map jobs rows formed = record {
+    jobs = formed.jobs;
+    rows = numbered-map 1 rows formed.rows;
+    follow = record { firsts = formed.follow.firsts; owners = owned-map rows ∙ formed.follow.owners };
+  }
 
   -- the rows of a job are those that they were, changed
   rows_of_job-map : (rows : List FileRow) (number : ℕ) → rows_of_job (map change rows) number ≡ map change (rows_of_job rows number)

@@ -1,4 +1,5 @@
 mod AddedRows
+mod Banned
 mod Bounded
 mod ChangedRows
 mod Claiming
@@ -19,5 +20,9 @@ mod KnownLinks
 mod CancelledRows
 mod RowsBeside
 mod CancelledParts
+mod CanceledCounts
+mod Counted
+mod Expiring
+mod GoneTogether
 mod SubmittedParts
 pub mod Crosses

@@ -1,11 +1,17 @@
 -- A turn of the loop that gives up the ACTIVE rows.
-use Rattle.std.proofs.Common.{◌≡◌, ℕ, ◌+◌, ◌-◌, ◌<◌, List, ◌++◌, length, map, take, drop, get_or, true, false, ap, sym, ◌∙◌, arith, length-take-le, get_or-drop}
-use Rattle.std.specs.Prelude.{count_by}
+use Rattle.std.proofs.Common.{◌≡◌, ℕ, ◌+◌, ◌-◌, ◌<◌, Bool, List, ◌++◌, length, map, take, drop, get_or, Some, true, false, cond, refl, ap, inl, inr, sym, ◌∙◌, arith, length-take-le, get_or-drop}
+use Rattle.std.specs.Prelude.{count_by, slice_get, if◌then◌else◌}
 use Rattle.std.proofs.lemmas.List.{get_or-append_right, length-map}
 use Rattle.std.proofs.lemmas.List.Sums.{count_by_more_yes, count_by_more_no}
+use Rattle.std.proofs.lemmas.List.Edits.{map_over_more}
+use Rattle.std.proofs.lemmas.Option.{slice_get_cases}
 use Rattle.fts_tables.specs.Tables.{is_active}
+use Rattle.fts_tables.specs.Moves.{submitted, canceled}
 use Rattle.fts_tables.specs.Step.{released}
+use Rattle.fts_tables.specs.Laws.{file_of}
 use Rattle.fts_tables.specs.declared.rows.FileRow.{FileRow}
+use Rattle.fts_desk.specs.Places.{change_at}
+use Rattle.fts_desk.proofs.ChangedRows.{change_at-set}
 
 module _ (all rows : List FileRow) (i : ℕ) (d : FileRow) (lt : i < length all) (e : rows ≡ map released (take i all) ++ drop i all) where
   -- the rows from the turn's place on are as they were
@@ -26,3 +32,35 @@ module _ (all rows : List FileRow) (i : ℕ) (d : FileRow) (lt : i < length all)
   pub passed_by : (count : ℕ) → count ≡ count_by (λ r. is_active r.state) (take i all) → is_active (get_or rows i d).state ≡ false
       → count ≡ count_by (λ r. is_active r.state) (take (i + 1) all)
   passed_by count c a = c ∙ sym (count_by_more_no (λ (r : FileRow). is_active r.state) all i d lt (ap (λ (r : FileRow). is_active r.state) (sym untouched) ∙ a))
+
+-- a row that was given up is the same file's
+pub released_file : (row : FileRow) → file_of (released row) ≡ file_of row
+released_file row = by_tests (is_active row.state) row.cancel_asked
+  where
+    by_tests : (active asked : Bool) → file_of (if active then (if asked then canceled row else submitted row) else row) ≡ file_of row
+    by_tests true true = refl
+    by_tests true false = refl
+    by_tests false asked = refl
+
+-- a turn of the loop, at a place
+module _ (all rows : List FileRow) (i : ℕ) (lt : i < length all) (inside : i < length rows) (e : rows ≡ map released (take i all) ++ drop i all) where
+  -- the row there was given up
+  pub turn_done : (after : List FileRow) → after ≡ change_at i released rows → after ≡ map released (take (i + 1) all) ++ drop (i + 1) all
+  turn_done after changed = elim (slice_get_cases rows i).1 [
+    | inl found ↦ changed ∙ sym (change_at-set rows i released found.0 (released (get_or rows i found.0)) inside refl)
+        ∙ map_over_more released all rows i (get_or rows i found.0) lt e (ap (get_or rows i) (sym found.3))
+    | inr past ↦ absurd (omega (arith, past.0, inside))
+  ]
+
+  -- and counted where it was ACTIVE
+  pub turn_counted : (answer : Bool) → ((row : FileRow) → slice_get rows i ≡ Some row → answer ≡ is_active row.state) → (count : ℕ)
+      → count ≡ count_by (λ r. is_active r.state) (take i all) → count + cond answer 1 0 ≡ count_by (λ r. is_active r.state) (take (i + 1) all)
+  turn_counted answer was count so_far = elim (slice_get_cases rows i).1 [
+    | inl found ↦ by_answer answer found.0 (ap (λ (row : FileRow). is_active row.state) (found.3) ∙ sym (was found.0 found.2))
+    | inr past ↦ absurd (omega (arith, past.0, inside))
+  ]
+    where
+      by_answer : (answer : Bool) (row : FileRow) → is_active (get_or rows i row).state ≡ answer
+          → count + cond answer 1 0 ≡ count_by (λ r. is_active r.state) (take (i + 1) all)
+      by_answer true row is = counted all rows i row lt e count so_far is
+      by_answer false row is = (let none : count + 0 ≡ count = omega arith in none) ∙ passed_by all rows i row lt e count so_far is

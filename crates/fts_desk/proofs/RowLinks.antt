@@ -4,7 +4,7 @@ use Rattle.std.specs.Prelude.{◌==◌, ◌||◌, if◌then◌else◌}
 use Rattle.fts_tables.specs.Tables.{is_submitted, is_active, is_not_used}
 use Rattle.fts_tables.specs.JobData.{JobData}
 use Rattle.fts_tables.specs.Choice.{next_alternative}
-use Rattle.fts_tables.specs.Moves.{submitted, canceled, cancelled, reported, new_rows, submit_if_not_used, submit_chosen, rows_of_kind}
+use Rattle.fts_tables.specs.Moves.{submitted, canceled, canceled_for, cancelled_for, reported, new_rows, submit_if_not_used, submit_chosen, rows_of_kind}
 use Rattle.fts_tables.specs.Step.{released}
 use Rattle.fts_tables.specs.Laws.{FileOfRow}
 use Rattle.fts_tables.specs.declared.rows.NewFile.{NewFile}
@@ -15,6 +15,7 @@ use Rattle.fts_tables.specs.declared.rows.JobKind.TheVariants.{Plain, Replica, M
 use Rattle.fts_tables.specs.declared.rows.FileState.{FileState}
 use Rattle.fts_tables.specs.declared.rows.FileState.TheVariants.{Submitted, NotUsed}
 use Rattle.fts_tables.specs.declared.rows.Outcome.{Outcome}
+use Rattle.fts_tables.specs.declared.rows.Reason.{Reason}
 use Rattle.fts_index.specs.LiveLinks.{link_of_row}
 use Rattle.fts_desk.specs.Loaded.{link_of_file}
 use Rattle.fts_desk.specs.Places.{woken}
@@ -32,14 +33,14 @@ pub link_woken : (row : FileRow) → link_of_row (woken row) ≡ link_of_row row
 link_woken row = either_link (submitted row) row row (is_not_used row.state) refl refl
 
 -- a row that is cancelled
-pub link_cancelled : (row : FileRow) → link_of_row (cancelled row) ≡ link_of_row row
-link_cancelled row = either_link (canceled row) (if is_active row.state then record row { cancel_asked = true } else row) row
+pub link_cancelled : (reason : Reason) (row : FileRow) → link_of_row (cancelled_for reason row) ≡ link_of_row row
+link_cancelled reason row = either_link (canceled_for reason row) (if is_active row.state then record row { cancel_asked = true } else row) row
     (is_submitted row.state || is_not_used row.state) refl
     (either_link (record row { cancel_asked = true }) row row (is_active row.state) refl refl)
 
 -- a row that is cancelled with its job
-pub link_cancelled_of : (job : ℕ) (row : FileRow) → link_of_row (cancelled_of job row) ≡ link_of_row row
-link_cancelled_of job row = either_link (cancelled row) row row (row.job == job) (link_cancelled row) refl
+pub link_cancelled_of : (reason : Reason) (job : ℕ) (row : FileRow) → link_of_row (cancelled_of reason job row) ≡ link_of_row row
+link_cancelled_of reason job row = either_link (cancelled_for reason row) row row (row.job == job) (link_cancelled reason row) refl
 
 -- a row that is given up
 pub link_released : (row : FileRow) → link_of_row (released row) ≡ link_of_row row

@@ -1,5 +1,5 @@
 -- What a desk keeps over a command that was committed.
-use Rattle.std.proofs.Common.{◌≡◌, ℕ, ◌+◌, ◌<◌, length, Option, Some, Ok, Err, sym, subst}
+use Rattle.std.proofs.Common.{◌≡◌, ℕ, ◌+◌, ◌<◌, Bool, List, length, Option, Some, Ok, Err, sym, subst}
 use Rattle.std.specs.Prelude.{max, slice_get, Result, IfOk}
 use Rattle.fts_tables.specs.Tables.{Tables}
 use Rattle.fts_tables.specs.Step.{Outcomes, step}
@@ -15,7 +15,7 @@ use Rattle.fts_tables.specs.declared.rows.FileRow.{FileRow}
 use Rattle.fts_tables.specs.SettingsData.{SettingsData}
 use Rattle.fts_tables.specs.declared.rows.Outcome.{Outcome}
 use Rattle.fts_tables.specs.declared.commands.Command.{Command}
-use Rattle.fts_tables.specs.declared.commands.Command.TheVariants.{Restart, Report}
+use Rattle.fts_tables.specs.declared.commands.Command.TheVariants.{Restart, Report, Ban}
 use Rattle.fts_tables.specs.declared.commands.Answer.{Answer}
 use Rattle.fts_desk.specs.Bounds.{AreBounded, BringsFiles}
 use Rattle.fts_desk.specs.Kept.{tables_kept, HasRoom}
@@ -79,6 +79,14 @@ pub planned_report : (kept : Kept) (now file attempt : ℕ) (outcome : Outcome) 
 planned_report kept now file attempt outcome command (Ok decided) is given =
     subst (λ command. IsPlanned kept command decided) (sym is) (record { room = given now outcome; files = tt; decided = tt })
 planned_report kept now file attempt outcome command (Err fault) is given = tt
+
+-- all that a ban needs
+pub planned_ban : (kept : Kept) (now : ℕ) (storage : List ℕ) (cancel : Bool) (command : Command) (result : Result Decided DeskFault)
+    → command ≡ Ban now storage cancel → IfOk result (λ decided. (now : ℕ) (cancel : Bool) → HasRoom kept (Ban now storage cancel))
+    → IfOk result (IsPlanned kept command)
+planned_ban kept now storage cancel command (Ok decided) is given =
+    subst (λ command. IsPlanned kept command decided) (sym is) (record { room = given now cancel; files = tt; decided = tt })
+planned_ban kept now storage cancel command (Err fault) is given = tt
 
 -- a copy of the command that was prepared is ready
 pub ready_after : (kept : Kept) (tables : Tables) (commands : ℕ) (decided : Decided) (command copy : Command) → commands < MAX_COMMANDS

@@ -1,15 +1,18 @@
 -- What a claim looks at, where a job is submitted: the new rows are idle, each queue has room for them, and the old rows have their jobs.
-use Rattle.std.proofs.Common.{◌≡◌, ℕ, zero, suc, ◌+◌, Bool, true, false, cond, List, [], ◌∷◌, ◌++◌, length, take, drop, Option, Some, None, IsTrue, refl, ap, sym, ◌∙◌, subst, arith}
-use Rattle.std.specs.Prelude.{◌==◌, count_by, slice_get, is_some, if◌then◌else◌}
+use Rattle.std.proofs.Common.{◌≡◌, ◌≢◌, ℕ, zero, suc, ◌+◌, ◌-◌, ◌*◌, ◌≤◌, Bool, true, false, cond, List, [], ◌∷◌, ◌++◌, length, take, drop, length-drop, Option, Some, None, IsTrue, refl, ap, sym, ◌∙◌, subst, arith}
+use Rattle.std.specs.Prelude.{◌==◌, min, count_by, slice_get, is_some, if◌then◌else◌}
 use Rattle.std.specs.List.{AllByRecursion}
-use Rattle.std.proofs.lemmas.Bool.{eq-eqb}
-use Rattle.std.proofs.lemmas.List.{take_at, drop_at}
+use Rattle.std.proofs.lemmas.Bool.{eq-eqb, ne_eqb}
+use Rattle.std.proofs.lemmas.List.{take_at, take_all, drop_at}
 use Rattle.std.proofs.lemmas.List.Sums.{sum_by-cons}
 use Rattle.std.proofs.lemmas.Option.{same_Some}
 use Rattle.fts_tables.specs.JobData.{JobData}
 use Rattle.fts_tables.specs.SettingsData.{SettingsData}
 use Rattle.fts_tables.specs.Choice.{next_alternative}
-use Rattle.fts_tables.specs.Laws.{file_of}
+use Rattle.std.specs.Option.{option_map_or}
+use Rattle.fts_tables.specs.Waits.{overdue_from, row_overdue_from}
+use Rattle.fts_tables.specs.Laws.{FileOfRow, file_of}
+use Rattle.fts_tables.specs.declared.limits.TheConstants.{LAST_MOMENT}
 use Rattle.fts_tables.specs.Moves.{new_row, new_rows, submitted, submit_if_not_used, submit_chosen, rows_of_kind}
 use Rattle.fts_tables.specs.Tables.{Tables, AreNumberedFrom, AreWellFormed, is_active, is_not_used, job_at, rows_of_job}
 use Rattle.fts_tables.specs.declared.rows.NewFile.{NewFile}
@@ -22,6 +25,9 @@ use Rattle.fts_tables.specs.declared.rows.FileState.TheVariants.{Submitted, NotU
 use Rattle.fts_tables.specs.declared.settings.LinkAt.{LinkAt}
 use Rattle.fts_claims.specs.Changes.{AreTiedTo, is_file_in, is_row_in}
 use Rattle.fts_claims.specs.declared.parts.ClaimParts.{ClaimParts}
+use Rattle.fts_index.specs.DueLists.{DueList}
+use Rattle.fts_index.specs.RowDues.{AreDuesOf, MayAdd, HasAdded}
+use Rattle.fts_desk.specs.Counted.{HasRoomForDues}
 use Rattle.fts_desk.specs.Parts.{AreTiedParts, HaveRoomForFiles, HaveRoomForRows}
 use Rattle.fts_desk.specs.Places.{woken}
 use Rattle.fts_desk.proofs.KeptFiles.{numbered-map, one_file}
@@ -91,6 +97,38 @@ kind-idle Replica rows number id job = by_choice (next_alternative job.strategy 
     by_choice None = new_rows-idle number id NotUsed job.files refl
     by_choice (Some row) = submitted-idle row.id (new_rows number id NotUsed job.files) (new_rows-idle number id NotUsed job.files refl)
 
+-- new rows are their job's
+new_rows-owned : (job id : ℕ) (state : FileState) (files : List NewFile) → AllByRecursion (λ row. row.job ≡ job) (new_rows job id state files)
+new_rows-owned job id state [] = tt
+new_rows-owned job id state (file ∷ files) = (refl, new_rows-owned job (suc id) state files)
+
+-- and so they are where one is woken
+submitted-owned : (job id : ℕ) (rows : List FileRow) → AllByRecursion (λ row. row.job ≡ job) rows
+    → AllByRecursion (λ row. row.job ≡ job) (submit_if_not_used id rows)
+submitted-owned job id [] owned = tt
+submitted-owned job id (row ∷ rows) owned =
+    (ap (λ (file : FileOfRow). file.job) (one_file id woken woken_file row) ∙ owned.0, submitted-owned job id rows owned.1)
+
+-- a new job's rows are its own
+kind-owned : (kind : JobKind) (rows : List FileRow) (number id : ℕ) (job : JobData)
+    → AllByRecursion (λ row. row.job ≡ number) (rows_of_kind kind rows number id job)
+kind-owned Plain rows number id job = new_rows-owned number id Submitted job.files
+kind-owned Multihop rows number id job = submitted-owned number id (new_rows number id NotUsed job.files) (new_rows-owned number id NotUsed job.files)
+kind-owned Replica rows number id job = by_choice (next_alternative job.strategy rows (new_rows number id NotUsed job.files))
+  where
+    by_choice : (chosen : Option FileRow) → AllByRecursion (λ row. row.job ≡ number) (submit_chosen chosen (new_rows number id NotUsed job.files))
+    by_choice None = new_rows-owned number id NotUsed job.files
+    by_choice (Some row) = submitted-owned number row.id (new_rows number id NotUsed job.files) (new_rows-owned number id NotUsed job.files)
+
+-- a job that comes in behind others is found by the next number
+job_behind : (start : ℕ) (jobs : List JobRow) (job : JobRow) → AreNumberedFrom (λ job. job.number) start jobs → job.number ≡ start + length jobs
+    → job_at (jobs ++ job ∷ []) job.number ≡ Some job
+job_behind start [] job numbered is = ap (λ answer. cond answer (Some job) None) (eq-eqb job.number job.number refl)
+job_behind start (first ∷ jobs) job numbered is =
+    let next : job.number ≡ suc start + length jobs = omega (arith, is) in
+    let apart : (first.number == job.number) ≡ false = ne_eqb first.number job.number (λ same. omega (arith, same, numbered.0, is)) in
+    ap (λ answer. cond answer (Some first) (job_at (jobs ++ job ∷ []) job.number)) apart ∙ job_behind (suc start) jobs job numbered.1 next
+
 -- the first item and the others
 count_by-cons : {Item : Type 0} (test : Item → Bool) (item : Item) (items : List Item)
     → count_by test (item ∷ items) ≡ cond (test item) 1 0 + count_by test items
@@ -140,6 +178,10 @@ room_for_kind : (kind : JobKind) (rows : List FileRow) (number id : ℕ) (job : 
 room_for_kind kind rows number id job None room = tt
 room_for_kind kind rows number id job (Some parts) room = λ link activity.
     omega (arith, room link activity, in_kind parts.slots.settings link activity kind rows number id job)
+
+-- the rows from a place on, as many as there are
+pub rest_whole : (rows : List FileRow) (from : ℕ) → take (length rows - from) (drop from rows) ≡ drop from rows
+rest_whole rows from = take_all (length rows - from) (drop from rows) (omega (arith, length-drop from rows))
 
 -- what holds of the row at each place holds of all
 at_each_place : (Holds : FileRow → Type 0) (rows : List FileRow) → ((place : ℕ) (row : FileRow) → slice_get rows place ≡ Some row → Holds row)
@@ -219,3 +261,62 @@ module _ (tables : Tables) (formed : AreWellFormed tables) (kind : JobKind) (num
       → AreTiedParts tables.jobs tables.rows parts → AreTiedParts jobs (take from rows) parts
   submitted_tied law tied = subst (λ others. AreTiedParts jobs others parts) (sym before)
       (subst (λ others. AreTiedParts others tables.rows parts) (sym with_job) (more_stay_tied tables job parts formed law tied))
+
+  -- the moment of each new row is the job's
+  moments : number ≡ job.number → AllByRecursion (λ row. row_overdue_from jobs row ≡ overdue_from job) (rows_of_kind kind tables.rows number id new)
+  moments same = by_rows (rows_of_kind kind tables.rows number id new) (kind-owned kind tables.rows number id new)
+    where
+      found : job_at jobs job.number ≡ Some job
+      found = ap (λ (others : List JobRow). job_at others job.number) with_job
+          ∙ job_behind 1 tables.jobs job formed.jobs (omega (arith, numbers))
+
+      by_rows : (some : List FileRow) → AllByRecursion (λ row. row.job ≡ number) some
+          → AllByRecursion (λ row. row_overdue_from jobs row ≡ overdue_from job) some
+      by_rows [] owned = tt
+      by_rows (row ∷ some) owned = (
+        ap (λ at. option_map_or overdue_from (job_at jobs at) None) (owned.0 ∙ same) ∙ ap (λ at. option_map_or overdue_from at None) found,
+        by_rows some owned.1,
+      )
+
+  -- the moments of the rows that were there stay theirs
+  still_dues : (list : DueList)
+      → ((jobs more : List JobRow) (rows : List FileRow) (list : DueList) → AllByRecursion (λ row. IsTrue (is_some (job_at jobs row.job))) rows
+      → AreDuesOf jobs rows list → AreDuesOf (jobs ++ more) rows list)
+      → AreDuesOf tables.jobs tables.rows list → AreDuesOf jobs tables.rows list
+  still_dues list law of_rows = subst (λ others. AreDuesOf others tables.rows list) (sym with_job)
+      (law tables.jobs (job ∷ []) tables.rows list (rows_have_jobs tables formed) of_rows)
+
+  -- the new rows may come in, where there is room for them if their job limits their hours
+  pub submitted_may : (list : DueList)
+      → ((jobs more : List JobRow) (rows : List FileRow) (list : DueList) → AllByRecursion (λ row. IsTrue (is_some (job_at jobs row.job))) rows
+      → AreDuesOf jobs rows list → AreDuesOf (jobs ++ more) rows list)
+      → ((jobs : List JobRow) (rows more : List FileRow) (moment : Option ℕ) (list : DueList) → AreNumberedFrom (λ row. row.id) 1 (rows ++ more)
+      → AreDuesOf jobs rows list → (is_some moment ≡ true → list.files + length more ≤ list.room) → MayAdd more moment list)
+      → AreDuesOf tables.jobs tables.rows list → HasRoomForDues job.queue_hours (length (drop from rows)) list
+      → (moment : Option ℕ) → moment ≡ overdue_from job → MayAdd (drop from rows) moment list
+  submitted_may list more may of_rows room moment is =
+      subst (λ some. MayAdd some moment list) (sym behind)
+      (may jobs tables.rows (rows_of_kind kind tables.rows number id new) moment list
+      (subst (λ all. AreNumberedFrom (λ (row : FileRow). row.id) 1 all) with_rows submitted_rows)
+      (still_dues list more of_rows) (λ some. subst (λ others. list.files + length others ≤ list.room) behind
+      (room (hours (ap is_some (sym is) ∙ some)))))
+    where
+      hours : is_some (overdue_from job) ≡ true → job.queue_hours ≢ 0
+      hours some none = clash (sym (ap (λ answer. is_some (cond {A = Option ℕ} answer None
+          (Some (min (job.submitted_at + 3600 * job.queue_hours) LAST_MOMENT)))) (eq-eqb job.queue_hours 0 none)) ∙ some)
+        where
+          clash : false ≡ true → ⊥
+          clash same = cc
+
+  -- and once they have, the moments are those of all rows
+  pub submitted_dues : (old list : DueList)
+      → ((jobs more : List JobRow) (rows : List FileRow) (list : DueList) → AllByRecursion (λ row. IsTrue (is_some (job_at jobs row.job))) rows
+      → AreDuesOf jobs rows list → AreDuesOf (jobs ++ more) rows list)
+      → ((jobs : List JobRow) (rows more : List FileRow) (moment : Option ℕ) (old new : DueList) → AreDuesOf jobs rows old
+      → AllByRecursion (λ row. row_overdue_from jobs row ≡ moment) more → HasAdded more moment old new → AreDuesOf jobs (rows ++ more) new)
+      → AreDuesOf tables.jobs tables.rows old → number ≡ job.number → (moment : Option ℕ) → moment ≡ overdue_from job
+      → HasAdded (drop from rows) moment old list → AreDuesOf jobs rows list
+  submitted_dues old list more done of_rows same moment is added =
+      subst (λ all. AreDuesOf jobs all list) (sym with_rows)
+      (done jobs tables.rows (rows_of_kind kind tables.rows number id new) (overdue_from job) old list (still_dues old more of_rows) (moments same)
+      (subst (λ some. HasAdded some (overdue_from job) old list) behind (subst (λ from_then. HasAdded (drop from rows) from_then old list) is added)))

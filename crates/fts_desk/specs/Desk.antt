@@ -66,9 +66,9 @@ IsDecided kept (Claim now word) Nothing = ⊥
 IsDecided kept (Claim now word) (Claimed place dest) = IsClaimAt kept now word place dest
 IsDecided kept (Claim now word) (Restarted parts flags) = ⊥
 IsDecided kept (Report now file attempt outcome) decided = Unit {0}
-IsDecided kept (Ban now storage cancel) decided = ⊥
-IsDecided kept (Unban now storage) decided = ⊥
-IsDecided kept (Expire now) decided = ⊥
+IsDecided kept (Ban now storage cancel) decided = Unit {0}
+IsDecided kept (Unban now storage) decided = Unit {0}
+IsDecided kept (Expire now) decided = Unit {0}
 
 -- all that an accepted command needs besides: room, a job's files, and what was decided
 pub record IsPlanned (kept : Kept) (command : Command) (choice : Decided) : Type 0 where

@@ -5,6 +5,7 @@ use Rattle.fts_tables.specs.declared.limits.TheConstants.{MAX_JOBS, MAX_ROWS}
 use Rattle.fts_tables.specs.declared.commands.Command.{Command}
 use Rattle.fts_tables.specs.declared.commands.Command.TheVariants.{Restart, Submit, CancelJob, CancelFile, SetPriority, Claim, Report, Ban, Unban, Expire}
 use Rattle.fts_tables.specs.declared.commands.Refusal.TheVariants.{JobsFull, RowsFull}
+use Rattle.fts_desk.specs.Counted.{HasRoomForDues}
 use Rattle.fts_desk.specs.Loaded.{are_known, link_of_file}
 use Rattle.fts_tables.specs.declared.rows.NewFile.{NewFile}
 use Rattle.fts_tables.specs.declared.rows.FileRow.{FileRow}
@@ -37,16 +38,18 @@ pub record HasRoomFor (kept : Kept) (count : ℕ) : Type 0 where
   pub job_limit : length kept.jobs.items < MAX_JOBS
   pub row_limit : length kept.rows.items + count ≤ MAX_ROWS
 
--- room for one job more of these files, for the link of each among the loads, and for each among the files that wait
-pub record HasRoomForFiles (kept : Kept) (files : List NewFile) : Type 0 where
+-- room for one job more of these hours in the queue and these files, for the link of each among the loads, for each among the moments where there are
+-- hours, and for each among the files that wait
+pub record HasRoomForFiles (kept : Kept) (hours : ℕ) (files : List NewFile) : Type 0 where
   pub count : HasRoomFor kept (length files)
-  pub links : are_known kept.beside.loads (map link_of_file files) ≡ true
+  pub links : are_known kept.beside.counts.loads (map link_of_file files) ≡ true
+  pub dues : HasRoomForDues hours (length files) kept.beside.counts.dues
   pub queues : HaveRoomForFiles files kept.beside.parts
 
 -- room for what a command adds
 abbrev pub HasRoom : Kept → Command → Type 0
 HasRoom kept (Restart now settings) = Unit {0}
-HasRoom kept (Submit now job) = HasRoomForFiles kept job.files
+HasRoom kept (Submit now job) = HasRoomForFiles kept job.queue_hours job.files
 HasRoom kept (CancelJob now job) = Unit {0}
 HasRoom kept (CancelFile now job file) = Unit {0}
 HasRoom kept (SetPriority now job priority) = Unit {0}

@@ -1,5 +1,6 @@
 pub mod Bounds
 pub mod Cancels
+pub mod Counted
 pub mod Desk
 pub mod DeskData
 pub mod Kept
@@ -7,5 +8,6 @@ pub mod Loaded
 pub mod Parts
 pub mod Places
 pub mod Prepared
+pub mod Props
 pub mod Reports
 pub mod Standing

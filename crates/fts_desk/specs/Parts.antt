@@ -12,7 +12,7 @@ use Rattle.fts_states.specs.declared.reports.Follow.TheVariants.{Nothing, NextHo
 use Rattle.fts_claims.specs.Ties.{flags_of}
 use Rattle.fts_claims.specs.Changes.{AreTiedTo, HasQueueRoom, IsSameRoom, HaveAtMostMore, HasRoomForFiles, HasRoomForRows, HasRoomsRisen, MayWait, MayRun}
 use Rattle.fts_claims.specs.declared.parts.ClaimParts.{ClaimParts}
-use Rattle.fts_desk.specs.Loaded.{AreLoadsOf}
+use Rattle.fts_desk.specs.Counted.{AreCountsOf}
 use Rattle.fts_desk.specs.declared.kept.Beside.{Beside}
 
 -- the settings that the slots are of, where there are any
@@ -28,9 +28,9 @@ flags_in (Some settings) banned = flags_of settings banned
 abbrev pub AreTiedParts : List JobRow → List FileRow → Option ClaimParts → Type 0
 AreTiedParts jobs rows parts = IfSome parts (λ parts. AreTiedTo jobs rows parts)
 
--- the loads are those of these rows, and what a claim looks at is tied to them and to the jobs
+-- what is counted is that of these rows, and what a claim looks at is tied to them, each with the jobs
 pub record IsBeside (jobs : List JobRow) (rows : List FileRow) (beside : Beside) : Type 0 where
-  pub loads : AreLoadsOf rows beside.loads
+  pub counts : AreCountsOf jobs rows beside.counts
   pub parts : AreTiedParts jobs rows beside.parts
 
 -- the queue of a row has room for so many more, where its ends are known

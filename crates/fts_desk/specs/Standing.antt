@@ -1,6 +1,6 @@
 -- Where jobs and rows stand in their lists: a number is a place plus 1, and the rows of a job stand together.
-use Rattle.std.specs.Prelude.{◌≡◌, ℕ, ◌+◌, ◌-◌, ◌≤◌, ◌&&◌, nat_le, ◌==◌, if◌then◌else◌, List, length, take, drop, Option, Some, None}
-use Rattle.fts_tables.specs.Tables.{rows_of_job}
+use Rattle.std.specs.Prelude.{◌≡◌, ℕ, ◌+◌, ◌-◌, ◌≤◌, ◌&&◌, nat_le, ◌==◌, if◌then◌else◌, List, [], length, take, drop, Option, Some, None}
+use Rattle.fts_tables.specs.Tables.{AreWellFormed, rows_of_job}
 use Rattle.fts_tables.specs.Step.{with_priority}
 use Rattle.fts_tables.specs.declared.rows.FileRow.{FileRow}
 use Rattle.fts_tables.specs.declared.rows.JobRow.{JobRow}
@@ -14,6 +14,10 @@ pub record StandTogether (rows : List FileRow) (job : JobRow) : Type 0 where
   pub first : 1 ≤ job.first
   pub inside : job.first - 1 + job.count ≤ length rows
   pub taken : rows_of_job rows job.number ≡ take job.count (drop (job.first - 1) rows)
+
+-- jobs and rows of the machine's form, whatever stands beside them in the tables
+abbrev pub AreFormed : List JobRow → List FileRow → Type 0
+AreFormed jobs rows = AreWellFormed (record { jobs = jobs; rows = rows; moment = 0; settings = None; banned = [] })
 
 -- a job, with a priority where it has a number
 abbrev pub prioritized : ℕ → ℕ → JobRow → JobRow

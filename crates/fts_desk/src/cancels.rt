@@ -1,22 +1,25 @@
 //! Cancellations: of a job, and of one of its files. A file of a replica or multihop job is cancelled with the whole job.
 //! A row that waits becomes CANCELED; an ACTIVE one keeps its state, and so its slot, until its report. What changes no row is refused.
 //! Each check answers as the machine's step does, and each step after an accepted check is the machine's.
-ghost use Rattle.std.specs.Prelude.{◌≡◌, ℕ, ◌==◌, ◌<◌, length, map, Some, Ok, Err, if◌then◌else◌};
+//! `cancel_with_job` is what a ban and an expiry do to a file: it has a reason of its own, and says how many rows became CANCELED.
+ghost use Rattle.std.specs.Prelude.{◌≡◌, ℕ, ◌+◌, ◌==◌, ◌<◌, length, map, slice_get, Some, Ok, Err, if◌then◌else◌};
 ghost use Rattle.std.specs.List.{list_any};
-ghost use Rattle.fts_tables.specs.Tables.{Tables, AreNumberedFrom, AreWellFormed, is_live};
-ghost use Rattle.fts_tables.specs.Moves.{cancelled, is_cancellable, is_settled_job, change_row};
+ghost use Rattle.fts_tables.specs.Tables.{Tables, AreNumberedFrom, AreWellFormed, is_live, is_pending};
+ghost use Rattle.fts_tables.specs.Moves.{cancelled_for, is_cancellable, is_settled_job, change_row};
 ghost use Rattle.fts_tables.specs.Step.{step, cancel_rows, cancel_row, cancel_one};
-ghost use Rattle.fts_desk.specs.Cancels.{cancelled_of, after_file, IsInside};
+ghost use Rattle.fts_tables.specs.declared.rows.FileRow.{FileRow};
+ghost use Rattle.fts_tables.specs.declared.rows.Reason.TheVariants.{Cancelled};
+ghost use Rattle.fts_desk.specs.Cancels.{cancelled_of, after_file, gone_with, count_canceled, IsInside};
 ghost use Rattle.fts_tables.specs.History.{IsAccepted};
 ghost use Rattle.fts_tables.specs.declared.commands.Command.TheVariants.{CancelJob, CancelFile};
 ghost use Rattle.fts_desk.specs.Parts.{limits_of, AreTiedParts, IsBeside};
 ghost use Rattle.fts_desk.specs.Places.{change_at};
 ghost use Rattle.fts_desk.specs.Kept.{tables_kept};
-ghost use Rattle.fts_desk.specs.Standing.{StandTogether};
+ghost use Rattle.fts_desk.specs.Standing.{StandTogether, AreFormed};
 ghost use Rattle.fts_desk.specs.Prepared.{IsChecked};
 
+use crate::counts::{counted, recount};
 use crate::kept::{Beside, Kept};
-use crate::loads::recount;
 use crate::lookups::{find_job, find_row, job_place, rows_of_job, rows_stand_together};
 use crate::parts::{leave, wait};
 use fts_claims::{ClaimParts, same_parts_stay_tied};
@@ -132,7 +135,13 @@ pub fn cancel_job(kept: &mut Kept, now: u64, job: u32) -> Answer
     match job_place(&kept.jobs, job) {
         Some(place) => {
             let found = kept.jobs[place];
-            cancel_all_of(&mut kept.rows, &found, &mut kept.beside, &kept.jobs);
+            cancel_all_of(
+                &mut kept.rows,
+                &found,
+                Reason::Cancelled,
+                &mut kept.beside,
+                &kept.jobs,
+            );
         }
         None => unreachable!(),
     }
@@ -151,132 +160,209 @@ pub fn cancel_file(kept: &mut Kept, now: u64, job: u32, file: u32) -> Answer
     match job_place(&kept.jobs, job) {
         Some(place) => {
             let found = kept.jobs[place];
-            cancel_by_kind(&mut kept.rows, &found, file, &mut kept.beside, &kept.jobs);
+            cancel_by_kind(
+                &mut kept.rows,
+                &found,
+                file,
+                Reason::Cancelled,
+                &mut kept.beside,
+                &kept.jobs,
+            );
         }
         None => unreachable!(),
     }
     Answer::Cancelled { job }
 }
 
-/// Cancels a file's row, or all rows of its job, by the job's kind.
+/// Cancels the row at a place for a reason, with its whole job where that goes as a whole, and says how many rows became CANCELED.
+pub fn cancel_with_job(
+    rows: &mut [FileRow],
+    place: usize,
+    reason: Reason,
+    beside: &mut Beside,
+    jobs: &[JobRow],
+) -> u32
+    requires formed { AreFormed jobs.now rows.old }
+    requires beside { IsBeside jobs.now rows.old beside.old }
+    requires inside { place < length rows.old }
+    ensures rows { (row : FileRow) → slice_get rows.old place ≡ Some row → rows.new ≡ gone_with reason jobs.now row rows.old }
+    ensures count { count_canceled rows.new ≡ count_canceled rows.old + result }
+    ensures beside { IsBeside jobs.now rows.new beside.new }
+    ensures limits { limits_of beside.new.parts ≡ limits_of beside.old.parts }
+{
+    rows_stand_together();
+    let file = rows[place].id;
+    match find_job(jobs, rows[place].job) {
+        Some(job) => cancel_by_kind(rows, job, file, reason, beside, jobs),
+        None => cancel_at(rows, file, reason, beside, jobs),
+    }
+}
+
+/// Cancels a file's row, or all rows of its job, by the job's kind, and says how many became CANCELED.
 fn cancel_by_kind(
     rows: &mut [FileRow],
     job: &JobRow,
     file: u32,
+    reason: Reason,
     beside: &mut Beside,
     jobs: &[JobRow],
-)
+) -> u32
     requires jobs_numbered { AreNumberedFrom (λ job. job.number) 1 jobs.now }
     requires beside { IsBeside jobs.now rows.old beside.old }
     requires together { StandTogether rows.old job.now }
     requires inside { IsInside rows.old file }
-    ensures rows { rows.new ≡ after_file (Some job.now.kind) job.now.number file rows.old }
+    ensures rows { rows.new ≡ after_file reason (Some job.now.kind) job.now.number file rows.old }
+    ensures count { count_canceled rows.new ≡ count_canceled rows.old + result }
     ensures beside { IsBeside jobs.now rows.new beside.new }
     ensures limits { limits_of beside.new.parts ≡ limits_of beside.old.parts }
 {
     match job.kind {
-        JobKind::Plain => cancel_at(rows, file, beside, jobs),
-        JobKind::Replica | JobKind::Multihop => cancel_all_of(rows, job, beside, jobs),
+        JobKind::Plain => cancel_at(rows, file, reason, beside, jobs),
+        JobKind::Replica | JobKind::Multihop => cancel_all_of(rows, job, reason, beside, jobs),
     }
 }
 
-/// Cancels the row of an id.
-fn cancel_at(rows: &mut [FileRow], file: u32, beside: &mut Beside, jobs: &[JobRow])
+/// Cancels the row of an id, and says how many rows became CANCELED.
+fn cancel_at(
+    rows: &mut [FileRow],
+    file: u32,
+    reason: Reason,
+    beside: &mut Beside,
+    jobs: &[JobRow],
+) -> u32
     requires jobs_numbered { AreNumberedFrom (λ job. job.number) 1 jobs.now }
     requires beside { IsBeside jobs.now rows.old beside.old }
     requires inside { IsInside rows.old file }
-    ensures rows { rows.new ≡ change_row file cancelled rows.old }
+    ensures rows { rows.new ≡ change_row file (cancelled_for reason) rows.old }
+    ensures count { count_canceled rows.new ≡ count_canceled rows.old + result }
     ensures beside { IsBeside jobs.now rows.new beside.new }
     ensures limits { limits_of beside.new.parts ≡ limits_of beside.old.parts }
 {
     let place = file as usize - 1;
-    let was_live = rows[place].state.is_live();
-    cancel_place(rows, place, &mut beside.parts, jobs);
-    recount(&mut beside.loads, was_live, &rows[place]);
+    let was = counted(jobs, rows, place);
+    let canceled = cancel_place(rows, place, reason, &mut beside.parts, jobs);
+    recount(&mut beside.counts, jobs, rows, place, was);
+    u32::from(canceled)
 }
 
-/// Cancels each row of a job, and looks at no other.
-fn cancel_all_of(rows: &mut [FileRow], job: &JobRow, beside: &mut Beside, jobs: &[JobRow])
+/// Cancels each row of a job, looks at no other, and says how many became CANCELED.
+fn cancel_all_of(
+    rows: &mut [FileRow],
+    job: &JobRow,
+    reason: Reason,
+    beside: &mut Beside,
+    jobs: &[JobRow],
+) -> u32
     requires jobs_numbered { AreNumberedFrom (λ job. job.number) 1 jobs.now }
     requires beside { IsBeside jobs.now rows.old beside.old }
     requires numbered { AreNumberedFrom (λ row. row.id) 1 rows.old }
     requires together { StandTogether rows.old job.now }
-    ensures rows { rows.new ≡ map (cancelled_of job.now.number) rows.old }
+    ensures rows { rows.new ≡ map (cancelled_of reason job.now.number) rows.old }
+    ensures count { count_canceled rows.new ≡ count_canceled rows.old + result }
     ensures beside { IsBeside jobs.now rows.new beside.new }
     ensures limits { limits_of beside.new.parts ≡ limits_of beside.old.parts }
 {
     let from = job.first as usize - 1;
+    let mut canceled = 0;
     for place in from..from + job.count as usize {
-        cancel_if_of(rows, place, job.number, beside, jobs);
+        if cancel_if_of(rows, place, job.number, reason, beside, jobs) {
+            canceled += 1;
+        }
     }
+    canceled
 }
 
-/// Cancels the row at a place where it is of a job.
-fn cancel_if_of(rows: &mut [FileRow], place: usize, job: u32, beside: &mut Beside, jobs: &[JobRow])
+/// Cancels the row at a place where it is of a job, and says whether it became CANCELED.
+fn cancel_if_of(
+    rows: &mut [FileRow],
+    place: usize,
+    job: u32,
+    reason: Reason,
+    beside: &mut Beside,
+    jobs: &[JobRow],
+) -> bool
     requires jobs_numbered { AreNumberedFrom (λ job. job.number) 1 jobs.now }
     requires numbered { AreNumberedFrom (λ row. row.id) 1 rows.old }
     requires beside { IsBeside jobs.now rows.old beside.old }
     requires inside { place < length rows.old }
-    ensures rows { rows.new ≡ change_at place (cancelled_of job) rows.old }
+    ensures rows { rows.new ≡ change_at place (cancelled_of reason job) rows.old }
+    ensures count { count_canceled rows.new ≡ count_canceled rows.old + (if result then 1 else 0) }
     ensures beside { IsBeside jobs.now rows.new beside.new }
     ensures limits { limits_of beside.new.parts ≡ limits_of beside.old.parts }
 {
-    let was_live = rows[place].state.is_live();
-    cancel_place_of(rows, place, job, &mut beside.parts, jobs);
-    recount(&mut beside.loads, was_live, &rows[place]);
+    let was = counted(jobs, rows, place);
+    let canceled = cancel_place_of(rows, place, job, reason, &mut beside.parts, jobs);
+    recount(&mut beside.counts, jobs, rows, place, was);
+    canceled
 }
 
-/// Cancels the row at a place where it is of a job, whatever it counts for.
+/// Cancels the row at a place where it is of a job, whatever it counts for, and says whether it became CANCELED.
 fn cancel_place_of(
     rows: &mut [FileRow],
     place: usize,
     job: u32,
+    reason: Reason,
     parts: &mut Option<ClaimParts>,
     jobs: &[JobRow],
-)
+) -> bool
     requires jobs_numbered { AreNumberedFrom (λ job. job.number) 1 jobs.now }
     requires numbered { AreNumberedFrom (λ row. row.id) 1 rows.old }
     requires tied { AreTiedParts jobs.now rows.old parts.old }
     requires inside { place < length rows.old }
-    ensures rows { rows.new ≡ change_at place (cancelled_of job) rows.old }
+    ensures rows { rows.new ≡ change_at place (cancelled_of reason job) rows.old }
+    ensures count { count_canceled rows.new ≡ count_canceled rows.old + (if result then 1 else 0) }
     ensures tied { AreTiedParts jobs.now rows.new parts.new }
     ensures limits { limits_of parts.new ≡ limits_of parts.old }
 {
     if rows[place].job == job {
-        cancel_place(rows, place, parts, jobs);
+        cancel_place(rows, place, reason, parts, jobs)
+    } else {
+        false
     }
 }
 
-/// Cancels the row at a place. One that runs keeps its slot and its destination; one that waits is taken out.
-fn cancel_place(rows: &mut [FileRow], place: usize, parts: &mut Option<ClaimParts>, jobs: &[JobRow])
+/// Cancels the row at a place, and says whether it became CANCELED. One that runs keeps its slot and its destination; one that waits is taken out.
+fn cancel_place(
+    rows: &mut [FileRow],
+    place: usize,
+    reason: Reason,
+    parts: &mut Option<ClaimParts>,
+    jobs: &[JobRow],
+) -> bool
     requires jobs_numbered { AreNumberedFrom (λ job. job.number) 1 jobs.now }
     requires numbered { AreNumberedFrom (λ row. row.id) 1 rows.old }
     requires tied { AreTiedParts jobs.now rows.old parts.old }
     requires inside { place < length rows.old }
-    ensures rows { rows.new ≡ change_at place cancelled rows.old }
+    ensures rows { rows.new ≡ change_at place (cancelled_for reason) rows.old }
+    ensures count { count_canceled rows.new ≡ count_canceled rows.old + (if result then 1 else 0) }
     ensures tied { AreTiedParts jobs.now rows.new parts.new }
     ensures limits { limits_of parts.new ≡ limits_of parts.old }
 {
     same_parts_stay_tied();
     if rows[place].state.is_active() {
-        cancel(&mut rows[place]);
-        return;
+        return cancel(&mut rows[place], reason);
     }
     leave(parts, jobs, rows, place);
-    cancel(&mut rows[place]);
+    let canceled = cancel(&mut rows[place], reason);
     wait(parts, jobs, rows, place);
+    canceled
 }
 
-/// Cancels a row.
-fn cancel(row: &mut FileRow)
-    ensures row { row.new ≡ cancelled row.old }
+/// Cancels a row, and says whether it became CANCELED, as it does exactly where it waits, for a worker or for its turn.
+fn cancel(row: &mut FileRow, reason: Reason) -> bool
+    ensures row { row.new ≡ cancelled_for reason row.old }
+    ensures canceled { result ≡ is_pending row.old.state }
 {
     match after_cancel(row) {
-        CancelStep::Stays => {}
+        CancelStep::Stays => false,
         CancelStep::Canceled => {
             row.state = FileState::Canceled;
-            row.reason = Reason::Cancelled;
+            row.reason = reason;
+            true
         }
-        CancelStep::Asked => row.cancel_asked = true,
+        CancelStep::Asked => {
+            row.cancel_asked = true;
+            false
+        }
     }
 }

@@ -36,8 +36,8 @@ ghost use Rattle.fts_desk.specs.Parts.{limits_of, flags_in, AreTiedParts, HasRoo
 ghost use Rattle.fts_desk.specs.Prepared.{IsPrepared};
 
 use crate::DeskFault;
+use crate::counts::{counted, recount};
 use crate::kept::Kept;
-use crate::loads::recount;
 use crate::parts::{leave, start};
 use fts_claims::{
     ClaimParts, ClaimView, eligible_rows_may_run, pick_waiter, tied_rows_may_be_claimed,
@@ -78,7 +78,8 @@ fn pick_file(
     pick_waiter(&view, word)
 }
 
-/// The file that a claim takes now, over what stands beside these rows, where these flags are of the banned storages. None exactly where no row may be claimed; without settings none may.
+/// The file that a claim takes now, over what stands beside these rows, where these flags are of the banned storages. None exactly where no row may be
+/// claimed; without settings none may.
 fn find_file(
     parts: &mut Option<ClaimParts>,
     settings: &Option<Settings>,
@@ -217,10 +218,10 @@ pub fn claim(kept: &mut Kept, now: u64, place: usize, dest: Place) -> Answer
 {
     picked_rows_may_run(kept);
     kept.moment = now.max(kept.moment);
-    let was_live = kept.rows[place].state.is_live();
+    let was = counted(&kept.jobs, &kept.rows, place);
     leave(&mut kept.beside.parts, &kept.jobs, &kept.rows, place);
     let answer = claim_row(&mut kept.rows[place]);
     start(&mut kept.beside.parts, &kept.jobs, &kept.rows, place, dest);
-    recount(&mut kept.beside.loads, was_live, &kept.rows[place]);
+    recount(&mut kept.beside.counts, &kept.jobs, &kept.rows, place, was);
     answer
 }

@@ -1,11 +1,11 @@
 //! Each command by its own module: `decide` checks it and makes its room, `make_step` does it once it was decided.
 //! `decide` leaves the tables as they are. What it decides holds while they stay so.
 //! Called by the desk alone, which keeps the decided command between the two.
-ghost use Rattle.std.specs.Prelude.{◌≡◌, ℕ, Ok, IfOk, length};
+ghost use Rattle.std.specs.Prelude.{◌≡◌, ℕ, Bool, Ok, IfOk, length};
 ghost use Rattle.fts_tables.specs.Tables.{AreNumberedFrom, AreWellFormed};
 ghost use Rattle.fts_tables.specs.Step.{Outcomes, step};
 ghost use Rattle.fts_tables.specs.History.{IsAccepted};
-ghost use Rattle.fts_tables.specs.declared.commands.Command.TheVariants.{Restart, Submit, Claim, Report};
+ghost use Rattle.fts_tables.specs.declared.commands.Command.TheVariants.{Restart, Submit, Claim, Report, Ban};
 ghost use Rattle.fts_desk.specs.Kept.{tables_kept, IsWithinLimits, HasRoom, HasRoomForFiles};
 ghost use Rattle.fts_desk.specs.Bounds.{IsFileCount};
 ghost use Rattle.fts_tables.specs.declared.rows.Outcome.{Outcome};
@@ -17,7 +17,7 @@ ghost use Rattle.fts_desk.specs.Prepared.{IsPrepared, IsChecked};
 use crate::kept::Kept;
 use crate::{DeskFault, bans, cancels, claims, expiries, priority, reports, restart, submit};
 use fts_claims::ClaimParts;
-use fts_tables::{Answer, Command, Memory, NewJob, Place, Refusal, Settings};
+use fts_tables::{Answer, Command, EndpointName, Memory, NewJob, Place, Refusal, Settings};
 use std::alloc::Global;
 
 /// What was decided for a command, beside the command itself.
@@ -47,9 +47,9 @@ pub fn decide(alloc: Global, kept: &mut Kept, command: &Command) -> Result<Decid
         Command::SetPriority { job, .. } => ruled(priority::check_priority(kept, *job)),
         Command::Claim { now, word } => decide_claim(alloc, kept, *now, *word),
         Command::Report { file, attempt, .. } => decide_report(kept, *file, *attempt),
-        Command::Ban { storage, .. } => not_yet(bans::check_ban(kept, storage)),
-        Command::Unban { storage, .. } => not_yet(bans::check_unban(kept, storage)),
-        Command::Expire { now } => not_yet(expiries::check_expire(kept, *now)),
+        Command::Ban { storage, .. } => decide_ban(kept, storage),
+        Command::Unban { storage, .. } => ruled(bans::check_unban(kept, storage)),
+        Command::Expire { now } => ruled(expiries::check_expire(kept, *now)),
     }
 }
 
@@ -94,14 +94,18 @@ fn decide_report(kept: &mut Kept, file: u32, attempt: u32) -> Result<Decided, De
     }
 }
 
-/// The refusal of a command that isn't done yet, and else want of memory.
-fn not_yet(checked: Result<(), Refusal>) -> Result<Decided, DeskFault>
-    ensures answer { (outcome : Outcomes) → IsChecked outcome checked → IsPrepared outcome result }
-    ensures none { IfOk result (λ decided. ⊥) }
+/// Checks a ban, and makes room for its storage.
+fn decide_ban(kept: &mut Kept, storage: &EndpointName) -> Result<Decided, DeskFault>
+    ensures tables { tables_kept kept.new ≡ tables_kept kept.old }
+    ensures answer { (now : ℕ) (cancel : Bool) → IsPrepared (step (tables_kept kept.old) (Ban now storage.now cancel)) result }
+    ensures room { IfOk result (λ decided. (now : ℕ) (cancel : Bool) → HasRoom kept.new (Ban now storage.now cancel)) }
 {
-    match checked {
-        Ok(()) => Err(DeskFault::Memory),
-        Err(refusal) => Err(DeskFault::Rule(refusal)),
+    if let Err(refusal) = bans::check_ban(kept, storage) {
+        return Err(DeskFault::Rule(refusal));
+    }
+    match bans::make_room(kept) {
+        Ok(()) => Ok(Decided::Nothing),
+        Err(Memory) => Err(DeskFault::Memory),
     }
 }
 
@@ -121,7 +125,7 @@ fn make_room(kept: &mut Kept, job: &NewJob) -> Result<Decided, DeskFault>
     requires limits { IsWithinLimits kept.old }
     ensures tables { tables_kept kept.new ≡ tables_kept kept.old }
     ensures answer { (now : ℕ) → IsPrepared (step (tables_kept kept.old) (Submit now job.now)) result }
-    ensures room { IfOk result (λ place. HasRoomForFiles kept.new job.now.files) }
+    ensures room { IfOk result (λ place. HasRoomForFiles kept.new job.now.queue_hours job.now.files) }
     ensures files { IfOk result (λ place. IsFileCount (length job.now.files)) }
 {
     let _priority = job.priority;
@@ -161,6 +165,12 @@ pub fn make_step(kept: &mut Kept, decided: Decided, command: Command) -> Answer
             attempt,
             outcome,
         } => reports::report(kept, now, file, attempt, outcome),
-        Command::Ban { .. } | Command::Unban { .. } | Command::Expire { .. } => unreachable!(),
+        Command::Ban {
+            now,
+            storage,
+            cancel,
+        } => bans::ban(kept, now, storage, cancel),
+        Command::Unban { now, storage } => bans::unban(kept, now, storage),
+        Command::Expire { now } => expiries::expire(kept, now),
     }
 }

@@ -15,9 +15,9 @@ use crate::answers::{held_on_link, rows_of_number, state_of};
 use crate::bounds::steps_keep_bounds;
 use crate::commands::{Decided, decide, make_step};
 use crate::find::number_of_id;
-use crate::kept::{Beside, Kept};
+use crate::kept::{Beside, Counts, Kept};
 use crate::lookups::{find_job, find_row};
-use fts_index::{JobIds, Loads};
+use fts_index::{Dues, JobIds, Loads};
 use fts_tables::laws::steps_keep_standing;
 use fts_tables::{
     Answer, Command, EndpointName, FileRow, JobRow, JobState, LinkAt, Memory, Refusal, Settings,
@@ -92,7 +92,10 @@ impl Desk {
                 ids: JobIds::new(alloc),
                 flags: Vec::new(alloc),
                 beside: Beside {
-                    loads: Loads::new(alloc),
+                    counts: Counts {
+                        loads: Loads::new(alloc),
+                        dues: Dues::new(alloc),
+                    },
                     parts: None,
                 },
             },

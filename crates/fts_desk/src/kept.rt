@@ -1,15 +1,16 @@
 //! The lists behind a desk's tables. `specs/Kept.antt` says which tables they are (`tables_kept`).
 //! Each command's module has a step over them, whose contract is the machine's step over those tables.
 ghost use Rattle.std.specs.Prelude.{◌≡◌, map};
-ghost use Rattle.std.proofs.Props.{props};
 ghost use Rattle.fts_desk.specs.Parts.{limits_of, flags_in, IsBeside};
+ghost use Rattle.fts_desk.specs.Props.{beside_props};
 
 use fts_claims::ClaimParts;
-use fts_index::{JobIds, Loads};
+use fts_index::{Dues, JobIds, Loads};
 use fts_tables::{EndpointName, FileRow, JobRow, Settings};
 
-/// What the machine's tables are made of, and beside them the jobs' ids, the loads of the links, and from the first Restart on what a claim looks
-/// at, and whether each endpoint is banned, by its place: a job is found, an alternative chosen and a file claimed without a walk over all jobs or rows.
+/// What the machine's tables are made of, and beside them the jobs' ids, the loads of the links, the moments at which waiting files become overdue, and
+/// from the first Restart on what a claim looks at, and whether each endpoint is banned, by its place: a job is found, an alternative chosen, a file
+/// claimed and an overdue one found without a walk over all jobs or rows.
 pub struct Kept {
     pub jobs: Vec<JobRow>,
     pub rows: Vec<FileRow>,
@@ -20,7 +21,7 @@ pub struct Kept {
     pub flags: Vec<bool>,
     pub beside: Beside,
     ghost ids_of_jobs: { ids.ids ≡ map (λ job. job.id) jobs.items },
-    ghost beside_rows: { IsBeside jobs.items rows.items beside } by { Prim.hlevel props },
+    ghost beside_rows: { IsBeside jobs.items rows.items beside } by { Prim.hlevel beside_props },
     ghost of_settings: { limits_of beside.parts ≡ settings },
     ghost of_bans: { flags.items ≡ flags_in settings banned.items },
 }
@@ -40,14 +41,29 @@ impl Drop for Kept {
     }
 }
 
-/// What stands beside the rows: the loads of the links, and from the first Restart on what a claim looks at.
+/// What stands beside the rows: what is counted of them, and from the first Restart on what a claim looks at.
 pub struct Beside {
-    pub loads: Loads,
+    pub counts: Counts,
     pub parts: Option<ClaimParts>,
 }
 
 impl Drop for Beside {
     fn drop(self) {
-        let Beside { loads: _, parts: _ } = self;
+        let Beside {
+            counts: _,
+            parts: _,
+        } = self;
+    }
+}
+
+/// What is counted of the rows: how many wait or run on each link, and from when each that waits is overdue.
+pub struct Counts {
+    pub loads: Loads,
+    pub dues: Dues,
+}
+
+impl Drop for Counts {
+    fn drop(self) {
+        let Counts { loads: _, dues: _ } = self;
     }
 }

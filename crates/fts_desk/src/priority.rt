@@ -13,6 +13,7 @@ use crate::cancels::is_settled_job;
 use crate::kept::Kept;
 use crate::lookups::{find_job, job_place, rows_of_job, rows_stand_together};
 use fts_claims::ClaimParts;
+use fts_index::laws::dues_of_other_jobs;
 use fts_tables::{Answer, FileRow, JobRow, Refusal};
 
 /// Whether another priority of a job is accepted, or why it is refused.
@@ -40,6 +41,7 @@ pub fn set_priority(kept: &mut Kept, now: u64, job: u32, priority: u32) -> Answe
     ensures step { step (tables_kept kept.old) (SetPriority now job priority) ≡ Ok (tables_kept kept.new, result) }
 {
     rows_stand_together();
+    dues_of_other_jobs();
     kept.moment = now.max(kept.moment);
     match job_place(&kept.jobs, job) {
         Some(place) => {

@@ -58,8 +58,8 @@ ghost use Rattle.fts_desk.specs.Prepared.{IsChecked};
 ghost use Rattle.fts_desk.specs.Reports.{HaveFewFiles};
 ghost use Rattle.fts_desk.specs.Standing.{StandTogether};
 
+use crate::counts::{counted, recount};
 use crate::kept::{Beside, Kept};
-use crate::loads::recount;
 use crate::lookups::{job_place, row_place, rows_of_job, rows_stand_together};
 use crate::parts::{leave, make_room_to_wait, wait};
 use crate::sources::next_source;
@@ -235,11 +235,11 @@ fn report_at(
     ensures limits { limits_of beside.new.parts ≡ limits_of beside.old.parts }
 {
     let file = rows[place].id;
-    let was_live = rows[place].state.is_live();
+    let was = counted(jobs, rows, place);
     leave(&mut beside.parts, jobs, rows, place);
     let after = report_row(&mut rows[place], job, now, outcome);
     wait(&mut beside.parts, jobs, rows, place);
-    recount(&mut beside.loads, was_live, &rows[place]);
+    recount(&mut beside.counts, jobs, rows, place, was);
     follow(rows, place, job, after.follow, beside, jobs);
     Answer::Reported {
         file,
@@ -324,7 +324,7 @@ fn wake_alternative(rows: &mut [FileRow], job: &JobRow, beside: &mut Beside, job
     ensures beside { IsBeside jobs.now rows.new beside.new }
     ensures limits { limits_of beside.new.parts ≡ limits_of beside.old.parts }
 {
-    match next_source(rows_of_job(rows, job), job.strategy, &beside.loads) {
+    match next_source(rows_of_job(rows, job), job.strategy, &beside.counts.loads) {
         Some(place) => wake_counted(rows, job.first as usize - 1 + place, beside, jobs),
         None => {}
     }

@@ -2,7 +2,7 @@
 //! All rows of a plain job wait, of a multihop job the first, of a replica job the first in order or the one of the least load.
 //! Loads count the rows that were there before the submission.
 //! `make_room` refuses an id that a job has and what would pass the limits, and takes all the memory that `submit` needs. The new rows count
-//! among the loads once they all stand.
+//! among the loads and the moments once they all stand.
 ghost use Rattle.std.specs.Prelude.{
   ◌≡◌,
   ℕ,
@@ -35,19 +35,24 @@ ghost use Rattle.fts_tables.specs.History.{IsAccepted};
 ghost use Rattle.fts_tables.specs.declared.commands.Command.TheVariants.{Submit};
 ghost use Rattle.fts_tables.specs.declared.limits.TheConstants.{MAX_FILES, MAX_ROWS};
 ghost use Rattle.fts_index.specs.Links.{Link};
+ghost use Rattle.fts_tables.specs.declared.rows.FileRow.{FileRow};
+ghost use Rattle.fts_tables.specs.declared.rows.JobRow.{JobRow};
+ghost use Rattle.fts_desk.specs.Counted.{AreCountsOf, HasRoomForDues};
 ghost use Rattle.fts_desk.specs.Kept.{tables_kept, IsWithinLimits, HasRoomForFiles, IsRoomFor};
 ghost use Rattle.fts_desk.specs.Loaded.{AreLoadsOf, are_known, link_of_file};
 ghost use Rattle.fts_desk.specs.Prepared.{IsPrepared};
 
 use crate::DeskFault;
+use crate::counts::count_new;
 use crate::find::seek_number;
-use crate::kept::Kept;
-use crate::loads::count_new;
+use crate::kept::{Counts, Kept};
 use crate::parts::{make_room_for_files, wait_from};
 use crate::sources::next_source;
 use crate::waking::wake_at;
 use fts_claims::jobs_more_stay_tied;
 use fts_index::Loads;
+use fts_index::laws::{dues_of_new_rows, dues_of_other_jobs};
+use fts_states::overdue_from;
 use fts_tables::limits::{MAX_JOBS, MAX_ROWS};
 use fts_tables::{
     Answer, FileRow, FileState, JobKind, JobRow, Memory, NewFile, NewJob, Reason, Refusal, Strategy,
@@ -69,12 +74,12 @@ pub fn make_room(kept: &mut Kept, job: &NewJob) -> Result<(), DeskFault>
     requires numbered { AreNumberedFrom (λ job. job.number) 1 kept.old.jobs.items }
     requires limits { IsWithinLimits kept.old }
     ensures tables { tables_kept kept.new ≡ tables_kept kept.old }
-    ensures room { OnOk result (HasRoomForFiles kept.new job.now.files) }
+    ensures room { OnOk result (HasRoomForFiles kept.new job.now.queue_hours job.now.files) }
     ensures answer { (now : ℕ) → IsPrepared (step (tables_kept kept.old) (Submit now job.now)) result }
 {
     match number_of_given(kept, job.id) {
         Some(number) => Err(DeskFault::Rule(Refusal::Duplicate { job: number })),
-        None => make_room_for(kept, job.files.as_slice()),
+        None => make_room_for(kept, job.queue_hours, job.files.as_slice()),
     }
 }
 
@@ -90,11 +95,11 @@ fn number_of_given(kept: &mut Kept, id: Option<u128>) -> Option<u32>
     }
 }
 
-/// Makes room for a job of these files, or says that the limits refuse it.
-fn make_room_for(kept: &mut Kept, files: &[NewFile]) -> Result<(), DeskFault>
+/// Makes room for a job of these hours in the queue and these files, or says that the limits refuse it.
+fn make_room_for(kept: &mut Kept, hours: u32, files: &[NewFile]) -> Result<(), DeskFault>
     requires { IsWithinLimits kept.old }
     ensures tables { tables_kept kept.new ≡ tables_kept kept.old }
-    ensures room { OnOk result (HasRoomForFiles kept.new files.now) }
+    ensures room { OnOk result (HasRoomForFiles kept.new hours files.now) }
     ensures answer { IsRoomFor (length kept.old.jobs.items) (length kept.old.rows.items) (length files.now) result }
 {
     if kept.jobs.len() >= MAX_JOBS {
@@ -110,12 +115,28 @@ fn make_room_for(kept: &mut Kept, files: &[NewFile]) -> Result<(), DeskFault>
     if kept.jobs.reserve(1).is_err() || kept.rows.reserve(files.len()).is_err() {
         return Err(DeskFault::Memory);
     }
-    if kept.ids.make_room().is_err() || know_links(&mut kept.beside.loads, files).is_err() {
+    if kept.ids.make_room().is_err()
+        || count_later(&mut kept.beside.counts, hours, files).is_err()
+    {
         return Err(DeskFault::Memory);
     }
     match make_room_for_files(&mut kept.beside.parts, files) {
         Ok(()) => Ok(()),
         Err(Memory) => Err(DeskFault::Memory),
+    }
+}
+
+/// Makes room for files among the loads, and among the moments where their job limits their hours. What is counted stays.
+fn count_later(counts: &mut Counts, hours: u32, files: &[NewFile]) -> Result<(), Memory>
+    ensures counts { (jobs : List JobRow) (rows : List FileRow) → AreCountsOf jobs rows counts.old → AreCountsOf jobs rows counts.new }
+    ensures known { OnOk result (are_known counts.new.loads (map link_of_file files.now) ≡ true) }
+    ensures room { OnOk result (HasRoomForDues hours (length files.now) counts.new.dues) }
+{
+    know_links(&mut counts.loads, files)?;
+    if hours == 0 {
+        Ok(())
+    } else {
+        counts.dues.make_room(files.len())
     }
 }
 
@@ -135,7 +156,7 @@ fn know_links(loads: &mut Loads, files: &[NewFile]) -> Result<(), Memory>
 /// It takes no memory and can't fail, and answers the job's number and id.
 pub fn submit(kept: &mut Kept, now: u64, job: NewJob) -> Answer
     requires formed { AreWellFormed (tables_kept kept.old) }
-    requires room { HasRoomForFiles kept.old job.files }
+    requires room { HasRoomForFiles kept.old job.queue_hours job.files }
     requires accepted { IsAccepted (step (tables_kept kept.old) (Submit now job)) }
     ensures step { step (tables_kept kept.old) (Submit now job) ≡ Ok (tables_kept kept.new, result) }
     ensures jobs { length kept.new.jobs.items ≡ length kept.old.jobs.items + 1 }
@@ -159,11 +180,18 @@ pub fn submit(kept: &mut Kept, now: u64, job: NewJob) -> Answer
     let files = files.into_vec();
     let count = files.len() as u32;
     let beside = &mut kept.beside;
-    add_rows_of_kind(&mut kept.rows, number, kind, strategy, files, &beside.loads);
-    count_new(&mut beside.loads, &kept.rows[from..]);
+    add_rows_of_kind(
+        &mut kept.rows,
+        number,
+        kind,
+        strategy,
+        files,
+        &beside.counts.loads,
+    );
+    count_new(&mut beside.counts.loads, &kept.rows[from..]);
     kept.ids.add(id);
     jobs_more_stay_tied();
-    kept.jobs.push_reserved(JobRow {
+    let row = JobRow {
         number,
         id,
         kind,
@@ -176,7 +204,14 @@ pub fn submit(kept: &mut Kept, now: u64, job: NewJob) -> Answer
         submitted_at: kept.moment,
         first: from as u32 + 1,
         count,
-    });
+    };
+    kept.jobs.push_reserved(row);
+    dues_of_other_jobs();
+    dues_of_new_rows();
+    beside
+        .counts
+        .dues
+        .add_rows(&kept.rows[from..], overdue_from(&row));
     wait_from(&mut beside.parts, &kept.jobs, &kept.rows, from);
     Answer::Submitted { job: number, id }
 }

@@ -1,4 +1,4 @@
-//! Rows that begin to wait: the row at a place, where its turn hadn't come. `wake_counted` counts it among the loads too; a submission, whose rows
+//! Rows that begin to wait: the row at a place, where its turn hadn't come. `wake_counted` counts it too; a submission, whose rows
 //! count once they all stand, uses `wake_at`.
 //! Places count from 0, so the row at a place has the id behind it (`change_at-by_id`).
 ghost use Rattle.std.specs.Prelude.{◌≡◌, Some, slice_get};
@@ -7,8 +7,8 @@ ghost use Rattle.fts_tables.specs.declared.rows.FileRow.{FileRow};
 ghost use Rattle.fts_desk.specs.Parts.{limits_of, IsBeside, HasRoomToWait};
 ghost use Rattle.fts_desk.specs.Places.{change_at, woken};
 
+use crate::counts::{counted, recount};
 use crate::kept::Beside;
-use crate::loads::recount;
 use crate::parts::{leave, wait};
 use fts_tables::{FileRow, FileState, JobRow};
 
@@ -30,7 +30,7 @@ pub fn wake_at(rows: &mut [FileRow], place: usize)
     }
 }
 
-/// The same of a row that stands beside others: it is counted among the loads, and waits among the files that wait.
+/// The same of a row that stands beside others: it is counted, and waits among the files that wait.
 pub fn wake_counted(rows: &mut [FileRow], place: usize, beside: &mut Beside, jobs: &[JobRow])
     requires jobs_numbered { AreNumberedFrom (λ job. job.number) 1 jobs.now }
     requires numbered { AreNumberedFrom (λ row. row.id) 1 rows.old }
@@ -41,9 +41,10 @@ pub fn wake_counted(rows: &mut [FileRow], place: usize, beside: &mut Beside, job
     ensures limits { limits_of beside.new.parts ≡ limits_of beside.old.parts }
 {
     if place < rows.len() && rows[place].state.is_not_used() {
+        let was = counted(jobs, rows, place);
         leave(&mut beside.parts, jobs, rows, place);
         wake(&mut rows[place]);
         wait(&mut beside.parts, jobs, rows, place);
-        recount(&mut beside.loads, false, &rows[place]);
+        recount(&mut beside.counts, jobs, rows, place, was);
     }
 }

@@ -6,3 +6,6 @@ mod Sought
 mod Counted
 mod LinksInOrder
 mod TableLists
+mod CountedDues
+mod RowsComing
+mod DueRows

@@ -7,3 +7,7 @@ pub mod JobIds
 pub mod Links
 pub mod Loads
 pub mod LiveLinks
+pub mod DueOrder
+pub mod DueLists
+pub mod RowDues
+pub mod Dues

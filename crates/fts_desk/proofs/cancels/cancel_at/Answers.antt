@@ -1,32 +1,28 @@
 -- A row that is cancelled at its place, and counts anew.
-use Rattle.std.proofs.Common.{◌≡◌, ◌+◌, ◌-◌, ◌<◌, length, sym, ◌∙◌, arith}
-use Rattle.fts_tables.specs.Moves.{cancelled}
-use Rattle.fts_desk.proofs.CancelledParts.{placed_may, placed_done}
+use Rattle.std.proofs.Common.{◌≡◌, ◌+◌, ◌-◌, ◌<◌, length, sym, subst, ◌∙◌, arith}
+use Rattle.fts_tables.specs.Tables.{AreNumberedFrom}
+use Rattle.fts_tables.specs.Moves.{cancelled_for}
+use Rattle.fts_tables.specs.declared.rows.FileRow.{FileRow}
+use Rattle.fts_desk.proofs.CancelledParts.{file_cancelled, id_cancelled, numbered-change}
+use Rattle.fts_desk.proofs.Counted.{counts_placed}
 use Rattle.fts_desk.proofs.ChangedRows.{change_row-place}
-use Rattle.fts_desk.proofs.RowLinks.{link_cancelled}
 use Rattle.fts_desk.proofs.cancels.cancel_at.Goals as goal
 
-pub recount-requires : goal.recount-requires
-recount-requires c =
+pub recount-requires-clause-rows_numbered : goal.recount-requires-clause-rows_numbered
+recount-requires-clause-rows_numbered c =
+    subst (AreNumberedFrom (λ (row : FileRow). row.id) 1) (sym c.cancel_place-canceled.ensures.rows)
+    (numbered-change 1 c.args.rows.now (c.args.file - 1) (cancelled_for c.args.reason) (id_cancelled c.args.reason) c.requires.inside.numbered)
+
+pub recount-requires-clause-before : goal.recount-requires-clause-before
+recount-requires-clause-before c =
     let within : c.args.file - 1 < length c.args.rows.now = omega (arith, c.requires.inside.first, c.requires.inside.last) in
-    record {
-      may = placed_may c.args.rows.now c.cancel_place.new.rows (c.args.file - 1) cancelled link_cancelled c.index-rows-place.result
-          c.is_live-was_live.result within c.is_live-was_live.ensures c.cancel_place.ensures.rows c.args.beside.now.loads c.requires.beside.loads
-          c.index-rows-place-2.result;
-    }
+    counts_placed c.args.jobs.now c.args.rows.now c.cancel_place-canceled.new.rows (c.args.file - 1) (cancelled_for c.args.reason)
+    (file_cancelled c.args.reason) c.counted-was.result c.args.beside.now.counts within c.counted-was.ensures.counted c.requires.beside.counts
+    c.cancel_place-canceled.ensures.rows
 
 pub returns-clause-rows : goal.returns-clause-rows
 returns-clause-rows c =
     let inside = c.requires.inside in
     let id : c.args.file ≡ 1 + (c.args.file - 1) = omega (arith, inside.first) in
-    c.cancel_place.ensures.rows ∙ sym (change_row-place 1 c.args.rows.now (c.args.file - 1) c.args.file cancelled inside.numbered id)
-
-pub returns-clause-beside : goal.returns-clause-beside
-returns-clause-beside c =
-    let within : c.args.file - 1 < length c.args.rows.now = omega (arith, c.requires.inside.first, c.requires.inside.last) in
-    record {
-      loads = placed_done c.args.rows.now c.cancel_place.new.rows (c.args.file - 1) cancelled link_cancelled c.index-rows-place.result
-          c.is_live-was_live.result within c.is_live-was_live.ensures c.cancel_place.ensures.rows c.args.beside.now.loads c.requires.beside.loads
-          c.index-rows-place-2.result c.recount.new.loads c.recount.ensures.counts c.recount.ensures.known;
-      parts = c.cancel_place.ensures.tied;
-    }
+    c.cancel_place-canceled.ensures.rows
+    ∙ sym (change_row-place 1 c.args.rows.now (c.args.file - 1) c.args.file (cancelled_for c.args.reason) inside.numbered id)

@@ -10,6 +10,7 @@ use Rattle.fts_tables.specs.History.{IsAccepted}
 use Rattle.fts_tables.specs.declared.rows.FileRow.{FileRow}
 use Rattle.fts_tables.specs.declared.rows.JobRow.{JobRow}
 use Rattle.fts_tables.specs.declared.commands.Answer.TheVariants.{Cancelled}
+use Rattle.fts_tables.specs.declared.rows.Reason.TheVariants.{Cancelled as CancelledReason}
 use Rattle.fts_desk.specs.Kept.{tables_kept}
 use Rattle.fts_desk.specs.Parts.{IsBeside}
 use Rattle.fts_desk.specs.Cancels.{after_file, IsInside}
@@ -50,14 +51,14 @@ returns c =
     let job = c.index.result.now in
     let found = found_there (λ (jobs : List JobRow). job_at jobs c.args.job) c.deref.result.now c.args.kept.now.jobs.items c.in-Some.place job
     c.deref.ensures.value c.in-Some.ensures.job c.in-Some.ensures.inside.0 c.index.ensures in
-    let rows = ap (λ found. after_file found c.args.job c.args.file tables.rows) (ap (option_map (λ (job : JobRow). job.kind)) found)
-    ∙ (ap (λ number. after_file (Some job.kind) number c.args.file tables.rows) (sym (number_at tables.jobs c.args.job job found))
-    ∙ (ap (after_file (Some job.kind) job.number c.args.file) (sym c.deref_mut.ensures.value) ∙ (sym c.cancel_by_kind.ensures.rows
+    let rows = ap (λ found. after_file CancelledReason found c.args.job c.args.file tables.rows) (ap (option_map (λ (job : JobRow). job.kind)) found)
+    ∙ (ap (λ number. after_file CancelledReason (Some job.kind) number c.args.file tables.rows) (sym (number_at tables.jobs c.args.job job found))
+    ∙ (ap (after_file CancelledReason (Some job.kind) job.number c.args.file) (sym c.deref_mut.ensures.value) ∙ (sym c.cancel_by_kind.ensures.rows
     ∙ sym (with_items_is c.args.kept.now.rows c.cancel_by_kind.new.rows (c.cancel_by_kind.auto.rows ∙ c.deref_mut.ensures.len))))) in
     record {
       step = file_cancelled tables now c.args.job c.args.file c.requires.accepted
           ∙ rows_done tables (Cancelled c.args.job) (max c.args.now c.args.kept.now.moment) c.max-kept.result
-          (after_file (option_map (λ (job : JobRow). job.kind) (job_at tables.jobs c.args.job)) c.args.job c.args.file tables.rows)
+          (after_file CancelledReason (option_map (λ (job : JobRow). job.kind) (job_at tables.jobs c.args.job)) c.args.job c.args.file tables.rows)
           (with_items c.args.kept.now.rows c.cancel_by_kind.new.rows).items (sym c.max-kept.ensures) rows;
     }
 

@@ -1,20 +1,20 @@
 -- A row that is cancelled at its place where it is of the job, and counts anew.
+use Rattle.std.proofs.Common.{sym, subst}
+use Rattle.std.specs.Prelude.{◌==◌}
+use Rattle.fts_tables.specs.Tables.{AreNumberedFrom}
+use Rattle.fts_tables.specs.declared.rows.FileRow.{FileRow}
 use Rattle.fts_desk.specs.Cancels.{cancelled_of}
-use Rattle.fts_desk.proofs.CancelledParts.{placed_may, placed_done}
-use Rattle.fts_desk.proofs.RowLinks.{link_cancelled_of}
+use Rattle.fts_desk.proofs.CancelledParts.{file_if_cancelled, id_cancelled_of, numbered-change}
+use Rattle.fts_desk.proofs.Counted.{counts_placed}
 use Rattle.fts_desk.proofs.cancels.cancel_if_of.Goals as goal
 
-pub recount-requires : goal.recount-requires
-recount-requires c = record {
-  may = placed_may c.args.rows.now c.cancel_place_of.new.rows c.args.place (cancelled_of c.args.job) (link_cancelled_of c.args.job)
-      c.index-rows-place.result c.is_live-was_live.result c.requires.inside c.is_live-was_live.ensures c.cancel_place_of.ensures.rows
-      c.args.beside.now.loads c.requires.beside.loads c.index-rows-place-2.result;
-}
+pub recount-requires-clause-rows_numbered : goal.recount-requires-clause-rows_numbered
+recount-requires-clause-rows_numbered c =
+    subst (AreNumberedFrom (λ (row : FileRow). row.id) 1) (sym c.cancel_place_of-canceled.ensures.rows)
+    (numbered-change 1 c.args.rows.now c.args.place (cancelled_of c.args.reason c.args.job) (id_cancelled_of c.args.reason c.args.job) c.requires.numbered)
 
-pub returns-clause-beside : goal.returns-clause-beside
-returns-clause-beside c = record {
-  loads = placed_done c.args.rows.now c.cancel_place_of.new.rows c.args.place (cancelled_of c.args.job) (link_cancelled_of c.args.job)
-      c.index-rows-place.result c.is_live-was_live.result c.requires.inside c.is_live-was_live.ensures c.cancel_place_of.ensures.rows
-      c.args.beside.now.loads c.requires.beside.loads c.index-rows-place-2.result c.recount.new.loads c.recount.ensures.counts c.recount.ensures.known;
-  parts = c.cancel_place_of.ensures.tied;
-}
+pub recount-requires-clause-before : goal.recount-requires-clause-before
+recount-requires-clause-before c =
+    counts_placed c.args.jobs.now c.args.rows.now c.cancel_place_of-canceled.new.rows c.args.place (cancelled_of c.args.reason c.args.job)
+    (λ row. file_if_cancelled c.args.reason row (row.job == c.args.job)) c.counted-was.result c.args.beside.now.counts c.requires.inside
+    c.counted-was.ensures.counted c.requires.beside.counts c.cancel_place_of-canceled.ensures.rows

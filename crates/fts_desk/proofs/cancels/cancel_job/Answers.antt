@@ -9,6 +9,7 @@ use Rattle.fts_tables.specs.History.{IsAccepted}
 use Rattle.fts_tables.specs.declared.rows.FileRow.{FileRow}
 use Rattle.fts_tables.specs.declared.rows.JobRow.{JobRow}
 use Rattle.fts_tables.specs.declared.commands.Answer.TheVariants.{Cancelled}
+use Rattle.fts_tables.specs.declared.rows.Reason.TheVariants.{Cancelled as CancelledReason}
 use Rattle.fts_desk.specs.Kept.{tables_kept}
 use Rattle.fts_desk.specs.Cancels.{cancelled_of}
 use Rattle.fts_desk.specs.Parts.{IsBeside}
@@ -38,13 +39,14 @@ returns c =
     let job = c.index.result.now in
     let found = found_there (λ (jobs : List JobRow). job_at jobs c.args.job) c.deref.result.now c.args.kept.now.jobs.items c.in-Some.place job
     c.deref.ensures.value c.in-Some.ensures.job c.in-Some.ensures.inside.0 c.index.ensures in
-    let rows = ap (λ number. map (cancelled_of number) tables.rows) (sym (number_at tables.jobs c.args.job job found))
-    ∙ ap (map (cancelled_of job.number)) (sym c.deref_mut.ensures.value) ∙ sym c.cancel_all_of.ensures.rows
+    let rows = ap (λ number. map (cancelled_of CancelledReason number) tables.rows) (sym (number_at tables.jobs c.args.job job found))
+    ∙ ap (map (cancelled_of CancelledReason job.number)) (sym c.deref_mut.ensures.value) ∙ sym c.cancel_all_of.ensures.rows
     ∙ sym (with_items_is c.args.kept.now.rows c.cancel_all_of.new.rows (c.cancel_all_of.auto.rows ∙ c.deref_mut.ensures.len)) in
     record {
       step = job_cancelled tables (max c.args.now c.args.kept.now.moment) c.args.job c.requires.accepted
           ∙ rows_done tables (Cancelled c.args.job) (max c.args.now c.args.kept.now.moment) c.max-kept.result
-          (map (cancelled_of c.args.job) tables.rows) (with_items c.args.kept.now.rows c.cancel_all_of.new.rows).items (sym c.max-kept.ensures) rows;
+          (map (cancelled_of CancelledReason c.args.job) tables.rows)
+          (with_items c.args.kept.now.rows c.cancel_all_of.new.rows).items (sym c.max-kept.ensures) rows;
     }
 
 pub invariant_of-kept-clause-beside_rows : goal.invariant_of-kept-clause-beside_rows

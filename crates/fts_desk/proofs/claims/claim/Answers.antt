@@ -1,20 +1,19 @@
 -- The row that was changed in its place is the machine's claim.
-use Rattle.std.proofs.Common.{◌≡◌, ◌+◌, Bool, cond, Ok, get_or, set, refl, ap, sym, ◌∙◌, subst}
-use Rattle.std.specs.Prelude.{◌&&◌, max, count_by, slice_get}
+use Rattle.std.proofs.Common.{◌+◌, List, Ok, get_or, set, refl, ap, sym, ◌∙◌, subst}
+use Rattle.std.specs.Prelude.{max, slice_get}
 use Rattle.std.proofs.lemmas.Option.{slice_get-get_or}
-use Rattle.fts_index.specs.Links.{Link}
-use Rattle.fts_index.specs.LiveLinks.{link_of_row}
-use Rattle.fts_desk.specs.Loaded.{added_by, MayRecount}
 use Rattle.fts_tables.specs.Step.{with_rows}
 use Rattle.fts_tables.specs.declared.commands.Answer.TheVariants.{Claimed}
 use Rattle.fts_desk.specs.Kept.{tables_kept}
 use Rattle.fts_tables.specs.Moves.{claimed}
-use Rattle.fts_tables.specs.Tables.{is_live, is_active}
+use Rattle.fts_tables.specs.Tables.{is_active}
 use Rattle.fts_tables.specs.declared.rows.FileRow.{FileRow}
+use Rattle.fts_tables.specs.declared.rows.JobRow.{JobRow}
+use Rattle.fts_desk.specs.Counted.{AreCountsOf, AreCountsBefore, IsCountedAt}
 use Rattle.fts_desk.specs.Parts.{AreTiedParts, MayRunIn}
 use Rattle.fts_desk.proofs.ClaimedParts.{claimed_numbered, claimed_there, still_may_run, same_limits}
 use Rattle.fts_desk.proofs.Claiming.{claim_at}
-use Rattle.fts_desk.proofs.Loaded.{site_may, site_done}
+use Rattle.fts_desk.proofs.Counted.{counts_before}
 use Rattle.fts_desk.proofs.claims.claim.Goals as goal
 
 pub returns : goal.returns
@@ -29,22 +28,33 @@ returns c =
           ∙ ap (λ answer. Ok (with_rows tables c.max-kept.result rows, answer)) (sym c.claim_row-answer.ensures.answer));
     }
 
-pub recount-requires : goal.recount-requires
-recount-requires c =
+pub recount-requires-clause-rows_numbered : goal.recount-requires-clause-rows_numbered
+recount-requires-clause-rows_numbered c =
     let rows = c.args.kept.now.rows.items in
-    record {
-      may = subst (λ (row : FileRow). MayRecount c.is_live-was_live.result (link_of_row row) c.args.kept.now.beside.loads) (sym c.index-2.ensures)
-          (site_may rows c.args.place claimed (λ row. refl) c.index.result.now c.index_mut.result.now c.claim_row-answer.new.row c.is_live-was_live.result
-          c.requires.place (c.is_live-was_live.ensures ∙ ap (λ (row : FileRow). is_live row.state) c.index.ensures)
-          (c.claim_row-answer.ensures.row ∙ ap claimed c.index_mut.ensures.value) c.args.kept.now.beside.loads c.args.kept.now.beside_rows.loads c.index-2.result.now);
-    }
+    claimed_numbered rows c.deref-8.result.now c.args.place (get_or rows c.args.place c.index_mut.result.now) c.claim_row-answer.new.row
+    (slice_get-get_or rows c.args.place c.index_mut.result.now c.requires.place) (c.claim_row-answer.ensures.row ∙ ap claimed c.index_mut.ensures.value)
+    c.deref-8.ensures.value c.requires.formed.rows
+
+pub recount-requires-clause-before : goal.recount-requires-clause-before
+recount-requires-clause-before c =
+    let jobs = c.args.kept.now.jobs.items in
+    let rows = c.args.kept.now.rows.items in
+    let place = c.args.place in
+    let was = c.counted-was.result in
+    let counts = c.args.kept.now.beside.counts in
+    let counted = subst (λ (jobs : List JobRow). IsCountedAt jobs rows place was) c.deref.ensures.value
+    (subst (λ (rows : List FileRow). IsCountedAt c.deref.result.now rows place was) c.deref-2.ensures.value c.counted-was.ensures.counted) in
+    subst (λ (jobs : List JobRow). AreCountsBefore jobs c.deref-8.result.now place was counts) (sym c.deref-7.ensures.value)
+    (subst (λ (rows : List FileRow). AreCountsBefore jobs rows place was counts) (sym c.deref-8.ensures.value)
+    (counts_before jobs rows _ place claimed (λ row. refl) was counts c.requires.place counted c.args.kept.now.beside_rows.counts c.index_mut.result.now
+    (ap (set rows place) (c.claim_row-answer.ensures.row ∙ ap claimed c.index_mut.ensures.value))))
 
 pub start-requires-clause-rows_numbered : goal.start-requires-clause-rows_numbered
 start-requires-clause-rows_numbered c =
     let rows = c.args.kept.now.rows.items in
-    claimed_numbered rows c.deref-4.result.now c.args.place (get_or rows c.args.place c.index_mut.result.now) c.claim_row-answer.new.row
+    claimed_numbered rows c.deref-6.result.now c.args.place (get_or rows c.args.place c.index_mut.result.now) c.claim_row-answer.new.row
     (slice_get-get_or rows c.args.place c.index_mut.result.now c.requires.place) (c.claim_row-answer.ensures.row ∙ ap claimed c.index_mut.ensures.value)
-    c.deref-4.ensures.value c.requires.formed.rows
+    c.deref-6.ensures.value c.requires.formed.rows
 
 pub start-requires-clause-runs : goal.start-requires-clause-runs
 start-requires-clause-runs c = λ row at.
@@ -52,7 +62,7 @@ start-requires-clause-runs c = λ row at.
     let before = get_or tables.rows c.args.place c.index_mut.result.now in
     let there = slice_get-get_or tables.rows c.args.place c.index_mut.result.now c.requires.place in
     let changed = c.claim_row-answer.ensures.row ∙ ap claimed c.index_mut.ensures.value in
-    let now_there = claimed_there tables.rows c.deref-4.result.now c.args.place before c.claim_row-answer.new.row there changed c.deref-4.ensures.value in
+    let now_there = claimed_there tables.rows c.deref-6.result.now c.args.place before c.claim_row-answer.new.row there changed c.deref-6.ensures.value in
     ap (λ (row : FileRow). is_active row.state) (now_there row at)
 
 pub start-requires-clause-may : goal.start-requires-clause-may
@@ -61,10 +71,10 @@ start-requires-clause-may c = λ row at.
     let before = get_or tables.rows c.args.place c.index_mut.result.now in
     let there = slice_get-get_or tables.rows c.args.place c.index_mut.result.now c.requires.place in
     let changed = c.claim_row-answer.ensures.row ∙ ap claimed c.index_mut.ensures.value in
-    let now_there = claimed_there tables.rows c.deref-4.result.now c.args.place before c.claim_row-answer.new.row there changed c.deref-4.ensures.value in
+    let now_there = claimed_there tables.rows c.deref-6.result.now c.args.place before c.claim_row-answer.new.row there changed c.deref-6.ensures.value in
     let picked = c.requires.picked.1 ∙ there in
     let now = max c.args.now tables.moment in
-    let seen = ap (λ rows. slice_get rows c.args.place) c.deref-2.ensures.value ∙ there in
+    let seen = ap (λ rows. slice_get rows c.args.place) c.deref-4.ensures.value ∙ there in
     subst (λ row. MayRunIn row c.leave.new.parts) (sym (now_there row at))
     (still_may_run before c.args.kept.now.beside.parts c.leave.new.parts
     (c.leave.ensures.slots before seen (c.picked_rows_may_run.ensures.idle now c.requires.picked.0 before picked))
@@ -76,7 +86,7 @@ start-requires-clause-dest c = λ row at.
     let before = get_or tables.rows c.args.place c.index_mut.result.now in
     let there = slice_get-get_or tables.rows c.args.place c.index_mut.result.now c.requires.place in
     let changed = c.claim_row-answer.ensures.row ∙ ap claimed c.index_mut.ensures.value in
-    let now_there = claimed_there tables.rows c.deref-4.result.now c.args.place before c.claim_row-answer.new.row there changed c.deref-4.ensures.value in
+    let now_there = claimed_there tables.rows c.deref-6.result.now c.args.place before c.claim_row-answer.new.row there changed c.deref-6.ensures.value in
     ap (λ (row : FileRow). row.dest) (now_there row at) ∙ c.requires.dest before there
 
 pub invariant_of-kept : goal.invariant_of-kept
@@ -85,15 +95,11 @@ invariant_of-kept c =
     record {
       ids_of_jobs = c.args.kept.now.ids_of_jobs;
       beside_rows = record {
-        loads = site_done rows c.args.place claimed (λ row. refl) c.index.result.now c.index_mut.result.now c.claim_row-answer.new.row
-            c.is_live-was_live.result
-            c.requires.place (c.is_live-was_live.ensures ∙ ap (λ (row : FileRow). is_live row.state) c.index.ensures)
-            (c.claim_row-answer.ensures.row ∙ ap claimed c.index_mut.ensures.value) c.args.kept.now.beside.loads c.args.kept.now.beside_rows.loads c.index-2.result.now
-            c.recount.new.loads (subst (λ (row : FileRow). (test : Link → Bool) → count_by test c.recount.new.loads.links
-            + cond (c.is_live-was_live.result && test (link_of_row row)) 1 0
-            ≡ count_by test c.args.kept.now.beside.loads.links + added_by test row) c.index-2.ensures c.recount.ensures.counts) c.recount.ensures.known;
-        parts = subst (λ jobs. AreTiedParts jobs (set rows c.args.place c.claim_row-answer.new.row) c.start.new.parts) c.deref-3.ensures.value
-            (subst (λ rows. AreTiedParts c.deref-3.result.now rows c.start.new.parts) c.deref-4.ensures.value c.start.ensures.tied);
+        counts = subst (λ (jobs : List JobRow). AreCountsOf jobs (set rows c.args.place c.claim_row-answer.new.row) c.recount.new.counts)
+            c.deref-7.ensures.value
+            (subst (λ (rows : List FileRow). AreCountsOf c.deref-7.result.now rows c.recount.new.counts) c.deref-8.ensures.value c.recount.ensures.counts);
+        parts = subst (λ jobs. AreTiedParts jobs (set rows c.args.place c.claim_row-answer.new.row) c.start.new.parts) c.deref-5.ensures.value
+            (subst (λ rows. AreTiedParts c.deref-5.result.now rows c.start.new.parts) c.deref-6.ensures.value c.start.ensures.tied);
       };
       of_settings = same_limits 0 c.leave.new.parts c.start.new.parts c.start.ensures.same
           ∙ (same_limits 0 c.args.kept.now.beside.parts c.leave.new.parts c.leave.ensures.same ∙ c.args.kept.now.of_settings);

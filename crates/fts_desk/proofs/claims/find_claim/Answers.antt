@@ -14,7 +14,8 @@ overflow_sub-place c =
     let tables = tables_kept c.args.kept.now in
     let now = max c.args.now tables.moment in
     let file = file_of tables c.deref.result.now c.deref-2.result.now now c.max-moment.result c.args.word (Some c.in-Some.file) c.deref.ensures.value
-    c.deref-2.ensures.value c.max-moment.ensures (c.find_file-found.ensures.file tables.banned (c.deref-3.ensures.value ∙ c.args.kept.now.of_bans) ∙ c.in-Some.is) in
+    c.deref-2.ensures.value c.max-moment.ensures
+    (c.find_file-found.ensures.file tables.banned (c.deref-3.ensures.value ∙ c.args.kept.now.of_bans) ∙ c.in-Some.is) in
     let found = found_at tables now c.args.word c.in-Some.file (λ row picked. c.picked_rows_stand.ensures.place tables now c.args.word row c.requires.formed picked) file in
     found.first
 
@@ -23,7 +24,8 @@ index-requires c =
     let tables = tables_kept c.args.kept.now in
     let now = max c.args.now tables.moment in
     let file = file_of tables c.deref.result.now c.deref-2.result.now now c.max-moment.result c.args.word (Some c.in-Some.file) c.deref.ensures.value
-    c.deref-2.ensures.value c.max-moment.ensures (c.find_file-found.ensures.file tables.banned (c.deref-3.ensures.value ∙ c.args.kept.now.of_bans) ∙ c.in-Some.is) in
+    c.deref-2.ensures.value c.max-moment.ensures
+    (c.find_file-found.ensures.file tables.banned (c.deref-3.ensures.value ∙ c.args.kept.now.of_bans) ∙ c.in-Some.is) in
     let found = found_at tables now c.args.word c.in-Some.file (λ row picked. c.picked_rows_stand.ensures.place tables now c.args.word row c.requires.formed picked) file in
     omega (arith, slice_get_within tables.rows (c.in-Some.file - 1) found.row found.there, ap length c.deref-2.ensures.value, c.deref-2.ensures.len)
 
@@ -32,7 +34,8 @@ returns-in-None-clause-answer c =
     let tables = tables_kept c.args.kept.now in
     let now = max c.args.now tables.moment in
     let none = file_of tables c.deref.result.now c.deref-2.result.now now c.max-moment.result c.args.word None c.deref.ensures.value
-    c.deref-2.ensures.value c.max-moment.ensures (c.find_file-found.ensures.file tables.banned (c.deref-3.ensures.value ∙ c.args.kept.now.of_bans) ∙ c.in-None.is) in
+    c.deref-2.ensures.value c.max-moment.ensures
+    (c.find_file-found.ensures.file tables.banned (c.deref-3.ensures.value ∙ c.args.kept.now.of_bans) ∙ c.in-None.is) in
     idle_after (ℕ × Place) tables now _ (no_file _ none)
 
 pub returns-in-Ok-clause-answer : goal.returns-in-Ok-clause-answer
@@ -40,7 +43,8 @@ returns-in-Ok-clause-answer c =
     let tables = tables_kept c.args.kept.now in
     let now = max c.args.now tables.moment in
     let file = file_of tables c.deref.result.now c.deref-2.result.now now c.max-moment.result c.args.word (Some c.in-Some.file) c.deref.ensures.value
-    c.deref-2.ensures.value c.max-moment.ensures (c.find_file-found.ensures.file tables.banned (c.deref-3.ensures.value ∙ c.args.kept.now.of_bans) ∙ c.in-Some.is) in
+    c.deref-2.ensures.value c.max-moment.ensures
+    (c.find_file-found.ensures.file tables.banned (c.deref-3.ensures.value ∙ c.args.kept.now.of_bans) ∙ c.in-Some.is) in
     let found = found_at tables now c.args.word c.in-Some.file (λ row picked. c.picked_rows_stand.ensures.place tables now c.args.word row c.requires.formed picked) file in
     accepted {T = ℕ × Place} tables now c.args.word (c.in-Some.file - 1, c.in-Ok.dest) found.row found.picked
 
@@ -49,7 +53,8 @@ returns-in-Ok-clause-picked c =
     let tables = tables_kept c.args.kept.now in
     let now = max c.args.now tables.moment in
     let file = file_of tables c.deref.result.now c.deref-2.result.now now c.max-moment.result c.args.word (Some c.in-Some.file) c.deref.ensures.value
-    c.deref-2.ensures.value c.max-moment.ensures (c.find_file-found.ensures.file tables.banned (c.deref-3.ensures.value ∙ c.args.kept.now.of_bans) ∙ c.in-Some.is) in
+    c.deref-2.ensures.value c.max-moment.ensures
+    (c.find_file-found.ensures.file tables.banned (c.deref-3.ensures.value ∙ c.args.kept.now.of_bans) ∙ c.in-Some.is) in
     let found = found_at tables now c.args.word c.in-Some.file (λ row picked. c.picked_rows_stand.ensures.place tables now c.args.word row c.requires.formed picked) file in
     (slice_get_within tables.rows (c.in-Some.file - 1) found.row found.there, found.picked ∙ sym found.there)
 
@@ -65,6 +70,7 @@ returns-in-Err-clause-answer c =
     let tables = tables_kept c.args.kept.now in
     let now = max c.args.now tables.moment in
     let file = file_of tables c.deref.result.now c.deref-2.result.now now c.max-moment.result c.args.word (Some c.in-Some.file) c.deref.ensures.value
-    c.deref-2.ensures.value c.max-moment.ensures (c.find_file-found.ensures.file tables.banned (c.deref-3.ensures.value ∙ c.args.kept.now.of_bans) ∙ c.in-Some.is) in
+    c.deref-2.ensures.value c.max-moment.ensures
+    (c.find_file-found.ensures.file tables.banned (c.deref-3.ensures.value ∙ c.args.kept.now.of_bans) ∙ c.in-Some.is) in
     let found = found_at tables now c.args.word c.in-Some.file (λ row picked. c.picked_rows_stand.ensures.place tables now c.args.word row c.requires.formed picked) file in
     short_of_memory (ℕ × Place) tables now c.args.word found.row found.picked

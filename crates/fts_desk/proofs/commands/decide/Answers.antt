@@ -4,7 +4,7 @@ use Rattle.fts_tables.specs.Step.{step}
 use Rattle.fts_tables.specs.declared.commands.Command.{Command}
 use Rattle.fts_desk.specs.Kept.{tables_kept}
 use Rattle.fts_desk.specs.Prepared.{IsPrepared}
-use Rattle.fts_desk.proofs.Sound.{planned_restart, planned_report}
+use Rattle.fts_desk.proofs.Sound.{planned_restart, planned_report, planned_ban}
 use Rattle.fts_desk.proofs.commands.decide.Goals as goal
 
 pub returns-in-Restart-clause-answer : goal.returns-in-Restart-clause-answer
@@ -34,10 +34,10 @@ returns-in-Report-clause-planned c =
 
 pub returns-in-Ban-clause-answer : goal.returns-in-Ban-clause-answer
 returns-in-Ban-clause-answer c =
-    subst (λ (command : Command). IsPrepared (step (tables_kept c.args.kept.now) command) c.not_yet.result) (sym c.in-Ban.is)
-    (c.not_yet.ensures.answer _ (c.check_ban.ensures.answer c.in-Ban.now c.in-Ban.cancel))
+    subst (λ (command : Command). IsPrepared (step (tables_kept c.args.kept.now) command) c.decide_ban.result) (sym c.in-Ban.is)
+    (c.decide_ban.ensures.answer c.in-Ban.now c.in-Ban.cancel)
 
-pub returns-in-Unban-clause-answer : goal.returns-in-Unban-clause-answer
-returns-in-Unban-clause-answer c =
-    subst (λ (command : Command). IsPrepared (step (tables_kept c.args.kept.now) command) c.not_yet-in-Unban.result) (sym c.in-Unban.is)
-    (c.not_yet-in-Unban.ensures.answer _ (c.check_unban.ensures.answer c.in-Unban.now))
+pub returns-in-Ban-clause-planned : goal.returns-in-Ban-clause-planned
+returns-in-Ban-clause-planned c =
+    planned_ban c.decide_ban.new.kept c.in-Ban.now c.in-Ban.storage c.in-Ban.cancel c.args.command.now c.decide_ban.result c.in-Ban.is
+    c.decide_ban.ensures.room

@@ -7,8 +7,10 @@ use Rattle.fts_tables.specs.declared.commands.Answer.TheVariants.{PrioritySet}
 use Rattle.fts_tables.specs.declared.rows.FileRow.{FileRow}
 use Rattle.fts_tables.specs.declared.rows.JobRow.{JobRow}
 use Rattle.fts_desk.specs.Kept.{tables_kept}
+use Rattle.fts_desk.specs.Counted.{AreCountsOf}
 use Rattle.fts_desk.specs.Parts.{AreTiedParts}
 use Rattle.fts_desk.specs.Standing.{prioritized, StandTogether}
+use Rattle.fts_desk.proofs.Counted.{counts_prioritized}
 use Rattle.fts_desk.proofs.JobIds.{ids-prioritized}
 use Rattle.fts_desk.proofs.Found.{priority_set, jobs_done, job_inside}
 use Rattle.fts_desk.proofs.Numbered.{number_at}
@@ -63,7 +65,9 @@ invariant_of-kept c =
     ∙ sym (with_items_is c.args.kept.now.jobs c.prioritize.new.jobs (c.prioritize.auto.jobs ∙ c.deref_mut.ensures.len)) in
     record {
       beside_rows = record {
-        loads = c.args.kept.now.beside_rows.loads;
+        counts = subst (λ (jobs : List JobRow). AreCountsOf jobs c.args.kept.now.rows.items c.args.kept.now.beside.counts) changed
+            (counts_prioritized c.dues_of_other_jobs.ensures.alike c.args.job c.args.priority jobs c.args.kept.now.rows.items c.args.kept.now.beside.counts
+            c.args.kept.now.beside_rows.counts);
         parts = subst (λ (jobs : List JobRow). AreTiedParts jobs c.args.kept.now.rows.items c.prioritize_waiting.new.parts)
             (ap (map (prioritized job.number c.args.priority)) c.deref-in-Some.ensures.value
             ∙ ap (λ number. map (prioritized number c.args.priority) jobs) (number_at jobs c.args.job job found) ∙ changed)

@@ -33,7 +33,7 @@ invariant_of-kept c =
     record {
       ids_of_jobs = c.args.kept.now.ids_of_jobs;
       beside_rows = record {
-        loads = c.args.kept.now.beside_rows.loads;
+        counts = c.args.kept.now.beside_rows.counts;
         parts = risen_tied c.args.kept.now.jobs.items c.args.kept.now.rows.items old new risen c.args.kept.now.beside_rows.parts;
       };
       of_settings = risen_limits old new risen ∙ c.args.kept.now.of_settings;

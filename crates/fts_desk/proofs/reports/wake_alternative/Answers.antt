@@ -11,4 +11,4 @@ returns-in-Some-clause-rows c =
     let inside : c.in-Some.place < c.args.job.now.count = omega (arith, c.in-Some.ensures.inside, c.rows_of_job.ensures.count) in
     alternative_woken c.args.rows.now c.rows_of_job.result.now c.wake_counted.new.rows c.args.job.now c.in-Some.place c.requires.numbered
     c.requires.together c.rows_of_job.ensures.rows inside
-    (c.in-Some.ensures.row c.args.rows.now c.requires.beside.loads) c.wake_counted.ensures.rows
+    (c.in-Some.ensures.row c.args.rows.now c.requires.beside.counts.loads) c.wake_counted.ensures.rows

@@ -1,46 +1,33 @@
--- A turn of the loop that gives up the ACTIVE rows.
-use Rattle.std.proofs.Common.{length, set, refl, ap, sym, ◌∙◌, arith}
-use Rattle.std.proofs.lemmas.Option.{slice_get_read}
-use Rattle.fts_index.specs.LiveLinks.{link_of_row}
-use Rattle.fts_desk.proofs.Loaded.{may_recount, recounted}
-use Rattle.fts_desk.proofs.RowLinks.{link_released}
-use Rattle.std.proofs.lemmas.List.Edits.{map_over_more}
+-- A turn of the loop that gives up the ACTIVE rows, and what it leaves.
+use Rattle.std.proofs.Common.{◌≡◌, ◌+◌, ◌<◌, cond, length, ap, sym, subst, ◌∙◌, arith}
+use Rattle.fts_tables.specs.Tables.{AreNumberedFrom}
+use Rattle.fts_tables.specs.Laws.{FileOfRow}
 use Rattle.fts_tables.specs.Step.{released}
-use Rattle.fts_tables.specs.Tables.{is_live}
 use Rattle.fts_tables.specs.declared.rows.FileRow.{FileRow}
-use Rattle.fts_desk.proofs.Released.{counted, passed_by}
+use Rattle.fts_desk.proofs.CancelledParts.{numbered-change}
+use Rattle.fts_desk.proofs.Released.{turn_done, turn_counted, released_file}
 use Rattle.fts_desk.proofs.restart.release.Goals as goal
-use Rattle.fts_desk.proofs.restart.release.Goals.{then-release_one, else-release_one}
+use Rattle.fts_desk.proofs.restart.release.Goals.{then-release_at, else-release_at}
 
-pub loop-row-preserved : goal.loop-row-preserved
-loop-row-preserved c =
-    let inv = c.loop-row.invariant in
-    let x = c.row-item.result in
+pub loop-place-preserved : goal.loop-place-preserved
+loop-place-preserved c =
+    let all = c.args.rows.now in
+    let rows = c.loop-place.rows in
+    let place = c.loop-place.place in
+    let inv = c.loop-place.invariant in
+    let lt : place < length all = omega (arith, c.loop-place-test.true) in
+    let inside : place < length rows = omega (arith, lt, c.loop-place.auto.rows) in
+    let more = turn_counted all rows place lt inside inv.rows c.release_at.result c.release_at.ensures.was c.loop-place.count inv.count in
     record {
-      rows = ap (λ r. set c.loop-row.rows c.loop-row.row-index r) (c.release_one.ensures.row ∙ ap released (sym c.row-item.is))
-          ∙ map_over_more released c.args.rows.now c.loop-row.rows c.loop-row.row-index x c.loop-row-test.true inv.rows c.row-item.is;
-      loaded = recounted c.loop-row.rows c.loop-row.row-index x c.release_one.new.row c.is_live-was_live.result c.loop-row.loads c.recount.new.loads inv.loaded
-          (slice_get_read c.loop-row.rows (length c.loop-row.rows) c.loop-row.row-index x refl
-          (omega (arith, c.loop-row-test.true, c.loop-row.auto.rows)) c.row-item.is)
-          (c.is_live-was_live.ensures ∙ ap (λ (row : FileRow). is_live row.state) (sym c.row-item.is))
-          (ap link_of_row (c.release_one.ensures.row ∙ ap released (sym c.row-item.is)) ∙ link_released x) c.recount.ensures.counts c.recount.ensures.known;
-      count = elim c.if-release_one.branch [
-        | then-release_one w ↦ w.count-is
-            ∙ counted c.args.rows.now c.loop-row.rows c.loop-row.row-index x c.loop-row-test.true inv.rows c.loop-row.count inv.count
-            (sym c.release_one.ensures.was ∙ w.if-release_one.true)
-        | else-release_one w ↦ w.count-is
-            ∙ passed_by c.args.rows.now c.loop-row.rows c.loop-row.row-index x c.loop-row-test.true inv.rows c.loop-row.count inv.count
-            (sym c.release_one.ensures.was ∙ w.if-release_one.false)
+      rows = turn_done all rows place lt inside inv.rows c.release_at.new.rows c.release_at.ensures.rows;
+      count = elim c.if-release_at.branch [
+        | then-release_at w ↦ w.count-is
+            ∙ (ap (λ answer. c.loop-place.count + cond answer 1 0) (sym w.if-release_at.true) ∙ more)
+        | else-release_at w ↦ w.count-is
+            ∙ ((let none : c.loop-place.count ≡ c.loop-place.count + 0 = omega arith in none)
+            ∙ (ap (λ answer. c.loop-place.count + cond answer 1 0) (sym w.if-release_at.false) ∙ more))
       ];
-    }
-
-pub recount-requires : goal.recount-requires
-recount-requires c =
-    let x = c.row-item.result in
-    record {
-      may = may_recount c.loop-row.rows c.loop-row.row-index x c.release_one.new.row c.is_live-was_live.result c.loop-row.loads c.loop-row.invariant.loaded
-          (slice_get_read c.loop-row.rows (length c.loop-row.rows) c.loop-row.row-index x refl
-          (omega (arith, c.loop-row-test.true, c.loop-row.auto.rows)) c.row-item.is)
-          (c.is_live-was_live.ensures ∙ ap (λ (row : FileRow). is_live row.state) (sym c.row-item.is))
-          (ap link_of_row (c.release_one.ensures.row ∙ ap released (sym c.row-item.is)) ∙ link_released x);
+      numbered = subst (AreNumberedFrom (λ (row : FileRow). row.id) 1) (sym c.release_at.ensures.rows)
+          (numbered-change 1 rows place released (λ row. ap (λ (file : FileOfRow). file.id) (released_file row)) inv.numbered);
+      counts = c.release_at.ensures.counts;
     }

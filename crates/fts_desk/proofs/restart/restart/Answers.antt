@@ -3,8 +3,9 @@ use Rattle.std.proofs.Common.{Some, List, map, ap, sym, ◌∙◌, subst}
 use Rattle.std.proofs.lemmas.List.{with_items_is}
 use Rattle.fts_tables.specs.Step.{released}
 use Rattle.fts_tables.specs.declared.rows.FileRow.{FileRow}
+use Rattle.fts_tables.specs.declared.rows.JobRow.{JobRow}
 use Rattle.fts_claims.specs.Changes.{AreTiedTo}
-use Rattle.fts_desk.specs.Loaded.{AreLoadsOf}
+use Rattle.fts_desk.specs.Counted.{AreCountsOf}
 use Rattle.fts_desk.proofs.restart.restart.Goals as goal
 
 pub invariant_of-kept : goal.invariant_of-kept
@@ -14,7 +15,9 @@ invariant_of-kept c =
     record {
       ids_of_jobs = c.args.kept.now.ids_of_jobs;
       beside_rows = record {
-        loads = subst (λ (rows : List FileRow). AreLoadsOf rows c.release-released.new.loads) (sym stay) c.release-released.ensures.loaded;
+        counts = subst (λ (rows : List FileRow). AreCountsOf c.args.kept.now.jobs.items rows c.release-released.new.counts) (sym stay)
+            (subst (λ (jobs : List JobRow). AreCountsOf jobs c.release-released.new.rows c.release-released.new.counts) c.deref.ensures.value
+            c.release-released.ensures.counts);
         parts = subst (λ (rows : List FileRow). AreTiedTo c.args.kept.now.jobs.items rows c.args.parts) (sym left) c.requires.tied;
       };
       of_settings = ap (λ settings. Some settings) c.requires.settings;

@@ -1,10 +1,9 @@
 -- A row that is woken at its place, waits among the others, and counts from then on.
-use Rattle.std.proofs.Common.{false, get_or, sym, ◌∙◌}
+use Rattle.std.proofs.Common.{get_or, set, ap, sym, ◌∙◌}
 use Rattle.fts_desk.specs.Places.{woken}
 use Rattle.fts_desk.proofs.ChangedRows.{change_at-set, change_at-past}
-use Rattle.fts_desk.proofs.Loaded.{site_may, site_done}
-use Rattle.fts_desk.proofs.RowLinks.{link_woken}
-use Rattle.fts_desk.proofs.RowsBeside.{woken_file, woken_idle, woken_stays, unused_again, unused_rests, site_stood, site_numbered, site_idle, site_room}
+use Rattle.fts_desk.proofs.Counted.{counts_before}
+use Rattle.fts_desk.proofs.RowsBeside.{woken_file, woken_idle, woken_stays, unused_again, site_stood, site_numbered, site_idle, site_room}
 use Rattle.fts_desk.proofs.waking.wake_counted.Goals as goal
 use Rattle.fts_desk.proofs.waking.wake_counted.Goals.{else-place-rows-via-then-place-rows+else-is_not_used, else-place-rows-via-else-place-rows}
 
@@ -30,33 +29,20 @@ wait-requires-clause-room c = λ row at.
     site_room rows place woken woken_file read c.wake.new.row c.if-place-rows.true c.wake.ensures.row c.args.beside.now.parts c.leave.new.parts
     c.leave.ensures.same (c.requires.room (get_or rows place read) stood) row at
 
-pub recount-requires : goal.recount-requires
-recount-requires c =
-    let rows = c.args.rows.now in
-    let place = c.args.place in
-    let read = c.index-rows-place-then-is_not_used.result in
-    let unused = unused_again rows place c.index-rows-place.result read c.is_not_used.result c.if-place-rows.true c.is_not_used.ensures c.if-is_not_used.true in
-    record {
-      may = site_may rows place woken link_woken read read c.wake.new.row false c.if-place-rows.true (unused_rests (get_or rows place read).state unused)
-          c.wake.ensures.row c.args.beside.now.loads c.requires.beside.loads c.index-rows-place-then-is_not_used-2.result;
-    }
+pub recount-requires-clause-rows_numbered : goal.recount-requires-clause-rows_numbered
+recount-requires-clause-rows_numbered c =
+    site_numbered c.args.rows.now c.args.place woken woken_file c.index-rows-place-then-is_not_used.result c.wake.new.row c.if-place-rows.true
+    c.wake.ensures.row c.requires.numbered
+
+pub recount-requires-clause-before : goal.recount-requires-clause-before
+recount-requires-clause-before c =
+    counts_before c.args.jobs.now c.args.rows.now _ c.args.place woken woken_file c.counted-was.result c.args.beside.now.counts c.if-place-rows.true
+    c.counted-was.ensures.counted c.requires.beside.counts c.index-rows-place-then-is_not_used.result
+    (ap (set c.args.rows.now c.args.place) c.wake.ensures.row)
 
 pub returns-then-is_not_used-clause-rows : goal.returns-then-is_not_used-clause-rows
 returns-then-is_not_used-clause-rows c =
     change_at-set c.args.rows.now c.args.place woken c.index-rows-place-then-is_not_used.result c.wake.new.row c.if-place-rows.true c.wake.ensures.row
-
-pub returns-then-is_not_used-clause-beside : goal.returns-then-is_not_used-clause-beside
-returns-then-is_not_used-clause-beside c =
-    let rows = c.args.rows.now in
-    let place = c.args.place in
-    let read = c.index-rows-place-then-is_not_used.result in
-    let unused = unused_again rows place c.index-rows-place.result read c.is_not_used.result c.if-place-rows.true c.is_not_used.ensures c.if-is_not_used.true in
-    record {
-      loads = site_done rows place woken link_woken read read c.wake.new.row false c.if-place-rows.true (unused_rests (get_or rows place read).state unused)
-          c.wake.ensures.row c.args.beside.now.loads c.requires.beside.loads c.index-rows-place-then-is_not_used-2.result c.recount.new.loads
-          c.recount.ensures.counts c.recount.ensures.known;
-      parts = c.wait.ensures.tied;
-    }
 
 pub returns-else-place-rows-clause-rows : goal.returns-else-place-rows-clause-rows
 returns-else-place-rows-clause-rows c = elim c.else-place-rows.branch [

@@ -1,0 +1,15 @@
+-- That what stands beside the rows is told in propositions, as a ghost field has to be.
+use Rattle.std.specs.Prelude.{List, [], ◌∷◌}
+use Rattle.std.specs.List.{AllByRecursion-prop}
+use Rattle.std.proofs.Props as std_props
+use mathlib.Core.Bool.{Bool-set}
+use mathlib.Core.HLevel.{×_prop, Unit-prop}
+use Rattle.fts_tables.specs.Dues.{Due, AreInOrder}
+
+-- the order of moments
+pub in_order-prop : (dues : List Due) → IsProp (AreInOrder dues)
+in_order-prop [] = Unit-prop
+in_order-prop (due ∷ dues) = ×_prop (AllByRecursion-prop _ (λ later. Bool-set _ _) dues) (in_order-prop dues)
+
+-- with that, the set for a ghost field
+pub ruleset beside_props = (std_props.props, in_order-prop)

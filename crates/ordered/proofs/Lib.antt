@@ -1,0 +1,6 @@
+pub mod Lists
+pub mod Members
+pub mod ByNumbers
+pub mod Places
+pub mod Fits
+pub mod Edits

@@ -1,0 +1,222 @@
+-- Which keys are there, how many a test counts, and which is found first, after a key more or a key less: for whoever keeps what stands in a set in
+-- step with something else.
+use Rattle.std.proofs.Common.{◌≡◌, ℕ, ◌+◌, Bool, true, false, cond, List, [], ◌∷◌, Option, Some, None, refl, ap, sym, ◌∙◌, subst, arith}
+use Rattle.std.specs.Prelude.{not, ◌||◌, ◌&&◌, find, filter, count_by}
+use Rattle.std.specs.List.{AllByRecursion, list_any}
+use Rattle.std.proofs.lemmas.Bool.{or_parts, not-true}
+use Rattle.std.proofs.lemmas.List.Sums.{sum_by-cons}
+use Rattle.ordered.specs.Orders.{IsStrictOrder, AreSortedBy, differs, has_key, put_by, without}
+use Rattle.ordered.proofs.Lists.{all_after, without_none}
+
+-- two tests of which each passes where the other does are one
+same_answer : (one other : Bool) → (one ≡ true → other ≡ true) → (other ≡ true → one ≡ true) → one ≡ other
+same_answer true true there back = refl
+same_answer true false there back = sym (there refl)
+same_answer false true there back = back refl
+same_answer false false there back = refl
+
+-- the first two of three tests change places
+swap : (one other rest : Bool) → (one || (other || rest)) ≡ (other || (one || rest))
+swap true true rest = refl
+swap true false rest = refl
+swap false other rest = refl
+
+-- a key that stays is there as before
+stays : (other have is : Bool) → (other ≡ false → is ≡ true) → (not other || (have && is)) ≡ ((not other || have) && is)
+stays true have is differ = refl
+stays false have is differ = sym (differ refl)
+
+-- a key that goes is not
+goes : (is have : Bool) → (have && is) ≡ ((not is || have) && is)
+goes true have = refl
+goes false true = refl
+goes false false = refl
+
+-- two tests change places
+either : (one other : Bool) → (one || other) ≡ (other || one)
+either true true = refl
+either true false = refl
+either false true = refl
+either false false = refl
+
+-- whether some key passes, after a key more
+pub any_put : {K : Type 0} (before : K → K → Bool) (passes : K → Bool) (key : K) (keys : List K)
+    → list_any passes (put_by before key keys) ≡ (passes key || list_any passes keys)
+any_put before passes key [] = refl
+any_put before passes key (first ∷ rest) = by_test (before key first) (any_put before passes key rest)
+  where
+    by_test : (answer : Bool) → list_any passes (put_by before key rest) ≡ (passes key || list_any passes rest)
+        → list_any passes (cond answer (key ∷ first ∷ rest) (first ∷ put_by before key rest)) ≡ (passes key || (passes first || list_any passes rest))
+    by_test true behind = refl
+    by_test false behind = ap (λ (test : Bool). passes first || test) behind ∙ swap (passes first) (passes key) (list_any passes rest)
+
+-- and whether one passes among those that a filter keeps
+pub any_filter : {K : Type 0} (passes keeps : K → Bool) (keys : List K)
+    → list_any passes (filter keeps keys) ≡ list_any (λ some. keeps some && passes some) keys
+any_filter passes keeps [] = refl
+any_filter passes keeps (first ∷ rest) = by_test (keeps first) (any_filter passes keeps rest)
+  where
+    by_test : (answer : Bool) → list_any passes (filter keeps rest) ≡ list_any (λ some. keeps some && passes some) rest
+        → list_any passes (cond answer (first ∷ filter keeps rest) (filter keeps rest))
+        ≡ ((answer && passes first) || list_any (λ some. keeps some && passes some) rest)
+    by_test true behind = ap (λ (test : Bool). passes first || test) behind
+    by_test false behind = behind
+
+-- tests that agree pass alike
+pub any_same : {K : Type 0} (passes other : K → Bool) (keys : List K) → ((key : K) → passes key ≡ other key) → list_any passes keys ≡ list_any other keys
+any_same passes other [] same = refl
+any_same passes other (first ∷ rest) same =
+    ap (λ (test : Bool). test || list_any passes rest) (same first) ∙ ap (λ (test : Bool). other first || test) (any_same passes other rest same)
+
+-- a key is there after one more: it is this one, or was there
+pub has_put : {K : Type 0} (before : K → K → Bool) (key other : K) (keys : List K)
+    → has_key before other (put_by before key keys) ≡ (not (differs before key other) || has_key before other keys)
+has_put before key other keys = any_put before (λ some. not (differs before some other)) key keys
+
+-- a test counts one more, where it passes the key
+pub count_put : {K : Type 0} (before : K → K → Bool) (passes : K → Bool) (key : K) (keys : List K)
+    → count_by passes (put_by before key keys) ≡ count_by passes keys + cond (passes key) 1 0
+count_put before passes key [] = sum_by-cons (λ some. cond (passes some) 1 0) key [] ∙ omega arith
+count_put before passes key (first ∷ rest) = by_test (before key first) (count_put before passes key rest)
+  where
+    by_test : (answer : Bool) → count_by passes (put_by before key rest) ≡ count_by passes rest + cond (passes key) 1 0
+        → count_by passes (cond answer (key ∷ first ∷ rest) (first ∷ put_by before key rest)) ≡ count_by passes (first ∷ rest) + cond (passes key) 1 0
+    by_test true behind = omega (arith, sum_by-cons (λ some. cond (passes some) 1 0) key (first ∷ rest))
+    by_test false behind = omega (
+      arith,
+      behind,
+      sum_by-cons (λ some. cond (passes some) 1 0) first (put_by before key rest),
+      sum_by-cons (λ some. cond (passes some) 1 0) first rest,
+    )
+
+-- the first that is found after one more, where it passes: this one, unless one before it was found
+abbrev pub nearer : {K : Type 0} → (K → K → Bool) → K → Option K → Option K
+nearer before key None = Some key
+nearer before key (Some found) = cond (before key found) (Some key) (Some found)
+
+-- one more that does not pass changes nothing
+pub find_put_other : {K : Type 0} (before : K → K → Bool) (passes : K → Bool) (key : K) (keys : List K) → passes key ≡ false
+    → find passes (put_by before key keys) ≡ find passes keys
+find_put_other before passes key [] not_passed = ap (λ (test : Bool). cond test (Some key) None) not_passed
+find_put_other {K} before passes key (first ∷ rest) not_passed = by_test (before key first) (find_put_other before passes key rest not_passed)
+  where
+    by_test : (answer : Bool) → find passes (put_by before key rest) ≡ find passes rest
+        → find passes (cond answer (key ∷ first ∷ rest) (first ∷ put_by before key rest)) ≡ find passes (first ∷ rest)
+    by_test true behind = ap (λ (test : Bool). cond test (Some key) (find passes (first ∷ rest))) not_passed
+    by_test false behind = ap (λ (later : Option K). cond (passes first) (Some first) later) behind
+
+-- what is found among those that a filter keeps
+pub find_filter : {K : Type 0} (passes keeps : K → Bool) (keys : List K) → find passes (filter keeps keys) ≡ find (λ some. keeps some && passes some) keys
+find_filter passes keeps [] = refl
+find_filter {K} passes keeps (first ∷ rest) = by_test (keeps first) (find_filter passes keeps rest)
+  where
+    by_test : (answer : Bool) → find passes (filter keeps rest) ≡ find (λ some. keeps some && passes some) rest
+        → find passes (cond answer (first ∷ filter keeps rest) (filter keeps rest))
+        ≡ cond (answer && passes first) (Some first) (find (λ some. keeps some && passes some) rest)
+    by_test true behind = ap (λ (later : Option K). cond (passes first) (Some first) later) behind
+    by_test false behind = behind
+
+module _ {K : Type 0} (before : K → K → Bool) (order : IsStrictOrder before) where
+  -- two of which neither stands first are one
+  pub one_of : (one other : K) → not (differs before one other) ≡ true → one ≡ other
+  one_of one other is =
+      let parts = or_parts (before one other) (before other one) (not-true (differs before one other) is) in
+      order.total one other parts.0 parts.1
+
+  -- a key is itself
+  pub itself : (one : K) → not (differs before one one) ≡ true
+  itself one = ap (λ (test : Bool). not (test || test)) (order.irreflexive one)
+
+  -- a key is there after one less: it was there, and is another
+  pub has_without : (key other : K) (keys : List K)
+      → has_key before other (without before key keys) ≡ (has_key before other keys && differs before key other)
+  has_without key other [] = refl
+  has_without key other (first ∷ rest) = by_test (has_without key other rest) (differs before first key) refl
+    where
+      by_test : has_key before other (without before key rest) ≡ (has_key before other rest && differs before key other)
+          → (answer : Bool) → differs before first key ≡ answer
+          → has_key before other (cond answer (first ∷ without before key rest) (without before key rest))
+          ≡ ((not (differs before first other) || has_key before other rest) && differs before key other)
+      by_test behind true is =
+          ap (λ (test : Bool). not (differs before first other) || test) behind
+          ∙ stays (differs before first other) (has_key before other rest) (differs before key other)
+          (λ same. ap (differs before key) (sym (one_of first other (ap not same))) ∙ (either (before key first) (before first key) ∙ is))
+      by_test behind false is =
+          behind
+          ∙ (goes (differs before key other) (has_key before other rest)
+          ∙ ap (λ (some : K). (not (differs before some other) || has_key before other rest) && differs before key other)
+          (sym (one_of first key (ap not is))))
+
+  -- a test counts one less, where it passes the key that was there
+  pub count_without : (passes : K → Bool) (key : K) (keys : List K) → AreSortedBy before keys → has_key before key keys ≡ true
+      → count_by passes (without before key keys) + cond (passes key) 1 0 ≡ count_by passes keys
+  count_without passes key [] sorted there = cc
+  count_without passes key (first ∷ rest) sorted there = by_test (count_without passes key rest sorted.1) (differs before first key) refl
+    where
+      by_test : (has_key before key rest ≡ true → count_by passes (without before key rest) + cond (passes key) 1 0 ≡ count_by passes rest)
+          → (answer : Bool) → differs before first key ≡ answer
+          → count_by passes (cond answer (first ∷ without before key rest) (without before key rest)) + cond (passes key) 1 0
+          ≡ count_by passes (first ∷ rest)
+      by_test behind true is =
+          let later = behind (sym (ap (λ (test : Bool). not test || has_key before key rest) is) ∙ there) in
+          omega (
+            arith,
+            later,
+            sum_by-cons (λ some. cond (passes some) 1 0) first (without before key rest),
+            sum_by-cons (λ some. cond (passes some) 1 0) first rest,
+          )
+      by_test behind false is =
+          let same : first ≡ key = one_of first key (ap not is) in
+          let stay : without before key rest ≡ rest =
+          without_none before order key rest (subst (λ some. AllByRecursion (λ later. before some later ≡ true) rest) same sorted.0) in
+          let one : ◌≡◌ {A = ℕ} (cond (passes first) 1 0) (cond (passes key) 1 0) = ap (λ (some : K). cond (passes some) 1 0) same in
+          let kept : count_by passes (without before key rest) ≡ count_by passes rest = ap (count_by passes) stay in
+          omega (arith, sum_by-cons (λ some. cond (passes some) 1 0) first rest, one, kept)
+
+  -- before keys that all stand behind it a key is found first
+  nearest : (passes : K → Bool) (key : K) (keys : List K) → AllByRecursion (λ other. before key other ≡ true) keys
+      → nearer before key (find passes keys) ≡ Some key
+  nearest passes key [] all = refl
+  nearest passes key (first ∷ rest) all = by_test (passes first) (nearest passes key rest all.1)
+    where
+      by_test : (answer : Bool) → nearer before key (find passes rest) ≡ Some key → nearer before key (cond answer (Some first) (find passes rest)) ≡ Some key
+      by_test true behind = ap (λ (test : Bool). cond test (Some key) (Some first)) all.0
+      by_test false behind = behind
+
+  -- one more that passes is found, unless one before it was
+  pub find_put : (passes : K → Bool) (key : K) (keys : List K) → AreSortedBy before keys → passes key ≡ true
+      → find passes (put_by before key keys) ≡ nearer before key (find passes keys)
+  find_put passes key [] sorted passed = ap (λ (test : Bool). cond test (Some key) None) passed
+  find_put passes key (first ∷ rest) sorted passed = by_test (find_put passes key rest sorted.1 passed) (before key first) refl
+    where
+      by_test : find passes (put_by before key rest) ≡ nearer before key (find passes rest) → (answer : Bool) → before key first ≡ answer
+          → find passes (cond answer (key ∷ first ∷ rest) (first ∷ put_by before key rest)) ≡ nearer before key (find passes (first ∷ rest))
+      by_test behind true is =
+          ap (λ (test : Bool). cond test (Some key) (find passes (first ∷ rest))) passed
+          ∙ sym (nearest passes key (first ∷ rest) (is, all_after before order key first rest is sorted.0))
+      by_test behind false is = by_pass (passes first)
+        where
+          by_pass : (answer : Bool) → cond answer (Some first) (find passes (put_by before key rest))
+              ≡ nearer before key (cond answer (Some first) (find passes rest))
+          by_pass true = sym (ap (λ (test : Bool). cond test (Some key) (Some first)) is)
+          by_pass false = behind
+
+  -- one less that does not pass changes nothing
+  pub find_without_other : (passes : K → Bool) (key : K) (keys : List K) → passes key ≡ false → find passes (without before key keys) ≡ find passes keys
+  find_without_other passes key [] not_passed = refl
+  find_without_other passes key (first ∷ rest) not_passed = by_test (find_without_other passes key rest not_passed) (differs before first key) refl
+    where
+      by_test : find passes (without before key rest) ≡ find passes rest → (answer : Bool) → differs before first key ≡ answer
+          → find passes (cond answer (first ∷ without before key rest) (without before key rest)) ≡ find passes (first ∷ rest)
+      by_test behind true is = ap (λ (later : Option K). cond (passes first) (Some first) later) behind
+      by_test behind false is =
+          behind
+          ∙ sym (ap (λ (test : Bool). cond test (Some first) (find passes rest)) (ap passes (one_of first key (ap not is)) ∙ not_passed))
+
+-- two orders of the same keys tell the same keys apart
+pub same_apart : {K : Type 0} (one_before other_before : K → K → Bool) → IsStrictOrder one_before → IsStrictOrder other_before
+    → (one other : K) → not (differs one_before one other) ≡ not (differs other_before one other)
+same_apart one_before other_before one_order other_order one other =
+    same_answer (not (differs one_before one other)) (not (differs other_before one other))
+    (λ is. subst (λ some. not (differs other_before one some) ≡ true) (one_of one_before one_order one other is) (itself other_before other_order one))
+    (λ is. subst (λ some. not (differs one_before one some) ≡ true) (one_of other_before other_order one other is) (itself one_before one_order one))

@@ -1,0 +1,210 @@
+//! Chunks in order, whose keys one after the other are the keys of a set, and spare ones.
+//! A search goes over the last keys of the chunks, and then over the keys of one. A key more or less moves only keys of one chunk, or of two neighbours.
+//! A chunk that gets full is split in halves. One that has, with a neighbour, less than half of what a chunk holds takes on that neighbour's keys: so
+//! there are never more chunks than `chunks_for`. Nothing here takes or gives back memory.
+//! Called by the set alone. A place of a key is one word, `IsGapFor`: all in front of it stand before the key, and none from there on does.
+ghost use Rattle.std.specs.Prelude.{
+  ◌≡◌,
+  ◌<◌,
+  ◌≤◌,
+  ◌+◌,
+  ◌++◌,
+  ◌∷◌,
+  ◌-◌,
+  suc,
+  [],
+  length,
+  take,
+  drop,
+  insert,
+  remove,
+  slice_get,
+  slice_set,
+  true,
+  false,
+  IsTrue,
+  IsFalse,
+  vec_capacity,
+};
+ghost use Rattle.ordered.specs.declared.chunk.TheConstants.{CHUNK_HALF};
+ghost use Rattle.ordered.specs.Orders.{AreSortedBy, put_by, without, has_key};
+ghost use Rattle.ordered.specs.Chunks.{
+  joined,
+  chunk_at,
+  ends_before,
+  front_of,
+  back_of,
+  IsGapFor,
+  AreFit,
+  HasLostOne,
+};
+
+use crate::chunk::{CHUNK_HALF, CHUNK_ROOM, Chunk};
+use crate::key::Key;
+
+/// A place among the keys: so far in which chunk.
+#[derive(Clone, Copy)]
+pub struct Spot {
+    pub chunk: usize,
+    pub at: usize,
+}
+
+/// The chunk to seek a key in: those in front of it end before the key, and it does not, where one is behind it.
+fn chunk_for<K: Key>(chunks: &[Chunk<K>], key: &K) -> usize
+    requires some { 0 < length chunks.now }
+    ensures inside { result < length chunks.now }
+    ensures front { 0 < result → ends_before K.before key.now (chunk_at chunks.now (result - 1)) ≡ true }
+    ensures back { result + 1 < length chunks.now → ends_before K.before key.now (chunk_at chunks.now result) ≡ false }
+{
+    let mut from = 0;
+    let mut to = chunks.len() - 1;
+    while from < to {
+        let middle = from + (to - from) / 2;
+        if chunks[middle].ends_before(key) {
+            from = middle + 1;
+        } else {
+            to = middle;
+        }
+    }
+    from
+}
+
+/// A key's place: those that stand before it are in front.
+pub fn spot_for<K: Key>(chunks: &[Chunk<K>], key: &K) -> Spot
+    requires some { 0 < length chunks.now }
+    requires order { AreSortedBy K.before (joined chunks.now) }
+    requires fit { AreFit CHUNK_HALF chunks.now }
+    ensures chunk { result.chunk < length chunks.now }
+    ensures at { result.at ≤ length (chunk_at chunks.now result.chunk) }
+    ensures inside { result.chunk + 1 < length chunks.now → result.at < length (chunk_at chunks.now result.chunk) }
+    ensures gap { IsGapFor K.before key.now (front_of chunks.now result.chunk result.at) (back_of chunks.now result.chunk result.at) }
+{
+    let chunk = chunk_for(chunks, key);
+    let at = chunks[chunk].place_of(key);
+    Spot { chunk, at }
+}
+
+/// The first key from a place on.
+pub fn key_at<K: Key>(chunks: &[Chunk<K>], spot: Spot) -> Option<K>
+    requires chunk { spot.chunk < length chunks.now }
+    requires at { spot.at ≤ length (chunk_at chunks.now spot.chunk) }
+    requires fit { AreFit CHUNK_HALF chunks.now }
+    ensures key { result ≡ slice_get (back_of chunks.now spot.chunk spot.at) 0 }
+{
+    if spot.at < chunks[spot.chunk].len() {
+        Some(chunks[spot.chunk].get(spot.at))
+    } else if spot.chunk + 1 < chunks.len() {
+        Some(chunks[spot.chunk + 1].get(0))
+    } else {
+        None
+    }
+}
+
+/// Splits a full chunk: its second half stands behind it, in a spare one.
+fn split<K: Key>(chunks: &mut Vec<Chunk<K>>, at: usize, mut spare: Chunk<K>)
+    requires inside { at < length chunks.old.items }
+    requires full { length (chunk_at chunks.old.items at) ≡ CHUNK_ROOM }
+    requires memory { length chunks.old.items < vec_capacity chunks.old }
+    ensures halves { chunks.new.items ≡ insert (slice_set chunks.old.items at (take CHUNK_HALF (chunk_at chunks.old.items at))) (at + 1)
+        (drop CHUNK_HALF (chunk_at chunks.old.items at)) }
+    ensures capacity { vec_capacity chunks.old ≤ vec_capacity chunks.new }
+{
+    chunks[at].move_half(&mut spare);
+    let _ = chunks.insert(at + 1, spare);
+}
+
+/// Puts the keys of the next chunk into one, and that chunk away.
+fn merge<K: Key>(chunks: &mut Vec<Chunk<K>>, spare: &mut Vec<Chunk<K>>, at: usize)
+    requires inside { at + 1 < length chunks.old.items }
+    requires few { length (chunk_at chunks.old.items at) + length (chunk_at chunks.old.items (at + 1)) < CHUNK_ROOM }
+    requires memory { length spare.old.items < vec_capacity spare.old }
+    ensures chunks { chunks.new.items ≡ slice_set (remove chunks.old.items (at + 1)) at
+        (chunk_at chunks.old.items at ++ chunk_at chunks.old.items (at + 1)) }
+    ensures spare { length spare.new.items ≡ length spare.old.items + 1 }
+    ensures capacity { vec_capacity chunks.new ≡ vec_capacity chunks.old }
+    ensures spare_capacity { vec_capacity spare.new ≡ vec_capacity spare.old }
+{
+    let behind = chunks.remove(at + 1);
+    chunks[at].append(&behind);
+    spare.push_reserved(behind);
+}
+
+/// Puts a key into a spare chunk, where there is no other.
+fn put_first<K: Key>(chunks: &mut Vec<Chunk<K>>, mut spare: Chunk<K>, key: K)
+    requires none { chunks.old.items ≡ [] }
+    requires memory { 0 < vec_capacity chunks.old }
+    ensures chunks { chunks.new.items ≡ (key ∷ []) ∷ [] }
+    ensures capacity { vec_capacity chunks.new ≡ vec_capacity chunks.old }
+{
+    spare.fill(key);
+    chunks.push_reserved(spare);
+}
+
+/// Puts a key where it is to stand. A spare chunk is there in case.
+pub fn put<K: Key>(chunks: &mut Vec<Chunk<K>>, spare: &mut Vec<Chunk<K>>, key: K)
+    requires order { AreSortedBy K.before (joined chunks.old.items) }
+    requires fit { AreFit CHUNK_HALF chunks.old.items }
+    requires absent { IsFalse (has_key K.before key (joined chunks.old.items)) }
+    requires spare { 0 < length spare.old.items }
+    requires memory { length chunks.old.items < vec_capacity chunks.old }
+    ensures keys { joined chunks.new.items ≡ put_by K.before key (joined chunks.old.items) }
+    ensures fit { AreFit CHUNK_HALF chunks.new.items }
+    ensures whole { length chunks.new.items + length spare.new.items ≡ length chunks.old.items + length spare.old.items }
+    ensures capacity { vec_capacity chunks.old ≤ vec_capacity chunks.new }
+    ensures spare_capacity { vec_capacity spare.new ≡ vec_capacity spare.old }
+{
+    if chunks.is_empty() {
+        match spare.pop() {
+            Some(first) => put_first(chunks, first, key),
+            None => unreachable!(),
+        }
+        return;
+    }
+    let spot = spot_for(chunks.as_slice(), &key);
+    chunks[spot.chunk].insert(spot.at, key);
+    if chunks[spot.chunk].len() == CHUNK_ROOM {
+        match spare.pop() {
+            Some(behind) => split(chunks, spot.chunk, behind),
+            None => unreachable!(),
+        }
+    }
+}
+
+/// Sees that the chunks are fit again where one has lost a key.
+fn close_up<K: Key>(chunks: &mut Vec<Chunk<K>>, spare: &mut Vec<Chunk<K>>, at: usize)
+    requires inside { at < length chunks.old.items }
+    requires lost { HasLostOne chunks.old.items at }
+    requires memory { length spare.old.items < vec_capacity spare.old }
+    ensures keys { joined chunks.new.items ≡ joined chunks.old.items }
+    ensures fit { AreFit CHUNK_HALF chunks.new.items }
+    ensures whole { length chunks.new.items + length spare.new.items ≡ length chunks.old.items + length spare.old.items }
+    ensures capacity { vec_capacity chunks.new ≡ vec_capacity chunks.old }
+    ensures spare_capacity { vec_capacity spare.new ≡ vec_capacity spare.old }
+{
+    let here = chunks[at].len();
+    if here == 0 {
+        let empty = chunks.remove(at);
+        spare.push_reserved(empty);
+    } else if at + 1 < chunks.len() && here + chunks[at + 1].len() < CHUNK_HALF {
+        merge(chunks, spare, at);
+    } else if at > 0 && here + chunks[at - 1].len() < CHUNK_HALF {
+        merge(chunks, spare, at - 1);
+    }
+}
+
+/// Takes a key away that is there.
+pub fn take_out<K: Key>(chunks: &mut Vec<Chunk<K>>, spare: &mut Vec<Chunk<K>>, key: &K)
+    requires order { AreSortedBy K.before (joined chunks.old.items) }
+    requires fit { AreFit CHUNK_HALF chunks.old.items }
+    requires there { IsTrue (has_key K.before key.now (joined chunks.old.items)) }
+    requires memory { length spare.old.items < vec_capacity spare.old }
+    ensures keys { joined chunks.new.items ≡ without K.before key.now (joined chunks.old.items) }
+    ensures fit { AreFit CHUNK_HALF chunks.new.items }
+    ensures whole { length chunks.new.items + length spare.new.items ≡ length chunks.old.items + length spare.old.items }
+    ensures capacity { vec_capacity chunks.new ≡ vec_capacity chunks.old }
+    ensures spare_capacity { vec_capacity spare.new ≡ vec_capacity spare.old }
+{
+    let spot = spot_for(chunks.as_slice(), key);
+    chunks[spot.chunk].remove(spot.at);
+    close_up(chunks, spare, spot.chunk);
+}
