@@ -92,11 +92,6 @@ copies_from-append by tables (entry ∷ entries) more =
     ∙ sym (append_assoc own (copies_from by (tables_after tables (step tables entry.command)) entries)
     (copies_from by (tables_from (tables_after tables (step tables entry.command)) entries) more))
 
--- how many files are held over a list
-pub length-held_as : (tables : Tables) (kept : Option Outcome) (files : List ℕ) → length (held_as tables kept files) ≡ length files
-length-held_as tables kept [] = refl
-length-held_as tables kept (file ∷ files) = omega (arith, length-held_as tables None files)
-
 -- what a round counts as a claim is one
 same_claim : (command : Command) → is_claim command ≡ is_claim_of_round command
 same_claim (Restart now settings) = refl
