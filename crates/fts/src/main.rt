@@ -101,7 +101,7 @@ fn hands_over<'a, E: Store + Drop>(
     rt: &'a HostRuntime,
     stores: Vec<E>,
 ) -> Result<Vec<RealHand<'a, E>>, Memory>
-    ensures { IfOk result (λ hands. length hands.items ≡ 16) }
+    ensures { IfOk result (λ hands. length hands.items ≡ MAX_WORKERS) }
 {
     let moment = SystemClock::new(rt).now();
     let mut hands = Vec::new(rt.alloc());
@@ -146,7 +146,7 @@ fn lanes_over<'a, A: Doors + Drop>(
     rt: &'a HostRuntime,
     doors: Vec<A>,
 ) -> Result<Vec<RealLane<'a, A>>, Memory>
-    ensures { IfOk result (λ lanes. length lanes.items ≡ 8) }
+    ensures { IfOk result (λ lanes. length lanes.items ≡ MAX_LANES) }
 {
     let mut lanes = Vec::new(rt.alloc());
     for doors in doors {

@@ -3,7 +3,7 @@ use Rattle.std.proofs.Common.{◌≡◌, ℕ, zero, suc, ◌+◌, ◌<◌, Bool,
 use Rattle.std.specs.Prelude.{◌&&◌, ◌||◌, bytes_eq, map, replicate, slice_get, insert}
 use Rattle.std.specs.List.{position_from}
 use Rattle.std.proofs.Math.ListN.{set}
-use Rattle.std.proofs.lemmas.Bool.{and_parts, or_parts, eqb-true, eq-eqb}
+use Rattle.std.proofs.lemmas.Bool.{and_parts, eqb-true, eq-eqb}
 use Rattle.fts_index.specs.Links.{Link, HasOneMore, is_link, is_among, count_of}
 use Rattle.fts_index.specs.Loads.{link_of_known, links_counted}
 use Rattle.fts_index.specs.declared.loads.Known.{Known}

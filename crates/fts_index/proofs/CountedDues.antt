@@ -1,6 +1,6 @@
 -- Moments in order that are counted: what stands there, what doesn't, and how many there are where a file's moment changes.
-use Rattle.std.proofs.Common.{◌≡◌, ℕ, ◌+◌, ◌<◌, ◌≤◌, Bool, true, false, cond, List, [], ◌∷◌, length, Option, Some, None, refl, ap, sym, ◌∙◌, arith}
-use Rattle.std.specs.Prelude.{not, ◌==◌, nat_lt, nat_le, count_by, is_some, IfSome}
+use Rattle.std.proofs.Common.{◌≡◌, ℕ, ◌+◌, ◌<◌, ◌≤◌, true, false, cond, List, [], ◌∷◌, length, Option, Some, None, refl, ap, arith}
+use Rattle.std.specs.Prelude.{not, ◌==◌, count_by, is_some, IfSome}
 use Rattle.std.proofs.lemmas.Bool.{or_from, eq-eqb, false_from_ne_true}
 use Rattle.fts_tables.specs.Dues.{Due, is_due_before, AreInOrder}
 use Rattle.ordered.specs.Orders.{AreSortedBy, differs, has_key}

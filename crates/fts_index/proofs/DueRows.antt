@@ -1,6 +1,6 @@
 -- The moments of rows against the rows: where a row changes, where rows and jobs come in, and what stands in the list.
 use Rattle.std.proofs.Common.{◌≡◌, ℕ, zero, suc, ◌+◌, ◌<◌, ◌≤◌, Bool, true, false, cond, List, [], ◌∷◌, ◌++◌, length, map, set, Option, Some, None, refl, ap, sym, ◌∙◌, subst, arith}
-use Rattle.std.specs.Prelude.{not, ◌&&◌, ◌||◌, ◌==◌, nat_le, count_by, slice_get, find, is_some, IfSome, IsTrue}
+use Rattle.std.specs.Prelude.{not, ◌&&◌, ◌||◌, ◌==◌, nat_le, count_by, slice_get, is_some, IfSome, IsTrue}
 use Rattle.std.specs.List.{AllByRecursion, list_any}
 use Rattle.std.specs.Option.{option_map_or}
 use Rattle.std.proofs.lemmas.Bool.{and_parts, eq-eqb, leb-true}
@@ -10,7 +10,7 @@ use Rattle.std.proofs.lemmas.List.Folds.{find-append}
 use Rattle.std.proofs.lemmas.Option.{same_Some}
 use Rattle.fts_tables.specs.Tables.{AreNumberedFrom, is_submitted, job_at}
 use Rattle.fts_tables.specs.Waits.{overdue_from, row_overdue_from}
-use Rattle.fts_tables.specs.Dues.{Due, is_due_before, is_due_like, IsDuesOf}
+use Rattle.fts_tables.specs.Dues.{Due, is_due_before, is_due_like}
 use Rattle.fts_tables.specs.declared.rows.FileRow.{FileRow}
 use Rattle.fts_tables.specs.declared.rows.JobRow.{JobRow}
 use Rattle.ordered.specs.Orders.{differs, has_key}

@@ -1,13 +1,13 @@
 -- Rows that are numbered: which of them a test counts that passes one file alone, and what those in front of a row leave for it.
-use Rattle.std.proofs.Common.{◌≡◌, ℕ, zero, suc, ◌+◌, ◌<◌, ◌≤◌, Bool, true, false, cond, List, [], ◌∷◌, ◌++◌, length, take, Option, Some, None, refl, ap, sym, ◌∙◌, arith, length-take-le}
+use Rattle.std.proofs.Common.{◌≡◌, ℕ, zero, suc, ◌+◌, ◌<◌, ◌≤◌, Bool, true, false, cond, List, [], ◌∷◌, length, take, Option, Some, None, refl, ap, arith, length-take-le}
 use Rattle.std.specs.Prelude.{◌&&◌, ◌==◌, nat_le, count_by, slice_get, is_some, IfSome}
-use Rattle.std.proofs.lemmas.Bool.{and_parts, eqb-true, false_from_ne_true, le-leb, leb-true}
+use Rattle.std.proofs.lemmas.Bool.{and_parts, eqb-true, false_from_ne_true, le-leb}
 use Rattle.std.proofs.lemmas.List.Sums.{count_by-le-length, sum_by-le-sum_by}
 use Rattle.std.proofs.lemmas.Option.{same_Some, slice_get_within}
 use Rattle.fts_tables.specs.Tables.{AreNumberedFrom, is_submitted}
 use Rattle.fts_tables.specs.Dues.{Due}
 use Rattle.fts_tables.specs.declared.rows.FileRow.{FileRow}
-use Rattle.fts_index.specs.DueLists.{DueList, passes_at}
+use Rattle.fts_index.specs.DueLists.{DueList}
 use Rattle.fts_index.specs.RowDues.{comes_in, MayAdd}
 use Rattle.fts_index.proofs.CountedDues.{count_all}
 use Rattle.fts_index.proofs.TableLists.{count_by-cons}
@@ -65,24 +65,6 @@ one_alone passes first (other ∷ rows) (suc place) row numbered only at =
     let not_here : passes other ≡ false = false_from_ne_true (passes other) (λ is. omega (arith, only other is, numbered.0, behind)) in
     let none : ◌≡◌ {A = ℕ} (cond (passes other) 1 0) 0 = ap (λ answer. cond answer 1 0) not_here in
     omega (arith, count_by-cons passes other rows, none, one_alone passes (suc first) rows place row numbered.1 only at)
-
--- a row more in front of a place
-pub take_next : (passes : FileRow → Bool) (rows : List FileRow) (place : ℕ) (row : FileRow) → slice_get rows place ≡ Some row
-    → count_by passes (take (place + 1) rows) ≡ count_by passes (take place rows) + cond (passes row) 1 0
-take_next passes [] place row at = cc
-take_next passes (first ∷ rows) zero row at =
-    let one : ◌≡◌ {A = ℕ} (cond (passes first) 1 0) (cond (passes row) 1 0) = ap (λ (some : FileRow). cond (passes some) 1 0) (same_Some first row at) in
-    count_by-cons passes first [] ∙ omega (arith, one)
-take_next passes (first ∷ rows) (suc place) row at =
-    let next : count_by passes (take (suc place + 1) (first ∷ rows)) ≡ count_by passes (take (suc (place + 1)) (first ∷ rows)) =
-    ap (λ n. count_by passes (take n (first ∷ rows))) {x = suc place + 1} {y = suc (place + 1)} (omega arith) in
-    omega (
-      arith,
-      next,
-      count_by-cons passes first (take place rows),
-      count_by-cons passes first (take (place + 1) rows),
-      take_next passes rows place row at,
-    )
 
 -- whether a moment is a file's
 abbrev pub is_of : ℕ → Due → Bool

@@ -1,5 +1,5 @@
 -- The order of moments with their files, an earlier moment first and then the lesser file: that it is one.
-use Rattle.std.specs.Prelude.{◌≡◌, ℕ, nat_lt}
+use Rattle.std.specs.Prelude.{◌≡◌, nat_lt}
 use Rattle.std.proofs.Common.{ap, ◌∙◌}
 use Rattle.fts_tables.specs.Dues.{Due, is_due_before}
 use Rattle.ordered.specs.Orders.{IsStrictOrder}

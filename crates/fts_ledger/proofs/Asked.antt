@@ -1,13 +1,15 @@
 -- What clients' commands leave alone: they claim nothing, report nothing and restart nothing. And settings stay in force where nothing restarts.
 use Rattle.std.proofs.Common.{◌≡◌, refl, ap, ◌∙◌, subst, inl, inr, ⊎_elim, ℕ, ◌+◌, Bool, true, false, cond, max, List, [], ◌∷◌, ◌++◌, length, Option, Some, None, Ok, Err}
-use Rattle.std.specs.Prelude.{◌⊎◌, ◌==◌, ◌&&◌, not, nat_lt, option_and_then}
+use Rattle.std.specs.Prelude.{◌⊎◌, ◌==◌, ◌&&◌, not, nat_lt, is_some, option_and_then}
 use Rattle.std.specs.List.{list_any}
 use Rattle.fts_tables.specs.SettingsData.{SettingsData}
 use Rattle.fts_tables.specs.JobData.{JobData}
 use Rattle.fts_tables.specs.Tables.{Tables, empty_tables, is_active, job_at, number_of_id, row_at, rows_of_job}
+use Rattle.fts_tables.specs.Limits.{endpoint_at, is_banned}
 use Rattle.fts_tables.specs.Choice.{pick}
 use Rattle.fts_tables.specs.Moves.{is_cancellable, is_settled_job}
-use Rattle.fts_tables.specs.Step.{Outcomes, step, submit_by, cancel_rows, cancel_one, cancel_file, set_priority, claim, report, report_of}
+use Rattle.fts_tables.specs.Waits.{is_overdue}
+use Rattle.fts_tables.specs.Step.{Outcomes, step, submit_by, cancel_rows, cancel_one, cancel_file, set_priority, claim, report, report_of, ban, ban_only, ban_and_cancel, unban, expire}
 use Rattle.fts_tables.specs.History.{tables_after, tables_from, tables_of}
 use Rattle.fts_tables.specs.declared.limits.TheConstants.{MAX_JOBS, MAX_ROWS}
 use Rattle.fts_tables.specs.declared.rows.FileRow.{FileRow}
@@ -18,9 +20,9 @@ use Rattle.fts_tables.specs.declared.rows.Outcome.{Outcome}
 use Rattle.fts_tables.specs.declared.commands.Entry.{Entry}
 use Rattle.fts_tables.specs.declared.commands.Refusal.TheVariants.{NoJob}
 use Rattle.fts_tables.specs.declared.commands.Command.{Command}
-use Rattle.fts_tables.specs.declared.commands.Command.TheVariants.{Restart, Submit, CancelJob, CancelFile, SetPriority, Claim, Report}
+use Rattle.fts_tables.specs.declared.commands.Command.TheVariants.{Restart, Submit, CancelJob, CancelFile, SetPriority, Claim, Report, Ban, Unban, Expire}
 use Rattle.fts_tables.specs.declared.commands.Answer.{Answer}
-use Rattle.fts_tables.specs.declared.commands.Answer.TheVariants.{Restarted, Submitted, Cancelled, PrioritySet, Claimed, Reported}
+use Rattle.fts_tables.specs.declared.commands.Answer.TheVariants.{Restarted, Submitted, Cancelled, PrioritySet, Claimed, Reported, Banned, Unbanned, Expired}
 use Rattle.fts_keep.specs.Applied.{entry_by}
 use Rattle.fts_workers.proofs.Copied.{tables_from-append}
 use Rattle.fts_ledger.specs.Claims.{Claimant, IsOwn, claim_after, claim_step, last_claim, last_claim_from}
@@ -40,6 +42,9 @@ answer_unclaimed file number writer last (Claimed claimed attempt) quiet unlike 
     by true is = quiet is
     by false is = unlike is
 answer_unclaimed file number writer last (Reported reported state) quiet unlike own = unlike own
+answer_unclaimed file number writer last (Banned count) quiet unlike own = unlike own
+answer_unclaimed file number writer last Unbanned quiet unlike own = unlike own
+answer_unclaimed file number writer last (Expired count) quiet unlike own = unlike own
 
 step_unclaimed : (file number writer : ℕ) (tables : Tables) (last : Option Claimant) (came : Outcomes) → (writer ≡ number → Keeps IsQuiet tables came)
     → (IsOwn number last → ⊥) → IsOwn number (claim_step file last writer came) → ⊥
@@ -79,6 +84,9 @@ work_no_restart (CancelFile now job file) work restart = absurd restart
 work_no_restart (SetPriority now job priority) work restart = absurd restart
 work_no_restart (Claim now word) work restart = absurd restart
 work_no_restart (Report now file attempt outcome) work restart = absurd restart
+work_no_restart (Ban now storage cancel) work restart = absurd restart
+work_no_restart (Unban now storage) work restart = absurd restart
+work_no_restart (Expire now) work restart = absurd restart
 
 asked_no_restart : (command : Command) → IsAsked command → IsRestart command → ⊥
 asked_no_restart (Restart now settings) asked restart = absurd asked
@@ -88,6 +96,9 @@ asked_no_restart (CancelFile now job file) asked restart = absurd restart
 asked_no_restart (SetPriority now job priority) asked restart = absurd restart
 asked_no_restart (Claim now word) asked restart = absurd restart
 asked_no_restart (Report now file attempt outcome) asked restart = absurd restart
+asked_no_restart (Ban now storage cancel) asked restart = absurd restart
+asked_no_restart (Unban now storage) asked restart = absurd restart
+asked_no_restart (Expire now) asked restart = absurd restart
 
 pub no_restarts : (entries : List Entry) → ((writer : ℕ) → AddsWork writer entries ⊎ AddsAsked writer entries) → HasNoRestart entries
 no_restarts [] each = tt
@@ -152,6 +163,17 @@ report_settings : (tables : Tables) (now : ℕ) (found : Option FileRow) (attemp
 report_settings tables now None attempt outcome = refl
 report_settings tables now (Some row) attempt outcome = report_of_settings tables now row attempt outcome (job_at tables.jobs row.job)
 
+ban_settings : (tables : Tables) (now : ℕ) (storage : List ℕ) (cancel : Bool) → KeepsSettings tables (ban tables now storage cancel)
+ban_settings tables now storage cancel =
+    either tables (is_some (endpoint_at tables.settings storage)) _ _
+    (either tables cancel (ban_and_cancel tables now storage) (ban_only tables now storage) refl refl) refl
+
+unban_settings : (tables : Tables) (now : ℕ) (storage : List ℕ) → KeepsSettings tables (unban tables now storage)
+unban_settings tables now storage = either tables (is_banned tables.banned storage) _ _ refl refl
+
+expire_settings : (tables : Tables) (now : ℕ) → KeepsSettings tables (expire tables now)
+expire_settings tables now = either tables (list_any (is_overdue tables.jobs now) tables.rows) _ _ refl refl
+
 -- each step but a restart keeps them
 step_settings : (tables : Tables) (command : Command) → (IsRestart command → ⊥) → KeepsSettings tables (step tables command)
 step_settings tables (Restart now settings) none = absurd (none tt)
@@ -167,6 +189,9 @@ step_settings tables (SetPriority now job priority) none =
 step_settings tables (Claim now word) none = claim_settings tables (max now tables.moment) (pick tables (max now tables.moment) word)
 step_settings tables (Report now file attempt outcome) none =
     report_settings tables (max now tables.moment) (row_at tables.rows file) attempt outcome
+step_settings tables (Ban now storage cancel) none = ban_settings tables (max now tables.moment) storage cancel
+step_settings tables (Unban now storage) none = unban_settings tables (max now tables.moment) storage
+step_settings tables (Expire now) none = expire_settings tables (max now tables.moment)
 
 -- so do entries of which none is a restart
 settings_from : (tables : Tables) (entries : List Entry) → HasNoRestart entries → (tables_from tables entries).settings ≡ tables.settings

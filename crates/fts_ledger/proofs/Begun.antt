@@ -6,7 +6,7 @@ use Rattle.fts_tables.specs.Step.{Outcomes, step}
 use Rattle.fts_tables.specs.History.{tables_after, tables_of}
 use Rattle.fts_tables.specs.declared.commands.Entry.{Entry}
 use Rattle.fts_tables.specs.declared.commands.Answer.{Answer}
-use Rattle.fts_tables.specs.declared.commands.Answer.TheVariants.{Restarted, Submitted, Cancelled, PrioritySet, Claimed, Reported}
+use Rattle.fts_tables.specs.declared.commands.Answer.TheVariants.{Restarted, Submitted, Cancelled, PrioritySet, Claimed, Reported, Banned, Unbanned, Expired}
 use Rattle.fts_turnstile.specs.History.{items_of}
 use Rattle.fts_turnstile.specs.Passes.{PassView}
 use Rattle.fts_shop.specs.Looking.{NoneOf}
@@ -26,6 +26,9 @@ answer_other file number writer last (Claimed claimed attempt) other unlike own 
     by true is = other is
     by false is = unlike is
 answer_other file number writer last (Reported reported state) other unlike own = unlike own
+answer_other file number writer last (Banned count) other unlike own = unlike own
+answer_other file number writer last Unbanned other unlike own = unlike own
+answer_other file number writer last (Expired count) other unlike own = unlike own
 
 step_other : (file number writer : ℕ) (last : Option Claimant) (came : Outcomes) → writer ≢ number → (IsOwn number last → ⊥)
     → IsOwn number (claim_step file last writer came) → ⊥

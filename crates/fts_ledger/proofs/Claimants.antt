@@ -8,7 +8,7 @@ use Rattle.fts_tables.specs.History.{out_after, out_from, out_of_list, out_step,
 use Rattle.fts_tables.specs.declared.commands.Entry.{Entry}
 use Rattle.fts_tables.specs.declared.commands.Command.TheVariants.{Restart}
 use Rattle.fts_tables.specs.declared.commands.Answer.{Answer}
-use Rattle.fts_tables.specs.declared.commands.Answer.TheVariants.{Restarted, Submitted, Cancelled, PrioritySet, Claimed, Reported}
+use Rattle.fts_tables.specs.declared.commands.Answer.TheVariants.{Restarted, Submitted, Cancelled, PrioritySet, Claimed, Reported, Banned, Unbanned, Expired}
 use Rattle.fts_turnstile.specs.History.{Among}
 use Rattle.fts_keep.specs.Applied.{entry_by}
 use Rattle.fts_workers.proofs.OutFiles.{out_of_list-last}
@@ -52,6 +52,9 @@ owned_after file files last writer (Claimed claimed attempt) owned among = by (c
         (λ here. absurd (no_test (claimed == file) (eq-eqb claimed file (sym here)) at))
         (among_last file claimed (without claimed files) among)
 owned_after file files last writer (Reported reported state) owned among = owned (among_without file reported files among).0
+owned_after file files last writer (Banned count) owned among = owned among
+owned_after file files last writer Unbanned owned among = owned among
+owned_after file files last writer (Expired count) owned among = owned among
 
 owned_step : (file : ℕ) (files : List ℕ) (last : Option Claimant) (writer : ℕ) (came : Outcomes) → (Among file files → HasOwner last)
     → Among file (out_step files came) → HasOwner (claim_step file last writer came)

@@ -1,5 +1,5 @@
 -- A store behind entries: the copies made, and those that a writer's reports among the entries stand for.
-use Rattle.std.proofs.Common.{◌≡◌, refl, sym, ap, ◌∙◌, subst, ℕ, Bool, true, false, cond, List, [], ◌∷◌, ◌++◌, Option, Some, None, IsSome, append-nil, append_assoc, eq-eqb}
+use Rattle.std.proofs.Common.{◌≡◌, refl, sym, ap, ◌∙◌, subst, ℕ, Bool, true, false, cond, List, [], ◌∷◌, ◌++◌, Option, Some, None, IsSome, Result, Ok, Err, append-nil, append_assoc, eq-eqb}
 use Rattle.std.specs.Prelude.{◌==◌, option_map, option_to_list, IsTrue}
 use Rattle.std.specs.Option.{option_map_or}
 use Rattle.std.proofs.lemmas.Bool.{ne_eqb}
@@ -10,13 +10,16 @@ use Rattle.fts_tables.specs.Laws.{CopyOrder, IsOrderKept, order_of as order_aske
 use Rattle.fts_tables.specs.declared.rows.FileRow.{FileRow}
 use Rattle.fts_tables.specs.declared.rows.Outcome.{Outcome}
 use Rattle.fts_tables.specs.declared.commands.Entry.{Entry}
-use Rattle.fts_tables.specs.declared.commands.Command.TheVariants.{Claim, Report}
+use Rattle.fts_tables.specs.declared.commands.Command.TheVariants.{Claim, Report, Expire}
+use Rattle.fts_tables.specs.declared.commands.Answer.{Answer}
 use Rattle.fts_copy.specs.Copy.{Order}
 use Rattle.fts_keep.specs.Applied.{entry_by}
+use Rattle.fts_keep.specs.declared.fault.KeepFault.{KeepFault}
 use Rattle.fts_workers.specs.Copies.{Copy, FollowsReports, IsCopied, copies_from, copies_in, copies_kept, copies_of_file, order_in}
 use Rattle.fts_workers.specs.declared.held.Held.{Held}
 use Rattle.fts_workers.proofs.Copied.{copies_from-append, follows_more, follows_none, tables_from-append}
 use Rattle.fts_workers.proofs.Numbered.{IsActiveAt, row_at-id}
+use Rattle.fts_shop.specs.Shops.{added_by}
 use Rattle.fts_shop.specs.Looking.{NoneOf}
 use Rattle.fts_shop.specs.Turns.{held_with}
 use Rattle.fts_ledger.specs.Reports.{IsUndisturbed}
@@ -129,6 +132,30 @@ module _ {E : Type 0} (stores : store.Ghosts E) (opening : List Entry) (writer :
         (subst (λ kept. FollowsReports stores.state stores.calls stores.faults (copies_kept (tables_of (opening ++ before)) held) [] kept store store) same
         (follows_none stores.state stores.calls stores.faults (copies_kept (tables_of (opening ++ before)) held) store));
   }
+
+  -- an expiry reports no copy, however it is answered
+  no_copies_expired : (tables : Tables) (now : ℕ) (result : Result Answer KeepFault)
+      → copies_from (λ by. by == writer) tables (added_by (entry_by writer (Expire now)) result) ≡ []
+  no_copies_expired tables now (Ok answer) = either_none (writer == writer)
+    where
+      either_none : (own : Bool) → cond {A = List Copy} own [] [] ++ [] ≡ []
+      either_none true = refl
+      either_none false = refl
+  no_copies_expired tables now (Err fault) = refl
+
+  -- so a store stays behind entries of others and the writer's expiry
+  pub followed_expiry : (before others : List Entry) (now : ℕ) (result : Result Answer KeepFault) (store : E) → NoneOf writer others
+      → Followed before ((before ++ others) ++ added_by (entry_by writer (Expire now)) result) [] [] store store
+  followed_expiry before others now result store none =
+      let by : ℕ → Bool = λ other. other == writer in
+      let start = tables_of (opening ++ before) in
+      let added = added_by (entry_by writer (Expire now)) result in
+      let reported : copies_from by start (others ++ added) ≡ [] =
+      copies_from-append by start others added
+      ∙ ap (λ copies. copies ++ copies_from by (tables_from start others) added) (copies_none writer start others none)
+      ∙ no_copies_expired (tables_from start others) now result in
+      followed_as before (before ++ (others ++ added)) ((before ++ others) ++ added) [] [] store store (append_assoc before others added)
+      (followed_same before (others ++ added) [] [] store reported refl)
 
   module _ (machine : Machine) (orders : OrdersStay) where
     -- entries of others leave a store, and the copy that is kept

@@ -10,7 +10,7 @@ use Rattle.fts_tables.specs.declared.commands.Entry.{Entry}
 use Rattle.fts_tables.specs.declared.commands.Refusal.{Refusal}
 use Rattle.fts_tables.specs.declared.commands.Command.TheVariants.{Claim, Report}
 use Rattle.fts_tables.specs.declared.commands.Answer.{Answer}
-use Rattle.fts_tables.specs.declared.commands.Answer.TheVariants.{Restarted, Submitted, Cancelled, PrioritySet, Claimed, Reported}
+use Rattle.fts_tables.specs.declared.commands.Answer.TheVariants.{Restarted, Submitted, Cancelled, PrioritySet, Claimed, Reported, Banned, Unbanned, Expired}
 use Rattle.fts_turnstile.specs.History.{Among}
 use Rattle.fts_keep.specs.Applied.{entry_by}
 use Rattle.fts_ledger.specs.Claims.{Claimant, IsOut, IsOwn, claim_after, last_claim}
@@ -41,6 +41,9 @@ kept_after entry before after (Reported reported state) writer file files last b
     by : (same : Bool) → (reported == file) ≡ same → Among file (without reported files) × (last ≡ last)
     by true at = absurd (untaken (inr (subst (λ f. IsReportOf f entry.command) (eqb-true reported file at) behaves.0, other)))
     by false at = (among_still file reported files among (λ is. no_test (reported == file) (eq-eqb reported file (sym is)) at), refl)
+kept_after entry before after (Banned count) writer file files last behaves untaken other fresh among = (among, refl)
+kept_after entry before after Unbanned writer file files last behaves untaken other fresh among = (among, refl)
+kept_after entry before after (Expired count) writer file files last behaves untaken other fresh among = (among, refl)
 
 module _ (machine : Machine) (opening : List Entry) (writer : ℕ) where
   -- where a list is out, a claim behind it takes none of it

@@ -3,6 +3,7 @@ mod Sound
 mod Moved
 mod Walks
 mod Turned
+mod InTurns
 mod Passed
 mod Begun
 mod Stations

@@ -9,7 +9,7 @@ use Rattle.fts_tables.specs.History.{IsAccepted, IsLegal, IsLegalFrom, tables_af
 use Rattle.fts_tables.specs.declared.rows.Outcome.{Outcome}
 use Rattle.fts_tables.specs.declared.commands.Entry.{Entry}
 use Rattle.fts_tables.specs.declared.commands.Command.{Command}
-use Rattle.fts_tables.specs.declared.commands.Command.TheVariants.{Claim, Report}
+use Rattle.fts_tables.specs.declared.commands.Command.TheVariants.{Claim, Report, Expire}
 use Rattle.fts_turnstile.specs.History.{Among}
 use Rattle.fts_keep.specs.Applied.{entry_by}
 use Rattle.fts_shop.specs.Looking.{NoneOf}
@@ -84,14 +84,25 @@ pub each_none : (writer : ℕ) (entries : List Entry) (Holds : List Entry → �
 each_none writer entries Holds none earlier later now file attempt outcome is =
     absurd (none_at writer entries earlier (entry_by writer (Report now file attempt outcome)) later is none refl)
 
--- a claim is no report
+-- a claim is no report, and no more is an expiry
 claim_unlike : (now word at file attempt : ℕ) (outcome : Outcome) → ◌≡◌ {A = Command} (Claim now word) (Report at file attempt outcome) → ⊥
 claim_unlike now word at file attempt outcome is = absurd cc
 
+expiry_unlike : (now at file attempt : ℕ) (outcome : Outcome) → ◌≡◌ {A = Command} (Expire now) (Report at file attempt outcome) → ⊥
+expiry_unlike now at file attempt outcome is = absurd cc
+
+-- it holds of an entry that is none
+each_unlike : (writer : ℕ) (command : Command) (Holds : List Entry → ℕ → Outcome → Type 0)
+    → ((at file attempt : ℕ) (outcome : Outcome) → command ≡ Report at file attempt outcome → ⊥) → EachReport writer (entry_by writer command ∷ []) Holds
+each_unlike writer command Holds unlike earlier later at file attempt outcome is =
+    let same = (one_split (entry_by writer command) earlier (entry_by writer (Report at file attempt outcome)) later is).0 in
+    absurd (unlike at file attempt outcome (ap (λ (e : Entry). e.command) same))
+
 pub each_claim : (writer now word : ℕ) (Holds : List Entry → ℕ → Outcome → Type 0) → EachReport writer (entry_by writer (Claim now word) ∷ []) Holds
-each_claim writer now word Holds earlier later at file attempt outcome is =
-    let same = (one_split (entry_by writer (Claim now word)) earlier (entry_by writer (Report at file attempt outcome)) later is).0 in
-    absurd (claim_unlike now word at file attempt outcome (ap (λ (e : Entry). e.command) same))
+each_claim writer now word Holds = each_unlike writer (Claim now word) Holds (claim_unlike now word)
+
+pub each_expiry : (writer now : ℕ) (Holds : List Entry → ℕ → Outcome → Type 0) → EachReport writer (entry_by writer (Expire now) ∷ []) Holds
+each_expiry writer now Holds = each_unlike writer (Expire now) Holds (expiry_unlike now)
 
 -- and of one report
 report_alike : (now file attempt at other again : ℕ) (outcome seen : Outcome)

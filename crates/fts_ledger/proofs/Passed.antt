@@ -1,30 +1,24 @@
 -- Turns of a pass, as the shop says them, make of its reports and its bench what entries behind entries do.
-use Rattle.std.proofs.Common.{◌≡◌, ◌≢◌, refl, sym, ap, ◌∙◌, subst, inl, ℕ, zero, suc, true, List, [], ◌∷◌, ◌++◌, Option, Result, Ok, Err, append-nil, append_assoc}
+use Rattle.std.proofs.Common.{◌≡◌, ◌≢◌, refl, sym, ap, ◌∙◌, subst, ℕ, zero, suc, true, List, [], ◌∷◌, ◌++◌, Option, Result, Ok, Err, append-nil, append_assoc}
 use Rattle.std.proofs.lemmas.List.{append_cancel_left}
 use Rattle.fts_tables.specs.Coming.{Coming}
-use Rattle.fts_tables.specs.Step.{step}
 use Rattle.fts_tables.specs.History.{IsLegal, tables_of}
 use Rattle.fts_tables.specs.declared.rows.Outcome.{Outcome}
 use Rattle.fts_tables.specs.declared.rows.Outcome.TheVariants.{Stopped}
 use Rattle.fts_tables.specs.declared.commands.Entry.{Entry}
-use Rattle.fts_tables.specs.declared.commands.Command.{Command}
 use Rattle.fts_tables.specs.declared.commands.Command.TheVariants.{Claim, Report}
 use Rattle.fts_tables.specs.declared.commands.Answer.{Answer}
-use Rattle.fts_tables.specs.declared.commands.Answer.TheVariants.{Restarted, Submitted, Cancelled, PrioritySet, Claimed, Reported}
+use Rattle.fts_tables.specs.declared.commands.Answer.TheVariants.{Restarted, Submitted, Cancelled, PrioritySet, Claimed, Reported, Banned, Unbanned, Expired}
 use Rattle.fts_turnstile.specs.declared.turn.Turn.{Turn}
-use Rattle.fts_turnstile.specs.History.{AllName, AllNamed, NoneBy, items_of}
+use Rattle.fts_turnstile.specs.History.{items_of}
 use Rattle.fts_turnstile.specs.Passes.{PassView, IsSame, seen_list}
-use Rattle.fts_keep.specs.Keeps.{used_of}
 use Rattle.fts_keep.specs.Applied.{entry_by}
 use Rattle.fts_keep.specs.declared.fault.KeepFault.{KeepFault}
-use Rattle.fts_keep.specs.declared.fault.KeepFault.TheVariants.{Rule, DiskFailed, JournalFull, Damaged, Memory}
-use Rattle.fts_workers.specs.Rounds.{applied_over}
 use Rattle.fts_workers.specs.declared.held.Held.{Held}
-use Rattle.fts_workers.proofs.Accepted.{refused_of, step_of}
-use Rattle.fts_shop.specs.Shops.{CameTo, HasFault, IsToldList, TriedInTurn, writer_of}
+use Rattle.fts_shop.specs.Shops.{IsToldList, StepInTurn, TakesTurn, step_answer}
 use Rattle.fts_shop.specs.Within.{is_cancel_asked}
 use Rattle.fts_shop.specs.Looking.{NoneOf}
-use Rattle.fts_shop.specs.Looked.{items_on, none_on, same_on, same_pass}
+use Rattle.fts_shop.specs.Looked.{items_on, same_on, same_pass}
 use Rattle.fts_shop.specs.Turns.{Copies, GoesOn, HandData, IsTurn, ReportTurn, held_with}
 use Rattle.fts_shop.specs.Workers.{AreTurns, StationData, TakesOne, WorkerDone}
 use Rattle.fts_shop.specs.declared.ends.Turn.{Turn as TurnEnd}
@@ -32,66 +26,9 @@ use Rattle.fts_ledger.specs.Fitting.{Fits}
 use Rattle.fts_ledger.specs.Ledger.{KeepsLedger, MayKeep}
 use Rattle.fts_ledger.specs.Reports.{AddsWork, ReportsOwn, StopsAsked}
 use Rattle.fts_ledger.proofs.Moved.{Machine}
-use Rattle.fts_ledger.proofs.Turned.{Came, Tried, Turned, claim_turned, legal_back, report_tried, turned_as, turned_on, turned_others}
+use Rattle.fts_ledger.proofs.InTurns.{legal_tried, stepped_for, tried_for}
+use Rattle.fts_ledger.proofs.Turned.{Tried, Turned, claim_turned, expiry_tried, legal_back, report_tried, turned_as, turned_on, turned_others}
 use Rattle.fts_store.specs.declared.store.Store as store
-
--- items that name another number are none of this one's
-none_items : (number writer : ℕ) (items : List Entry) → AllName writer_of writer items → writer ≢ number → NoneOf number items
-none_items number writer [] named other = tt
-none_items number writer (item ∷ items) named other = ((λ is. other (sym named.0 ∙ is)), none_items number writer items named.1 other)
-
--- nor are those of turns of others
-pub none_by : (number : ℕ) (joined : List ℕ) (turns : List (Turn Entry)) → NoneBy (number ∷ joined) turns → AllNamed writer_of turns → NoneOf number (items_of turns)
-none_by number joined [] none named = tt
-none_by number joined (turn ∷ turns) none named =
-    none_on number turn.items (items_of turns) (none_items number turn.number turn.items named.0 (λ is. none.0 (inl is)))
-    (none_by number joined turns none.1 named.1)
-
--- the turns behind others name their numbers, and those before others
-named_behind : (first second : List (Turn Entry)) → AllNamed writer_of (first ++ second) → AllNamed writer_of second
-named_behind [] second named = named
-named_behind (turn ∷ first) second named = named_behind first second named.1
-
-named_front : (first second : List (Turn Entry)) → AllNamed writer_of (first ++ second) → AllNamed writer_of first
-named_front [] second named = tt
-named_front (turn ∷ first) second named = (named.0, named_front first second named.1)
-
--- what a command came to behind a list
-came_of : (entries : List Entry) (entry : Entry) (rose : Type 0) (result : Result Answer KeepFault) → CameTo (applied_over entries entry) rose result
-    → Came entries entry.command result
-came_of entries entry rose (Ok answer) came =
-    (came.0, step_of (used_of entries) entry (step (tables_of entries) entry.command) (came.0, answer) came.1)
-came_of entries entry rose (Err (Rule refusal)) came = refused_of (used_of entries) entry (step (tables_of entries) entry.command) refusal came
-came_of entries entry rose (Err DiskFailed) came = tt
-came_of entries entry rose (Err (JournalFull used)) came = tt
-came_of entries entry rose (Err Memory) came = tt
-came_of entries entry rose (Err (Damaged offset)) came = tt
-
--- a command that was tried in a turn
-tried_at : (old new : PassView Entry) (command : Command) (result : Result Answer KeepFault) (lanes : ℕ) → IsToldList old
-    → TriedInTurn old new command result lanes → Tried old.opening old.number (items_of old.seen) (items_of new.seen) command result
-tried_at old new command result lanes told tried =
-    let taken = tried.taken in
-    let named : AllNamed writer_of ((old.seen ++ taken.between) ++ taken.turn ∷ []) = subst (AllNamed writer_of) taken.seen taken.named in
-    record {
-      others = items_of taken.between;
-      none = none_by old.number old.joined taken.between taken.others
-          (named_behind old.seen taken.between (named_front (old.seen ++ taken.between) (taken.turn ∷ []) named));
-      after_is = ap items_of taken.seen ∙ items_on (old.seen ++ taken.between) (taken.turn ∷ [])
-          ∙ ap (λ list. list ++ (taken.turn.items ++ [])) (items_on old.seen taken.between)
-          ∙ ap (λ list. (items_of old.seen ++ items_of taken.between) ++ list) (append-nil taken.turn.items ∙ tried.added told);
-      came = subst (λ list. Came list command result) (ap (λ list. old.opening ++ list) (items_on old.seen taken.between))
-          (came_of (old.opening ++ items_of (old.seen ++ taken.between)) (entry_by old.number command) (HasFault taken) result (tried.came told));
-    }
-
--- the same, by what the pass was at the beginning
-pub tried_for : (old new : PassView Entry) (opening : List Entry) (writer : ℕ) (command : Command) (result : Result Answer KeepFault) (lanes : ℕ)
-    → old.opening ≡ opening → old.number ≡ writer → opening ≢ [] → TriedInTurn old new command result lanes
-    → Tried opening writer (items_of old.seen) (items_of new.seen) command result
-tried_for old new opening writer command result lanes opens number told tried =
-    subst (λ n. Tried opening n (items_of old.seen) (items_of new.seen) command result) number
-    (subst (λ o. Tried o old.number (items_of old.seen) (items_of new.seen) command result) opens
-    (tried_at old new command result lanes (λ none. told (sym opens ∙ none)) tried))
 
 -- a pass is the same, and has seen more
 pub record Grown (old new : PassView Entry) : Type 0 where
@@ -109,12 +46,11 @@ grown_on one two three first second = record {
   seen = second.seen ∙ ap (λ turns. turns ++ second.since) first.seen ∙ append_assoc one.seen first.since second.since;
 }
 
-pub grown_tried : (old new : PassView Entry) (command : Command) (result : Result Answer KeepFault) (lanes : ℕ)
-    → TriedInTurn old new command result lanes → Grown old new
-grown_tried old new command result lanes tried = record {
-  same = tried.taken.same;
-  since = tried.taken.between ++ tried.taken.turn ∷ [];
-  seen = tried.taken.seen ∙ append_assoc old.seen tried.taken.between (tried.taken.turn ∷ []);
+pub grown_taken : (old new : PassView Entry) → TakesTurn old new → Grown old new
+grown_taken old new taken = record {
+  same = taken.same;
+  since = taken.between ++ taken.turn ∷ [];
+  seen = taken.seen ∙ append_assoc old.seen taken.between (taken.turn ∷ []);
 }
 
 -- the list grows with the turns
@@ -136,25 +72,28 @@ module _ {E : Type 0} (stores : store.Ghosts E) where
       → Copies stores old new store after file outcome → Grown old new
   grown_copies old new store after file outcome copies = record { same = copies.same; since = copies.since; seen = copies.seen }
 
-  grown_claim : (old new claimed : PassView Entry) (behind after : HandData E) (end : TurnEnd) (left : List Held) (lanes : ℕ) (result : Result Answer KeepFault)
-      → Grown old claimed → GoesOn stores lanes result claimed new behind after end left → Grown old new
-  grown_claim old new claimed behind after end left lanes (Ok (Claimed file attempt)) grown goes =
-      grown_on old claimed new grown
-      (grown_on claimed goes.between new (grown_copies claimed goes.between behind.store after.store file goes.outcome goes.copied)
-      (grown_tried goes.between new _ _ _ goes.reported.tried))
-  grown_claim old new claimed behind after end left lanes (Ok (Restarted count)) grown goes = absurd goes
-  grown_claim old new claimed behind after end left lanes (Ok (Submitted job id)) grown goes = absurd goes
-  grown_claim old new claimed behind after end left lanes (Ok (Cancelled job)) grown goes = absurd goes
-  grown_claim old new claimed behind after end left lanes (Ok (PrioritySet job)) grown goes = absurd goes
-  grown_claim old new claimed behind after end left lanes (Ok (Reported file state)) grown goes = absurd goes
-  grown_claim old new claimed behind after end left lanes (Err fault) grown goes = subst (Grown old) (sym goes.1.pass) grown
+  pub grown_goes : (claimed new : PassView Entry) (behind after : HandData E) (end : TurnEnd) (left : List Held) (lanes : ℕ)
+      (result : Result Answer KeepFault) → GoesOn stores lanes result claimed new behind after end left → Grown claimed new
+  grown_goes claimed new behind after end left lanes (Ok (Claimed file attempt)) goes =
+      grown_on claimed goes.between new (grown_copies claimed goes.between behind.store after.store file goes.outcome goes.copied)
+      (grown_taken goes.between new goes.reported.tried.taken)
+  grown_goes claimed new behind after end left lanes (Ok (Restarted count)) goes = absurd goes
+  grown_goes claimed new behind after end left lanes (Ok (Submitted job id)) goes = absurd goes
+  grown_goes claimed new behind after end left lanes (Ok (Cancelled job)) goes = absurd goes
+  grown_goes claimed new behind after end left lanes (Ok (PrioritySet job)) goes = absurd goes
+  grown_goes claimed new behind after end left lanes (Ok (Reported file state)) goes = absurd goes
+  grown_goes claimed new behind after end left lanes (Ok (Banned count)) goes = absurd goes
+  grown_goes claimed new behind after end left lanes (Ok Unbanned) goes = absurd goes
+  grown_goes claimed new behind after end left lanes (Ok (Expired count)) goes = absurd goes
+  grown_goes claimed new behind after end left lanes (Err fault) goes = subst (Grown claimed) (sym goes.1.pass) (grown_itself claimed)
 
   -- a turn
   pub grown_turn : (old new : PassView Entry) (hand after : HandData E) (held : List Held) (end : TurnEnd) (left : List Held)
       → IsTurn stores old new hand after held end left → Grown old new
   grown_turn old new hand after [] end left turn =
-      grown_claim old new turn.claimed turn.behind after end left turn.lanes turn.result (grown_tried old turn.claimed _ _ _ turn.tried) turn.goes_on
-  grown_turn old new hand after (held ∷ []) end left turn = grown_tried old new _ _ _ turn.reported.1.tried
+      grown_on old turn.claimed new (grown_taken old turn.claimed turn.tried.taken)
+      (grown_goes turn.claimed new turn.behind after end left turn.lanes (step_answer turn.expiry turn.claim) turn.goes_on)
+  grown_turn old new hand after (held ∷ []) end left turn = grown_taken old new turn.reported.1.tried.taken
   grown_turn old new hand after (held ∷ next ∷ others) end left turn = absurd turn.reported
 
   -- turns
@@ -174,56 +113,70 @@ module _ {E : Type 0} (stores : store.Ghosts E) where
         (tried_for old new opening writer (Report turn.now held.file held.attempt outcome) turn.result turn.lanes opens number told turn.tried)
         turn.tried.answers legal fits)
 
-    -- a claim that was answered so, and what follows
-    claim_goes : (old claimed new : PassView Entry) (now word : ℕ) (behind after : HandData E) (end : TurnEnd) (left : List Held) (lanes : ℕ)
-        (result : Result Answer KeepFault) → old.opening ≡ opening → old.number ≡ writer → IsLegal (opening ++ items_of new.seen)
-        → Fits writer opening (items_of old.seen) [] → TriedInTurn old claimed (Claim now word) result lanes
-        → GoesOn stores lanes result claimed new behind after end left → Turned opening writer (items_of old.seen) (items_of new.seen) left
-    claim_goes old claimed new now word behind after end left lanes (Err fault) opens number legal fits tried goes =
-        let at = tried_for old claimed opening writer (Claim now word) (Err fault) lanes opens number told tried in
-        let before = items_of old.seen in
+    -- a claim that was tried behind a list and came to this, and what follows
+    claim_goes : (before : List Entry) (claimed new : PassView Entry) (now word : ℕ) (behind after : HandData E) (end : TurnEnd) (left : List Held)
+        (lanes : ℕ) (result : Result Answer KeepFault) → claimed.opening ≡ opening → claimed.number ≡ writer → IsLegal (opening ++ items_of new.seen)
+        → Fits writer opening before [] → Tried opening writer before (items_of claimed.seen) (Claim now word) result
+        → GoesOn stores lanes result claimed new behind after end left → Turned opening writer before (items_of new.seen) left
+    claim_goes before claimed new now word behind after end left lanes (Err fault) opens number legal fits at goes =
         let is : items_of new.seen ≡ before ++ at.others =
         ap (λ (p : PassView Entry). items_of p.seen) goes.1.pass ∙ at.after_is ∙ append-nil (before ++ at.others) in
         subst (Turned opening writer before (items_of new.seen)) (sym goes.1.nothing)
         (turned_as machine opening writer before (before ++ at.others) (items_of new.seen) [] is
         (turned_others machine opening writer before at.others [] (subst (λ list. IsLegal (opening ++ list)) is legal) at.none fits))
-    claim_goes old claimed new now word behind after end left lanes (Ok (Restarted count)) opens number legal fits tried goes = absurd goes
-    claim_goes old claimed new now word behind after end left lanes (Ok (Submitted job id)) opens number legal fits tried goes = absurd goes
-    claim_goes old claimed new now word behind after end left lanes (Ok (Cancelled job)) opens number legal fits tried goes = absurd goes
-    claim_goes old claimed new now word behind after end left lanes (Ok (PrioritySet job)) opens number legal fits tried goes = absurd goes
-    claim_goes old claimed new now word behind after end left lanes (Ok (Reported file state)) opens number legal fits tried goes = absurd goes
-    claim_goes old claimed new now word behind after end left lanes (Ok (Claimed file attempt)) opens number legal fits tried goes =
-        let at = tried_for old claimed opening writer (Claim now word) (Ok (Claimed file attempt)) lanes opens number told tried in
-        let before = items_of old.seen in
+    claim_goes before claimed new now word behind after end left lanes (Ok (Restarted count)) opens number legal fits at goes = absurd goes
+    claim_goes before claimed new now word behind after end left lanes (Ok (Submitted job id)) opens number legal fits at goes = absurd goes
+    claim_goes before claimed new now word behind after end left lanes (Ok (Cancelled job)) opens number legal fits at goes = absurd goes
+    claim_goes before claimed new now word behind after end left lanes (Ok (PrioritySet job)) opens number legal fits at goes = absurd goes
+    claim_goes before claimed new now word behind after end left lanes (Ok (Reported file state)) opens number legal fits at goes = absurd goes
+    claim_goes before claimed new now word behind after end left lanes (Ok (Banned count)) opens number legal fits at goes = absurd goes
+    claim_goes before claimed new now word behind after end left lanes (Ok Unbanned) opens number legal fits at goes = absurd goes
+    claim_goes before claimed new now word behind after end left lanes (Ok (Expired count)) opens number legal fits at goes = absurd goes
+    claim_goes before claimed new now word behind after end left lanes (Ok (Claimed file attempt)) opens number legal fits at goes =
         let middle = goes.between in
         let grown_mid = grown_copies claimed middle behind.store after.store file goes.outcome goes.copied in
-        let grown_new = grown_tried middle new _ _ _ goes.reported.tried in
-        let open_claimed : claimed.opening ≡ opening = tried.taken.same.1 ∙ opens in
-        let number_claimed : claimed.number ≡ writer = tried.taken.same.3 ∙ number in
-        let open_mid : middle.opening ≡ opening = goes.copied.same.1 ∙ open_claimed in
-        let number_mid : middle.number ≡ writer = goes.copied.same.3 ∙ number_claimed in
+        let grown_new = grown_taken middle new goes.reported.tried.taken in
+        let open_mid : middle.opening ≡ opening = goes.copied.same.1 ∙ opens in
+        let number_mid : middle.number ≡ writer = goes.copied.same.3 ∙ number in
         let looked = items_of goes.copied.since in
         let is : items_of middle.seen ≡ ((before ++ at.others) ++ entry_by writer (Claim now word) ∷ []) ++ looked =
         items_grown claimed middle grown_mid ∙ ap (λ list. list ++ looked) at.after_is in
         let legal_mid = legal_grown opening middle new grown_new legal in
-        let told_claimed : IsToldList claimed = λ none. told (sym open_claimed ∙ none) in
+        let told_claimed : IsToldList claimed = λ none. told (sym opens ∙ none) in
         let asked : goes.outcome ≡ Stopped
         → is_cancel_asked (tables_of (opening ++ (((before ++ at.others) ++ entry_by writer (Claim now word) ∷ []) ++ looked))) file ≡ true =
         λ stopped. subst (λ list. is_cancel_asked (tables_of list) file ≡ true) ((λ i. open_mid i ++ is i)) (goes.copied.stopped told_claimed stopped) in
         let first = turned_as machine opening writer before _ (items_of middle.seen) (held_with file attempt goes.outcome ∷ []) is
         (claim_turned machine opening writer before at.others looked now word file attempt goes.outcome at.came.0 at.none
-        (subst (λ n. NoneOf n looked) number_claimed goes.copied.others)
+        (subst (λ n. NoneOf n looked) number goes.copied.others)
         (subst (λ list. IsLegal (opening ++ list)) is legal_mid) at.came.1 asked fits) in
         turned_on machine opening writer before (items_of middle.seen) (items_of new.seen) (held_with file attempt goes.outcome ∷ []) left first
         (report_turned middle new behind.moments after.moments (held_with file attempt goes.outcome) goes.outcome end left open_mid number_mid legal
         first.fits goes.reported)
+
+    -- an expiry and a claim, and what follows
+    step_goes : (old claimed new : PassView Entry) (now word : ℕ) (behind after : HandData E) (end : TurnEnd) (left : List Held) (lanes : ℕ)
+        (expiry : Result Answer KeepFault) (claim : Option (Result Answer KeepFault)) → old.opening ≡ opening → old.number ≡ writer
+        → IsLegal (opening ++ items_of new.seen) → Fits writer opening (items_of old.seen) [] → StepInTurn old claimed now word expiry claim lanes
+        → GoesOn stores lanes (step_answer expiry claim) claimed new behind after end left → Turned opening writer (items_of old.seen) (items_of new.seen) left
+    step_goes old claimed new now word behind after end left lanes expiry claim opens number legal fits tried goes =
+        let before = items_of old.seen in
+        let at = stepped_for old claimed opening writer now word expiry claim lanes opens number told tried in
+        let grown = grown_goes claimed new behind after end left lanes (step_answer expiry claim) goes in
+        let first = expiry_tried machine opening writer before at.middle now expiry at.expired tried.answers
+        (legal_tried opening writer at.middle (items_of claimed.seen) (Claim now word) (step_answer expiry claim) at.claimed
+        (legal_grown opening claimed new grown legal)) fits in
+        turned_on machine opening writer before at.middle (items_of new.seen) [] left first
+        (claim_goes at.middle claimed new now word behind after end left lanes (step_answer expiry claim) (tried.taken.same.1 ∙ opens)
+        (tried.taken.same.3 ∙ number) legal first.fits at.claimed goes)
 
     -- a turn
     pub turn_turned : (old new : PassView Entry) (hand after : HandData E) (held : List Held) (end : TurnEnd) (left : List Held)
         → old.opening ≡ opening → old.number ≡ writer → IsLegal (opening ++ items_of new.seen) → Fits writer opening (items_of old.seen) held
         → IsTurn stores old new hand after held end left → Turned opening writer (items_of old.seen) (items_of new.seen) left
     turn_turned old new hand after [] end left opens number legal fits turn =
-        claim_goes old turn.claimed new turn.now turn.word turn.behind after end left turn.lanes turn.result opens number legal fits turn.tried turn.goes_on
+        step_goes old turn.claimed new turn.now turn.word turn.behind after end left turn.lanes turn.expiry turn.claim opens number legal fits turn.tried
+        turn.goes_on
     turn_turned old new hand after (held ∷ []) end left opens number legal fits turn =
         report_turned old new hand.moments after.moments held turn.reported.0 end left opens number legal fits turn.reported.1
     turn_turned old new hand after (held ∷ next ∷ others) end left opens number legal fits turn = absurd turn.reported

@@ -1,25 +1,29 @@
 -- What one accepted step leaves of the attempts at which files stand, and which command an answer comes from.
 use Rattle.std.proofs.Common.{◌≡◌, ◌≢◌, refl, sym, ap, subst, ℕ, ◌+◌, ◌-◌, ◌≤◌, Bool, true, false, cond, List, [], ◌∷◌, ◌++◌, length, max, Option, Some, None, IsSome, Ok, Err, arith}
-use Rattle.std.specs.Prelude.{◌==◌, ◌&&◌, ◌||◌, not, nat_lt, option_and_then, slice_get}
+use Rattle.std.specs.Prelude.{◌==◌, ◌&&◌, ◌||◌, not, nat_lt, is_some, option_and_then, slice_get}
 use Rattle.std.specs.Option.{option_map_or}
 use Rattle.std.specs.List.{list_any}
 use Rattle.fts_tables.specs.SettingsData.{SettingsData}
 use Rattle.fts_tables.specs.JobData.{JobData}
 use Rattle.fts_tables.specs.Tables.{Tables, AreWellFormed, is_active, is_submitted, is_not_used, job_at, number_of_id, row_at, rows_of_job}
+use Rattle.fts_tables.specs.Limits.{endpoint_at, is_banned}
 use Rattle.fts_tables.specs.Choice.{pick}
-use Rattle.fts_tables.specs.Moves.{canceled, cancelled, change_row, claimed, is_cancellable, is_settled_job, reported, rows_of_new, submitted}
-use Rattle.fts_tables.specs.Step.{Outcomes, step, restart, released, submit_by, cancel_rows, cancel_row, cancel_one, cancel_file, set_priority, claim, report, report_of, with_rows}
+use Rattle.fts_tables.specs.Moves.{canceled, canceled_for, cancelled, cancelled_for, change_row, claimed, is_cancellable, is_settled_job, reported, rows_of_new, submitted}
+use Rattle.fts_tables.specs.Waits.{is_overdue, waits_at, goes_with, rows_cancelled}
+use Rattle.fts_tables.specs.Step.{Outcomes, step, restart, released, submit_by, cancel_rows, cancel_row, cancel_one, cancel_file, set_priority, claim, report, report_of, ban, ban_only, ban_and_cancel, unban, expire, with_rows}
 use Rattle.fts_tables.specs.declared.limits.TheConstants.{MAX_JOBS, MAX_ROWS}
 use Rattle.fts_tables.specs.declared.rows.FileRow.{FileRow}
 use Rattle.fts_tables.specs.declared.rows.JobRow.{JobRow}
 use Rattle.fts_tables.specs.declared.rows.JobKind.{JobKind}
 use Rattle.fts_tables.specs.declared.rows.JobKind.TheVariants.{Plain, Replica, Multihop}
+use Rattle.fts_tables.specs.declared.rows.Reason.{Reason}
+use Rattle.fts_tables.specs.declared.rows.Reason.TheVariants as reason
 use Rattle.fts_tables.specs.declared.rows.Outcome.{Outcome}
 use Rattle.fts_tables.specs.declared.commands.Refusal.TheVariants.{NoJob}
 use Rattle.fts_tables.specs.declared.commands.Answer.{Answer}
-use Rattle.fts_tables.specs.declared.commands.Answer.TheVariants.{Restarted, Submitted, Cancelled, PrioritySet, Claimed, Reported}
+use Rattle.fts_tables.specs.declared.commands.Answer.TheVariants.{Restarted, Submitted, Cancelled, PrioritySet, Claimed, Reported, Banned, Unbanned, Expired}
 use Rattle.fts_tables.specs.declared.commands.Command.{Command}
-use Rattle.fts_tables.specs.declared.commands.Command.TheVariants.{Restart, Submit, CancelJob, CancelFile, SetPriority, Claim, Report}
+use Rattle.fts_tables.specs.declared.commands.Command.TheVariants.{Restart, Submit, CancelJob, CancelFile, SetPriority, Claim, Report, Ban, Unban, Expire}
 use Rattle.fts_workers.specs.Benches.{attempt_of}
 use Rattle.fts_workers.proofs.Attempts.{IsSameAttempt, attempt_among, attempts_map, attempts_one, either_attempt, same_attempt, report_attempts, claim_others, claim_own}
 use Rattle.fts_workers.proofs.Numbered.{found_at, row_at-id}
@@ -29,7 +33,7 @@ use Rattle.fts_ledger.specs.Reports.{IsAsked, IsRestart, IsReportOf}
 abbrev pub KeepsAttempts : Tables → Tables → Type 0
 KeepsAttempts before after = (file : ℕ) → IsSome (row_at before.rows file) → attempt_of after file ≡ attempt_of before file
 
--- an answer is to a request's command
+-- an answer is to a request's command or to an expiry: nothing was claimed, reported or restarted
 abbrev pub IsQuiet : Answer → Type 0
 IsQuiet (Restarted count) = ⊥
 IsQuiet (Submitted job id) = Unit {0}
@@ -37,6 +41,9 @@ IsQuiet (Cancelled job) = Unit {0}
 IsQuiet (PrioritySet job) = Unit {0}
 IsQuiet (Claimed file attempt) = ⊥
 IsQuiet (Reported file state) = ⊥
+IsQuiet (Banned count) = Unit {0}
+IsQuiet Unbanned = Unit {0}
+IsQuiet (Expired count) = Unit {0}
 
 -- to a restart
 abbrev pub IsRestarted : Answer → Type 0
@@ -46,6 +53,9 @@ IsRestarted (Cancelled job) = ⊥
 IsRestarted (PrioritySet job) = ⊥
 IsRestarted (Claimed file attempt) = ⊥
 IsRestarted (Reported file state) = ⊥
+IsRestarted (Banned count) = ⊥
+IsRestarted Unbanned = ⊥
+IsRestarted (Expired count) = ⊥
 
 -- to a report of this file
 abbrev pub IsReported : ℕ → Answer → Type 0
@@ -55,6 +65,9 @@ IsReported file (Cancelled job) = ⊥
 IsReported file (PrioritySet job) = ⊥
 IsReported file (Claimed claimed attempt) = ⊥
 IsReported file (Reported reported state) = file ≡ reported
+IsReported file (Banned count) = ⊥
+IsReported file Unbanned = ⊥
+IsReported file (Expired count) = ⊥
 
 -- where a step is accepted, its answer is such a one, and it keeps attempts
 abbrev pub Keeps : (Answer → Type 0) → Tables → Outcomes → Type 0
@@ -86,8 +99,8 @@ attempts_more (row ∷ rows) more file there = by_head (attempts_more rows more 
     by_head behind false there = behind there
 
 -- a cancellation and a restart leave a row's attempt
-cancelled_attempt : (row : FileRow) → IsSameAttempt row (cancelled row)
-cancelled_attempt row = either_attempt (is_submitted row.state || is_not_used row.state) row (canceled row) _ (record { id = refl; attempt = refl })
+cancelled_attempt : (why : Reason) (row : FileRow) → IsSameAttempt row (cancelled_for why row)
+cancelled_attempt why row = either_attempt (is_submitted row.state || is_not_used row.state) row (canceled_for why row) _ (record { id = refl; attempt = refl })
     (either_attempt (is_active row.state) row (record row { cancel_asked = true }) row (record { id = refl; attempt = refl }) (same_attempt row))
 
 released_attempt : (row : FileRow) → IsSameAttempt row (released row)
@@ -111,12 +124,12 @@ cancel_rows_keeps tables now job =
     either IsQuiet tables (not (is_settled_job of_job) && list_any is_cancellable of_job) _ _ (
       tt,
       λ file there. attempts_map (λ row. cond (row.job == job.number) (cancelled row) row)
-          (λ row. either_attempt (row.job == job.number) row (cancelled row) row (cancelled_attempt row) (same_attempt row)) tables.rows file,
+          (λ row. either_attempt (row.job == job.number) row (cancelled row) row (cancelled_attempt reason.Cancelled row) (same_attempt row)) tables.rows file,
     ) tt
 
 cancel_row_keeps : (tables : Tables) (now : ℕ) (job : JobRow) (row : FileRow) → Keeps IsQuiet tables (cancel_row tables now job row)
 cancel_row_keeps tables now job row =
-    either IsQuiet tables (is_cancellable row) _ _ (tt, λ file there. attempts_one row.id cancelled cancelled_attempt tables.rows file) tt
+    either IsQuiet tables (is_cancellable row) _ _ (tt, λ file there. attempts_one row.id cancelled (cancelled_attempt reason.Cancelled) tables.rows file) tt
 
 cancel_one_keeps : (tables : Tables) (now : ℕ) (job : JobRow) (row : FileRow) (kind : JobKind) → Keeps IsQuiet tables (cancel_one tables now job row kind)
 cancel_one_keeps tables now job row Plain = cancel_row_keeps tables now job row
@@ -146,6 +159,28 @@ report_keeps tables now file (Some row) attempt outcome at =
     subst (λ id. Keeps (IsReported id) tables (report_of tables now row attempt outcome (job_at tables.jobs row.job))) (row_at-id tables.rows file row at)
     (report_of_keeps tables now row attempt outcome (job_at tables.jobs row.job))
 
+-- so do those that pass a test, cancelled for whatever reason
+some_cancelled : (why : Reason) (tables : Tables) (test : FileRow → Bool) (file : ℕ)
+    → attempt_among (rows_cancelled why tables.jobs test tables.rows) file ≡ attempt_among tables.rows file
+some_cancelled why tables test file =
+    attempts_map (λ row. cond (goes_with tables.jobs tables.rows test row) (cancelled_for why row) row)
+    (λ row. either_attempt (goes_with tables.jobs tables.rows test row) row (cancelled_for why row) row (cancelled_attempt why row) (same_attempt row))
+    tables.rows file
+
+ban_keeps : (tables : Tables) (now : ℕ) (storage : List ℕ) (cancel : Bool) → Keeps IsQuiet tables (ban tables now storage cancel)
+ban_keeps tables now storage cancel =
+    either IsQuiet tables (is_some (endpoint_at tables.settings storage)) _ _
+    (either IsQuiet tables cancel (ban_and_cancel tables now storage) (ban_only tables now storage)
+    (tt, λ file there. some_cancelled reason.Cancelled tables (waits_at storage) file) (tt, λ file there. refl)) tt
+
+unban_keeps : (tables : Tables) (now : ℕ) (storage : List ℕ) → Keeps IsQuiet tables (unban tables now storage)
+unban_keeps tables now storage = either IsQuiet tables (is_banned tables.banned storage) _ _ (tt, λ file there. refl) tt
+
+expire_keeps : (tables : Tables) (now : ℕ) → Keeps IsQuiet tables (expire tables now)
+expire_keeps tables now =
+    either IsQuiet tables (list_any (is_overdue tables.jobs now) tables.rows) _ _
+    (tt, λ file there. some_cancelled reason.Expired tables (is_overdue tables.jobs now) file) tt
+
 -- a client's command claims nothing and reports nothing
 pub asked_keeps : (tables : Tables) (command : Command) → IsAsked command → Keeps IsQuiet tables (step tables command)
 asked_keeps tables (Restart now settings) asked = absurd asked
@@ -161,6 +196,9 @@ asked_keeps tables (SetPriority now job priority) asked =
     (λ found. priority_keeps tables (max now tables.moment) found priority)
 asked_keeps tables (Claim now word) asked = absurd asked
 asked_keeps tables (Report now file attempt outcome) asked = absurd asked
+asked_keeps tables (Ban now storage cancel) asked = ban_keeps tables (max now tables.moment) storage cancel
+asked_keeps tables (Unban now storage) asked = unban_keeps tables (max now tables.moment) storage
+asked_keeps tables (Expire now) asked = absurd asked
 
 -- a claim raises the attempt of its file, which is there, by one, and leaves the others'
 pub record Claims (before : Tables) (command : Command) (after : Tables) (file attempt : ℕ) : Type 0 where
@@ -180,6 +218,9 @@ Behaves before command after (Cancelled job) = KeepsAttempts before after
 Behaves before command after (PrioritySet job) = KeepsAttempts before after
 Behaves before command after (Claimed file attempt) = Claims before command after file attempt
 Behaves before command after (Reported file state) = IsReportOf file command × KeepsAttempts before after
+Behaves before command after (Banned count) = KeepsAttempts before after
+Behaves before command after Unbanned = KeepsAttempts before after
+Behaves before command after (Expired count) = KeepsAttempts before after
 
 quiet_behaves : (before : Tables) (command : Command) (after : Tables) (answer : Answer) → IsQuiet answer → KeepsAttempts before after
     → Behaves before command after answer
@@ -189,6 +230,9 @@ quiet_behaves before command after (Cancelled job) quiet keeps = keeps
 quiet_behaves before command after (PrioritySet job) quiet keeps = keeps
 quiet_behaves before command after (Claimed file attempt) quiet keeps = absurd quiet
 quiet_behaves before command after (Reported file state) quiet keeps = absurd quiet
+quiet_behaves before command after (Banned count) quiet keeps = keeps
+quiet_behaves before command after Unbanned quiet keeps = keeps
+quiet_behaves before command after (Expired count) quiet keeps = keeps
 
 restart_behaves : (before : Tables) (command : Command) (after : Tables) (answer : Answer) → IsRestart command → IsRestarted answer
     → KeepsAttempts before after → Behaves before command after answer
@@ -198,6 +242,9 @@ restart_behaves before command after (Cancelled job) is fine keeps = absurd fine
 restart_behaves before command after (PrioritySet job) is fine keeps = absurd fine
 restart_behaves before command after (Claimed file attempt) is fine keeps = absurd fine
 restart_behaves before command after (Reported file state) is fine keeps = absurd fine
+restart_behaves before command after (Banned count) is fine keeps = absurd fine
+restart_behaves before command after Unbanned is fine keeps = absurd fine
+restart_behaves before command after (Expired count) is fine keeps = absurd fine
 
 report_behaves : (before : Tables) (now file attempt : ℕ) (outcome : Outcome) (after : Tables) (answer : Answer) → IsReported file answer
     → KeepsAttempts before after → Behaves before (Report now file attempt outcome) after answer
@@ -207,6 +254,9 @@ report_behaves before now file attempt outcome after (Cancelled job) fine keeps 
 report_behaves before now file attempt outcome after (PrioritySet job) fine keeps = absurd fine
 report_behaves before now file attempt outcome after (Claimed claimed again) fine keeps = absurd fine
 report_behaves before now file attempt outcome after (Reported reported state) fine keeps = (fine, keeps)
+report_behaves before now file attempt outcome after (Banned count) fine keeps = absurd fine
+report_behaves before now file attempt outcome after Unbanned fine keeps = absurd fine
+report_behaves before now file attempt outcome after (Expired count) fine keeps = absurd fine
 
 -- the row that a claim picks stands at the place before its id
 abbrev pub PicksStand : Type 0
@@ -269,3 +319,9 @@ module _ (picks_stand : PicksStand) (tables : Tables) (formed : AreWellFormed ta
   step_behaves (Report now file attempt outcome) done is = by_keeps (IsReported file) (Report now file attempt outcome)
       (report_behaves tables now file attempt outcome) _
       (report_keeps tables (max now tables.moment) file (row_at tables.rows file) attempt outcome refl) done is
+  step_behaves (Ban now storage cancel) done is = by_keeps IsQuiet (Ban now storage cancel) (quiet_behaves tables (Ban now storage cancel)) _
+      (asked_keeps tables (Ban now storage cancel) tt) done is
+  step_behaves (Unban now storage) done is = by_keeps IsQuiet (Unban now storage) (quiet_behaves tables (Unban now storage)) _
+      (asked_keeps tables (Unban now storage) tt) done is
+  step_behaves (Expire now) done is = by_keeps IsQuiet (Expire now) (quiet_behaves tables (Expire now)) _
+      (expire_keeps tables (max now tables.moment)) done is

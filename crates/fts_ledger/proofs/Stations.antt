@@ -4,7 +4,7 @@ use Rattle.fts_tables.specs.History.{IsLegal}
 use Rattle.fts_tables.specs.declared.rows.Outcome.{Outcome}
 use Rattle.fts_tables.specs.declared.commands.Entry.{Entry}
 use Rattle.fts_tables.specs.declared.commands.Command.{Command}
-use Rattle.fts_tables.specs.declared.commands.Command.TheVariants.{Restart, Submit, CancelJob, CancelFile, SetPriority, Claim, Report}
+use Rattle.fts_tables.specs.declared.commands.Command.TheVariants.{Restart, Submit, CancelJob, CancelFile, SetPriority, Claim, Report, Ban, Unban, Expire}
 use Rattle.fts_turnstile.specs.declared.turn.Turn.{Turn}
 use Rattle.fts_turnstile.specs.History.{items_of}
 use Rattle.fts_turnstile.specs.Passes.{PassView, seen_list}
@@ -44,6 +44,9 @@ names file (SetPriority now job priority) is = absurd is
 names file (Claim now word) is = absurd is
 names file (Report now reported attempt outcome) is =
     record { now = now; attempt = attempt; outcome = outcome; is = ap (λ f. Report now f attempt outcome) is }
+names file (Ban now storage cancel) is = absurd is
+names file (Unban now storage) is = absurd is
+names file (Expire now) is = absurd is
 
 pub undisturbed : (opening entries : List Entry) → HasNoRestart entries → ((writer : ℕ) → ReportsOwn writer opening [] entries)
     → (writer : ℕ) → IsUndisturbed writer opening entries
@@ -86,7 +89,7 @@ own_in_all old new held later keeps none_before none_later =
     keeps.own_reports))
     (own_none old.number old.opening (items_of new.seen) (items_of later) none_later))
 
--- and has added claims and reports alone
+-- and has added expiries, claims and reports alone
 pub work_in_all : (old new : PassView Entry) (held : List Held) (later : List (Turn Entry)) → KeepsLedger old new held → NoneOf old.number (items_of old.seen)
     → NoneOf old.number (items_of later) → AddsWork old.number (items_of (new.seen ++ later))
 work_in_all old new held later keeps none_before none_later =

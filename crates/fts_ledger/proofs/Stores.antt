@@ -10,9 +10,9 @@ use Rattle.fts_tables.specs.declared.rows.FileState.TheVariants as state_is
 use Rattle.fts_tables.specs.declared.rows.Outcome.{Outcome}
 use Rattle.fts_tables.specs.declared.commands.Entry.{Entry}
 use Rattle.fts_tables.specs.declared.commands.Refusal.{Refusal}
-use Rattle.fts_tables.specs.declared.commands.Command.TheVariants.{Claim, Report}
+use Rattle.fts_tables.specs.declared.commands.Command.TheVariants.{Claim, Report, Expire}
 use Rattle.fts_tables.specs.declared.commands.Answer.{Answer}
-use Rattle.fts_tables.specs.declared.commands.Answer.TheVariants.{Restarted, Submitted, Cancelled, PrioritySet, Claimed, Reported}
+use Rattle.fts_tables.specs.declared.commands.Answer.TheVariants.{Restarted, Submitted, Cancelled, PrioritySet, Claimed, Reported, Banned, Unbanned, Expired}
 use Rattle.fts_turnstile.specs.declared.turn.Turn.{Turn}
 use Rattle.fts_turnstile.specs.History.{items_of}
 use Rattle.fts_turnstile.specs.Passes.{PassView, seen_list}
@@ -21,7 +21,7 @@ use Rattle.fts_keep.specs.declared.fault.KeepFault.{KeepFault}
 use Rattle.fts_keep.specs.declared.fault.KeepFault.TheVariants.{Rule, DiskFailed, JournalFull, Damaged, Memory}
 use Rattle.fts_workers.specs.Copies.{FollowsReports, copies_from, copies_kept, copies_of_file}
 use Rattle.fts_workers.specs.declared.held.Held.{Held}
-use Rattle.fts_shop.specs.Shops.{AnswersReport, IsEndState, IsToldList, TriedInTurn, added_by}
+use Rattle.fts_shop.specs.Shops.{AnswersReport, IsEndState, IsToldList, StepInTurn, added_by, step_answer}
 use Rattle.fts_workers.proofs.Copied.{copies_from-append, tables_from-append}
 use Rattle.fts_shop.specs.Looking.{NoneOf}
 use Rattle.fts_shop.specs.Looked.{items_on}
@@ -32,10 +32,11 @@ use Rattle.fts_shop.specs.declared.ends.Turn.TheVariants as turn_ends
 use Rattle.fts_ledger.specs.Reports.{IsUndisturbed}
 use Rattle.fts_ledger.specs.Fitting.{Fits, IsLastOwn}
 use Rattle.fts_ledger.specs.Ledger.{AreFresh, FollowsOwn, KeepsItsFiles, MayKeep}
-use Rattle.fts_ledger.proofs.Followed.{Followed, OrdersStay, followed_as, followed_claim, followed_on, followed_others, followed_report, holds_own, copies_none}
+use Rattle.fts_ledger.proofs.Followed.{Followed, OrdersStay, followed_as, followed_claim, followed_expiry, followed_on, followed_others, followed_report, holds_own, copies_none}
 use Rattle.fts_ledger.proofs.Fresh.{undisturbed_accepted}
 use Rattle.fts_ledger.proofs.Moved.{Machine}
-use Rattle.fts_ledger.proofs.Passed.{Grown, grown_copies, grown_on, grown_tried, grown_turn, grown_turns, items_grown, legal_grown, legal_of, tried_for, turn_turned, turns_turned}
+use Rattle.fts_ledger.proofs.InTurns.{stepped_for, tried_for}
+use Rattle.fts_ledger.proofs.Passed.{Grown, grown_copies, grown_on, grown_taken, grown_turn, grown_turns, items_grown, legal_grown, legal_of, turn_turned, turns_turned}
 use Rattle.fts_ledger.proofs.Stations.{undisturbed_before}
 use Rattle.fts_ledger.proofs.Turned.{Came, Tried, last_own_more, legal_back}
 use Rattle.fts_store.specs.declared.store.Store as store
@@ -57,6 +58,9 @@ fresh_report held file lanes (Cancelled job) answers is = absurd answers
 fresh_report held file lanes (PrioritySet job) answers is = absurd answers
 fresh_report held file lanes (Claimed claimed attempt) answers is = absurd answers
 fresh_report held file lanes (Reported reported left) answers is = fresh_state held file left answers.1 is
+fresh_report held file lanes (Banned count) answers is = absurd answers
+fresh_report held file lanes Unbanned answers is = absurd answers
+fresh_report held file lanes (Expired count) answers is = absurd answers
 
 fresh_idle : (file lanes : ℕ) → ◌≡◌ {A = TurnEnd} (idle_end lanes) (turn_ends.Stale file) → ⊥
 fresh_idle file zero is = absurd cc
@@ -143,15 +147,13 @@ module _ {E : Type 0} (stores : store.Ghosts E) (machine : Machine) (orders : Or
       fresh_by file (Err Memory) is stale = absurd cc
       fresh_by file (Err (Damaged offset)) is stale = absurd cc
 
-  -- a claim that was answered so, and what follows
-  claim_well : (old claimed new : PassView Entry) (now word : ℕ) (behind after : HandData E) (end : TurnEnd) (left : List Held) (lanes : ℕ)
-      (result : Result Answer KeepFault) → old.opening ≡ opening → old.number ≡ writer → IsLegal (opening ++ items_of new.seen)
-      → IsUndisturbed writer opening (items_of new.seen) → TriedInTurn old claimed (Claim now word) result lanes
+  -- a claim that was tried behind a list and came to this, and what follows
+  claim_well : (before : List Entry) (claimed new : PassView Entry) (now word : ℕ) (behind after : HandData E) (end : TurnEnd) (left : List Held)
+      (lanes : ℕ) (result : Result Answer KeepFault) → claimed.opening ≡ opening → claimed.number ≡ writer → IsLegal (opening ++ items_of new.seen)
+      → IsUndisturbed writer opening (items_of new.seen) → Tried opening writer before (items_of claimed.seen) (Claim now word) result
       → GoesOn stores lanes result claimed new behind after end left
-      → GoesWell (items_of old.seen) (items_of new.seen) [] left behind.store after.store end
-  claim_well old claimed new now word behind after end left lanes (Err fault) opens number legal free tried goes =
-      let at = tried_for old claimed opening writer (Claim now word) (Err fault) lanes opens number told tried in
-      let before = items_of old.seen in
+      → GoesWell before (items_of new.seen) [] left behind.store after.store end
+  claim_well before claimed new now word behind after end left lanes (Err fault) opens number legal free at goes =
       let is : items_of new.seen ≡ before ++ at.others =
       ap (λ (p : PassView Entry). items_of p.seen) goes.1.pass ∙ at.after_is ∙ append-nil (before ++ at.others) in
       record {
@@ -163,29 +165,28 @@ module _ {E : Type 0} (stores : store.Ghosts E) (machine : Machine) (orders : Or
             (subst (λ list. IsLegal (opening ++ list)) is legal) at.none tt (subst (IsUndisturbed writer opening) is free))));
         fresh = λ file stale. fresh_claim file lanes fault (sym goes.0 ∙ stale);
       }
-  claim_well old claimed new now word behind after end left lanes (Ok (Restarted count)) opens number legal free tried goes = absurd goes
-  claim_well old claimed new now word behind after end left lanes (Ok (Submitted job id)) opens number legal free tried goes = absurd goes
-  claim_well old claimed new now word behind after end left lanes (Ok (Cancelled job)) opens number legal free tried goes = absurd goes
-  claim_well old claimed new now word behind after end left lanes (Ok (PrioritySet job)) opens number legal free tried goes = absurd goes
-  claim_well old claimed new now word behind after end left lanes (Ok (Reported file left_in)) opens number legal free tried goes = absurd goes
-  claim_well old claimed new now word behind after end left lanes (Ok (Claimed file attempt)) opens number legal free tried goes =
-      let at = tried_for old claimed opening writer (Claim now word) (Ok (Claimed file attempt)) lanes opens number told tried in
-      let before = items_of old.seen in
+  claim_well before claimed new now word behind after end left lanes (Ok (Restarted count)) opens number legal free at goes = absurd goes
+  claim_well before claimed new now word behind after end left lanes (Ok (Submitted job id)) opens number legal free at goes = absurd goes
+  claim_well before claimed new now word behind after end left lanes (Ok (Cancelled job)) opens number legal free at goes = absurd goes
+  claim_well before claimed new now word behind after end left lanes (Ok (PrioritySet job)) opens number legal free at goes = absurd goes
+  claim_well before claimed new now word behind after end left lanes (Ok (Reported file left_in)) opens number legal free at goes = absurd goes
+  claim_well before claimed new now word behind after end left lanes (Ok (Banned count)) opens number legal free at goes = absurd goes
+  claim_well before claimed new now word behind after end left lanes (Ok Unbanned) opens number legal free at goes = absurd goes
+  claim_well before claimed new now word behind after end left lanes (Ok (Expired count)) opens number legal free at goes = absurd goes
+  claim_well before claimed new now word behind after end left lanes (Ok (Claimed file attempt)) opens number legal free at goes =
       let middle = goes.between in
       let held = held_with file attempt goes.outcome in
       let claim = entry_by writer (Claim now word) in
       let list = (before ++ at.others) ++ claim ∷ [] in
       let grown_mid = grown_copies stores claimed middle behind.store after.store file goes.outcome goes.copied in
-      let grown_new = grown_tried middle new _ _ _ goes.reported.tried in
-      let open_claimed : claimed.opening ≡ opening = tried.taken.same.1 ∙ opens in
-      let number_claimed : claimed.number ≡ writer = tried.taken.same.3 ∙ number in
-      let open_mid : middle.opening ≡ opening = goes.copied.same.1 ∙ open_claimed in
-      let number_mid : middle.number ≡ writer = goes.copied.same.3 ∙ number_claimed in
+      let grown_new = grown_taken middle new goes.reported.tried.taken in
+      let open_mid : middle.opening ≡ opening = goes.copied.same.1 ∙ opens in
+      let number_mid : middle.number ≡ writer = goes.copied.same.3 ∙ number in
       let looked = items_of goes.copied.since in
-      let none_looked : NoneOf writer looked = subst (λ n. NoneOf n looked) number_claimed goes.copied.others in
+      let none_looked : NoneOf writer looked = subst (λ n. NoneOf n looked) number goes.copied.others in
       let is : items_of middle.seen ≡ list ++ looked = items_grown claimed middle grown_mid ∙ ap (λ all. all ++ looked) at.after_is in
       let legal_mid = legal_grown opening middle new grown_new legal in
-      let told_claimed : IsToldList claimed = λ none. told (sym open_claimed ∙ none) in
+      let told_claimed : IsToldList claimed = λ none. told (sym opens ∙ none) in
       let free_mid : IsUndisturbed writer opening (list ++ looked) =
       subst (IsUndisturbed writer opening) is
       (undisturbed_before writer opening (items_of middle.seen) (items_of grown_new.since)
@@ -202,7 +203,7 @@ module _ {E : Type 0} (stores : store.Ghosts E) (machine : Machine) (orders : Or
       } in
       let asked : copies_of_file (tables_of (opening ++ list)) file goes.outcome ≡ record { order = goes.copied.order; outcome = goes.outcome } ∷ [] =
       subst (λ all. copies_of_file (tables_of all) file goes.outcome ≡ record { order = goes.copied.order; outcome = goes.outcome } ∷ [])
-      (λ i. open_claimed i ++ at.after_is i) (goes.copied.of_file told_claimed) in
+      (λ i. opens i ++ at.after_is i) (goes.copied.of_file told_claimed) in
       let copied = followed_claim stores opening writer machine orders before at.others now word file attempt goes.outcome goes.copied.order
       behind.store after.store at.none asked goes.copied.made in
       let waited = followed_others stores opening writer machine orders list looked (held ∷ []) after.store
@@ -220,6 +221,25 @@ module _ {E : Type 0} (stores : store.Ghosts E) (machine : Machine) (orders : Or
         fresh = last.fresh;
       }
 
+  -- an expiry and a claim, and what follows
+  step_well : (old claimed new : PassView Entry) (now word : ℕ) (behind after : HandData E) (end : TurnEnd) (left : List Held) (lanes : ℕ)
+      (expiry : Result Answer KeepFault) (claim : Option (Result Answer KeepFault)) → old.opening ≡ opening → old.number ≡ writer
+      → IsLegal (opening ++ items_of new.seen) → IsUndisturbed writer opening (items_of new.seen) → StepInTurn old claimed now word expiry claim lanes
+      → GoesOn stores lanes (step_answer expiry claim) claimed new behind after end left
+      → GoesWell (items_of old.seen) (items_of new.seen) [] left behind.store after.store end
+  step_well old claimed new now word behind after end left lanes expiry claim opens number legal free tried goes =
+      let before = items_of old.seen in
+      let at = stepped_for old claimed opening writer now word expiry claim lanes opens number told tried in
+      let store = behind.store in
+      let first = followed_as stores opening writer before ((before ++ at.expired.others) ++ added_by (entry_by writer (Expire now)) expiry) at.middle [] []
+      store store at.expired.after_is (followed_expiry stores opening writer before at.expired.others now expiry store at.expired.none) in
+      let last = claim_well at.middle claimed new now word behind after end left lanes (step_answer expiry claim) (tried.taken.same.1 ∙ opens)
+      (tried.taken.same.3 ∙ number) legal free at.claimed goes in
+      record {
+        followed = followed_on stores opening writer before at.middle (items_of new.seen) [] [] left store store after.store first last.followed;
+        fresh = last.fresh;
+      }
+
   -- a turn
   pub turn_well : (old new : PassView Entry) (hand after : HandData E) (held : List Held) (end : TurnEnd) (left : List Held)
       → old.opening ≡ opening → old.number ≡ writer → IsLegal (opening ++ items_of new.seen) → Fits writer opening (items_of old.seen) held
@@ -227,7 +247,8 @@ module _ {E : Type 0} (stores : store.Ghosts E) (machine : Machine) (orders : Or
       → GoesWell (items_of old.seen) (items_of new.seen) held left hand.store after.store end
   turn_well old new hand after [] end left opens number legal fits free turn =
       subst (λ store. GoesWell (items_of old.seen) (items_of new.seen) [] left store after.store end) turn.store
-      (claim_well old turn.claimed new turn.now turn.word turn.behind after end left turn.lanes turn.result opens number legal free turn.tried turn.goes_on)
+      (step_well old turn.claimed new turn.now turn.word turn.behind after end left turn.lanes turn.expiry turn.claim opens number legal free turn.tried
+      turn.goes_on)
   turn_well old new hand after (held ∷ []) end left opens number legal fits free turn =
       subst (λ store. GoesWell (items_of old.seen) (items_of new.seen) (held ∷ []) left hand.store store end) (sym turn.store)
       (report_well old new hand.moments after.moments held turn.reported.0 end left hand.store opens number legal fits.each.0.claimed free turn.reported.1)

@@ -1,4 +1,5 @@
--- What a writer's own turns make of its reports and of its bench, over lists: behind entries of others, a claim, and the report of what is held.
+-- What a writer's own turns make of its reports and of its bench, over lists: behind entries of others, an expiry and a claim, and the report of what
+-- is held.
 use Rattle.std.proofs.Common.{◌≡◌, refl, sym, ap, ◌∙◌, subst, inl, inr, ⊎_elim, ℕ, Bool, true, false, cond, List, [], ◌∷◌, ◌++◌, map, Option, Some, Result, Ok, Err, append-nil, append_assoc, eqb-true}
 use Rattle.std.specs.Prelude.{◌==◌, if◌then◌else◌}
 use Rattle.fts_tables.specs.Tables.{Tables, empty_tables}
@@ -9,15 +10,16 @@ use Rattle.fts_tables.specs.declared.rows.Outcome.TheVariants.{Stopped}
 use Rattle.fts_tables.specs.declared.commands.Entry.{Entry}
 use Rattle.fts_tables.specs.declared.commands.Refusal.{Refusal}
 use Rattle.fts_tables.specs.declared.commands.Command.{Command}
-use Rattle.fts_tables.specs.declared.commands.Command.TheVariants.{Claim, Report}
+use Rattle.fts_tables.specs.declared.commands.Command.TheVariants.{Claim, Report, Expire}
 use Rattle.fts_tables.specs.declared.commands.Answer.{Answer}
-use Rattle.fts_tables.specs.declared.commands.Answer.TheVariants.{Restarted, Submitted, Cancelled, PrioritySet, Claimed, Reported}
+use Rattle.fts_tables.specs.declared.commands.Answer.TheVariants.{Restarted, Submitted, Cancelled, PrioritySet, Claimed, Reported, Banned, Unbanned, Expired}
 use Rattle.fts_turnstile.specs.History.{Among}
 use Rattle.fts_keep.specs.Applied.{entry_by}
 use Rattle.fts_keep.specs.declared.fault.KeepFault.{KeepFault}
 use Rattle.fts_keep.specs.declared.fault.KeepFault.TheVariants.{Rule, DiskFailed, JournalFull, Damaged, Memory}
 use Rattle.fts_workers.specs.declared.held.Held.{Held}
 use Rattle.fts_workers.proofs.Accepted.{legal_front}
+use Rattle.fts_workers.specs.ClaimSteps.{AnswersExpiry}
 use Rattle.fts_shop.specs.Shops.{AnswersReport, added_by}
 use Rattle.fts_shop.specs.Within.{is_cancel_asked}
 use Rattle.fts_shop.specs.Looking.{NoneOf}
@@ -26,7 +28,7 @@ use Rattle.fts_shop.specs.Turns.{held_with, is_over}
 use Rattle.fts_ledger.specs.Claims.{Claimant, IsOut, IsOwn, claim_after, last_claim}
 use Rattle.fts_ledger.specs.Reports.{AddsWork, ReportsOwn, StopsAsked}
 use Rattle.fts_ledger.specs.Fitting.{AreHeldFor, Fits, IsLastOwn}
-use Rattle.fts_ledger.proofs.Lists.{among_last, among_without, each_append, each_claim, each_none, each_one, work_append, work_none}
+use Rattle.fts_ledger.proofs.Lists.{among_last, among_without, each_append, each_claim, each_expiry, each_none, each_one, work_append, work_none}
 use Rattle.fts_ledger.proofs.Moved.{Machine, moves}
 use Rattle.fts_ledger.proofs.Walks.{attempt_by_own, own_by_attempt, report_accepted, reported_at, whole_still}
 
@@ -45,6 +47,13 @@ pub record Tried (opening : List Entry) (writer : ℕ) (before after : List Entr
   pub none : NoneOf writer others
   pub after_is : after ≡ (before ++ others) ++ added_by (entry_by writer command) result
   pub came : Came (opening ++ (before ++ others)) command result
+
+-- an expiry was tried behind entries of others, and then a claim, with nothing of others between; where no claim was tried, the fault of the expiry stands
+-- for what it came to
+pub record Stepped (opening : List Entry) (writer : ℕ) (before after : List Entry) (now word : ℕ) (expiry result : Result Answer KeepFault) : Type 0 where
+  pub middle : List Entry
+  pub expired : Tried opening writer before middle (Expire now) expiry
+  pub claimed : Tried opening writer middle after (Claim now word) result
 
 -- entries behind others: what holds of the reports among them, and that a bench then fits
 pub record Turned (opening : List Entry) (writer : ℕ) (before after : List Entry) (held : List Held) : Type 0 where
@@ -160,6 +169,74 @@ module _ (machine : Machine) (opening : List Entry) (writer : ℕ) where
       let pair : one ≡ other = cc in
       ap (λ (d : Tables × Answer). d.1) pair
 
+  -- an expiry that was accepted, behind entries of others: it takes no file from the writer, is no claim and no report
+  expiry_turned : (before others : List Entry) (now : ℕ) (tables : Tables) (count : ℕ) → NoneOf writer others
+      → IsLegal (opening ++ ((before ++ others) ++ entry_by writer (Expire now) ∷ []))
+      → step (tables_of (opening ++ (before ++ others))) (Expire now) ≡ Ok (tables, Expired count) → Fits writer opening before []
+      → Turned opening writer before ((before ++ others) ++ entry_by writer (Expire now) ∷ []) []
+  expiry_turned before others now tables count none legal came fits =
+      let entry = entry_by writer (Expire now) in
+      let middle = before ++ others in
+      let there = fits_more before others [] (legal_back opening middle (middle ++ entry ∷ []) (entry ∷ []) refl legal) none fits in
+      let m = moves machine opening middle entry legal in
+      let answer : m.done.1 ≡ Expired count = same_answer (step (tables_of (opening ++ middle)) (Expire now)) m.done (tables, Expired count) m.came came in
+      record {
+        since = others ++ entry ∷ [];
+        after_is = append_assoc before others (entry ∷ []);
+        work = work_append writer others (entry ∷ []) (work_none writer others none) ((λ is. tt), tt);
+        own = each_append writer others (entry ∷ []) (λ earlier one ended. IsOwn writer (last_claim one opening (before ++ earlier)))
+            (each_none writer others (λ earlier one ended. IsOwn writer (last_claim one opening (before ++ earlier))) none)
+            (each_expiry writer now (λ earlier one ended. IsOwn writer (last_claim one opening (before ++ (others ++ earlier)))));
+        stops = each_append writer others (entry ∷ [])
+            (λ earlier one ended. ended ≡ Stopped → is_cancel_asked (tables_of ((opening ++ before) ++ earlier)) one ≡ true)
+            (each_none writer others (λ earlier one ended. ended ≡ Stopped → is_cancel_asked (tables_of ((opening ++ before) ++ earlier)) one ≡ true) none)
+            (each_expiry writer now
+            (λ earlier one ended. ended ≡ Stopped → is_cancel_asked (tables_of ((opening ++ before) ++ (others ++ earlier))) one ≡ true));
+        fits = record {
+          ready = tt;
+          each = tt;
+          whole = λ one out own. there.whole one
+              (subst (λ a. Among one (out_after (out_of_list (opening ++ middle)) a)) answer (subst (Among one) m.out out))
+              (subst (λ a. IsOwn writer (claim_after one (last_claim one opening middle) writer a)) answer (subst (IsOwn writer) (m.last one) own));
+        };
+      }
+
+  -- however it is answered
+  pub expiry_tried : (before after : List Entry) (now : ℕ) (result : Result Answer KeepFault) → Tried opening writer before after (Expire now) result
+      → AnswersExpiry result → IsLegal (opening ++ after) → Fits writer opening before [] → Turned opening writer before after []
+  expiry_tried before after now result tried answers legal fits = by result refl
+    where
+      after_by : (r : Result Answer KeepFault) → result ≡ r → after ≡ (before ++ tried.others) ++ added_by (entry_by writer (Expire now)) r
+      after_by r is = tried.after_is ∙ ap (λ s. (before ++ tried.others) ++ added_by (entry_by writer (Expire now)) s) is
+
+      legal_by : (r : Result Answer KeepFault) → result ≡ r → IsLegal (opening ++ ((before ++ tried.others) ++ added_by (entry_by writer (Expire now)) r))
+      legal_by r is = subst (λ list. IsLegal (opening ++ list)) (after_by r is) legal
+
+      -- nothing was added
+      none_added : after ≡ (before ++ tried.others) ++ [] → Turned opening writer before after []
+      none_added is =
+          let same = is ∙ append-nil (before ++ tried.others) in
+          turned_as before (before ++ tried.others) after [] same
+          (turned_others before tried.others [] (subst (λ list. IsLegal (opening ++ list)) same legal) tried.none fits)
+
+      by_answer : (answer : Answer) → result ≡ Ok answer → AnswersExpiry (Ok answer) → Turned opening writer before after []
+      by_answer (Expired count) is fine =
+          let came = subst (Came (opening ++ (before ++ tried.others)) (Expire now)) is tried.came in
+          turned_as before _ after [] (after_by (Ok (Expired count)) is)
+          (expiry_turned before tried.others now came.0 count tried.none (legal_by (Ok (Expired count)) is) came.1 fits)
+      by_answer (Restarted count) is fine = absurd fine
+      by_answer (Submitted job id) is fine = absurd fine
+      by_answer (Cancelled job) is fine = absurd fine
+      by_answer (PrioritySet job) is fine = absurd fine
+      by_answer (Claimed file attempt) is fine = absurd fine
+      by_answer (Reported file state) is fine = absurd fine
+      by_answer (Banned count) is fine = absurd fine
+      by_answer Unbanned is fine = absurd fine
+
+      by : (r : Result Answer KeepFault) → result ≡ r → Turned opening writer before after []
+      by (Ok answer) is = by_answer answer is (subst AnswersExpiry is answers)
+      by (Err fault) is = none_added (after_by (Err fault) is)
+
   -- a file that is held alone
   only_held : (file one : ℕ) → Among file (one ∷ []) → file ≡ one
   only_held file one (inl is) = is
@@ -213,6 +290,9 @@ module _ (machine : Machine) (opening : List Entry) (writer : ℕ) where
                 absurd (there.1 (only_held one held.file (fits.whole one there.0 was) ∙ sym answers.0));
           };
         }
+    report_turned tables (Banned count) legal came answers = absurd answers
+    report_turned tables Unbanned legal came answers = absurd answers
+    report_turned tables (Expired count) legal came answers = absurd answers
 
     -- it was refused: then nothing that the writer claimed last is out
     pub refused_fits : (refusal : Refusal) → IsLegal (opening ++ (before ++ others))

@@ -15,7 +15,7 @@ use Rattle.fts_tables.specs.declared.commands.Refusal.TheVariants.{Stale}
 use Rattle.fts_tables.specs.declared.commands.Command.{Command}
 use Rattle.fts_tables.specs.declared.commands.Command.TheVariants.{Claim, Report}
 use Rattle.fts_tables.specs.declared.commands.Answer.{Answer}
-use Rattle.fts_tables.specs.declared.commands.Answer.TheVariants.{Restarted, Submitted, Cancelled, PrioritySet, Claimed, Reported}
+use Rattle.fts_tables.specs.declared.commands.Answer.TheVariants.{Restarted, Submitted, Cancelled, PrioritySet, Claimed, Reported, Banned, Unbanned, Expired}
 use Rattle.fts_turnstile.specs.History.{Among}
 use Rattle.fts_keep.specs.Applied.{entry_by}
 use Rattle.fts_workers.specs.Benches.{attempt_of}
@@ -66,6 +66,12 @@ stands_after before after command (Claimed claimed attempt) writer file last beh
         (still was.0, behaves.others file (λ same. absurd (no_test (claimed == file) (eq-eqb claimed file (sym same)) at)) ∙ was.1)
 stands_after before after command (Reported reported state) writer file last behaves stood still claim is =
     let was = stood claim is in (still was.0, behaves.1 file was.0 ∙ was.1)
+stands_after before after command (Banned count) writer file last behaves stood still claim is =
+    let was = stood claim is in (still was.0, behaves file was.0 ∙ was.1)
+stands_after before after command Unbanned writer file last behaves stood still claim is =
+    let was = stood claim is in (still was.0, behaves file was.0 ∙ was.1)
+stands_after before after command (Expired count) writer file last behaves stood still claim is =
+    let was = stood claim is in (still was.0, behaves file was.0 ∙ was.1)
 
 -- where a writer claimed a file at an attempt, the last claim is that one, or a later one of another
 abbrev pub IsOwnOrLater : ℕ → ℕ → Option Claimant → Type 0
@@ -92,6 +98,9 @@ later_after before after command (Claimed claimed again) by writer file attempt 
         (record { writer = by; attempt = again }, (refl, inr (other, omega (arith, behaves.raised, was, reached))))
     if_same false at = later
 later_after before after command (Reported reported state) by writer file attempt last behaves other stood later = later
+later_after before after command (Banned count) by writer file attempt last behaves other stood later = later
+later_after before after command Unbanned by writer file attempt last behaves other stood later = later
+later_after before after command (Expired count) by writer file attempt last behaves other stood later = later
 
 -- an entry of another leaves no more files out that a writer claimed last
 pub others_leave : (file : ℕ) (files : List ℕ) (last : Option Claimant) (writer by : ℕ) (answer : Answer) → by ≢ writer
@@ -110,6 +119,9 @@ others_leave file files last writer by (Claimed claimed attempt) other among own
         (λ here. absurd (no_test (claimed == file) (eq-eqb claimed file (sym here)) at))
         (among_last file claimed (without claimed files) among)
 others_leave file files last writer by (Reported reported state) other among own = ((among_without file reported files among).0, own)
+others_leave file files last writer by (Banned count) other among own = (among, own)
+others_leave file files last writer by Unbanned other among own = (among, own)
+others_leave file files last writer by (Expired count) other among own = (among, own)
 
 module _ (machine : Machine) (opening : List Entry) where
   -- what passes on from entry to entry of a legal list holds behind all of them

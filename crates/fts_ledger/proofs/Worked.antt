@@ -10,10 +10,10 @@ use Rattle.fts_tables.specs.declared.rows.JobKind.TheVariants.{Plain}
 use Rattle.fts_tables.specs.declared.rows.Strategy.TheVariants.{Orderly}
 use Rattle.fts_tables.specs.declared.rows.Outcome.TheVariants.{StoreFailed, Stopped}
 use Rattle.fts_tables.specs.declared.commands.Entry.{Entry}
-use Rattle.fts_tables.specs.declared.commands.Command.TheVariants.{Restart, Submit, Claim, Report}
+use Rattle.fts_tables.specs.declared.commands.Command.TheVariants.{Restart, Submit, Claim, Report, Expire}
 use Rattle.fts_keep.specs.Applied.{entry_by}
 use Rattle.fts_ledger.specs.Claims.{last_claim}
-use Rattle.fts_ledger.specs.Reports.{IsUndisturbed, ReportsOwn}
+use Rattle.fts_ledger.specs.Reports.{AddsWork, IsUndisturbed, ReportsOwn}
 use Rattle.fts_ledger.specs.Fitting.{Fits}
 
 -- two endpoints
@@ -48,7 +48,7 @@ file = record {
 }
 
 abbrev job : JobData
-job = record { id = None; kind = Plain; strategy = Orderly; priority = 3; retry = 1; delay = 0; overwrite = false; files = file ∷ [] }
+job = record { id = None; kind = Plain; strategy = Orderly; priority = 3; retry = 1; delay = 0; overwrite = false; queue_hours = 0; files = file ∷ [] }
 
 -- the list when a lock was made: a restart, and a submission by writer 0
 abbrev opening : List Entry
@@ -113,6 +113,29 @@ restart = entry_by 0 (Restart 2 settings)
 
 the_restart_takes_it : IsUndisturbed 3 opening (claim ∷ restart ∷ []) → ⊥
 the_restart_takes_it free = free (claim ∷ []) [] restart 1 refl refl (inl tt)
+
+-- a second job may wait one hour, and its file is overdue while writer 3 copies the first one's
+abbrev two_jobs : List Entry
+two_jobs = opening ++ entry_by 0 (Submit 1 (record job { queue_hours = 1 })) ∷ []
+
+abbrev expiry : Entry
+expiry = entry_by 3 (Expire 3601)
+
+-- an expiry by writer 3 cancels that file, and takes none from anybody: the first one is out, and 3's own, as before
+an_expiry_is_legal : IsLegal (two_jobs ++ claim ∷ expiry ∷ [])
+an_expiry_is_legal = (tt, (tt, (tt, (tt, (tt, tt)))))
+
+the_file_is_out_still : out_of_list (two_jobs ++ claim ∷ expiry ∷ []) ≡ 1 ∷ []
+the_file_is_out_still = refl
+
+three_claimed_last_behind_it : last_claim 1 two_jobs (claim ∷ expiry ∷ []) ≡ Some (record { writer = 3; attempt = 1 })
+three_claimed_last_behind_it = refl
+
+it_is_no_claim_of_the_other : last_claim 2 two_jobs (claim ∷ expiry ∷ []) ≡ None
+it_is_no_claim_of_the_other = refl
+
+an_expiry_is_work : AddsWork 3 (claim ∷ expiry ∷ [])
+an_expiry_is_work = ((λ is. tt), ((λ is. tt), tt))
 
 -- an empty bench doesn't fit writer 3 behind its claim, and does behind the report
 an_empty_bench_lacks_the_file : Fits 3 opening (claim ∷ []) [] → ⊥

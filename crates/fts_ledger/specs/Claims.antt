@@ -5,7 +5,7 @@ use Rattle.fts_tables.specs.Step.{Outcomes, step}
 use Rattle.fts_tables.specs.History.{tables_after, tables_of, out_of_list}
 use Rattle.fts_tables.specs.declared.commands.Entry.{Entry}
 use Rattle.fts_tables.specs.declared.commands.Answer.{Answer}
-use Rattle.fts_tables.specs.declared.commands.Answer.TheVariants.{Restarted, Submitted, Cancelled, PrioritySet, Claimed, Reported}
+use Rattle.fts_tables.specs.declared.commands.Answer.TheVariants.{Restarted, Submitted, Cancelled, PrioritySet, Claimed, Reported, Banned, Unbanned, Expired}
 use Rattle.fts_turnstile.specs.History.{Among}
 
 -- a claim that was accepted: who made it, and the attempt that it began
@@ -21,6 +21,9 @@ claim_after file last writer (Cancelled job) = last
 claim_after file last writer (PrioritySet job) = last
 claim_after file last writer (Claimed claimed attempt) = if claimed == file then Some (record { writer = writer; attempt = attempt }) else last
 claim_after file last writer (Reported reported state) = last
+claim_after file last writer (Banned cancelled) = last
+claim_after file last writer Unbanned = last
+claim_after file last writer (Expired cancelled) = last
 
 -- the same after a step: a refusal changes nothing
 abbrev pub claim_step : ℕ → Option Claimant → ℕ → Outcomes → Option Claimant

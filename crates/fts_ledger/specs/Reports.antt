@@ -5,7 +5,7 @@ use Rattle.fts_tables.specs.declared.rows.Outcome.{Outcome}
 use Rattle.fts_tables.specs.declared.rows.Outcome.TheVariants.{Stopped}
 use Rattle.fts_tables.specs.declared.commands.Entry.{Entry}
 use Rattle.fts_tables.specs.declared.commands.Command.{Command}
-use Rattle.fts_tables.specs.declared.commands.Command.TheVariants.{Restart, Submit, CancelJob, CancelFile, SetPriority, Claim, Report}
+use Rattle.fts_tables.specs.declared.commands.Command.TheVariants.{Restart, Submit, CancelJob, CancelFile, SetPriority, Claim, Report, Ban, Unban, Expire}
 use Rattle.fts_keep.specs.Applied.{entry_by}
 use Rattle.fts_shop.specs.Within.{is_cancel_asked}
 use Rattle.fts_ledger.specs.Claims.{IsOwn, last_claim}
@@ -34,6 +34,9 @@ IsRestart (CancelFile now job file) = ⊥
 IsRestart (SetPriority now job priority) = ⊥
 IsRestart (Claim now word) = ⊥
 IsRestart (Report now file attempt outcome) = ⊥
+IsRestart (Ban now storage cancel) = ⊥
+IsRestart (Unban now storage) = ⊥
+IsRestart (Expire now) = ⊥
 
 -- a command reports this file
 abbrev pub IsReportOf : ℕ → Command → Type 0
@@ -44,8 +47,11 @@ IsReportOf file (CancelFile now job one) = ⊥
 IsReportOf file (SetPriority now job priority) = ⊥
 IsReportOf file (Claim now word) = ⊥
 IsReportOf file (Report now reported attempt outcome) = reported ≡ file
+IsReportOf file (Ban now storage cancel) = ⊥
+IsReportOf file (Unban now storage) = ⊥
+IsReportOf file (Expire now) = ⊥
 
--- a command is a worker's own: a claim or a report
+-- a command is a worker's own: an expiry, a claim or a report
 abbrev pub IsWork : Command → Type 0
 IsWork (Restart now settings) = ⊥
 IsWork (Submit now job) = ⊥
@@ -54,8 +60,11 @@ IsWork (CancelFile now job file) = ⊥
 IsWork (SetPriority now job priority) = ⊥
 IsWork (Claim now word) = Unit {0}
 IsWork (Report now file attempt outcome) = Unit {0}
+IsWork (Ban now storage cancel) = ⊥
+IsWork (Unban now storage) = ⊥
+IsWork (Expire now) = Unit {0}
 
--- each entry of a writer among these is a claim or a report
+-- each entry of a writer among these is an expiry, a claim or a report
 abbrev pub AddsWork : ℕ → List Entry → Type 0
 AddsWork writer [] = Unit {0}
 AddsWork writer (entry ∷ entries) = (entry.writer ≡ writer → IsWork entry.command) × AddsWork writer entries
@@ -69,6 +78,9 @@ IsAsked (CancelFile now job file) = Unit {0}
 IsAsked (SetPriority now job priority) = Unit {0}
 IsAsked (Claim now word) = ⊥
 IsAsked (Report now file attempt outcome) = ⊥
+IsAsked (Ban now storage cancel) = Unit {0}
+IsAsked (Unban now storage) = Unit {0}
+IsAsked (Expire now) = ⊥
 
 -- each entry of a writer among these is a client's command
 abbrev pub AddsAsked : ℕ → List Entry → Type 0

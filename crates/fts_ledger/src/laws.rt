@@ -54,7 +54,8 @@ pub fn own_reports_disturb_nobody()
 
 /// What holds of a pass in the list of all turns, of which it has seen a beginning. What is legal there is legal in what it has seen (`legal`), and who
 /// takes no file there took none before (`before`). A worker's pass that took no turn before the worker, and none behind what it has seen, reports
-/// there only what it claimed last (`own`) and adds claims and reports alone (`work`). Turns of others have no entry of it (`others`), and so no report (`none`).
+/// there only what it claimed last (`own`) and adds expiries, claims and reports alone (`work`). Turns of others have no entry of it (`others`), and so
+/// no report (`none`).
 pub fn passes_see_one_list()
     ensures legal { (pass : PassView Entry) (later : List (Turn Entry)) → IsLegal (pass.opening ++ items_of (pass.seen ++ later))
         → IsLegal (seen_list pass) }

@@ -1,6 +1,7 @@
 //! A claim: which file is copied next. First the link, then the activity, then the row, each among the rows that may be copied now.
-//! A row may be copied where it waits and its moment has come, where its link, its source and its destination have room, and where no
-//! other copy goes to its destination.
+//! A row may be copied where it waits and its moment has come, where its link, its source and its destination have room and neither end is
+//! banned, and where no other copy goes to its destination.
+use crate::bans::is_banned;
 use crate::jobs::{job_of, replace, row_of};
 use crate::plain::{
     DEFAULT_ACTIVITY, PlainEndpoint, PlainJob, PlainPlace, PlainRow, PlainSettings,
@@ -27,12 +28,13 @@ struct RowRank {
 pub fn claim(
     alloc: Global,
     settings: &PlainSettings,
+    banned: &[u8],
     jobs: &[PlainJob],
     rows: &mut [PlainRow],
     word: u64,
     now: u64,
 ) -> Result<Result<Answer, Refusal>, Memory> {
-    match pick(alloc, settings, jobs, rows, word, now)? {
+    match pick(alloc, settings, banned, jobs, rows, word, now)? {
         Some(file) => Ok(make_active(rows, file)),
         None => Ok(Err(Refusal::Idle)),
     }
@@ -59,12 +61,13 @@ fn make_active(rows: &mut [PlainRow], file: u32) -> Result<Answer, Refusal> {
 fn pick(
     alloc: Global,
     settings: &PlainSettings,
+    banned: &[u8],
     jobs: &[PlainJob],
     rows: &[PlainRow],
     word: u64,
     now: u64,
 ) -> Result<Option<u32>, AllocError> {
-    let eligible = eligible_rows(alloc, settings, rows, now)?;
+    let eligible = eligible_rows(alloc, settings, banned, rows, now)?;
     let Some(link) = pick_link(rows, &eligible) else {
         return Ok(None);
     };
@@ -79,19 +82,28 @@ fn pick(
 fn eligible_rows(
     alloc: Global,
     settings: &PlainSettings,
+    banned: &[u8],
     rows: &[PlainRow],
     now: u64,
 ) -> Result<Vec<PlainRow>, AllocError> {
     rows.iter()
         .copied()
-        .filter(|row| is_eligible(settings, rows, row, now))
+        .filter(|row| is_eligible(settings, banned, rows, row, now))
         .collect(alloc)
 }
 
 /// Whether a row may be copied now.
-fn is_eligible(settings: &PlainSettings, rows: &[PlainRow], row: &PlainRow, now: u64) -> bool {
+fn is_eligible(
+    settings: &PlainSettings,
+    banned: &[u8],
+    rows: &[PlainRow],
+    row: &PlainRow,
+    now: u64,
+) -> bool {
     row.state == FileState::Submitted
         && row.not_before <= now
+        && !is_banned(banned, row.source.endpoint)
+        && !is_banned(banned, row.dest.endpoint)
         && has_room(settings, rows, row)
         && !is_written(rows, row.dest)
 }
@@ -123,6 +135,11 @@ fn endpoint_of(settings: &PlainSettings, name: u8) -> Option<PlainEndpoint> {
         .iter()
         .copied()
         .find(|endpoint| endpoint.name == name)
+}
+
+/// Whether the settings list a storage.
+pub fn is_listed(settings: &PlainSettings, storage: u8) -> bool {
+    endpoint_of(settings, storage).is_some()
 }
 
 /// The limit of a link: its own, or the default.

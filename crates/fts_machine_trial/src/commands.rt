@@ -26,6 +26,12 @@ pub fn endpoint_text(number: u8) -> &'static str {
     ENDPOINTS.get(usize::from(number)).copied().unwrap_or("")
 }
 
+/// The number of the endpoint of a name.
+pub fn endpoint_number(text: &str) -> Option<u8> {
+    let place = ENDPOINTS.iter().position(|name| *name == text)?;
+    u8::try_from(place).ok()
+}
+
 /// The text of a path.
 pub fn path_text(number: u8) -> &'static str {
     PATHS.get(usize::from(number)).copied().unwrap_or("")
@@ -187,6 +193,20 @@ pub fn command_of(alloc: Global, plain: &PlainCommand) -> Result<Option<Command>
             attempt: *attempt,
             outcome: *outcome,
         },
+        PlainCommand::Ban {
+            now,
+            storage,
+            cancel,
+        } => Command::Ban {
+            now: *now,
+            storage: name_of(alloc, *storage)?,
+            cancel: *cancel,
+        },
+        PlainCommand::Unban { now, storage } => Command::Unban {
+            now: *now,
+            storage: name_of(alloc, *storage)?,
+        },
+        PlainCommand::Expire { now } => Command::Expire { now: *now },
     };
     Ok(Some(command))
 }

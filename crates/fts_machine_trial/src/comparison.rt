@@ -4,7 +4,7 @@ use crate::commands::{activity_text, endpoint_text, path_text};
 use crate::machine::PlainMachine;
 use crate::plain::{PlainJob, PlainPlace, PlainRow};
 use fts_desk::Desk;
-use fts_tables::{FileRow, JobRow, LinkAt, Place};
+use fts_tables::{EndpointName, FileRow, JobRow, LinkAt, Place};
 
 fn is_same_place(place: &Place, plain: PlainPlace) -> bool {
     place.endpoint.as_str() == endpoint_text(plain.endpoint)
@@ -42,6 +42,7 @@ fn is_same_job(job: &JobRow, plain: &PlainJob) -> bool {
         && job.priority == plain.priority
         && job.retry == plain.retry
         && job.delay == plain.delay
+        && job.queue_hours == plain.queue_hours
         && job.submitted_at == plain.submitted_at
 }
 
@@ -63,6 +64,16 @@ pub fn are_same_jobs(jobs: &[JobRow], plain: &[PlainJob]) -> bool {
         }
     }
     jobs.len() == plain.len()
+}
+
+/// Whether the same storages are banned, in the same order.
+pub fn are_same_bans(banned: &[EndpointName], plain: &[u8]) -> bool {
+    for (name, plain) in banned.iter().zip(plain) {
+        if name.as_str() != endpoint_text(*plain) {
+            return false;
+        }
+    }
+    banned.len() == plain.len()
 }
 
 /// Whether a desk and the machine say the same of a job: its state, its rows, and who has its id.

@@ -1,7 +1,7 @@
 //! What came up in a trial: each kind of answer and of refusal, and each change of a row's state. That no other change comes is a law of the
 //! machine (`fts_tables::laws::rows_move_by_allowed_steps`), and is not looked at here.
 use crate::plain::PlainRow;
-use fts_tables::{Answer, FileState, Refusal};
+use fts_tables::{Answer, Command, FileState, Refusal};
 
 /// Something that is to come up.
 #[derive(Clone, Copy)]
@@ -17,16 +17,26 @@ pub enum Event {
     ReportedFailed,
     ReportedSubmitted,
     ReportedCanceled,
+    Banned,
+    BannedWithFiles,
+    Unbanned,
+    Expired,
     NoJob,
     NoFile,
     Duplicate,
     Idle,
+    NothingOverdue,
     Stale,
     Unchanged,
+    NoStorage,
+    NotBanned,
 }
 
+/// So many are to come up.
+const EVENTS: usize = 24;
+
 /// All that is to come up.
-const WANTED: [Event; 17] = [
+const WANTED: [Event; EVENTS] = [
     Event::Restarted,
     Event::RestartedWithRelease,
     Event::Submitted,
@@ -38,12 +48,19 @@ const WANTED: [Event; 17] = [
     Event::ReportedFailed,
     Event::ReportedSubmitted,
     Event::ReportedCanceled,
+    Event::Banned,
+    Event::BannedWithFiles,
+    Event::Unbanned,
+    Event::Expired,
     Event::NoJob,
     Event::NoFile,
     Event::Duplicate,
     Event::Idle,
+    Event::NothingOverdue,
     Event::Stale,
     Event::Unchanged,
+    Event::NoStorage,
+    Event::NotBanned,
 ];
 
 /// The changes of a row's state that are to come up.
@@ -61,7 +78,7 @@ const MOVES: [(FileState, FileState); 8] = [
 /// How often each event and each change came, by their places.
 #[derive(Drop)]
 pub struct Coverage {
-    events: [u32; 17],
+    events: [u32; EVENTS],
     moves: [u32; 8],
 }
 
@@ -69,16 +86,16 @@ impl Coverage {
     /// Nothing came yet.
     pub fn new() -> Coverage {
         Coverage {
-            events: [0; 17],
+            events: [0; EVENTS],
             moves: [0; 8],
         }
     }
 
     /// Notes what a command was answered.
-    pub fn note_answer(&mut self, answer: &Result<Answer, Refusal>) {
+    pub fn note_answer(&mut self, command: &Command, answer: &Result<Answer, Refusal>) {
         let event = match answer {
             Ok(answer) => event_of_answer(answer),
-            Err(refusal) => event_of_refusal(refusal),
+            Err(refusal) => event_of_refusal(command, refusal),
         };
         if let Some(event) = event {
             add_one(&mut self.events, event as usize);
@@ -86,11 +103,17 @@ impl Coverage {
     }
 
     /// Notes how rows changed their states.
-    pub fn note_moves(&mut self, before: &[FileState], after: &[PlainRow]) {
+    pub fn note_moves(&mut self, before: &[PlainRow], after: &[PlainRow]) {
         for (from, row) in before.iter().zip(after) {
-            if let Some(place) = MOVES.iter().position(|pair| *pair == (*from, row.state)) {
-                add_one(&mut self.moves, place);
+            if from.state != row.state {
+                self.note_move(from.state, row.state);
             }
+        }
+    }
+
+    fn note_move(&mut self, from: FileState, to: FileState) {
+        if let Some(place) = MOVES.iter().position(|pair| *pair == (from, to)) {
+            add_one(&mut self.moves, place);
         }
     }
 
@@ -123,6 +146,10 @@ fn event_of_answer(answer: &Answer) -> Option<Event> {
         Answer::Claimed { attempt: 1, .. } => Some(Event::Claimed),
         Answer::Claimed { .. } => Some(Event::ClaimedAgain),
         Answer::Reported { state, .. } => event_of_report(*state),
+        Answer::Banned { cancelled: 0 } => Some(Event::Banned),
+        Answer::Banned { .. } => Some(Event::BannedWithFiles),
+        Answer::Unbanned => Some(Event::Unbanned),
+        Answer::Expired { .. } => Some(Event::Expired),
     }
 }
 
@@ -138,14 +165,17 @@ fn event_of_report(state: FileState) -> Option<Event> {
 }
 
 /// The limits of the lists are far away, so a refusal for them is not to come up.
-fn event_of_refusal(refusal: &Refusal) -> Option<Event> {
+fn event_of_refusal(command: &Command, refusal: &Refusal) -> Option<Event> {
     match refusal {
         Refusal::NoJob => Some(Event::NoJob),
         Refusal::NoFile => Some(Event::NoFile),
         Refusal::Duplicate { .. } => Some(Event::Duplicate),
+        Refusal::Idle if matches!(command, Command::Expire { .. }) => Some(Event::NothingOverdue),
         Refusal::Idle => Some(Event::Idle),
         Refusal::Stale { .. } => Some(Event::Stale),
         Refusal::Unchanged { .. } => Some(Event::Unchanged),
+        Refusal::NoStorage => Some(Event::NoStorage),
+        Refusal::NotBanned => Some(Event::NotBanned),
         Refusal::JobsFull { .. } | Refusal::RowsFull { .. } => None,
     }
 }

@@ -1,9 +1,12 @@
-//! Commands drawn from a seed: all seven kinds, with right and wrong numbers, over few endpoints, paths and activities, so that destinations
+//! Commands drawn from a seed: all ten kinds, with right and wrong numbers, over few endpoints, paths and activities, so that destinations
 //! collide and limits bind. A command is drawn for a machine as it stands, so that jobs and files are often those that are there.
+//! Moments rise by seconds, at times by hours, and fall back; an expiry comes about the second at which a file's hours are over.
+use crate::claims::is_listed;
+use crate::jobs::job_of;
 use crate::machine::PlainMachine;
 use crate::plain::{
-    DEFAULT_ACTIVITY, PlainCommand, PlainEndpoint, PlainFile, PlainLink, PlainNewJob, PlainPlace,
-    PlainRow, PlainSettings, PlainWeight,
+    DEFAULT_ACTIVITY, PlainCommand, PlainEndpoint, PlainFile, PlainJob, PlainLink, PlainNewJob,
+    PlainPlace, PlainRow, PlainSettings, PlainWeight,
 };
 use fts_tables::{FileState, JobKind, Outcome, Strategy};
 use rand_pcg::Lcg64Xsh32;
@@ -12,6 +15,12 @@ use std::alloc::{AllocError, Global};
 
 /// So many endpoints and paths have a name.
 const NAMES: u8 = 4;
+
+/// So many seconds make an hour.
+const HOUR: u32 = 3_600;
+
+/// The last moment to which the clock rises by hours: from there on it goes by seconds.
+const LAST_BY_HOURS: u64 = u64::MAX - 100;
 
 /// The id 00000000-0000-4000-8000-000000000000, to which a job's number is added.
 const STANDARD_IDS: u128 = 0x4000_8000_0000_0000_0000;
@@ -59,22 +68,28 @@ impl Generator {
         let now = self.moment(machine.moment().max(self.earliest));
         match self.below(100) {
             0..3 => self.restart(now),
-            3..13 => self.submission(machine, now),
-            13..16 => Ok(self.cancellation_of_job(machine, now)),
-            16..21 => self.cancellation_of_file(machine, now),
-            21..25 => Ok(self.priority(machine, now)),
-            25..64 => Ok(self.claim(now)),
+            3..17 => self.submission(machine, now),
+            17..19 => Ok(self.cancellation_of_job(machine, now)),
+            19..23 => self.cancellation_of_file(machine, now),
+            23..26 => Ok(self.priority(machine, now)),
+            26..30 => Ok(self.ban(now)),
+            30..36 => Ok(self.end_of_ban(machine, now)),
+            36..43 => self.expiry(machine, now),
+            43..73 => Ok(self.claim(now)),
             _ => self.report(machine, now),
         }
     }
 
-    /// A moment that stays, rises or falls behind the last one.
+    /// A moment that stays, rises or falls behind the last one, by seconds or by hours.
     fn moment(&mut self, last: u64) -> u64 {
         let step = u64::from(self.below(4));
-        match self.below(10) {
-            0..4 => last,
-            4..9 => last.saturating_add(step),
-            _ => last.saturating_sub(step),
+        let hours = u64::from(self.below(3 * HOUR));
+        match self.below(100) {
+            0..40 => last,
+            40..86 => last.saturating_add(step),
+            86..90 => last.max(last.saturating_add(hours).min(LAST_BY_HOURS)),
+            90..98 => last.saturating_sub(step),
+            _ => last.saturating_sub(hours),
         }
     }
 
@@ -194,6 +209,7 @@ impl Generator {
             priority: self.limit(5),
             retry: self.below(3),
             delay: u64::from(self.below(9)),
+            queue_hours: self.hours(),
             files,
         })
     }
@@ -208,6 +224,15 @@ impl Generator {
                 let number = self.below(last.saturating_add(20));
                 Some(STANDARD_IDS.saturating_add(u128::from(number)))
             }
+        }
+    }
+
+    /// No limit mostly, few hours, or any that a job may have.
+    fn hours(&mut self) -> u32 {
+        match self.below(10) {
+            0..5 => 0,
+            5..9 => self.limit(3),
+            _ => self.below(8_761),
         }
     }
 
@@ -341,6 +366,53 @@ impl Generator {
         }
     }
 
+    /// A ban of any storage, listed or not, mostly one after which the files there wait.
+    fn ban(&mut self, now: u64) -> PlainCommand {
+        PlainCommand::Ban {
+            now,
+            storage: self.small(NAMES),
+            cancel: self.is_among(35),
+        }
+    }
+
+    /// The end of a ban, mostly of one that there is, and at times of one that the settings no longer list.
+    fn end_of_ban(&mut self, machine: &PlainMachine, now: u64) -> PlainCommand {
+        let any = self.small(NAMES);
+        let place = self.below(u32::try_from(machine.banned().len()).unwrap_or(0));
+        let banned = machine.banned().get(place as usize).copied();
+        let storage = match self.below(10) {
+            0..4 => unlisted_ban(machine).or(banned),
+            4..8 => banned,
+            _ => None,
+        };
+        PlainCommand::Unban {
+            now,
+            storage: storage.unwrap_or(any),
+        }
+    }
+
+    /// An expiry at any moment, about the second at which the hours of a file that waits are over, or by a clock that is hours late.
+    fn expiry(&mut self, machine: &PlainMachine, now: u64) -> Result<PlainCommand, AllocError> {
+        let waiting = limited_jobs(self.alloc, machine)?;
+        let place = self.below(u32::try_from(waiting.len()).unwrap_or(0));
+        let late = u64::from(self.below(3 * HOUR));
+        let now = match (waiting.get(place as usize), self.below(10)) {
+            (Some(job), 0..5) => self.about_end(job),
+            (_, 5..9) => machine.moment().saturating_sub(late),
+            (_, _) => now,
+        };
+        Ok(PlainCommand::Expire { now })
+    }
+
+    /// The second at which the hours of a job are over, or the one before or behind it.
+    fn about_end(&mut self, job: &PlainJob) -> u64 {
+        match self.below(3) {
+            0 => end_of(job).saturating_sub(1),
+            1 => end_of(job),
+            _ => end_of(job).saturating_add(1),
+        }
+    }
+
     fn claim(&mut self, now: u64) -> PlainCommand {
         PlainCommand::Claim {
             now,
@@ -403,10 +475,38 @@ impl Generator {
     }
 }
 
+/// The first banned storage that the settings don't list.
+fn unlisted_ban(machine: &PlainMachine) -> Option<u8> {
+    let settings = machine.settings()?;
+    machine
+        .banned()
+        .iter()
+        .copied()
+        .find(|storage| !is_listed(settings, *storage))
+}
+
 /// The rows that are copied.
 fn active_rows(alloc: Global, rows: &[PlainRow]) -> Result<Vec<PlainRow>, AllocError> {
     rows.iter()
         .copied()
         .filter(|row| row.state == FileState::Active)
         .collect(alloc)
+}
+
+/// The jobs of few hours of which a file waits, but those whose hours end past the moments that the clock rises to by hours.
+fn limited_jobs(alloc: Global, machine: &PlainMachine) -> Result<Vec<PlainJob>, AllocError> {
+    machine
+        .rows()
+        .iter()
+        .filter(|row| row.state == FileState::Submitted)
+        .filter_map(|row| job_of(machine.jobs(), row.job))
+        .filter(|job| 0 < job.queue_hours && job.queue_hours <= 3)
+        .filter(|job| end_of(job) < LAST_BY_HOURS)
+        .collect(alloc)
+}
+
+/// The second at which the hours of a job are over.
+fn end_of(job: &PlainJob) -> u64 {
+    job.submitted_at
+        .saturating_add(u64::from(job.queue_hours.saturating_mul(HOUR)))
 }

@@ -6,7 +6,8 @@ ghost use Rattle.fts_tables.specs.SettingsData.{are_apart, is_within, is_label, 
 
 use crate::plain::{PlainNewJob, PlainSettings};
 use fts_tables::limits::{
-    MAX_DELAY, MAX_ENDPOINTS, MAX_FILES, MAX_LINKS, MAX_RETRY, MAX_WEIGHT, MAX_WEIGHTS,
+    MAX_DELAY, MAX_ENDPOINTS, MAX_FILES, MAX_LINKS, MAX_QUEUE_HOURS, MAX_RETRY, MAX_WEIGHT,
+    MAX_WEIGHTS,
 };
 use fts_tables::rules::{
     all_go_elsewhere, are_apart, are_known, has_default, has_shape, have_activity_labels,
@@ -94,9 +95,14 @@ pub fn lawful_job(plain: &PlainNewJob, files: Items<NewFile>) -> Option<NewJob> 
         priority,
         retry,
         delay,
+        queue_hours,
         files: _,
     } = plain;
-    if !is_priority(*priority) || *retry > MAX_RETRY || *delay > MAX_DELAY {
+    if !is_priority(*priority)
+        || *retry > MAX_RETRY
+        || *delay > MAX_DELAY
+        || *queue_hours > MAX_QUEUE_HOURS
+    {
         return None;
     }
     if files.as_slice().is_empty() || files.as_slice().len() > MAX_FILES {
@@ -117,6 +123,7 @@ pub fn lawful_job(plain: &PlainNewJob, files: Items<NewFile>) -> Option<NewJob> 
         retry: *retry,
         delay: *delay,
         overwrite: false,
+        queue_hours: *queue_hours,
         files,
     })
 }

@@ -4,6 +4,7 @@
 //! definitions themselves, which every proof above them would keep, shows.
 #![tactic(auto)]
 
+mod bans;
 mod cancellations;
 mod choices;
 mod claims;
@@ -13,6 +14,7 @@ mod commands;
 mod comparison;
 #[cfg(test)]
 mod coverage;
+mod expiries;
 #[cfg(test)]
 mod generator;
 mod jobs;
@@ -20,8 +22,12 @@ mod jobs;
 mod lawful;
 mod machine;
 mod plain;
+#[cfg(test)]
+mod rarities;
 mod reports;
 mod restarts;
+#[cfg(test)]
+mod scripts;
 mod submissions;
 #[cfg(test)]
 mod tests;

@@ -1,13 +1,15 @@
-//! The machine: jobs, rows, the settings in force, and the last moment that counted.
+//! The machine: jobs, rows, the settings in force, the banned storages, and the last moment that counted.
 //! A command counts at the later of its moment and the last one. A refused command changes nothing, the last moment included.
-use crate::cancellations::{cancel_file, cancel_job};
-use crate::claims::{claim, held};
+use crate::bans::{add_ban, files_at, is_banned, remove_ban};
+use crate::cancellations::{cancel_file, cancel_files, cancel_job};
+use crate::claims::{claim, held, is_listed};
+use crate::expiries::overdue_files;
 use crate::jobs::{count_of, set_priority, state_of};
 use crate::plain::{PlainCommand, PlainJob, PlainRow, PlainSettings};
 use crate::reports::report;
 use crate::restarts::restart;
 use crate::submissions::{number_of, submit};
-use fts_tables::{Answer, JobState, Memory, Refusal};
+use fts_tables::{Answer, JobState, Memory, Reason, Refusal};
 use std::alloc::Global;
 
 /// The plain machine.
@@ -18,10 +20,11 @@ pub struct PlainMachine {
     settings: Option<PlainSettings>,
     jobs: Vec<PlainJob>,
     rows: Vec<PlainRow>,
+    banned: Vec<u8>,
 }
 
 impl PlainMachine {
-    /// A machine without jobs, rows and settings, at moment 0.
+    /// A machine without jobs, rows, settings and bans, at moment 0.
     pub fn empty(alloc: Global) -> PlainMachine {
         PlainMachine {
             alloc,
@@ -29,6 +32,7 @@ impl PlainMachine {
             settings: None,
             jobs: Vec::new(alloc),
             rows: Vec::new(alloc),
+            banned: Vec::new(alloc),
         }
     }
 
@@ -70,15 +74,67 @@ impl PlainMachine {
                 outcome,
                 ..
             } => Ok(report(&self.jobs, &mut self.rows, file, attempt, outcome, now)),
+            PlainCommand::Ban {
+                storage,
+                cancel,
+                ..
+            } => self.ban(storage, cancel),
+            PlainCommand::Unban { storage, .. } => Ok(self.unban(storage)),
+            PlainCommand::Expire { .. } => self.expire(now),
         }
     }
 
     /// A claim, which finds nothing before the first restart.
     fn claim(&mut self, word: u64, now: u64) -> Result<Result<Answer, Refusal>, Memory> {
         match &self.settings {
-            Some(settings) => claim(self.alloc, settings, &self.jobs, &mut self.rows, word, now),
+            Some(settings) => {
+                let banned = &self.banned;
+                claim(
+                    self.alloc,
+                    settings,
+                    banned,
+                    &self.jobs,
+                    &mut self.rows,
+                    word,
+                    now,
+                )
+            }
             None => Ok(Err(Refusal::Idle)),
         }
+    }
+
+    /// A ban of a storage that is listed, which no storage is before the first restart. A storage that is banned stays so.
+    fn ban(&mut self, storage: u8, cancel: bool) -> Result<Result<Answer, Refusal>, Memory> {
+        match &self.settings {
+            Some(settings) if is_listed(settings, storage) => {}
+            Some(_) | None => return Ok(Err(Refusal::NoStorage)),
+        }
+        add_ban(&mut self.banned, storage)?;
+        let mut cancelled = 0;
+        if cancel {
+            let files = files_at(self.alloc, &self.rows, storage)?;
+            cancelled = cancel_files(&self.jobs, &mut self.rows, &files, Reason::Cancelled);
+        }
+        Ok(Ok(Answer::Banned { cancelled }))
+    }
+
+    /// The end of a ban, whether the storage is listed or not.
+    fn unban(&mut self, storage: u8) -> Result<Answer, Refusal> {
+        if !is_banned(&self.banned, storage) {
+            return Err(Refusal::NotBanned);
+        }
+        remove_ban(&mut self.banned, storage);
+        Ok(Answer::Unbanned)
+    }
+
+    /// The end of the files that have waited too long, where there is one.
+    fn expire(&mut self, now: u64) -> Result<Result<Answer, Refusal>, Memory> {
+        let files = overdue_files(self.alloc, &self.jobs, &self.rows, now)?;
+        if files.is_empty() {
+            return Ok(Err(Refusal::Idle));
+        }
+        let cancelled = cancel_files(&self.jobs, &mut self.rows, &files, Reason::Expired);
+        Ok(Ok(Answer::Expired { cancelled }))
     }
 
     /// The last moment that counted.
@@ -99,6 +155,11 @@ impl PlainMachine {
     /// The rows, in order of id.
     pub fn rows(&self) -> &[PlainRow] {
         &self.rows
+    }
+
+    /// The banned storages, in the order of their bans.
+    pub fn banned(&self) -> &[u8] {
+        &self.banned
     }
 
     /// The state of a job by its rows.
@@ -131,6 +192,9 @@ fn moment_of(command: &PlainCommand) -> u64 {
         | PlainCommand::CancelFile { now, .. }
         | PlainCommand::SetPriority { now, .. }
         | PlainCommand::Claim { now, .. }
-        | PlainCommand::Report { now, .. } => *now,
+        | PlainCommand::Report { now, .. }
+        | PlainCommand::Ban { now, .. }
+        | PlainCommand::Unban { now, .. }
+        | PlainCommand::Expire { now } => *now,
     }
 }

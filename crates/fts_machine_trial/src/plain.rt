@@ -63,6 +63,7 @@ pub struct PlainNewJob {
     pub priority: u32,
     pub retry: u32,
     pub delay: u64,
+    pub queue_hours: u32,
     pub files: Vec<PlainFile>,
 }
 
@@ -100,6 +101,18 @@ pub enum PlainCommand {
         file: u32,
         attempt: u32,
         outcome: Outcome,
+    },
+    Ban {
+        now: u64,
+        storage: u8,
+        cancel: bool,
+    },
+    Unban {
+        now: u64,
+        storage: u8,
+    },
+    Expire {
+        now: u64,
     },
 }
 
@@ -141,6 +154,11 @@ impl PlainRow {
         }
     }
 
+    /// Whether the file is copied from a storage, or to it.
+    pub fn is_at(&self, storage: u8) -> bool {
+        self.source.endpoint == storage || self.dest.endpoint == storage
+    }
+
     /// Whether the file goes from one endpoint to another.
     pub fn is_on_link(&self, source: u8, dest: u8) -> bool {
         self.source.endpoint == source && self.dest.endpoint == dest
@@ -157,5 +175,6 @@ pub struct PlainJob {
     pub priority: u32,
     pub retry: u32,
     pub delay: u64,
+    pub queue_hours: u32,
     pub submitted_at: u64,
 }

@@ -60,6 +60,7 @@ fn add_job(
         priority: new.priority,
         retry: new.retry,
         delay: new.delay,
+        queue_hours: new.queue_hours,
         submitted_at: now,
     })?;
     Ok(())

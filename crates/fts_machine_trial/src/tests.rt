@@ -1,27 +1,29 @@
 //! A desk and the plain machine, driven through the same generated commands.
 use crate::commands::command_of;
-use crate::comparison::{are_same_jobs, are_same_rows, is_same_held, is_same_picked_job};
+use crate::comparison::{
+    are_same_bans, are_same_jobs, are_same_rows, is_same_held, is_same_picked_job,
+};
 use crate::coverage::Coverage;
 use crate::generator::Generator;
 use crate::machine::PlainMachine;
-use crate::plain::PlainRow;
+use crate::rarities::{Before, Rarities, Told};
 use fts_desk::{Desk, DeskFault};
-use fts_tables::{Answer, Command, FileState, LinkAt, Memory, Refusal};
-use std::alloc::{AllocError, Global};
+use fts_tables::{Answer, Command, LinkAt, Memory, Refusal};
+use std::alloc::Global;
 use std::process::Abort;
 use std::test::Fail;
 
-/// Where the generator starts.
-const SEED: u64 = 20_261_127;
+/// Where the generator starts, a run each.
+const SEEDS: [u64; 3] = [20_261_127, 20_261_128, 20_261_129];
 
-/// About where the moments of a run begin: at 0, and so late that a retry's moment passes the last one that there is.
-const EARLIEST: [u64; 3] = [0, 1_700_000_000, u64::MAX - 1_000];
+/// A moment so late that those of retries and of hours in the queue pass the last one that there is.
+const NEAR_THE_LAST: u64 = u64::MAX - 100_000;
 
 /// So many commands of each run.
-const COMMANDS: u32 = 3_000;
+const COMMANDS: u32 = 1_000;
 
-/// So often each event and each change of a state has to come in all runs together.
-const OFTEN: u32 = 10;
+/// So often each event, each change of a state and each rare case has to come in the runs of a test.
+const OFTEN: u32 = 5;
 
 /// A desk and the plain machine, side by side.
 #[derive(Drop)]
@@ -44,20 +46,22 @@ fn answer_of(desk: &mut Desk, command: &Command) -> Result<Result<Answer, Refusa
     }
 }
 
-/// The states of rows.
-fn states_of(alloc: Global, rows: &[PlainRow]) -> Result<Vec<FileState>, AllocError> {
-    rows.iter().map(|row| row.state).collect(alloc)
+/// What came up.
+#[derive(Drop)]
+struct Seen {
+    coverage: Coverage,
+    rarities: Rarities,
 }
 
 /// Gives both the next command, and compares what they answer and what they keep.
 fn agree_on_next(
     rt: &impl Abort,
     trial: &mut Trial,
-    coverage: &mut Coverage,
+    seen: &mut Seen,
     number: u32,
 ) -> Result<(), Fail> {
     let plain = trial.generator.next(&trial.machine)?;
-    let before = states_of(trial.alloc, trial.machine.rows())?;
+    let before = Before::of(trial.alloc, &trial.machine)?;
     let Some(command) = command_of(trial.alloc, &plain)? else {
         assert!(rt; false, "command {number} is lawful");
         return Ok(());
@@ -68,8 +72,17 @@ fn agree_on_next(
         answer == wanted,
         "command {number} is answered as the plain machine answers it"
     );
-    coverage.note_answer(&answer);
-    coverage.note_moves(&before, trial.machine.rows());
+    let ended = before.ended(trial.alloc, trial.machine.rows())?;
+    seen.coverage.note_answer(&command, &answer);
+    seen.coverage
+        .note_moves(before.rows(), trial.machine.rows());
+    seen.rarities.note(Told {
+        command: &command,
+        answer: &answer,
+        before: &before,
+        ended: &ended,
+        machine: &trial.machine,
+    });
     agree_on_tables(rt, &trial.desk, &trial.machine, number);
     Ok(())
 }
@@ -81,8 +94,12 @@ fn agree_on_tables(rt: &impl Abort, desk: &Desk, machine: &PlainMachine, number:
         dest: (number / 4 % 4) as u16,
     };
     let are_same_lists = are_same_rows(desk.rows(), machine.rows())
-        && are_same_jobs(desk.jobs(), machine.jobs());
-    assert!(rt; are_same_lists, "rows and jobs after command {number}");
+        && are_same_jobs(desk.jobs(), machine.jobs())
+        && are_same_bans(desk.banned(), machine.banned());
+    assert!(rt;
+        are_same_lists,
+        "rows, jobs and bans after command {number}"
+    );
     let is_same_seen = is_same_picked_job(desk, machine, number as usize)
         && is_same_held(desk, machine, link);
     assert!(rt;
@@ -91,34 +108,60 @@ fn agree_on_tables(rt: &impl Abort, desk: &Desk, machine: &PlainMachine, number:
     );
 }
 
-/// A run of commands from the empty tables.
+/// A run of commands from the empty tables, with moments that begin about the earliest.
 fn agree_on_run(
     rt: &impl Abort,
     alloc: Global,
+    seed: u64,
     earliest: u64,
-    coverage: &mut Coverage,
+    seen: &mut Seen,
 ) -> Result<(), Fail> {
     let mut trial = Trial {
         alloc,
         desk: Desk::empty(alloc),
         machine: PlainMachine::empty(alloc),
-        generator: Generator::new(alloc, SEED ^ earliest, earliest),
+        generator: Generator::new(alloc, seed, earliest),
     };
     for number in 0..COMMANDS {
-        agree_on_next(rt, &mut trial, coverage, number)?;
+        agree_on_next(rt, &mut trial, seen, number)?;
     }
     Ok(())
 }
 
-#[test]
-fn a_desk_and_the_plain_machine_agree_after_each_command(rt: HostRuntime) -> Result<(), Fail> {
-    let mut coverage = Coverage::new();
-    for earliest in EARLIEST {
-        agree_on_run(&rt, rt.alloc(), earliest, &mut coverage)?;
+/// A run from each seed, in all of which each case comes.
+fn agree_on_runs(
+    rt: &impl Abort,
+    alloc: Global,
+    earliest: u64,
+    is_to_the_last: bool,
+) -> Result<(), Fail> {
+    let mut seen = Seen {
+        coverage: Coverage::new(),
+        rarities: Rarities::new(),
+    };
+    for seed in SEEDS {
+        agree_on_run(rt, alloc, seed ^ earliest, earliest, &mut seen)?;
     }
-    let is_each_event = coverage.rarer_than(OFTEN).is_none();
+    let is_each_event = seen.coverage.rarer_than(OFTEN).is_none();
     assert!(rt; is_each_event, "each event comes");
-    let is_each_move = coverage.rarest_move() >= OFTEN;
+    let is_each_move = seen.coverage.rarest_move() >= OFTEN;
     assert!(rt; is_each_move, "each change of a state comes");
+    let is_each_rarity = seen.rarities.rarer_than(OFTEN, is_to_the_last).is_none();
+    assert!(rt; is_each_rarity, "each rare case comes");
     Ok(())
+}
+
+#[test]
+fn a_desk_and_the_plain_machine_agree_from_moment_0_on(rt: HostRuntime) -> Result<(), Fail> {
+    agree_on_runs(&rt, rt.alloc(), 0, false)
+}
+
+#[test]
+fn a_desk_and_the_plain_machine_agree_in_our_days(rt: HostRuntime) -> Result<(), Fail> {
+    agree_on_runs(&rt, rt.alloc(), 1_700_000_000, false)
+}
+
+#[test]
+fn a_desk_and_the_plain_machine_agree_up_to_the_last_moment(rt: HostRuntime) -> Result<(), Fail> {
+    agree_on_runs(&rt, rt.alloc(), NEAR_THE_LAST, true)
 }

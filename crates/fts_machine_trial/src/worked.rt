@@ -1,18 +1,37 @@
 //! Worked rows by hand: scripts of commands with the answers that are wanted, over settings and documents as users write them.
 //! A line of a script is a command or a question, ` = `, and its answer. What no clause says is that each call succeeds with ample memory.
+use crate::scripts::BANS_AND_HOURS;
 use fts_config::read_settings;
 use fts_desk::{Desk, DeskFault};
 use fts_jobdoc::read_job;
 use fts_tables::{
-    Answer, Command, FileState, JobState, LinkAt, Memory, NewJob, Outcome, Refusal, Settings,
+    Answer, Command, EndpointName, FileState, JobState, LinkAt, Memory, NewJob, Outcome, Reason,
+    Refusal, Settings,
 };
 use std::alloc::{AllocError, Global};
 use std::process::Abort;
 use std::test::Fail;
 
-/// Three endpoints, of which the third takes one file at a time, and three activities.
-const SETTINGS: &str =
-    "[[storage]]\nurl = \"https://a.example\"\n[[storage]]\nurl = \"https://b.example\"\n[[storage]]\nurl = \"https://c.example\"\ninbound_max_active = 1\n[[activity]]\nname = \"analysis\"\nweight = 70\n[[activity]]\nname = \"production\"\nweight = 20\n[[activity]]\nname = \"default\"\nweight = 10\n";
+/// A storage each; the third takes one file at a time.
+const A: &str = "[[storage]]\nurl = \"https://a.example\"\n";
+
+const B: &str = "[[storage]]\nurl = \"https://b.example\"\n";
+
+const C: &str = "[[storage]]\nurl = \"https://c.example\"\ninbound_max_active = 1\n";
+
+/// Three activities.
+const ACTIVITIES: &str = "[[activity]]\nname = \"analysis\"\nweight = 70\n\
+    [[activity]]\nname = \"production\"\nweight = 20\n\
+    [[activity]]\nname = \"default\"\nweight = 10\n";
+
+/// The storages by the name that scripts give their list; all three in order where they give none.
+fn storages(name: &str) -> [&'static str; 3] {
+    match name {
+        "turned" => [C, B, A],
+        "without-b" => [A, "", C],
+        _ => [A, B, C],
+    }
+}
 
 /// A job by the name that scripts give it.
 fn document(name: &str) -> &'static str {
@@ -41,13 +60,31 @@ fn document(name: &str) -> &'static str {
         "auto" => {
             "{\"files\":[{\"sources\":[\"https://a.example/f\",\"https://b.example/f\",\"https://c.example/f\"],\"destinations\":[\"https://b.example/g\"]}]}"
         }
+        "hour" => {
+            "{\"files\":[{\"sources\":[\"https://a.example/f9\"],\"destinations\":[\"https://b.example/f9\"]}],\
+             \"params\":{\"retry\":1,\"retry_delay\":60,\"max_time_in_queue\":1}}"
+        }
+        "hour-sources" => {
+            "{\"files\":[{\"sources\":[\"https://a.example/f\",\"https://b.example/f\",\"https://c.example/f\"],\
+             \"destinations\":[\"https://b.example/g\"],\"selection_strategy\":\"orderly\"}],\
+             \"params\":{\"max_time_in_queue\":1}}"
+        }
+        "hour-hops" => {
+            "{\"files\":[{\"sources\":[\"https://a.example/f\"],\"destinations\":[\"https://b.example/f\"]},\
+             {\"sources\":[\"https://b.example/f\"],\"destinations\":[\"https://c.example/f\"]},\
+             {\"sources\":[\"https://c.example/f\"],\"destinations\":[\"https://a.example/g\"]}],\
+             \"params\":{\"multihop\":true,\"max_time_in_queue\":1}}"
+        }
         _ => "",
     }
 }
 
-/// Settings with links of this limit.
-fn settings(alloc: Global, limit: &str) -> Result<Settings, Memory> {
-    let text = format!(in alloc; "vo = \"demo\"\ndefault_max_active = {limit}\n{SETTINGS}")?;
+/// Settings with links of this limit, and these storages.
+fn settings(alloc: Global, limit: &str, list: &str) -> Result<Settings, Memory> {
+    let [first, second, third] = storages(list);
+    let text = format!(in alloc;
+        "vo = \"demo\"\ndefault_max_active = {limit}\n{first}{second}{third}{ACTIVITIES}"
+    )?;
     match read_settings(alloc, text.as_bytes()) {
         Ok(settings) => Ok(settings),
         Err(_) => Err(Memory),
@@ -56,7 +93,7 @@ fn settings(alloc: Global, limit: &str) -> Result<Settings, Memory> {
 
 /// The job of a name.
 fn job(alloc: Global, name: &str) -> Result<NewJob, Memory> {
-    let settings = settings(alloc, "1")?;
+    let settings = settings(alloc, "1", "")?;
     match read_job(alloc, document(name).as_bytes(), &settings) {
         Ok(job) => Ok(job),
         Err(_) => Err(Memory),
@@ -108,16 +145,24 @@ fn outcome(name: &str) -> Outcome {
     }
 }
 
-/// The command that a line says; a claim where it says no other.
+/// The storage at a place of a line.
+fn storage(alloc: Global, words: &[&str], place: usize) -> Result<EndpointName, Memory> {
+    match EndpointName::read(alloc, word(words, place))? {
+        Some(name) => Ok(name),
+        None => Err(Memory),
+    }
+}
+
+/// The command that a line says; a claim where it says no other. Where a line says no moment it is 0.
 fn command(alloc: Global, words: &[&str]) -> Result<Command, Memory> {
     let now = 0;
     Ok(match word(words, 0) {
         "restart" => Command::Restart {
             now,
-            settings: settings(alloc, word(words, 1))?,
+            settings: settings(alloc, word(words, 1), word(words, 2))?,
         },
         "submit" => Command::Submit {
-            now,
+            now: number(words, 2),
             job: job(alloc, word(words, 1))?,
         },
         "cancel" => Command::CancelJob {
@@ -139,6 +184,18 @@ fn command(alloc: Global, words: &[&str]) -> Result<Command, Memory> {
             file: small(words, 2),
             attempt: small(words, 3),
             outcome: outcome(word(words, 4)),
+        },
+        "ban" => Command::Ban {
+            now: number(words, 1),
+            storage: storage(alloc, words, 2)?,
+            cancel: word(words, 3) == "cancel",
+        },
+        "unban" => Command::Unban {
+            now: number(words, 1),
+            storage: storage(alloc, words, 2)?,
+        },
+        "expire" => Command::Expire {
+            now: number(words, 1),
         },
         _ => Command::Claim {
             now: number(words, 1),
@@ -178,6 +235,9 @@ fn answer_text(alloc: Global, answer: Answer) -> Result<String, AllocError> {
         Answer::PrioritySet { job } => format!(in alloc; "job {job} set"),
         Answer::Claimed { file, attempt } => format!(in alloc; "file {file} attempt {attempt}"),
         Answer::Reported { file, state } => format!(in alloc; "file {file} {}", state_text(state)),
+        Answer::Banned { cancelled } => format!(in alloc; "{cancelled} cancelled"),
+        Answer::Unbanned => String::from_str(alloc, "unbanned"),
+        Answer::Expired { cancelled } => format!(in alloc; "{cancelled} expired"),
     }
 }
 
@@ -194,6 +254,8 @@ fn refusal_text(alloc: Global, refusal: Refusal) -> Result<String, AllocError> {
             state_text(state)
         ),
         Refusal::Unchanged { job } => format!(in alloc; "job {job} unchanged"),
+        Refusal::NoStorage => String::from_str(alloc, "no storage"),
+        Refusal::NotBanned => String::from_str(alloc, "not banned"),
     }
 }
 
@@ -205,6 +267,42 @@ fn states(alloc: Global, desk: &Desk, job: u32) -> Result<String, AllocError> {
         text.push_str(" ")?;
     }
     text.push_str(job_state_text(desk.state(job)))?;
+    Ok(text)
+}
+
+fn reason_text(reason: Reason) -> &'static str {
+    match reason {
+        Reason::None => "none",
+        Reason::Cancelled => "cancelled",
+        Reason::Ended(_) => "ended",
+        Reason::Expired => "expired",
+    }
+}
+
+/// The reasons of a job's rows.
+fn reasons(alloc: Global, desk: &Desk, job: u32) -> Result<String, AllocError> {
+    let mut text = String::new(alloc);
+    for row in desk.job_rows(job) {
+        if !text.is_empty() {
+            text.push_str(" ")?;
+        }
+        text.push_str(reason_text(row.reason))?;
+    }
+    Ok(text)
+}
+
+/// The banned storages in order.
+fn banned(alloc: Global, desk: &Desk) -> Result<String, AllocError> {
+    if desk.banned().is_empty() {
+        return String::from_str(alloc, "none");
+    }
+    let mut text = String::new(alloc);
+    for name in desk.banned() {
+        if !text.is_empty() {
+            text.push_str(" ")?;
+        }
+        text.push_str(name.as_str())?;
+    }
     Ok(text)
 }
 
@@ -245,6 +343,8 @@ fn told(alloc: Global, desk: &mut Desk, said: &str) -> Result<String, Memory> {
     let words: Vec<&str> = said.split(' ').collect(alloc)?;
     match word(words.as_slice(), 0) {
         "states" => Ok(states(alloc, desk, small(words.as_slice(), 1))?),
+        "reasons" => Ok(reasons(alloc, desk, small(words.as_slice(), 1))?),
+        "banned" => Ok(banned(alloc, desk)?),
         "waits" => Ok(waits(alloc, desk, small(words.as_slice(), 1))?),
         "held" => Ok(held(alloc, desk, words.as_slice())?),
         _ => done(alloc, desk, words.as_slice()),
@@ -309,6 +409,14 @@ const ROWS: [(&str, &str); 10] = [
 #[test]
 fn worked_rows_are_answered_as_wanted(rt: HostRuntime) -> Result<(), Fail> {
     for (case, script) in ROWS {
+        play(&rt, rt.alloc(), case, script)?;
+    }
+    Ok(())
+}
+
+#[test]
+fn bans_and_hours_in_the_queue_are_answered_as_wanted(rt: HostRuntime) -> Result<(), Fail> {
+    for (case, script) in BANS_AND_HOURS {
         play(&rt, rt.alloc(), case, script)?;
     }
     Ok(())

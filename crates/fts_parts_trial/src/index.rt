@@ -1,6 +1,11 @@
-//! Of `fts_index`: each call with ample memory, on ids and links by hand, and on more ids than a chunk holds.
-use crate::made::name;
-use fts_index::{JobIds, Loads};
+//! Of `fts_index`: each call with ample memory, on ids, links and moments by hand, and on more ids than a chunk holds.
+ghost use Rattle.std.specs.Prelude.{◌≡◌, length, IfOk};
+ghost use Rattle.fts_tables.specs.Tables.{AreNumberedFrom};
+
+use crate::made::{name, row};
+use fts_index::{Dues, JobIds, Loads};
+use fts_tables::{FileRow, FileState, Memory};
+use std::alloc::Global;
 use std::process::Abort;
 use std::test::Fail;
 
@@ -76,5 +81,43 @@ fn a_link_counts_in_its_own_direction(rt: HostRuntime) -> Result<(), Fail> {
     assert!(rt; loads.count(&there, &here) == 0, "the way back");
     loads.take(&here, &there);
     assert!(rt; loads.count(&here, &there) == 1, "one row less");
+    Ok(())
+}
+
+/// A row with a number, in a state.
+fn numbered(alloc: Global, id: u32, state: FileState) -> Result<FileRow, Memory>
+    ensures id { IfOk result (λ row. row.id ≡ id) }
+{
+    let mut row = row(alloc, state)?;
+    row.id = id;
+    Ok(row)
+}
+
+/// Rows 1 to 3, of which the second doesn't wait.
+fn rows(alloc: Global) -> Result<[FileRow; 3], Memory>
+    ensures numbered { IfOk result (λ rows. AreNumberedFrom (λ row. row.id) 1 rows) }
+    ensures three { IfOk result (λ rows. length rows ≡ 3) }
+{
+    Ok([
+        numbered(alloc, 1, FileState::Submitted)?,
+        numbered(alloc, 2, FileState::NotUsed)?,
+        numbered(alloc, 3, FileState::Submitted)?,
+    ])
+}
+
+#[test]
+fn the_first_moment_is_the_least(rt: HostRuntime) -> Result<(), Fail> {
+    let mut dues = Dues::new(rt.alloc());
+    assert!(rt; dues.first().is_none() && !dues.is_due(u64::MAX), "no file");
+    dues.make_room(3)?;
+    dues.add_rows(&rows(rt.alloc())?, Some(3600));
+    assert!(rt; dues.len() == 2, "two files wait");
+    assert!(rt; !dues.is_due(3599) && dues.is_due(3600), "an hour later");
+    if let Some(due) = dues.first() {
+        assert!(rt;
+            due.file == 1 && due.moment == 3600,
+            "the lesser file first"
+        );
+    }
     Ok(())
 }

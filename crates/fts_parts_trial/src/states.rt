@@ -2,7 +2,10 @@
 use crate::made::row;
 use FileState::{Active, Canceled, Failed, Finished, NotUsed, Submitted};
 use JobKind::{Multihop, Plain, Replica};
-use fts_states::{CancelStep, Follow, after_cancel, after_report, after_restart, job_state};
+use fts_states::{
+    CancelStep, Follow, after_cancel, after_report, after_restart, is_overdue, job_state,
+    overdue_from,
+};
 use fts_tables::{FileState, JobKind, JobRow, JobState, Outcome, Reason, Strategy};
 use std::test::Fail;
 
@@ -17,6 +20,7 @@ fn job(kind: JobKind) -> JobRow {
         delay: 60,
         overwrite: false,
         strategy: Strategy::Orderly,
+        queue_hours: 0,
         submitted_at: 0,
         first: 1,
         count: 2,
@@ -190,5 +194,80 @@ fn a_cancelled_copy_ends_by_its_report_or_a_restart(rt: HostRuntime) -> Result<(
         && after.reason == Reason::Cancelled
         && after.follow == Follow::Nothing;
     assert!(rt; ends, "its report, though its copy was verified");
+    Ok(())
+}
+
+/// A job of so many hours in the queue, submitted at a moment.
+fn limited_job(queue_hours: u32, submitted_at: u64) -> JobRow {
+    JobRow {
+        queue_hours,
+        submitted_at,
+        ..job(JobKind::Plain)
+    }
+}
+
+#[test]
+fn hours_in_the_queue_end_at_a_moment(rt: HostRuntime) {
+    for (case, hours, submitted_at, want) in [
+        ("no hours are no limit", 0, 1_000, None),
+        ("an hour", 1, 1_000, Some(4_600)),
+        ("two hours from the first moment", 2, 0, Some(7_200)),
+        ("a year", 8_760, 1_700_000_000, Some(1_731_536_000)),
+        (
+            "an hour that ends at the greatest moment",
+            1,
+            18_446_744_073_709_548_015,
+            Some(18_446_744_073_709_551_615),
+        ),
+        (
+            "an hour that would end a second later",
+            1,
+            18_446_744_073_709_548_016,
+            Some(18_446_744_073_709_551_615),
+        ),
+        (
+            "a year from the greatest moment",
+            8_760,
+            18_446_744_073_709_551_615,
+            Some(18_446_744_073_709_551_615),
+        ),
+    ] {
+        let is_so = overdue_from(&limited_job(hours, submitted_at)) == want;
+        assert!(rt; is_so, "{case}");
+    }
+}
+
+/// A row: a sentence, the hours of a job that was submitted at 1000, the state of its file, a moment, and whether the file is overdue then.
+type OverdueCase = (&'static str, u32, FileState, u64, bool);
+
+const OVERDUE: [OverdueCase; 9] = [
+    (
+        "a second before the hour is over",
+        1,
+        Submitted,
+        4_599,
+        false,
+    ),
+    ("the hour is over", 1, Submitted, 4_600, true),
+    ("long after the hour", 1, Submitted, u64::MAX, true),
+    ("no limit, ever so late", 0, Submitted, u64::MAX, false),
+    ("a file that runs", 1, Active, 4_600, false),
+    ("one that is there", 1, Finished, 4_600, false),
+    ("one that failed", 1, Failed, 4_600, false),
+    ("one that is cancelled", 1, Canceled, 4_600, false),
+    ("one whose turn hasn't come", 1, NotUsed, 4_600, false),
+];
+
+#[test]
+fn only_waiting_files_are_overdue(rt: HostRuntime) -> Result<(), Fail> {
+    for (case, hours, state, now, want) in OVERDUE {
+        let row = row(rt.alloc(), state)?;
+        let is_so = is_overdue(&row, &limited_job(hours, 1_000), now) == want;
+        assert!(rt; is_so, "{case}");
+    }
+    let late = limited_job(1, u64::MAX - 10);
+    let row = row(rt.alloc(), Submitted)?;
+    let is_cut = !is_overdue(&row, &late, u64::MAX - 1) && is_overdue(&row, &late, u64::MAX);
+    assert!(rt; is_cut, "an hour that is cut at the greatest moment");
     Ok(())
 }

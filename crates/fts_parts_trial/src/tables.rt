@@ -1,5 +1,5 @@
 //! Of `fts_tables`: each call with ample memory, which no clause promises, and limits by their digits.
-use crate::made::{add, place, settings};
+use crate::made::{add, name, place, settings};
 use fts_tables::{
     Clock, Command, EndpointName, Items, JobKind, Label, ListClock, ListWords, Memory, NewFile,
     NewJob, PartName, PathKey, Place, PlaceRef, Strategy, Words, limits,
@@ -153,6 +153,7 @@ fn job(alloc: Global) -> Result<NewJob, Memory> {
         retry: 1,
         delay: 60,
         overwrite: true,
+        queue_hours: 24,
         files,
     })
 }
@@ -168,6 +169,7 @@ fn settings_are_copied_with_ample_memory(rt: HostRuntime) -> Result<(), Fail> {
 fn jobs_are_copied_with_ample_memory(rt: HostRuntime) -> Result<(), Fail> {
     let copy = job(rt.alloc())?.copy(rt.alloc())?;
     assert!(rt; copy.files.as_slice().len() == 1, "the one file of the job");
+    assert!(rt; copy.queue_hours == 24, "the hours that its file may wait");
     Ok(())
 }
 
@@ -177,6 +179,60 @@ fn commands_are_copied_with_ample_memory(rt: HostRuntime) -> Result<(), Fail> {
     let copy = command.copy(rt.alloc())?;
     let is_same = matches!(copy, Command::Claim { now: 1, word: 2 });
     assert!(rt; is_same, "a claim's copy is that claim");
+    let command = Command::Expire { now: 1 };
+    let copy = command.copy(rt.alloc())?;
+    assert!(rt;
+        matches!(copy, Command::Expire { now: 1 }),
+        "an expiry's copy is that expiry"
+    );
+    Ok(())
+}
+
+/// The name of the storage that a command bans, or whose ban it ends.
+fn storage(command: &Command) -> &str {
+    match command {
+        Command::Ban {
+            now: _,
+            storage,
+            cancel: _,
+        } => storage.as_str(),
+        Command::Unban { now: _, storage } => storage.as_str(),
+        Command::Restart { .. }
+        | Command::Submit { .. }
+        | Command::CancelJob { .. }
+        | Command::CancelFile { .. }
+        | Command::SetPriority { .. }
+        | Command::Claim { .. }
+        | Command::Report { .. }
+        | Command::Expire { .. } => "",
+    }
+}
+
+#[test]
+fn bans_are_copied_with_ample_memory(rt: HostRuntime) -> Result<(), Fail> {
+    let ban = Command::Ban {
+        now: 1,
+        storage: name(rt.alloc(), "https://b.example")?,
+        cancel: true,
+    };
+    let copy = ban.copy(rt.alloc())?;
+    let is_same = matches!(
+        &copy,
+        Command::Ban {
+            now: 1,
+            storage: _,
+            cancel: true
+        }
+    ) && storage(&copy) == "https://b.example";
+    assert!(rt; is_same, "a ban's copy is that ban");
+    let unban = Command::Unban {
+        now: 1,
+        storage: name(rt.alloc(), "https://b.example")?,
+    };
+    let copy = unban.copy(rt.alloc())?;
+    let is_same = matches!(&copy, Command::Unban { now: 1, storage: _ })
+        && storage(&copy) == "https://b.example";
+    assert!(rt; is_same, "the copy of a ban's end is that end");
     Ok(())
 }
 
@@ -200,7 +256,7 @@ fn listed_moments_and_words_come_in_order(rt: HostRuntime) -> Result<(), Fail> {
 fn limits_have_the_digits_that_users_read(rt: HostRuntime) {
     for (case, is_so) in [
         ("MAX_JOBS", limits::MAX_JOBS == 100000),
-        ("MAX_ROWS", limits::MAX_ROWS == 200000),
+        ("MAX_ROWS", limits::MAX_ROWS == 400000),
         ("MAX_FILES", limits::MAX_FILES == 200),
         ("MIN_SOURCES", limits::MIN_SOURCES == 2),
         ("MAX_SOURCES", limits::MAX_SOURCES == 16),
@@ -212,8 +268,10 @@ fn limits_have_the_digits_that_users_read(rt: HostRuntime) {
         ("MAX_ACTIVE", limits::MAX_ACTIVE == 1000),
         ("MAX_WEIGHT", limits::MAX_WEIGHT == 10000),
         ("MAX_WORKERS", limits::MAX_WORKERS == 16),
+        ("MAX_LANES", limits::MAX_LANES == 8),
         ("MAX_RETRY", limits::MAX_RETRY == 10),
         ("MAX_DELAY", limits::MAX_DELAY == 86400),
+        ("MAX_QUEUE_HOURS", limits::MAX_QUEUE_HOURS == 8760),
         ("MIN_PRIORITY", limits::MIN_PRIORITY == 1),
         ("MAX_PRIORITY", limits::MAX_PRIORITY == 5),
         ("DEFAULT_PRIORITY", limits::DEFAULT_PRIORITY == 3),
@@ -222,7 +280,8 @@ fn limits_have_the_digits_that_users_read(rt: HostRuntime) {
         ("LAST_MOMENT", limits::LAST_MOMENT == 18446744073709551615),
         ("MAX_COMMANDS", limits::MAX_COMMANDS == 4294967295),
         ("MAX_SETTINGS_BYTES", limits::MAX_SETTINGS_BYTES == 1048576),
-        ("MAX_JOURNAL_BYTES", limits::MAX_JOURNAL_BYTES == 67108864),
+        ("MAX_OPENING_BYTES", limits::MAX_OPENING_BYTES == 134217728),
+        ("JOURNAL_END", limits::JOURNAL_END == 1073741824),
         ("MAX_BODY_BYTES", limits::MAX_BODY_BYTES == 4194304),
         ("MAX_HEAD_BYTES", limits::MAX_HEAD_BYTES == 16384),
         ("MAX_HEADER_LINES", limits::MAX_HEADER_LINES == 64),

@@ -52,22 +52,33 @@ const RETRIED: &str =
 const ONE: &str =
     "{\"files\":[{\"sources\":[\"https://a.example/f1\"],\"destinations\":[\"https://b.example/f1\"]}]}";
 
+const HOUR: &str =
+    "{\"files\":[{\"sources\":[\"https://a.example/f1\"],\"destinations\":[\"https://b.example/f1\"]}],\"params\":{\"max_time_in_queue\":1}}";
+
+const SOURCES_FOR_AN_HOUR: &str =
+    "{\"files\":[{\"sources\":[\"https://a.example/f1\",\"https://a.example/f2\",\"https://a.example/f3\"],\"destinations\":[\"https://b.example/f1\"]}],\"params\":{\"max_time_in_queue\":1}}";
+
+const RETRIED_FOR_AN_HOUR: &str =
+    "{\"files\":[{\"sources\":[\"https://a.example/f1\"],\"destinations\":[\"https://b.example/f1\"]}],\"params\":{\"retry\":1,\"retry_delay\":3600,\"max_time_in_queue\":1}}";
+
 /// What a row has.
 struct Row {
     case: &'static str,
     settings: &'static str,
     limit: &'static str,
+    submitted: u64,
     document: &'static str,
     fail: &'static [u32],
     drop: &'static [u32],
     script: &'static str,
 }
 
-const ROWS: [Row; 10] = [
+const ROWS: [Row; 18] = [
     Row {
         case: "a link carries as many files as its limit",
         settings: TWO,
         limit: "2",
+        submitted: 0,
         document: FIVE,
         fail: &[],
         drop: &[],
@@ -77,6 +88,7 @@ const ROWS: [Row; 10] = [
         case: "an endpoint takes as many files as its limit, and of links with none the one of the least name is first",
         settings: THREE,
         limit: "2",
+        submitted: 0,
         document: INTO_THIRD,
         fail: &[],
         drop: &[],
@@ -86,6 +98,7 @@ const ROWS: [Row; 10] = [
         case: "behind a missing source the next one is copied",
         settings: TWO,
         limit: "2",
+        submitted: 0,
         document: SOURCES,
         fail: &[],
         drop: &[],
@@ -95,6 +108,7 @@ const ROWS: [Row; 10] = [
         case: "behind a failed hop nothing is copied",
         settings: TWO,
         limit: "2",
+        submitted: 0,
         document: HOPS,
         fail: &[],
         drop: &[],
@@ -104,6 +118,7 @@ const ROWS: [Row; 10] = [
         case: "a cancelled file keeps its slot until its report, though its copy was verified",
         settings: TWO,
         limit: "1",
+        submitted: 0,
         document: THREE_FILES,
         fail: &[],
         drop: &[],
@@ -113,6 +128,7 @@ const ROWS: [Row; 10] = [
         case: "an empty file is copied",
         settings: TWO,
         limit: "2",
+        submitted: 0,
         document: EMPTY,
         fail: &[],
         drop: &[],
@@ -122,6 +138,7 @@ const ROWS: [Row; 10] = [
         case: "another digest than the wanted one fails at once",
         settings: TWO,
         limit: "2",
+        submitted: 0,
         document: WRONG,
         fail: &[],
         drop: &[],
@@ -131,6 +148,7 @@ const ROWS: [Row; 10] = [
         case: "a retry waits until its moment",
         settings: TWO,
         limit: "2",
+        submitted: 0,
         document: RETRIED,
         fail: &[1],
         drop: &[],
@@ -140,6 +158,7 @@ const ROWS: [Row; 10] = [
         case: "a byte that the store lost is found where it is missing",
         settings: TWO,
         limit: "2",
+        submitted: 0,
         document: ONE,
         fail: &[],
         drop: &[1],
@@ -149,10 +168,91 @@ const ROWS: [Row; 10] = [
         case: "a part whose removal fails stays, and its file ends as its copy did",
         settings: TWO,
         limit: "2",
+        submitted: 0,
         document: WRONG,
         fail: &[6],
         drop: &[],
         script: "round 0 = busy 1\nround 0 = clear\nstates = FAILED FAILED\nreason 1 = source digest of abc\nsize f1 = none\nsize .fts/part-1 = 3",
+    },
+    Row {
+        case: "a file that waits at a banned storage is cancelled once its hour is over, and no second before",
+        settings: TWO,
+        limit: "2",
+        submitted: 1000,
+        document: HOUR,
+        fail: &[],
+        drop: &[],
+        script: "ban wait = ok\nround 4599 = clear\nstates = SUBMITTED SUBMITTED\nreason 1 = none\nround 4600 = clear\nstates = CANCELED CANCELED\nreason 1 = expired",
+    },
+    Row {
+        case: "with a replica job's file all its sources are cancelled",
+        settings: TWO,
+        limit: "2",
+        submitted: 1000,
+        document: SOURCES_FOR_AN_HOUR,
+        fail: &[],
+        drop: &[],
+        script: "ban wait = ok\nround 4599 = clear\nstates = SUBMITTED NOT_USED NOT_USED SUBMITTED\nround 4600 = clear\nstates = CANCELED CANCELED CANCELED CANCELED\nreason 1 = expired\nreason 2 = expired\nreason 3 = expired",
+    },
+    Row {
+        case: "a file whose hour is over is cancelled before it could be claimed",
+        settings: TWO,
+        limit: "2",
+        submitted: 1000,
+        document: HOUR,
+        fail: &[],
+        drop: &[],
+        script: "round 4600 = clear\nstates = CANCELED CANCELED\nwaits 1 = attempt 0 not before 0\nsize f1 = none",
+    },
+    Row {
+        case: "a file that is copied when its hour is over goes on",
+        settings: TWO,
+        limit: "2",
+        submitted: 1000,
+        document: HOUR,
+        fail: &[],
+        drop: &[],
+        script: "round 1000 = busy 1\nround 4600 = clear\nstates = FINISHED FINISHED\nsize f1 = 3",
+    },
+    Row {
+        case: "a file that came back by a retry waits no longer than its hour",
+        settings: TWO,
+        limit: "2",
+        submitted: 1000,
+        document: RETRIED_FOR_AN_HOUR,
+        fail: &[1],
+        drop: &[],
+        script: "round 2000 = busy 1\nround 2000 = clear\nstates = SUBMITTED SUBMITTED\nwaits 1 = attempt 1 not before 5600\nround 4599 = clear\nstates = SUBMITTED SUBMITTED\nround 4600 = clear\nstates = CANCELED CANCELED\nreason 1 = expired",
+    },
+    Row {
+        case: "a file without a limit waits at a banned storage, and is copied behind the ban",
+        settings: TWO,
+        limit: "2",
+        submitted: 1000,
+        document: ONE,
+        fail: &[],
+        drop: &[],
+        script: "ban wait = ok\nround 1000000000 = clear\nstates = SUBMITTED SUBMITTED\nunban = ok\nround 1000000000 = busy 1\nround 1000000000 = clear\nstates = FINISHED FINISHED",
+    },
+    Row {
+        case: "a ban that cancels takes the files that wait",
+        settings: TWO,
+        limit: "2",
+        submitted: 0,
+        document: ONE,
+        fail: &[],
+        drop: &[],
+        script: "ban wait = ok\nban cancel = ok\nstates = CANCELED CANCELED\nreason 1 = cancelled\nround 0 = clear",
+    },
+    Row {
+        case: "a ban that cancels leaves a file that is copied",
+        settings: TWO,
+        limit: "2",
+        submitted: 0,
+        document: ONE,
+        fail: &[],
+        drop: &[],
+        script: "round 0 = busy 1\nban cancel = ok\nstates = ACTIVE ACTIVE\nround 0 = clear\nstates = FINISHED FINISHED\nsize f1 = 3",
     },
 ];
 
@@ -275,6 +375,7 @@ fn reason(bed: &Bed, id: u64) -> Result<String, AllocError> {
         Some(row) => match row.reason {
             Reason::None => String::from_str(bed.alloc, "none"),
             Reason::Cancelled => String::from_str(bed.alloc, "cancelled"),
+            Reason::Expired => String::from_str(bed.alloc, "expired"),
             Reason::Ended(outcome) => outcome_text(bed.alloc, outcome),
         },
     }
@@ -312,6 +413,14 @@ fn size(bed: &mut Bed, path: &str) -> Result<String, AllocError>
     }
 }
 
+/// The name of the second endpoint.
+fn second_endpoint(alloc: Global) -> Result<EndpointName, Memory> {
+    match EndpointName::read(alloc, "https://b.example")? {
+        Some(name) => Ok(name),
+        None => Err(Memory),
+    }
+}
+
 /// What is answered a line: its first word says what is asked, and the second for what.
 fn told(bed: &mut Bed, asked: &str, of: &str) -> Result<String, Memory>
     requires { IsReady bed.old.keep bed.old.bench }
@@ -325,6 +434,21 @@ fn told(bed: &mut Bed, asked: &str, of: &str) -> Result<String, Memory>
         }
         "cancel" => {
             bed.request(Command::CancelJob { now: 0, job: 1 })?;
+            Ok(String::from_str(bed.alloc, "ok")?)
+        }
+        "ban" => {
+            let storage = second_endpoint(bed.alloc)?;
+            let cancel = of == "cancel";
+            bed.request(Command::Ban {
+                now: 0,
+                storage,
+                cancel,
+            })?;
+            Ok(String::from_str(bed.alloc, "ok")?)
+        }
+        "unban" => {
+            let storage = second_endpoint(bed.alloc)?;
+            bed.request(Command::Unban { now: 0, storage })?;
             Ok(String::from_str(bed.alloc, "ok")?)
         }
         "reason" => Ok(reason(bed, number)?),
@@ -348,7 +472,7 @@ fn bed(alloc: Global, row: &Row) -> Result<Bed, Memory>
     let settings = settings(alloc, row)?;
     let store = store(alloc, row.fail, row.drop)?;
     let mut bed = Bed::new(alloc, settings.as_str(), 4, store)?;
-    bed.submit(0, row.document)?;
+    bed.submit(row.submitted, row.document)?;
     Ok(bed)
 }
 

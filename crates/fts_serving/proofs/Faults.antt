@@ -1,5 +1,5 @@
 -- What a worker's last turn met, where it ended by the disk or by the journal's limit.
-use Rattle.std.proofs.Common.{◌≡◌, ◌≢◌, ◌⊎◌, refl, sym, ap, ◌∙◌, subst, ⊎_elim, ℕ, zero, suc, Bool, true, false, List, [], ◌∷◌, ◌++◌, Option, Some, None, Result, Ok, Err}
+use Rattle.std.proofs.Common.{◌≡◌, ◌≢◌, ◌⊎◌, refl, sym, ap, ◌∙◌, subst, ⊎_elim, ℕ, zero, suc, Bool, true, false, List, [], ◌∷◌, ◌++◌, append-nil, Option, Some, None, Result, Ok, Err}
 use Rattle.std.specs.Prelude.{IsOk, if◌then◌else◌}
 use Rattle.fts_tables.specs.Coming.{Coming}
 use Rattle.fts_tables.specs.Counts.{Rose}
@@ -9,8 +9,9 @@ use Rattle.fts_tables.specs.declared.rows.FileState.{FileState}
 use Rattle.fts_tables.specs.declared.rows.FileState.TheVariants as state
 use Rattle.fts_tables.specs.declared.commands.Entry.{Entry}
 use Rattle.fts_tables.specs.declared.commands.Command.{Command}
+use Rattle.fts_tables.specs.declared.commands.Command.TheVariants.{Claim, Expire}
 use Rattle.fts_tables.specs.declared.commands.Answer.{Answer}
-use Rattle.fts_tables.specs.declared.commands.Answer.TheVariants.{Restarted, Submitted, Cancelled, PrioritySet, Claimed, Reported}
+use Rattle.fts_tables.specs.declared.commands.Answer.TheVariants.{Restarted, Submitted, Cancelled, PrioritySet, Claimed, Reported, Banned, Unbanned, Expired}
 use Rattle.fts_turnstile.specs.declared.turn.Turn.{Turn}
 use Rattle.fts_turnstile.specs.History.{items_of, shown_after}
 use Rattle.fts_turnstile.specs.Passes.{PassView}
@@ -19,7 +20,7 @@ use Rattle.fts_keep.specs.declared.fault.KeepFault.{KeepFault}
 use Rattle.fts_keep.specs.declared.fault.KeepFault.TheVariants.{Rule, DiskFailed, JournalFull, Damaged, Memory}
 use Rattle.fts_workers.specs.Rounds.{applied_over}
 use Rattle.fts_workers.specs.declared.held.Held.{Held}
-use Rattle.fts_shop.specs.Shops.{CameTo, HasFault, IsToldList, TriedInTurn, faults_shown, point}
+use Rattle.fts_shop.specs.Shops.{CameTo, HasFault, IsToldList, StepInTurn, TriedInTurn, added_by, added_by_claim, faults_shown, point, step_answer}
 use Rattle.fts_shop.specs.Turns.{GoesOn, HandData, IsTurn, ReportsHeld, end_by_claim, end_by_report, end_by_state, idle_end}
 use Rattle.fts_shop.specs.Workers.{end_without_lanes, worker_end_of}
 use Rattle.fts_shop.specs.declared.ends.Turn.{Turn as TurnEnd}
@@ -28,14 +29,17 @@ use Rattle.fts_shop.specs.declared.ends.WorkerEnd.{WorkerEnd}
 use Rattle.fts_shop.specs.declared.ends.WorkerEnd.TheVariants as worker_ends
 use Rattle.fts_store.specs.declared.store.Store as store
 
--- a command was tried in the last turn that a pass has seen, over a told list
+-- the last command that was tried in the last turn that a pass has seen, over a told list, behind what the turn had added until then
 pub record TriesLast (pass : PassView Entry) (result : Result Answer KeepFault) : Type 0 where
   pub before : List (Turn Entry)
   pub turn : Turn Entry
   pub seen : pass.seen ≡ before ++ turn ∷ []
   pub cause : result ≡ Err DiskFailed → Rose (faults_shown (shown_after pass.opening_shows before)) (faults_shown turn.shows)
+  pub own : List Entry
+  pub rest : List Entry
+  pub items : turn.items ≡ own ++ rest
   pub entry : Entry
-  pub full : (used : ℕ) → result ≡ Err (JournalFull used) → applied_over (pass.opening ++ items_of before) entry ≡ Err (JournalFull used)
+  pub full : (used : ℕ) → result ≡ Err (JournalFull used) → applied_over ((pass.opening ++ items_of before) ++ own) entry ≡ Err (JournalFull used)
 
 -- so is each that is tried
 full_as : {old new : PassView Entry} {command : Command} {result : Result Answer KeepFault} {lanes : ℕ} (used : ℕ)
@@ -52,9 +56,50 @@ tries_last {old} {new} {command} {result} {lanes} told tried = record {
   seen = tried.taken.seen;
   cause = λ failed. subst (λ s. Rose (faults_shown (shown_after s (old.seen ++ tried.taken.between))) (faults_shown tried.taken.turn.shows))
       (sym tried.taken.same.2) (tried.cause failed);
+  own = [];
+  rest = tried.taken.turn.items;
+  items = refl;
   entry = entry_by old.number command;
-  full = λ used is. subst (λ o. applied_over (o ++ items_of (old.seen ++ tried.taken.between)) (entry_by old.number command) ≡ Err (JournalFull used))
-      (sym tried.taken.same.1) (full_as used tried told is);
+  full = λ used is. subst (λ o. applied_over ((o ++ items_of (old.seen ++ tried.taken.between)) ++ []) (entry_by old.number command) ≡ Err (JournalFull used))
+      (sym tried.taken.same.1)
+      (subst (λ l. applied_over l (entry_by old.number command) ≡ Err (JournalFull used)) (sym (append-nil (point tried.taken))) (full_as used tried told is));
+}
+
+-- so is the last command of a worker's step
+pub step_last : {old new : PassView Entry} {now word lanes : ℕ} (expiry : Result Answer KeepFault) (claim : Option (Result Answer KeepFault))
+    → IsToldList old → StepInTurn old new now word expiry claim lanes → TriesLast new (step_answer expiry claim)
+step_last {old} {new} {now} {word} expiry None told tried = record {
+  before = old.seen ++ tried.taken.between;
+  turn = tried.taken.turn;
+  seen = tried.taken.seen;
+  cause = λ failed. subst (λ s. Rose (faults_shown (shown_after s (old.seen ++ tried.taken.between))) (faults_shown tried.taken.turn.shows))
+      (sym tried.taken.same.2) (tried.expiry_cause failed);
+  own = [];
+  rest = tried.taken.turn.items;
+  items = refl;
+  entry = entry_by old.number (Expire now);
+  full = λ used is. subst (λ o. applied_over ((o ++ items_of (old.seen ++ tried.taken.between)) ++ []) (entry_by old.number (Expire now)) ≡ Err (JournalFull used))
+      (sym tried.taken.same.1)
+      (subst (λ l. applied_over l (entry_by old.number (Expire now)) ≡ Err (JournalFull used)) (sym (append-nil (point tried.taken)))
+      (subst (λ (r : Result Answer KeepFault). CameTo (applied_over (point tried.taken) (entry_by old.number (Expire now))) (HasFault tried.taken) r) is
+      (tried.expired told)));
+}
+step_last {old} {new} {now} {word} expiry (Some result) told tried = record {
+  before = old.seen ++ tried.taken.between;
+  turn = tried.taken.turn;
+  seen = tried.taken.seen;
+  cause = λ failed. subst (λ s. Rose (faults_shown (shown_after s (old.seen ++ tried.taken.between))) (faults_shown tried.taken.turn.shows))
+      (sym tried.taken.same.2) (tried.claim_cause (ap (λ (r : Result Answer KeepFault). Some r) failed));
+  own = added_by (entry_by old.number (Expire now)) expiry;
+  rest = added_by_claim (entry_by old.number (Claim now word)) (Some result);
+  items = tried.added told;
+  entry = entry_by old.number (Claim now word);
+  full = λ used is. subst (λ o. applied_over ((o ++ items_of (old.seen ++ tried.taken.between)) ++ added_by (entry_by old.number (Expire now)) expiry)
+      (entry_by old.number (Claim now word)) ≡ Err (JournalFull used))
+      (sym tried.taken.same.1)
+      (subst (λ (r : Result Answer KeepFault). CameTo (applied_over (point tried.taken ++ added_by (entry_by old.number (Expire now)) expiry)
+      (entry_by old.number (Claim now word))) (HasFault tried.taken) r) is
+      (tried.claimed told).came);
 }
 
 -- the fault by which a turn ended
@@ -87,6 +132,9 @@ report_fault file lanes (Ok (Submitted job id)) fault is = absurd cc
 report_fault file lanes (Ok (Cancelled job)) fault is = absurd cc
 report_fault file lanes (Ok (PrioritySet job)) fault is = absurd cc
 report_fault file lanes (Ok (Claimed claimed attempt)) fault is = absurd cc
+report_fault file lanes (Ok (Banned cancelled)) fault is = absurd cc
+report_fault file lanes (Ok Unbanned) fault is = absurd cc
+report_fault file lanes (Ok (Expired cancelled)) fault is = absurd cc
 report_fault file lanes (Err DiskFailed) fault is = cc
 report_fault file lanes (Err (JournalFull used)) fault is = cc
 report_fault file lanes (Err Memory) fault is = absurd cc
@@ -122,22 +170,25 @@ module _ {E : Type 0} (stores : store.Ghosts E) where
   }
   reports_fail old new moments later (held ∷ next ∷ others) end left fault told reported is = absurd reported
 
-  goes_fail : (old claimed new : PassView Entry) (command : Command) (lanes : ℕ) (result : Result Answer KeepFault) (hand after : HandData E) (end : TurnEnd) (left : List Held)
-      (fault : KeepFault) → IsToldList old → TriedInTurn old claimed command result lanes
+  goes_fail : (claimed new : PassView Entry) (lanes : ℕ) (result : Result Answer KeepFault) (hand after : HandData E) (end : TurnEnd) (left : List Held)
+      (fault : KeepFault) → IsToldList claimed → TriesLast claimed result
       → GoesOn stores lanes result claimed new hand after end left → fault_of end ≡ Some fault → FailsLast new fault
-  goes_fail old claimed new command lanes (Ok (Claimed file attempt)) hand after end left fault told tried goes is = record {
+  goes_fail claimed new lanes (Ok (Claimed file attempt)) hand after end left fault told tried goes is = record {
     result = goes.reported.result;
-    tries = tries_last (λ none. told (sym tried.taken.same.1 ∙ sym goes.copied.same.1 ∙ none)) goes.reported.tried;
+    tries = tries_last (λ none. told (sym goes.copied.same.1 ∙ none)) goes.reported.tried;
     is = report_fault file goes.reported.lanes goes.reported.result fault (sym (ap fault_of goes.reported.ends) ∙ is);
   }
-  goes_fail old claimed new command lanes (Ok (Restarted released)) hand after end left fault told tried goes is = absurd goes
-  goes_fail old claimed new command lanes (Ok (Submitted job id)) hand after end left fault told tried goes is = absurd goes
-  goes_fail old claimed new command lanes (Ok (Cancelled job)) hand after end left fault told tried goes is = absurd goes
-  goes_fail old claimed new command lanes (Ok (PrioritySet job)) hand after end left fault told tried goes is = absurd goes
-  goes_fail old claimed new command lanes (Ok (Reported file left_in)) hand after end left fault told tried goes is = absurd goes
-  goes_fail old claimed new command lanes (Err found) hand after end left fault told tried goes is = record {
+  goes_fail claimed new lanes (Ok (Restarted released)) hand after end left fault told tried goes is = absurd goes
+  goes_fail claimed new lanes (Ok (Submitted job id)) hand after end left fault told tried goes is = absurd goes
+  goes_fail claimed new lanes (Ok (Cancelled job)) hand after end left fault told tried goes is = absurd goes
+  goes_fail claimed new lanes (Ok (PrioritySet job)) hand after end left fault told tried goes is = absurd goes
+  goes_fail claimed new lanes (Ok (Reported file left_in)) hand after end left fault told tried goes is = absurd goes
+  goes_fail claimed new lanes (Ok (Banned cancelled)) hand after end left fault told tried goes is = absurd goes
+  goes_fail claimed new lanes (Ok Unbanned) hand after end left fault told tried goes is = absurd goes
+  goes_fail claimed new lanes (Ok (Expired cancelled)) hand after end left fault told tried goes is = absurd goes
+  goes_fail claimed new lanes (Err found) hand after end left fault told tried goes is = record {
     result = Err found;
-    tries = subst (λ pass. TriesLast pass (Err found)) (sym goes.1.pass) (tries_last told tried);
+    tries = subst (λ pass. TriesLast pass (Err found)) (sym goes.1.pass) tried;
     is = claim_fault lanes found fault (sym (ap fault_of goes.0) ∙ is);
   }
 
@@ -145,7 +196,8 @@ module _ {E : Type 0} (stores : store.Ghosts E) where
   pub turn_fails : (old new : PassView Entry) (hand after : HandData E) (held : List Held) (end : TurnEnd) (left : List Held) (fault : KeepFault) → IsToldList old
       → IsTurn stores old new hand after held end left → fault_of end ≡ Some fault → FailsLast new fault
   turn_fails old new hand after [] end left fault told turn is =
-      goes_fail old turn.claimed new _ turn.lanes turn.result turn.behind after end left fault told turn.tried turn.goes_on is
+      goes_fail turn.claimed new turn.lanes (step_answer turn.expiry turn.claim) turn.behind after end left fault
+      (λ none. told (sym turn.tried.taken.same.1 ∙ none)) (step_last turn.expiry turn.claim told turn.tried) turn.goes_on is
   turn_fails old new hand after (held ∷ others) end left fault told turn is =
       reports_fail old new hand.moments after.moments (held ∷ others) end left fault told turn.reported is
 
@@ -198,6 +250,9 @@ pub record Failed (first : PassView Entry) (turns : List (Turn Entry)) (fault : 
   pub later : List (Turn Entry)
   pub is : turns ≡ before ++ turn ∷ later
   pub cause : fault ≡ DiskFailed → Rose (faults_shown (shown_after first.opening_shows before)) (faults_shown turn.shows)
+  pub own : List Entry
+  pub rest : List Entry
+  pub items : turn.items ≡ own ++ rest
   pub entry : Entry
   pub full : (used : ℕ) → fault ≡ JournalFull used
-      → applied_over (first.opening ++ items_of before) entry ≡ Err (JournalFull used)
+      → applied_over ((first.opening ++ items_of before) ++ own) entry ≡ Err (JournalFull used)

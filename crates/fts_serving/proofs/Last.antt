@@ -1,10 +1,9 @@
 -- The last turn of all, and who took it.
-use Rattle.std.proofs.Common.{◌≡◌, ◌≢◌, refl, sym, ap, ◌∙◌, subst, inl, inr, ⊎_elim, ℕ, zero, suc, ◌+◌, ◌<◌, ◌≤◌, Bool, true, false, List, [], ◌∷◌, ◌++◌, append-nil, append_assoc, arith}
+use Rattle.std.proofs.Common.{◌≡◌, ◌≢◌, refl, sym, ap, ◌∙◌, subst, inl, inr, ⊎_elim, ℕ, zero, suc, ◌+◌, ◌<◌, ◌≤◌, Bool, true, false, List, [], ◌∷◌, ◌++◌, arith}
 use Rattle.std.specs.Prelude.{◌⊎◌, ◌==◌}
 use Rattle.fts_tables.specs.declared.commands.Entry.{Entry}
 use Rattle.fts_turnstile.specs.declared.turn.Turn.{Turn}
-use Rattle.fts_turnstile.specs.History.{AllGiven, Among, NoneBy, items_of}
-use Rattle.fts_shop.specs.Looked.{items_on}
+use Rattle.fts_turnstile.specs.History.{AllGiven, Among, NoneBy}
 use Rattle.fts_serving.proofs.Open.{has_turn, there}
 
 -- a number is within a bound, or above it
@@ -105,8 +104,3 @@ none_above all number (turn ∷ turns) given above = (λ among. by among, none_a
 pub none_among : (files : List ℕ) → ((file : ℕ) → Among file files → ⊥) → files ≡ []
 none_among [] none = refl
 none_among (file ∷ files) none = absurd (none file (inl refl))
-
--- items up to a turn that adds nothing and stands last
-pub items_to : (before : List (Turn Entry)) (turn : Turn Entry) → turn.items ≡ [] → items_of (before ++ turn ∷ []) ≡ items_of before
-items_to before turn nothing =
-    items_on before (turn ∷ []) ∙ ap (λ l. items_of before ++ (l ++ [])) nothing ∙ append-nil (items_of before)

@@ -48,7 +48,7 @@ use Rattle.fts_ledger.specs.Claims.{IsOut, IsOwn, last_claim}
 use Rattle.fts_ledger.specs.Ledger.{AreFresh, FollowsOwn, KeepsItsFiles, KeepsLedger, MayKeep}
 use Rattle.fts_ledger.specs.Reports.{AddsAsked, AddsWork, HasNoRestart, IsUndisturbed, ReportsOwn}
 use Rattle.fts_serving.specs.Ends.{AreDrained, IsOpenedBy, KeepTheLedger, KeepsOwn, LeavesNothing}
-use Rattle.fts_serving.proofs.Last.{HasLast, given_last, items_to, last_of, last_or_behind, last_there, none_above, none_among, none_last, not_behind, within}
+use Rattle.fts_serving.proofs.Last.{HasLast, given_last, last_of, last_or_behind, last_there, none_above, none_among, none_last, not_behind, within}
 use Rattle.fts_serving.proofs.Open.{LaneTurns, Rules, has_turn, none_open, open_all, open_behind, open_lanes, own_turn, there_behind}
 use Rattle.fts_serving.proofs.Own.{asked_none, named_back, none_items}
 use Rattle.fts_serving.proofs.Seats.{At, Seat, booths_given, drop_given, each_idle, each_weaker, each_with, giver_from, seat_at, seats, seen_behind, stations_given}
@@ -325,8 +325,11 @@ module _ {D A E C W L : Type 0} (world : World D A E C W L)
         is = seat.since.1 ∙ ap (λ l. l ++ seat.since.0) fails.tries.seen ∙ append_assoc fails.tries.before (fails.tries.turn ∷ []) seat.since.0;
         cause = λ disk. subst (λ l. Rose (faults_shown (shown_after l fails.tries.before)) (faults_shown fails.tries.turn.shows)) shows
             (fails.tries.cause (fails.is ∙ ap (λ (f : KeepFault). Err f) disk));
+        own = fails.tries.own;
+        rest = fails.tries.rest;
+        items = fails.tries.items;
         entry = fails.tries.entry;
-        full = λ used full. subst (λ o. applied_over (o ++ items_of fails.tries.before) fails.tries.entry ≡ Err (JournalFull used)) opens
+        full = λ used full. subst (λ o. applied_over ((o ++ items_of fails.tries.before) ++ fails.tries.own) fails.tries.entry ≡ Err (JournalFull used)) opens
             (fails.tries.full used (fails.is ∙ ap (λ (f : KeepFault). Err f) full));
       }
 
@@ -466,11 +469,11 @@ module _ {D A E C W L : Type 0} (world : World D A E C W L)
             let at = found last.turn.number low high in
             ⊎_elim
             (λ here.
-            let all : items ≡ items_of at.finds.before =
-            ap items_of (whole_of at ∙ ap (λ l. at.finds.before ++ at.finds.turn ∷ l) here.none) ∙ items_to at.finds.before at.finds.turn at.finds.nothing in
+            let all : items ≡ items_of (at.finds.before ++ at.finds.turn ∷ []) =
+            ap items_of (whole_of at ∙ ap (λ l. at.finds.before ++ at.finds.turn ∷ l) here.none) in
             none_waits_at at.finds.now at.finds.word
             (subst (λ l. step (tables_of l) (Claim at.finds.now at.finds.word) ≡ Err Idle)
-            (ap (λ o. o ++ items_of at.finds.before) (at.opening ∙ opening_is) ∙ ap (λ l. keep.entries ++ l) (sym all)) at.finds.refused))
+            (ap (λ o. o ++ items_of (at.finds.before ++ at.finds.turn ∷ [])) (at.opening ∙ opening_is) ∙ ap (λ l. keep.entries ++ l) (sym all)) at.finds.refused))
             (λ behind. absurd (not_behind last.turn.number at.later last.turn at.none refl behind))
             (last_or_behind at.finds.before at.finds.turn at.later last.before last.turn (sym (whole_of at) ∙ last.is))
 
@@ -548,14 +551,17 @@ module _ {D A E C W L : Type 0} (world : World D A E C W L)
     record_passes : (used : ℕ) → worst_of worker_ends ≡ JournalFullEnd used → RecordPasses (keep.entries ++ items)
     record_passes used worst =
         let at = failed_by (JournalFullEnd used) (JournalFull used) (unlike_full used) refl worst in
-        let point = first.opening ++ items_of at.before in
+        let front = first.opening ++ items_of at.before in
+        let point = front ++ at.own in
         let full = full_by (used_of point) used at.entry (step (tables_of point) at.entry.command) (at.full used refl) in
         record {
           entries = point;
-          more = items_of (at.turn ∷ at.later);
+          more = at.rest ++ items_of at.later;
           is = ap (λ o. o ++ items) (sym opening_is)
               ∙ ap (λ l. first.opening ++ l) (ap items_of at.is ∙ items_on at.before (at.turn ∷ at.later))
-              ∙ sym (append_assoc first.opening (items_of at.before) (items_of (at.turn ∷ at.later)));
+              ∙ sym (append_assoc first.opening (items_of at.before) (items_of (at.turn ∷ at.later)))
+              ∙ ap (λ l. front ++ l) (ap (λ l. l ++ items_of at.later) at.items ∙ append_assoc at.own at.rest (items_of at.later))
+              ∙ sym (append_assoc front at.own (at.rest ++ items_of at.later));
           entry = at.entry;
           accepted = full.0;
           passes = full.1;

@@ -43,6 +43,7 @@ use Rattle.fts_serving.proofs.Ledger.{ListLaws, StoreLaws, ends_well, ledger}
 use Rattle.fts_disk.specs.declared.disk.Disk as disk
 use Rattle.fts_service.specs.declared.doors.Doors as doors
 use Rattle.fts_service.specs.Worlds.{World}
+use Rattle.fts_tables.specs.declared.limits.TheConstants.{MAX_LANES, MAX_WORKERS}
 
 -- opened lanes are as many
 pub opened_length : {A C L : Type 0} (all_doors : doors.Ghosts A L) (count : ℕ) (olds news : List (Lane A C L)) → AreOpened all_doors count olds news
@@ -150,10 +151,10 @@ both_true true true is = (refl, refl)
 both_true true false is = absurd cc
 both_true false other is = absurd cc
 
-range_of : (settings : SettingsData) → IsTrue (has_worker_range settings) → (1 ≤ settings.workers) × (settings.workers ≤ 16)
+range_of : (settings : SettingsData) → IsTrue (has_worker_range settings) → (1 ≤ settings.workers) × (settings.workers ≤ MAX_WORKERS)
 range_of settings range =
-    let both = both_true (nat_le 1 settings.workers) (nat_le settings.workers 16) range in
-    (leb-true 1 settings.workers both.0, leb-true settings.workers 16 both.1)
+    let both = both_true (nat_le 1 settings.workers) (nat_le settings.workers MAX_WORKERS) range in
+    (leb-true 1 settings.workers both.0, leb-true settings.workers MAX_WORKERS both.1)
 
 -- the list that a keep was started with isn't empty
 restarted_some : (opening : List Entry) (now : ℕ) (settings : SettingsData) → restarted opening now settings ≢ []
@@ -172,7 +173,7 @@ module _ {D A E C W L : Type 0} (world : World D A E C W L)
 
   module _ {lanes : ℕ} {connections : Option ℕ} {text : Option (List ℕ)} {before after : ManyThreads D A E C W L} {end : RunEnd} {tally : Tally}
       (runs : RunsServing world lanes connections text before after end tally)
-      (told : IsTold (world.disks.state before.disk)) (lanes_eight : length before.lanes ≡ 8) (few : lanes ≤ 8) (hands_sixteen : length before.hands ≡ 16) where
+      (told : IsTold (world.disks.state before.disk)) (lanes_eight : length before.lanes ≡ MAX_LANES) (few : lanes ≤ MAX_LANES) (hands_sixteen : length before.hands ≡ MAX_WORKERS) where
     listed : runs.keep.entries ≡ restarted runs.opening runs.now runs.settings
     listed = (runs.starts.own told).listed
 
@@ -185,7 +186,7 @@ module _ {D A E C W L : Type 0} (world : World D A E C W L)
     all_legal : IsLegal (runs.keep.entries ++ runs.serves.added)
     all_legal = subst IsLegal behind.listed (undoubted runs.serves.closed.keep.entries runs.serves.closed.keep.doubt behind.holds.legal)
 
-    workers_range : (1 ≤ runs.settings.workers) × (runs.settings.workers ≤ 16)
+    workers_range : (1 ≤ runs.settings.workers) × (runs.settings.workers ≤ MAX_WORKERS)
     workers_range = range_of runs.settings runs.kept.workers
 
     ledger_of : (serves : ClosesServed world lanes runs.settings.workers connections
@@ -227,7 +228,7 @@ module _ {D A E C W L : Type 0} (world : World D A E C W L)
   -- what comes of a run that nothing was in the way of
   module _ (lanes : ℕ) (connections : Option ℕ) (text : Option (List ℕ)) (before after : ManyThreads D A E C W L) (end : RunEnd) (tally : Tally)
       (rules : BreaksNoRule text (world.disks.state before.disk)) (disk_stays : Stays (world.disks.faults before.disk) (world.disks.faults after.disk))
-      (doors_stay : SomeRose world.doors before.lanes after.lanes → ⊥) (lanes_eight : length before.lanes ≡ 8) (few : lanes ≤ 8) (hands_sixteen : length before.hands ≡ 16)
+      (doors_stay : SomeRose world.doors before.lanes after.lanes → ⊥) (lanes_eight : length before.lanes ≡ MAX_LANES) (few : lanes ≤ MAX_LANES) (hands_sixteen : length before.hands ≡ MAX_WORKERS)
       (not_command : status_of end ≢ 2) (not_unread : status_of end ≢ 8) where
     -- a text of settings that breaks no rule breaks none
     not_broken : (given : Option (List ℕ)) (fault : SettingsFault) → HasGoodSettings given → IfSome given (λ bytes. settings_of bytes ≡ Err fault) → ⊥
@@ -306,7 +307,7 @@ module _ {D A E C W L : Type 0} (world : World D A E C W L)
 
   pub run_leaves_disk : {lanes : ℕ} {connections : Option ℕ} {text : Option (List ℕ)} {before after : ManyThreads D A E C W L} {end : RunEnd} {tally : Tally}
       → IsServingRun world lanes connections end tally text before after
-      → status_of end ≡ 0 → IsTold (world.disks.state before.disk) → length before.lanes ≡ 8 → lanes ≤ 8 → length before.hands ≡ 16 → LeavesDisk world.disks after.disk
+      → status_of end ≡ 0 → IsTold (world.disks.state before.disk) → length before.lanes ≡ MAX_LANES → lanes ≤ MAX_LANES → length before.hands ≡ MAX_WORKERS → LeavesDisk world.disks after.disk
   run_leaves_disk {text = text} {before = before} {after = after} {end = end} (inl stops) zero_is told lanes_eight few hands_sixteen =
       absurd (stop_status world.disks text before.moments after.moments before.disk after.disk end stops.stop zero_is)
   run_leaves_disk (inr runs) zero_is told lanes_eight few hands_sixteen = leaves_disk runs told lanes_eight few hands_sixteen zero_is

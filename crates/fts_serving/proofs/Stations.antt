@@ -1,5 +1,5 @@
 -- How a worker's turns leave the lanes, and what its last turn found, where it ended drained.
-use Rattle.std.proofs.Common.{◌≡◌, ◌≢◌, refl, sym, ap, ◌∙◌, subst, ℕ, zero, suc, List, [], ◌∷◌, ◌++◌, Option, Some, Result, Ok, Err}
+use Rattle.std.proofs.Common.{◌≡◌, ◌≢◌, refl, sym, ap, ◌∙◌, subst, ℕ, zero, suc, Bool, true, false, List, [], ◌∷◌, ◌++◌, append-nil, append_assoc, Option, Some, None, Result, Ok, Err}
 use Rattle.fts_tables.specs.Coming.{Coming}
 use Rattle.fts_tables.specs.Step.{step}
 use Rattle.fts_tables.specs.History.{tables_of}
@@ -8,9 +8,9 @@ use Rattle.fts_tables.specs.declared.rows.FileState.TheVariants as state
 use Rattle.fts_tables.specs.declared.rows.Outcome.{Outcome}
 use Rattle.fts_tables.specs.declared.commands.Entry.{Entry}
 use Rattle.fts_tables.specs.declared.commands.Command.{Command}
-use Rattle.fts_tables.specs.declared.commands.Command.TheVariants.{Claim}
+use Rattle.fts_tables.specs.declared.commands.Command.TheVariants.{Claim, Expire}
 use Rattle.fts_tables.specs.declared.commands.Answer.{Answer}
-use Rattle.fts_tables.specs.declared.commands.Answer.TheVariants.{Restarted, Submitted, Cancelled, PrioritySet, Claimed, Reported}
+use Rattle.fts_tables.specs.declared.commands.Answer.TheVariants.{Restarted, Submitted, Cancelled, PrioritySet, Claimed, Reported, Banned, Unbanned, Expired}
 use Rattle.fts_tables.specs.declared.commands.Refusal.{Refusal}
 use Rattle.fts_tables.specs.declared.commands.Refusal.TheVariants.{Idle}
 use Rattle.fts_turnstile.specs.declared.turn.Turn.{Turn}
@@ -21,10 +21,11 @@ use Rattle.fts_keep.specs.Applied.{entry_by}
 use Rattle.fts_keep.specs.declared.fault.KeepFault.{KeepFault}
 use Rattle.fts_keep.specs.declared.fault.KeepFault.TheVariants.{Rule, DiskFailed, JournalFull, Damaged, Memory}
 use Rattle.fts_workers.proofs.Accepted.{refused_of}
+use Rattle.fts_workers.specs.ClaimSteps.{goes_on}
 use Rattle.fts_workers.specs.declared.held.Held.{Held}
-use Rattle.fts_shop.specs.Looked.{same_on}
+use Rattle.fts_shop.specs.Looked.{items_on, same_on}
 use Rattle.fts_shop.specs.Looking.{LeaveLanes}
-use Rattle.fts_shop.specs.Shops.{IsToldList, TriedInTurn, lanes_shown, point}
+use Rattle.fts_shop.specs.Shops.{IsToldList, StepInTurn, TriedInTurn, added_by, lanes_shown, point, step_answer}
 use Rattle.fts_shop.specs.Turns.{Copies, GoesOn, HandData, IsTurn, ReportsHeld, end_by_report, end_by_state, idle_end}
 use Rattle.fts_shop.specs.Workers.{AreTurns, StationData, WorkerDone, worker_end_of}
 use Rattle.fts_shop.specs.declared.ends.Turn.{Turn as TurnEnd}
@@ -43,6 +44,15 @@ begun : (pass : PassView Entry) → pass.seen ≡ [] → Leaves pass pass
 begun pass unseen = record {
   same = (refl, refl, refl, refl, refl, refl);
   leaves = subst (LeaveLanes pass.number pass.opening_shows) (sym unseen) tt;
+}
+
+-- a worker's step more
+step_leaves : (base : PassView Entry) {old new : PassView Entry} {now word lanes : ℕ} {expiry : Result Answer KeepFault} {claim : Option (Result Answer KeepFault)}
+    → Leaves base old → StepInTurn old new now word expiry claim lanes → Leaves base new
+step_leaves base {old} {new} was tried = record {
+  same = same_on base old new was.same tried.taken.same;
+  leaves = subst (λ n. LeaveLanes n new.opening_shows new.seen) (sym tried.taken.same.3)
+      (subst (λ l. LeaveLanes old.number l new.seen) (sym tried.taken.same.2) (turn_leaves tried.taken was.leaves tried.stay));
 }
 
 -- one turn more
@@ -82,13 +92,16 @@ module _ {E : Type 0} (stores : store.Ghosts E) where
   goes_leave base hand after lanes (Ok (Cancelled job)) end left was goes = absurd goes
   goes_leave base hand after lanes (Ok (PrioritySet job)) end left was goes = absurd goes
   goes_leave base hand after lanes (Ok (Reported file left_in)) end left was goes = absurd goes
+  goes_leave base hand after lanes (Ok (Banned cancelled)) end left was goes = absurd goes
+  goes_leave base hand after lanes (Ok Unbanned) end left was goes = absurd goes
+  goes_leave base hand after lanes (Ok (Expired cancelled)) end left was goes = absurd goes
   goes_leave base hand after lanes (Err fault) end left was goes = subst (Leaves base) (sym goes.1.pass) was
 
   -- a turn at a station
   turn_leaves_lanes : (base old new : PassView Entry) (hand after : HandData E) (held : List Held) (end : TurnEnd) (left : List Held) → Leaves base old
       → IsTurn stores old new hand after held end left → Leaves base new
   turn_leaves_lanes base old new hand after [] end left was turn =
-      goes_leave base turn.behind after turn.lanes turn.result end left (tried_leaves base was turn.tried) turn.goes_on
+      goes_leave base turn.behind after turn.lanes (step_answer turn.expiry turn.claim) end left (step_leaves base was turn.tried) turn.goes_on
   turn_leaves_lanes base old new hand after (held ∷ others) end left was turn =
       reports_leave base hand.moments after.moments (held ∷ others) end left was turn.reported
 
@@ -111,17 +124,23 @@ module _ {E : Type 0} (stores : store.Ghosts E) where
       → IsSame old.pass done.between.pass
   between_same old new unseen done = (turns_leave old.pass done.more old done.between (begun old.pass unseen) done.turns).same
 
--- the last turn of a worker that ended drained: no lane was left, no row was eligible on the list so far, and nothing was added
+-- the last turn of a worker that ended drained: no lane was left, and no row was eligible on the list with what the turn added
 pub record FindsNone (pass : PassView Entry) : Type 0 where
   pub before : List (Turn Entry)
   pub turn : Turn Entry
   pub seen : pass.seen ≡ before ++ turn ∷ []
   pub mine : turn.number ≡ pass.number
-  pub nothing : turn.items ≡ []
   pub no_lane : lanes_shown (shown_after pass.opening_shows before) ≡ 0
   pub now : ℕ
   pub word : ℕ
-  pub refused : step (tables_of (pass.opening ++ items_of before)) (Claim now word) ≡ Err Idle
+  pub refused : step (tables_of (pass.opening ++ items_of (before ++ turn ∷ []))) (Claim now word) ≡ Err Idle
+
+-- the list with what the last turn added
+items_with : (opening : List Entry) (before : List (Turn Entry)) (turn : Turn Entry) (own : List Entry) → turn.items ≡ own ++ []
+    → opening ++ items_of (before ++ turn ∷ []) ≡ (opening ++ items_of before) ++ own
+items_with opening before turn own is =
+    ap (λ l. opening ++ l) (items_on before (turn ∷ []) ∙ ap (λ l. items_of before ++ l) (append-nil turn.items ∙ is ∙ append-nil own))
+    ∙ sym (append_assoc opening (items_of before) own)
 
 -- a turn that ends so
 drained_end : (end : TurnEnd) → worker_end_of end ≡ Some worker_ends.Drained → end ≡ turn_ends.Stopping
@@ -155,6 +174,9 @@ report_ends file lanes (Ok (Submitted job id)) is = absurd cc
 report_ends file lanes (Ok (Cancelled job)) is = absurd cc
 report_ends file lanes (Ok (PrioritySet job)) is = absurd cc
 report_ends file lanes (Ok (Claimed claimed attempt)) is = absurd cc
+report_ends file lanes (Ok (Banned cancelled)) is = absurd cc
+report_ends file lanes (Ok Unbanned) is = absurd cc
+report_ends file lanes (Ok (Expired cancelled)) is = absurd cc
 report_ends file lanes (Err DiskFailed) is = absurd cc
 report_ends file lanes (Err (JournalFull used)) is = absurd cc
 report_ends file lanes (Err Memory) is = absurd cc
@@ -175,48 +197,67 @@ module _ {E : Type 0} (stores : store.Ghosts E) where
   held_ends old new moments later (held ∷ next ∷ others) left reported = reported
 
   -- a refused claim, tried over a told list
-  refused_claim : {old claimed : PassView Entry} (now word lanes : ℕ) (refusal : Refusal) → IsToldList old → lanes ≡ 0
-      → TriedInTurn old claimed (Claim now word) (Err (Rule refusal)) lanes → FindsNone claimed
-  refused_claim {old} {claimed} now word lanes refusal told none tried =
+  refused_claim : {old claimed : PassView Entry} (now word lanes : ℕ) (expiry : Result Answer KeepFault) (refusal : Refusal) → IsToldList old → lanes ≡ 0
+      → StepInTurn old claimed now word expiry (Some (Err (Rule refusal))) lanes → FindsNone claimed
+  refused_claim {old} {claimed} now word lanes expiry refusal told none tried =
       let taken = tried.taken in
       let before = old.seen ++ taken.between in
+      let own = added_by (entry_by old.number (Expire now)) expiry in
+      let list = point taken ++ own in
       record {
         before = before;
         turn = taken.turn;
         seen = taken.seen;
         mine = taken.mine ∙ sym taken.same.3;
-        nothing = tried.added told;
         no_lane = ap (λ l. lanes_shown (shown_after l before)) taken.same.2 ∙ sym tried.left ∙ none;
         now = now;
         word = word;
-        refused = subst (λ o. step (tables_of (o ++ items_of before)) (Claim now word) ≡ Err Idle) (sym taken.same.1)
-            (subst (λ r. step (tables_of (point taken)) (Claim now word) ≡ Err r) tried.answers
-            (refused_of (used_of (point taken)) (entry_by old.number (Claim now word)) (step (tables_of (point taken)) (Claim now word)) refusal (tried.came told)));
+        refused = subst (λ o. step (tables_of (o ++ items_of (before ++ taken.turn ∷ []))) (Claim now word) ≡ Err Idle) (sym taken.same.1)
+            (subst (λ l. step (tables_of l) (Claim now word) ≡ Err Idle) (sym (items_with old.opening before taken.turn own (tried.added told)))
+            (subst (λ r. step (tables_of list) (Claim now word) ≡ Err r) tried.follows.1
+            (refused_of (used_of list) (entry_by old.number (Claim now word)) (step (tables_of list) (Claim now word)) refusal (tried.claimed told).came)));
       }
 
-  goes_none : {old claimed new : PassView Entry} (now word lanes : ℕ) (result : Result Answer KeepFault) (hand after : HandData E) (left : List Held)
-      → IsToldList old → TriedInTurn old claimed (Claim now word) result lanes
+  -- a step whose last command was refused tried its claim
+  refused_step : {old claimed : PassView Entry} (now word lanes : ℕ) (expiry : Result Answer KeepFault) (claim : Option (Result Answer KeepFault)) (refusal : Refusal)
+      → IsToldList old → lanes ≡ 0 → step_answer expiry claim ≡ Err (Rule refusal)
+      → StepInTurn old claimed now word expiry claim lanes → FindsNone claimed
+  refused_step {old} {claimed} now word lanes expiry None refusal told none is tried =
+      absurd (clash (sym (ap goes_on is) ∙ tried.follows))
+    where
+      clash : true ≡ false → ⊥
+      clash is = absurd cc
+  refused_step {old} {claimed} now word lanes expiry (Some result) refusal told none is tried =
+      refused_claim now word lanes expiry refusal told none
+      (subst (λ (r : Result Answer KeepFault). StepInTurn old claimed now word expiry (Some r) lanes) is tried)
+
+  goes_none : {old claimed new : PassView Entry} (now word lanes : ℕ) (expiry : Result Answer KeepFault) (claim : Option (Result Answer KeepFault))
+      (result : Result Answer KeepFault) (hand after : HandData E) (left : List Held)
+      → IsToldList old → step_answer expiry claim ≡ result → StepInTurn old claimed now word expiry claim lanes
       → GoesOn stores lanes result claimed new hand after turn_ends.Stopping left → FindsNone new × (left ≡ [])
-  goes_none now word lanes (Ok (Claimed file attempt)) hand after left told tried goes =
+  goes_none now word lanes expiry claim (Ok (Claimed file attempt)) hand after left told is tried goes =
       absurd (report_ends file goes.reported.lanes goes.reported.result (sym goes.reported.ends))
-  goes_none now word lanes (Ok (Restarted released)) hand after left told tried goes = absurd goes
-  goes_none now word lanes (Ok (Submitted job id)) hand after left told tried goes = absurd goes
-  goes_none now word lanes (Ok (Cancelled job)) hand after left told tried goes = absurd goes
-  goes_none now word lanes (Ok (PrioritySet job)) hand after left told tried goes = absurd goes
-  goes_none now word lanes (Ok (Reported file left_in)) hand after left told tried goes = absurd goes
-  goes_none now word lanes (Err (Rule refusal)) hand after left told tried goes = (
-    subst FindsNone (sym goes.1.pass) (refused_claim now word lanes refusal told (no_lane_left lanes (sym goes.0)) tried),
+  goes_none now word lanes expiry claim (Ok (Restarted released)) hand after left told is tried goes = absurd goes
+  goes_none now word lanes expiry claim (Ok (Submitted job id)) hand after left told is tried goes = absurd goes
+  goes_none now word lanes expiry claim (Ok (Cancelled job)) hand after left told is tried goes = absurd goes
+  goes_none now word lanes expiry claim (Ok (PrioritySet job)) hand after left told is tried goes = absurd goes
+  goes_none now word lanes expiry claim (Ok (Reported file left_in)) hand after left told is tried goes = absurd goes
+  goes_none now word lanes expiry claim (Ok (Banned cancelled)) hand after left told is tried goes = absurd goes
+  goes_none now word lanes expiry claim (Ok Unbanned) hand after left told is tried goes = absurd goes
+  goes_none now word lanes expiry claim (Ok (Expired cancelled)) hand after left told is tried goes = absurd goes
+  goes_none now word lanes expiry claim (Err (Rule refusal)) hand after left told is tried goes = (
+    subst FindsNone (sym goes.1.pass) (refused_step now word lanes expiry claim refusal told (no_lane_left lanes (sym goes.0)) is tried),
     goes.1.nothing,
   )
-  goes_none now word lanes (Err DiskFailed) hand after left told tried goes = absurd (let is = goes.0 in cc)
-  goes_none now word lanes (Err (JournalFull used)) hand after left told tried goes = absurd (let is = goes.0 in cc)
-  goes_none now word lanes (Err Memory) hand after left told tried goes = absurd (let is = goes.0 in cc)
-  goes_none now word lanes (Err (Damaged offset)) hand after left told tried goes = absurd (let is = goes.0 in cc)
+  goes_none now word lanes expiry claim (Err DiskFailed) hand after left told answer tried goes = absurd (let is = goes.0 in cc)
+  goes_none now word lanes expiry claim (Err (JournalFull used)) hand after left told answer tried goes = absurd (let is = goes.0 in cc)
+  goes_none now word lanes expiry claim (Err Memory) hand after left told answer tried goes = absurd (let is = goes.0 in cc)
+  goes_none now word lanes expiry claim (Err (Damaged offset)) hand after left told answer tried goes = absurd (let is = goes.0 in cc)
 
   turn_none : (old new : PassView Entry) (hand after : HandData E) (held left : List Held) → IsToldList old
       → IsTurn stores old new hand after held turn_ends.Stopping left → FindsNone new × (left ≡ [])
   turn_none old new hand after [] left told turn =
-      goes_none turn.now turn.word turn.lanes turn.result turn.behind after left told turn.tried turn.goes_on
+      goes_none turn.now turn.word turn.lanes turn.expiry turn.claim (step_answer turn.expiry turn.claim) turn.behind after left told refl turn.tried turn.goes_on
   turn_none old new hand after (held ∷ others) left told turn = absurd (held_ends old new hand.moments after.moments (held ∷ others) left turn.reported)
 
   -- a worker that ended drained found none in its last turn, and holds nothing

@@ -3,6 +3,7 @@
 ghost use Rattle.std.specs.Prelude.{◌≡◌, ◌≢◌, ◌⊎◌, ◌≤◌, ℕ, List, ◌++◌, length, Option};
 ghost use Rattle.fts_tables.specs.SettingsData.{SettingsData};
 ghost use Rattle.fts_tables.specs.History.{IsLegal};
+ghost use Rattle.fts_tables.specs.declared.limits.TheConstants.{MAX_LANES, MAX_WORKERS};
 ghost use Rattle.fts_disk.specs.Disk.{IsTold};
 ghost use Rattle.fts_keep.specs.Keeps.{KeepData};
 ghost use Rattle.fts_shop.specs.Shops.{ShopData};
@@ -48,15 +49,15 @@ pub fn lanes_and_workers_keep_the_ledger<D: Disk, E: Store, C: Clock, W: Words, 
 }
 
 /// A run that serves over a told disk keeps the ledger where its lanes began (`ledger`). Where it ended with status 0, its disk has a list of its own
-/// behind which no file is out, and no row may be claimed at the last moment (`ends`). There are 8 lanes, of which it uses some, and 16 hands.
+/// behind which no file is out, and no row may be claimed at the last moment (`ends`). There are `MAX_LANES` lanes, of which it uses some, and `MAX_WORKERS` hands.
 pub fn runs_that_serve_leave_nothing<D: Disk, E: Store, C: Clock, W: Words, A: Doors>()
     ensures ledger { (lanes : ℕ) (connections : Option ℕ) (text : Option (List ℕ)) (before after : ManyThreads D A E C W A.Line) (end : RunEnd) (tally : Tally)
         → (runs : RunsServing (world_of D.Disk E.Store A.Doors A.Line.Source A.Line.Sink C.Clock W.Words) lanes connections text before after end tally)
-        → IsTold (D.state before.disk) → length before.lanes ≡ 8 → lanes ≤ 8 → length before.hands ≡ 16
+        → IsTold (D.state before.disk) → length before.lanes ≡ MAX_LANES → lanes ≤ MAX_LANES → length before.hands ≡ MAX_WORKERS
         → KeptWhereServed (world_of D.Disk E.Store A.Doors A.Line.Source A.Line.Sink C.Clock W.Words) runs.serves.closes }
     ensures ends { (lanes : ℕ) (connections : Option ℕ) (text : Option (List ℕ)) (before after : ManyThreads D A E C W A.Line) (end : RunEnd) (tally : Tally)
         → IsServingRun (world_of D.Disk E.Store A.Doors A.Line.Source A.Line.Sink C.Clock W.Words) lanes connections end tally text before after
-        → status_of end ≡ 0 → IsTold (D.state before.disk) → length before.lanes ≡ 8 → lanes ≤ 8 → length before.hands ≡ 16
+        → status_of end ≡ 0 → IsTold (D.state before.disk) → length before.lanes ≡ MAX_LANES → lanes ≤ MAX_LANES → length before.hands ≡ MAX_WORKERS
         → LeavesDisk D.Disk after.disk }
 {
     turns_keep_the_ledger::<E>();
@@ -73,7 +74,7 @@ pub fn runs_that_serve_leave_nothing<D: Disk, E: Store, C: Clock, W: Words, A: D
 pub fn runs_that_serve_come_to_their_end<D: Disk, E: Store, C: Clock, W: Words, A: Doors>()
     ensures ends { (lanes : ℕ) (connections : Option ℕ) (text : Option (List ℕ)) (before after : ManyThreads D A E C W A.Line) (end : RunEnd) (tally : Tally)
         → BreaksNoRule text (D.state before.disk) → Stays (D.faults before.disk) (D.faults after.disk) → (SomeRose A.Doors before.lanes after.lanes → ⊥)
-        → length before.lanes ≡ 8 → lanes ≤ 8 → length before.hands ≡ 16 → status_of end ≢ 2 → status_of end ≢ 8
+        → length before.lanes ≡ MAX_LANES → lanes ≤ MAX_LANES → length before.hands ≡ MAX_WORKERS → status_of end ≢ 2 → status_of end ≢ 8
         → (ran : IsServingRun (world_of D.Disk E.Store A.Doors A.Line.Source A.Line.Sink C.Clock W.Words) lanes connections end tally text before after)
         → Finishes (world_of D.Disk E.Store A.Doors A.Line.Source A.Line.Sink C.Clock W.Words) ran }
 {

@@ -4,7 +4,7 @@ use Rattle.fts_tables.specs.Tables.{Tables}
 use Rattle.fts_tables.specs.Step.{step}
 use Rattle.fts_tables.specs.History.{IsAccepted}
 use Rattle.fts_tables.specs.declared.commands.Command.{Command}
-use Rattle.fts_tables.specs.declared.commands.Command.TheVariants.{Restart, Submit, CancelJob, CancelFile, SetPriority, Claim, Report}
+use Rattle.fts_tables.specs.declared.commands.Command.TheVariants.{Restart, Submit, CancelJob, CancelFile, SetPriority, Claim, Report, Ban, Unban, Expire}
 use Rattle.fts_tables.specs.declared.commands.Entry.{Entry}
 use Rattle.fts_wire.specs.RequestData.{RequestData}
 use Rattle.fts_workers.specs.Requests.{IsOfRequest}
@@ -25,6 +25,9 @@ is_of_request (CancelFile now job file) asked = tt
 is_of_request (SetPriority now job priority) asked = tt
 is_of_request (Claim now word) asked = asked
 is_of_request (Report now file attempt outcome) asked = asked
+is_of_request (Ban now storage cancel) asked = tt
+is_of_request (Unban now storage) asked = tt
+is_of_request (Expire now) asked = asked
 
 adds : (tables : Tables) (added : List Entry) → AddsAsked tables added → AddsWell tables added
 adds tables added (inl none) = inl none

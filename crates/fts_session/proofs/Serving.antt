@@ -1,12 +1,12 @@
 -- A connection's loop over a keep and a bench, request by request, and the last rounds.
-use Rattle.std.proofs.Common.{◌≡◌, inl, inr, ℕ, zero, suc, ◌+◌, ◌-◌, ◌<◌, ◌≤◌, true, false, List, [], ◌∷◌, ◌++◌, length, Option, Ok, Err, refl, ap, subst, arith}
+use Rattle.std.proofs.Common.{◌≡◌, ◌⊎◌, inl, inr, ℕ, zero, suc, ◌+◌, ◌-◌, ◌<◌, ◌≤◌, true, false, List, [], ◌∷◌, ◌++◌, length, Option, Ok, Err, refl, ap, sym, ◌∙◌, subst, arith}
 use Rattle.fts_tables.specs.Coming.{Coming, Gives}
 use Rattle.fts_tables.specs.History.{out_of_list}
 use Rattle.fts_tables.specs.declared.limits.TheConstants.{MAX_REQUESTS}
 use Rattle.fts_disk.specs.Disk.{IsTold, IsLawful}
 use Rattle.fts_keep.specs.Keeps.{KeepData, IsKeep, Grows, KeepsImagesSinceAny}
 use Rattle.fts_workers.specs.Benches.{calm_end}
-use Rattle.fts_workers.specs.Rounds.{Walk, WorksOff, FillsUp, IsRound}
+use Rattle.fts_workers.specs.Rounds.{Walk, Expires, ExpiresAndClaims, FillsUp, FindsNoneOverdue, IsRound, WorksOff}
 use Rattle.fts_workers.specs.declared.ends.RoundEnd.{RoundEnd}
 use Rattle.fts_workers.specs.declared.ends.RoundEnd.TheVariants.{Busy}
 use Rattle.fts_wire.specs.RoomData.{RoomData}
@@ -44,8 +44,17 @@ fills_keep (suc free) walk end after (inl claimed) = omega (arith, claimed.1.0.a
 fills_keep (suc free) walk end after (inr (inl none)) = omega (arith, none.0.none.filled)
 fills_keep (suc free) walk end after (inr (inr stops)) = omega (arith, stops.none.filled)
 
+expiry_keeps : (walk next : Walk) → (Expires walk next ⊎ FindsNoneOverdue walk next) → walk.used ≤ next.used
+expiry_keeps walk next (inl expires) = omega (arith, expires.adds.filled)
+expiry_keeps walk next (inr none) = omega (arith, none.none.filled)
+
+expires_keep : (workers : ℕ) (walk : Walk) (end : RoundEnd) (after : Walk) → ExpiresAndClaims workers walk end after → walk.used ≤ after.used
+expires_keep workers walk end after (inl on) =
+    omega (arith, expiry_keeps walk on.0 on.1.0, fills_keep (workers - length (out_of_list on.0.entries)) on.0 end after on.1.1)
+expires_keep workers walk end after (inr stops) = omega (arith, stops.none.filled)
+
 works_keep : (workers : ℕ) (files : List ℕ) (walk : Walk) (end : RoundEnd) (after : Walk) → WorksOff workers files walk end after → walk.used ≤ after.used
-works_keep workers [] walk end after filled = fills_keep (workers - length (out_of_list walk.entries)) walk end after filled
+works_keep workers [] walk end after done = expires_keep workers walk end after done
 works_keep workers (file ∷ files) walk end after (inl reported) = omega (arith, reported.1.0.adds.filled, works_keep workers files reported.0 end after reported.1.1)
 works_keep workers (file ∷ files) walk end after (inr stops) = omega (arith, stops.none.filled)
 
@@ -60,8 +69,17 @@ fills_more (suc free) held walk after none (inl claimed) = omega (arith, claimed
 fills_more (suc free) held walk after none (inr (inl idle)) = absurd (none_busy held (out_of_list walk.entries) none idle.1)
 fills_more (suc free) held walk after none (inr (inr stops)) = absurd stops.stops
 
+-- where no files are out before it, an expiry with the claims behind it uses more, if the round is busy: each entry that is accepted does
+expires_more : (workers held : ℕ) (walk after : Walk) → [] ≡ out_of_list walk.entries → ExpiresAndClaims workers walk (Busy held) after → walk.used < after.used
+expires_more workers held walk after none (inl (next, (inl expires, filled))) =
+    omega (arith, expires.adds.filled, fills_keep (workers - length (out_of_list next.entries)) next (Busy held) after filled)
+expires_more workers held walk after none (inl (next, (inr idle, filled))) =
+    let more = fills_more (workers - length (out_of_list next.entries)) held next after (none ∙ ap (λ l. out_of_list l) (sym idle.none.listed)) filled in
+    omega (arith, idle.none.filled, more)
+expires_more workers held walk after none (inr stops) = absurd stops.stops
+
 works_busy : (workers held : ℕ) (files : List ℕ) (walk after : Walk) → files ≡ out_of_list walk.entries → WorksOff workers files walk (Busy held) after → walk.used < after.used
-works_busy workers held [] walk after is filled = fills_more (workers - length (out_of_list walk.entries)) held walk after is filled
+works_busy workers held [] walk after is done = expires_more workers held walk after is done
 works_busy workers held (file ∷ files) walk after is (inl reported) =
     omega (arith, reported.1.0.adds.filled, works_keep workers files reported.0 (Busy held) after reported.1.1)
 works_busy workers held (file ∷ files) walk after is (inr stops) = absurd stops.stops

@@ -1,20 +1,20 @@
 -- Parts of a session, one behind the other: what each adds, what the bench holds, and the store that follows.
 use Rattle.std.proofs.Common.{◌≡◌, inl, inr, refl, ap, sym, ◌∙◌, subst, ℕ, zero, suc, ◌+◌, ◌-◌, ◌≤◌, Bool, true, false, if◌then◌else◌, cond, List, [], ◌∷◌, ◌++◌, length, Option, None, arith, append_assoc, length-append}
-use Rattle.std.proofs.lemmas.List.Sums.{sum_by-append}
+use Rattle.std.proofs.lemmas.List.Sums.{sum_by-append, sum_by-cons}
 use Rattle.fts_tables.specs.Coming.{Coming, Gives}
 use Rattle.fts_tables.specs.Tables.{Tables, empty_tables}
 use Rattle.fts_tables.specs.Step.{step}
 use Rattle.fts_tables.specs.History.{tables_of, tables_from, tables_after, IsAccepted, IsLegal, out_of_list}
 use Rattle.fts_tables.specs.declared.commands.Entry.{Entry}
 use Rattle.fts_tables.specs.declared.commands.Command.{Command}
-use Rattle.fts_tables.specs.declared.commands.Command.TheVariants.{Restart, Submit, CancelJob, CancelFile, SetPriority, Claim, Report}
+use Rattle.fts_tables.specs.declared.commands.Command.TheVariants.{Restart, Submit, CancelJob, CancelFile, SetPriority, Claim, Report, Ban, Unban, Expire}
 use Rattle.fts_tables.specs.declared.rows.Outcome.{Outcome}
 use Rattle.fts_disk.specs.Disk.{IsTold, IsLawful}
 use Rattle.fts_keep.specs.Keeps.{KeepData, IsKeep, Grows, KeepsImagesSinceAny, used_after}
-use Rattle.fts_workers.specs.Benches.{BenchData, HoldsActive, held_as, held_over, kept_of}
+use Rattle.fts_workers.specs.Benches.{BenchData, HoldsActive, held_over, kept_of, newly_held}
 use Rattle.fts_workers.specs.Copies.{Copy, copies_in, copies_from, copies_kept, AreCopied, FollowsReports}
 use Rattle.fts_workers.specs.Requests.{IsOfRequest}
-use Rattle.fts_workers.specs.Rounds.{Walk, WorksOff, FillsUp, IsRound, IsWorkedOver, walk_over, MakesRound}
+use Rattle.fts_workers.specs.Rounds.{Walk, IsRound, IsWorkedOver, walk_over, MakesRound, claims_among, is_claim as is_claim_of_round}
 use Rattle.fts_workers.specs.declared.held.Held.{Held}
 use Rattle.fts_workers.specs.declared.ends.RoundEnd.{RoundEnd}
 use Rattle.fts_wire.specs.RequestData.{RequestData}
@@ -65,6 +65,9 @@ no_claim (SetPriority now job priority) is = refl
 no_claim (Restart now settings) is = absurd is
 no_claim (Claim now word) is = absurd is
 no_claim (Report now file attempt outcome) is = absurd is
+no_claim (Ban now storage cancel) is = refl
+no_claim (Unban now storage) is = refl
+no_claim (Expire now) is = absurd is
 
 -- and reports no copy
 no_copy : (tables : Tables) (command : Command) → IsOfRequest command → copies_in tables command ≡ []
@@ -75,6 +78,9 @@ no_copy tables (SetPriority now job priority) is = refl
 no_copy tables (Restart now settings) is = absurd is
 no_copy tables (Claim now word) is = absurd is
 no_copy tables (Report now file attempt outcome) is = absurd is
+no_copy tables (Ban now storage cancel) is = refl
+no_copy tables (Unban now storage) is = refl
+no_copy tables (Expire now) is = absurd is
 
 -- the copies of one list and of another one
 pub copies_from-append : (by : ℕ → Bool) (tables : Tables) (entries more : List Entry)
@@ -86,57 +92,26 @@ copies_from-append by tables (entry ∷ entries) more =
     ∙ sym (append_assoc own (copies_from by (tables_after tables (step tables entry.command)) entries)
     (copies_from by (tables_from (tables_after tables (step tables entry.command)) entries) more))
 
--- how many files are held over a list
-pub length-held_as : (tables : Tables) (kept : Option Outcome) (files : List ℕ) → length (held_as tables kept files) ≡ length files
-length-held_as tables kept [] = refl
-length-held_as tables kept (file ∷ files) = omega (arith, length-held_as tables None files)
+-- what a round counts as a claim is one
+same_claim : (command : Command) → is_claim command ≡ is_claim_of_round command
+same_claim (Restart now settings) = refl
+same_claim (Submit now job) = refl
+same_claim (CancelJob now job) = refl
+same_claim (CancelFile now job file) = refl
+same_claim (SetPriority now job priority) = refl
+same_claim (Claim now word) = refl
+same_claim (Report now file attempt outcome) = refl
+same_claim (Ban now storage cancel) = refl
+same_claim (Unban now storage) = refl
+same_claim (Expire now) = refl
 
--- the claims of a part of a round are the entries that it adds, but for the reports
-record Counts (before after : List Entry) (reports : ℕ) : Type 0 where
-  pub grows : length before ≤ length after
-  pub claims : claims_in after ≡ claims_in before + ((length after - length before) - reports)
-
-counts_none : (before after : List Entry) (reports : ℕ) → after ≡ before → Counts before after reports
-counts_none before after reports same = record {
-  grows = subst (λ l. length before ≤ length l) (sym same) (omega arith);
-  claims = ap (λ l. claims_in l) same ∙ omega (arith, ap (λ (l : List Entry). length l) same);
-}
-
--- one claim more at the beginning
-counts_claim : (before mid after : List Entry) (entry : Entry) → is_claim entry.command ≡ true → mid ≡ before ++ entry ∷ [] → Counts mid after 0 → Counts before after 0
-counts_claim before mid after entry is same behind =
-    let long : length mid ≡ length before + 1 = ap (λ (l : List Entry). length l) same ∙ length-append before (entry ∷ []) in
-    let one : claims_in (entry ∷ []) ≡ 1 = claims_one entry ∙ ap (λ (b : Bool). cond {A = ℕ} b 1 0) is in
-    let more : claims_in mid ≡ claims_in before + 1 = ap (λ l. claims_in l) same ∙ claims_more before (entry ∷ []) ∙ ap (λ (n : ℕ). claims_in before + n) one in
-    record { grows = omega (arith, long, behind.grows); claims = omega (arith, long, more, behind.grows, behind.claims) }
-
--- one report more at the beginning
-counts_report : (before mid after : List Entry) (entry : Entry) (reports : ℕ) → is_claim entry.command ≡ false → mid ≡ before ++ entry ∷ [] → Counts mid after reports
-    → Counts before after (suc reports)
-counts_report before mid after entry reports is same behind =
-    let long : length mid ≡ length before + 1 = ap (λ (l : List Entry). length l) same ∙ length-append before (entry ∷ []) in
-    let one : claims_in (entry ∷ []) ≡ 0 = claims_one entry ∙ ap (λ (b : Bool). cond {A = ℕ} b 1 0) is in
-    let more : claims_in mid ≡ claims_in before = ap (λ l. claims_in l) same ∙ claims_more before (entry ∷ []) ∙ omega (arith, one) in
-    record { grows = omega (arith, long, behind.grows); claims = omega (arith, long, more, behind.grows, behind.claims) }
-
-fills_counts : (free : ℕ) (walk : Walk) (end : RoundEnd) (after : Walk) → FillsUp free walk end after → Counts walk.entries after.entries 0
-fills_counts zero walk end after filled = counts_none walk.entries after.entries 0 (ap (λ (w : Walk). w.entries) filled.0)
-fills_counts (suc free) walk end after (inl claimed) =
-    counts_claim walk.entries claimed.0.entries after.entries claimed.1.0.entry (ap (λ (e : Entry). is_claim e.command) claimed.1.0.tried.is) claimed.1.0.adds.listed
-    (fills_counts free claimed.0 end after claimed.1.1)
-fills_counts (suc free) walk end after (inr (inl none)) = counts_none walk.entries after.entries 0 none.0.none.listed
-fills_counts (suc free) walk end after (inr (inr stops)) = counts_none walk.entries after.entries 0 stops.none.listed
-
-fewer : (before after : List Entry) (reports : ℕ) → reports ≡ 0 → Counts before after 0 → Counts before after reports
-fewer before after reports none counts = subst (λ (n : ℕ). Counts before after n) (sym none) counts
-
-works_counts : (workers : ℕ) (files : List ℕ) (walk : Walk) (end : RoundEnd) (after : Walk) → WorksOff workers files walk end after
-    → Counts walk.entries after.entries (length files)
-works_counts workers [] walk end after filled = fills_counts (workers - length (out_of_list walk.entries)) walk end after filled
-works_counts workers (file ∷ files) walk end after (inl reported) =
-    counts_report walk.entries reported.0.entries after.entries _ (length files) refl reported.1.0.adds.listed
-    (works_counts workers files reported.0 end after reported.1.1)
-works_counts workers (file ∷ files) walk end after (inr stops) = counts_none walk.entries after.entries (length (file ∷ files)) stops.none.listed
+same_claims : (entries : List Entry) → claims_in entries ≡ claims_among entries
+same_claims [] = refl
+same_claims (entry ∷ entries) =
+    sum_by-cons (λ (e : Entry). cond {A = ℕ} (is_claim e.command) 1 0) entry entries
+    ∙ ap (λ (b : Bool). cond {A = ℕ} b 1 0 + claims_in entries) (same_claim entry.command)
+    ∙ ap (λ n. cond {A = ℕ} (is_claim_of_round entry.command) 1 0 + n) (same_claims entries)
+    ∙ sym (sum_by-cons (λ (e : Entry). cond {A = ℕ} (is_claim_of_round e.command) 1 0) entry entries)
 
 -- copies after copies
 copied_more : {E : Type 0} (stores : store.Ghosts E) (start middle after : E) (first second : List Copy)
@@ -266,12 +241,24 @@ module _ {D E : Type 0} (disks : disk.Ghosts D) (stores : store.Ghosts E) where
     ready = two.ready;
   }
 
+  -- no more files were claimed behind a round than there are commands
+  pub round_few : (keep new : KeepData D) (bench bench_now : BenchData) (claims : ℕ) (store store_now : E) (moments later words words_later : Option Coming)
+      (end : RoundEnd) → IsReady (record { keep = keep; bench = bench; claims = claims; store = store; moments = moments; words = words })
+      → MakesRound disks.state disks.faults stores.state stores.calls stores.faults keep new bench bench_now store store_now moments later words words_later end
+      → claims + newly_held bench_now.held ≤ new.commands
+  round_few keep new bench bench_now claims store store_now moments later words words_later end ready round =
+      let base = ready.over.0 in
+      let over = ready.over.1 in
+      let over_now = round.over base over in
+      let claimed : claims_in round.added ≡ newly_held bench_now.held = same_claims round.added ∙ round.claimed in
+      omega (arith, ready.few, claimed, claims_few round.added, over.list.counted, over_now.list.counted, length-append base round.added)
+
   -- a round
   pub works_round : (keep new : KeepData D) (bench bench_now : BenchData) (claims claims_now : ℕ) (store store_now : E) (moments later words words_later : Option Coming) (end : RoundEnd)
       → IsReady (record { keep = keep; bench = bench; claims = claims; store = store; moments = moments; words = words })
       → (round : MakesRound disks.state disks.faults stores.state stores.calls stores.faults keep new bench bench_now store store_now moments later words words_later end)
       → HoldsActive new.tables bench_now → bench_now.places ≡ bench.places → Grows disks.state disks.faults 0 keep new → KeepsImagesSinceAny disks.state keep new
-      → claims_now ≡ claims + ((new.commands - keep.commands) - length bench.held)
+      → claims_now ≡ claims + newly_held bench_now.held
       → Works disks stores (λ before after. IsRound bench.places before end after)
       (record { keep = keep; bench = bench; claims = claims; store = store; moments = moments; words = words })
       (record { keep = new; bench = bench_now; claims = claims_now; store = store_now; moments = later; words = words_later })
@@ -279,14 +266,7 @@ module _ {D E : Type 0} (disks : disk.Ghosts D) (stores : store.Ghosts E) where
       let base = ready.over.0 in
       let over = ready.over.1 in
       let over_now = round.over base over in
-      let counts = works_counts bench.places (out_of_list base) (walk_over disks.faults base keep bench moments words) end
-      (walk_over disks.faults (base ++ round.added) new bench_now later words_later) (round.round base over) in
-      let held : length bench.held ≡ length (out_of_list base) = ap (λ (l : List Held). length l) over.held ∙ length-held_as (tables_of base) (kept_of bench.held) (out_of_list base) in
-      let long = length-append base round.added in
-      let more = claims_more base round.added in
-      let few = claims_few round.added in
-      let claimed : claims_in round.added ≡ (new.commands - keep.commands) - length bench.held =
-      omega (arith, counts.claims, long, more, held, over.list.counted, over_now.list.counted) in
+      let claimed : claims_in round.added ≡ newly_held bench_now.held = same_claims round.added ∙ round.claimed in
       record {
         added = round.added;
         extends = record { tables = round.tables; listed = round.listed; told = grows.told; counts = grows.counts; images = images };
@@ -298,7 +278,7 @@ module _ {D E : Type 0} (disks : disk.Ghosts D) (stores : store.Ghosts E) where
         ready = record {
           over = (base ++ round.added, over_now);
           kept = active.kept;
-          few = omega (arith, ready.few, counted, over.list.counted, over_now.list.counted, long);
+          few = omega (arith, round_few keep new bench bench_now claims store store_now moments later words words_later end ready round, counted);
         };
       }
 

@@ -4,8 +4,9 @@
 //! made. Nothing is read behind a request that says close, nor behind the millionth, whose response says so, nor behind a load that found no
 //! request. A fault of the framing is answered once, and no request behind it; a refusal of the keep is answered, a round's fault is tried again
 //! after the next request, and the session goes on.
-ghost use Rattle.std.specs.Prelude.{◌≡◌, ◌≤◌};
+ghost use Rattle.std.specs.Prelude.{◌≡◌, ◌<◌};
 ghost use Rattle.fts_tables.specs.Counts.{Rose};
+ghost use Rattle.fts_tables.specs.declared.limits.TheConstants.{JOURNAL_END};
 ghost use Rattle.fts_workers.specs.Rounds.{IsRound};
 ghost use Rattle.fts_session.specs.Connections.{IsConnection, reading_in};
 ghost use Rattle.fts_session.specs.Sessions.{AnswersNext, FollowedByRound, IsSession, LastRounds, Works, IsReady, thread, thread_at};
@@ -115,7 +116,7 @@ fn make_last_rounds<D: Disk, E: Store, C: Clock, W: Words>(
         (thread_at C.Clock W.Words working.new store.new clock.new words.new) }
     ensures disk { result ≡ RoundEnd.DiskFailed → Rose (D.faults working.old.keep.disk) (D.faults working.new.keep.disk) }
 {
-    // What is used of the journal stays below its limit, and a busy round uses more of it.
+    // What is used of the journal stays below its end, and a busy round uses more of it.
     working.keep.desk();
     'rounds: loop {
         match make_round(working, clock, store, words) {
@@ -128,7 +129,7 @@ fn make_last_rounds<D: Disk, E: Store, C: Clock, W: Words>(
     }
 }
 
-/// Makes one round, and counts the files that it claims: the commands that it adds, but for the reports of the files that were held.
+/// Makes one round, and counts the files that it claims: those that the bench newly holds.
 fn make_round<D: Disk, E: Store, C: Clock, W: Words>(
     working: &mut Working<D>,
     clock: &mut C,
@@ -140,12 +141,11 @@ fn make_round<D: Disk, E: Store, C: Clock, W: Words>(
         (thread_at C.Clock W.Words working.old store.old clock.old words.old)
         (thread_at C.Clock W.Words working.new store.new clock.new words.new) }
     ensures disk { result ≡ RoundEnd.DiskFailed → Rose (D.faults working.old.keep.disk) (D.faults working.new.keep.disk) }
-    ensures used { working.new.keep.used ≤ 67108863 }
+    ensures used { working.new.keep.used < JOURNAL_END }
 {
-    let held = working.bench.held().len() as u64;
-    let before = working.keep.desk().commands();
     let end = round(&mut working.keep, &mut working.bench, store, clock, words);
-    let added = working.keep.desk().commands() - before;
-    working.claims += u64::from(added).saturating_sub(held) as u32;
+    // A keep has no more commands than its journal has room for, and no more claims than commands.
+    working.keep.desk();
+    working.claims += working.bench.newly_held();
     end
 }

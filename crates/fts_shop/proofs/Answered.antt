@@ -1,9 +1,11 @@
 -- What a keep answers to a claim and to a report, over every disk.
-use Rattle.std.proofs.Common.{◌≡◌, refl, sym, ap, ◌∙◌, subst, ℕ, ◌+◌, max, Bool, true, false, cond, ◌&&◌, ◌==◌, Option, Some, None, Result, Ok, Err}
+use Rattle.std.proofs.Common.{◌≡◌, refl, sym, ap, subst, ℕ, ◌+◌, max, Bool, true, false, cond, ◌&&◌, ◌==◌, Option, Some, None, Result, Ok, Err}
 use Rattle.std.specs.Prelude.{if◌then◌else◌, nat_lt}
+use Rattle.std.specs.List.{list_any}
 use Rattle.fts_tables.specs.Tables.{Tables, is_active, row_at, job_at}
 use Rattle.fts_tables.specs.Choice.{pick}
 use Rattle.fts_tables.specs.Moves.{reported, reported_failure, reported_without_cancel, canceled, is_retryable}
+use Rattle.fts_tables.specs.Waits.{is_overdue}
 use Rattle.fts_tables.specs.Step.{Outcomes, step, claim, report, report_of}
 use Rattle.fts_tables.specs.declared.rows.FileRow.{FileRow}
 use Rattle.fts_tables.specs.declared.rows.JobRow.{JobRow}
@@ -11,16 +13,17 @@ use Rattle.fts_tables.specs.declared.rows.Outcome.{Outcome}
 use Rattle.fts_tables.specs.declared.rows.Outcome.TheVariants.{Verified, SourceMissing, DestinationExists, SourceSize, SourceDigest, ReadBackDiffers, StoreFailed, Stopped}
 use Rattle.fts_tables.specs.declared.commands.Entry.{Entry}
 use Rattle.fts_tables.specs.declared.commands.Command.{Command}
-use Rattle.fts_tables.specs.declared.commands.Command.TheVariants.{Restart, Submit, CancelJob, CancelFile, SetPriority, Claim, Report}
+use Rattle.fts_tables.specs.declared.commands.Command.TheVariants.{Restart, Submit, CancelJob, CancelFile, SetPriority, Claim, Report, Ban, Unban, Expire}
 use Rattle.fts_tables.specs.declared.commands.Answer.{Answer}
-use Rattle.fts_tables.specs.declared.commands.Answer.TheVariants.{Claimed, Reported}
+use Rattle.fts_tables.specs.declared.commands.Answer.TheVariants.{Claimed, Reported, Expired}
 use Rattle.fts_tables.specs.declared.commands.Refusal.{Refusal}
 use Rattle.fts_tables.specs.declared.commands.Refusal.TheVariants.{Idle, Stale}
 use Rattle.fts_keep.specs.Keeps.{KeepData}
 use Rattle.fts_keep.specs.Applied.{Applied, applied_by, entry_by, fits}
 use Rattle.fts_keep.specs.declared.fault.KeepFault.{KeepFault}
 use Rattle.fts_keep.specs.declared.fault.KeepFault.TheVariants.{Rule, DiskFailed, JournalFull, Damaged, Memory}
-use Rattle.fts_shop.specs.Shops.{AnswersClaim, AnswersReport, AnswersTo, IsEndState}
+use Rattle.fts_workers.specs.ClaimSteps.{AnswersClaim, AnswersExpiry}
+use Rattle.fts_shop.specs.Shops.{AnswersReport, AnswersTo, IsEndState}
 use Rattle.fts_shop.proofs.Rows.{row_at-id}
 use Rattle.fts_disk.specs.declared.disk.Disk as disk
 
@@ -60,6 +63,18 @@ claim_answer tables now (Some row) after answer is =
 claim_refused : (tables : Tables) (now : ℕ) (found : Option FileRow) (refusal : Refusal) → claim tables now found ≡ Err refusal → refusal ≡ Idle
 claim_refused tables now None refusal is = cc
 claim_refused tables now (Some row) refusal is = absurd cc
+
+-- an expiry that was accepted says how many it cancelled, and is refused as idle alone
+either_expiry : (some : Bool) (came after : Tables) (cancelled : ℕ) (answer : Answer)
+    → cond {A = Outcomes} some (Ok (came, Expired cancelled)) (Err Idle) ≡ Ok (after, answer) → AnswersExpiry (Ok answer)
+either_expiry true came after cancelled answer is =
+    let answered : answer ≡ Expired cancelled = sym (ap (λ (d : Tables × Answer). d.1) (same_done (came, Expired cancelled) (after, answer) is)) in
+    subst (λ a. AnswersExpiry (Ok a)) (sym answered) tt
+either_expiry false came after cancelled answer is = absurd cc
+
+either_refused : (some : Bool) (done : Tables × Answer) (refusal : Refusal) → cond {A = Outcomes} some (Ok done) (Err Idle) ≡ Err refusal → refusal ≡ Idle
+either_refused true done refusal is = absurd cc
+either_refused false done refusal is = cc
 
 -- the states of a row after its report
 either_state : (first : Bool) (one other : FileRow) → IsEndState one.state → IsEndState other.state → IsEndState (cond first one other).state
@@ -119,6 +134,19 @@ module _ {D : Type 0} (disks : disk.Ghosts D) (old new : KeepData D) (writer : �
   claim_answers now word (Err (Damaged offset)) applied = applied
   claim_answers now word (Err Memory) applied = tt
 
+  expiry_answers : (now : ℕ) (result : Result Answer KeepFault)
+      → Applied disks.state disks.faults old new (entry_by writer (Expire now)) result → AnswersExpiry result
+  expiry_answers now (Ok answer) applied =
+      either_expiry (list_any (is_overdue old.tables.jobs (max now old.tables.moment)) old.tables.rows) _ new.tables _ answer
+      (step_of old.used (entry_by writer (Expire now)) (step old.tables (Expire now)) (new.tables, answer) applied.done)
+  expiry_answers now (Err (Rule refusal)) applied =
+      either_refused (list_any (is_overdue old.tables.jobs (max now old.tables.moment)) old.tables.rows) _ refusal
+      (refused_of old.used (entry_by writer (Expire now)) (step old.tables (Expire now)) refusal applied.0)
+  expiry_answers now (Err DiskFailed) applied = tt
+  expiry_answers now (Err (JournalFull used)) applied = tt
+  expiry_answers now (Err (Damaged offset)) applied = applied
+  expiry_answers now (Err Memory) applied = tt
+
   report_answers : (now file attempt : ℕ) (outcome : Outcome) (result : Result Answer KeepFault)
       → Applied disks.state disks.faults old new (entry_by writer (Report now file attempt outcome)) result → AnswersReport file result
   report_answers now file attempt outcome (Ok answer) applied =
@@ -136,8 +164,11 @@ module _ {D : Type 0} (disks : disk.Ghosts D) (old new : KeepData D) (writer : �
       → Applied disks.state disks.faults old new (entry_by writer command) result → AnswersTo command result
   answers_to (Claim now word) result applied = claim_answers now word result applied
   answers_to (Report now file attempt outcome) result applied = report_answers now file attempt outcome result applied
+  answers_to (Expire now) result applied = expiry_answers now result applied
   answers_to (Restart now settings) result applied = tt
   answers_to (Submit now job) result applied = tt
   answers_to (CancelJob now job) result applied = tt
   answers_to (CancelFile now job file) result applied = tt
   answers_to (SetPriority now job priority) result applied = tt
+  answers_to (Ban now storage cancel) result applied = tt
+  answers_to (Unban now storage) result applied = tt

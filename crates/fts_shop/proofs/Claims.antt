@@ -1,5 +1,5 @@
--- A claimed file has its row, so the order of its copy comes with it.
-use Rattle.std.proofs.Common.{◌≡◌, refl, sym, ap, ◌∙◌, subst, ℕ, ◌+◌, ◌==◌, max, Bool, true, false, cond, List, [], ◌∷◌, map, Option, Some, None, option_map, IsSome, IsTrue, Result, Ok, Err}
+-- What a worker's step came to: a claimed file has its row, so the order of its copy comes with it.
+use Rattle.std.proofs.Common.{◌≡◌, refl, sym, ap, subst, ℕ, ◌+◌, ◌==◌, max, Bool, true, false, cond, List, [], ◌∷◌, map, Option, Some, None, option_map, IsSome, IsTrue, Result, Ok, Err}
 use Rattle.fts_tables.specs.Tables.{Tables, AreWellFormed, is_submitted, row_at}
 use Rattle.fts_tables.specs.Choice.{pick}
 use Rattle.fts_tables.specs.Moves.{change_row, claimed}
@@ -9,11 +9,14 @@ use Rattle.fts_tables.specs.declared.rows.FileRow.{FileRow}
 use Rattle.fts_tables.specs.declared.commands.Entry.{Entry}
 use Rattle.fts_tables.specs.declared.commands.Command.TheVariants.{Claim}
 use Rattle.fts_tables.specs.declared.commands.Answer.{Answer}
-use Rattle.fts_tables.specs.declared.commands.Answer.TheVariants.{Restarted, Submitted, Cancelled, PrioritySet, Claimed, Reported}
+use Rattle.fts_tables.specs.declared.commands.Answer.TheVariants.{Restarted, Submitted, Cancelled, PrioritySet, Claimed, Reported, Banned, Unbanned, Expired}
 use Rattle.fts_keep.specs.Keeps.{KeepData, IsKeep}
 use Rattle.fts_keep.specs.Applied.{Applied, entry_by}
 use Rattle.fts_keep.specs.declared.fault.KeepFault.{KeepFault}
+use Rattle.fts_keep.specs.declared.fault.KeepFault.TheVariants.{Rule, DiskFailed, JournalFull, Damaged, Memory}
 use Rattle.fts_workers.specs.Copies.{order_in}
+use Rattle.fts_workers.specs.ClaimSteps.{AnswersClaim, AnswersExpiry, FollowsExpiry, IsClaimStep, goes_on}
+use Rattle.fts_shop.specs.Shops.{step_answer}
 use Rattle.fts_shop.specs.Within.{HasOrder, order_claimed}
 use Rattle.fts_shop.proofs.Answered.{step_of, same_done}
 use Rattle.fts_disk.specs.declared.disk.Disk as disk
@@ -73,4 +76,51 @@ module _ {D : Type 0} (disks : disk.Ghosts D) (old new : KeepData D) (writer now
   has_order (Ok (Cancelled job)) applied = tt
   has_order (Ok (PrioritySet job)) applied = tt
   has_order (Ok (Reported file left)) applied = tt
+  has_order (Ok (Banned cancelled)) applied = tt
+  has_order (Ok Unbanned) applied = tt
+  has_order (Ok (Expired cancelled)) applied = tt
   has_order (Err fault) applied = tt
+
+-- what an expiry is answered is no claimed file, and its fault one that a claim may meet
+expiry_order : (tables : Tables) (answer : Result Answer KeepFault) → AnswersExpiry answer → HasOrder answer (order_claimed tables answer)
+expiry_order tables (Ok (Expired cancelled)) answers = tt
+expiry_order tables (Ok (Restarted released)) answers = absurd answers
+expiry_order tables (Ok (Submitted job id)) answers = absurd answers
+expiry_order tables (Ok (Cancelled job)) answers = absurd answers
+expiry_order tables (Ok (PrioritySet job)) answers = absurd answers
+expiry_order tables (Ok (Claimed file attempt)) answers = absurd answers
+expiry_order tables (Ok (Reported file left)) answers = absurd answers
+expiry_order tables (Ok (Banned cancelled)) answers = absurd answers
+expiry_order tables (Ok Unbanned) answers = absurd answers
+expiry_order tables (Err fault) answers = tt
+
+expiry_answers : (answer : Result Answer KeepFault) → AnswersExpiry answer → goes_on answer ≡ false → AnswersClaim answer
+expiry_answers (Ok answer) answers stops = absurd cc
+expiry_answers (Err (Rule refusal)) answers stops = answers
+expiry_answers (Err DiskFailed) answers stops = tt
+expiry_answers (Err (JournalFull used)) answers stops = tt
+expiry_answers (Err (Damaged offset)) answers stops = answers
+expiry_answers (Err Memory) answers stops = tt
+
+module _ {D : Type 0} (disks : disk.Ghosts D) (old new : KeepData D) (writer now word : ℕ) (expiry : Result Answer KeepFault)
+    (claim : Option (Result Answer KeepFault)) (stepped : IsClaimStep disks.state disks.faults writer old new now word expiry claim) where
+  -- what a step came to is what a claim may be answered
+  pub answers_of_step : AnswersClaim (step_answer expiry claim)
+  answers_of_step = by claim stepped.follows
+    where
+      by : (tried : Option (Result Answer KeepFault)) → FollowsExpiry disks.state disks.faults writer stepped.between new now word expiry tried
+          → AnswersClaim (step_answer expiry tried)
+      by None follows = expiry_answers expiry stepped.expired.answers follows.0
+      by (Some result) follows = follows.1.claim.answers
+
+  -- and where that is a file, its order comes with it
+  pub order_of_step : ((entries : List Entry) → IsLegal entries → AreWellFormed (tables_of entries))
+      → ((tables : Tables) (now word file : ℕ) → AreWellFormed tables → claimed_file (step tables (Claim now word)) ≡ Some file
+      → (row : FileRow) × (row_at tables.rows file ≡ Some row) × IsTrue (is_submitted row.state))
+      → HasOrder (step_answer expiry claim) (order_claimed new.tables (step_answer expiry claim))
+  order_of_step formed waited = by claim stepped.follows
+    where
+      by : (tried : Option (Result Answer KeepFault)) → FollowsExpiry disks.state disks.faults writer stepped.between new now word expiry tried
+          → HasOrder (step_answer expiry tried) (order_claimed new.tables (step_answer expiry tried))
+      by None follows = expiry_order new.tables expiry stepped.expired.answers
+      by (Some result) follows = has_order disks stepped.between new writer now word formed waited stepped.kept result follows.1.claim.tried.applied

@@ -1,5 +1,5 @@
 -- One asking of the watch is a turn that adds nothing.
-use Rattle.std.proofs.Common.{◌≡◌, ◌≢◌, refl, sym, ap, ◌∙◌, subst, inl, ℕ, ◌+◌, ◌≤◌, ◌<◌, ◌==◌, ◌&&◌, Bool, true, false, cond, List, [], ◌∷◌, ◌++◌, append-nil, append_assoc, eq-eqb, arith}
+use Rattle.std.proofs.Common.{◌≡◌, ◌≢◌, refl, sym, ap, ◌∙◌, subst, inl, ℕ, ◌+◌, ◌≤◌, ◌<◌, ◌&&◌, Bool, true, false, cond, List, [], ◌∷◌, ◌++◌, append-nil, append_assoc, eq-eqb, arith}
 use Rattle.fts_tables.specs.History.{tables_of}
 use Rattle.fts_tables.specs.declared.commands.Entry.{Entry}
 use Rattle.fts_turnstile.specs.declared.turn.Turn.{Turn}

@@ -1,21 +1,26 @@
 -- A turn of the lock, as the turnstile says it, is a turn as workers and lanes say it; and what was tried in it is what they say of a command.
-use Rattle.std.proofs.Common.{◌≡◌, ◌≢◌, refl, sym, ap, ◌∙◌, subst, ℕ, List, [], ◌∷◌, ◌++◌, append-nil, append_assoc, Result, Ok, Err, IsOk}
+use Rattle.std.proofs.Common.{◌≡◌, ◌≢◌, refl, sym, ap, ◌∙◌, subst, inl, inr, ⊎_elim, ℕ, ◌≤◌, arith, List, [], ◌∷◌, ◌++◌, append-nil, append_assoc, Option, Some, None, Result, Ok, Err, IsOk}
 use Rattle.std.proofs.lemmas.List.{append_cancel_left}
 use Rattle.fts_tables.specs.Counts.{Rose}
+use Rattle.fts_tables.specs.Tables.{Tables}
 use Rattle.fts_tables.specs.History.{tables_of}
 use Rattle.fts_tables.specs.declared.commands.Entry.{Entry}
 use Rattle.fts_tables.specs.declared.commands.Command.{Command}
+use Rattle.fts_tables.specs.declared.commands.Command.TheVariants.{Claim, Expire}
 use Rattle.fts_tables.specs.declared.commands.Answer.{Answer}
+use Rattle.fts_disk.specs.Disk.{IsTold}
 use Rattle.fts_turnstile.specs.declared.turn.Turn.{Turn}
 use Rattle.fts_turnstile.specs.History.{items_of, turn_of, AllName, AllNamed}
 use Rattle.fts_turnstile.specs.Passes.{PassView, IsSame, TookTurn, seen_list}
-use Rattle.fts_keep.specs.Keeps.{KeepData}
+use Rattle.fts_keep.specs.Keeps.{KeepData, IsKeep, HoldsList}
 use Rattle.fts_keep.specs.Applied.{Applied, applied_to, entry_by}
 use Rattle.fts_keep.specs.declared.fault.KeepFault.{KeepFault}
 use Rattle.fts_keep.specs.declared.fault.KeepFault.TheVariants.{Rule, DiskFailed, JournalFull, Damaged, Memory}
 use Rattle.fts_workers.specs.Rounds.{applied_over}
+use Rattle.fts_workers.specs.ClaimSteps.{FollowsExpiry, HasNoneOverdue}
 use Rattle.fts_shop.specs.Shops.{ShopData, shop_entries, writer_of, shop_shows, faults_shown, lanes_shown, TakesTurn, point, HasFault, IsToldList, CameTo, added_by, TriedInTurn}
-use Rattle.fts_shop.specs.Within.{TriesIn}
+use Rattle.fts_shop.specs.Shops.{ClaimsIfTried, IsTriedBehind, StepInTurn, added_by_claim}
+use Rattle.fts_shop.specs.Within.{StepsIn, TriesIn}
 use Rattle.fts_shop.specs.Looked.{items_on}
 use Rattle.fts_shop.proofs.Answered.{answers_to}
 use Rattle.fts_disk.specs.declared.disk.Disk as disk
@@ -30,6 +35,28 @@ named_more (first ∷ turns) turn named last = (named.0, named_more turns turn n
 pub some_more : (entries more : List Entry) → entries ≢ [] → entries ++ more ≢ []
 some_more [] more some = absurd (some refl)
 some_more (entry ∷ entries) more some = λ none. cc
+
+module _ {D : Type 0} (disks : disk.Ghosts D) (old new : KeepData D) (entry : Entry) where
+  -- what a command came to over a keep is what it came to over a list that the keep is of
+  came_over : (entries : List Entry) (rose : Type 0) → applied_to old.tables old.used entry ≡ applied_over entries entry
+      → (Rose (disks.faults old.disk) (disks.faults new.disk) → rose) → (result : Result Answer KeepFault)
+      → Applied disks.state disks.faults old new entry result → CameTo (applied_over entries entry) rose result
+  came_over entries rose would rises (Ok found) applied = (new.tables, sym would ∙ applied.done)
+  came_over entries rose would rises (Err (Rule refusal)) applied = sym would ∙ applied.0
+  came_over entries rose would rises (Err (JournalFull used)) applied = sym would ∙ applied.0
+  came_over entries rose would rises (Err DiskFailed) applied = (subst IsOk would applied.would, rises applied.rose)
+  came_over entries rose would rises (Err Memory) applied = tt
+  came_over entries rose would rises (Err (Damaged offset)) applied = absurd applied
+
+  -- and what it added to a keep's own list
+  added_over : IsTold (disks.state old.disk) → (result : Result Answer KeepFault) → Applied disks.state disks.faults old new entry result
+      → new.entries ≡ old.entries ++ added_by entry result
+  added_over told (Ok found) applied = (applied.listed told).0
+  added_over told (Err (Rule refusal)) applied = ap (λ (k : KeepData D). k.entries) applied.1 ∙ sym (append-nil old.entries)
+  added_over told (Err (JournalFull used)) applied = ap (λ (k : KeepData D). k.entries) applied.1 ∙ sym (append-nil old.entries)
+  added_over told (Err DiskFailed) applied = applied.keeps.entries ∙ sym (append-nil old.entries)
+  added_over told (Err Memory) applied = applied.keeps.entries ∙ sym (append-nil old.entries)
+  added_over told (Err (Damaged offset)) applied = absurd applied
 
 module _ {D : Type 0} (disks : disk.Ghosts D) (work : ShopData D → ShopData D → Type 0) (old new : PassView Entry) (same : IsSame old new)
     (took : TookTurn shop_entries writer_of (shop_shows disks) work old new) where
@@ -65,6 +92,25 @@ module _ {D : Type 0} (disks : disk.Ghosts D) (work : ShopData D → ShopData D 
   nothing_added is = append_cancel_left took.before.keep.entries took.added []
       (sym took.appended ∙ is ∙ sym (append-nil took.before.keep.entries))
 
+  -- a rise of the disk's count is one that is shown
+  rose_shown : Rose (disks.faults took.before.keep.disk) (disks.faults took.after.keep.disk) → HasFault taken_of
+  rose_shown rose = subst (λ n. Rose n (disks.faults took.after.keep.disk)) (ap faults_shown took.showed) rose
+
+  -- what a command would come to over the keep that the turn met is what it would over the list
+  would_met : IsKeep disks.state took.before.keep → (took.before.keep.entries ≢ [] → IsTold (disks.state took.before.keep.disk)) → IsToldList old
+      → (entry : Entry) → applied_to took.before.keep.tables took.before.keep.used entry ≡ applied_over (point taken_of) entry
+  would_met kept told some entry =
+      let holds = kept.fold.holds (told (some_met some)) in
+      (λ i. applied_to (holds.folded i) (holds.fills i) entry) ∙ ap (λ list. applied_over list entry) took.began
+
+  -- the tables that the turn left are those of the list that the pass has then seen
+  pub tables_left : IsKeep disks.state took.after.keep → (took.after.keep.entries ≢ [] → IsTold (disks.state took.after.keep.disk)) → IsToldList old
+      → took.after.keep.tables ≡ tables_of (seen_list new)
+  tables_left kept told some =
+      (kept.fold.holds (told
+      (subst (λ list. list ≢ []) (sym took.appended) (some_more took.before.keep.entries took.added (some_met some))))).folded
+      ∙ ap tables_of list_left
+
   module _ (command : Command) (answer : Result Answer KeepFault) (lanes : ℕ)
       (tries : TriesIn disks old.number command took.before took.after answer lanes) where
     abbrev entry : Entry
@@ -72,48 +118,121 @@ module _ {D : Type 0} (disks : disk.Ghosts D) (work : ShopData D → ShopData D 
 
     -- what the command would come to over the keep is what it would over the list
     would_is : IsToldList old → applied_to took.before.keep.tables took.before.keep.used entry ≡ applied_over (point taken_of) entry
-    would_is some =
-        let holds = tries.kept.fold.holds (tries.told (some_met some)) in
-        (λ i. applied_to (holds.folded i) (holds.fills i) entry) ∙ ap (λ list. applied_over list entry) took.began
+    would_is some = would_met tries.kept tries.told some entry
 
-    -- a rise of the disk's count is one that is shown
-    rose_shown : Rose (disks.faults took.before.keep.disk) (disks.faults took.after.keep.disk) → HasFault taken_of
-    rose_shown rose = subst (λ n. Rose n (disks.faults took.after.keep.disk)) (ap faults_shown took.showed) rose
-
-    came_to : (result : Result Answer KeepFault) → Applied disks.state disks.faults took.before.keep took.after.keep entry result → IsToldList old
-        → CameTo (applied_over (point taken_of) entry) (HasFault taken_of) result
-    came_to (Ok found) applied some = (took.after.keep.tables, sym (would_is some) ∙ applied.done)
-    came_to (Err (Rule refusal)) applied some = sym (would_is some) ∙ applied.0
-    came_to (Err (JournalFull used)) applied some = sym (would_is some) ∙ applied.0
-    came_to (Err DiskFailed) applied some = (subst IsOk (would_is some) applied.would, rose_shown applied.rose)
-    came_to (Err Memory) applied some = tt
-    came_to (Err (Damaged offset)) applied some = absurd applied
-
-    added_is : (result : Result Answer KeepFault) → Applied disks.state disks.faults took.before.keep took.after.keep entry result → IsToldList old
-        → took.added ≡ added_by entry result
-    added_is (Ok found) applied some =
-        append_cancel_left took.before.keep.entries took.added (entry ∷ []) (sym took.appended ∙ (applied.listed (tries.told (some_met some))).0)
-    added_is (Err (Rule refusal)) applied some = nothing_added (ap (λ (k : KeepData D). k.entries) applied.1)
-    added_is (Err (JournalFull used)) applied some = nothing_added (ap (λ (k : KeepData D). k.entries) applied.1)
-    added_is (Err DiskFailed) applied some = nothing_added applied.keeps.entries
-    added_is (Err Memory) applied some = nothing_added applied.keeps.entries
-    added_is (Err (Damaged offset)) applied some = absurd applied
+    added_is : IsToldList old → took.added ≡ added_by entry answer
+    added_is some = append_cancel_left took.before.keep.entries took.added (added_by entry answer)
+        (sym took.appended ∙ added_over disks took.before.keep took.after.keep entry (tries.told (some_met some)) answer tries.applied)
 
     -- a command that was tried in the turn
     pub tried_of : TriedInTurn old new command answer lanes
     tried_of = record {
       taken = taken_of;
-      came = came_to answer tries.applied;
-      added = added_is answer tries.applied;
+      came = λ some. came_over disks took.before.keep took.after.keep entry (point taken_of) (HasFault taken_of) (would_is some) rose_shown answer tries.applied;
+      added = added_is;
       answers = answers_to disks took.before.keep took.after.keep old.number command answer tries.applied;
       cause = λ failed. rose_shown (subst (λ result. Applied disks.state disks.faults took.before.keep took.after.keep entry result) failed tries.applied).rose;
       left = tries.left ∙ ap lanes_shown took.showed;
       stay = tries.stay ∙ ap lanes_shown took.showed;
     }
 
-    -- the tables that it left are those of the list that the pass has then seen
-    pub tables_left : IsToldList old → took.after.keep.tables ≡ tables_of (seen_list new)
-    tables_left some =
-        (tries.keeps.fold.holds (tries.still_told
-        (subst (λ list. list ≢ []) (sym took.appended) (some_more took.before.keep.entries took.added (some_met some))))).folded
-        ∙ ap tables_of list_left
+  -- an expiry and a claim as one step
+  module _ (now word : ℕ) (expiry : Result Answer KeepFault) (claim : Option (Result Answer KeepFault)) (lanes : ℕ)
+      (steps : StepsIn disks old.number now word took.before took.after expiry claim lanes) where
+    -- the entries, and the keep between the two
+    abbrev expires : Entry
+    expires = entry_by old.number (Expire now)
+
+    abbrev claims : Entry
+    claims = entry_by old.number (Claim now word)
+
+    abbrev between : KeepData D
+    between = steps.stepped.between
+
+    -- the list that the claim meets
+    abbrev met : List Entry
+    met = point taken_of ++ added_by expires expiry
+
+    listed_between : IsToldList old → between.entries ≡ took.before.keep.entries ++ added_by expires expiry
+    listed_between some =
+        added_over disks took.before.keep between expires (steps.told (some_met some)) expiry steps.stepped.expired.tried.applied
+
+    told_between : IsToldList old → IsTold (disks.state between.disk)
+    told_between some = steps.stepped.told
+        (subst (λ list. list ≢ []) (sym (listed_between some)) (some_more took.before.keep.entries (added_by expires expiry) (some_met some)))
+
+    -- the keep between is of that list
+    holds_between : IsToldList old
+        → HoldsList (disks.state between.disk) between.entries between.doubt between.tables between.commands between.used between.in_doubt
+    holds_between some = steps.stepped.kept.fold.holds (told_between some)
+
+    list_between : IsToldList old → between.entries ≡ met
+    list_between some = listed_between some ∙ ap (λ list. list ++ added_by expires expiry) took.began
+
+    tables_between : IsToldList old → between.tables ≡ tables_of met
+    tables_between some = (holds_between some).folded ∙ ap tables_of (list_between some)
+
+    would_between : IsToldList old → applied_to between.tables between.used claims ≡ applied_over met claims
+    would_between some = let holds = holds_between some in
+        (λ i. applied_to (holds.folded i) (holds.fills i) claims) ∙ ap (λ list. applied_over list claims) (list_between some)
+
+    -- what follows the expiry
+    abbrev Follows : Option (Result Answer KeepFault) → Type 0
+    Follows tried = FollowsExpiry disks.state disks.faults old.number between took.after.keep now word expiry tried
+
+    -- the disk's count never falls in it
+    counts_on : (tried : Option (Result Answer KeepFault)) → Follows tried → disks.faults between.disk ≤ disks.faults took.after.keep.disk
+    counts_on None follows = omega (arith, ap (λ (k : KeepData D). disks.faults k.disk) follows.1)
+    counts_on (Some result) follows = follows.1.claim.tried.keeps.grows.counts
+
+    -- so a rise in either is shown
+    rose_first : Rose (disks.faults took.before.keep.disk) (disks.faults between.disk) → HasFault taken_of
+    rose_first rose = rose_shown
+        (⊎_elim (λ more. inl (omega (arith, more, counts_on claim steps.stepped.follows))) (λ most. inr (omega (arith, most, counts_on claim steps.stepped.follows))) rose)
+
+    rose_later : Rose (disks.faults between.disk) (disks.faults took.after.keep.disk) → HasFault taken_of
+    rose_later rose = rose_shown
+        (⊎_elim (λ more. inl (omega (arith, more, steps.stepped.expired.tried.keeps.grows.counts))) (λ most. inr most) rose)
+
+    claims_if : (tried : Option (Result Answer KeepFault)) → Follows tried → IsToldList old
+        → ClaimsIfTried met old.number now word (HasFault taken_of) tried
+    claims_if None follows some = tt
+    claims_if (Some result) follows some = record {
+      none_overdue = subst (λ (tables : Tables). HasNoneOverdue tables now) (tables_between some) follows.1.none_overdue;
+      came = came_over disks between took.after.keep claims met (HasFault taken_of) (would_between some) rose_later result follows.1.claim.tried.applied;
+    }
+
+    listed_behind : (tried : Option (Result Answer KeepFault)) → Follows tried → IsToldList old
+        → took.after.keep.entries ≡ between.entries ++ added_by_claim claims tried
+    listed_behind None follows some = ap (λ (k : KeepData D). k.entries) follows.1 ∙ sym (append-nil between.entries)
+    listed_behind (Some result) follows some =
+        added_over disks between took.after.keep claims (told_between some) result follows.1.claim.tried.applied
+
+    both_added : IsToldList old → took.added ≡ added_by expires expiry ++ added_by_claim claims claim
+    both_added some =
+        let before = took.before.keep.entries in
+        append_cancel_left before took.added (added_by expires expiry ++ added_by_claim claims claim)
+        (sym took.appended ∙ listed_behind claim steps.stepped.follows some
+        ∙ ap (λ list. list ++ added_by_claim claims claim) (listed_between some)
+        ∙ append_assoc before (added_by expires expiry) (added_by_claim claims claim))
+
+    tried_behind : (tried : Option (Result Answer KeepFault)) → Follows tried → IsTriedBehind expiry tried
+    tried_behind None follows = follows.0
+    tried_behind (Some result) follows = (follows.0, follows.1.claim.answers)
+
+    -- a step that was made in the turn
+    pub stepped_of : StepInTurn old new now word expiry claim lanes
+    stepped_of = record {
+      taken = taken_of;
+      expired = λ some. came_over disks took.before.keep between expires (point taken_of) (HasFault taken_of)
+          (would_met steps.kept steps.told some expires) rose_first expiry steps.stepped.expired.tried.applied;
+      claimed = claims_if claim steps.stepped.follows;
+      added = both_added;
+      answers = steps.stepped.expired.answers;
+      follows = tried_behind claim steps.stepped.follows;
+      expiry_cause = λ failed. rose_first
+          (subst (λ result. Applied disks.state disks.faults took.before.keep between expires result) failed steps.stepped.expired.tried.applied).rose;
+      claim_cause = λ failed. rose_later (subst Follows failed steps.stepped.follows).1.claim.tried.applied.rose;
+      left = steps.left ∙ ap lanes_shown took.showed;
+      stay = steps.stay ∙ ap lanes_shown took.showed;
+    }

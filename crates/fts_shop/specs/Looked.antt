@@ -1,5 +1,5 @@
 -- What holds of looks behind looks: what is known of a watch later passes on, since a cancel that was asked stays so.
-use Rattle.std.specs.Prelude.{◌≡◌, ◌≢◌, ℕ, ◌+◌, ◌≤◌, ◌<◌, ◌==◌, ◌&&◌, ◌||◌, not, max, nat_lt, Bool, true, false, cond, List, [], ◌∷◌, ◌++◌, map, length, Option, Some, None, option_and_then, Ok, Err}
+use Rattle.std.specs.Prelude.{◌≡◌, ℕ, ◌+◌, ◌==◌, ◌&&◌, ◌||◌, not, max, nat_lt, Bool, true, false, cond, List, [], ◌∷◌, ◌++◌, map, length, Option, Some, None, is_some, option_and_then, Err}
 use Rattle.std.specs.List.{list_any}
 use Rattle.std.specs.Option.{option_map_or}
 use Rattle.std.proofs.Common.{refl, sym, ap, ◌∙◌, subst, append_assoc, append-nil, arith}
@@ -8,22 +8,26 @@ use native.Mathlib.Decide.{dec_le}
 use Rattle.fts_tables.specs.SettingsData.{SettingsData}
 use Rattle.fts_tables.specs.JobData.{JobData}
 use Rattle.fts_tables.specs.Tables.{Tables, empty_tables, is_active, is_submitted, is_not_used, is_finished, is_failed, number_of_id, row_at, job_at, rows_of_job}
+use Rattle.fts_tables.specs.Limits.{endpoint_at, is_banned}
 use Rattle.fts_tables.specs.Choice.{next_alternative, pick}
-use Rattle.fts_tables.specs.Moves.{change_row, submitted, canceled, claimed, reported, reported_failure, reported_without_cancel, followed, followed_finish, followed_failure, submit_chosen, submit_if_not_used, cancelled, is_cancellable, is_retryable, is_settled_job, rows_of_new}
-use Rattle.fts_tables.specs.Step.{Outcomes, step, restart, released, claim, report, report_of, cancel_rows, cancel_row, cancel_one, cancel_file, set_priority, submit_by}
+use Rattle.fts_tables.specs.Moves.{change_row, submitted, canceled, canceled_for, claimed, reported, reported_failure, reported_without_cancel, followed, followed_finish, followed_failure, submit_chosen, submit_if_not_used, cancelled, cancelled_for, is_cancellable, is_retryable, is_settled_job, rows_of_new}
+use Rattle.fts_tables.specs.Waits.{is_overdue, waits_at, goes_with, rows_cancelled}
+use Rattle.fts_tables.specs.Step.{Outcomes, step, restart, released, claim, report, report_of, cancel_rows, cancel_row, cancel_one, cancel_file, set_priority, submit_by, ban, ban_only, ban_and_cancel, unban, expire}
 use Rattle.fts_tables.specs.History.{tables_after, tables_from, tables_of}
 use Rattle.fts_tables.specs.declared.limits.TheConstants.{MAX_JOBS, MAX_ROWS}
 use Rattle.fts_tables.specs.declared.rows.FileRow.{FileRow}
 use Rattle.fts_tables.specs.declared.rows.JobRow.{JobRow}
 use Rattle.fts_tables.specs.declared.rows.JobKind.{JobKind}
 use Rattle.fts_tables.specs.declared.rows.JobKind.TheVariants.{Plain, Replica, Multihop}
+use Rattle.fts_tables.specs.declared.rows.Reason.{Reason}
+use Rattle.fts_tables.specs.declared.rows.Reason.TheVariants as reason
 use Rattle.fts_tables.specs.declared.rows.Outcome.{Outcome}
 use Rattle.fts_tables.specs.declared.rows.Outcome.TheVariants.{Verified, SourceMissing, DestinationExists, SourceSize, SourceDigest, ReadBackDiffers, StoreFailed, Stopped}
 use Rattle.fts_tables.specs.declared.commands.Entry.{Entry}
 use Rattle.fts_tables.specs.declared.commands.Command.{Command}
-use Rattle.fts_tables.specs.declared.commands.Command.TheVariants.{Restart, Submit, CancelJob, CancelFile, SetPriority, Claim, Report}
+use Rattle.fts_tables.specs.declared.commands.Command.TheVariants.{Restart, Submit, CancelJob, CancelFile, SetPriority, Claim, Report, Ban, Unban, Expire}
 use Rattle.fts_tables.specs.declared.commands.Refusal.{Refusal}
-use Rattle.fts_tables.specs.declared.commands.Refusal.TheVariants.{NoJob, NoFile, Duplicate, JobsFull, RowsFull, Idle, Stale, Unchanged}
+use Rattle.fts_tables.specs.declared.commands.Refusal.TheVariants.{NoJob, NoFile, Duplicate, JobsFull, RowsFull, Idle, Stale, Unchanged, NoStorage, NotBanned}
 use Rattle.fts_turnstile.specs.declared.turn.Turn.{Turn}
 use Rattle.fts_turnstile.specs.History.{items_of, shown_after}
 use Rattle.fts_turnstile.specs.Passes.{PassView, IsSame, seen_list}
@@ -172,9 +176,9 @@ submit_asked tables now new None =
     (λ file asked. asked_more tables.rows (rows_of_new tables.rows (length tables.jobs + 1) new) file asked))
     (refused_asked tables (JobsFull (length tables.jobs)))
 
-cancelled_asked : (row : FileRow) → KeepsAsked row (cancelled row)
-cancelled_asked row =
-    either_asked (is_submitted row.state || is_not_used row.state) row (canceled row) _ (record { id = refl; asked = λ is. is })
+cancelled_asked : (why : Reason) (row : FileRow) → KeepsAsked row (cancelled_for why row)
+cancelled_asked why row =
+    either_asked (is_submitted row.state || is_not_used row.state) row (canceled_for why row) _ (record { id = refl; asked = λ is. is })
     (either_asked (is_active row.state) row (record row { cancel_asked = true }) row (record { id = refl; asked = λ is. refl }) (kept_asked row))
 
 cancel_rows_asked : (tables : Tables) (now : ℕ) (job : JobRow) → StaysAsked tables (cancel_rows tables now job)
@@ -182,12 +186,12 @@ cancel_rows_asked tables now job =
     let of_job = rows_of_job tables.rows job.number in
     either_came tables (not (is_settled_job of_job) && list_any is_cancellable of_job) _ _
     (λ file asked. asked_map (λ row. cond (row.job == job.number) (cancelled row) row)
-    (λ row. either_asked (row.job == job.number) row (cancelled row) row (cancelled_asked row) (kept_asked row)) tables.rows file asked)
+    (λ row. either_asked (row.job == job.number) row (cancelled row) row (cancelled_asked reason.Cancelled row) (kept_asked row)) tables.rows file asked)
     (refused_asked tables (Unchanged job.number))
 
 cancel_row_asked : (tables : Tables) (now : ℕ) (job : JobRow) (row : FileRow) → StaysAsked tables (cancel_row tables now job row)
 cancel_row_asked tables now job row =
-    either_came tables (is_cancellable row) _ _ (λ file asked. asked_one row.id cancelled cancelled_asked tables.rows file asked)
+    either_came tables (is_cancellable row) _ _ (λ file asked. asked_one row.id cancelled (cancelled_asked reason.Cancelled) tables.rows file asked)
     (refused_asked tables (Unchanged job.number))
 
 cancel_one_asked : (tables : Tables) (now : ℕ) (job : JobRow) (row : FileRow) (kind : JobKind) → StaysAsked tables (cancel_one tables now job row kind)
@@ -222,6 +226,29 @@ report_asked : (tables : Tables) (now : ℕ) (found : Option FileRow) (attempt :
 report_asked tables now None attempt outcome = refused_asked tables NoFile
 report_asked tables now (Some row) attempt outcome = report_of_asked tables now row attempt outcome (job_at tables.jobs row.job)
 
+-- rows that were cancelled by a test, for whatever reason
+some_cancelled_asked : (why : Reason) (tables : Tables) (test : FileRow → Bool) (file : ℕ) → is_cancel_asked tables file ≡ true
+    → asked_of (row_at (rows_cancelled why tables.jobs test tables.rows) file) ≡ true
+some_cancelled_asked why tables test file asked =
+    asked_map (λ row. cond (goes_with tables.jobs tables.rows test row) (cancelled_for why row) row)
+    (λ row. either_asked (goes_with tables.jobs tables.rows test row) row (cancelled_for why row) row (cancelled_asked why row) (kept_asked row))
+    tables.rows file asked
+
+ban_asked : (tables : Tables) (now : ℕ) (storage : List ℕ) (cancel : Bool) → StaysAsked tables (ban tables now storage cancel)
+ban_asked tables now storage cancel =
+    either_came tables (is_some (endpoint_at tables.settings storage)) _ _
+    (either_came tables cancel (ban_and_cancel tables now storage) (ban_only tables now storage)
+    (λ file asked. some_cancelled_asked reason.Cancelled tables (waits_at storage) file asked) (λ file asked. asked))
+    (refused_asked tables NoStorage)
+
+unban_asked : (tables : Tables) (now : ℕ) (storage : List ℕ) → StaysAsked tables (unban tables now storage)
+unban_asked tables now storage = either_came tables (is_banned tables.banned storage) _ _ (λ file asked. asked) (refused_asked tables NotBanned)
+
+expire_asked : (tables : Tables) (now : ℕ) → StaysAsked tables (expire tables now)
+expire_asked tables now =
+    either_came tables (list_any (is_overdue tables.jobs now) tables.rows) _ _
+    (λ file asked. some_cancelled_asked reason.Expired tables (is_overdue tables.jobs now) file asked) (refused_asked tables Idle)
+
 step_asked : (tables : Tables) (command : Command) → StaysAsked tables (step tables command)
 step_asked tables (Restart now settings) = restart_asked tables (max now tables.moment) settings
 step_asked tables (Submit now job) = submit_asked tables (max now tables.moment) job (option_and_then (number_of_id tables.jobs) job.id)
@@ -235,6 +262,9 @@ step_asked tables (SetPriority now job priority) =
     (λ found. set_priority_asked tables (max now tables.moment) found priority)
 step_asked tables (Claim now word) = claim_asked tables (max now tables.moment) (pick tables (max now tables.moment) word)
 step_asked tables (Report now file attempt outcome) = report_asked tables (max now tables.moment) (row_at tables.rows file) attempt outcome
+step_asked tables (Ban now storage cancel) = ban_asked tables (max now tables.moment) storage cancel
+step_asked tables (Unban now storage) = unban_asked tables (max now tables.moment) storage
+step_asked tables (Expire now) = expire_asked tables (max now tables.moment)
 
 -- a cancel that was asked stays so behind any entries
 asked_from : (tables : Tables) (entries : List Entry) (file : ℕ) → is_cancel_asked tables file ≡ true → is_cancel_asked (tables_from tables entries) file ≡ true

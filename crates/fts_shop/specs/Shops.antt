@@ -1,13 +1,13 @@
 -- The value behind the lock, the turns that a pass takes of it, and what a command comes to in one.
-use Rattle.std.specs.Prelude.{◌≡◌, ◌≢◌, ℕ, ◌-◌, List, [], ◌∷◌, ◌++◌, Result, Ok, Err, IsOk, slice_index}
+use Rattle.std.specs.Prelude.{◌≡◌, ◌≢◌, ℕ, ◌-◌, true, false, List, [], ◌∷◌, ◌++◌, Option, Some, None, Result, Ok, Err, IsOk, slice_index}
 use Rattle.fts_tables.specs.Counts.{Rose}
 use Rattle.fts_tables.specs.Tables.{Tables}
+use Rattle.fts_tables.specs.History.{tables_of}
 use Rattle.fts_tables.specs.declared.commands.Entry.{Entry}
 use Rattle.fts_tables.specs.declared.commands.Command.{Command}
-use Rattle.fts_tables.specs.declared.commands.Command.TheVariants.{Restart, Submit, CancelJob, CancelFile, SetPriority, Claim, Report}
+use Rattle.fts_tables.specs.declared.commands.Command.TheVariants.{Restart, Submit, CancelJob, CancelFile, SetPriority, Claim, Report, Ban, Unban, Expire}
 use Rattle.fts_tables.specs.declared.commands.Answer.{Answer}
-use Rattle.fts_tables.specs.declared.commands.Answer.TheVariants.{Restarted, Submitted, Cancelled, PrioritySet, Claimed, Reported}
-use Rattle.fts_tables.specs.declared.commands.Refusal.TheVariants.{Idle}
+use Rattle.fts_tables.specs.declared.commands.Answer.TheVariants.{Restarted, Submitted, Cancelled, PrioritySet, Claimed, Reported, Banned, Unbanned, Expired}
 use Rattle.fts_tables.specs.declared.rows.FileState.{FileState}
 use Rattle.fts_tables.specs.declared.rows.FileState.TheVariants as state
 use Rattle.fts_turnstile.specs.declared.turn.Turn.{Turn}
@@ -18,6 +18,7 @@ use Rattle.fts_keep.specs.Applied.{Applies, entry_by}
 use Rattle.fts_keep.specs.declared.fault.KeepFault.{KeepFault}
 use Rattle.fts_keep.specs.declared.fault.KeepFault.TheVariants.{Rule, DiskFailed, JournalFull, Damaged, Memory}
 use Rattle.fts_workers.specs.Rounds.{applied_over}
+use Rattle.fts_workers.specs.ClaimSteps.{AnswersClaim, AnswersExpiry, HasNoneOverdue, goes_on}
 use Rattle.fts_disk.specs.declared.disk.Disk as disk
 
 -- what contracts see of a shop: a keep, and how many lanes are left
@@ -102,20 +103,6 @@ abbrev pub added_by : Entry → Result Answer KeepFault → List Entry
 added_by entry (Ok answer) = entry ∷ []
 added_by entry (Err fault) = []
 
--- what a claim may be answered: a file, or that no row is eligible, or a fault; and never that the journal is damaged
-abbrev pub AnswersClaim : Result Answer KeepFault → Type 0
-AnswersClaim (Ok (Claimed file attempt)) = Unit {0}
-AnswersClaim (Ok (Restarted released)) = ⊥
-AnswersClaim (Ok (Submitted job id)) = ⊥
-AnswersClaim (Ok (Cancelled job)) = ⊥
-AnswersClaim (Ok (PrioritySet job)) = ⊥
-AnswersClaim (Ok (Reported file state)) = ⊥
-AnswersClaim (Err (Rule refusal)) = refusal ≡ Idle
-AnswersClaim (Err DiskFailed) = Unit {0}
-AnswersClaim (Err (JournalFull used)) = Unit {0}
-AnswersClaim (Err (Damaged offset)) = ⊥
-AnswersClaim (Err Memory) = Unit {0}
-
 -- a state in which a report leaves its file
 abbrev pub IsEndState : FileState → Type 0
 IsEndState state.Submitted = Unit {0}
@@ -133,6 +120,9 @@ AnswersReport file (Ok (Submitted job id)) = ⊥
 AnswersReport file (Ok (Cancelled job)) = ⊥
 AnswersReport file (Ok (PrioritySet job)) = ⊥
 AnswersReport file (Ok (Claimed claimed attempt)) = ⊥
+AnswersReport file (Ok (Banned cancelled)) = ⊥
+AnswersReport file (Ok Unbanned) = ⊥
+AnswersReport file (Ok (Expired cancelled)) = ⊥
 AnswersReport file (Err (Rule refusal)) = Unit {0}
 AnswersReport file (Err DiskFailed) = Unit {0}
 AnswersReport file (Err (JournalFull used)) = Unit {0}
@@ -143,11 +133,14 @@ AnswersReport file (Err Memory) = Unit {0}
 abbrev pub AnswersTo : Command → Result Answer KeepFault → Type 0
 AnswersTo (Claim now word) result = AnswersClaim result
 AnswersTo (Report now file attempt outcome) result = AnswersReport file result
+AnswersTo (Expire now) result = AnswersExpiry result
 AnswersTo (Restart now settings) result = Unit {0}
 AnswersTo (Submit now job) result = Unit {0}
 AnswersTo (CancelJob now job) result = Unit {0}
 AnswersTo (CancelFile now job file) result = Unit {0}
 AnswersTo (SetPriority now job priority) result = Unit {0}
+AnswersTo (Ban now storage cancel) result = Unit {0}
+AnswersTo (Unban now storage) result = Unit {0}
 
 -- a command was tried in one turn, over the list that the turn met, while so many lanes were left
 pub record TriedInTurn (old new : PassView Entry) (command : Command) (result : Result Answer KeepFault) (lanes : ℕ) : Type 0 where
@@ -159,6 +152,49 @@ pub record TriedInTurn (old new : PassView Entry) (command : Command) (result : 
   pub cause : result ≡ Err DiskFailed → HasFault taken
   pub left : lanes ≡ lanes_in taken
   pub stay : KeepsLanes taken
+
+-- the entries that a step's claim adds: none where none was tried
+abbrev pub added_by_claim : Entry → Option (Result Answer KeepFault) → List Entry
+added_by_claim entry None = []
+added_by_claim entry (Some result) = added_by entry result
+
+-- a claim follows an expiry exactly where that was accepted or found no row overdue, and is answered as a claim
+abbrev pub IsTriedBehind : Result Answer KeepFault → Option (Result Answer KeepFault) → Type 0
+IsTriedBehind expiry None = goes_on expiry ≡ false
+IsTriedBehind expiry (Some result) = (goes_on expiry ≡ true) × AnswersClaim result
+
+-- a claim was tried over a list in whose tables no row was overdue at its moment
+pub record ClaimsOver (entries : List Entry) (writer now word : ℕ) (rose : Type 0) (result : Result Answer KeepFault) : Type 0 where
+  pub none_overdue : HasNoneOverdue (tables_of entries) now
+  pub came : CameTo (applied_over entries (entry_by writer (Claim now word))) rose result
+
+-- so it was, where one was tried
+abbrev pub ClaimsIfTried : List Entry → ℕ → ℕ → ℕ → Type 0 → Option (Result Answer KeepFault) → Type 0
+ClaimsIfTried entries writer now word rose None = Unit {0}
+ClaimsIfTried entries writer now word rose (Some result) = ClaimsOver entries writer now word rose result
+
+-- An expiry and a claim were tried in one turn, at one moment, while so many lanes were left: the expiry over the list that the turn met, and the claim,
+-- unless the expiry met a fault, over that list with what the expiry added.
+pub record StepInTurn (old new : PassView Entry) (now word : ℕ) (expiry : Result Answer KeepFault) (claim : Option (Result Answer KeepFault)) (lanes : ℕ)
+    : Type 0 where
+  pub taken : TakesTurn old new
+  pub expired : IsToldList old → CameTo (applied_over (point taken) (entry_by old.number (Expire now))) (HasFault taken) expiry
+  pub claimed : IsToldList old
+      → ClaimsIfTried (point taken ++ added_by (entry_by old.number (Expire now)) expiry) old.number now word (HasFault taken) claim
+  pub added : IsToldList old
+      → taken.turn.items ≡ added_by (entry_by old.number (Expire now)) expiry ++ added_by_claim (entry_by old.number (Claim now word)) claim
+  -- these are so over every disk
+  pub answers : AnswersExpiry expiry
+  pub follows : IsTriedBehind expiry claim
+  pub expiry_cause : expiry ≡ Err DiskFailed → HasFault taken
+  pub claim_cause : claim ≡ Some (Err DiskFailed) → HasFault taken
+  pub left : lanes ≡ lanes_in taken
+  pub stay : KeepsLanes taken
+
+-- what a step came to: what its claim was answered, or the fault of its expiry where no claim was tried
+abbrev pub step_answer : Result Answer KeepFault → Option (Result Answer KeepFault) → Result Answer KeepFault
+step_answer expiry None = expiry
+step_answer expiry (Some result) = result
 
 -- a look in one turn, which adds nothing
 pub record Looks (old new : PassView Entry) : Type 0 where

@@ -1,11 +1,12 @@
--- A turn of a worker: it reports what is kept from before, or else claims in one turn of the lock, copies outside every turn, and reports in one.
+-- A turn of a worker: it reports what is kept from before, or else cancels what is overdue and claims in one turn of the lock, copies outside every
+-- turn, and reports in one.
 use Rattle.std.specs.Prelude.{◌≡◌, ℕ, zero, suc, ◌+◌, ◌*◌, ◌≤◌, Bool, true, false, if◌then◌else◌, List, [], ◌∷◌, ◌++◌, Option, Some, IsSome, Result, Ok, Err}
 use Rattle.fts_tables.specs.Coming.{Coming, Gives}
 use Rattle.fts_tables.specs.History.{tables_of}
 use Rattle.fts_tables.specs.declared.commands.Entry.{Entry}
-use Rattle.fts_tables.specs.declared.commands.Command.TheVariants.{Claim, Report}
+use Rattle.fts_tables.specs.declared.commands.Command.TheVariants.{Report}
 use Rattle.fts_tables.specs.declared.commands.Answer.{Answer}
-use Rattle.fts_tables.specs.declared.commands.Answer.TheVariants.{Restarted, Submitted, Cancelled, PrioritySet, Claimed, Reported}
+use Rattle.fts_tables.specs.declared.commands.Answer.TheVariants.{Restarted, Submitted, Cancelled, PrioritySet, Claimed, Reported, Banned, Unbanned, Expired}
 use Rattle.fts_tables.specs.declared.rows.FileState.{FileState}
 use Rattle.fts_tables.specs.declared.rows.FileState.TheVariants as state
 use Rattle.fts_tables.specs.declared.rows.Outcome.{Outcome}
@@ -21,7 +22,7 @@ use Rattle.fts_workers.specs.Copies.{IsCopied, copies_of_file}
 use Rattle.fts_workers.specs.declared.held.Held.{Held}
 use Rattle.fts_workers.specs.declared.hand.Hand.{Hand}
 use Rattle.fts_shop.specs.Within.{is_cancel_asked}
-use Rattle.fts_shop.specs.Shops.{IsToldList, TriedInTurn}
+use Rattle.fts_shop.specs.Shops.{IsToldList, StepInTurn, TriedInTurn, step_answer}
 use Rattle.fts_shop.specs.Looking.{looks_in, Unasked, LeaveLanes, NoneOf}
 use Rattle.fts_shop.specs.declared.ends.Turn.{Turn as TurnEnd}
 use Rattle.fts_shop.specs.declared.ends.Turn.TheVariants as turn_ends
@@ -89,6 +90,9 @@ end_by_report file lanes (Ok (Submitted job id)) = turn_ends.Stale file
 end_by_report file lanes (Ok (Cancelled job)) = turn_ends.Stale file
 end_by_report file lanes (Ok (PrioritySet job)) = turn_ends.Stale file
 end_by_report file lanes (Ok (Claimed claimed attempt)) = turn_ends.Stale file
+end_by_report file lanes (Ok (Banned cancelled)) = turn_ends.Stale file
+end_by_report file lanes (Ok Unbanned) = turn_ends.Stale file
+end_by_report file lanes (Ok (Expired cancelled)) = turn_ends.Stale file
 end_by_report file lanes (Err fault) = end_by_fault file lanes fault
 
 -- whether a report that was answered so is over, or its file is held on
@@ -123,7 +127,7 @@ abbrev pub idle_end : ℕ → TurnEnd
 idle_end zero = turn_ends.Stopping
 idle_end (suc more) = turn_ends.Idle
 
--- the end of a turn by the fault of a claim that was tried while so many lanes were left
+-- the end of a turn by the fault of a claim that was tried while so many lanes were left, or by that of the expiry before it
 abbrev pub end_by_claim : ℕ → KeepFault → TurnEnd
 end_by_claim lanes (Rule refusal) = idle_end lanes
 end_by_claim lanes DiskFailed = turn_ends.DiskFailed lanes
@@ -160,7 +164,7 @@ module _ {E : Type 0} (stores : store.Ghosts E) where
     pub hand_is : after ≡ hand
     pub nothing : left ≡ []
 
-  -- how a turn goes on from the answer to its claim
+  -- how a turn goes on from what its expiry and its claim came to
   abbrev pub GoesOn : ℕ → Result Answer KeepFault → PassView Entry → PassView Entry → HandData E → HandData E → TurnEnd → List Held → Type 0
   GoesOn lanes (Ok (Claimed file attempt)) old new hand after end left = WorksOn old new hand after file attempt end left
   GoesOn lanes (Ok (Restarted released)) old new hand after end left = ⊥
@@ -168,9 +172,12 @@ module _ {E : Type 0} (stores : store.Ghosts E) where
   GoesOn lanes (Ok (Cancelled job)) old new hand after end left = ⊥
   GoesOn lanes (Ok (PrioritySet job)) old new hand after end left = ⊥
   GoesOn lanes (Ok (Reported file state)) old new hand after end left = ⊥
+  GoesOn lanes (Ok (Banned cancelled)) old new hand after end left = ⊥
+  GoesOn lanes (Ok Unbanned) old new hand after end left = ⊥
+  GoesOn lanes (Ok (Expired cancelled)) old new hand after end left = ⊥
   GoesOn lanes (Err fault) old new hand after end left = (end ≡ end_by_claim lanes fault) × Rests old new hand after left
 
-  -- a claim at the next moment with the next word, in one turn; and what follows
+  -- an expiry and a claim in one turn, at the next moment; the claim has the next word, which is used up also where no claim was tried; and what follows
   pub record ClaimTurn (old new : PassView Entry) (hand after : HandData E) (end : TurnEnd) (left : List Held) : Type 0 where
     pub now : ℕ
     pub word : ℕ
@@ -179,10 +186,11 @@ module _ {E : Type 0} (stores : store.Ghosts E) where
     pub moment : Gives hand.moments behind.moments now
     pub drawn : Gives hand.words behind.words word
     pub store : behind.store ≡ hand.store
-    pub result : Result Answer KeepFault
+    pub expiry : Result Answer KeepFault
+    pub claim : Option (Result Answer KeepFault)
     pub lanes : ℕ
-    pub tried : TriedInTurn old claimed (Claim now word) result lanes
-    pub goes_on : GoesOn lanes result claimed new behind after end left
+    pub tried : StepInTurn old claimed now word expiry claim lanes
+    pub goes_on : GoesOn lanes (step_answer expiry claim) claimed new behind after end left
 
   -- the report of a file that was kept from before
   pub record KeptTurn (old new : PassView Entry) (hand after : HandData E) (held : List Held) (end : TurnEnd) (left : List Held) : Type 0 where

@@ -5,13 +5,14 @@ use Rattle.fts_disk.specs.Disk.{IsTold}
 use Rattle.fts_tables.specs.Tables.{Tables, row_at}
 use Rattle.fts_tables.specs.declared.commands.Command.{Command}
 use Rattle.fts_tables.specs.declared.commands.Answer.{Answer}
-use Rattle.fts_tables.specs.declared.commands.Answer.TheVariants.{Restarted, Submitted, Cancelled, PrioritySet, Claimed, Reported}
+use Rattle.fts_tables.specs.declared.commands.Answer.TheVariants.{Restarted, Submitted, Cancelled, PrioritySet, Claimed, Reported, Banned, Unbanned, Expired}
 use Rattle.fts_copy.specs.Copy.{Order}
 use Rattle.fts_turnstile.specs.Passes.{Appends}
 use Rattle.fts_keep.specs.Keeps.{IsKeep}
 use Rattle.fts_keep.specs.Applied.{Applied, entry_by}
 use Rattle.fts_keep.specs.declared.fault.KeepFault.{KeepFault}
 use Rattle.fts_workers.specs.Copies.{order_in}
+use Rattle.fts_workers.specs.ClaimSteps.{IsClaimStep}
 use Rattle.fts_shop.specs.Shops.{ShopData, shop_entries, writer_of}
 use Rattle.fts_disk.specs.declared.disk.Disk as disk
 
@@ -28,6 +29,18 @@ pub record TriesIn {D : Type 0} (disks : disk.Ghosts D) (writer : ℕ) (command 
   pub left : lanes ≡ old.lanes
   pub stay : new.lanes ≡ old.lanes
 
+-- an expiry and a claim of a writer were tried as one step: what both came to, by their answers, what they added, and the lanes left, which stay
+pub record StepsIn {D : Type 0} (disks : disk.Ghosts D) (writer now word : ℕ) (old new : ShopData D) (expiry : Result Answer KeepFault)
+    (claim : Option (Result Answer KeepFault)) (lanes : ℕ) : Type 0 where
+  pub kept : IsKeep disks.state old.keep
+  pub told : old.keep.entries ≢ [] → IsTold (disks.state old.keep.disk)
+  pub keeps : IsKeep disks.state new.keep
+  pub still_told : new.keep.entries ≢ [] → IsTold (disks.state new.keep.disk)
+  pub stepped : IsClaimStep disks.state disks.faults writer old.keep new.keep now word expiry claim
+  pub appends : Appends shop_entries writer_of writer old new
+  pub left : lanes ≡ old.lanes
+  pub stay : new.lanes ≡ old.lanes
+
 -- what the copy of a claimed file is asked for, by the answer to the claim
 abbrev pub order_claimed : Tables → Result Answer KeepFault → Option Order
 order_claimed tables (Ok (Claimed file attempt)) = option_map (order_in tables) (row_at tables.rows file)
@@ -36,6 +49,9 @@ order_claimed tables (Ok (Submitted job id)) = None
 order_claimed tables (Ok (Cancelled job)) = None
 order_claimed tables (Ok (PrioritySet job)) = None
 order_claimed tables (Ok (Reported file state)) = None
+order_claimed tables (Ok (Banned cancelled)) = None
+order_claimed tables (Ok Unbanned) = None
+order_claimed tables (Ok (Expired cancelled)) = None
 order_claimed tables (Err fault) = None
 
 -- an order comes with a claimed file
@@ -46,6 +62,9 @@ HasOrder (Ok (Submitted job id)) order = Unit {0}
 HasOrder (Ok (Cancelled job)) order = Unit {0}
 HasOrder (Ok (PrioritySet job)) order = Unit {0}
 HasOrder (Ok (Reported file state)) order = Unit {0}
+HasOrder (Ok (Banned cancelled)) order = Unit {0}
+HasOrder (Ok Unbanned) order = Unit {0}
+HasOrder (Ok (Expired cancelled)) order = Unit {0}
 HasOrder (Err fault) order = Unit {0}
 
 -- whether cancel was asked of a file

@@ -1,5 +1,5 @@
 -- What a worker does at its station: turns, until one says that no lane is left and nothing is eligible, or ends by a fault with no lane left.
-use Rattle.std.specs.Prelude.{◌≡◌, ℕ, zero, suc, Bool, true, false, List, [], ◌∷◌, Option, Some, None, IsSome}
+use Rattle.std.specs.Prelude.{◌≡◌, ℕ, zero, suc, Bool, true, false, List, Option, Some, None, IsSome}
 use Rattle.fts_tables.specs.declared.commands.Entry.{Entry}
 use Rattle.fts_turnstile.specs.Passes.{PassView, IsSame}
 use Rattle.fts_workers.specs.declared.held.Held.{Held}

@@ -2,7 +2,8 @@
 //! Each end is a function of the keep's answer and of the lanes that were left: `end_by_report`, `end_by_claim` and `worker_end_of` of `specs`.
 //! Called by `turn` and `worker`.
 ghost use Rattle.std.specs.Prelude.{◌≡◌, Err};
-ghost use Rattle.fts_shop.specs.Shops.{AnswersClaim, AnswersReport, IsEndState};
+ghost use Rattle.fts_workers.specs.ClaimSteps.{AnswersClaim};
+ghost use Rattle.fts_shop.specs.Shops.{AnswersReport, IsEndState};
 ghost use Rattle.fts_shop.specs.Turns.{end_by_claim, end_by_report, end_by_state, is_over};
 
 use fts_keep::KeepFault;
@@ -75,7 +76,10 @@ pub fn end_of_report(file: u32, answer: Result<Answer, KeepFault>, lanes: u32) -
             | Answer::Claimed {
                 file: _,
                 attempt: _,
-            },
+            }
+            | Answer::Banned { cancelled: _ }
+            | Answer::Unbanned
+            | Answer::Expired { cancelled: _ },
         ) => unreachable!(),
         Err(KeepFault::Rule(_)) => Turn::Stale { file },
         Err(KeepFault::DiskFailed) => Turn::DiskFailed { lanes },
@@ -100,7 +104,7 @@ pub fn is_report_over(answer: Result<Answer, KeepFault>) -> bool
     }
 }
 
-/// The end by the fault of a claim.
+/// The end by the fault of a claim, or of the expiry before it.
 pub fn end_of_claim(fault: KeepFault, lanes: u32) -> Turn
     requires { AnswersClaim (Err fault) }
     ensures { result ≡ end_by_claim lanes fault }

@@ -1,12 +1,14 @@
-//! What is done to the shop within one turn: a command is tried, a file is claimed, a look is taken.
-//! Keeps: what is added to the list is of the writer that tries it, and the lanes left stay as they are (`TriesIn` of `specs/Within.antt`).
+//! What is done to the shop within one turn: a command is tried, a worker makes its step, a look is taken.
+//! Keeps: what is added to the list is of the writer that tries it, and the lanes left stay as they are (`TriesIn`, `StepsIn` of `specs/Within.antt`).
+//! Order of a step: the files that are overdue are cancelled, and then one is claimed, unless that met a fault; `fts_workers` has both as one call.
 //! What a turn finds out comes back as a value, since nothing is known of what it would write elsewhere. So a claim brings the order of its copy.
 //! Called by the turns of a pass: the calls of `turns.rt`, the watch, and whoever answers requests.
 ghost use Rattle.std.specs.Prelude.{◌≡◌, IsTrue, IfSome};
 ghost use Rattle.fts_record.specs.Proper.{has_priority};
 ghost use Rattle.fts_copy.specs.Copy.{StaysInside};
-ghost use Rattle.fts_tables.specs.declared.commands.Command.TheVariants.{Claim as ClaimAt};
-ghost use Rattle.fts_shop.specs.Within.{TriesIn, HasOrder, IsLookIn, order_claimed};
+ghost use Rattle.fts_workers.specs.ClaimSteps.{AnswersClaim};
+ghost use Rattle.fts_shop.specs.Shops.{step_answer};
+ghost use Rattle.fts_shop.specs.Within.{TriesIn, StepsIn, HasOrder, IsLookIn, order_claimed};
 
 use crate::Shop;
 use fts_copy::Loaded;
@@ -14,7 +16,7 @@ use fts_disk::Disk;
 use fts_keep::KeepFault;
 use fts_tables::laws::{claimed_files_were_in, tables_are_well_formed};
 use fts_tables::{Answer, Command};
-use fts_workers::{order_of_file, row_of_file};
+use fts_workers::{ClaimStep, claim_step, order_of_file, row_of_file};
 
 /// What a command came to in a turn.
 #[derive(Drop)]
@@ -25,11 +27,11 @@ pub struct Tried {
     pub lanes: u32,
 }
 
-/// What a claim came to in a turn.
+/// What an expiry and a claim came to in a turn.
 #[derive(Drop)]
 pub struct ClaimTried {
-    /// What the keep answered.
-    pub answer: Result<Answer, KeepFault>,
+    /// What the keep answered to both.
+    pub step: ClaimStep,
     /// How many lanes were left in the turn.
     pub lanes: u32,
     /// What the copy of the claimed file is asked for; none where no file was claimed.
@@ -49,25 +51,52 @@ pub fn try_in<D: Disk>(shop: &mut Shop<D>, writer: u32, command: Command) -> Tri
     Tried { answer, lanes }
 }
 
-/// Tries a claim of a writer, and brings the order of the claimed file's copy.
+// What a worker's step came to in a turn.
+#[derive(Drop)]
+struct Stepped {
+    step: ClaimStep,
+    lanes: u32,
+}
+
+// Tries an expiry and a claim of a writer, as one step.
+fn step_in<D: Disk>(shop: &mut Shop<D>, writer: u32, now: u64, word: u64) -> Stepped
+    ensures steps { StepsIn D.Disk writer now word shop.old shop.new result.step.expiry result.step.claim result.lanes }
+    ensures answers { AnswersClaim (step_answer result.step.expiry result.step.claim) }
+{
+    let lanes = shop.lanes();
+    let keep = shop.keep();
+    let _desk = keep.desk();
+    let step = claim_step(keep, writer, now, word);
+    let _later = keep.desk();
+    Stepped { step, lanes }
+}
+
+/// What a step came to: the answer to its claim, or the fault of its expiry where no claim was tried.
+pub fn answer_of(step: ClaimStep) -> Result<Answer, KeepFault>
+    ensures { result ≡ step_answer step.expiry step.claim }
+{
+    match step.claim {
+        Some(answer) => answer,
+        None => step.expiry,
+    }
+}
+
+/// Tries an expiry and a claim of a writer at one moment, the claim unless the expiry met a fault, and brings the order of the claimed file's copy.
 pub fn claim_in<D: Disk>(shop: &mut Shop<D>, writer: u32, now: u64, word: u64) -> ClaimTried
-    ensures tries { TriesIn D.Disk writer (ClaimAt now word) shop.old shop.new result.answer result.lanes }
-    ensures order { result.order ≡ order_claimed shop.new.keep.tables result.answer }
-    ensures some { HasOrder result.answer result.order }
+    ensures steps { StepsIn D.Disk writer now word shop.old shop.new result.step.expiry result.step.claim result.lanes }
+    ensures answers { AnswersClaim (step_answer result.step.expiry result.step.claim) }
+    ensures order { result.order ≡ order_claimed shop.new.keep.tables (step_answer result.step.expiry result.step.claim) }
+    ensures some { HasOrder (step_answer result.step.expiry result.step.claim) result.order }
     ensures inside { IfSome result.order StaysInside }
 {
     tables_are_well_formed();
     claimed_files_were_in();
-    let Tried { answer, lanes } = try_in(shop, writer, Command::Claim { now, word });
-    let order = match answer {
+    let Stepped { step, lanes } = step_in(shop, writer, now, word);
+    let order = match answer_of(step) {
         Ok(Answer::Claimed { file, attempt: _ }) => order_of_file(shop.keep().desk(), file),
         Ok(_) | Err(_) => None,
     };
-    ClaimTried {
-        answer,
-        lanes,
-        order,
-    }
+    ClaimTried { step, lanes, order }
 }
 
 /// Looks whether cancel was asked of a file.

@@ -1,7 +1,8 @@
-//! A turn of a worker: a file that is held from before is reported first; else one is claimed, copied outside every turn, and reported.
+//! A turn of a worker: a file that is held from before is reported first; else what is overdue is cancelled, and one is claimed, copied outside every
+//! turn, and reported.
 //! Keeps: the bench holds one file at most, whose copy has ended (`IsReady`).
-//! Order: a claim in one turn of the lock, the gate, the copy with its looks, each in a turn of its own, the removal of its part where it wasn't
-//! verified, and the report in one turn.
+//! Order: the expiry and a claim in one turn of the lock, the gate, the copy with its looks, each in a turn of its own, the removal of its part where
+//! it wasn't verified, and the report in one turn. Both commands of the first turn have one moment, and the claim's word is taken before it.
 //! What a turn is, by its commands, their answers and its end, is `IsTurn` of `specs/Turns.antt`. Called by `worker`, again and again.
 ghost use Rattle.std.specs.Prelude.{◌≡◌, ◌≢◌, [], Some, Ok, option_map};
 ghost use Rattle.fts_tables.specs.History.{tables_of};
@@ -9,14 +10,15 @@ ghost use Rattle.fts_tables.specs.Tables.{row_at};
 ghost use Rattle.fts_copy.specs.Copy.{StaysInside};
 ghost use Rattle.fts_turnstile.specs.Passes.{IsOf, IsSame, seen_list};
 ghost use Rattle.fts_workers.specs.Copies.{order_in};
-ghost use Rattle.fts_shop.specs.Shops.{AnswersClaim, IsToldList};
+ghost use Rattle.fts_workers.specs.ClaimSteps.{AnswersClaim};
+ghost use Rattle.fts_shop.specs.Shops.{IsToldList};
 ghost use Rattle.fts_shop.specs.Within.{HasOrder};
 ghost use Rattle.fts_shop.specs.Turns.{IsReady, IsTurn, ReportsHeld, WorksOn, hand_data};
 ghost use Rattle.fts_shop.specs.Parts.{CopiesOrder, HasSize};
 
 use crate::ends::{Turn, end_of_claim, end_of_report, is_report_over};
 use crate::shop::Shop;
-use crate::tried::{ClaimTried, Tried};
+use crate::tried::{ClaimTried, Tried, answer_of};
 use crate::turns::{try_claim, try_command};
 use crate::watch::ShopWatch;
 use fts_copy::Loaded;
@@ -55,7 +57,10 @@ fn claimed_of(answer: Answer, order: Option<Loaded>) -> Claimed
         | Answer::Submitted { job: _, id: _ }
         | Answer::Cancelled { job: _ }
         | Answer::PrioritySet { job: _ }
-        | Answer::Reported { file: _, state: _ } => unreachable!(),
+        | Answer::Reported { file: _, state: _ }
+        | Answer::Banned { cancelled: _ }
+        | Answer::Unbanned
+        | Answer::Expired { cancelled: _ } => unreachable!(),
     }
 }
 
@@ -166,10 +171,12 @@ fn work_on<D: Disk, E: Store, C: Clock, W: Words, R: Wait>(
     report(rt, shop, pass, bench, &mut hand.clock)
 }
 
-/// A turn of a worker, which writes with its pass's number. A file that is held from before is reported; else one is claimed, the gate is told,
-/// the file is copied and reported. A file is held behind the turn only after a report that met a fault.
+/// A turn of a worker, which writes with its pass's number. A file that is held from before is reported; else the files that are overdue are cancelled
+/// and one is claimed in one turn of the lock, at one moment, the gate is told, the file is copied and reported. Where the claim was tried, no row was
+/// overdue in the tables that it met. A file is held behind the turn only after a report that met a fault.
 /// `Idle` and `Stopping` come exactly where no row was eligible, with a lane left and without; `Stale` exactly where the desk refuses the report;
-/// `DiskFailed` only where the disk counted a failure in the turn that tried the command; `JournalFull` exactly by the limit; `Memory` freely.
+/// `DiskFailed` only where the disk counted a failure in the turn that tried the command, an expiry, a claim or a report; `JournalFull` exactly by
+/// the limit; `Memory` freely. An expiry that met one of these faults ends the turn, and its claim's word is used up.
 pub fn turn<D: Disk, E: Store, C: Clock, W: Words, G: Gate, R: Wait>(
     rt: &R,
     shop: &Turnstile<Shop<D>>,
@@ -191,12 +198,8 @@ pub fn turn<D: Disk, E: Store, C: Clock, W: Words, G: Gate, R: Wait>(
     }
     let now = hand.clock.now();
     let word = hand.words.next();
-    let ClaimTried {
-        answer,
-        lanes,
-        order,
-    } = try_claim(rt, shop, pass, now, word);
-    match answer {
+    let ClaimTried { step, lanes, order } = try_claim(rt, shop, pass, now, word);
+    match answer_of(step) {
         Ok(answer) => {
             let claimed = claimed_of(answer, order);
             gate.begun(claimed.file);

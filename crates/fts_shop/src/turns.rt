@@ -1,13 +1,13 @@
-//! Turns of a pass: a command that is tried in one, a claim that brings the order of its copy, and the turn in which a lane ends.
-//! Keeps: each adds at most its own command to the list, with the pass's number as writer, and none but `lane_ends` changes the lanes left.
+//! Turns of a pass: a command that is tried in one, an expiry and a claim that brings the order of its copy, and the turn in which a lane ends.
+//! Keeps: each adds at most its own commands to the list, with the pass's number as writer, and none but `lane_ends` changes the lanes left.
 //! Called by `turn`, and `lane_ends` by a lane once, as its last turn.
 ghost use Rattle.std.specs.Prelude.{◌≡◌, IsTrue, IfSome};
 ghost use Rattle.fts_tables.specs.History.{tables_of};
-ghost use Rattle.fts_tables.specs.declared.commands.Command.TheVariants.{Claim as ClaimAt};
 ghost use Rattle.fts_record.specs.Proper.{has_priority};
 ghost use Rattle.fts_copy.specs.Copy.{StaysInside};
 ghost use Rattle.fts_turnstile.specs.Passes.{IsOf, seen_list};
-ghost use Rattle.fts_shop.specs.Shops.{IsToldList, LaneEnds, TriedInTurn};
+ghost use Rattle.fts_workers.specs.ClaimSteps.{AnswersClaim};
+ghost use Rattle.fts_shop.specs.Shops.{IsToldList, LaneEnds, StepInTurn, TriedInTurn, step_answer};
 ghost use Rattle.fts_shop.specs.Within.{HasOrder, order_claimed};
 
 use crate::shop::Shop;
@@ -38,7 +38,8 @@ pub fn try_command<D: Disk, R: Wait>(
     )
 }
 
-/// Tries a claim in one turn of the pass, and brings what the copy of the claimed file is asked for.
+/// Tries an expiry and a claim in one turn of the pass, both at this moment, and brings what the copy of the claimed file is asked for.
+/// The claim is tried unless the expiry met a fault, and no row is overdue in the tables that it meets.
 pub fn try_claim<D: Disk, R: Wait>(
     rt: &R,
     shop: &Turnstile<Shop<D>>,
@@ -47,9 +48,11 @@ pub fn try_claim<D: Disk, R: Wait>(
     word: u64,
 ) -> ClaimTried
     requires own { IsOf shop.now pass.old }
-    ensures tried { TriedInTurn pass.old pass.new (ClaimAt now word) result.answer result.lanes }
-    ensures order { IsToldList pass.old → result.order ≡ order_claimed (tables_of (seen_list pass.new)) result.answer }
-    ensures some { HasOrder result.answer result.order }
+    ensures tried { StepInTurn pass.old pass.new now word result.step.expiry result.step.claim result.lanes }
+    ensures answers { AnswersClaim (step_answer result.step.expiry result.step.claim) }
+    ensures order { IsToldList pass.old
+        → result.order ≡ order_claimed (tables_of (seen_list pass.new)) (step_answer result.step.expiry result.step.claim) }
+    ensures some { HasOrder (step_answer result.step.expiry result.step.claim) result.order }
     ensures inside { IfSome result.order StaysInside }
 {
     let writer = pass.number();

@@ -71,17 +71,18 @@ pub fn store(alloc: Global) -> Result<MemoryStore, Memory> {
     ))
 }
 
-/// A station of a pass, with this store.
+/// A station of a pass, with this store, at this moment.
 pub fn station<E: Store + Drop>(
     alloc: Global,
     pass: Pass<Shop<MemoryDisk>>,
     store: E,
+    now: u64,
 ) -> Result<Station<MemoryDisk, E, ListClock, ListWords>, Memory>
     ensures pass { IfOk result (λ station. station.pass ≡ pass) }
     ensures ready { IfOk result (λ station. IsReady station.bench.held) }
 {
     let bench = Bench::new(alloc, 1)?;
-    let clock = ListClock::new([0].to_vec(alloc)?);
+    let clock = ListClock::new([now].to_vec(alloc)?);
     let words = ListWords::new([0].to_vec(alloc)?);
     let hand = Hand {
         store,

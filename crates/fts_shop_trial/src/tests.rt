@@ -67,8 +67,8 @@ fn two_workers<R: Threads + Wait + Sync>(rt: &R, alloc: Global) -> Result<Seen, 
     };
     let one = lock.split(&mut first);
     let two = lock.split(&mut first);
-    let one = station(alloc, one, store(alloc)?)?;
-    let two = station(alloc, two, store(alloc)?)?;
+    let one = station(alloc, one, store(alloc)?, 0)?;
+    let two = station(alloc, two, store(alloc)?, 0)?;
     let mut stations = [one, two];
     let gate = BothBegin {
         begun: Raised::new(),
@@ -174,7 +174,7 @@ fn cancelled<R: Threads + Wait + Sync>(rt: &R, alloc: Global) -> Result<Stopped,
         flags: &flags,
     };
     let pass = lock.split(&mut first);
-    let mut station = station(alloc, pass, held)?;
+    let mut station = station(alloc, pass, held, 0)?;
     let accepted = work_and_cancel(rt, &lock, &mut station, &mut first, &flags);
     let canceled = lock.with_turn(
         rt,

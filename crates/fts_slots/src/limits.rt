@@ -1,5 +1,5 @@
 //! The limits of links and endpoints: by the names of endpoints, and by their places in the settings. Both ways read one rule or one endpoint.
-//! Called by the desk's claim, by names, and by `Slots`, by places.
+//! Called by `Slots`, by places.
 ghost use Rattle.std.specs.Prelude.{
   ◌≡◌,
   ◌<◌,
@@ -108,20 +108,6 @@ fn inbound_of(endpoint: Option<&Endpoint>) -> u32
         Some(endpoint) => endpoint.inbound,
         None => 0,
     }
-}
-
-/// How many files may come from the endpoint of a name, and 0 where the settings don't list it.
-pub fn outbound_limit(settings: &Settings, name: &str) -> u32
-    ensures limit { result ≡ outbound_limit (Some settings.now) name.now }
-{
-    outbound_of(endpoint_at(settings, name))
-}
-
-/// How many files may go to the endpoint of a name, and 0 where the settings don't list it.
-pub fn inbound_limit(settings: &Settings, name: &str) -> u32
-    ensures limit { result ≡ inbound_limit (Some settings.now) name.now }
-{
-    inbound_of(endpoint_at(settings, name))
 }
 
 /// How many files may be ACTIVE on a link.

@@ -1,6 +1,8 @@
 -- What an entry that is found, changed or appended makes of the files.
 use Rattle.std.proofs.Common.{◌≡◌, ℕ, ◌+◌, ◌<◌, ◌≤◌, nat_lt, Bool, true, false, Option, Some, None, Result, Ok, Err, OnOk, OnErr, List, [], ◌∷◌, ◌++◌, length, refl, sym, ◌∙◌, ap, subst, cond, arith}
 use Rattle.std.proofs.Math.ListN.{get_or, set}
+use Rattle.std.specs.Prelude.{Vec}
+use Rattle.std.specs.declared.alloc.Global.{Global}
 use Rattle.std.specs.List.{find, position, position_or_len, slice_get}
 use Rattle.std.specs.Option.{option_or}
 use Rattle.std.proofs.lemmas.List.Folds.{find_at, find-append, find_past, position_or_len-set, position_or_len_push}
@@ -10,7 +12,7 @@ use Rattle.std.proofs.lemmas.List.{get_or-set_same, length-set, length-append}
 use Rattle.fts_tables.specs.declared.places.Place.{Place}
 use Rattle.fts_tables.specs.Places.{is_same_place}
 use Rattle.fts_store.specs.Store.{Same, with_file}
-use Rattle.fts_store.specs.Held.{made_over, kept_file, is_entry_at, entry_place, IsEntryOf}
+use Rattle.fts_store.specs.Held.{made_over, kept_file, is_entry_at, entry_place, IsEntryOf, Takes, EntryTakes}
 use Rattle.fts_store.specs.declared.held.Entry.{Entry}
 use Rattle.fts_store.proofs.Places.{same_place-Decides, same_place-itself}
 
@@ -81,6 +83,21 @@ none_at_end p xs is =
 -- where none passes, none is found
 find-none : {X : Type 0} (p : X → Bool) (xs : List X) → position p xs ≡ None → find p xs ≡ None
 find-none p xs is = find_at p xs ∙ ap (slice_get xs) (none_at_end p xs is) ∙ slice_get_past xs (length xs) (omega arith)
+
+-- the file that was taken out of an entry with room takes as much
+pub room_there : (made made_now : List Entry) (n : ℕ) (place : Place) (count : ℕ) (file : Option (Vec ℕ Global))
+    → ((d : Entry) → file ≡ (get_or made_now n d).file)
+    → EntryTakes (find (is_entry_at place) made) count → made_now ≡ made → IsEntryOf made_now n place → Takes file count
+room_there made made_now n place count file taken takes same is = by_found (find (is_entry_at place) made) refl takes
+  where
+    by_found : (found : Option Entry) → find (is_entry_at place) made ≡ found → EntryTakes found count → Takes file count
+    by_found None there takes = absurd takes
+    by_found (Some entry) there takes =
+        let found : find (is_entry_at place) made ≡ Some (get_or made_now n entry) =
+        ap (find (is_entry_at place)) (sym same) ∙ find-position (is_entry_at place) made_now n is
+        ∙ slice_get-get_or made_now n entry (entry_inside made_now n place is) in
+        let has : EntryTakes (Some (get_or made_now n entry)) count = subst (λ o. EntryTakes o count) (sym there ∙ found) takes in
+        subst (λ f. Takes f count) (sym (taken entry)) has
 
 -- an element that passes behind those that don't
 position-push : {X : Type 0} (p : X → Bool) (xs : List X) (y : X) → position p xs ≡ None → p y ≡ true → position p (xs ++ y ∷ []) ≡ Some (length xs)

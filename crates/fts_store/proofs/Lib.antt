@@ -4,6 +4,7 @@ mod Above
 mod Prefixes
 mod Moved
 mod Metings
+mod Listings
 mod Sweepings
 mod Lookings
 mod Counted

@@ -1,5 +1,5 @@
 -- Folders that are looked for, and made where they are missing.
-use Rattle.std.proofs.Common.{◌≡◌, ℕ, zero, suc, ◌+◌, ◌<◌, ◌≤◌, true, false, Option, Some, None, is_some, List, [], ◌∷◌, ◌++◌, length, map, take, get_or, refl, sym, ◌∙◌, ap, arith}
+use Rattle.std.proofs.Common.{◌≡◌, ℕ, zero, suc, ◌<◌, true, false, Option, Some, None, is_some, List, [], ◌∷◌, ◌++◌, length, map, take, get_or, refl, sym, ◌∙◌, ap, arith}
 use Rattle.fts_files.specs.Calls.{Call}
 use Rattle.fts_files.specs.Script.{Script, LeadsTo, with_value}
 use Rattle.fts_files.proofs.Playing.{leads_same, same_leads}

@@ -7,7 +7,7 @@ use Rattle.fts_files.specs.declared.parts.OpenPart.{OpenPart}
 use Rattle.fts_files.specs.Making.{makes_part, removes, removes_part}
 use Rattle.fts_files.specs.Moved.{IsMoved}
 use Rattle.fts_files.specs.Reading.{sizes, opens_source, reads_once}
-use Rattle.fts_files.specs.Script.{Script, fails}
+use Rattle.fts_files.specs.Script.{Script, LeadsTo, either, fails}
 use Rattle.fts_files.specs.Writing.{writes_whole}
 use Rattle.fts_store.specs.declared.folder.Opened.{Opened}
 use Rattle.fts_store.specs.declared.folders.Met.{Met}
@@ -30,6 +30,10 @@ OpenMoved file root stable free from to calls = (missing : Missing) × EndWith (
 -- memory was missing before anything was asked
 abbrev pub IsUnasked : {T E : Type 0} → Result T E → Option (List Call) → Option (List Call) → Type 0
 IsUnasked result old new = IsErr result × (new ≡ old)
+
+-- the calls of a script were made, and it goes on by what they gave; or memory was missing behind some of them, and the others were left
+abbrev pub UpToMemory : {T E : Type 0} → Result T E → Script → (T → Script) → Option (List Call) → Option (List Call) → Type 0
+UpToMemory result from next old new = (left : Script) × LeadsTo from old (either next left result) new
 
 -- an endpoint's own folder is as it was first met, and the place lies inside
 abbrev pub inside : List ℕ → List Met → Place → Script → Script

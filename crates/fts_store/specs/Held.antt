@@ -1,5 +1,5 @@
 -- What a map of files in memory holds: the files that it was given, and over them those that were made since.
-use Rattle.std.specs.Prelude.{◌≡◌, ℕ, Bool, Option, Some, None, IsSome, option_map, List, Vec, string_bytes}
+use Rattle.std.specs.Prelude.{◌≡◌, ℕ, ◌+◌, ◌≤◌, Bool, Option, Some, None, IsSome, option_map, List, length, Vec, vec_capacity, string_bytes}
 use Rattle.std.specs.List.{find, position}
 use Rattle.std.specs.declared.alloc.Global.{Global}
 use Rattle.fts_tables.specs.declared.places.Place.{Place}
@@ -48,3 +48,18 @@ IsEntryOf made n place = position (is_entry_at place) made ≡ Some n
 -- a call has named this place before
 abbrev pub IsNamed : Held → Place → Type 0
 IsNamed held place = IsSome (position (is_entry_at place) held.made.items)
+
+-- a file takes so many bytes more without memory
+abbrev pub Takes : Option (Vec ℕ Global) → ℕ → Type 0
+Takes (Some bytes) count = length bytes.items + count ≤ vec_capacity bytes
+Takes None count = ⊥
+
+-- and so does that of an entry, where there is one
+abbrev pub EntryTakes : Option Entry → ℕ → Type 0
+EntryTakes (Some entry) count = Takes entry.file count
+EntryTakes None count = ⊥
+
+-- a call has named this place before, and the file that it left there takes so many bytes more without memory
+pub record HasRoom (held : Held) (place : Place) (count : ℕ) : Type 0 where
+  pub named : IsNamed held place
+  pub takes : EntryTakes (find (is_entry_at place) held.made.items) count

@@ -7,5 +7,6 @@ pub mod Paths
 pub mod Folders
 pub mod Opened
 pub mod FolderCalls
+pub mod Listing
 pub mod Sweep
 pub mod Meeting

@@ -1,28 +1,12 @@
 -- How a store in a folder meets what is there as it begins: it reads the names in its root, looks at each folder of such a name, and changes nothing.
-use Rattle.std.specs.Prelude.{◌≡◌, ℕ, true, Option, Some, None, List, [], ◌∷◌, ◌++◌, map, codes, string_bytes}
-use Rattle.fts_files.specs.Calls.{Call, Answer, Look, with_call}
+use Rattle.std.specs.Prelude.{◌≡◌, ◌⊎◌, ℕ, Option, Some, None, Result, IsOk, List, [], ◌∷◌, ◌++◌, map, filter, string_bytes}
+use Rattle.fts_files.specs.Calls.{Call, Look}
+use Rattle.fts_files.specs.Script.{Script, Does, LeadsTo}
+use Rattle.fts_store.specs.FolderCalls.{IsUnasked}
 use Rattle.fts_store.specs.Folders.{device_seen}
-use Rattle.fts_store.specs.Sweep.{Sweeps, stays_below}
+use Rattle.fts_store.specs.Listing.{below_in, lists_root}
+use Rattle.fts_store.specs.Sweep.{stays_below}
 use Rattle.fts_store.specs.declared.folders.Met.{Met}
-
--- a folder below the root, by its name
-abbrev pub below_in : List ℕ → List ℕ → List ℕ
-below_in root name = (root ++ codes "/") ++ name
-
--- a folder that was looked at, and what that answered
-pub record Looked : Type 0 where
-  pub folder : List ℕ
-  pub answer : Answer
-
--- the calls of these looks, behind others
-abbrev pub told : Option (List Call) → List Looked → Option (List Call)
-told calls [] = calls
-told calls (look ∷ looks) = told (with_call calls (Look look.folder) look.answer) looks
-
--- each was at a folder below the root
-abbrev pub AreBelow : List ℕ → List Looked → Type 0
-AreBelow root [] = Unit {0}
-AreBelow root (look ∷ looks) = ((name : List ℕ) × (stays_below name ≡ true) × (look.folder ≡ below_in root name)) × AreBelow root looks
 
 -- what is known of a folder that was met
 pub record Known : Type 0 where
@@ -43,20 +27,25 @@ abbrev pub known_at : List ℕ → Option ℕ → List Known
 known_at folder (Some device) = record { folder = folder; device = Some device } ∷ []
 known_at folder None = []
 
--- what these looks let know
-abbrev pub known_by : List Looked → List Known
-known_by [] = []
-known_by (look ∷ looks) = known_at look.folder (there_of (device_seen look.answer)) ++ known_by looks
+-- a folder below the root is looked at; where it is there, that is known behind what was known
+abbrev pub looks_at : List ℕ → List ℕ → List Known → (List Known → Script) → Script
+looks_at root name known next = Does (Look (below_in root name)) (λ answer. next (known ++ known_at (below_in root name) (there_of (device_seen answer))))
 
--- folders below the root were looked at, and nothing else was asked; what is known is what the looks saw
-pub record LooksBelow (root : List ℕ) (old new : Option (List Call)) (met met_now : List Met) : Type 0 where
-  pub looks : List Looked
-  pub below : AreBelow root looks
-  pub calls : new ≡ told old looks
-  pub known : map known_of met_now ≡ map known_of met ++ known_by looks
+-- each of these folders is, one after the other
+unfoldable pub looks_each : List ℕ → List (List ℕ) → List Known → (List Known → Script) → Script
+looks_each root [] known next = next known
+looks_each root (name ∷ names) known next = looks_at root name known (λ more. looks_each root names more next)
 
--- the names in the root were read, and then folders below it looked at
-pub record Meets (root : List ℕ) (old new : Option (List Call)) (met met_now : List Met) : Type 0 where
-  pub between : Option (List Call)
-  pub read : Sweeps root old between
-  pub looked : LooksBelow root between new met met_now
+-- all folders below the root are, by the names that are read there
+abbrev pub looks_at_all : List ℕ → List Known → (List Known → Script) → Script
+looks_at_all root known next = lists_root root (λ names. looks_each root (filter stays_below names) known next)
+
+-- all calls of a script of looks were made; or memory was missing, and these folders were left. What is known is what was seen
+abbrev pub LooksOn : {T E : Type 0} → Result T E → List ℕ → ((List Known → Script) → Script) → Option (List Call) → Option (List Call) → List Met → Type 0
+LooksOn result root from old new met = (left : List (List ℕ)) × (IsOk result → left ≡ [])
+    × ((next : List Known → Script) → LeadsTo (from next) old (looks_each root left (map known_of met) next) new)
+
+-- all folders below the root were met, or memory was missing behind some; or before anything was asked
+abbrev pub Meets : {T E : Type 0} → List ℕ → Result T E → Option (List Call) → Option (List Call) → List Met → List Met → Type 0
+Meets root result old new met met_now =
+    (IsUnasked result old new × (met_now ≡ met)) ⊎ LooksOn result root (looks_at_all root (map known_of met)) old new met_now

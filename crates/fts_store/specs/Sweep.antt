@@ -1,11 +1,13 @@
--- What a store in a folder does with the parts that were left there.
-use Rattle.std.specs.Prelude.{◌≡◌, ◌⊎◌, ℕ, ◌&&◌, nat_le, not, Bool, true, Option, List, [], ◌∷◌, ◌++◌, drop, codes, bytes_eq, nat_eq}
+-- What a store in a folder does with the parts that were left there: the names that it reads decide which calls follow.
+use Rattle.std.specs.Prelude.{ℕ, ◌&&◌, nat_le, not, Bool, Option, Result, List, [], ◌∷◌, ◌++◌, filter, drop, codes, bytes_eq, nat_eq}
 use Rattle.std.specs.List.{list_all, starts_with}
 use Rattle.fts_tables.specs.Names.{segments}
-use Rattle.fts_files.specs.Calls.{Call, Names}
+use Rattle.fts_files.specs.Calls.{Call}
 use Rattle.fts_files.specs.Making.{removes_stale}
-use Rattle.fts_files.specs.Script.{Script, Does, LeadsTo}
+use Rattle.fts_files.specs.Script.{Script}
 use Rattle.fts_store.specs.Folder.{is_name}
+use Rattle.fts_store.specs.FolderCalls.{UpToMemory}
+use Rattle.fts_store.specs.Listing.{below_in, lists, lists_root}
 
 -- a decimal digit
 abbrev pub is_digit : ℕ → Bool
@@ -21,37 +23,26 @@ stays_below name = list_all is_name (segments name)
 
 -- the folder of parts of a folder below the root
 abbrev pub parts_in : List ℕ → List ℕ → List ℕ
-parts_in root name = (root ++ codes "/") ++ name ++ codes "/.fts"
+parts_in root name = below_in root name ++ codes "/.fts"
 
--- a part there
-abbrev pub part_in : List ℕ → List ℕ → List ℕ
-part_in folder part = (folder ++ codes "/") ++ part
+-- each of these parts in a folder loses its name, where it is a plain file that no run holds; whatever comes of one, the next follows
+unfoldable pub clears_each : List ℕ → List (List ℕ) → Script → Script
+clears_each folder [] next = next
+clears_each folder (part ∷ parts) next = removes_stale (below_in folder part) (clears_each folder parts next) (clears_each folder parts next)
 
--- one step of a sweep
-pub data Step : Type 0 where
-  -- the names in a folder are read
-  Lists : List ℕ → Step
-  -- a part that no run holds loses its name
-  Clears : List ℕ → Step
+-- the folder of parts of a folder below the root is swept: its names are read, and those of parts are taken away
+abbrev pub sweeps_one : List ℕ → List ℕ → Script → Script
+sweeps_one root name next = lists (parts_in root name) (λ names. clears_each (parts_in root name) (filter is_part_name names) next)
 
--- it is one of a sweep below this root: the root's names are read, those in the folder of parts of one of these, or a part there loses its name
-abbrev pub IsOfSweep : List ℕ → Step → Type 0
-IsOfSweep root (Lists folder) = (folder ≡ root ++ codes "/") ⊎ ((name : List ℕ) × (stays_below name ≡ true) × (folder ≡ parts_in root name))
-IsOfSweep root (Clears path) = (name part : List ℕ) × (stays_below name ≡ true) × (is_part_name part ≡ true) × (path ≡ part_in (parts_in root name) part)
+-- those of these folders below the root, one after the other
+unfoldable pub sweeps_each : List ℕ → List (List ℕ) → Script → Script
+sweeps_each root [] next = next
+sweeps_each root (name ∷ names) next = sweeps_one root name (sweeps_each root names next)
 
--- each is
-abbrev pub AreOfSweep : List ℕ → List Step → Type 0
-AreOfSweep root [] = Unit {0}
-AreOfSweep root (step ∷ steps) = IsOfSweep root step × AreOfSweep root steps
+-- those of all folders below the root, by the names that are read there
+abbrev pub sweeps : List ℕ → Script → Script
+sweeps root next = lists_root root (λ names. sweeps_each root (filter stays_below names) next)
 
--- the calls of these steps: whatever one of them answers, the next follows
-unfoldable pub sweeps : List Step → Script → Script
-sweeps [] next = next
-sweeps (Lists folder ∷ steps) next = Does (Names folder) (λ answer. sweeps steps next)
-sweeps (Clears path ∷ steps) next = removes_stale path (sweeps steps next) (sweeps steps next)
-
--- the calls grew by those of steps of a sweep, and by no other
-pub record Sweeps (root : List ℕ) (old new : Option (List Call)) : Type 0 where
-  pub steps : List Step
-  pub of_sweep : AreOfSweep root steps
-  pub script : (next : Script) → LeadsTo (sweeps steps next) old next new
+-- these calls were made, or memory was missing behind some of them
+pub record Sweeps {T E : Type 0} (root : List ℕ) (result : Result T E) (old new : Option (List Call)) : Type 0 where
+  pub script : (next : Script) → UpToMemory result (sweeps root next) (λ done. next) old new

@@ -200,19 +200,20 @@ impl<F: FileSystem + Drop> FolderStore<F> {
     }
 
     /// Takes the names away from the parts that a run left in the folders below this store's, unless another run holds them. What can't be read
-    /// or taken away is left, and counts no failure. Where memory is missing it ends early.
+    /// or taken away is left, and counts no failure. Where memory is missing it ends early, and that alone is the error.
     pub fn sweep(&mut self) -> Result<(), AllocError>
         ensures faults { folder_faults self.new ≡ folder_faults self.old }
-        ensures swept { Sweeps (string_bytes self.old.root) (F.calls self.old.files) (F.calls self.new.files) }
+        ensures swept { Sweeps (string_bytes self.old.root) result (F.calls self.old.files) (F.calls self.new.files) }
     {
         sweep(&mut self.files, self.alloc, self.root.as_str())
     }
 
     /// Looks at each folder below this store's, so that each endpoint's own folder that is there by now is never made again, and has to lie on the
-    /// device that it lies on now. It changes nothing, and what can't be looked at is met at its first use. Where memory is missing it ends early.
+    /// device that it lies on now. It changes nothing, and what can't be looked at is met at its first use. Where memory is missing it ends early,
+    /// and that alone is the error.
     pub fn meet_all(&mut self) -> Result<(), AllocError>
         ensures faults { folder_faults self.new ≡ folder_faults self.old }
-        ensures met { Meets (string_bytes self.old.root) (F.calls self.old.files) (F.calls self.new.files) self.old.met.items self.new.met.items }
+        ensures met { Meets (string_bytes self.old.root) result (F.calls self.old.files) (F.calls self.new.files) self.old.met.items self.new.met.items }
     {
         meet_all(
             &mut self.files,

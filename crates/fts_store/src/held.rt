@@ -2,11 +2,12 @@
 //! Contracts see what is held at each place (`held_files`). A call takes its memory first: one that finds none changes no file.
 //! Only `MemoryStore` stands on it.
 ghost use Rattle.std.specs.Prelude.{◌≡◌, ◌<◌, ◌∷◌, ◌++◌, [], Some, None, IsSome, IsOk, IfOk, OnOk, OnErr, option_map, length};
-ghost use Rattle.std.specs.List.{find, position};
+ghost use Rattle.std.specs.List.{find, position, slice_index_or};
 ghost use Rattle.fts_tables.specs.Places.{is_same_place};
+ghost use Rattle.fts_store.specs.declared.held.Entry.{Entry};
 ghost use Rattle.fts_tables.specs.declared.places.Place.{Place};
 ghost use Rattle.fts_store.specs.Store.{Same, place_at, bytes_of, with_file, with_move};
-ghost use Rattle.fts_store.specs.Held.{held_files, files_over, given_at, kept_file, entry_place, is_entry_at, IsEntryOf};
+ghost use Rattle.fts_store.specs.Held.{held_files, files_over, given_at, kept_file, entry_place, is_entry_at, IsEntryOf, Takes};
 
 use crate::StoreFailed;
 use fts_tables::{Items, Place, PlaceRef};
@@ -121,6 +122,7 @@ fn own(
     ensures stay { (place : Place) (n : _) → IsEntryOf made.old.items n place → IsEntryOf made.new.items n place }
     ensures same { Same (files_over files.now made.new.items) (files_over files.now made.old.items) }
     ensures named { IsSome (position (is_entry_at (place_at at.entry)) made.old.items) → IsOk result }
+    ensures kept { IsSome (position (is_entry_at (place_at at.entry)) made.old.items) → made.new.items ≡ made.old.items }
 {
     match entry_of(made, at) {
         Some(n) => Ok(n),
@@ -132,6 +134,7 @@ fn own(
 fn exchange(made: &mut Vec<Entry>, n: usize, file: Option<Vec<u8>>) -> Option<Vec<u8>>
     requires { n < length made.old.items }
     ensures given { (files : _) (place : Place) → IsEntryOf made.old.items n place → kept_file result ≡ files_over files made.old.items place }
+    ensures taken { (d : Entry) → result ≡ (slice_index_or made.old.items n d).file }
     ensures put { (files : _) (place : Place) → IsEntryOf made.old.items n place
         → Same (files_over files made.new.items) (with_file (files_over files made.old.items) place (kept_file file)) }
     ensures stay { (place : Place) → position (is_entry_at place) made.new.items ≡ position (is_entry_at place) made.old.items }
@@ -143,6 +146,7 @@ fn exchange(made: &mut Vec<Entry>, n: usize, file: Option<Vec<u8>>) -> Option<Ve
 fn grow(alloc: Global, file: &mut Option<Vec<u8>>, bytes: &[u8]) -> Result<(), StoreFailed>
     ensures ok { OnOk result (kept_file file.new ≡ Some (bytes_of (kept_file file.old) ++ bytes.now)) }
     ensures err { OnErr result (kept_file file.new ≡ kept_file file.old) }
+    ensures room { Takes file.old (length bytes.now) → IsOk result }
 {
     match file {
         Some(content) => content.extend_from_slice(bytes)?,
@@ -152,9 +156,9 @@ fn grow(alloc: Global, file: &mut Option<Vec<u8>>, bytes: &[u8]) -> Result<(), S
 }
 
 impl Held {
-    ghost use Rattle.std.specs.Prelude.{◌≡◌, ◌++◌, [], Some, None, IsOk, OnOk, OnErr, option_map};
+    ghost use Rattle.std.specs.Prelude.{◌≡◌, ◌++◌, [], length, Some, None, IsOk, OnOk, OnErr, option_map};
     ghost use Rattle.fts_store.specs.Store.{Same, place_at, bytes_of, with_file, with_move};
-    ghost use Rattle.fts_store.specs.Held.{held_files, kept_file, IsNamed};
+    ghost use Rattle.fts_store.specs.Held.{held_files, kept_file, IsNamed, HasRoom};
 
     /// The bytes of the file at a place, where there is one.
     pub fn file(&self, at: PlaceRef<'_>) -> Option<&[u8]>
@@ -194,6 +198,7 @@ impl Held {
         ensures ok { OnOk result (Same (held_files self.new)
             (with_file (held_files self.old) (place_at at.entry) (Some (bytes_of (held_files self.old (place_at at.entry)) ++ bytes.now)))) }
         ensures err { OnErr result (Same (held_files self.new) (held_files self.old)) }
+        ensures room { HasRoom self.old (place_at at.entry) (length bytes.now) → IsOk result }
     {
         let n = own(self.alloc, &self.given, &mut self.made, at)?;
         let mut file = exchange(&mut self.made, n, None);

@@ -7,6 +7,7 @@ mod folder;
 mod folders;
 mod held;
 mod inside;
+mod listing;
 mod meeting;
 mod memory;
 mod store;

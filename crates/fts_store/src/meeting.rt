@@ -1,27 +1,18 @@
 //! What a store in a folder knows of its endpoints as it begins: each folder below its root that is there, and the device that it lies on.
-//! Keeps: what is known is exactly what the looks saw, and nothing is changed (`Meets`). What is no folder, or can't be looked at, is left to be
-//! met at its first use. Where memory is missing it ends early. Called by `FolderStore::meet_all`, once at a start.
-ghost use Rattle.std.specs.Prelude.{◌≡◌, ◌<◌, ◌++◌, map, length, IfOk, IfSome, string_bytes, vec_capacity};
+//! Keeps: the names that are read decide the looks; what is known is exactly what they saw, and nothing is changed (`Meets`). What is no folder, or
+//! can't be looked at, is left to be met at its first use. Where memory is missing it ends early. Called by `FolderStore::meet_all`, once at a start.
+ghost use Rattle.std.specs.Prelude.{◌≡◌, ◌<◌, ◌++◌, if◌then◌else◌, List, filter, map, length, string_bytes, vec_capacity, OnOk, OnErr};
 ghost use Rattle.fts_files.specs.Calls.{Answer, Look, with_call};
-ghost use Rattle.fts_files.specs.Script.{value_of};
+ghost use Rattle.fts_files.specs.Script.{Script, LeadsTo, value_of};
 ghost use Rattle.fts_store.specs.Folders.{device_seen};
-ghost use Rattle.fts_store.specs.Meeting.{below_in, there_of, known_of, known_at, LooksBelow, Meets};
+ghost use Rattle.fts_store.specs.Meeting.{Known, there_of, known_of, known_at, looks_at, looks_each, LooksOn, Meets};
+ghost use Rattle.fts_store.specs.Sweep.{stays_below};
 
 use crate::folders::{Met, device_seen};
 use crate::inside::are_names;
-use crate::sweep::{list_root, names_of};
+use crate::listing::{below, list_root};
 use fts_files::{Failed, FileSystem};
 use std::alloc::{AllocError, Global};
-
-// A folder below the root; none where its name is no text.
-fn folder_in(alloc: Global, root: &str, name: &[u8]) -> Result<Option<String>, AllocError>
-    ensures { IfOk result (λ folder. IfSome folder (λ folder. string_bytes folder ≡ below_in root.now name.now)) }
-{
-    let mut folder = root.as_bytes().to_vec(alloc)?;
-    folder.extend_from_slice(b"/")?;
-    folder.extend_from_slice(name)?;
-    Ok(String::from_utf8(folder).ok())
-}
 
 // The device of a folder that is there, of what a look found.
 fn there_of(seen: Result<Option<u64>, Failed>) -> Option<u64>
@@ -57,17 +48,18 @@ fn meet_one<F: FileSystem>(
     alloc: Global,
     root: &str,
     met: &mut Vec<Met>,
-    name: &[u8],
+    name: &str,
 ) -> Result<(), AllocError>
-    ensures { LooksBelow root.now (F.calls files.old) (F.calls files.new) met.old.items met.new.items }
+    ensures looked { OnOk result ((next : List Known → Script) → LeadsTo
+        (if stays_below name.now then looks_at root.now name.now (map known_of met.old.items) next else next (map known_of met.old.items))
+        (F.calls files.old) (next (map known_of met.new.items)) (F.calls files.new)) }
+    ensures unasked { OnErr result ((F.calls files.new ≡ F.calls files.old) × (met.new.items ≡ met.old.items)) }
 {
-    if !are_names(name) {
+    if !are_names(name.as_bytes()) {
         return Ok(());
     }
     met.reserve(1)?;
-    let Some(folder) = folder_in(alloc, root, name)? else {
-        return Ok(());
-    };
+    let folder = below(alloc, root, name)?;
     let device = see_folder(files, folder.as_str());
     keep_known(met, folder, device);
     Ok(())
@@ -79,12 +71,13 @@ fn meet_each<F: FileSystem>(
     alloc: Global,
     root: &str,
     met: &mut Vec<Met>,
-    names: &[Vec<u8>],
+    names: &[String],
 ) -> Result<(), AllocError>
-    ensures { LooksBelow root.now (F.calls files.old) (F.calls files.new) met.old.items met.new.items }
+    ensures { LooksOn result root.now (looks_each root.now (filter stays_below (map string_bytes names.now)) (map known_of met.old.items))
+        (F.calls files.old) (F.calls files.new) met.new.items }
 {
     'names: for name in names {
-        meet_one(files, alloc, root, met, name.as_slice())?;
+        meet_one(files, alloc, root, met, name.as_str())?;
     }
     Ok(())
 }
@@ -96,9 +89,8 @@ pub(crate) fn meet_all<F: FileSystem>(
     root: &str,
     met: &mut Vec<Met>,
 ) -> Result<(), AllocError>
-    ensures { Meets root.now (F.calls files.old) (F.calls files.new) met.old.items met.new.items }
+    ensures { Meets root.now result (F.calls files.old) (F.calls files.new) met.old.items met.new.items }
 {
-    let listed = list_root(files, alloc, root)?;
-    let names = names_of(alloc, listed.as_slice())?;
+    let names = list_root(files, alloc, root)?;
     meet_each(files, alloc, root, met, names.as_slice())
 }

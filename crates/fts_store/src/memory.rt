@@ -147,7 +147,7 @@ impl Store for MemoryStore {
     ghost use Rattle.std.specs.Prelude.{◌≡◌, ◌≤◌, ◌++◌, [], length, Some, None, IsSome, IfOk, OnOk, OnErr};
     ghost use Rattle.fts_tables.specs.Counts.{CountsFaults};
     ghost use Rattle.fts_store.specs.Store.{IsFaithful, Stays, Reads, Same, SameBut, place_at, bytes_of, size_of, with_file, with_move};
-    ghost use Rattle.fts_store.specs.Held.{IsNamed};
+    ghost use Rattle.fts_store.specs.Held.{IsNamed, HasRoom};
     ghost use Rattle.fts_store.specs.Memory.{memory_state, memory_faults, FailsOnlyListed, Numbered, kept_bytes, next_append};
 
     ghost state = { memory_state };
@@ -210,6 +210,7 @@ impl Store for MemoryStore {
         ensures others { SameBut (place_at at.entry) (memory_state self.old).files (memory_state self.new).files }
         ensures number { self.new.appends ≡ next_append self.old }
         ensures numbered { Numbered self.old self.new result }
+        ensures only { HasRoom self.old.held (place_at at.entry) (length bytes.now) → FailsOnlyListed self.old result }
     {
         let is_lost = is_listed(&mut self.appends, &self.drop);
         self.begin()?;

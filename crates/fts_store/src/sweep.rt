@@ -1,13 +1,17 @@
 //! Parts that were left: by a copy that ended otherwise than verified, or by a service that was ended.
-//! Keeps: what loses its name is a part in the folder of parts of a folder below the root, a plain file, and held by no run (`Sweeps`).
-//! What can't be read or taken away is left, and so is all that follows where memory is missing. Called by `FolderStore::sweep`, once at a start.
-ghost use Rattle.std.specs.Prelude.{◌≡◌, ◌++◌, true, IfOk, IfSome, drop, codes, string_bytes};
+//! Keeps: the names that are read decide the calls (`Sweeps`). Each part in the folder of parts of each folder below the root loses its name, where
+//! it is a plain file that no run holds, and nothing else does. What can't be read or taken away is left, and so is all that follows where memory
+//! is missing. Called by `FolderStore::sweep`, once at a start.
+ghost use Rattle.std.specs.Prelude.{◌≡◌, if◌then◌else◌, IfOk, drop, filter, map, string_bytes};
 ghost use Rattle.std.specs.List.{list_all};
-ghost use Rattle.fts_files.specs.Calls.{Call};
-ghost use Rattle.fts_files.specs.Script.{Script, LeadsTo};
-ghost use Rattle.fts_store.specs.Sweep.{is_digit, is_part_name, stays_below, parts_in, part_in, Sweeps};
+ghost use Rattle.fts_files.specs.Making.{removes_stale};
+ghost use Rattle.fts_files.specs.Script.{Script};
+ghost use Rattle.fts_store.specs.FolderCalls.{UpToMemory};
+ghost use Rattle.fts_store.specs.Listing.{below_in};
+ghost use Rattle.fts_store.specs.Sweep.{is_digit, is_part_name, stays_below, parts_in, clears_each, sweeps_one, sweeps_each, Sweeps};
 
 use crate::inside::are_names;
+use crate::listing::{below, list, list_root};
 use fts_files::{FileSystem, remove_stale};
 use std::alloc::{AllocError, Global};
 
@@ -41,93 +45,45 @@ fn is_part_name(name: &[u8]) -> bool
     name.starts_with(b"part-") && !matches!(digits, b"") && are_digits(digits)
 }
 
-// The folder of parts of a folder below the root; none where a name is no text.
-fn parts_in(alloc: Global, root: &str, name: &[u8]) -> Result<Option<String>, AllocError>
-    ensures { IfOk result (λ folder. IfSome folder (λ folder. string_bytes folder ≡ parts_in root.now name.now)) }
+// The folder of parts of a folder below the root.
+fn parts_in(alloc: Global, root: &str, name: &str) -> Result<String, AllocError>
+    ensures { IfOk result (λ folder. string_bytes folder ≡ parts_in root.now name.now) }
 {
-    let mut folder = root.as_bytes().to_vec(alloc)?;
-    folder.extend_from_slice(b"/")?;
-    folder.extend_from_slice(name)?;
-    folder.extend_from_slice(b"/.fts")?;
-    Ok(String::from_utf8(folder).ok())
-}
-
-// A part there; none likewise.
-fn part_in(alloc: Global, folder: &str, part: &[u8]) -> Result<Option<String>, AllocError>
-    ensures { IfOk result (λ path. IfSome path (λ path. string_bytes path ≡ part_in folder.now part.now)) }
-{
-    let mut path = folder.as_bytes().to_vec(alloc)?;
-    path.extend_from_slice(b"/")?;
-    path.extend_from_slice(part)?;
-    Ok(String::from_utf8(path).ok())
-}
-
-// The names in a list in which a zero stands behind each.
-pub(crate) fn names_of(alloc: Global, listed: &[u8]) -> Result<Vec<Vec<u8>>, AllocError> {
-    let mut names = Vec::new(alloc);
-    for name in listed.split(|byte| *byte == 0) {
-        let name = name.to_vec(alloc)?;
-        names.reserve(1)?;
-        names.push_reserved(name);
-    }
-    Ok(names)
+    let mut folder = below(alloc, root, name)?;
+    folder.push_str("/.fts")?;
+    Ok(folder)
 }
 
 // Takes the name away from a part that no run holds; another name is left.
 fn clear_part<F: FileSystem>(
     files: &mut F,
     alloc: Global,
-    root: &str,
-    name: &[u8],
-    part: &[u8],
+    folder: &str,
+    part: &str,
 ) -> Result<(), AllocError>
-    requires { stays_below name.now ≡ true }
-    ensures { Sweeps root.now (F.calls files.old) (F.calls files.new) }
+    ensures { (next : Script) → UpToMemory result (if is_part_name part.now then removes_stale (below_in folder.now part.now) next next else next)
+        (λ done. next) (F.calls files.old) (F.calls files.new) }
 {
-    if !is_part_name(part) {
+    if !is_part_name(part.as_bytes()) {
         return Ok(());
     }
-    let Some(folder) = parts_in(alloc, root, name)? else {
-        return Ok(());
-    };
-    let Some(path) = part_in(alloc, folder.as_str(), part)? else {
-        return Ok(());
-    };
+    let path = below(alloc, folder, part)?;
     let _left = remove_stale(files, path.as_str());
     Ok(())
-}
-
-// The names in the folder of parts of a folder below the root, each with a zero behind it; none where they can't be read.
-fn list_parts<F: FileSystem>(
-    files: &mut F,
-    alloc: Global,
-    root: &str,
-    name: &[u8],
-) -> Result<Vec<u8>, AllocError>
-    requires { stays_below name.now ≡ true }
-    ensures { Sweeps root.now (F.calls files.old) (F.calls files.new) }
-{
-    let mut names = Vec::new(alloc);
-    let Some(folder) = parts_in(alloc, root, name)? else {
-        return Ok(names);
-    };
-    let _read = files.names(folder.as_str(), &mut names);
-    Ok(names)
 }
 
 // Takes the names away from those of these that are parts.
 fn clear_parts<F: FileSystem>(
     files: &mut F,
     alloc: Global,
-    root: &str,
-    name: &[u8],
-    parts: &[Vec<u8>],
+    folder: &str,
+    names: &[String],
 ) -> Result<(), AllocError>
-    requires { stays_below name.now ≡ true }
-    ensures { Sweeps root.now (F.calls files.old) (F.calls files.new) }
+    ensures { (next : Script) → UpToMemory result (clears_each folder.now (filter is_part_name (map string_bytes names.now)) next)
+        (λ done. next) (F.calls files.old) (F.calls files.new) }
 {
-    'parts: for part in parts {
-        clear_part(files, alloc, root, name, part.as_slice())?;
+    'names: for name in names {
+        clear_part(files, alloc, folder, name.as_str())?;
     }
     Ok(())
 }
@@ -137,39 +93,17 @@ fn sweep_folder<F: FileSystem>(
     files: &mut F,
     alloc: Global,
     root: &str,
-    name: &[u8],
+    name: &str,
 ) -> Result<(), AllocError>
-    ensures { Sweeps root.now (F.calls files.old) (F.calls files.new) }
+    ensures { (next : Script) → UpToMemory result (if stays_below name.now then sweeps_one root.now name.now next else next)
+        (λ done. next) (F.calls files.old) (F.calls files.new) }
 {
-    if !are_names(name) {
+    if !are_names(name.as_bytes()) {
         return Ok(());
     }
-    let listed = list_parts(files, alloc, root, name)?;
-    let parts = names_of(alloc, listed.as_slice())?;
-    clear_parts(files, alloc, root, name, parts.as_slice())
-}
-
-// The root, so that a link at its end is followed.
-fn root_in(alloc: Global, root: &str) -> Result<String, AllocError>
-    ensures { IfOk result (λ folder. string_bytes folder ≡ root.now ++ codes "/") }
-{
-    let mut folder = String::from_str(alloc, root)?;
-    folder.push_str("/")?;
-    Ok(folder)
-}
-
-// The names in the root, each with a zero behind it; none where they can't be read.
-pub(crate) fn list_root<F: FileSystem>(
-    files: &mut F,
-    alloc: Global,
-    root: &str,
-) -> Result<Vec<u8>, AllocError>
-    ensures { Sweeps root.now (F.calls files.old) (F.calls files.new) }
-{
-    let folder = root_in(alloc, root)?;
-    let mut names = Vec::new(alloc);
-    let _read = files.names(folder.as_str(), &mut names);
-    Ok(names)
+    let folder = parts_in(alloc, root, name)?;
+    let names = list(files, alloc, folder.as_str())?;
+    clear_parts(files, alloc, folder.as_str(), names.as_slice())
 }
 
 // Sweeps the folders of parts of these.
@@ -177,12 +111,13 @@ fn sweep_folders<F: FileSystem>(
     files: &mut F,
     alloc: Global,
     root: &str,
-    names: &[Vec<u8>],
+    names: &[String],
 ) -> Result<(), AllocError>
-    ensures { Sweeps root.now (F.calls files.old) (F.calls files.new) }
+    ensures { (next : Script) → UpToMemory result (sweeps_each root.now (filter stays_below (map string_bytes names.now)) next)
+        (λ done. next) (F.calls files.old) (F.calls files.new) }
 {
     'names: for name in names {
-        sweep_folder(files, alloc, root, name.as_slice())?;
+        sweep_folder(files, alloc, root, name.as_str())?;
     }
     Ok(())
 }
@@ -193,9 +128,8 @@ pub(crate) fn sweep<F: FileSystem>(
     alloc: Global,
     root: &str,
 ) -> Result<(), AllocError>
-    ensures { Sweeps root.now (F.calls files.old) (F.calls files.new) }
+    ensures { Sweeps root.now result (F.calls files.old) (F.calls files.new) }
 {
-    let listed = list_root(files, alloc, root)?;
-    let names = names_of(alloc, listed.as_slice())?;
+    let names = list_root(files, alloc, root)?;
     sweep_folders(files, alloc, root, names.as_slice())
 }

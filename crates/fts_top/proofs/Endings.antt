@@ -13,6 +13,7 @@ use Rattle.fts_top.specs.declared.ends.RunEnd.{RunEnd}
 use Rattle.fts_top.specs.declared.ends.RunEnd.TheVariants.{NoMemory, NoCommand, SettingsUnread, SettingsRule, DiskFailed, Damaged, JournalFull, Session, Shown, SourcesUnmade, LineUnwritten, DoorsFailed, Served}
 use Rattle.fts_service.specs.declared.together.ServedEnd.{ServedEnd}
 use Rattle.fts_service.specs.declared.together.ServedEnd.TheVariants as served_ends
+use Rattle.fts_tables.specs.declared.limits.TheConstants.{MAX_WORKERS}
 
 -- a start that failed
 pub start_status : (fault : KeepFault) → IsServingStatus (status_of (start_end fault))
@@ -69,5 +70,5 @@ both_true true other e = e
 both_true false other e = cc
 
 -- settings have no more workers than a run has hands
-pub few_workers : (settings : SettingsData) → IsTrue (has_worker_range settings) → settings.workers ≤ 16
-few_workers settings range = leb-true settings.workers 16 (both_true (nat_le 1 settings.workers) (nat_le settings.workers 16) range)
+pub few_workers : (settings : SettingsData) → IsTrue (has_worker_range settings) → settings.workers ≤ MAX_WORKERS
+few_workers settings range = leb-true settings.workers MAX_WORKERS (both_true (nat_le 1 settings.workers) (nat_le settings.workers MAX_WORKERS) range)

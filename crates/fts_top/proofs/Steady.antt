@@ -12,7 +12,7 @@ use Rattle.fts_keep.specs.Applied.{applied_by, fits}
 use Rattle.fts_keep.specs.Keeps.{used_of, used_after}
 use Rattle.fts_keep.specs.declared.fault.KeepFault.TheVariants.{JournalFull as Full}
 use Rattle.fts_keep.proofs.Lists.{filled_as_listed}
-use Rattle.fts_workers.specs.Rounds.{Walk, Adds, AddsNone, FillsUp, WorksOff, IsRound, report_in}
+use Rattle.fts_workers.specs.Rounds.{Walk, Adds, AddsNone, Expires, FindsNoneOverdue, ExpiresAndClaims, FillsUp, WorksOff, IsRound, report_in}
 use Rattle.fts_workers.specs.Benches.{calm_end}
 use Rattle.fts_workers.specs.declared.ends.RoundEnd.{RoundEnd}
 use Rattle.fts_workers.specs.declared.ends.RoundEnd.TheVariants.{JournalFull, Busy}
@@ -55,8 +55,18 @@ fills_on (suc free) walk end after (inl claimed) =
 fills_on (suc free) walk end after (inr (inl none)) = none_on walk after none.0.none
 fills_on (suc free) walk end after (inr (inr stops)) = none_on walk after stops.none
 
+-- an expiry, accepted or idle
+expiry_on : (walk next : Walk) → (Expires walk next ⊎ FindsNoneOverdue walk next) → GoesOn walk next
+expiry_on walk next (inl expired) = adds_on walk expired.entry next expired.adds
+expiry_on walk next (inr none) = none_on walk next none.none
+
+behind_on : (workers : ℕ) (walk : Walk) (end : RoundEnd) (after : Walk) → ExpiresAndClaims workers walk end after → GoesOn walk after
+behind_on workers walk end after (inl (next, (expired, filled))) =
+    goes_further walk next after (expiry_on walk next expired) (fills_on (workers - length (out_of_list next.entries)) next end after filled)
+behind_on workers walk end after (inr stops) = none_on walk after stops.none
+
 works_on : (workers : ℕ) (files : List ℕ) (walk : Walk) (end : RoundEnd) (after : Walk) → WorksOff workers files walk end after → GoesOn walk after
-works_on workers [] walk end after filled = fills_on (workers - length (out_of_list walk.entries)) walk end after filled
+works_on workers [] walk end after filled = behind_on workers walk end after filled
 works_on workers (file ∷ files) walk end after (inl reported) =
     goes_further walk reported.0 after (adds_on walk (report_in walk.entries reported.1.0.now file reported.1.0.outcome) reported.0 reported.1.0.adds)
     (works_on workers files reported.0 end after reported.1.1)
@@ -177,14 +187,22 @@ fills_met full (suc free) walk after (inr (inr stops)) = met_at walk after stops
   meets = meets_limit walk.used full stops.entry (step (tables_of walk.entries) stops.entry.command) stops.stops;
 })
 
+behind_met : (full workers : ℕ) (walk after : Walk) → ExpiresAndClaims workers walk (JournalFull full) after → MeetsAt after.entries after.used
+behind_met full workers walk after (inl (next, (expired, filled))) = fills_met full (workers - length (out_of_list next.entries)) next after filled
+behind_met full workers walk after (inr stops) = met_at walk after stops.none (record {
+  entry = stops.entry;
+  of_round = inr (inr (stops.tried.now, stops.tried.is));
+  meets = meets_limit walk.used full stops.entry (step (tables_of walk.entries) stops.entry.command) stops.stops;
+})
+
 works_met : (full workers : ℕ) (files : List ℕ) (walk after : Walk) → WorksOff workers files walk (JournalFull full) after → MeetsAt after.entries after.used
-works_met full workers [] walk after filled = fills_met full (workers - length (out_of_list walk.entries)) walk after filled
+works_met full workers [] walk after filled = behind_met full workers walk after filled
 works_met full workers (file ∷ files) walk after (inl reported) = works_met full workers files reported.0 after reported.1.1
 works_met full workers (file ∷ files) walk after (inr stops) =
     let entry = report_in walk.entries stops.now file stops.outcome in
     met_at walk after stops.none (record {
       entry = entry;
-      of_round = inr (stops.now, (file, (stops.outcome, refl)));
+      of_round = inr (inl (stops.now, (file, (stops.outcome, refl))));
       meets = meets_limit walk.used full entry (step (tables_of walk.entries) entry.command) stops.stops;
     })
 

@@ -9,7 +9,7 @@ use Rattle.fts_tables.specs.SettingsData.{SettingsData}
 use Rattle.fts_tables.specs.Step.{step}
 use Rattle.fts_tables.specs.History.{tables_of}
 use Rattle.fts_tables.specs.declared.commands.Entry.{Entry}
-use Rattle.fts_tables.specs.declared.commands.Command.TheVariants.{Claim}
+use Rattle.fts_tables.specs.declared.commands.Command.TheVariants.{Claim, Expire}
 use Rattle.fts_tables.specs.declared.limits.TheConstants.{MAX_REQUESTS}
 use Rattle.fts_tables.specs.declared.rows.Outcome.{Outcome}
 use Rattle.fts_config.specs.Settings.{settings_of}
@@ -122,12 +122,13 @@ pub record RestartPasses (text : Option (List ℕ)) (disk : DiskState) (moments 
   pub opens : Opens disk.seen opening
   pub passes : fits (used_of opening) (restart_at now settings) ≡ false
 
--- an entry of a round over a list: a claim, or the report of a file
+-- an entry of a round over a list: a claim, the report of a file, or an expiry
 abbrev pub IsOfRound : List Entry → Entry → Type 0
 IsOfRound entries entry = ((now : ℕ) × ((word : ℕ) × (entry ≡ entry_by 0 (Claim now word))))
-    ⊎ ((now : ℕ) × ((file : ℕ) × ((outcome : Outcome) × (entry ≡ report_in entries now file outcome))))
+    ⊎ (((now : ℕ) × ((file : ℕ) × ((outcome : Outcome) × (entry ≡ report_in entries now file outcome))))
+    ⊎ ((now : ℕ) × (entry ≡ entry_by 0 (Expire now))))
 
--- the machine accepts a claim or a report behind these entries, and it doesn't fit the journal there
+-- the machine accepts a claim, a report or an expiry behind these entries, and it doesn't fit the journal there
 pub record RoundPasses (entries : List Entry) : Type 0 where
   pub entry : Entry
   pub of_round : IsOfRound entries entry
@@ -169,7 +170,7 @@ module _ {D E : Type 0} (disks : disk.Ghosts D) (stores : store.Ghosts E)
     pub stops : StopsEarly disks stores text before after end tally
     pub status : status_of end ≡ 1
 
-  -- all requests were answered, and then a claim or a report didn't fit the journal
+  -- all requests were answered, and then a claim, a report or an expiry didn't fit the journal
   pub record FillsWithin (requests : List RequestData) : Type 0 where
     pub run : RunsSession disks stores text before after end tally
     pub answers : AnswersAll AnswersUnlessMemory requests run

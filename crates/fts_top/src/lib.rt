@@ -1,8 +1,8 @@
 //! The program's commands, over an outside that it is handed: `session`, which answers the requests of a connection, `show`, which writes the
 //! tables, and `load`, which makes and answers a large input by its number. Which words ask for which is `fts_words`'.
-//! Keeps: the list is the journal's, Restart, the accepted commands in the order of their requests, and the claims and reports of the rounds between
-//! them; what is written are the responses, each over the list so far (`run`, clause `run`; `specs/Runs.antt`). It is generic: which outside is
-//! real, the program decides.
+//! Keeps: the list is the journal's, Restart, the accepted commands in the order of their requests, and the expiries, claims and reports of the
+//! rounds between them; what is written are the responses, each over the list so far (`run`, clause `run`; `specs/Runs.antt`). It is generic: which
+//! outside is real, the program decides.
 //! Order of a session: words, settings, memory, the keep with its Restart, requests with a round behind each, last rounds, note. `show` looks at
 //! the journal behind the settings.
 #![tactic(auto)]

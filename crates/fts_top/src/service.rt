@@ -4,6 +4,7 @@
 //! Keeps: what each lane and each worker did, over one list (`IsServingRun` of `specs/Serves.antt`). Called by `run`.
 ghost use Rattle.std.specs.Prelude.{◌≡◌, ◌≢◌, ◌==◌, false, ◌≤◌, ◌+◌, ◌-◌, [], ℕ, length, map, string_bytes, vec_capacity, List, Option, IfOk, IfSome, All};
 ghost use Rattle.fts_tables.specs.Counts.{Rose};
+ghost use Rattle.fts_tables.specs.declared.limits.TheConstants.{MAX_LANES, MAX_WORKERS};
 ghost use Rattle.fts_tables.specs.declared.commands.Entry.{Entry};
 ghost use Rattle.fts_laws.specs.Attempts.{attempts_in};
 ghost use Rattle.fts_disk.specs.Disk.{IsTold};
@@ -40,7 +41,7 @@ use std::alloc::Global;
 use std::sync::Wait;
 use std::thread::Threads;
 
-/// How a run is to serve: on this port, in so many lanes, 1 to 8, each of which takes so many connections, or as many as come.
+/// How a run is to serve: on this port, in so many lanes, 1 to `MAX_LANES`, each of which takes so many connections, or as many as come.
 #[derive(Clone, Copy)]
 pub struct Order {
     pub port: u16,
@@ -196,8 +197,8 @@ fn serve_keep<
 where
     A::Line: Send,
     requires rooms { length seats.rooms.items ≡ order.lanes }
-    requires lanes { (1 ≤ order.lanes) × (order.lanes ≤ length lanes.old.items) × (length lanes.old.items ≤ 8) }
-    requires hands { (length seats.benches.items ≤ length hands.old.items) × (length hands.old.items ≤ 16) }
+    requires lanes { (1 ≤ order.lanes) × (order.lanes ≤ length lanes.old.items) × (length lanes.old.items ≤ MAX_LANES) }
+    requires hands { (length seats.benches.items ≤ length hands.old.items) × (length hands.old.items ≤ MAX_WORKERS) }
     requires empty { (seats.booths.items ≡ []) × (seats.stations.items ≡ []) }
     requires room { (length seats.rooms.items ≤ vec_capacity seats.booths) × (length seats.benches.items ≤ vec_capacity seats.stations) }
     requires idle { All (λ bench. bench.held ≡ []) seats.benches.items }
@@ -245,7 +246,7 @@ fn serve_under<
 ) -> Done<D>
 where
     A::Line: Send,
-    requires order { (1 ≤ order.lanes) × (order.lanes ≤ 8) × IfSome order.connections (λ most. 1 ≤ most) }
+    requires order { (1 ≤ order.lanes) × (order.lanes ≤ MAX_LANES) × IfSome order.connections (λ most. 1 ≤ most) }
     requires lanes { length lanes.old.items ≡ 8 }
     requires hands { length hands.old.items ≡ 16 }
     ensures run { (text : Option (List ℕ)) → AreRead text settings → IsServingRun (world_of D.Disk E.Store A.Doors A.Line.Source A.Line.Sink C.Clock W.Words)
@@ -290,7 +291,7 @@ fn serve<
 ) -> Done<D>
 where
     A::Line: Send,
-    requires order { (1 ≤ order.lanes) × (order.lanes ≤ 8) × IfSome order.connections (λ most. 1 ≤ most) }
+    requires order { (1 ≤ order.lanes) × (order.lanes ≤ MAX_LANES) × IfSome order.connections (λ most. 1 ≤ most) }
     requires lanes { length lanes.old.items ≡ 8 }
     requires hands { length hands.old.items ≡ 16 }
     ensures run { IsServingRun (world_of D.Disk E.Store A.Doors A.Line.Source A.Line.Sink C.Clock W.Words)

@@ -5,6 +5,7 @@
 //! `run_alone` does every command but `serve`, and waits for nobody; `run` calls it first.
 ghost use Rattle.std.specs.Prelude.{◌≡◌, ◌≢◌, ◌↔◌, ℕ, None, List, map, length, string_bytes, Option, IsSome, IfSome};
 ghost use Rattle.fts_tables.specs.Counts.{Rose};
+ghost use Rattle.fts_tables.specs.declared.limits.TheConstants.{MAX_LANES, MAX_WORKERS};
 ghost use Rattle.fts_words.specs.Words.{asked_in, IsToServe};
 ghost use Rattle.fts_top.specs.Ends.{status_of, IsServingStatus};
 ghost use Rattle.fts_top.specs.Notes.{note_of, IsNoted};
@@ -58,7 +59,7 @@ pub struct Outside<F, S, K, N, D, E: Store, C: Clock, W: Words, A: Doors> {
 /// 7 where the journal is damaged, or is shown and has no byte, 8 where the settings could not be read, 9 where the doors of a lane failed,
 /// 10 where the input ended inside a request, 11 where the Restart or an entry of the last round or of a worker's last turn doesn't fit the journal,
 /// 12 where what came was refused, 13 where a call of the store failed while the files of a load were made, 14 after as many requests as a
-/// connection may have. There are 16 hands and 8 lanes; the disk is there before and after, and the hands and the lanes are in their order.
+/// connection may have. There are `MAX_WORKERS` hands and `MAX_LANES` lanes; the disk is there before and after, and the hands and the lanes are in their order.
 /// It waits only where it serves.
 pub fn run<
     F: Source,
@@ -80,8 +81,8 @@ pub fn run<
 where
     A::Line: Send,
     requires disk { IsSome outside.old.disk }
-    requires hands { length outside.old.hands.items ≡ 16 }
-    requires lanes { length outside.old.lanes.items ≡ 8 }
+    requires hands { length outside.old.hands.items ≡ MAX_WORKERS }
+    requires lanes { length outside.old.lanes.items ≡ MAX_LANES }
     ensures words { (result.status ≡ 2) ↔ (asked_in (map string_bytes words.now) ≡ None) }
     ensures untouched { asked_in (map string_bytes words.now) ≡ None → (outside.new.settings ≡ outside.old.settings) × (outside.new.input ≡ outside.old.input)
         × (outside.new.output ≡ outside.old.output) × (outside.new.disk ≡ outside.old.disk) × (outside.new.clock ≡ outside.old.clock) }
@@ -112,8 +113,8 @@ where
     ensures disk { (IsToServe (asked_in (map string_bytes words.now)) → ⊥) → result.status ≡ 4
         → OverDisks outside.old.disk outside.new.disk (λ disk left. Rose (D.faults disk) (D.faults left)) }
     ensures there { IsSome outside.new.disk }
-    ensures hands { length outside.new.hands.items ≡ 16 }
-    ensures lanes { length outside.new.lanes.items ≡ 8 }
+    ensures hands { length outside.new.hands.items ≡ MAX_WORKERS }
+    ensures lanes { length outside.new.lanes.items ≡ MAX_LANES }
 {
     match run_alone(alloc, words, outside) {
         Some(ending) => ending,
@@ -143,8 +144,8 @@ where
     A::Line: Send,
     requires asked { IsToServe (asked_in (map string_bytes words.now)) }
     requires disk { IsSome outside.old.disk }
-    requires hands { length outside.old.hands.items ≡ 16 }
-    requires lanes { length outside.old.lanes.items ≡ 8 }
+    requires hands { length outside.old.hands.items ≡ MAX_WORKERS }
+    requires lanes { length outside.old.lanes.items ≡ MAX_LANES }
     ensures run { (end : RunEnd) × ((result.status ≡ status_of end)
         × (OverDisks outside.old.disk outside.new.disk (λ disk left. DoesOrServes (asked_in (map string_bytes words.now)) ⊥
         (λ lanes connections. IsServingRun (world_of D.Disk E.Store A.Doors A.Line.Source A.Line.Sink C.Clock W.Words) lanes connections end result.tally (F.left outside.old.settings)
@@ -155,8 +156,8 @@ where
     ensures settings { result.status ≡ 8 → Rose (F.faults outside.old.settings) (F.faults outside.new.settings) }
     ensures status { IsServingStatus result.status }
     ensures there { IsSome outside.new.disk }
-    ensures hands { length outside.new.hands.items ≡ 16 }
-    ensures lanes { length outside.new.lanes.items ≡ 8 }
+    ensures hands { length outside.new.hands.items ≡ MAX_WORKERS }
+    ensures lanes { length outside.new.lanes.items ≡ MAX_LANES }
 {
     let Some(disk) = outside.disk.take() else {
         unreachable!();
@@ -201,8 +202,8 @@ pub fn run_alone<
     outside: &mut Outside<F, S, K, N, D, E, C, W, A>,
 ) -> Option<Ending>
     requires disk { IsSome outside.old.disk }
-    requires hands { length outside.old.hands.items ≡ 16 }
-    requires lanes { length outside.old.lanes.items ≡ 8 }
+    requires hands { length outside.old.hands.items ≡ MAX_WORKERS }
+    requires lanes { length outside.old.lanes.items ≡ MAX_LANES }
     ensures serve { (result ≡ None) ↔ IsToServe (asked_in (map string_bytes words.now)) }
     ensures nothing { result ≡ None → outside.new ≡ outside.old }
     ensures words { IfSome result (λ ending. (ending.status ≡ 2) ↔ (asked_in (map string_bytes words.now) ≡ None)) }
@@ -228,7 +229,7 @@ pub fn run_alone<
     ensures output { IfSome result (λ ending. ending.status ≡ 6 → Rose (K.faults outside.old.output) (K.faults outside.new.output)) }
     ensures disk { IfSome result (λ ending. ending.status ≡ 4 → OverDisks outside.old.disk outside.new.disk (λ disk left. Rose (D.faults disk) (D.faults left))) }
     ensures there { IsSome outside.new.disk }
-    ensures hands { length outside.new.hands.items ≡ 16 }
+    ensures hands { length outside.new.hands.items ≡ MAX_WORKERS }
     ensures lanes { outside.new.lanes ≡ outside.old.lanes }
 {
     match read_words(words) {

@@ -4,6 +4,7 @@
 //! Called by `request`. Format: HTTP/1.1 (RFC 9112, sections 2 to 6), and the grammar of `httparse`.
 ghost use Rattle.std.specs.Prelude.{◌≡◌, length, map, All, IsUtf8};
 ghost use Rattle.httparse.specs.Spans.{header_bytes, span_bytes, IsHeaderWithin, IsWithin};
+ghost use Rattle.fts_tables.specs.declared.limits.TheConstants.{MAX_HEADER_LINES};
 ghost use Rattle.fts_wire.specs.Head.{lines_of, head_of};
 ghost use Rattle.fts_wire.specs.Look.{sight_head, sight_fields, Sees, SeesIn};
 ghost use Rattle.fts_wire.specs.Parsed.{IsParsed, BeginsHead};
@@ -76,7 +77,7 @@ fn look_at_head(own: &[u8], before: usize) -> Look
 
 /// The parts of a head by its grammar, where the bytes are one, whole.
 fn parse_head(own: &[u8], headers: &mut [HeaderSpan]) -> Option<RequestSpans>
-    requires room { length headers.old ≡ 64 }
+    requires room { length headers.old ≡ MAX_HEADER_LINES }
     requires head { BeginsHead own.now }
     ensures { IsParsed own.now headers.new result }
 {

@@ -4,17 +4,18 @@ use Rattle.std.specs.Prelude.{IfSome, option_map, option_and_then, unwrap_or, na
 use Rattle.std.proofs.lemmas.Bool.{leb-true}
 use Rattle.std.specs.List.{before_first, after_first}
 use Rattle.fts_tables.specs.SettingsData.{is_within, are_apart}
-use Rattle.fts_words.specs.Words.{IsInRange, within, given_by, number_of, option_of, before_others, options_behind, has_value, is_equals, each_once, first_of, lanes_of, connections_of, port_of, number_given, numbers_of, asked_with, asked_of, asked_if_built, asked_in, command_named, is_same_option, is_built}
+use Rattle.fts_words.specs.Words.{IsInRange, within, given_by, number_of, option_of, before_others, options_behind, has_value, is_equals, each_once, first_of, lanes_of, connections_of, port_of, number_given, numbers_of, asked_with, asked_of, asked_in, command_named, is_same_option}
 use Rattle.fts_words.specs.declared.asked.Asked.{Asked}
 use Rattle.fts_words.specs.declared.asked.Command.{Command}
 use Rattle.fts_words.specs.declared.asked.Command.TheVariants.{Session, Show, Load, Serve}
 use Rattle.fts_words.specs.declared.options.Given.{Given}
 use Rattle.fts_words.specs.declared.options.Given.TheVariants.{Port, Lanes, Connections, Number}
+use Rattle.fts_tables.specs.declared.limits.TheConstants.{MAX_LANES}
 
 -- an option whose number is in its range, where a service needs it
 abbrev IsRanged : Given → Type 0
 IsRanged (Port number) = Unit {0}
-IsRanged (Lanes number) = (1 ≤ number) × (number ≤ 8)
+IsRanged (Lanes number) = (1 ≤ number) × (number ≤ MAX_LANES)
 IsRanged (Connections number) = 1 ≤ number
 IsRanged (Number number) = Unit {0}
 
@@ -61,11 +62,11 @@ given_ranged Load name number =
     (within_range IsRanged 0 18446744073709551615 Number number (λ low high. tt)) tt
 given_ranged Serve name number =
     choice IsRanged (bytes_eq name (codes "--port")) (within 1 65535 Port number)
-    (if bytes_eq name (codes "--lanes") then within 1 8 Lanes number else if bytes_eq name (codes "--connections") then within 1 1000000 Connections number else None)
+    (if bytes_eq name (codes "--lanes") then within 1 MAX_LANES Lanes number else if bytes_eq name (codes "--connections") then within 1 1000000 Connections number else None)
     (within_range IsRanged 1 65535 Port number (λ low high. tt))
-    (choice IsRanged (bytes_eq name (codes "--lanes")) (within 1 8 Lanes number)
+    (choice IsRanged (bytes_eq name (codes "--lanes")) (within 1 MAX_LANES Lanes number)
     (if bytes_eq name (codes "--connections") then within 1 1000000 Connections number else None)
-    (within_range IsRanged 1 8 Lanes number (λ low high. (low, high)))
+    (within_range IsRanged 1 MAX_LANES Lanes number (λ low high. (low, high)))
     (choice IsRanged (bytes_eq name (codes "--connections")) (within 1 1000000 Connections number) None
     (within_range IsRanged 1 1000000 Connections number (λ low high. low)) tt))
 
@@ -95,7 +96,7 @@ options_ranged command None (word ∷ words) =
     (options_ranged command None words) (option_ranged command (before_first is_equals word) (after_first is_equals word)))
     (options_ranged command (Some word) words)
 
-lanes_ranged : (options : List Given) → AreRanged options → IfSome (first_of lanes_of options) (λ n. (1 ≤ n) × (n ≤ 8))
+lanes_ranged : (options : List Given) → AreRanged options → IfSome (first_of lanes_of options) (λ n. (1 ≤ n) × (n ≤ MAX_LANES))
 lanes_ranged [] r = tt
 lanes_ranged (Port n ∷ options) r = lanes_ranged options r.1
 lanes_ranged (Lanes n ∷ options) r = r.0
@@ -109,7 +110,7 @@ connections_ranged (Lanes n ∷ options) r = connections_ranged options r.1
 connections_ranged (Connections n ∷ options) r = r.0
 connections_ranged (Number n ∷ options) r = connections_ranged options r.1
 
-some_or : (lanes : Option ℕ) → IfSome lanes (λ n. (1 ≤ n) × (n ≤ 8)) → (1 ≤ unwrap_or lanes 4) × (unwrap_or lanes 4 ≤ 8)
+some_or : (lanes : Option ℕ) → IfSome lanes (λ n. (1 ≤ n) × (n ≤ MAX_LANES)) → (1 ≤ unwrap_or lanes 4) × (unwrap_or lanes 4 ≤ MAX_LANES)
 some_or None r = (omega arith, omega arith)
 some_or (Some n) r = r
 
@@ -134,5 +135,5 @@ command_ranged command words =
 -- what is asked for is in its range
 pub asked_in_range : (words : List (List ℕ)) → IfSome (asked_in words) IsInRange
 asked_in_range [] = tt
-asked_in_range (name ∷ words) = next_some (λ command. Unit {0}) IsInRange (command_named name) (asked_if_built words) (any (command_named name))
-    (λ command u. choice IsInRange (is_built command) (asked_of command words) None (command_ranged command words) tt)
+asked_in_range (name ∷ words) = next_some (λ command. Unit {0}) IsInRange (command_named name) (λ command. asked_of command words) (any (command_named name))
+    (λ command u. command_ranged command words)

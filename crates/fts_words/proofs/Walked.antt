@@ -19,6 +19,7 @@ use Rattle.fts_words.specs.declared.asked.Command.TheVariants.{Session, Show, Lo
 use Rattle.fts_words.specs.declared.options.Given.{Given}
 use Rattle.fts_words.specs.declared.options.Given.TheVariants.{Port, Lanes, Connections, Number}
 use Rattle.fts_words.proofs.Taking.{Name, ThePort, TheLanes, TheConnections, TheNumber, id_of, word_of, Has, same_name, same_id, shape_of_command, rules_of_command, at, waiting_at, row_with, settles, met_joined, met_name, met_value, name_passes, joined_passes, value_passes, pending_settles, pending_leaves, row_behind}
+use Rattle.fts_tables.specs.declared.limits.TheConstants.{MAX_LANES}
 
 both : (a b : Bool) → (a && b) ≡ true → (a ≡ true) × (b ≡ true)
 both true b is = (refl, is)
@@ -124,7 +125,7 @@ abbrev connections_or : ℕ → Bool → Option Given
 connections_or number b = if b then within 1 1000000 Connections number else None
 
 abbrev lanes_or : Text → ℕ → Bool → Option Given
-lanes_or word number b = if b then within 1 8 Lanes number else connections_or number (bytes_eq word (codes "--connections"))
+lanes_or word number b = if b then within 1 MAX_LANES Lanes number else connections_or number (bytes_eq word (codes "--connections"))
 
 abbrev port_or : Text → ℕ → Bool → Option Given
 port_or word number b = if b then within 1 65535 Port number else lanes_or word number (bytes_eq word (codes "--lanes"))
@@ -138,7 +139,7 @@ by_lanes : (word : Text) (number : ℕ) (option : Given) (b : Bool) → (b ≡ t
 by_lanes word number option false same found =
     by_connections word number option (bytes_eq word (codes "--connections")) (bytes_eq-Decides word (codes "--connections")).0 found
 by_lanes word number option true same found =
-    subst (IsNamed Serve word) (in_range (is_within 1 8 number) (Lanes number) option found) (record { has = tt; named = same refl })
+    subst (IsNamed Serve word) (in_range (is_within 1 MAX_LANES number) (Lanes number) option found) (record { has = tt; named = same refl })
 
 by_port : (word : Text) (number : ℕ) (option : Given) (b : Bool) → (b ≡ true → word ≡ codes "--port") → port_or word number b ≡ Some option → IsNamed Serve word option
 by_port word number option false same found = by_lanes word number option (bytes_eq word (codes "--lanes")) (bytes_eq-Decides word (codes "--lanes")).0 found

@@ -4,6 +4,7 @@ use Rattle.std.specs.Prelude.{ℕ, ◌≤◌, IfSome, ◌==◌, ◌&&◌, Bool, 
 use Rattle.std.specs.List.{list_all, position_or_len, before_first, after_first}
 use Rattle.std.specs.Str.Parse.{digits_value}
 use Rattle.fts_tables.specs.Names.{is_digit}
+use Rattle.fts_tables.specs.declared.limits.TheConstants.{MAX_LANES}
 use Rattle.fts_tables.specs.SettingsData.{is_within, are_apart}
 use Rattle.fts_words.specs.declared.asked.Asked.{Asked}
 use Rattle.fts_words.specs.declared.asked.Asked.TheVariants as asks
@@ -20,13 +21,6 @@ command_named name =
     if bytes_eq name (codes "show") then Some Show else
     if bytes_eq name (codes "load") then Some Load else
     if bytes_eq name (codes "serve") then Some Serve else None
-
--- the commands that are built
-abbrev pub is_built : Command → Bool
-is_built Session = true
-is_built Show = true
-is_built Load = true
-is_built Serve = true
 
 -- the command that is asked for
 abbrev pub command_of : Asked → Command
@@ -48,7 +42,7 @@ abbrev pub IsInRange : Asked → Type 0
 IsInRange asks.Session = Unit {0}
 IsInRange asks.Show = Unit {0}
 IsInRange (asks.Load number) = Unit {0}
-IsInRange (asks.Serve port lanes connections) = (1 ≤ lanes) × ((lanes ≤ 8) × IfSome connections (λ most. 1 ≤ most))
+IsInRange (asks.Serve port lanes connections) = (1 ≤ lanes) × ((lanes ≤ MAX_LANES) × IfSome connections (λ most. 1 ≤ most))
 
 -- whether a byte is an equals sign
 abbrev pub is_equals : ℕ → Bool
@@ -73,7 +67,7 @@ given_by Show name number = None
 given_by Load name number = if bytes_eq name (codes "--number") then within 0 18446744073709551615 Number number else None
 given_by Serve name number =
     if bytes_eq name (codes "--port") then within 1 65535 Port number else
-    if bytes_eq name (codes "--lanes") then within 1 8 Lanes number else
+    if bytes_eq name (codes "--lanes") then within 1 MAX_LANES Lanes number else
     if bytes_eq name (codes "--connections") then within 1 1000000 Connections number else None
 
 -- the option of a command by its name and its value
@@ -143,11 +137,7 @@ asked_with Serve numbers = option_map (λ port. asks.Serve port (unwrap_or numbe
 abbrev pub asked_of : Command → List (List ℕ) → Option Asked
 asked_of command words = option_and_then (λ options. asked_with command (numbers_of options)) (option_and_then each_once (options_behind command None words))
 
--- the same, where the command is built
-abbrev pub asked_if_built : List (List ℕ) → Command → Option Asked
-asked_if_built words command = if is_built command then asked_of command words else None
-
 -- what words ask for, where they are accepted
 abbrev pub asked_in : List (List ℕ) → Option Asked
 asked_in [] = None
-asked_in (name ∷ words) = option_and_then (asked_if_built words) (command_named name)
+asked_in (name ∷ words) = option_and_then (λ command. asked_of command words) (command_named name)

@@ -1,6 +1,6 @@
 //! Commands, and what a list of words asks for.
 ghost use Rattle.std.specs.Prelude.{◌≡◌};
-ghost use Rattle.fts_words.specs.Words.{command_named, is_built};
+ghost use Rattle.fts_words.specs.Words.{command_named};
 
 /// What accepted words ask for.
 #[derive(Clone, Copy, Debug, PartialEq, Eq)]
@@ -45,15 +45,6 @@ impl Command {
             Some(Command::Serve)
         } else {
             None
-        }
-    }
-
-    /// Whether the command is built; the lists of one that is not are not accepted.
-    pub fn is_built(self) -> bool
-        ensures { result ≡ is_built self }
-    {
-        match self {
-            Command::Session | Command::Show | Command::Load | Command::Serve => true,
         }
     }
 }

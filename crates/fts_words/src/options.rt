@@ -7,6 +7,7 @@ ghost use Rattle.fts_words.specs.Words.{option_of, given_by, number_of, numbers_
 
 use crate::Asked;
 use crate::asked::Command;
+use fts_tables::limits::MAX_LANES;
 
 /// The most decimal digits of a value.
 const MAX_DIGITS: usize = 20;
@@ -72,7 +73,7 @@ fn of_serve(name: &str, number: u64) -> Option<Given>
             None
         }
     } else if name == "--lanes" {
-        if 1 <= number && number <= 8 {
+        if 1 <= number && number <= u64::from(MAX_LANES) {
             Some(Given::Lanes(number as u32))
         } else {
             None

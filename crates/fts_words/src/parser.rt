@@ -2,7 +2,7 @@
 //! is what the definition says (`specs/CommandLine.antt`).
 ghost use Rattle.std.specs.Prelude.{◌≡◌, ◌↔◌, Ok, None, true, false, IfOk, IfSome, map, string_bytes};
 ghost use Rattle.clap.specs.Words.{app_of, found_of, rows_of, rule_of, subcommand_rows_of};
-ghost use Rattle.fts_words.specs.Words.{asked_in, command_of, is_built, IsInRange};
+ghost use Rattle.fts_words.specs.Words.{asked_in, IsInRange};
 ghost use Rattle.fts_words.specs.CommandLine.{option_rule, bare_command, serve_command, command_line, value_in, values_in, asked_by, asked_entered, IsTaken};
 
 use crate::asked::{Asked, Command as Name};
@@ -16,8 +16,6 @@ use std::alloc::{AllocError, Global};
 /// What words ask for, taken by `clap` where they are accepted. `Ok(None)` exactly where they are not, and then no memory is asked for.
 pub fn take_words(alloc: Global, words: &[String]) -> Result<Option<Asked>, Memory>
     ensures taken { IfOk result (λ asked. asked ≡ asked_in (map string_bytes words.now)) }
-    // What is accepted is built.
-    ensures built { IfSome (asked_in (map string_bytes words.now)) (λ asked. is_built (command_of asked) ≡ true) }
     ensures range { IfSome (asked_in (map string_bytes words.now)) IsInRange }
     ensures refused { (result ≡ Ok None) ↔ (asked_in (map string_bytes words.now) ≡ None) }
 {

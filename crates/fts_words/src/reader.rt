@@ -1,6 +1,6 @@
 //! Which lists of words are accepted, and what they ask for. It takes no memory.
-ghost use Rattle.std.specs.Prelude.{◌≡◌, true, map, string_bytes, IfSome};
-ghost use Rattle.fts_words.specs.Words.{asked_in, asked_of, command_of, is_built, IsInRange};
+ghost use Rattle.std.specs.Prelude.{◌≡◌, map, string_bytes, IfSome};
+ghost use Rattle.fts_words.specs.Words.{asked_in, asked_of, command_of, IsInRange};
 
 use crate::Asked;
 use crate::asked::Command;
@@ -10,14 +10,13 @@ use crate::options::{Given, Numbers};
 #[tactic(auto, using(crate::proofs::Ranges::asked_in_range))]
 pub fn read_words(words: &[String]) -> Option<Asked>
     ensures asked { result ≡ asked_in (map string_bytes words.now) }
-    ensures built { IfSome result (λ asked. is_built (command_of asked) ≡ true) }
     ensures range { IfSome (asked_in (map string_bytes words.now)) IsInRange }
 {
     match words {
         [] => None,
         [name, options @ ..] => match Command::named(name.as_str()) {
-            Some(command) if command.is_built() => read_options(command, options),
-            Some(_) | None => None,
+            Some(command) => read_options(command, options),
+            None => None,
         },
     }
 }

@@ -16,7 +16,7 @@ use Rattle.fts_keep.specs.Applied.{Applied, Accepts, KeepsList, applied_to, appl
 use Rattle.fts_keep.specs.declared.fault.KeepFault.{KeepFault}
 use Rattle.fts_keep.specs.declared.fault.KeepFault.TheVariants.{Rule, DiskFailed, JournalFull as Full, Damaged, Memory}
 use Rattle.fts_workers.specs.Rounds.{StopsBy}
-use Rattle.fts_workers.specs.Steps.{KeepsOn}
+use Rattle.fts_workers.specs.ClaimSteps.{KeepsBy}
 use Rattle.fts_workers.specs.Stops.{EndsBy}
 use Rattle.fts_workers.specs.declared.ends.RoundEnd.{RoundEnd}
 use Rattle.fts_workers.proofs.Copied.{none_more, tables_from-append}
@@ -182,13 +182,14 @@ module _ {D : Type 0} (state : D → DiskState) (faults : D → ℕ) where
       later : Rose (faults mid.disk) (faults new.disk) → Rose (faults old.disk) (faults new.disk)
       later rose = rose_later (faults old.disk) (faults mid.disk) (faults new.disk) first rose
 
-  -- calls, and calls behind them
-  pub keeps_more : (old mid new : KeepData D) → KeepsOn state faults old mid → KeepsOn state faults mid new → KeepsOn state faults old new
-  keeps_more old mid new one two = record {
+  -- calls of a writer, and its calls behind them
+  pub keeps_then : (writer : ℕ) (old mid new : KeepData D) → KeepsBy state faults writer old mid → KeepsBy state faults writer mid new
+      → KeepsBy state faults writer old new
+  keeps_then writer old mid new one two = record {
     grows = record {
       added = one.grows.added ++ two.grows.added;
       appended = two.grows.appended ∙ ap (λ l. l ++ two.grows.added) one.grows.appended ∙ append_assoc old.entries one.grows.added two.grows.added;
-      by = All-append (λ (entry : Entry). entry.writer ≡ 0) one.grows.added two.grows.added one.grows.by two.grows.by;
+      by = All-append (λ (entry : Entry). entry.writer ≡ writer) one.grows.added two.grows.added one.grows.by two.grows.by;
       counts = omega (arith, one.grows.counts, two.grows.counts);
       told = two.grows.told ∙ one.grows.told;
     };
@@ -200,8 +201,12 @@ module _ {D : Type 0} (state : D → DiskState) (faults : D → ℕ) where
     doubt = caused_more old mid new one.grows.counts two.grows.counts one.grows.told one.doubt two.doubt;
   }
 
+  -- the same of a round's calls
+  pub keeps_more : (old mid new : KeepData D) → KeepsBy state faults 0 old mid → KeepsBy state faults 0 mid new → KeepsBy state faults 0 old new
+  keeps_more = keeps_then 0
+
   -- no call at all
-  pub keeps_none : (keep : KeepData D) → (IsTold (state keep.disk) → IsLawful (state keep.disk)) → IsKeep state keep → KeepsOn state faults keep keep
+  pub keeps_none : (keep : KeepData D) → (IsTold (state keep.disk) → IsLawful (state keep.disk)) → IsKeep state keep → KeepsBy state faults 0 keep keep
   keeps_none keep lawful kept = record {
     grows = record {
       added = [];

@@ -43,7 +43,7 @@ pub record HasClaimed (tables : Tables) (now word : ℕ) (after : Tables) (answe
   pub answer_is : answer ≡ Claimed row.id (row.attempt + 1)
 
 -- two steps that are one made one thing
-same_done : (one other : Tables × Answer) → ◌≡◌ {A = Outcomes} (Ok one) (Ok other) → one ≡ other
+pub same_done : (one other : Tables × Answer) → ◌≡◌ {A = Outcomes} (Ok one) (Ok other) → one ≡ other
 same_done one other is = cc
 
 pub claim_answers : (tables : Tables) (now word : ℕ) (after : Tables) (answer : Answer)

@@ -1,10 +1,11 @@
 -- What the end of a round says: why it stopped, and what is held then.
 use Rattle.std.proofs.Common.{◌≡◌, ◌≢◌, refl, ap, sym, ◌∙◌, inl, inr, ℕ, zero, suc, ◌-◌, ◌≤◌, List, [], ◌∷◌, length, arith}
+use Rattle.std.specs.Prelude.{◌⊎◌}
 use Rattle.fts_tables.specs.Counts.{Rose}
 use Rattle.fts_tables.specs.Step.{step}
 use Rattle.fts_tables.specs.History.{tables_of, out_of_list}
 use Rattle.fts_workers.specs.Benches.{EndsHolding, calm_end}
-use Rattle.fts_workers.specs.Rounds.{Walk, FillsUp, WorksOff, IsRound, IsFullAt, report_in}
+use Rattle.fts_workers.specs.Rounds.{Walk, Expires, ExpiresAndClaims, FillsUp, FindsNoneOverdue, WorksOff, IsRound, IsFullAt, report_in}
 use Rattle.fts_workers.specs.declared.held.Held.{Held}
 use Rattle.fts_workers.specs.declared.ends.RoundEnd.{RoundEnd}
 use Rattle.fts_workers.specs.declared.ends.RoundEnd.TheVariants.{Clear, Busy, DiskFailed, JournalFull, Memory}
@@ -32,9 +33,21 @@ fills_cause (suc free) walk after (inl claimed) =
 fills_cause (suc free) walk after (inr (inl none)) = absurd (not_disk (length (out_of_list walk.entries)) none.1)
 fills_cause (suc free) walk after (inr (inr stops)) = stops.stops.1
 
--- and so did a round
+-- an expiry leaves the disk's count or raises it
+expiry_counts : (walk next : Walk) → (Expires walk next ⊎ FindsNoneOverdue walk next) → walk.faults ≤ next.faults
+expiry_counts walk next (inl expires) = expires.adds.counts
+expiry_counts walk next (inr none) = none.none.counts
+
+-- and so did an expiry with the claims behind it
+expires_cause : (workers : ℕ) (walk after : Walk) → ExpiresAndClaims workers walk DiskFailed after → Rose walk.faults after.faults
+expires_cause workers walk after (inl on) =
+    rose_within walk.faults on.0.faults after.faults after.faults (expiry_counts walk on.0 on.1.0) (omega arith)
+    (fills_cause (workers - length (out_of_list on.0.entries)) on.0 after on.1.1)
+expires_cause workers walk after (inr stops) = stops.stops.1
+
+-- and a round
 pub works_cause : (workers : ℕ) (files : List ℕ) (walk after : Walk) → WorksOff workers files walk DiskFailed after → Rose walk.faults after.faults
-works_cause workers [] walk after filled = fills_cause (workers - length (out_of_list walk.entries)) walk after filled
+works_cause workers [] walk after done = expires_cause workers walk after done
 works_cause workers (file ∷ files) walk after (inl reported) =
     rose_within walk.faults reported.0.faults after.faults after.faults reported.1.0.adds.counts (omega arith)
     (works_cause workers files reported.0 after reported.1.1)
@@ -48,8 +61,13 @@ fills_full (suc free) used walk after (inr (inl none)) = absurd (not_full used (
 fills_full (suc free) used walk after (inr (inr stops)) =
     full_of walk.used used stops.entry (step (tables_of walk.entries) stops.entry.command) stops.stops ∙ sym stops.none.filled
 
+expires_full : (workers used : ℕ) (walk after : Walk) → ExpiresAndClaims workers walk (JournalFull used) after → used ≡ after.used
+expires_full workers used walk after (inl on) = fills_full (workers - length (out_of_list on.0.entries)) used on.0 after on.1.1
+expires_full workers used walk after (inr stops) =
+    full_of walk.used used stops.entry (step (tables_of walk.entries) stops.entry.command) stops.stops ∙ sym stops.none.filled
+
 works_full : (workers : ℕ) (files : List ℕ) (used : ℕ) (walk after : Walk) → WorksOff workers files walk (JournalFull used) after → used ≡ after.used
-works_full workers [] used walk after filled = fills_full (workers - length (out_of_list walk.entries)) used walk after filled
+works_full workers [] used walk after done = expires_full workers used walk after done
 works_full workers (file ∷ files) used walk after (inl reported) = works_full workers files used reported.0 after reported.1.1
 works_full workers (file ∷ files) used walk after (inr stops) =
     let report = report_in walk.entries stops.now file stops.outcome in
@@ -83,10 +101,20 @@ fills_calm (suc free) DiskFailed walk after calm (inr (inr stops)) = absurd calm
 fills_calm (suc free) (JournalFull used) walk after calm (inr (inr stops)) = absurd calm
 fills_calm (suc free) Memory walk after calm (inr (inr stops)) = absurd calm
 
+expires_calm : (workers : ℕ) (end : RoundEnd) (walk after : Walk) → IsCalm end → ExpiresAndClaims workers walk end after
+    → end ≡ calm_end (length (out_of_list after.entries))
+unfolding IsCalm
+expires_calm workers end walk after calm (inl on) = fills_calm (workers - length (out_of_list on.0.entries)) end on.0 after calm on.1.1
+expires_calm workers Clear walk after calm (inr stops) = absurd stops.stops
+expires_calm workers (Busy held) walk after calm (inr stops) = absurd stops.stops
+expires_calm workers DiskFailed walk after calm (inr stops) = absurd calm
+expires_calm workers (JournalFull used) walk after calm (inr stops) = absurd calm
+expires_calm workers Memory walk after calm (inr stops) = absurd calm
+
 works_calm : (workers : ℕ) (files : List ℕ) (end : RoundEnd) (walk after : Walk) → IsCalm end → WorksOff workers files walk end after
     → end ≡ calm_end (length (out_of_list after.entries))
 unfolding IsCalm
-works_calm workers [] end walk after calm filled = fills_calm (workers - length (out_of_list walk.entries)) end walk after calm filled
+works_calm workers [] end walk after calm done = expires_calm workers end walk after calm done
 works_calm workers (file ∷ files) end walk after calm (inl reported) = works_calm workers files end reported.0 after calm reported.1.1
 works_calm workers (file ∷ files) Clear walk after calm (inr stops) = absurd stops.stops
 works_calm workers (file ∷ files) (Busy held) walk after calm (inr stops) = absurd stops.stops

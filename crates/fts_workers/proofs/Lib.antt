@@ -6,9 +6,12 @@ pub mod Accepted
 pub mod Stayed
 pub mod Reported
 pub mod Claimed
+pub mod Tried
 pub mod Parts
 pub mod FirstCopied
 pub mod Ended
 pub mod Looping
 pub mod Rounded
 pub mod Requested
+pub mod Expired
+pub mod Counted

@@ -8,8 +8,8 @@ use Rattle.fts_store.specs.Calls.{Call}
 use Rattle.fts_store.specs.Store.{StoreState}
 use Rattle.fts_workers.specs.Benches.{calm_end, kept_of}
 use Rattle.fts_workers.specs.Copies.{FollowsReports, copies_from}
-use Rattle.fts_workers.specs.Rounds.{Walk, IsRound, FillsUp, WorksOff}
-use Rattle.fts_workers.specs.Steps.{Stand, walk_of, IsOver, Walks, MakesNoCopy, MakesCopies, WorksOn, Fills, FillsOn, kept_at}
+use Rattle.fts_workers.specs.Rounds.{Walk, IsRound, ExpiresAndClaims, FillsUp, WorksOff}
+use Rattle.fts_workers.specs.Steps.{Stand, walk_of, IsOver, Walks, MakesNoCopy, MakesCopies, WorksOn, Fills, FillsOn, ExpiresOn, ExpiresAndFills, kept_at}
 use Rattle.fts_workers.specs.declared.ends.RoundEnd.{RoundEnd}
 use Rattle.fts_workers.proofs.Copied.{none_more, tables_from-append, copies_from-append, follows_more}
 use Rattle.fts_workers.proofs.OutFiles.{length-held_as}
@@ -97,6 +97,14 @@ module _ {D : Type 0} (state : D → DiskState) (faults : D → ℕ) where
   pub out-held : (at : Stand D) (entries : List Entry) → IsOver at entries → length (out_of_list entries) ≡ length at.bench.held
   out-held at entries over = sym (ap length over.held ∙ length-held_as (tables_of entries) (kept_of at.bench.held) (out_of_list entries))
 
+-- an expiry, and then claims
+pub expires_then : {D : Type 0} (state : D → DiskState) (faults : D → ℕ) (workers : ℕ) (end : RoundEnd) (one two three : Stand D)
+    → MakesNoCopy state faults (ExpiresOn workers (Ok tt)) one two → MakesNoCopy state faults (Fills workers end) two three
+    → MakesNoCopy state faults (ExpiresAndFills workers end) one three
+expires_then state faults workers end one two three first second =
+    no_copy_then state faults (ExpiresOn workers (Ok tt)) (Fills workers end) (ExpiresAndFills workers end) one two three
+    (λ walk last entries over expires fills. expires end last fills) first second
+
 -- whatever is done from here
 pub works_then : (workers : ℕ) (result : Result (Unit {0}) RoundEnd) (walk now after : Walk) → WorksOn workers (Ok tt) walk now
     → WorksOn workers result now after → WorksOn workers result walk after
@@ -114,13 +122,13 @@ pub fills_end : (workers : ℕ) (end : RoundEnd) (walk now after : Walk) → Fil
     → Fills workers end walk after
 fills_end workers end walk now after first second = first end after second
 
--- where nothing is out, a round is its claims
-pub round_fills : (workers : ℕ) (end : RoundEnd) (now after : Walk) → length (out_of_list now.entries) ≡ 0 → Fills workers end now after
+-- where nothing is out, a round is its expiry and its claims
+pub round_expires : (workers : ℕ) (end : RoundEnd) (now after : Walk) → length (out_of_list now.entries) ≡ 0 → ExpiresAndClaims workers now end after
     → IsRound workers now end after
-round_fills workers end now after none fills = by (out_of_list now.entries) none
+round_expires workers end now after none expires = by (out_of_list now.entries) none
   where
     by : (files : List ℕ) → length files ≡ 0 → WorksOff workers files now end after
-    by [] none = fills
+    by [] none = expires
     by (file ∷ files) none = absurd (omega (arith, none))
 
 -- where no worker is free, no claim is made

@@ -1,14 +1,16 @@
--- A command of a request leaves the files that are out, their attempts, and what their copies are asked for.
+-- A command of a request, and an expiry, leave the files that are out and their attempts; and what the copies of those files are asked for.
 use Rattle.std.proofs.Common.{◌≡◌, refl, ap, sym, ◌∙◌, subst, ℕ, ◌+◌, ◌≤◌, Bool, true, false, cond, List, [], ◌∷◌, ◌++◌, length, map, max, Option, Some, None, IsSome, Ok, Err, arith, eq-eqb}
-use Rattle.std.specs.Prelude.{◌==◌, ◌&&◌, ◌||◌, not, nat_lt, option_and_then, option_map, option_to_list, IsTrue}
+use Rattle.std.specs.Prelude.{◌==◌, ◌&&◌, ◌||◌, not, nat_lt, is_some, option_and_then, option_map, option_to_list, IsTrue}
 use Rattle.std.proofs.lemmas.List.Sums.{sum_by-cons}
 use Rattle.std.specs.Option.{option_map_or}
 use Rattle.std.specs.List.{list_any}
 use Rattle.fts_tables.specs.Tables.{Tables, empty_tables, AreWellFormed, is_active, is_submitted, is_not_used, job_at, number_of_id, row_at, rows_of_job}
 use Rattle.fts_tables.specs.JobData.{JobData}
 use Rattle.fts_tables.specs.Laws.{AreTheActive, CopyOrder, IsOrderKept, order_of as order_asked}
-use Rattle.fts_tables.specs.Moves.{canceled, cancelled, is_cancellable, is_settled_job, rows_of_new}
-use Rattle.fts_tables.specs.Step.{Outcomes, step, with_rows, submit_by, cancel_rows, cancel_row, cancel_one, cancel_file, set_priority}
+use Rattle.fts_tables.specs.Limits.{endpoint_at, is_banned}
+use Rattle.fts_tables.specs.Moves.{canceled_for, cancelled, cancelled_for, is_cancellable, is_settled_job, rows_of_new}
+use Rattle.fts_tables.specs.Waits.{goes_with, is_overdue, rows_cancelled, waits_at}
+use Rattle.fts_tables.specs.Step.{Outcomes, step, with_rows, submit_by, cancel_rows, cancel_row, cancel_one, cancel_file, set_priority, ban, ban_and_cancel, ban_only, unban, expire}
 use Rattle.fts_tables.specs.History.{tables_of, tables_after, out_of_list, out_step, IsLegal}
 use Rattle.fts_tables.specs.declared.limits.TheConstants.{MAX_JOBS, MAX_ROWS}
 use Rattle.fts_tables.specs.declared.rows.FileRow.{FileRow}
@@ -16,11 +18,13 @@ use Rattle.fts_tables.specs.declared.rows.JobRow.{JobRow}
 use Rattle.fts_tables.specs.declared.rows.JobKind.{JobKind}
 use Rattle.fts_tables.specs.declared.rows.JobKind.TheVariants.{Plain, Replica, Multihop}
 use Rattle.fts_tables.specs.declared.rows.Outcome.{Outcome}
+use Rattle.fts_tables.specs.declared.rows.Reason.{Reason}
+use Rattle.fts_tables.specs.declared.rows.Reason.TheVariants.{Cancelled as CancelledReason, Expired as ExpiredReason}
 use Rattle.fts_tables.specs.declared.commands.Entry.{Entry}
 use Rattle.fts_tables.specs.declared.commands.Refusal.TheVariants.{NoJob, Unchanged}
 use Rattle.fts_tables.specs.declared.commands.Answer.TheVariants.{Cancelled}
 use Rattle.fts_tables.specs.declared.commands.Command.{Command}
-use Rattle.fts_tables.specs.declared.commands.Command.TheVariants.{Restart, Submit, CancelJob, CancelFile, SetPriority, Claim, Report}
+use Rattle.fts_tables.specs.declared.commands.Command.TheVariants.{Restart, Submit, CancelJob, CancelFile, SetPriority, Claim, Report, Ban, Unban, Expire}
 use Rattle.fts_workers.specs.Benches.{BenchData, attempt_of, held_as, held_over, kept_of}
 use Rattle.fts_copy.specs.Copy.{Order}
 use Rattle.fts_disk.specs.Disk.{DiskState}
@@ -61,10 +65,18 @@ attempts_more (row ∷ rows) more file there = by_head (attempts_more rows more 
     by_head behind true there = refl
     by_head behind false there = behind there
 
--- a cancellation leaves the attempt
-cancelled_attempt : (row : FileRow) → IsSameAttempt row (cancelled row)
-cancelled_attempt row = either_attempt (is_submitted row.state || is_not_used row.state) row (canceled row) _ (record { id = refl; attempt = refl })
+-- a cancellation leaves the attempt, whatever its reason
+cancelled_attempt : (reason : Reason) (row : FileRow) → IsSameAttempt row (cancelled_for reason row)
+cancelled_attempt reason row =
+    either_attempt (is_submitted row.state || is_not_used row.state) row (canceled_for reason row) _ (record { id = refl; attempt = refl })
     (either_attempt (is_active row.state) row (record row { cancel_asked = true }) row (record { id = refl; attempt = refl }) (same_attempt row))
+
+-- so does that of all files which pass a test
+some_cancelled : (reason : Reason) (jobs : List JobRow) (test : FileRow → Bool) (rows : List FileRow) (file : ℕ)
+    → attempt_among (rows_cancelled reason jobs test rows) file ≡ attempt_among rows file
+some_cancelled reason jobs test rows file =
+    attempts_map (λ row. cond (goes_with jobs rows test row) (cancelled_for reason row) row)
+    (λ row. either_attempt (goes_with jobs rows test row) row (cancelled_for reason row) row (cancelled_attempt reason row) (same_attempt row)) rows file
 
 submit_leaves : (found : Option ℕ) (tables : Tables) (now : ℕ) (job : JobData) → Leaves tables (submit_by found tables now job)
 submit_leaves (Some number) tables now job = record { out = λ files. refl; attempts = λ file there. refl }
@@ -81,13 +93,14 @@ rows_leave tables now job = either tables
     (record {
       out = λ files. refl;
       attempts = λ file there. attempts_map (λ row. cond (row.job == job.number) (cancelled row) row)
-          (λ row. either_attempt (row.job == job.number) row (cancelled row) row (cancelled_attempt row) (same_attempt row)) tables.rows file;
+          (λ row. either_attempt (row.job == job.number) row (cancelled row) row (cancelled_attempt CancelledReason row) (same_attempt row)) tables.rows
+          file;
     })
     (record { out = λ files. refl; attempts = λ file there. refl })
 
 row_leaves : (tables : Tables) (now : ℕ) (job : JobRow) (row : FileRow) → Leaves tables (cancel_row tables now job row)
 row_leaves tables now job row = either tables (is_cancellable row) _ _
-    (record { out = λ files. refl; attempts = λ file there. attempts_one row.id cancelled cancelled_attempt tables.rows file })
+    (record { out = λ files. refl; attempts = λ file there. attempts_one row.id cancelled (cancelled_attempt CancelledReason) tables.rows file })
     (record { out = λ files. refl; attempts = λ file there. refl })
 
 one_leaves : (tables : Tables) (now : ℕ) (job : JobRow) (row : FileRow) (kind : JobKind) → Leaves tables (cancel_one tables now job row kind)
@@ -103,6 +116,28 @@ file_leaves tables now job (Some row) = either tables (row.job == job.number) _ 
 priority_leaves : (tables : Tables) (now : ℕ) (job : JobRow) (priority : ℕ) → Leaves tables (set_priority tables now job priority)
 priority_leaves tables now job priority = either tables (is_settled_job (rows_of_job tables.rows job.number)) _ _
     (record { out = λ files. refl; attempts = λ file there. refl }) (record { out = λ files. refl; attempts = λ file there. refl })
+
+-- a ban, which may cancel the files that wait, and its end
+ban_leaves : (tables : Tables) (now : ℕ) (storage : List ℕ) (cancel : Bool) → Leaves tables (ban tables now storage cancel)
+ban_leaves tables now storage cancel =
+    either tables (is_some (endpoint_at tables.settings storage)) _ _
+    (either tables cancel (ban_and_cancel tables now storage) (ban_only tables now storage)
+    (record { out = λ files. refl; attempts = λ file there. some_cancelled CancelledReason tables.jobs (waits_at storage) tables.rows file })
+    (record { out = λ files. refl; attempts = λ file there. refl }))
+    (record { out = λ files. refl; attempts = λ file there. refl })
+
+unban_leaves : (tables : Tables) (now : ℕ) (storage : List ℕ) → Leaves tables (unban tables now storage)
+unban_leaves tables now storage =
+    either tables (is_banned tables.banned storage) _ _
+    (record { out = λ files. refl; attempts = λ file there. refl })
+    (record { out = λ files. refl; attempts = λ file there. refl })
+
+-- an expiry, which cancels the files that are overdue
+pub expire_leaves : (tables : Tables) (now : ℕ) → Leaves tables (expire tables now)
+expire_leaves tables now =
+    either tables (list_any (is_overdue tables.jobs now) tables.rows) _ _
+    (record { out = λ files. refl; attempts = λ file there. some_cancelled ExpiredReason tables.jobs (is_overdue tables.jobs now) tables.rows file })
+    (record { out = λ files. refl; attempts = λ file there. refl })
 
 -- what is done with a job that may be missing
 job_leaves : (tables : Tables) (act : JobRow → Outcomes) → ((job : JobRow) → Leaves tables (act job)) → (found : Option JobRow)
@@ -123,10 +158,17 @@ request_leaves tables (SetPriority now job priority) of = job_leaves tables (λ 
     (λ found. priority_leaves tables (max now tables.moment) found priority) (job_at tables.jobs job) _ refl
 request_leaves tables (Claim now word) of = absurd of
 request_leaves tables (Report now file attempt outcome) of = absurd of
+request_leaves tables (Ban now storage cancel) of = ban_leaves tables (max now tables.moment) storage cancel
+request_leaves tables (Unban now storage) of = unban_leaves tables (max now tables.moment) storage
+request_leaves tables (Expire now) of = absurd of
 
 -- the files that are out are as before
+pub out_left : (entries : List Entry) (entry : Entry) → Leaves (tables_of entries) (step (tables_of entries) entry.command)
+    → out_of_list (entries ++ entry ∷ []) ≡ out_of_list entries
+out_left entries entry leaves = out_of_list-last entries entry ∙ leaves.out (out_of_list entries)
+
 pub out_still : (entries : List Entry) (entry : Entry) → IsOfRequest entry.command → out_of_list (entries ++ entry ∷ []) ≡ out_of_list entries
-out_still entries entry of = out_of_list-last entries entry ∙ (request_leaves (tables_of entries) entry.command of).out (out_of_list entries)
+out_still entries entry of = out_left entries entry (request_leaves (tables_of entries) entry.command of)
 
 module _ (formed : (entries : List Entry) → IsLegal entries → AreWellFormed (tables_of entries))
     (outs : (entries : List Entry) → IsLegal entries → AreTheActive (out_of_list entries) (tables_of entries).rows) where
@@ -136,17 +178,20 @@ module _ (formed : (entries : List Entry) → IsLegal entries → AreWellFormed 
       (subst (λ n. 1 ≤ n) ((outs entries legal).counts (λ other. other == file)) among)
 
   -- so it is held at its attempt
-  pub held_still : (entries : List Entry) (entry : Entry) (kept : Option Outcome) → IsLegal (entries ++ entry ∷ []) → IsOfRequest entry.command
-      → held_over (entries ++ entry ∷ []) kept ≡ held_over entries kept
-  held_still entries entry kept legal of =
+  pub held_left : (entries : List Entry) (entry : Entry) (kept : Option Outcome) → IsLegal (entries ++ entry ∷ [])
+      → Leaves (tables_of entries) (step (tables_of entries) entry.command) → held_over (entries ++ entry ∷ []) kept ≡ held_over entries kept
+  held_left entries entry kept legal leaves =
       let before = tables_of entries in
       let after = tables_of (entries ++ entry ∷ []) in
-      let leaves = request_leaves before entry.command of in
-      ap (held_as after kept) (out_still entries entry of)
+      ap (held_as after kept) (out_left entries entry leaves)
       ∙ sym (held_as-same before after kept (out_of_list entries) (λ file among.
       let found = out_row entries (legal_front empty_tables entries (entry ∷ []) legal) file among in
       ap (λ t. attempt_of t file) (tables_from-append empty_tables entries (entry ∷ []))
       ∙ leaves.attempts file (subst (λ row. IsSome row) (sym found.at) refl)))
+
+  pub held_still : (entries : List Entry) (entry : Entry) (kept : Option Outcome) → IsLegal (entries ++ entry ∷ []) → IsOfRequest entry.command
+      → held_over (entries ++ entry ∷ []) kept ≡ held_over entries kept
+  held_still entries entry kept legal of = held_left entries entry kept legal (request_leaves (tables_of entries) entry.command of)
 
   module _ (orders : (entries more : List Entry) (id : ℕ) (row kept : FileRow) → IsLegal (entries ++ more)
       → row_at (tables_of entries).rows id ≡ Some row → row_at (tables_of (entries ++ more)).rows id ≡ Some kept → IsTrue (is_active kept.state)

@@ -1,5 +1,5 @@
 -- The files that a bench holds: those that are out, in the order of their claims. Of the first one an outcome may be kept that isn't reported yet.
-use Rattle.std.specs.Prelude.{◌≡◌, ◌≢◌, ℕ, zero, suc, ◌≤◌, Bool, true, false, List, [], ◌∷◌, map, length, Option, Some, None, IsTrue}
+use Rattle.std.specs.Prelude.{◌≡◌, ◌≢◌, ℕ, zero, suc, ◌≤◌, Bool, true, false, if◌then◌else◌, List, [], ◌∷◌, map, length, Option, Some, None, is_some, IsTrue}
 use Rattle.std.specs.Option.{option_map_or}
 use Rattle.fts_tables.specs.Tables.{Tables, is_active, row_at}
 use Rattle.fts_tables.specs.Limits.{has_known_ends}
@@ -35,6 +35,12 @@ held_over entries kept = held_as (tables_of entries) kept (out_of_list entries)
 abbrev pub kept_of : List Held → Option Outcome
 kept_of [] = None
 kept_of (first ∷ others) = first.outcome
+
+-- How many of its files a bench claimed in its last round: none, where an outcome of the first still waits to be reported, and else all of them, since
+-- a round claims only behind all its reports.
+abbrev pub newly_held : List Held → ℕ
+newly_held [] = 0
+newly_held (first ∷ others) = if is_some first.outcome then 0 else suc (length others)
 
 -- whether a copy was called off
 abbrev pub is_stopped : Outcome → Bool

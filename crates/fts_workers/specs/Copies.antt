@@ -7,7 +7,7 @@ use Rattle.fts_tables.specs.Step.{step}
 use Rattle.fts_tables.specs.History.{tables_after}
 use Rattle.fts_tables.specs.declared.commands.Entry.{Entry}
 use Rattle.fts_tables.specs.declared.commands.Command.{Command}
-use Rattle.fts_tables.specs.declared.commands.Command.TheVariants.{Restart, Submit, CancelJob, CancelFile, SetPriority, Claim, Report}
+use Rattle.fts_tables.specs.declared.commands.Command.TheVariants.{Restart, Submit, CancelJob, CancelFile, SetPriority, Claim, Report, Ban, Unban, Expire}
 use Rattle.fts_tables.specs.declared.rows.FileRow.{FileRow}
 use Rattle.fts_tables.specs.declared.rows.Outcome.{Outcome}
 use Rattle.fts_tables.specs.declared.rows.Outcome.TheVariants.{StoreFailed}
@@ -44,6 +44,9 @@ copies_in tables (CancelFile now job file) = []
 copies_in tables (SetPriority now job priority) = []
 copies_in tables (Claim now word) = []
 copies_in tables (Report now file attempt outcome) = copies_of_file tables file outcome
+copies_in tables (Ban now storage cancel) = []
+copies_in tables (Unban now storage) = []
+copies_in tables (Expire now) = []
 
 -- the copies that these writers' reports among the entries stand for, in order, from some tables on
 abbrev pub copies_from : (ℕ → Bool) → Tables → List Entry → List Copy

@@ -1,6 +1,7 @@
 pub mod Benches
 pub mod BenchRoom
 pub mod Copies
+pub mod ClaimSteps
 pub mod Rounds
 pub mod FirstFile
 pub mod Wanted

@@ -1,12 +1,14 @@
--- A round of one thread: it reports each file that is out, in the order of their claims, and then claims until no row is eligible or all
--- workers have a file. The first command that answers neither Ok nor Idle ends it. A walk is over any list whose tables the keep has.
-use Rattle.std.specs.Prelude.{◌≡◌, ◌⊎◌, ℕ, zero, suc, ◌+◌, ◌-◌, ◌≤◌, true, false, List, [], ◌∷◌, ◌++◌, length, Option, Some, None, IsOk, Err}
+-- A round of one thread: it reports each file that is out, in the order of their claims, cancels the files that are overdue, and then claims until
+-- no row is eligible or all workers have a file. The first command that answers neither Ok nor Idle ends it. A walk is over any list whose tables
+-- the keep has.
+use Rattle.std.specs.Prelude.{◌≡◌, ◌⊎◌, ℕ, zero, suc, ◌+◌, ◌-◌, ◌≤◌, Bool, true, false, List, [], ◌∷◌, ◌++◌, length, count_by, Option, Some, None, IsOk, Err}
 use Rattle.fts_disk.specs.Disk.{DiskState, IsTold}
 use Rattle.fts_tables.specs.Counts.{Rose}
 use Rattle.fts_tables.specs.Coming.{Coming, Gives}
 use Rattle.fts_tables.specs.History.{tables_of, tables_from, out_of_list}
 use Rattle.fts_tables.specs.declared.commands.Entry.{Entry}
-use Rattle.fts_tables.specs.declared.commands.Command.TheVariants.{Claim, Report}
+use Rattle.fts_tables.specs.declared.commands.Command.{Command}
+use Rattle.fts_tables.specs.declared.commands.Command.TheVariants.{Restart, Submit, CancelJob, CancelFile, SetPriority, Claim, Report, Ban, Unban, Expire}
 use Rattle.fts_tables.specs.declared.commands.Refusal.TheVariants.{Idle}
 use Rattle.fts_tables.specs.declared.rows.Outcome.{Outcome}
 use Rattle.fts_record.specs.Spelling.{spelled}
@@ -15,7 +17,7 @@ use Rattle.fts_store.specs.Store.{StoreState}
 use Rattle.fts_keep.specs.Keeps.{KeepData, IsListOf, used_of}
 use Rattle.fts_keep.specs.Applied.{Applies, applied_to, entry_by}
 use Rattle.fts_keep.specs.declared.fault.KeepFault.TheVariants.{Rule, JournalFull as Full}
-use Rattle.fts_workers.specs.Benches.{BenchData, attempt_of, calm_end, held_over, is_stopped, kept_of}
+use Rattle.fts_workers.specs.Benches.{BenchData, attempt_of, calm_end, held_over, is_stopped, kept_of, newly_held}
 use Rattle.fts_workers.specs.Copies.{copies_from, copies_kept, FollowsReports}
 use Rattle.fts_workers.specs.declared.ends.RoundEnd.{RoundEnd}
 use Rattle.fts_workers.specs.declared.ends.RoundEnd.TheVariants.{Clear, Busy, DiskFailed, JournalFull, Memory}
@@ -89,6 +91,34 @@ pub record ReportStops (walk : Walk) (file : ℕ) (end : RoundEnd) (after : Walk
   pub none : AddsNone walk after
   pub kept : after.kept ≡ Some outcome
 
+-- an expiry was tried, at the next moment
+pub record TriesToExpire (walk next : Walk) (entry : Entry) : Type 0 where
+  pub now : ℕ
+  pub moment : Gives walk.moments next.moments now
+  pub words : next.words ≡ walk.words
+  pub is : entry ≡ entry_by 0 (Expire now)
+  pub kept : next.kept ≡ walk.kept
+
+-- files were overdue, and were cancelled
+pub record Expires (walk next : Walk) : Type 0 where
+  pub entry : Entry
+  pub tried : TriesToExpire walk next entry
+  pub adds : Adds walk entry next
+
+-- no row was overdue
+pub record FindsNoneOverdue (walk next : Walk) : Type 0 where
+  pub entry : Entry
+  pub tried : TriesToExpire walk next entry
+  pub idle : applied_at walk entry ≡ Err (Rule Idle)
+  pub none : AddsNone walk next
+
+-- an expiry was neither accepted nor idle, and the round ends
+pub record ExpiryStops (walk : Walk) (end : RoundEnd) (after : Walk) : Type 0 where
+  pub entry : Entry
+  pub tried : TriesToExpire walk after entry
+  pub stops : StopsBy (applied_at walk entry) (Rose walk.faults after.faults) end
+  pub none : AddsNone walk after
+
 -- a claim was tried, at the next moment and with the next word
 pub record Tries (walk next : Walk) (entry : Entry) : Type 0 where
   pub now : ℕ
@@ -129,9 +159,15 @@ FillsUp (suc free) walk end after =
     ((next : Walk) × (Claims walk next × FillsUp free next end after))
     ⊎ ((FindsNone walk after × EndsCalmly walk end) ⊎ ClaimStops walk end after)
 
--- reports of these files, and then claims
+-- an expiry, tried once, and then claims
+abbrev pub ExpiresAndClaims : ℕ → Walk → RoundEnd → Walk → Type 0
+ExpiresAndClaims workers walk end after =
+    ((next : Walk) × ((Expires walk next ⊎ FindsNoneOverdue walk next) × FillsUp (workers - length (out_of_list next.entries)) next end after))
+    ⊎ ExpiryStops walk end after
+
+-- reports of these files, and then an expiry and claims
 abbrev pub WorksOff : ℕ → List ℕ → Walk → RoundEnd → Walk → Type 0
-WorksOff workers [] walk end after = FillsUp (workers - length (out_of_list walk.entries)) walk end after
+WorksOff workers [] walk end after = ExpiresAndClaims workers walk end after
 WorksOff workers (file ∷ files) walk end after =
     ((next : Walk) × (Reports walk file next × WorksOff workers files next end after)) ⊎ ReportStops walk file end after
 
@@ -149,6 +185,23 @@ pub record IsWorkedOver {D : Type 0} (keep : KeepData D) (bench : BenchData) (en
   pub list : IsListOf keep entries
   pub held : bench.held ≡ held_over entries (kept_of bench.held)
 
+-- whether a command is a claim
+abbrev pub is_claim : Command → Bool
+is_claim (Restart now settings) = false
+is_claim (Submit now job) = false
+is_claim (CancelJob now job) = false
+is_claim (CancelFile now job file) = false
+is_claim (SetPriority now job priority) = false
+is_claim (Claim now word) = true
+is_claim (Report now file attempt outcome) = false
+is_claim (Ban now storage cancel) = false
+is_claim (Unban now storage) = false
+is_claim (Expire now) = false
+
+-- how many of these entries are claims
+abbrev pub claims_among : List Entry → ℕ
+claims_among entries = count_by (λ entry. is_claim entry.command) entries
+
 -- A round over every disk: it added entries, and whatever list keep and bench are over, it is a round from that list to it with these entries.
 -- Over a disk that tells its contents the keep's own list is such a one.
 pub record MakesRound {D E : Type 0} (state : D → DiskState) (faults : D → ℕ)
@@ -160,6 +213,8 @@ pub record MakesRound {D E : Type 0} (state : D → DiskState) (faults : D → �
   pub over : (entries : List Entry) → IsWorkedOver old bench entries → IsWorkedOver new bench_now (entries ++ added)
   pub tables : new.tables ≡ tables_from old.tables added
   pub listed : IsTold (state old.disk) → new.entries ≡ old.entries ++ added
+  -- as many of them are claims as files are held that it claimed
+  pub claimed : claims_among added ≡ newly_held bench_now.held
   -- the store follows from the reports among them, in order
   pub follows : FollowsReports store_state store_calls store_faults (copies_kept old.tables bench.held)
       (copies_from (λ writer. true) old.tables added) (copies_kept new.tables bench_now.held) store store_now

@@ -6,10 +6,11 @@ use Rattle.fts_tables.specs.History.{tables_from, out_of_list}
 use Rattle.fts_tables.specs.declared.commands.Entry.{Entry}
 use Rattle.fts_store.specs.Calls.{Call}
 use Rattle.fts_store.specs.Store.{StoreState}
-use Rattle.fts_keep.specs.Keeps.{KeepData, Grows, DoubtHasCause, KeepsImagesSinceAny}
+use Rattle.fts_keep.specs.Keeps.{KeepData}
 use Rattle.fts_workers.specs.Benches.{BenchData, calm_end}
 use Rattle.fts_workers.specs.Copies.{Copy, copies_from, copies_kept, FollowsReports}
-use Rattle.fts_workers.specs.Rounds.{Walk, IsRound, FillsUp, IsWorkedOver, walk_over}
+use Rattle.fts_workers.specs.ClaimSteps.{KeepsBy}
+use Rattle.fts_workers.specs.Rounds.{Walk, IsRound, ExpiresAndClaims, FillsUp, IsWorkedOver, walk_over}
 use Rattle.fts_workers.specs.declared.ends.RoundEnd.{RoundEnd}
 
 -- where one thread stands: its keep, its bench, and the moments and words to come
@@ -72,12 +73,19 @@ FillsOn workers (Ok true) walk now = (end : RoundEnd) (after : Walk) → Fills w
 FillsOn workers (Ok false) walk after = Fills workers (calm_end (length (out_of_list after.entries))) walk after
 FillsOn workers (Err end) walk after = Fills workers end walk after
 
+-- an expiry: whatever is claimed from here was claimed behind it; and where it stopped, this was all
+abbrev pub ExpiresOn : ℕ → Result (Unit {0}) RoundEnd → Walk → Walk → Type 0
+ExpiresOn workers (Ok done) walk now = (end : RoundEnd) (after : Walk) → Fills workers end now after → ExpiresAndClaims workers walk end after
+ExpiresOn workers (Err end) walk after = ExpiresAndClaims workers walk end after
+
+-- an expiry, and then claims
+abbrev pub ExpiresAndFills : ℕ → RoundEnd → Walk → Walk → Type 0
+ExpiresAndFills workers end walk after = ExpiresAndClaims workers walk end after
+
 -- a whole round
 abbrev pub RoundsTo : ℕ → RoundEnd → Walk → Walk → Type 0
 RoundsTo workers end walk after = IsRound workers walk end after
 
--- what every part keeps: the list only grows, by entries of writer 0, each image is one of it, and a doubt behind it has its cause
-pub record KeepsOn {D : Type 0} (state : D → DiskState) (faults : D → ℕ) (old new : KeepData D) : Type 0 where
-  pub grows : Grows state faults 0 old new
-  pub images : KeepsImagesSinceAny state old new
-  pub doubt : DoubtHasCause state faults old new
+-- what every part keeps: all that the calls of writer 0 keep
+abbrev pub KeepsOn : {D : Type 0} → (D → DiskState) → (D → ℕ) → KeepData D → KeepData D → Type 0
+KeepsOn state faults old new = KeepsBy state faults 0 old new

@@ -1,7 +1,7 @@
 -- What the answers of a keep are to a round: the faults that end it, and how, and the file that a claim names.
 use Rattle.std.specs.Prelude.{◌≡◌, None}
 use Rattle.fts_tables.specs.declared.commands.Answer.{Answer}
-use Rattle.fts_tables.specs.declared.commands.Answer.TheVariants.{Restarted, Submitted, Cancelled, PrioritySet, Claimed, Reported}
+use Rattle.fts_tables.specs.declared.commands.Answer.TheVariants.{Restarted, Submitted, Cancelled, PrioritySet, Claimed, Reported, Banned, Unbanned, Expired}
 use Rattle.fts_keep.specs.declared.fault.KeepFault.{KeepFault}
 use Rattle.fts_keep.specs.declared.fault.KeepFault.TheVariants.{Rule, DiskFailed, JournalFull, Damaged, Memory}
 use Rattle.fts_workers.specs.declared.held.Held.{Held}
@@ -24,16 +24,7 @@ EndsBy (JournalFull used) end = end ≡ EndsByLimit used
 EndsBy (Damaged offset) end = ⊥
 EndsBy Memory end = end ≡ EndsByMemory
 
--- an answer to a claim
-abbrev pub IsClaimed : Answer → Type 0
-IsClaimed (Restarted released) = ⊥
-IsClaimed (Submitted job id) = ⊥
-IsClaimed (Cancelled job) = ⊥
-IsClaimed (PrioritySet job) = ⊥
-IsClaimed (Claimed file attempt) = Unit {0}
-IsClaimed (Reported file state) = ⊥
-
--- the file that it names is held, and isn't copied yet
+-- the file that an answer to a claim names is held, and isn't copied yet
 abbrev pub NamesHeld : Answer → Held → Type 0
 NamesHeld (Restarted released) held = ⊥
 NamesHeld (Submitted job id) held = ⊥
@@ -41,3 +32,6 @@ NamesHeld (Cancelled job) held = ⊥
 NamesHeld (PrioritySet job) held = ⊥
 NamesHeld (Claimed file attempt) held = held ≡ record { file = file; attempt = attempt; outcome = None }
 NamesHeld (Reported file state) held = ⊥
+NamesHeld (Banned cancelled) held = ⊥
+NamesHeld Unbanned held = ⊥
+NamesHeld (Expired cancelled) held = ⊥

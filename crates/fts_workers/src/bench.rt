@@ -49,7 +49,7 @@ impl Model for Bench {
 
 impl Bench {
     ghost use Rattle.fts_workers.specs.declared.held.Held.{Held};
-    ghost use Rattle.fts_workers.specs.Benches.{KeepsOne, calm_end};
+    ghost use Rattle.fts_workers.specs.Benches.{KeepsOne, calm_end, newly_held};
     ghost use Rattle.fts_workers.specs.FirstFile.{HasFirst, CopiesFirst};
 
     /// A bench that holds nothing, with so many places, from 1 to 16.
@@ -71,6 +71,16 @@ impl Bench {
         ensures some { 1 ≤ self.now.places }
     {
         &self.held
+    }
+
+    /// How many of the files that it holds it claimed in its last round: none where the first one's outcome still waits to be reported, and else all.
+    pub fn newly_held(&self) -> u32
+        ensures { result ≡ newly_held self.now.held }
+    {
+        match self.held.first() {
+            Some(first) if first.outcome.is_some() => 0,
+            Some(_) | None => self.held.len() as u32,
+        }
     }
 
     /// Copies the first file that it holds, where no outcome of it is kept, and keeps how that ended.

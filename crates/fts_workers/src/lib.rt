@@ -1,9 +1,10 @@
-//! Rounds of one thread: the files that it holds are copied and reported, and then it claims others.
+//! Rounds of one thread: the files that it holds are copied and reported, the ones that wait too long are cancelled, and then it claims others.
 //! `round` is one round over a keep, a bench, a store, a clock and words; `specs/Rounds.antt` says what a round is, `specs/Benches.antt` what a bench
-//! holds between two of them, and `specs/Copies.antt` how the store follows from the reports.
+//! holds between two of them, `specs/Copies.antt` how the store follows from the reports, and `specs/ClaimSteps.antt` what is done before a copy.
 #![tactic(auto)]
 
 mod bench;
+mod claiming;
 mod copying;
 mod ends;
 mod gate;
@@ -14,6 +15,7 @@ mod rounds;
 mod watch;
 
 pub use bench::Bench;
+pub use claiming::{ClaimStep, claim_step, expire};
 pub use copying::{order_of_file, row_of_file};
 pub use ends::RoundEnd;
 pub use gate::{Gate, NoGate};

@@ -1,21 +1,23 @@
-//! A round of one thread: each file that is held is copied and reported, in order of the claims; then others are claimed, until no row is eligible
-//! or the bench is full. The first command that answers neither Ok nor Idle ends it.
+//! A round of one thread: each file that is held is copied and reported, in order of the claims; then the files that are overdue are cancelled, and
+//! then others are claimed, until no row is eligible or the bench is full. The first command that answers neither Ok nor Idle ends it.
 //! Keeps: the bench holds the files that are out, over whatever list the tables are of (`IsWorkedOver`). An outcome that couldn't be reported stays
 //! on the bench, and the next round reports it without another copy.
 //! Its parts say 'whatever is still done from here was done from the beginning' (`specs/Steps.antt`), so that loops join them.
 //! Called by the session after each request, and until nothing is held.
-ghost use Rattle.std.specs.Prelude.{◌≡◌, ◌+◌, ◌≤◌, ◌<◌, ℕ, [], List, Option, None, length, IsTrue, IfOk, OnOk};
+ghost use Rattle.std.specs.Prelude.{◌≡◌, ◌+◌, ◌≤◌, ◌<◌, ℕ, [], List, Option, None, length, IsTrue, IfOk, OnOk, Ok};
 ghost use Rattle.fts_tables.specs.Coming.{Coming};
 ghost use Rattle.fts_tables.specs.declared.commands.Entry.{Entry};
 ghost use Rattle.fts_tables.specs.Counts.{Rose};
 ghost use Rattle.fts_store.specs.Store.{Stays};
 ghost use Rattle.fts_keep.specs.Keeps.{Grows, DoubtHasCause, KeepsImagesSinceAny};
-ghost use Rattle.fts_workers.specs.Benches.{EndsHolding, HoldsActive, KeepsOne, kept_of};
+ghost use Rattle.fts_workers.specs.Benches.{BenchData, EndsHolding, HoldsActive, KeepsOne, kept_of};
 ghost use Rattle.fts_workers.specs.FirstFile.{IsFirstCopied};
 ghost use Rattle.fts_workers.specs.Rounds.{IsFullAt, IsWorkedOver, MakesRound};
-ghost use Rattle.fts_workers.specs.Steps.{stand, MakesNoCopy, MakesCopies, WorksOn, Fills, FillsOn, KeepsOn, RoundsTo};
-ghost use Rattle.fts_workers.specs.Stops.{IsStop, EndsBy, IsClaimed, NamesHeld};
+ghost use Rattle.fts_workers.specs.ClaimSteps.{AnswersClaim};
+ghost use Rattle.fts_workers.specs.Steps.{stand, MakesNoCopy, MakesCopies, WorksOn, Fills, FillsOn, ExpiresOn, ExpiresAndFills, KeepsOn, RoundsTo};
+ghost use Rattle.fts_workers.specs.Stops.{IsStop, EndsBy, NamesHeld};
 
+use crate::claiming::{claim, expire};
 use crate::{Bench, Held, RoundEnd};
 use fts_disk::Disk;
 use fts_keep::{Keep, KeepFault};
@@ -41,7 +43,7 @@ fn end_by(fault: KeepFault) -> RoundEnd
 
 // The file that a claim took.
 fn held_of(answer: Answer) -> Held
-    requires { IsClaimed answer }
+    requires { AnswersClaim (Ok answer) }
     ensures { NamesHeld answer result }
 {
     match answer {
@@ -54,7 +56,10 @@ fn held_of(answer: Answer) -> Held
         | Answer::Submitted { job: _, id: _ }
         | Answer::Cancelled { job: _ }
         | Answer::PrioritySet { job: _ }
-        | Answer::Reported { file: _, state: _ } => unreachable!(),
+        | Answer::Reported { file: _, state: _ }
+        | Answer::Banned { cancelled: _ }
+        | Answer::Unbanned
+        | Answer::Expired { cancelled: _ } => unreachable!(),
     }
 }
 
@@ -119,12 +124,32 @@ fn claim_next<D: Disk, C: Clock, W: Words>(
     claimed_files_were_in();
     let now = clock.now();
     let word = words.next();
-    match keep.apply(0, Command::Claim { now, word }) {
+    match claim(keep, 0, now, word) {
         Ok(answer) => {
             bench.hold(held_of(answer));
             Ok(true)
         }
         Err(KeepFault::Rule(_)) => Ok(false),
+        Err(KeepFault::DiskFailed) => Err(RoundEnd::DiskFailed),
+        Err(KeepFault::JournalFull { used }) => Err(RoundEnd::JournalFull { used }),
+        Err(KeepFault::Memory) => Err(RoundEnd::Memory),
+        Err(KeepFault::Damaged { offset: _ }) => unreachable!(),
+    }
+}
+
+// Tries an expiry. At `Ok` the files that were overdue are cancelled, or none was.
+fn expire_once<D: Disk, C: Clock>(keep: &mut Keep<D>, clock: &mut C) -> Result<(), RoundEnd>
+    ensures part { (bench : BenchData) (words : Option Coming) (entries : List Entry) → IsWorkedOver keep.old bench entries → kept_of bench.held ≡ None
+        → MakesNoCopy D.state D.faults (ExpiresOn bench.places result)
+        (stand keep.old bench (C.moments clock.old) words) (stand keep.new bench (C.moments clock.new) words) }
+    ensures keeps { KeepsOn D.state D.faults keep.old keep.new }
+{
+    tables_are_well_formed();
+    files_out_are_the_active_rows();
+    let now = clock.now();
+    match expire(keep, 0, now) {
+        Ok(_) => Ok(()),
+        Err(KeepFault::Rule(_)) => Ok(()),
         Err(KeepFault::DiskFailed) => Err(RoundEnd::DiskFailed),
         Err(KeepFault::JournalFull { used }) => Err(RoundEnd::JournalFull { used }),
         Err(KeepFault::Memory) => Err(RoundEnd::Memory),
@@ -215,7 +240,30 @@ fn fill_up<D: Disk, C: Clock, W: Words>(
     bench.calm_end()
 }
 
-// Works off what is held, and where that met no fault, claims.
+// Tries an expiry once, and where that met no fault, claims.
+fn expire_and_fill_up<D: Disk, C: Clock, W: Words>(
+    keep: &mut Keep<D>,
+    bench: &mut Bench,
+    clock: &mut C,
+    words: &mut W,
+) -> RoundEnd
+    requires order { (entries : List Entry) × IsWorkedOver keep.old bench.old entries }
+    requires none { kept_of bench.old.held ≡ None }
+    requires few { length bench.old.held ≤ bench.old.places }
+    ensures part { MakesNoCopy D.state D.faults (ExpiresAndFills bench.old.places result)
+        (stand keep.old bench.old (C.moments clock.old) (W.words words.old)) (stand keep.new bench.new (C.moments clock.new) (W.words words.new)) }
+    ensures none { kept_of bench.new.held ≡ None }
+    ensures places { bench.new.places ≡ bench.old.places }
+    ensures few { length bench.new.held ≤ bench.new.places }
+    ensures keeps { KeepsOn D.state D.faults keep.old keep.new }
+{
+    if let Err(end) = expire_once(keep, clock) {
+        return end;
+    }
+    fill_up(keep, bench, clock, words)
+}
+
+// Works off what is held, and where that met no fault, expires and claims.
 fn work_round<D: Disk, E: Store, C: Clock, W: Words>(
     keep: &mut Keep<D>,
     bench: &mut Bench,
@@ -234,13 +282,15 @@ fn work_round<D: Disk, E: Store, C: Clock, W: Words>(
     ensures keeps { KeepsOn D.state D.faults keep.old keep.new }
 {
     match work_off(keep, bench, store, clock) {
-        Ok(()) => fill_up(keep, bench, clock, words),
+        Ok(()) => expire_and_fill_up(keep, bench, clock, words),
         Err(end) => end,
     }
 }
 
-/// One round. Each file that is held is copied, where no outcome of it is kept, and reported by writer 0, in order of the claims; then others are
-/// claimed, until no row is eligible or the bench is full. Each command that is tried takes the clock's next moment, and each claim the next word.
+/// One round. Each file that is held is copied, where no outcome of it is kept, and reported by writer 0, in order of the claims; then the files that
+/// are overdue are cancelled by one expiry; then others are claimed, until no row is eligible or the bench is full. Each command that is tried, the
+/// expiry too, takes the clock's next moment, and each claim the next word. An expiry that finds no file overdue changes nothing, and the round goes
+/// on; one that meets a fault ends the round before any claim. No expiry touches a file that is out.
 /// The bench holds the files that are out, over some list that the keep's tables are of. No report is `Stale`, and none says `Stopped`.
 /// `Clear` and `Busy` say that no fault was met, and what is held then. A fault ends the round at once, and the next round goes on from there:
 /// `DiskFailed` only where the disk counted a failure in this round, `JournalFull` exactly by the limit, and `Memory` freely. An outcome that
@@ -275,6 +325,7 @@ pub fn round<D: Disk, E: Store, C: Clock, W: Words>(
     ensures doubt_cause { DoubtHasCause D.state D.faults keep.old keep.new }
 {
     files_out_are_the_active_rows();
+    claimed_files_were_in();
     active_rows_have_known_ends();
     work_round(keep, bench, store, clock, words)
 }

@@ -1,5 +1,5 @@
 -- Each clause of the law.
-use Rattle.fts_ledger.proofs.Passed.{none_by}
+use Rattle.fts_ledger.proofs.InTurns.{none_by}
 use Rattle.fts_ledger.proofs.Stations.{legal_seen, own_in_all, own_none, undisturbed_seen, work_in_all}
 use Rattle.fts_ledger.proofs.laws.passes_see_one_list.Goals as goal
 

@@ -1,5 +1,6 @@
 -- The loop over the last rounds: each but the last is busy, and uses more of the journal.
 use Rattle.std.proofs.Common.{◌-◌}
+use Rattle.fts_tables.specs.declared.limits.TheConstants.{JOURNAL_END}
 use Rattle.fts_session.specs.Sessions.{Works, thread}
 use Rattle.fts_session.proofs.Serving.{RoundsOn}
 use Rattle.fts_session.proofs.session.make_last_rounds.Given as goal
@@ -12,4 +13,4 @@ invariant-rounds g l = Works g.D.Disk g.E.Store (RoundsOn l.fn.working.bench.pla
 
 -- what is left of the journal
 abbrev pub decreases-rounds : goal.decreases-rounds
-decreases-rounds g l = 67108864 - l.working.keep.used
+decreases-rounds g l = JOURNAL_END - l.working.keep.used

@@ -1,13 +1,22 @@
--- A claimed file has its row.
+-- A step leaves the shop as it then is, and a claimed file has its row.
 use Rattle.std.proofs.Common.{rules, ◌≡◌, sym, subst}
-use Rattle.fts_shop.specs.Within.{HasOrder, order_claimed}
-use Rattle.fts_shop.proofs.Claims.{has_order}
+use Rattle.fts_shop.specs.Shops.{ShopData, step_answer}
+use Rattle.fts_shop.specs.Within.{HasOrder, StepsIn, order_claimed}
+use Rattle.fts_shop.proofs.Claims.{order_of_step}
 use Rattle.fts_shop.proofs.tried.claim_in.Goals as goal
+
+pub returns-clause-steps : goal.returns-clause-steps
+returns-clause-steps g c =
+    let step = c.step_in-lanes.result.step in
+    let same : c.match-answer_of.shop ≡ c.step_in-lanes.new.shop = search rules in
+    subst (λ (shop : ShopData g.row.D.Denot). StepsIn g.D.Disk c.args.writer c.args.now c.args.word c.args.shop.now shop step.expiry step.claim
+    c.step_in-lanes.result.lanes) (sym same) c.step_in-lanes.ensures.steps
 
 pub returns-clause-some : goal.returns-clause-some
 returns-clause-some g c =
-    let answer = c.try_in-answer.result.answer in
-    let is : c.match-answer.order ≡ order_claimed c.try_in-answer.new.shop.keep.tables answer = search rules in
+    let step = c.step_in-lanes.result.step in
+    let answer = step_answer step.expiry step.claim in
+    let is : c.match-answer_of.order ≡ order_claimed c.step_in-lanes.new.shop.keep.tables answer = search rules in
     subst (λ order. HasOrder answer order) (sym is)
-    (has_order g.D.Disk c.args.shop.now.keep c.try_in-answer.new.shop.keep c.args.writer c.args.now c.args.word
-    c.tables_are_well_formed.ensures.formed c.claimed_files_were_in.ensures.waited c.try_in-answer.ensures.kept answer c.try_in-answer.ensures.applied)
+    (order_of_step g.D.Disk c.args.shop.now.keep c.step_in-lanes.new.shop.keep c.args.writer c.args.now c.args.word step.expiry step.claim
+    c.step_in-lanes.ensures.steps.stepped c.tables_are_well_formed.ensures.formed c.claimed_files_were_in.ensures.waited)

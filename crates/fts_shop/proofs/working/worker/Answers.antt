@@ -1,5 +1,5 @@
 -- A turn more, after which the worker goes on, or ends.
-use Rattle.std.proofs.Common.{◌≡◌, ◌∙◌, refl, sym, ap, suc, Option}
+use Rattle.std.proofs.Common.{◌∙◌, refl, sym, ap, suc, Option}
 use Rattle.fts_tables.specs.Coming.{Coming}
 use Rattle.fts_shop.specs.Turns.{HandData}
 use Rattle.fts_shop.specs.Looked.{same_on}

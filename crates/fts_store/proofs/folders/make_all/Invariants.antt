@@ -1,4 +1,4 @@
-use Rattle.std.proofs.Common.{◌-◌, ◌≡◌, map, string_bytes, take}
+use Rattle.std.proofs.Common.{◌-◌, map, string_bytes, take}
 use Rattle.fts_files.specs.Script.{Script, LeadsTo}
 use Rattle.fts_store.specs.Folders.{makes_down}
 use Rattle.fts_store.proofs.folders.make_all.Given as goal

@@ -1,7 +1,7 @@
-use Rattle.std.proofs.Common.{◌∙◌, rules}
+use Rattle.std.proofs.Common.{rules}
 use Rattle.fts_files.specs.Script.{fails}
 use Rattle.fts_files.proofs.Playing.{then_leads, failed}
-use Rattle.fts_store.specs.Folders.{first_met, meets}
+use Rattle.fts_store.specs.Folders.{meets}
 use Rattle.fts_store.proofs.Metings.{value_same}
 use Rattle.fts_store.proofs.folders.meet.Goals as goal
 

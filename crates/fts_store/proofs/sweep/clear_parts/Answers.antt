@@ -1,11 +1,20 @@
-use Rattle.fts_store.proofs.Sweepings.{sweeps_none, sweeps_then}
+use Rattle.std.proofs.Common.{string_bytes, rules}
+use Rattle.fts_files.proofs.Playing.{then_leads}
+use Rattle.fts_store.proofs.Listings.{stops, goes_on}
+use Rattle.fts_store.proofs.Sweepings.{part_leads, parts_end}
 use Rattle.fts_store.proofs.sweep.clear_parts.Goals as goal
 
-pub parts-init : goal.parts-init
-parts-init g c = sweeps_none _ _
-
-pub parts-preserved : goal.parts-preserved
-parts-preserved g c = sweeps_then _ _ _ _ c.parts.invariant c.clear_part.ensures
+pub names-preserved : goal.names-preserved
+names-preserved g c next =
+    then_leads (c.names.invariant next)
+    (then_leads (part_leads string_bytes _ c.args.names.now c.names.name-index next _ c.name-item.result c.name-item.is c.names-test.true)
+    ((rw c.as_str.ensures.value at c.in_ok-clear_part.ensures) _).1)
 
 pub returns-in_err-clear_part : goal.returns-in_err-clear_part
-returns-in_err-clear_part g c = sweeps_then _ _ _ _ c.parts.invariant c.clear_part.ensures
+returns-in_err-clear_part g c next = stops c.from_residual.result (λ done. next)
+    (then_leads (c.names.invariant next)
+    (then_leads (part_leads string_bytes _ c.args.names.now c.names.name-index next _ c.name-item.result c.name-item.is c.names-test.true)
+    ((rw c.as_str.ensures.value at c.in_err-clear_part.ensures) _).1)) (search rules)
+
+pub returns : goal.returns
+returns g c next = goes_on (then_leads (c.names.invariant next) (parts_end string_bytes _ c.args.names.now c.names.name-index next _ c.names-test.false))

@@ -1,6 +1,10 @@
-use Rattle.fts_store.specs.Sweep.{Sweeps}
+use Rattle.std.proofs.Common.{drop, filter, map, string_bytes}
+use Rattle.fts_files.specs.Script.{Script, LeadsTo}
+use Rattle.fts_store.specs.Sweep.{stays_below, sweeps_each}
 use Rattle.fts_store.proofs.sweep.sweep_folders.Given as goal
 
--- all so far was a sweep's
+-- so many of the names were gone through
 abbrev pub invariant-names : goal.invariant-names
-invariant-names g l = Sweeps l.root (g.F.FileSystem.calls l.initial.files) (g.F.FileSystem.calls l.files)
+invariant-names g l = (next : Script) → LeadsTo (sweeps_each l.root (filter stays_below (map string_bytes l.fn.names)) next)
+    (g.F.FileSystem.calls l.initial.files)
+    (sweeps_each l.root (filter stays_below (map string_bytes (drop l.name-index l.fn.names))) next) (g.F.FileSystem.calls l.files)

@@ -5,11 +5,12 @@ use Rattle.fts_top.proofs.Closing.{unstarted_run}
 use Rattle.fts_top.proofs.Endings.{few_workers}
 use Rattle.fts_top.proofs.service.serve_under.Goals as goal
 use Rattle.fts_service.specs.Worlds.{world_of}
+use Rattle.fts_tables.specs.declared.limits.TheConstants.{MAX_WORKERS}
 
 pub serve_keep-requires-clause-hands : goal.serve_keep-requires-clause-hands
 serve_keep-requires-clause-hands g c κs within =
     let settings = subst IsSettings c.settings.view_is c.settings.invariant in
-    let few : c.args.settings.workers ≤ 16 = few_workers c.args.settings settings.workers in
+    let few : c.args.settings.workers ≤ MAX_WORKERS = few_workers c.args.settings settings.workers in
     let benches : length c.in-Ok.seats.benches.items ≡ c.args.settings.workers = c.in-Ok.ensures.many.1 ∙ ap (λ (s : SettingsData). s.workers) c.settings.view_is in
     (omega (arith, few, benches, c.requires.hands), omega (arith, c.requires.hands))
 

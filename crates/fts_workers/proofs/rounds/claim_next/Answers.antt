@@ -13,52 +13,52 @@ pub returns-in-Ok-clause-part : goal.returns-in-Ok-clause-part
 returns-in-Ok-clause-part g c =
     subst (λ (b : BenchData). MakesNoCopy g.D.Disk.state g.D.Disk.faults (FillsOn c.args.bench.now.places (Ok true))
     (stand c.args.keep.now c.args.bench.now (g.C.Clock.moments c.args.clock.now) (g.W.Words.words c.args.words.now))
-    (stand c.apply.new.self b (g.C.Clock.moments c.now-now.new.self) (g.W.Words.words c.next-word.new.self)))
+    (stand c.claim.new.keep b (g.C.Clock.moments c.now-now.new.self) (g.W.Words.words c.next-word.new.self)))
     (sym c.hold.ensures.held)
     (claimed_part g.D.Disk.state g.D.Disk.faults c.tables_are_well_formed.ensures.formed c.picked_rows_stand.ensures.place
     c.claimed_files_were_in.ensures.lists
-    c.args.keep.now c.apply.new.self c.args.bench.now c.requires.none c.requires.free
+    c.args.keep.now c.claim.new.keep c.args.bench.now c.requires.none c.requires.free
     (g.C.Clock.moments c.args.clock.now) (g.C.Clock.moments c.now-now.new.self) (g.W.Words.words c.args.words.now) (g.W.Words.words c.next-word.new.self)
-    c.now-now.result c.next-word.result c.now-now.ensures c.next-word.ensures c.apply.ensures.grows.counts
-    c.in-Ok.answer c.in-Ok.ensures.applied c.held_of.result c.held_of.ensures c.requires.order.0 c.requires.order.1)
+    c.now-now.result c.next-word.result c.now-now.ensures c.next-word.ensures c.claim.ensures.tried.keeps.grows.counts
+    c.in-Ok.answer c.in-Ok.ensures.tried.applied c.held_of.result c.held_of.ensures c.requires.order.0 c.requires.order.1)
 
 pub returns-in-Err-Rule-clause-part : goal.returns-in-Err-Rule-clause-part
 returns-in-Err-Rule-clause-part g c =
     claim_found_none g.D.Disk.state g.D.Disk.faults c.tables_are_well_formed.ensures.formed c.picked_rows_stand.ensures.place
     c.claimed_files_were_in.ensures.lists
-    c.args.keep.now c.apply.new.self c.args.bench.now c.requires.none c.requires.free
+    c.args.keep.now c.claim.new.keep c.args.bench.now c.requires.none c.requires.free
     (g.C.Clock.moments c.args.clock.now) (g.C.Clock.moments c.now-now.new.self) (g.W.Words.words c.args.words.now) (g.W.Words.words c.next-word.new.self)
-    c.now-now.result c.next-word.result c.now-now.ensures c.next-word.ensures c.apply.ensures.grows.counts
-    c.in-Err-Rule.field-0-0 (subst (λ f. Applied g.D.Disk.state g.D.Disk.faults c.args.keep.now c.apply.new.self (entry_by 0
+    c.now-now.result c.next-word.result c.now-now.ensures c.next-word.ensures c.claim.ensures.tried.keeps.grows.counts
+    c.in-Err-Rule.field-0-0 (subst (λ f. Applied g.D.Disk.state g.D.Disk.faults c.args.keep.now c.claim.new.keep (entry_by 0
     (Claim c.now-now.result c.next-word.result)) (Err f))
-    c.in-Err-Rule.field-0-is c.in-Err-Rule.ensures.applied)
+    c.in-Err-Rule.field-0-is c.in-Err-Rule.ensures.tried.applied)
 
 pub returns-in-Err-DiskFailed-clause-part : goal.returns-in-Err-DiskFailed-clause-part
 returns-in-Err-DiskFailed-clause-part g c =
     claim_stops g.D.Disk.state g.D.Disk.faults c.tables_are_well_formed.ensures.formed c.picked_rows_stand.ensures.place c.claimed_files_were_in.ensures.lists
-    c.args.keep.now c.apply.new.self c.args.bench.now c.requires.none c.requires.free
+    c.args.keep.now c.claim.new.keep c.args.bench.now c.requires.none c.requires.free
     (g.C.Clock.moments c.args.clock.now) (g.C.Clock.moments c.now-now.new.self) (g.W.Words.words c.args.words.now) (g.W.Words.words c.next-word.new.self)
-    c.now-now.result c.next-word.result c.now-now.ensures c.next-word.ensures c.apply.ensures.grows.counts
-    DiskFailed EndsByDisk (subst (λ f. Applied g.D.Disk.state g.D.Disk.faults c.args.keep.now c.apply.new.self (entry_by 0
+    c.now-now.result c.next-word.result c.now-now.ensures c.next-word.ensures c.claim.ensures.tried.keeps.grows.counts
+    DiskFailed EndsByDisk (subst (λ f. Applied g.D.Disk.state g.D.Disk.faults c.args.keep.now c.claim.new.keep (entry_by 0
     (Claim c.now-now.result c.next-word.result)) (Err f))
-    c.in-Err-DiskFailed.field-0-is c.in-Err-DiskFailed.ensures.applied) refl
+    c.in-Err-DiskFailed.field-0-is c.in-Err-DiskFailed.ensures.tried.applied) refl
 
 pub returns-in-Err-JournalFull-clause-part : goal.returns-in-Err-JournalFull-clause-part
 returns-in-Err-JournalFull-clause-part g c =
     claim_stops g.D.Disk.state g.D.Disk.faults c.tables_are_well_formed.ensures.formed c.picked_rows_stand.ensures.place c.claimed_files_were_in.ensures.lists
-    c.args.keep.now c.apply.new.self c.args.bench.now c.requires.none c.requires.free
+    c.args.keep.now c.claim.new.keep c.args.bench.now c.requires.none c.requires.free
     (g.C.Clock.moments c.args.clock.now) (g.C.Clock.moments c.now-now.new.self) (g.W.Words.words c.args.words.now) (g.W.Words.words c.next-word.new.self)
-    c.now-now.result c.next-word.result c.now-now.ensures c.next-word.ensures c.apply.ensures.grows.counts
+    c.now-now.result c.next-word.result c.now-now.ensures c.next-word.ensures c.claim.ensures.tried.keeps.grows.counts
     (JournalFull c.in-Err-JournalFull.used) (EndsByLimit c.in-Err-JournalFull.used) (subst
-    (λ f. Applied g.D.Disk.state g.D.Disk.faults c.args.keep.now c.apply.new.self (entry_by 0 (Claim c.now-now.result c.next-word.result)) (Err f))
-    c.in-Err-JournalFull.field-0-is c.in-Err-JournalFull.ensures.applied) refl
+    (λ f. Applied g.D.Disk.state g.D.Disk.faults c.args.keep.now c.claim.new.keep (entry_by 0 (Claim c.now-now.result c.next-word.result)) (Err f))
+    c.in-Err-JournalFull.field-0-is c.in-Err-JournalFull.ensures.tried.applied) refl
 
 pub returns-in-Err-Memory-clause-part : goal.returns-in-Err-Memory-clause-part
 returns-in-Err-Memory-clause-part g c =
     claim_stops g.D.Disk.state g.D.Disk.faults c.tables_are_well_formed.ensures.formed c.picked_rows_stand.ensures.place c.claimed_files_were_in.ensures.lists
-    c.args.keep.now c.apply.new.self c.args.bench.now c.requires.none c.requires.free
+    c.args.keep.now c.claim.new.keep c.args.bench.now c.requires.none c.requires.free
     (g.C.Clock.moments c.args.clock.now) (g.C.Clock.moments c.now-now.new.self) (g.W.Words.words c.args.words.now) (g.W.Words.words c.next-word.new.self)
-    c.now-now.result c.next-word.result c.now-now.ensures c.next-word.ensures c.apply.ensures.grows.counts
-    Memory EndsByMemory (subst (λ f. Applied g.D.Disk.state g.D.Disk.faults c.args.keep.now c.apply.new.self (entry_by 0
+    c.now-now.result c.next-word.result c.now-now.ensures c.next-word.ensures c.claim.ensures.tried.keeps.grows.counts
+    Memory EndsByMemory (subst (λ f. Applied g.D.Disk.state g.D.Disk.faults c.args.keep.now c.claim.new.keep (entry_by 0
     (Claim c.now-now.result c.next-word.result)) (Err f))
-    c.in-Err-Memory.field-0-is c.in-Err-Memory.ensures.applied) refl
+    c.in-Err-Memory.field-0-is c.in-Err-Memory.ensures.tried.applied) refl

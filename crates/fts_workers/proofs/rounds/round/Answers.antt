@@ -9,7 +9,7 @@ returns-clause-round g c =
     round_made g.D.Disk.state g.D.Disk.faults g.E.Store.state g.E.Store.calls g.E.Store.faults c.args.keep.now c.work_round.new.keep
     c.args.bench.now c.work_round.new.bench c.args.store.now c.work_round.new.store (g.C.Clock.moments c.args.clock.now)
     (g.C.Clock.moments c.work_round.new.clock) (g.W.Words.words c.args.words.now) (g.W.Words.words c.work_round.new.words) c.work_round.result
-    c.work_round.ensures.part
+    c.work_round.ensures.part c.requires.order.0 c.requires.order.1 c.files_out_are_the_active_rows.ensures.out c.claimed_files_were_in.ensures.lists
 
 pub returns-clause-active : goal.returns-clause-active
 returns-clause-active g c =

@@ -1,7 +1,7 @@
 use Rattle.std.proofs.Common.{◌≡◌, ◌<◌, ℕ, cond, Bool, None, refl, sym, ap, ◌∙◌, subst, arith}
 use Rattle.std.specs.Prelude.{map, insert, vec_len, vec_capacity}
 use Rattle.std.specs.List.{position_from, prefix_len}
-use Rattle.fts_index.specs.Links.{Link, LinkLists, is_link, is_link_before, link_between, AreInOrder}
+use Rattle.fts_index.specs.Links.{LinkLists, is_link, is_link_before, link_between, AreInOrder}
 use Rattle.fts_index.specs.Loads.{link_of_known, links_counted}
 use Rattle.fts_index.specs.declared.loads.Known.{Known}
 use Rattle.fts_index.proofs.Found.{any_from, none_from}

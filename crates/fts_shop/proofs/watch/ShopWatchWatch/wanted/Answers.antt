@@ -1,5 +1,5 @@
 -- One asking is a turn that adds nothing.
-use Rattle.std.proofs.Common.{rules, of_calls, ◌≡◌, ◌+◌, ◌≤◌, ◌<◌, ◌≢◌, true, false, arith}
+use Rattle.std.proofs.Common.{rules, of_calls, arith}
 use Rattle.fts_shop.specs.Within.{IsLookIn}
 use Rattle.fts_shop.proofs.Looks.{watched_once}
 use Rattle.fts_shop.proofs.watch.ShopWatchWatch.wanted.Goals as goal

@@ -3,7 +3,7 @@ use Rattle.fts_store.specs.Held.{files_over, kept_file, IsEntryOf}
 use Rattle.fts_store.specs.Store.{Same, place_at, bytes_of, with_file}
 use Rattle.fts_tables.specs.declared.places.Place.{Place}
 use Rattle.fts_store.proofs.Places.{change_over, restore_over}
-use Rattle.fts_store.proofs.Entries.{entry_inside}
+use Rattle.fts_store.proofs.Entries.{entry_inside, room_there}
 use Rattle.fts_store.proofs.held.Held.append.Goals as goal
 
 -- bytes were put behind those of a file that was taken out
@@ -50,3 +50,8 @@ returns-clause-err c =
     (files_over given c.exchange-file.new.made.items) (files_over given c.exchange.new.made.items) at (kept_file c.exchange-file.result) (kept_file c.grow-answer.new.file)
     (c.exchange-file.ensures.given given at entry) c.own.ensures.same
     (c.exchange-file.ensures.put given at entry) (c.exchange.ensures.put given at again) c.grow-answer.ensures.err
+
+pub returns-clause-room : goal.returns-clause-room
+returns-clause-room c room =
+    c.grow-answer.ensures.room (room_there c.args.self.now.made.items c.own.new.made.items c.in_ok-n.n (place_at c.args.at) _ c.exchange-file.result
+    c.exchange-file.ensures.taken room.takes (c.own.ensures.kept room.named) c.in_ok-n.ensures.entry)

@@ -13,6 +13,7 @@ use Rattle.fts_words.specs.declared.asked.Command.TheVariants.{Session, Show, Lo
 use Rattle.fts_words.specs.declared.options.Given.{Given}
 use Rattle.fts_words.specs.declared.options.Given.TheVariants.{Port, Lanes, Connections, Number}
 use Rattle.fts_words.proofs.options.Given.read.Goals as goal
+use Rattle.fts_tables.specs.declared.limits.TheConstants.{MAX_LANES}
 
 own : IsNumeralModel (λ (ds : List ℕ). list_all is_digit ds ≡ true) (digits_value 10)
 own = numerals_by_value (λ (ds : List ℕ). list_all is_digit ds ≡ true) (search rules)
@@ -34,7 +35,7 @@ in-no-range Show name number over = refl
 in-no-range Load name number over = either (bytes_eq name (codes "--number")) (within 0 18446744073709551615 Number number) None (above 0 18446744073709551615 Number number over) refl
 in-no-range Serve name number over =
     either (bytes_eq name (codes "--port")) (within 1 65535 Port number) _ (above 1 65535 Port number (omega arith))
-    (either (bytes_eq name (codes "--lanes")) (within 1 8 Lanes number) _ (above 1 8 Lanes number (omega arith))
+    (either (bytes_eq name (codes "--lanes")) (within 1 MAX_LANES Lanes number) _ (above 1 MAX_LANES Lanes number (omega arith))
     (either (bytes_eq name (codes "--connections")) (within 1 1000000 Connections number) None (above 1 1000000 Connections number (omega arith)) refl))
 
 pub returns-in-Err : goal.returns-in-Err
