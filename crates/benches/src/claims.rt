@@ -2,6 +2,7 @@
 mod commands;
 mod submissions;
 mod waiting;
+mod waits;
 
 use std::io;
 
@@ -9,4 +10,9 @@ use std::io;
 pub fn measure(rt: &HostRuntime) -> io::Result<()> {
     commands::measure(rt)?;
     submissions::measure(rt)
+}
+
+/// Prints what hours in the queue, expiries and bans add to claims.
+pub fn measure_waits(rt: &HostRuntime) -> io::Result<()> {
+    waits::measure(rt)
 }

@@ -45,6 +45,7 @@ fn measure<R: Threads + Wait + Clock + CpuClock + Print + Sync>(
         "journal" => journal::measure(rt, words),
         "keep" => keep::measure(rt, words),
         "record" => record::measure(rt),
+        "waits" => claims::measure_waits(rt),
         "turnstile" => turnstile::measure(threads, rt.alloc()),
         _ => Ok(()),
     }

@@ -197,7 +197,8 @@ module _ {D : Type 0} (state : D → DiskState) (faults : D → ℕ) (reads : (e
         pub unsettled_tied : IsTied state next mid
         unsettled_tied = tie state reads next mid (omega (arith, commands, settles.kept.1, tied.fold.low)) (omega (arith, settles.kept.1, tied.fold.high))
             (commands ∙ tied.counted ∙ sym settles.kept.0)
-            (filled_list mid settles.kept.1) (λ told. record { entries = old.entries; doubt = old.doubt; held = unsettled_held (sym settles.told ∙ told) }) settles.images
+            (filled_list mid settles.kept.1)
+            (λ told. record { entries = old.entries; doubt = old.doubt; held = unsettled_held (sym settles.told ∙ told) }) settles.images
 
         pub unsettled_applied : Applied state faults old (keep_of state next mid) entry (Err (fault_of fault))
         unsettled_applied = subst (λ f. Applied state faults old (keep_of state next mid) entry (Err (fault_of f))) (sym settles.cause.0) (record {
@@ -352,8 +353,10 @@ module _ {D : Type 0} (state : D → DiskState) (faults : D → ℕ) (reads : (e
           done_tied = tie state reads done last
               (omega (arith, more, commands, appends.ok.1, settles.kept.1, tied.fold.low, ap length is_body, spelled_some entry))
               (omega (arith, appends.ok.1, settles.kept.1, ap length is_body, room_by journal.used entry (step desk.tables entry.command) checked))
-              (omega (arith, more, commands, tied.counted, settles.kept.0, appends.ok.0))
-              (tied.fold.filled.0 ++ entry ∷ [], filled_by_more state old (keep_of state done last) tied.fold.filled.0 entry answer tied.fold.filled.1 proper done_applied)
+              (omega (arith, more, commands, tied.counted, settles.kept.0, appends.ok.0)) (
+                tied.fold.filled.0 ++ entry ∷ [],
+                filled_by_more state old (keep_of state done last) tied.fold.filled.0 entry answer tied.fold.filled.1 proper done_applied,
+              )
               (λ told. record { entries = old.entries ++ entry ∷ []; doubt = None; held = done_held (sym settles.told ∙ sym appends.told ∙ told) })
               appends.images
 

@@ -93,7 +93,8 @@ module _ {D : Type 0} (state : D → DiskState) (journal : JournalData D) where
         proper = All-push IsProper so_far.entries takes.entry so_far.proper takes.proper;
         fills = ap (λ b. gate + 5 + length b) takes.spells ∙ ap (λ n. n + 5 + length (spelled takes.entry)) so_far.fills
             ∙ sym (filled_more so_far.entries takes.entry);
-        passes = ap (λ n. n + 5 + length body) so_far.passes ∙ passes_more journal.sizes n (length body) long ∙ ap (λ k. filled_by (take k journal.sizes)) (sym (add-one n));
+        passes = ap (λ n. n + 5 + length body) so_far.passes ∙ passes_more journal.sizes n (length body) long
+            ∙ ap (λ k. filled_by (take k journal.sizes)) (sym (add-one n));
         spells = λ told. ap (λ k. take k journal.bodies) (add-one n) ∙ take_at_place journal.bodies n body (here told)
             ∙ ap (λ b. b ++ body ∷ []) (so_far.spells told)
             ∙ ap (λ x. bodies_of so_far.entries ++ x ∷ []) takes.spells ∙ sym (bodies_more so_far.entries takes.entry);

@@ -48,8 +48,8 @@ pub record LeavesJournal {D : Type 0} (state : D → DiskState) (faults : D → 
   pub doubt : IsTold (state old.disk) → new.doubt ≡ old.doubt
   pub still : IsTold (state old.disk) → IsStill (state old.disk) (state new.disk)
 
--- so many bodies were folded: the tables are those of a legal list, and the next gate stands behind it and behind these bodies; where the disk tells its contents its bodies begin with the spellings of
--- this list, and the first fault is one of the bodies that follow
+-- So many bodies were folded: the tables are those of a legal list, and the next gate stands behind it and behind these bodies. Where the disk
+-- tells its contents its bodies begin with the spellings of this list, and the first fault is one of the bodies that follow.
 pub record HasFolded {D : Type 0} (state : D → DiskState) (journal : JournalData D) (tables : Tables) (gate n : ℕ) : Type 0 where
   pub entries : List Entry
   pub folded : tables ≡ tables_of entries

@@ -118,7 +118,8 @@ fn more_pairs_than_a_chunk_holds_come_and_go(rt: HostRuntime) -> Result<(), Fail
     let mut set: Ordered<Pair> = Ordered::new(rt.alloc());
     for step in 1..=MANY {
         let key = pair_of(step * 7919 % 1201);
-        set.make_room(set.len() + 1)?;
+        let more = set.len().checked_add(1).expect(&rt, "few pairs");
+        set.make_room(more)?;
         if !set.has(&key) {
             set.insert(key);
         }
@@ -126,8 +127,9 @@ fn more_pairs_than_a_chunk_holds_come_and_go(rt: HostRuntime) -> Result<(), Fail
     are_there(&rt, &set, 1);
     for step in 1..=MANY {
         let number = step * 7919 % 1201;
-        if number % 100 > 0 && set.has(&pair_of(number)) {
-            set.remove(&pair_of(number));
+        let key = pair_of(number);
+        if number % 100 > 0 && set.has(&key) {
+            set.remove(&key);
         }
     }
     are_there(&rt, &set, 100);

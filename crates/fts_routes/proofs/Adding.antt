@@ -11,7 +11,8 @@ use Rattle.fts_wire.specs.RequestData.{RequestData}
 use Rattle.fts_keep.specs.Applied.{applied_by, entry_by, fits}
 use Rattle.fts_keep.specs.declared.fault.KeepFault.TheVariants.{JournalFull}
 use Rattle.fts_routes.specs.Replies.{Plan, Replies, Tries, plan_of, said, said_by, said_to, said_so, Way, AsDefined, WithoutMemory, WithoutDisk}
-use Rattle.fts_routes.proofs.Sendable.{IsAsked, IsGoodPlan, planned}
+use Rattle.fts_routes.specs.Planned.{IsAsked}
+use Rattle.fts_routes.proofs.Sendable.{IsGoodPlan, planned}
 
 -- nothing, or one command that is accepted where it stands, and that a request may ask for
 abbrev pub AddsWell : Tables → List Entry → Type 0

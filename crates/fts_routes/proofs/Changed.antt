@@ -10,7 +10,7 @@ use Rattle.fts_tables.specs.SettingsData.{SettingsData}
 use Rattle.fts_tables.specs.Tables.{Tables, is_submitted, is_active, is_not_used, is_live, is_settled, is_canceled, rows_of_job, job_at, row_at}
 use Rattle.fts_tables.specs.Moves.{cancelled, canceled, is_cancellable, is_settled_job, state_of_job, change_row}
 use Rattle.fts_tables.specs.Step.{Outcomes, on_job, with_rows, with_priority, cancel_rows, cancel_row, cancel_one, cancel_file, set_priority}
-use Rattle.fts_tables.specs.declared.commands.Refusal.TheVariants.{NoJob, NoFile, Duplicate, JobsFull, RowsFull, Idle, Stale, Unchanged}
+use Rattle.fts_tables.specs.declared.commands.Refusal.TheVariants.{NoJob, NoFile, Duplicate, JobsFull, RowsFull, Idle, Stale, Unchanged, NoStorage, NotBanned}
 use Rattle.fts_tables.specs.declared.commands.Answer.TheVariants.{Cancelled, PrioritySet}
 use Rattle.fts_tables.specs.declared.rows.FileRow.{FileRow}
 use Rattle.fts_tables.specs.declared.rows.JobRow.{JobRow}
@@ -414,3 +414,5 @@ shown-anyway shown tables reply is (Err (JobsFull jobs)) = tt
 shown-anyway shown tables reply is (Err (RowsFull rows)) = tt
 shown-anyway shown tables reply is (Err Idle) = tt
 shown-anyway shown tables reply is (Err (Stale state attempt)) = tt
+shown-anyway shown tables reply is (Err NoStorage) = tt
+shown-anyway shown tables reply is (Err NotBanned) = tt

@@ -23,7 +23,7 @@ use Rattle.fts_routes.specs.Planned.{Comes, IsPlanned, ShowsOutcome, ShowsUnchan
 use Rattle.fts_routes.specs.declared.planned.Planned.TheVariants.{Replies as PlannedReply, Tries as PlannedCommand}
 
 -- what the machine refuses, where a command comes to its refusal
-refused-step : (used : ℕ) (entry : Entry) (outcome : Outcomes) (refusal : Refusal) → applied_by used entry outcome ≡ Err (Rule refusal) → outcome ≡ Err refusal
+pub refused-step : (used : ℕ) (entry : Entry) (outcome : Outcomes) (refusal : Refusal) → applied_by used entry outcome ≡ Err (Rule refusal) → outcome ≡ Err refusal
 refused-step used entry (Err other) refusal is = cc
 refused-step used entry (Ok done) refusal is = by_fit (fits used entry) is
   where

@@ -9,3 +9,6 @@ pub mod Adding
 pub mod Still
 pub mod Told
 pub mod Rows
+pub mod Counted
+pub mod Asked
+pub mod Banning

@@ -1,5 +1,6 @@
--- Replies over lists that are written out, by computing: no route, a bad limit, a priority, a cancellation, and a client's id that comes twice.
-use Rattle.std.proofs.Common.{◌≡◌, refl, ℕ, false, Some, None, [], ◌∷◌, ◌++◌, List, Option}
+-- Replies over lists that are written out, by computing: no route, a bad limit, a priority, a cancellation, a client's id that comes twice, and
+-- bans.
+use Rattle.std.proofs.Common.{◌≡◌, refl, ℕ, true, false, Some, None, [], ◌∷◌, ◌++◌, List, Option}
 use Rattle.std.specs.Prelude.{codes, replicate}
 use Rattle.fts_tables.specs.JobData.{JobData}
 use Rattle.fts_tables.specs.History.{tables_of}
@@ -7,7 +8,7 @@ use Rattle.fts_tables.specs.declared.rows.JobKind.TheVariants.{Plain}
 use Rattle.fts_tables.specs.declared.rows.Strategy.TheVariants.{Auto}
 use Rattle.fts_tables.specs.declared.rows.Outcome.TheVariants.{Verified}
 use Rattle.fts_tables.specs.declared.commands.Entry.{Entry}
-use Rattle.fts_tables.specs.declared.commands.Command.TheVariants.{Restart, Submit, CancelJob, SetPriority, Claim, Report}
+use Rattle.fts_tables.specs.declared.commands.Command.TheVariants.{Restart, Submit, CancelJob, SetPriority, Claim, Report, Ban}
 use Rattle.fts_tables.specs.declared.rows.NewFile.{NewFile}
 use Rattle.fts_wire.specs.RequestData.{RequestData}
 use Rattle.fts_wire.specs.declared.response.Allow.TheVariants.{None as NoAllow}
@@ -16,7 +17,8 @@ use Rattle.fts_jobdoc.specs.Documents.{priority_of, priority_rules}
 use Rattle.fts_jobdoc.specs.Fields.{has_wrong_params, lacks_priority, priority_in}
 use Rattle.fts_jobdoc.specs.Json.{field, param}
 use Rattle.fts_keep.specs.Keeps.{used_of}
-use Rattle.fts_routes.specs.Replies.{said_to, said_over, submission}
+use Rattle.fts_jobdoc.specs.declared.ban.BanAsk.{BanAsk}
+use Rattle.fts_routes.specs.Replies.{said_to, said_over, submission, banning, unbanning}
 use Rattle.fts_routes.proofs.Told.{at, new_file, new_job, settings_of, endpoint, weight, by, asks, replies}
 use Rattle.fts_record.specs.Spelling.{spelled, command_bytes, number_bytes, text_bytes, settings_bytes, endpoint_bytes, link_bytes, weight_bytes, job_bytes, file_bytes, outcome_bytes}
 use Rattle.uuid.specs.Text.{by_index}
@@ -101,3 +103,29 @@ unfolding spelled command_bytes number_bytes text_bytes settings_bytes endpoint_
 second-time = refl
 
 -- ---- texts of refusals
+
+-- ---- bans: of a storage at which a file waits, of one that the settings don't list, and the end of one that isn't
+
+abbrev waiting : List Entry
+waiting = restarted ++ by 0 (Submit 1000 (job None (file 0 (codes "s0") (codes "d0") ∷ []))) ∷ []
+
+abbrev of-b : BanAsk
+of-b = record { storage = codes "https://b.example"; cancel = true }
+
+abbrev of-c : BanAsk
+of-c = record { storage = codes "https://c.example"; cancel = true }
+
+one-cancelled : said_to (tables_of waiting) (used_of waiting) 0 (banning (tables_of waiting) 1000 of-b)
+    ≡ replies 200 NoAllow (codes "{\"cancelled\":1,\"storage\":\"https://b.example\"}") (by 0 (Ban 1000 (codes "https://b.example") true) ∷ [])
+unfolding spelled command_bytes number_bytes text_bytes settings_bytes endpoint_bytes link_bytes weight_bytes job_bytes file_bytes outcome_bytes by_index encode_with split raw_pairs utf8_lossy rule_of message_of escape_byte digits percent_decode utf8_valid_len is_utf8 chars encode priority_of priority_rules has_wrong_params lacks_priority priority_in field param value punctuate lex content word after_number number_of scan_numeral
+one-cancelled = refl
+
+no-storage : said_to (tables_of waiting) (used_of waiting) 0 (banning (tables_of waiting) 1000 of-c)
+    ≡ replies 404 NoAllow (codes "{\"message\":\"no storage\",\"rule\":39,\"status\":404}") []
+unfolding spelled command_bytes number_bytes text_bytes settings_bytes endpoint_bytes link_bytes weight_bytes job_bytes file_bytes outcome_bytes by_index encode_with split raw_pairs utf8_lossy rule_of message_of escape_byte digits percent_decode utf8_valid_len is_utf8 chars encode priority_of priority_rules has_wrong_params lacks_priority priority_in field param value punctuate lex content word after_number number_of scan_numeral
+no-storage = refl
+
+not-banned : said_to (tables_of waiting) (used_of waiting) 0 (unbanning 1000 (codes "https://a.example"))
+    ≡ replies 404 NoAllow (codes "{\"message\":\"not banned\",\"rule\":46,\"status\":404}") []
+unfolding spelled command_bytes number_bytes text_bytes settings_bytes endpoint_bytes link_bytes weight_bytes job_bytes file_bytes outcome_bytes by_index encode_with split raw_pairs utf8_lossy rule_of message_of escape_byte digits percent_decode utf8_valid_len is_utf8 chars encode priority_of priority_rules has_wrong_params lacks_priority priority_in field param value punctuate lex content word after_number number_of scan_numeral
+not-banned = refl

@@ -1,11 +1,12 @@
 -- What is made of a plan before a command is applied: the reply, or the command with the reply that shows what it will leave.
-use Rattle.std.specs.Prelude.{◌≡◌, ℕ, ◌+◌, ◌++◌, length, IsTrue, Ok, Err}
+use Rattle.std.specs.Prelude.{◌≡◌, ℕ, ◌+◌, ◌==◌, Bool, not, ◌&&◌, ◌++◌, length, IsTrue, Ok, Err}
 use Rattle.serde_json.specs.Data.{Data}
 use Rattle.fts_tables.specs.Tables.{Tables}
 use Rattle.fts_tables.specs.Step.{Outcomes, step}
 use Rattle.fts_tables.specs.declared.commands.Command.{Command}
+use Rattle.fts_tables.specs.declared.commands.Command.TheVariants.{Restart, Submit, CancelJob, CancelFile, SetPriority, Claim, Report, Ban, Unban, Expire}
 use Rattle.fts_tables.specs.declared.commands.Refusal.{Refusal}
-use Rattle.fts_tables.specs.declared.commands.Refusal.TheVariants.{NoJob, NoFile, Duplicate, JobsFull, RowsFull, Idle, Stale, Unchanged}
+use Rattle.fts_tables.specs.declared.commands.Refusal.TheVariants.{NoJob, NoFile, Duplicate, JobsFull, RowsFull, Idle, Stale, Unchanged, NoStorage, NotBanned}
 use Rattle.fts_record.specs.Proper.{has_priority}
 use Rattle.fts_disk.specs.Disk.{DiskState, IsTold}
 use Rattle.fts_wire.specs.Response.{has_phrase, has_methods}
@@ -17,6 +18,36 @@ use Rattle.fts_routes.specs.Replies.{Plan, Replies, Tries, Said, Way, said_so, C
 use Rattle.fts_routes.specs.declared.planned.Planned.{Planned}
 use Rattle.fts_routes.specs.declared.planned.Planned.TheVariants.{Replies as PlannedReply, Tries as PlannedCommand}
 
+-- a command that a request may ask for
+abbrev pub IsAsked : Command → Type 0
+IsAsked (Submit now job) = Unit {0}
+IsAsked (CancelJob now job) = Unit {0}
+IsAsked (CancelFile now job file) = Unit {0}
+IsAsked (SetPriority now job priority) = Unit {0}
+IsAsked (Ban now storage cancel) = Unit {0}
+IsAsked (Unban now storage) = Unit {0}
+IsAsked (Restart now settings) = ⊥
+IsAsked (Claim now word) = ⊥
+IsAsked (Report now file attempt outcome) = ⊥
+IsAsked (Expire now) = ⊥
+
+-- a refusal that may come of such a command
+abbrev pub IsOfRequests : Refusal → Type 0
+IsOfRequests NoJob = Unit {0}
+IsOfRequests NoFile = Unit {0}
+IsOfRequests (Duplicate job) = Unit {0}
+IsOfRequests (JobsFull jobs) = Unit {0}
+IsOfRequests (RowsFull rows) = Unit {0}
+IsOfRequests (Unchanged job) = Unit {0}
+IsOfRequests NoStorage = Unit {0}
+IsOfRequests NotBanned = Unit {0}
+IsOfRequests Idle = ⊥
+IsOfRequests (Stale state attempt) = ⊥
+
+-- whether a status is neither the one for want of memory nor the one for a failing disk
+abbrev pub is_decided : ℕ → Bool
+is_decided status = not (status == 500) && not (status == 503)
+
 -- the reply shows what a refused command left as it was; of other refusals it says nothing
 abbrev pub ShowsUnchanged : (Tables → Data) → Tables → Reply → Refusal → Type 0
 ShowsUnchanged shown tables reply (Unchanged job) = reply ≡ shows (shown tables)
@@ -25,6 +56,8 @@ ShowsUnchanged shown tables reply NoFile = Unit {0}
 ShowsUnchanged shown tables reply (Duplicate job) = Unit {0}
 ShowsUnchanged shown tables reply (JobsFull jobs) = Unit {0}
 ShowsUnchanged shown tables reply (RowsFull rows) = Unit {0}
+ShowsUnchanged shown tables reply NoStorage = Unit {0}
+ShowsUnchanged shown tables reply NotBanned = Unit {0}
 ShowsUnchanged shown tables reply Idle = Unit {0}
 ShowsUnchanged shown tables reply (Stale state attempt) = Unit {0}
 

@@ -1,6 +1,6 @@
 -- Queries: which states and how many jobs are looked at, and which storage's ban is to end. Of pairs with one name the first counts; other names
 -- are passed over.
-use Rattle.std.specs.Prelude.{ℕ, ◌==◌, ◌&&◌, Bool, if◌then◌else◌, List, [], ◌∷◌, length, take, filter, find, Option, Some, None, option_map, unwrap_or, bytes_eq, codes, Result, Ok, Err}
+use Rattle.std.specs.Prelude.{ℕ, ◌==◌, ◌&&◌, Bool, if◌then◌else◌, List, [], ◌∷◌, length, take, filter, find, Option, Some, None, option_map, option_and_then, unwrap_or, bytes_eq, codes, Result, Ok, Err}
 use Rattle.std.specs.List.{list_all, list_any, slice_split}
 use Rattle.std.specs.Str.Lossy.{utf8_lossy}
 use Rattle.std.specs.Str.Parse.{digits_value}
@@ -9,6 +9,7 @@ use Rattle.fts_tables.specs.Names.{is_digit}
 use Rattle.fts_tables.specs.SettingsData.{is_within}
 use Rattle.fts_tables.specs.Tables.{Tables}
 use Rattle.fts_tables.specs.declared.rows.JobRow.{JobRow}
+use Rattle.fts_jobdoc.specs.Bans.{storage_named}
 use Rattle.fts_routes.specs.Objects.{job_state_text, state_in}
 
 -- the number that 1 to so many decimal digits spell
@@ -68,6 +69,10 @@ both (Ok states) (Ok limit) = Ok (states, limit)
 -- what a query asks for; its states are looked at first
 abbrev pub asked_in : Option (List ℕ) → Result (List (List ℕ) × ℕ) QueryFault
 asked_in query = both (states_in (value_of (codes "state_in") (unwrap_or query []))) (limit_in (value_of (codes "limit") (unwrap_or query [])))
+
+-- the storage that a query names, where it names one: the URL of an endpoint
+abbrev pub storage_asked : Option (List ℕ) → Option (List ℕ)
+storage_asked query = option_and_then storage_named (value_of (codes "storage") (unwrap_or query []))
 
 -- the first so many jobs that are in one of these states
 abbrev pub jobs_asked : Tables → List (List ℕ) → ℕ → List JobRow

@@ -2,16 +2,19 @@
 -- the job, the file, the document's or the query's rules, and then what the machine and the journal refuse.
 use Rattle.std.specs.Prelude.{◌≡◌, ◌≢◌, ◌⊎◌, ℕ, ◌+◌, ◌||◌, Bool, if◌then◌else◌, List, [], ◌∷◌, ◌++◌, length, Option, Some, None, bytes_eq, codes, Result, Ok, Err}
 use Rattle.std.specs.Option.{option_map_or}
-use Rattle.serde_json.specs.Data.{Data}
+use Rattle.serde_json.specs.Data.{Data, string}
 use Rattle.fts_tables.specs.Tables.{Tables, job_at, rows_of_job}
 use Rattle.fts_tables.specs.JobData.{JobData}
 use Rattle.fts_tables.specs.Moves.{job_of_new}
+use Rattle.fts_tables.specs.Step.{Outcomes, step}
 use Rattle.fts_tables.specs.History.{tables_of, tables_from}
+use Rattle.fts_tables.specs.declared.commands.Answer.{Answer}
+use Rattle.fts_tables.specs.declared.commands.Answer.TheVariants.{Restarted, Submitted, Cancelled, PrioritySet, Claimed, Reported, Banned, Unbanned, Expired}
 use Rattle.fts_tables.specs.declared.commands.Entry.{Entry}
 use Rattle.fts_tables.specs.declared.commands.Command.{Command}
-use Rattle.fts_tables.specs.declared.commands.Command.TheVariants.{Submit, CancelJob, CancelFile, SetPriority}
+use Rattle.fts_tables.specs.declared.commands.Command.TheVariants.{Submit, CancelJob, CancelFile, SetPriority, Ban, Unban}
 use Rattle.fts_tables.specs.declared.commands.Refusal.{Refusal}
-use Rattle.fts_tables.specs.declared.commands.Refusal.TheVariants.{NoJob, NoFile, Duplicate, JobsFull, RowsFull, Idle, Stale, Unchanged}
+use Rattle.fts_tables.specs.declared.commands.Refusal.TheVariants.{NoJob, NoFile, Duplicate, JobsFull, RowsFull, Idle, Stale, Unchanged, NoStorage, NotBanned}
 use Rattle.fts_tables.specs.declared.rows.JobRow.{JobRow}
 use Rattle.fts_tables.specs.declared.rows.FileRow.{FileRow}
 use Rattle.fts_tables.specs.Counts.{Rose}
@@ -19,16 +22,20 @@ use Rattle.fts_disk.specs.Disk.{DiskState, IsTold}
 use Rattle.fts_wire.specs.RequestData.{RequestData}
 use Rattle.fts_wire.specs.declared.response.Allow.TheVariants.{Get as AllowGet}
 use Rattle.fts_wire.specs.declared.response.Reply.{Reply}
+use Rattle.fts_jobdoc.specs.Bans.{ban_of}
 use Rattle.fts_jobdoc.specs.Documents.{job_of, priority_of}
+use Rattle.fts_jobdoc.specs.declared.ban.BanAsk.{BanAsk}
+use Rattle.fts_jobdoc.specs.declared.ban.BanFault.{BanFault}
+use Rattle.fts_jobdoc.specs.declared.ban.BanFault.TheVariants.{BadStorage}
 use Rattle.fts_jobdoc.specs.declared.fault.DocFault.{DocFault}
 use Rattle.fts_keep.specs.Keeps.{KeepData, used_of, used_after}
 use Rattle.fts_keep.specs.Applied.{Applies, applied_to, entry_by}
 use Rattle.fts_keep.specs.declared.fault.KeepFault.TheVariants.{Rule, DiskFailed, JournalFull, Damaged, Memory}
 use Rattle.fts_routes.specs.Json.{array_of}
-use Rattle.fts_routes.specs.Objects.{settings_in, job_object, file_object, link_object, endpoint_object, weight_object, job_shown, file_shown, accepted_object}
-use Rattle.fts_routes.specs.Routes.{Route, Jobs, Job, Files, File, Links, Endpoints, Shares, route_of, allow_of, job_named, file_named}
-use Rattle.fts_routes.specs.Queries.{QueryFault, asked_in, jobs_asked}
-use Rattle.fts_routes.specs.Refusals.{shows, bad_document, bad_query, no_route, no_job, no_file, no_method, duplicate, disk_failed, rows_full, jobs_full, journal_full, no_memory}
+use Rattle.fts_routes.specs.Objects.{settings_in, job_object, file_object, link_object, endpoint_object, weight_object, job_shown, file_shown, accepted_object, ban_object, unban_object}
+use Rattle.fts_routes.specs.Routes.{Route, Jobs, Job, Files, File, Links, Endpoints, Shares, Bans, route_of, allow_of, job_named, file_named}
+use Rattle.fts_routes.specs.Queries.{QueryFault, asked_in, jobs_asked, storage_asked}
+use Rattle.fts_routes.specs.Refusals.{shows, bad_document, bad_ban, bad_query, no_route, no_job, no_file, no_storage, not_banned, no_method, duplicate, disk_failed, rows_full, jobs_full, journal_full, no_memory}
 
 -- what a request comes to before any command is tried
 pub data Plan : Type 0 where
@@ -50,6 +57,16 @@ if_file (Some row) plan = plan row
 abbrev pub if_read : {T : Type 0} → Result T DocFault → (T → Plan) → Plan
 if_read (Err fault) plan = Replies (bad_document fault)
 if_read (Ok value) plan = plan value
+
+-- a plan by the ban that was read of a document
+abbrev pub if_ban : Result BanAsk BanFault → (BanAsk → Plan) → Plan
+if_ban (Err fault) plan = Replies (bad_ban fault)
+if_ban (Ok asked) plan = plan asked
+
+-- a plan for the storage that a query names
+abbrev pub if_storage : Option (List ℕ) → (List ℕ → Plan) → Plan
+if_storage None plan = Replies (bad_ban BadStorage)
+if_storage (Some storage) plan = plan storage
 
 -- the jobs that a query asks for
 abbrev pub jobs_plan : Tables → Result (List (List ℕ) × ℕ) QueryFault → Plan
@@ -123,6 +140,40 @@ abbrev pub look_at_settings : {A : Type 0} → RequestData → (A → Data) → 
 look_at_settings request shown items =
     if has_method request (codes "GET") then Replies (shows (array_of shown items)) else Replies (no_method AllowGet)
 
+-- how many files an answer says became CANCELED
+abbrev pub cancelled_of : Answer → ℕ
+cancelled_of (Banned cancelled) = cancelled
+cancelled_of (Expired cancelled) = cancelled
+cancelled_of Unbanned = 0
+cancelled_of (Restarted released) = 0
+cancelled_of (Submitted job id) = 0
+cancelled_of (Cancelled job) = 0
+cancelled_of (PrioritySet job) = 0
+cancelled_of (Claimed file attempt) = 0
+cancelled_of (Reported file state) = 0
+
+-- the same of what comes of a command; a refusal cancels nothing
+abbrev pub cancelled_in : Outcomes → ℕ
+cancelled_in (Ok done) = cancelled_of done.1
+cancelled_in (Err refusal) = 0
+
+-- a ban, and how many files the machine answers that it cancels
+abbrev pub banning : Tables → ℕ → BanAsk → Plan
+banning tables now asked =
+    Tries (Ban now asked.storage asked.cancel) (λ after. ban_object asked.storage (cancelled_in (step tables (Ban now asked.storage asked.cancel))))
+
+-- the end of a ban
+abbrev pub unbanning : ℕ → List ℕ → Plan
+unbanning now storage = Tries (Unban now storage) (λ after. unban_object storage)
+
+-- /ban/se: a look at the banned storages, a ban, or the end of one
+abbrev pub plan_on_bans : Tables → ℕ → RequestData → Plan
+plan_on_bans tables now request =
+    if has_method request (codes "GET") then Replies (shows (array_of string tables.banned))
+    else if has_method request (codes "POST") then if_ban (ban_of request.body) (banning tables now)
+    else if has_method request (codes "DELETE") then if_storage (storage_asked request.query) (unbanning now)
+    else Replies (no_method (allow_of Bans))
+
 -- the plan of a request, by its route
 abbrev pub plan_on : Tables → ℕ → RequestData → Route → Plan
 plan_on tables now request Jobs = plan_on_jobs tables now request
@@ -132,6 +183,7 @@ plan_on tables now request (File id file) = plan_on_file tables now request id f
 plan_on tables now request Links = look_at_settings request link_object (settings_in tables).links
 plan_on tables now request Endpoints = look_at_settings request endpoint_object (settings_in tables).endpoints
 plan_on tables now request Shares = look_at_settings request weight_object (settings_in tables).weights
+plan_on tables now request Bans = plan_on_bans tables now request
 
 -- the plan of a request
 abbrev pub plan_of : Tables → ℕ → RequestData → Plan
@@ -158,7 +210,9 @@ reply_to_refusal tables shown (Duplicate job) = duplicate (id_of_job tables job)
 reply_to_refusal tables shown (JobsFull jobs) = jobs_full
 reply_to_refusal tables shown (RowsFull rows) = rows_full
 reply_to_refusal tables shown (Unchanged job) = shows (shown tables)
--- these two come of claims and reports alone
+reply_to_refusal tables shown NoStorage = no_storage
+reply_to_refusal tables shown NotBanned = not_banned
+-- no command of a request is refused so: these two come of claims, reports and expiries alone (`IsOfRequests`, `is_decided`)
 reply_to_refusal tables shown Idle = no_memory
 reply_to_refusal tables shown (Stale state attempt) = no_memory
 

@@ -11,15 +11,15 @@ ghost use Rattle.fts_wire.specs.Answered.{request_data};
 ghost use Rattle.fts_wire.specs.Response.{has_phrase, has_methods};
 ghost use Rattle.fts_tables.specs.Step.{step};
 ghost use Rattle.fts_routes.specs.Replies.{Answers, DoubtHasCause, Tries, said_to};
-ghost use Rattle.fts_routes.specs.Planned.{Comes, ShowsOutcome, ShowsUnchanged};
-ghost use Rattle.fts_routes.specs.Replies.{reply_to_refusal, id_of_job};
+ghost use Rattle.fts_routes.specs.Planned.{Comes, IsAsked, IsOfRequests, is_decided, ShowsOutcome, ShowsUnchanged};
+ghost use Rattle.fts_routes.specs.Replies.{reply_to_refusal, id_of_job, said};
 
 use crate::named::job_of_number;
 use crate::plan::plan;
 use crate::planned::Planned;
 use crate::replies::{
-    disk_failed, duplicate, jobs_full, journal_full, no_file, no_job, no_memory, or_no_memory,
-    rows_full,
+    disk_failed, duplicate, jobs_full, journal_full, no_file, no_job, no_memory, no_storage,
+    not_banned, or_no_memory, rows_full,
 };
 use fts_desk::Desk;
 use fts_disk::Disk;
@@ -44,6 +44,8 @@ pub fn answer<D: Disk>(
     ensures doubt { DoubtHasCause D.state D.faults keep.old keep.new }
     ensures phrase { IsTrue (has_phrase result.status) }
     ensures methods { IsTrue (has_methods result.status result.allow) }
+    // What is said as it is defined is never 500 or 503: these two have their causes outside of the tables.
+    ensures decided { IsTrue (is_decided (said keep.old.tables keep.old.used writer (request_data request.now) now).reply.status) }
 {
     match plan(alloc, keep.desk(), request, now) {
         Ok(Planned::Replies { reply }) => reply,
@@ -61,6 +63,7 @@ fn try_command<D: Disk>(
     reply: Reply,
 ) -> Reply
     requires priority { IsTrue (has_priority command) }
+    requires asked { IsAsked command }
     ensures comes { (shown : Tables → Data) → ShowsOutcome shown keep.old.tables reply (step keep.old.tables command)
         → Comes D.state D.faults keep.old keep.new (said_to keep.old.tables keep.old.used writer (Tries command shown)) result }
     ensures grows { Grows D.state D.faults writer keep.old keep.new }
@@ -82,6 +85,7 @@ fn try_command<D: Disk>(
 
 /// The reply to a command that the machine refuses; `unchanged` is that to one that would change nothing.
 fn refused(alloc: Global, desk: &Desk, refusal: Refusal, unchanged: Reply) -> Result<Reply, Memory>
+    requires { IsOfRequests refusal }
     ensures { IfOk result (λ reply. (shown : Tables → Data) → ShowsUnchanged shown desk.now.tables unchanged refusal
         → reply ≡ reply_to_refusal desk.now.tables shown refusal) }
 {
@@ -92,8 +96,10 @@ fn refused(alloc: Global, desk: &Desk, refusal: Refusal, unchanged: Reply) -> Re
         Refusal::JobsFull { .. } => jobs_full(alloc),
         Refusal::RowsFull { .. } => rows_full(alloc),
         Refusal::Unchanged { .. } => Ok(unchanged),
-        // Claims and reports alone are refused so.
-        Refusal::Idle | Refusal::Stale { .. } => Err(Memory),
+        Refusal::NoStorage => no_storage(alloc),
+        Refusal::NotBanned => not_banned(alloc),
+        // Claims, reports and expiries alone are refused so.
+        Refusal::Idle | Refusal::Stale { .. } => unreachable!(),
     }
 }
 

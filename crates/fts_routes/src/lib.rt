@@ -6,7 +6,9 @@
 #![tactic(auto)]
 
 mod answers;
+mod bans;
 mod changes;
+mod counts;
 mod looks;
 mod named;
 mod objects;

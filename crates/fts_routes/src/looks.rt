@@ -13,7 +13,7 @@ ghost use Rattle.fts_routes.specs.Refusals.{shows};
 ghost use Rattle.fts_routes.specs.Found.{states_asked, shown_if_asked};
 ghost use Rattle.fts_routes.specs.Replies.{Replies, jobs_plan};
 
-use crate::named::{settings_of, standing, state_of};
+use crate::named::{settings_of, state_of};
 use crate::objects::{Shown, array_value, job_value};
 use crate::queries::{are_known, bytes_of, first_value, is_asked, limit_of};
 use crate::replies::{bad_limit, bad_states, shows};
@@ -114,7 +114,7 @@ fn value_of_jobs(
     ensures { IfOk result (λ value. view value ≡ array_of (job_object desk.now.tables)
         (jobs_asked desk.now.tables (states_asked (option_map cow_str_bytes states.now)) limit)) }
 {
-    standing(desk);
+    desk.standing();
     let mut list = Vec::new(alloc);
     for job in desk.jobs() {
         if list.as_slice().len() as u64 >= limit {

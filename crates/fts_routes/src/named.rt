@@ -1,9 +1,8 @@
-//! The job and the file that a path names, by the desk's own look-ups: an id is found by the desk, a number is a place plus 1.
-//! That a number is a place plus 1 rests on the form of the tables (`IsStanding`).
+//! The job and the file that a path names, by the desk's own look-ups.
+//! That what is found by a number has that number rests on the form of the tables (`IsStanding`).
 //! Called by `answers`.
 ghost use Rattle.std.specs.Prelude.{◌≡◌, Some, IfSome, IsSome, option_map};
 ghost use Rattle.fts_tables.specs.Tables.{job_at, row_at};
-ghost use Rattle.fts_tables.specs.Laws.{IsStanding};
 ghost use Rattle.fts_routes.specs.Routes.{id_in, job_named, file_named};
 ghost use Rattle.fts_routes.specs.Objects.{settings_in, state_in};
 
@@ -11,13 +10,6 @@ use crate::queries::number_in;
 use fts_desk::Desk;
 use fts_tables::{FileRow, JobRow, JobState, Settings};
 use uuid::Uuid;
-
-/// A law: the tables of a desk have the machine's form.
-pub fn standing(desk: &Desk)
-    ensures { IsStanding desk.now.tables }
-{
-    let _commands = desk.commands();
-}
 
 /// The id that a text of 36 bytes spells (RFC 9562).
 fn id_in(text: &str) -> Option<u128>
@@ -37,7 +29,7 @@ pub fn job_named(desk: &Desk, text: &str) -> Option<JobRow>
     ensures job { result ≡ job_named desk.now.tables text.now }
     ensures number { IfSome result (λ job. job_at desk.now.tables.jobs job.number ≡ Some job) }
 {
-    standing(desk);
+    desk.standing();
     let number = desk.find(id_in(text)?)?;
     job_of_number(desk, number)
 }
@@ -47,11 +39,8 @@ pub fn job_of_number(desk: &Desk, number: u32) -> Option<JobRow>
     ensures job { result ≡ job_at desk.now.tables.jobs number }
     ensures again { IfSome result (λ job. job_at desk.now.tables.jobs job.number ≡ Some job) }
 {
-    standing(desk);
-    if number == 0 {
-        return None;
-    }
-    desk.jobs().get(number as usize - 1).copied()
+    desk.standing();
+    desk.job(number).copied()
 }
 
 /// The file of a job that a text names. It stands under its id.
@@ -74,11 +63,11 @@ fn row_of_number(desk: &Desk, id: u64) -> Option<&FileRow>
     ensures row { option_map (λ row. row.now) result ≡ row_at desk.now.tables.rows id }
     ensures again { IfSome result (λ row. row_at desk.now.tables.rows row.now.id ≡ Some row.now) }
 {
-    standing(desk);
-    if id == 0 {
+    desk.standing();
+    if id > desk.rows().len() as u64 {
         return None;
     }
-    desk.rows().get(id as usize - 1)
+    desk.row(id as u32)
 }
 
 /// The state of a job, which stands under its number.

@@ -10,7 +10,7 @@ ghost use Rattle.fts_tables.specs.Step.{with_priority};
 ghost use Rattle.fts_states.specs.Afters.{with_cancel};
 ghost use Rattle.fts_routes.specs.Json.{array_of, body_of, whole_number};
 ghost use Rattle.fts_routes.specs.Values.{file_with_texts};
-ghost use Rattle.fts_routes.specs.Objects.{job_in_state, file_object, link_object, endpoint_object, weight_object, accepted_object};
+ghost use Rattle.fts_routes.specs.Objects.{job_in_state, file_object, link_object, endpoint_object, weight_object, accepted_object, ban_object, unban_object};
 
 use crate::texts::{
     checksum_text, file_state_text, id_text, job_state_text, kind_text, reason_text,
@@ -18,7 +18,8 @@ use crate::texts::{
 };
 use fts_states::CancelStep;
 use fts_tables::{
-    Endpoint, FileRow, FileState, Items, JobRow, JobState, LinkRule, Memory, Reason, Weight,
+    Endpoint, EndpointName, FileRow, FileState, Items, JobRow, JobState, LinkRule, Memory, Reason,
+    Weight,
 };
 use serde_json::{Map, Value, json};
 use std::alloc::Global;
@@ -38,6 +39,22 @@ pub fn accepted_value(alloc: Global, id: u128) -> Result<Value, Memory>
 {
     let id = id_text(alloc, id)?;
     let value = json!(in alloc; {"job_id": &id})?;
+    Ok(value)
+}
+
+/// A ban of a storage, and how many files it cancels.
+pub fn ban_value(alloc: Global, storage: &str, cancelled: u32) -> Result<Value, Memory>
+    ensures { IfOk result (λ value. view value ≡ ban_object storage.now cancelled) }
+{
+    let value = json!(in alloc; {"cancelled": cancelled, "storage": storage})?;
+    Ok(value)
+}
+
+/// The end of a ban of a storage.
+pub fn unban_value(alloc: Global, storage: &str) -> Result<Value, Memory>
+    ensures { IfOk result (λ value. view value ≡ unban_object storage.now) }
+{
+    let value = json!(in alloc; {"storage": storage})?;
     Ok(value)
 }
 
@@ -234,6 +251,17 @@ impl Shown for Weight {
 
     fn value(&self, alloc: Global) -> Result<Value, Memory> {
         let value = json!(in alloc; {"activity": self.name.as_str(), "weight": self.weight})?;
+        Ok(value)
+    }
+}
+
+impl Shown for EndpointName {
+    ghost shown = { string };
+
+    ghost no_float = { λ _. refl };
+
+    fn value(&self, alloc: Global) -> Result<Value, Memory> {
+        let value = json!(in alloc; self.as_str())?;
         Ok(value)
     }
 }

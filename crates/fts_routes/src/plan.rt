@@ -8,18 +8,19 @@ ghost use Rattle.fts_wire.specs.Answered.{request_data};
 ghost use Rattle.fts_routes.specs.Objects.{settings_in};
 ghost use Rattle.fts_routes.specs.Routes.{job_named, file_named};
 ghost use Rattle.fts_routes.specs.Found.{route_data};
-ghost use Rattle.fts_routes.specs.Refusals.{bad_document, no_job, no_method};
+ghost use Rattle.fts_routes.specs.Refusals.{bad_document, no_job};
 ghost use Rattle.fts_routes.specs.Replies.{plan_of, plan_on, plan_on_jobs, plan_on_job, plan_on_files, plan_on_file, look_at_settings};
 ghost use Rattle.fts_routes.specs.Replies.{look_at_job, look_at_files, submission, cancellation, prioritization, file_cancellation, if_read, if_job, if_file};
 ghost use Rattle.fts_routes.specs.Planned.{IsPlanned};
 ghost use Rattle.fts_routes.specs.declared.planned.Planned.TheVariants.{Replies as PlannedReply};
 
+use crate::bans::plan_on_bans;
 use crate::changes::{plan_cancellation, plan_file_cancellation, plan_priority, plan_submission};
 use crate::looks::{look_at_job, look_at_jobs, look_at_list};
 use crate::named::{file_named, job_named, settings_of};
 use crate::objects::Shown;
-use crate::planned::Planned;
-use crate::replies::{bad_document, no_file, no_job, no_method, no_route};
+use crate::planned::{Planned, refuse_method};
+use crate::replies::{bad_document, no_file, no_job, no_route};
 use crate::routes::{Route, find_route};
 use fts_desk::Desk;
 use fts_jobdoc::{DocFault, read_job, read_priority};
@@ -60,6 +61,7 @@ fn plan_on(
         Route::Links => plan_on_list(alloc, request, settings_of(desk).links.as_slice()),
         Route::Endpoints => { plan_on_list(alloc, request, settings_of(desk).endpoints.as_slice()) }
         Route::Shares => plan_on_list(alloc, request, settings_of(desk).weights.as_slice()),
+        Route::Bans => plan_on_bans(alloc, desk, request, now),
     }
 }
 
@@ -269,14 +271,6 @@ fn plan_on_list<T: Shown>(
         }
         _ => refuse_method(alloc, Allow::Get),
     }
-}
-
-/// The route has no such method, but these.
-fn refuse_method(alloc: Global, allow: Allow) -> Result<Planned, Memory>
-    ensures { IfOk result (λ planned. planned ≡ PlannedReply (no_method allow)) }
-{
-    let reply = no_method(alloc, allow)?;
-    Ok(Planned::Replies { reply })
 }
 
 /// No job has the id.

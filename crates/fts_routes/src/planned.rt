@@ -1,7 +1,13 @@
 //! What a request is planned to come to: its reply, or a command and the reply for where the machine takes it.
-//! Called by `looks`, `changes` and `answer`.
-use fts_tables::Command;
-use fts_wire::Reply;
+//! Called by `plan`, `bans`, `changes` and `answers`.
+ghost use Rattle.std.specs.Prelude.{◌≡◌, IfOk};
+ghost use Rattle.fts_routes.specs.Refusals.{no_method};
+ghost use Rattle.fts_routes.specs.declared.planned.Planned.TheVariants.{Replies as PlannedReply};
+
+use crate::replies::no_method;
+use fts_tables::{Command, Memory};
+use fts_wire::{Allow, Reply};
+use std::alloc::Global;
 
 /// What a request comes to before any command is applied.
 #[derive(Drop)]
@@ -10,4 +16,12 @@ pub enum Planned {
     Replies { reply: Reply },
     /// A command, and the reply that shows what it leaves, or what it doesn't change.
     Tries { command: Command, reply: Reply },
+}
+
+/// The route has no such method, but these.
+pub fn refuse_method(alloc: Global, allow: Allow) -> Result<Planned, Memory>
+    ensures { IfOk result (λ planned. planned ≡ PlannedReply (no_method allow)) }
+{
+    let reply = no_method(alloc, allow)?;
+    Ok(Planned::Replies { reply })
 }

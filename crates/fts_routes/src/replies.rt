@@ -5,13 +5,13 @@ ghost use Rattle.std.specs.Prelude.{◌≡◌, IfOk, IfErr, false};
 ghost use Rattle.serde_json.specs.View.{view};
 ghost use Rattle.serde_json.specs.Written.{has_float};
 ghost use Rattle.fts_routes.specs.Json.{object_of};
-ghost use Rattle.fts_routes.specs.Refusals.{refusal_members, refusal_of, reply_of, shows, bad_document, bad_query, no_route, no_job, no_file};
+ghost use Rattle.fts_routes.specs.Refusals.{refusal_members, refusal_of, reply_of, shows, bad_document, bad_ban, bad_query, no_route, no_job, no_file, no_storage, not_banned};
 ghost use Rattle.fts_routes.specs.Refusals.{no_method, duplicate, disk_failed, rows_full, jobs_full, journal_full, no_memory, duplicate_members, IsOrNoMemory};
 ghost use Rattle.fts_routes.specs.Queries.{BadStates as TheBadStates, BadLimit as TheBadLimit};
 
 use crate::objects::body_of;
 use crate::texts::id_text;
-use fts_jobdoc::DocFault;
+use fts_jobdoc::{BanFault, DocFault};
 use fts_tables::{Items, Memory};
 use fts_wire::{Allow, Reply, statuses};
 use serde_json::{Value, json};
@@ -49,6 +49,12 @@ const JOBS_FULL: u32 = 37;
 
 /// The rule that the journal may have so many bytes.
 const JOURNAL_FULL: u32 = 38;
+
+/// The rule that the settings list the storage.
+const NO_STORAGE: u32 = 39;
+
+/// The rule that the storage is banned.
+const NOT_BANNED: u32 = 46;
 
 /// The reply where there is no memory for another one. It takes none.
 pub fn no_memory(alloc: Global) -> Reply
@@ -122,6 +128,13 @@ pub fn bad_document(alloc: Global, fault: DocFault) -> Result<Reply, Memory>
     refusal(alloc, fault.message(), fault.rule(), statuses::BAD_REQUEST)
 }
 
+/// The document of a ban breaks a rule, or the query of the end of one names no storage.
+pub fn bad_ban(alloc: Global, fault: BanFault) -> Result<Reply, Memory>
+    ensures { IfOk result (λ reply. reply ≡ bad_ban fault) }
+{
+    refusal(alloc, fault.message(), fault.rule(), statuses::BAD_REQUEST)
+}
+
 /// The query names a state that jobs don't have.
 pub fn bad_states(alloc: Global) -> Result<Reply, Memory>
     ensures { IfOk result (λ reply. reply ≡ bad_query TheBadStates) }
@@ -155,6 +168,20 @@ pub fn no_file(alloc: Global) -> Result<Reply, Memory>
     ensures { IfOk result (λ reply. reply ≡ no_file) }
 {
     refusal(alloc, "no file", NO_FILE, statuses::NOT_FOUND)
+}
+
+/// The settings don't list the storage.
+pub fn no_storage(alloc: Global) -> Result<Reply, Memory>
+    ensures { IfOk result (λ reply. reply ≡ no_storage) }
+{
+    refusal(alloc, "no storage", NO_STORAGE, statuses::NOT_FOUND)
+}
+
+/// The storage isn't banned.
+pub fn not_banned(alloc: Global) -> Result<Reply, Memory>
+    ensures { IfOk result (λ reply. reply ≡ not_banned) }
+{
+    refusal(alloc, "not banned", NOT_BANNED, statuses::NOT_FOUND)
 }
 
 /// The route has no such method, but these.

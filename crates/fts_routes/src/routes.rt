@@ -3,7 +3,7 @@
 //! Called by `answers`.
 ghost use Rattle.std.specs.Prelude.{◌≡◌, [], ◌∷◌, false, bytes_eq, option_map};
 ghost use Rattle.fts_tables.specs.Names.{segments};
-ghost use Rattle.fts_routes.specs.Routes.{route_of, route_of_names, route_of_jobs, route_of_job, route_of_files, route_of_config};
+ghost use Rattle.fts_routes.specs.Routes.{route_of, route_of_names, route_of_jobs, route_of_job, route_of_files, route_of_config, route_of_ban};
 ghost use Rattle.fts_routes.specs.Found.{route_data, names_behind};
 
 /// Where a path leads, with the texts at its names.
@@ -16,6 +16,7 @@ pub enum Route<'a> {
     Links,
     Endpoints,
     Shares,
+    Bans,
 }
 
 /// Where a path leads. `None` exactly where it has no route.
@@ -47,6 +48,7 @@ fn find_among_names(names: &str) -> Option<Route<'_>>
     match word {
         "jobs" => find_behind_jobs(rest),
         "config" => find_behind_config(rest),
+        "ban" => find_behind_ban(rest),
         _ => None,
     }
 }
@@ -126,6 +128,27 @@ fn find_settings(word: &str) -> Option<Route<'_>>
         "links" => Some(Route::Links),
         "se" => Some(Route::Endpoints),
         "activity_shares" => Some(Route::Shares),
+        _ => None,
+    }
+}
+
+/// Behind /ban.
+fn find_behind_ban(rest: Option<&str>) -> Option<Route<'_>>
+    ensures { option_map route_data result ≡ route_of_ban (names_behind rest.entry) }
+{
+    let (word, rest) = cut(rest?);
+    match rest {
+        Some(_) => None,
+        None => find_bans(word),
+    }
+}
+
+/// The bans, where a word names them.
+fn find_bans(word: &str) -> Option<Route<'_>>
+    ensures { option_map route_data result ≡ route_of_ban (word.now ∷ []) }
+{
+    match word {
+        "se" => Some(Route::Bans),
         _ => None,
     }
 }

@@ -119,6 +119,7 @@ pub fn reason_text(alloc: Global, reason: Reason) -> Result<String, Memory>
     match reason {
         Reason::None => Ok(String::new(alloc)),
         Reason::Cancelled => literal(alloc, "cancelled"),
+        Reason::Expired => literal(alloc, "expired"),
         Reason::Ended(outcome) => outcome_text(alloc, outcome),
     }
 }

@@ -22,7 +22,7 @@ pub fn send_tables<K: Sink>(output: &mut K, desk: &Desk) -> Result<(), SinkFaile
     ensures cause { CountsFaults (K.faults output.old) (K.faults output.new) result }
 {
     // Jobs are numbered in their order.
-    desk.commands();
+    desk.standing();
     let jobs = desk.jobs();
     'jobs: for job in jobs {
         match send_job(output, desk, job) {

@@ -4,10 +4,10 @@
 ghost use Rattle.std.specs.Prelude.{◌≡◌, ◌∷◌, [], ◌++◌, IfOk, OnOk};
 
 use crate::jobdoc_cases::{
-    ABC, BODIES, BodyCase, EXAMPLES, FIELDS, KINDS, MULTIHOP, PARAMETERS, PRIORITIES, PairCase,
-    URLS, WITH_CHECKSUM,
+    ABC, BANS, BODIES, BodyCase, EXAMPLES, FIELDS, HOURS, KINDS, MULTIHOP, PARAMETERS, PRIORITIES,
+    PairCase, URLS, WITH_CHECKSUM,
 };
-use fts_jobdoc::{read_job, read_priority, sid_id};
+use fts_jobdoc::{read_ban, read_job, read_priority, read_storage, sid_id};
 use fts_tables::{
     Endpoint, EndpointName, Items, Label, Memory, NewFile, NewJob, Place, Settings, Weight,
 };
@@ -376,4 +376,58 @@ fn a_priority_is_read(rt: HostRuntime) {
         let is_read = priority(rt.alloc(), body) == want;
         assert!(rt; is_read, "{case}");
     }
+}
+
+/// The hours that the job of a document has which gives them so.
+fn hours(alloc: Global, given: &str) -> Result<u32, Fail> {
+    let keys = format!(in alloc; ",\"params\":{{\"max_time_in_queue\":{given}}}")?;
+    let body = document(alloc, "", keys.as_str())?;
+    Ok(job_of(alloc, body.as_str())?.queue_hours)
+}
+
+#[test]
+fn hours_in_the_queue_are_read(rt: HostRuntime) -> Result<(), Fail> {
+    for (case, given, want) in HOURS {
+        let is_read = hours(rt.alloc(), given)? == want;
+        assert!(rt; is_read, "{case}");
+    }
+    Ok(())
+}
+
+/// Whether a body asks for this ban, or is refused by this rule with this message.
+fn is_ban(alloc: Global, body: &str, asked: (&str, bool), refused: (u32, &str)) -> bool {
+    match read_ban(alloc, body.as_bytes()) {
+        Ok(ban) => { refused.0 == 0 && ban.storage.as_str() == asked.0 && ban.cancel == asked.1 }
+        Err(fault) => fault.rule() == refused.0 && fault.message() == refused.1,
+    }
+}
+
+#[test]
+fn a_ban_is_read(rt: HostRuntime) {
+    for (case, body, asked, refused) in BANS {
+        let is_read = is_ban(rt.alloc(), body, asked, refused);
+        assert!(rt; is_read, "{case}");
+    }
+}
+
+/// Whether a text names this storage; an empty one is none.
+fn is_storage(alloc: Global, text: &str, want: &str) -> Result<bool, Memory> {
+    match read_storage(alloc, text)? {
+        Some(storage) => Ok(storage.as_str() == want),
+        None => Ok(want.is_empty()),
+    }
+}
+
+#[test]
+fn a_storage_is_read(rt: HostRuntime) -> Result<(), Fail> {
+    for (case, text, want) in [
+        ("a storage", "https://b.example", "https://b.example"),
+        ("with a slash", "https://b.example/", "https://b.example"),
+        ("with a path", "https://b.example/f", ""),
+        ("an empty text", "", ""),
+    ] {
+        let is_read = is_storage(rt.alloc(), text, want)?;
+        assert!(rt; is_read, "{case}");
+    }
+    Ok(())
 }

@@ -274,7 +274,7 @@ pub const FIELDS: [PairCase; 19] = [
 ];
 
 /// The same, for parameters.
-pub const PARAMETERS: [PairCase; 22] = [
+pub const PARAMETERS: [PairCase; 31] = [
     (
         "no object",
         "",
@@ -383,16 +383,9 @@ pub const PARAMETERS: [PairCase; 22] = [
         "not offered: archive_timeout",
     ),
     (
-        "max_time_in_queue",
-        "",
-        ",\"params\":{\"max_time_in_queue\":1}",
-        21,
-        "not offered: max_time_in_queue",
-    ),
-    (
         "none of them",
         "",
-        ",\"params\":{\"reuse\":false,\"bring_online\":0,\"copy_pin_lifetime\":-1,\"archive_timeout\":null,\"max_time_in_queue\":\"1\"}",
+        ",\"params\":{\"reuse\":false,\"bring_online\":0,\"copy_pin_lifetime\":-1,\"archive_timeout\":\"1\"}",
         0,
         "",
     ),
@@ -416,6 +409,202 @@ pub const PARAMETERS: [PairCase; 22] = [
         ",\"params\":{\"id_generator\":\"standard\",\"sid\":3}",
         0,
         "",
+    ),
+    (
+        "archive_timeout, and more hours in the queue than a year has",
+        "",
+        ",\"params\":{\"archive_timeout\":1,\"max_time_in_queue\":8761}",
+        21,
+        "not offered: archive_timeout",
+    ),
+    (
+        "no sid, and more hours in the queue than a year has",
+        "",
+        ",\"params\":{\"id_generator\":\"deterministic\",\"max_time_in_queue\":8761}",
+        24,
+        "bad sid",
+    ),
+    (
+        "more hours in the queue than a year has",
+        "",
+        ",\"params\":{\"max_time_in_queue\":8761}",
+        29,
+        "bad max_time_in_queue",
+    ),
+    (
+        "-2 hours in the queue",
+        "",
+        ",\"params\":{\"max_time_in_queue\":-2}",
+        29,
+        "bad max_time_in_queue",
+    ),
+    (
+        "half an hour in the queue",
+        "",
+        ",\"params\":{\"max_time_in_queue\":0.5}",
+        29,
+        "bad max_time_in_queue",
+    ),
+    (
+        "a text for the hours in the queue",
+        "",
+        ",\"params\":{\"max_time_in_queue\":\"1\"}",
+        29,
+        "bad max_time_in_queue",
+    ),
+    (
+        "a time in the queue with its unit",
+        "",
+        ",\"params\":{\"max_time_in_queue\":\"10s\"}",
+        29,
+        "bad max_time_in_queue",
+    ),
+    (
+        "as many hours in the queue as a year has",
+        "",
+        ",\"params\":{\"max_time_in_queue\":8760}",
+        0,
+        "",
+    ),
+    (
+        "0 hours in the queue",
+        "",
+        ",\"params\":{\"max_time_in_queue\":0}",
+        0,
+        "",
+    ),
+    (
+        "no hours in the queue, by null",
+        "",
+        ",\"params\":{\"max_time_in_queue\":null}",
+        0,
+        "",
+    ),
+];
+
+/// A sentence, the hours in the queue as a document gives them, and those that the job has: 0 is no limit.
+pub const HOURS: [(&str, &str, u32); 6] = [
+    ("an hour", "1", 1),
+    ("a year", "8760", 8_760),
+    ("none", "0", 0),
+    ("none, by -1", "-1", 0),
+    ("none, by null", "null", 0),
+    (
+        "a number given twice, of which the last counts",
+        "1,\"max_time_in_queue\":2",
+        2,
+    ),
+];
+
+/// A sentence, a body, and the storage and whether its files are cancelled, or the rule and message of the refusal.
+pub type BanCase = (
+    &'static str,
+    &'static str,
+    (&'static str, bool),
+    (u32, &'static str),
+);
+
+/// Bodies of bans.
+pub const BANS: [BanCase; 20] = [
+    (
+        "a storage alone: its files are cancelled",
+        "{\"storage\":\"https://b.example\"}",
+        ("https://b.example", true),
+        (0, ""),
+    ),
+    (
+        "files that wait",
+        "{\"status\":\"wait\",\"storage\":\"https://b.example\"}",
+        ("https://b.example", false),
+        (0, ""),
+    ),
+    (
+        "files that are cancelled",
+        "{\"status\":\"cancel\",\"storage\":\"https://b.example\"}",
+        ("https://b.example", true),
+        (0, ""),
+    ),
+    (
+        "null is no status",
+        "{\"status\":null,\"storage\":\"https://b.example\"}",
+        ("https://b.example", true),
+        (0, ""),
+    ),
+    (
+        "fields that are passed over",
+        "{\"allow_submit\":true,\"message\":\"power\",\"storage\":\"https://b.example\",\"timeout\":60}",
+        ("https://b.example", true),
+        (0, ""),
+    ),
+    (
+        "capitals, the scheme's own port and a slash",
+        "{\"storage\":\"HTTPS://B.EXAMPLE:443/\"}",
+        ("https://b.example", true),
+        (0, ""),
+    ),
+    (
+        "a storage that no settings list",
+        "{\"storage\":\"root://z.example:1094\"}",
+        ("root://z.example:1094", true),
+        (0, ""),
+    ),
+    ("no JSON", "{", ("", false), (1, "not JSON")),
+    ("nothing", "", ("", false), (1, "not JSON")),
+    ("a list", "[]", ("", false), (2, "not an object")),
+    ("no storage", "{}", ("", false), (27, "bad storage")),
+    (
+        "null is no storage",
+        "{\"storage\":null}",
+        ("", false),
+        (27, "bad storage"),
+    ),
+    (
+        "a number for the storage",
+        "{\"storage\":1}",
+        ("", false),
+        (27, "bad storage"),
+    ),
+    (
+        "a storage that is no URL",
+        "{\"storage\":\"b.example\"}",
+        ("", false),
+        (27, "bad storage"),
+    ),
+    (
+        "a storage with a path",
+        "{\"storage\":\"https://b.example/f\"}",
+        ("", false),
+        (27, "bad storage"),
+    ),
+    (
+        "no storage, and another status",
+        "{\"status\":\"drop\"}",
+        ("", false),
+        (27, "bad storage"),
+    ),
+    (
+        "another status",
+        "{\"status\":\"drop\",\"storage\":\"https://b.example\"}",
+        ("", false),
+        (28, "bad status"),
+    ),
+    (
+        "a status in capitals",
+        "{\"status\":\"WAIT\",\"storage\":\"https://b.example\"}",
+        ("", false),
+        (28, "bad status"),
+    ),
+    (
+        "an empty status",
+        "{\"status\":\"\",\"storage\":\"https://b.example\"}",
+        ("", false),
+        (28, "bad status"),
+    ),
+    (
+        "a flag for the status",
+        "{\"status\":false,\"storage\":\"https://b.example\"}",
+        ("", false),
+        (28, "bad status"),
     ),
 ];
 

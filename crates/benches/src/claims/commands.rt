@@ -227,21 +227,25 @@ const LAYOUTS: [Layout; 4] = [
         ends: ENDS,
         links: 1,
         priorities: 1,
+        hours: false,
     },
     Layout {
         ends: ENDS,
         links: 1,
         priorities: 5,
+        hours: false,
     },
     Layout {
         ends: ENDS,
         links: 16,
         priorities: 1,
+        hours: false,
     },
     Layout {
         ends: ENDS,
         links: 16,
         priorities: 5,
+        hours: false,
     },
 ];
 

@@ -66,6 +66,7 @@ fn microseconds(rt: &HostRuntime, ends: u32) -> io::Result<f64> {
         ends,
         links: ends.wrapping_mul(ends),
         priorities: 5,
+        hours: false,
     };
     let entries = later_jobs(rt.alloc(), layout)?;
     let mut desk = filled_desk(rt.alloc(), JOBS, layout)?;

@@ -32,18 +32,23 @@ const SHARES: &[u8] = b"\x00\x03\x07default\x01\x06urgent\x05\x04bulk\x02";
 /// What stands before the kind of a job.
 const SUBMIT: &[u8] = b"\x00\x02\x80\xe2\xcf\xaa\x06";
 
+/// The same of a job whose files may wait for 1,000 hours.
+const SUBMIT_WITH_HOURS: &[u8] = b"\x00\x0b\x80\xe2\xcf\xaa\x06\xe8\x07";
+
 /// What stands between a job's priority and the number of its files: three retries, a delay of 86,400 seconds, no overwriting.
 const OPTIONS: &[u8] = b"\x03\x80\xa3\x05\x00";
 
 /// The activities of a job's files, in turn, each with its length.
 const ACTIVITIES: [&str; 4] = ["\x07default", "\x06urgent", "\x04bulk", "\x07default"];
 
-/// Which jobs fill a desk: how many sources and destinations there are, on how many links files go, and how many priorities jobs have.
+/// Which jobs fill a desk: how many sources and destinations there are, on how many links files go, how many priorities jobs have, and whether
+/// their files wait for 1,000 hours at most.
 #[derive(Clone, Copy)]
 pub struct Layout {
     pub ends: u32,
     pub links: u32,
     pub priorities: u32,
+    pub hours: bool,
 }
 
 /// What is submitted, of each job alike.
@@ -145,7 +150,12 @@ fn push_filling(
     layout: Layout,
 ) -> Result<(), AllocError> {
     let priority = (1 + job % layout.priorities.clamp(1, 5)) as u8;
-    push_all(bytes, &[SUBMIT, &[0, 0, 0, priority], OPTIONS])?;
+    let submit = if layout.hours {
+        SUBMIT_WITH_HOURS
+    } else {
+        SUBMIT
+    };
+    push_all(bytes, &[submit, &[0, 0, 0, priority], OPTIONS])?;
     push_number(bytes, FILES)?;
     for index in 0..FILES {
         let link = link_of(job, index, layout.links);

@@ -14,7 +14,8 @@ invariant-gates g l = record {
   piece : IsTold (g.D.Disk.state l.fn.disk) → IsPiece (g.D.Disk.state l.fn.disk).seen l.piece.start l.piece.bytes.items;
   from : l.piece.start ≤ l.used;
   bounds : IsBounded (spans_between l.gates.items l.used) l.used;
-  read : IsTold (g.D.Disk.state l.fn.disk) → HasRead (g.D.Disk.state l.fn.disk).seen (drop l.used (g.D.Disk.state l.fn.disk).seen) l.used (spans_between l.gates.items l.used);
+  read : IsTold (g.D.Disk.state l.fn.disk)
+      → HasRead (g.D.Disk.state l.fn.disk).seen (drop l.used (g.D.Disk.state l.fn.disk).seen) l.used (spans_between l.gates.items l.used);
 }
 
 -- either the known end rises, or a body is passed

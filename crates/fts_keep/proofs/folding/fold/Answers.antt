@@ -58,7 +58,8 @@ returns-in_err-take_entry-clause-fault g c = on_err c.from_residual-in_err-take_
 pub overflow_add-gate-in-loop-n : goal.overflow_add-gate-in-loop-n
 overflow_add-gate-in-loop-n g c =
     let long : slice_get c.args.journal.now.sizes c.loop-n.n ≡ Some (length c.deref.result.now) =
-    ap (λ s. slice_get s c.loop-n.n) (sym c.loop-n.invariant.leaves.sizes) ∙ c.in_ok-body.ensures.long ∙ ap (λ b. Some (length b)) (sym c.deref.ensures.value) in
+    ap (λ s. slice_get s c.loop-n.n) (sym c.loop-n.invariant.leaves.sizes)
+    ∙ c.in_ok-body.ensures.long ∙ ap (λ b. Some (length b)) (sym c.deref.ensures.value) in
     let short : c.loop-n.gate + (5 + c.len.result) ≤ JOURNAL_END = omega (
       arith,
       c.loop-n.invariant.folded.passes,
@@ -77,7 +78,8 @@ loop-n-preserved g c =
     (arith, c.len.ensures, ap length c.deref.ensures.value) in
     record {
       leaves = leaves_more g.D.Disk.state g.D.Disk.faults g.met.D.Disk.lawful c.args.journal.now c.loop-n.journal c.body.new.self
-          c.loop-n.invariant.leaves c.body.ensures.told c.body.ensures.kept c.body.ensures.counts c.body.ensures.sizes c.body.ensures.keeps c.body.ensures.doubt;
+          c.loop-n.invariant.leaves c.body.ensures.told c.body.ensures.kept c.body.ensures.counts c.body.ensures.sizes c.body.ensures.keeps
+          c.body.ensures.doubt;
       folded = subst (λ k. HasFolded g.D.Disk.state c.args.journal.now c.take_entry.new.desk.tables k (c.loop-n.n + 1)) long
           (folded_more g.D.Disk.state c.args.journal.now c.loop-n.desk.tables c.take_entry.new.desk.tables c.loop-n.gate c.loop-n.n c.deref.result.now
           c.loop-n.invariant.folded c.in_ok-take_entry.ensures.takes

@@ -1,12 +1,14 @@
 -- What was planned, and what came of it.
-use Rattle.std.proofs.Common.{subst}
+use Rattle.std.proofs.Common.{ℕ, subst}
+use Rattle.std.specs.Prelude.{IsTrue}
 use Rattle.fts_tables.specs.Tables.{Tables}
 use Rattle.fts_wire.specs.Answered.{request_data}
-use Rattle.fts_routes.specs.Replies.{plan_of}
-use Rattle.fts_routes.specs.Planned.{IsPlanned}
+use Rattle.fts_wire.specs.RequestData.{RequestData}
+use Rattle.fts_routes.specs.Replies.{plan_of, said}
+use Rattle.fts_routes.specs.Planned.{IsPlanned, is_decided}
 use Rattle.fts_routes.specs.declared.planned.Planned.TheVariants.{Replies as PlannedReply, Tries as PlannedCommand}
 use Rattle.fts_routes.proofs.Coming.{comes-replied, comes-tried, answers, planned-priority}
-use Rattle.fts_routes.proofs.Sendable.{sendable}
+use Rattle.fts_routes.proofs.Sendable.{sendable, said-to, planned, planned-asked}
 use Rattle.fts_routes.proofs.Still.{still}
 use Rattle.fts_routes.proofs.answers.answer.Goals as goal
 
@@ -14,7 +16,13 @@ pub try_command-requires : goal.try_command-requires
 try_command-requires g c = record {
   priority = planned-priority c.desk.result.now.tables (plan_of c.desk.result.now.tables c.args.now (request_data c.args.request.now)) c.in-Ok-Tries.command c.in-Ok-Tries.reply
       (rw c.in-Ok-Tries.field-0-is at c.in-Ok-Tries.ensures);
+  asked = planned-asked c.desk.result.now.tables (plan_of c.desk.result.now.tables c.args.now (request_data c.args.request.now)) c.in-Ok-Tries.command c.in-Ok-Tries.reply
+      (planned c.desk.result.now.tables c.args.now (request_data c.args.request.now)) (rw c.in-Ok-Tries.field-0-is at c.in-Ok-Tries.ensures);
 }
+
+-- what is said as it is defined
+decided : (tables : Tables) (used writer : ℕ) (request : RequestData) (now : ℕ) → IsTrue (is_decided (said tables used writer request now).reply.status)
+decided tables used writer request now = (said-to tables used writer (plan_of tables now request) (planned tables now request)).decided
 
 pub returns-in-Ok-Replies-clause-answers : goal.returns-in-Ok-Replies-clause-answers
 returns-in-Ok-Replies-clause-answers g c = answers g.D.Disk.state g.D.Disk.faults c.args.keep.now c.args.keep.now c.args.writer (request_data c.args.request.now) c.args.now c.in-Ok-Replies.reply
@@ -51,3 +59,12 @@ returns-in-Ok-Tries-clause-methods g c = (sendable g.D.Disk.state g.D.Disk.fault
 
 pub returns-in-Err-clause-images : goal.returns-in-Err-clause-images
 returns-in-Err-clause-images g c = still g.D.Disk.state g.met.D.Disk.lawful c.args.keep.now c.desk.ensures.kept
+
+pub returns-in-Ok-Replies-clause-decided : goal.returns-in-Ok-Replies-clause-decided
+returns-in-Ok-Replies-clause-decided g c = decided c.args.keep.now.tables c.args.keep.now.used c.args.writer (request_data c.args.request.now) c.args.now
+
+pub returns-in-Ok-Tries-clause-decided : goal.returns-in-Ok-Tries-clause-decided
+returns-in-Ok-Tries-clause-decided g c = decided c.args.keep.now.tables c.args.keep.now.used c.args.writer (request_data c.args.request.now) c.args.now
+
+pub returns-in-Err-clause-decided : goal.returns-in-Err-clause-decided
+returns-in-Err-clause-decided g c = decided c.args.keep.now.tables c.args.keep.now.used c.args.writer (request_data c.args.request.now) c.args.now

@@ -3,11 +3,20 @@ use Rattle.std.proofs.Common.{◌≡◌, ap, subst, ◌∙◌}
 use Rattle.std.specs.Prelude.{IfOk}
 use Rattle.serde_json.specs.Data.{Data}
 use Rattle.fts_tables.specs.Tables.{Tables}
+use Rattle.fts_tables.specs.Step.{step}
 use Rattle.fts_keep.specs.Keeps.{KeepData}
+use Rattle.fts_keep.specs.Applied.{entry_by}
 use Rattle.fts_routes.specs.Replies.{reply_to_refusal}
 use Rattle.fts_routes.specs.Planned.{ShowsUnchanged}
-use Rattle.fts_routes.proofs.Coming.{comes-refused, comes-full, comes-without_disk}
+use Rattle.fts_routes.proofs.Asked.{asked-refusals}
+use Rattle.fts_routes.proofs.Coming.{refused-step, comes-refused, comes-full, comes-without_disk}
 use Rattle.fts_routes.proofs.answers.try_command.Goals as goal
+
+pub refused-requires : goal.refused-requires
+refused-requires g c =
+    asked-refusals c.args.keep.now.tables c.args.command c.in-Err-Rule.refusal c.requires.asked
+    (refused-step c.args.keep.now.used (entry_by c.args.writer c.args.command) (step c.args.keep.now.tables c.args.command) c.in-Err-Rule.refusal
+    (rw c.in-Err-Rule.field-0-is at c.in-Err-Rule.ensures.applied).0)
 
 pub returns-in-Err-Rule-clause-comes : goal.returns-in-Err-Rule-clause-comes
 returns-in-Err-Rule-clause-comes g c =

@@ -16,7 +16,7 @@ use Rattle.fts_routes.proofs.looks.value_of_jobs.Goals as goal
 
 pub value_if_asked-requires-clause-number : goal.value_if_asked-requires-clause-number
 value_if_asked-requires-clause-number c = rw c.jobs-job-items.ensures.jobs (own-number (λ (job : JobRow). job.number) c.args.desk.now.tables.jobs c.loop-job.job-index _
-    c.standing.ensures.formed.jobs
+    c.standing.ensures.standing.formed.jobs
     (omega (arith, ap length c.jobs-job-items.ensures.jobs)))
 
 pub loop-job-preserved : goal.loop-job-preserved
