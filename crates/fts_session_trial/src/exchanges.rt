@@ -12,7 +12,7 @@ use std::io;
 /// The folder that an exchange is played in.
 const STAND: &str = "stand";
 
-const EXCHANGES: [&str; 27] = [
+const EXCHANGES: [&str; 29] = [
     "several-files",
     "checksum",
     "wrong-checksum",
@@ -26,6 +26,8 @@ const EXCHANGES: [&str; 27] = [
     "priority",
     "list-of-jobs",
     "settings",
+    "ban-and-wait",
+    "ban-and-cancel",
     "routes-and-methods",
     "no-job-no-file",
     "own-id-twice",

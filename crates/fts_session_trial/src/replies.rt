@@ -176,6 +176,21 @@ fn over_a_finished_job(rt: &HostRuntime) -> io::Result<u32> {
     Ok(first.saturating_add(then))
 }
 
+/// Bans over waiting files and over one that is copied.
+fn to_bans(rt: &HostRuntime) -> io::Result<u32> {
+    let alloc = rt.alloc();
+    let waiting = over_a_new_keep(rt, Vec::new(alloc), "replies-to-bans.rows")?;
+    let mut keep = keep(alloc, Vec::new(alloc))?;
+    let first = play_file(rt, &mut keep, FIRST)?;
+    apply(rt, &mut keep, Command::Claim { now: NOW, word: 0 })?;
+    let copied = play_file(
+        rt,
+        &mut keep,
+        "replies-to-a-ban-while-a-file-is-copied.rows",
+    )?;
+    Ok(waiting.saturating_add(first).saturating_add(copied))
+}
+
 /// Plays each file, and prints what is otherwise than wanted, and how many replies were as wanted.
 pub fn play_all(rt: &HostRuntime) -> io::Result<()> {
     let alloc = rt.alloc();
@@ -197,5 +212,7 @@ pub fn play_all(rt: &HostRuntime) -> io::Result<()> {
     println!(rt; "replies over a disk that fails once as wanted: {failing}")?;
     let changes = to_each_change(rt)?;
     println!(rt; "replies to each change as wanted: {changes}")?;
+    let bans = to_bans(rt)?;
+    println!(rt; "replies to bans as wanted: {bans}")?;
     Ok(())
 }
