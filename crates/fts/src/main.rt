@@ -8,6 +8,7 @@
 
 ghost use Rattle.std.specs.Prelude.{◌≡◌, length, map, string_bytes, IfOk};
 ghost use Rattle.fts_disk.specs.File.{IsReadOnly};
+ghost use Rattle.fts_tables.specs.declared.limits.TheConstants.{MAX_LANES, MAX_WORKERS};
 ghost use Rattle.fts_words.specs.Words.{asked_in};
 ghost use Rattle.fts.specs.CommandLine.{stand_of, words_of, asks_service, exit_status_of, LooksAtMost};
 
@@ -24,6 +25,7 @@ mod tests;
 use fts_disk::{Disk, FileDisk, MemoryDisk, SystemDisk};
 use fts_files::FileSystem;
 use fts_store::{FolderStore, MemoryStore, Store, StoredFile};
+use fts_tables::limits::{MAX_LANES, MAX_WORKERS};
 use fts_tables::{Clock, EndpointName, Items, Memory, PathKey, Place};
 use fts_top::{Doors, Ending, Lane, Outside, run};
 use fts_wire::{MemorySource, Source, StdSink, StdSource};
@@ -42,10 +44,10 @@ const STAND_SETTINGS: &str =
     "vo = \"demo\"\nworkers = 2\n[[storage]]\nurl = \"https://a.example\"\n[[storage]]\nurl = \"https://b.example\"\n";
 
 /// How many hands a run has.
-const HANDS: usize = 16;
+const HANDS: usize = MAX_WORKERS as usize;
 
 /// How many lanes a run has.
-const LANES: usize = 8;
+const LANES: usize = MAX_LANES as usize;
 
 /// The words of the command line, with the program's name first; none where one of them is no UTF-8.
 fn command_line(rt: &HostRuntime) -> Result<Vec<String>, Memory> {

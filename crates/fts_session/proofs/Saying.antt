@@ -9,7 +9,7 @@ use Rattle.fts_tables.specs.declared.commands.Entry.{Entry}
 use Rattle.fts_wire.specs.RequestData.{RequestData}
 use Rattle.fts_workers.specs.Requests.{IsOfRequest}
 use Rattle.fts_routes.specs.Replies.{Way, said, said_so}
-use Rattle.fts_routes.proofs.Sendable.{IsAsked}
+use Rattle.fts_routes.specs.Planned.{IsAsked}
 use Rattle.fts_routes.proofs.Adding.{AddsWell as AddsAsked, adds_well}
 
 -- what is said adds nothing, or one entry of a request that is accepted where it stands

@@ -102,11 +102,46 @@ const EXPIRED: Stand = Stand {
 #[test]
 fn a_turn_claims_no_overdue_file(rt: HostRuntime) -> Result<(), Fail> {
     for (case, document, now, lanes, end, stand) in [
-        ("one second before", ONE_HOUR, 3_599, 0, Turn::Done { file: 1 }, COPIED),
-        ("when the hour is over", ONE_HOUR, 3_600, 0, Turn::Stopping, EXPIRED),
-        ("while a lane is left", ONE_HOUR, 3_600, 1, Turn::Idle, EXPIRED),
-        ("long after", ONE_HOUR, 1_700_000_000, 0, Turn::Stopping, EXPIRED),
-        ("without a limit", NO_LIMIT, 1_700_000_000, 0, Turn::Done { file: 1 }, COPIED),
+        (
+            "one second before",
+            ONE_HOUR,
+            3_599,
+            0,
+            Turn::Done { file: 1 },
+            COPIED,
+        ),
+        (
+            "when the hour is over",
+            ONE_HOUR,
+            3_600,
+            0,
+            Turn::Stopping,
+            EXPIRED,
+        ),
+        (
+            "while a lane is left",
+            ONE_HOUR,
+            3_600,
+            1,
+            Turn::Idle,
+            EXPIRED,
+        ),
+        (
+            "long after",
+            ONE_HOUR,
+            1_700_000_000,
+            0,
+            Turn::Stopping,
+            EXPIRED,
+        ),
+        (
+            "without a limit",
+            NO_LIMIT,
+            1_700_000_000,
+            0,
+            Turn::Done { file: 1 },
+            COPIED,
+        ),
     ] {
         let seen = turn_at(&rt, rt.alloc(), document, now, lanes)?;
         let wanted = Seen {
@@ -114,7 +149,10 @@ fn a_turn_claims_no_overdue_file(rt: HostRuntime) -> Result<(), Fail> {
             stand: Some(stand),
             copied: stand == COPIED,
         };
-        assert!(rt; seen == wanted, "{case}: the turn ends so, and leaves the file so");
+        assert!(rt;
+            seen == wanted,
+            "{case}: the turn ends so, and leaves the file so"
+        );
     }
     Ok(())
 }

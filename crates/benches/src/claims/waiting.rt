@@ -142,6 +142,15 @@ fn link_of(job: u32, index: u32, links: u32) -> u32 {
     }
 }
 
+/// Adds what stands before the kind of a job, whose files may wait for some hours or as long as it takes.
+fn push_submit(bytes: &mut Vec<u8>, hours: bool) -> Result<(), AllocError> {
+    if hours {
+        bytes.extend_from_slice(SUBMIT_WITH_HOURS)
+    } else {
+        bytes.extend_from_slice(SUBMIT)
+    }
+}
+
 /// Adds a plain job of `FILES` files. Links and priorities take turns.
 fn push_filling(
     bytes: &mut Vec<u8>,
@@ -150,12 +159,8 @@ fn push_filling(
     layout: Layout,
 ) -> Result<(), AllocError> {
     let priority = (1 + job % layout.priorities.clamp(1, 5)) as u8;
-    let submit = if layout.hours {
-        SUBMIT_WITH_HOURS
-    } else {
-        SUBMIT
-    };
-    push_all(bytes, &[submit, &[0, 0, 0, priority], OPTIONS])?;
+    push_submit(bytes, layout.hours)?;
+    push_all(bytes, &[&[0, 0, 0, priority], OPTIONS])?;
     push_number(bytes, FILES)?;
     for index in 0..FILES {
         let link = link_of(job, index, layout.links);

@@ -10,7 +10,7 @@ use Rattle.fts_show.proofs.shown.send_tables.Goals as goal
 pub send_job-requires : goal.send_job-requires
 send_job-requires g c = record {
   number = rw c.jobs-jobs.ensures.jobs (own-number (λ (job : JobRow). job.number) c.args.desk.now.tables.jobs c.jobs.job-index _
-      c.commands.ensures.standing.formed.jobs (omega (arith, c.jobs-test.true, ap length c.jobs-jobs.ensures.jobs)));
+      c.standing.ensures.standing.formed.jobs (omega (arith, c.jobs-test.true, ap length c.jobs-jobs.ensures.jobs)));
 }
 
 pub jobs-preserved : goal.jobs-preserved
