@@ -1,5 +1,5 @@
-//! Runs over one journal, one behind the other: a session goes on where the last one ended, `show` writes what is there and leaves it, and a damaged
-//! journal stops the run and stays. The list that a start leaves is written byte for byte, by the format of journals and entries; what `show`
+//! Runs over one journal, one behind the other: a session goes on where the last one ended, a ban too, `show` writes what is there and leaves it, and
+//! a damaged journal stops the run and stays. The list that a start leaves is written byte for byte, by the format of journals and entries; what `show`
 //! writes stands in `shown.txt`.
 use crate::stand::{
     Ended, SETTINGS, count_row, hands_with, make_given, no_memory, run_words, source,
@@ -22,6 +22,18 @@ const ONE: &str = "cut-keys-in-another-order-and-blanks.in.http";
 /// What is answered to it as the third job.
 const THIRD: &str =
     "HTTP/1.1 200 OK\r\nContent-Type: application/json\r\nContent-Length: 49\r\n\r\n{\"job_id\":\"00000000-0000-4000-8000-000000000003\"}";
+
+/// A ban of the second storage, after which files wait, and a submission of a file for it.
+const BAN: &str = "a-ban-and-a-job.in.http";
+
+/// What is answered to them.
+const BANNED: &str = "a-ban-and-a-job.out.http";
+
+/// The end of that ban.
+const UNBAN: &str = "the-end-of-a-ban.in.http";
+
+/// What is answered to it.
+const UNBANNED: &str = "the-end-of-a-ban.out.http";
 
 /// What `show` writes after the two submissions: the file of the first is there, and the second finds its destination.
 const SHOWN: &str = "shown.txt";
@@ -82,6 +94,28 @@ fn goes_on(rt: &HostRuntime) -> io::Result<bool> {
             && tally.finished == 1
             && tally.failed == 2,
     )
+}
+
+fn waits_for_the_end_of_a_ban(rt: &HostRuntime) -> io::Result<bool> {
+    let alloc = rt.alloc();
+    let input = fs::read(rt, BAN)?;
+    let first = run_over(alloc, "session", empty_disk(alloc), input.as_slice())?;
+    let banned = fs::read(rt, BANNED)?;
+    let tally = first.ending.tally;
+    let waits = first.output.bytes() == banned.as_slice()
+        && first.ending.status == 0
+        && tally.claims == 0
+        && tally.waiting == 1;
+    let input = fs::read(rt, UNBAN)?;
+    let second = run_over(alloc, "session", first.disk, input.as_slice())?;
+    let unbanned = fs::read(rt, UNBANNED)?;
+    let tally = second.ending.tally;
+    let is_copied = second.output.bytes() == unbanned.as_slice()
+        && second.ending.status == 0
+        && tally.claims == 1
+        && tally.finished == 1
+        && tally.waiting == 0;
+    Ok(waits && is_copied)
 }
 
 fn leaves_one_restart(rt: &HostRuntime) -> io::Result<bool> {
@@ -155,6 +189,10 @@ pub fn play_all(rt: &HostRuntime) -> io::Result<()> {
     let mut same: u32 = 0;
     for (row, is_wanted) in [
         ("a session goes on where the last one ended", goes_on(rt)?),
+        (
+            "a file waits over a restart for the end of a ban",
+            waits_for_the_end_of_a_ban(rt)?,
+        ),
         ("an empty input leaves one Restart", leaves_one_restart(rt)?),
         ("a file is copied to its destination", copies_a_file(rt)?),
         (
