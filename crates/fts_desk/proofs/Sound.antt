@@ -72,6 +72,13 @@ planned_restart kept now settings command (Ok decided) is given =
     subst (λ command. IsPlanned kept command decided) (sym is) (record { room = tt; files = tt; decided = given now })
 planned_restart kept now settings command (Err fault) is given = tt
 
+-- what was decided for a restart under any settings in force was decided for these
+pub resumed : (kept new : Kept) (settings : SettingsData) (result : Result Decided DeskFault) → kept.settings ≡ Some settings
+    → IfOk result (λ decided. (now : ℕ) (settings : SettingsData) → kept.settings ≡ Some settings → IsDecided new (Restart now settings) decided)
+    → IfOk result (λ decided. (now : ℕ) → IsDecided new (Restart now settings) decided)
+resumed kept new settings (Ok decided) same given = λ now. given now settings same
+resumed kept new settings (Err fault) same given = tt
+
 -- all that a report needs
 pub planned_report : (kept : Kept) (now file attempt : ℕ) (outcome : Outcome) (command : Command) (result : Result Decided DeskFault)
     → command ≡ Report now file attempt outcome
