@@ -7,7 +7,6 @@ use Rattle.fts_tables.specs.History.{IsAccepted, tables_after}
 use Rattle.fts_tables.specs.declared.limits.TheConstants.{MAX_COMMANDS}
 use Rattle.fts_desk.specs.Prepared.{IsPrepared}
 use Rattle.fts_desk.specs.declared.desk.DeskFault.{DeskFault}
-use Rattle.fts_desk.specs.declared.desk.DeskFault.TheVariants.{Rule, Memory}
 use Rattle.fts_tables.specs.Choice.{pick}
 use Rattle.fts_tables.specs.Laws.{IsStanding}
 use Rattle.fts_tables.specs.declared.places.Place.{Place}
@@ -51,13 +50,6 @@ claim_stays kept tables now word place dest same inside picked dests = record {
 pub made_as : (T U : Type 0) (outcome : Outcomes) (made : T) (other : U) → IsPrepared {T = T} outcome (Ok made) → IsPrepared {T = U} outcome (Ok other)
 made_as T U (Ok done) made other prepared = tt
 made_as T U (Err refusal) made other prepared = absurd prepared
-
--- and refused is refused
-pub refused_as : (T U : Type 0) (outcome : Outcomes) (fault : DeskFault) → IsPrepared {T = T} outcome (Err fault) → IsPrepared {T = U} outcome (Err fault)
-refused_as T U (Ok done) Memory prepared = prepared
-refused_as T U (Err refusal) Memory prepared = prepared
-refused_as T U (Ok done) (Rule rule) prepared = prepared
-refused_as T U (Err refusal) (Rule rule) prepared = prepared
 
 -- what was prepared is accepted
 accepted_of : (outcome : Outcomes) (decided : Decided) → IsPrepared {T = Decided} outcome (Ok decided) → IsAccepted outcome
