@@ -1,11 +1,11 @@
 -- Counts of the links of live rows, where a row changes and where rows are added.
-use Rattle.std.proofs.Common.{◌≡◌, ℕ, zero, suc, ◌+◌, ◌<◌, ◌≤◌, Bool, true, false, cond, List, [], ◌∷◌, ◌++◌, length, map, take, get_or, set, Some, refl, ap, sym, ◌∙◌, subst, arith, length-take-le}
+use Rattle.std.proofs.Common.{◌≡◌, ℕ, zero, suc, ◌+◌, ◌<◌, ◌≤◌, Bool, true, false, cond, List, [], ◌∷◌, ◌++◌, length, map, take, set, Some, refl, ap, sym, ◌∙◌, subst, arith, length-take-le}
 use Rattle.std.specs.Prelude.{◌&&◌, bytes_eq, count_by, filter, slice_get}
 use Rattle.std.specs.List.{list_all}
 use Rattle.std.proofs.lemmas.Bool.{and_parts, eq-eqb}
-use Rattle.std.proofs.lemmas.List.{length-set, length-map, get_or-set_same}
+use Rattle.std.proofs.lemmas.List.{length-set, length-map}
 use Rattle.std.proofs.lemmas.List.Sums.{sum_by-cons}
-use Rattle.std.proofs.lemmas.Option.{same_Some, slice_get_within, slice_get-get_or}
+use Rattle.std.proofs.lemmas.Option.{same_Some, slice_get_within}
 use Rattle.fts_tables.specs.Tables.{is_live}
 use Rattle.fts_tables.specs.declared.rows.FileRow.{FileRow}
 use Rattle.fts_index.specs.Links.{Link, LinkLists, is_link, is_among}
@@ -159,35 +159,3 @@ module _ (rows : List FileRow) (place : ℕ) (row : FileRow) (old lists : LinkLi
       let here : count_by test (live_links (take (place + 1) rows)) ≡ count_by test (live_links (take (suc place) rows)) =
       ap (λ count. count_by test (live_links (take count rows))) next in
       omega (arith, here, more test, counts test, live-take test rows place row at)
-
--- a row that is read, changed at its place with its link kept, read again and counted anew
-module _ (rows : List FileRow) (place : ℕ) (change : FileRow → FileRow) (keeps : (row : FileRow) → link_of_row (change row) ≡ link_of_row row)
-    (read before after : FileRow) (was_live : Bool) (inside : place < length rows) (was : was_live ≡ is_live (get_or rows place read).state)
-    (changed : after ≡ change (get_or rows place before)) (old : LinkLists) (loaded : AreLoadsOf rows old) where
-  -- what stood at the place
-  stood : slice_get rows place ≡ Some (get_or rows place before)
-  stood = slice_get-get_or rows place before inside
-
-  -- whether it was live
-  was_before : was_live ≡ is_live (get_or rows place before).state
-  was_before = was ∙ ap (λ (row : FileRow). is_live row.state)
-      (same_Some (get_or rows place read) (get_or rows place before) (sym (slice_get-get_or rows place read inside) ∙ stood))
-
-  -- its link is kept
-  same : link_of_row after ≡ link_of_row (get_or rows place before)
-  same = ap link_of_row changed ∙ keeps (get_or rows place before)
-
-  -- it may count anew
-  pub site_may : (last : FileRow) → MayRecount was_live (link_of_row (get_or (set rows place after) place last)) old
-  site_may last = subst (λ (row : FileRow). MayRecount was_live (link_of_row row) old) (sym (get_or-set_same rows place after last inside))
-      (may_recount rows place (get_or rows place before) after was_live old loaded stood was_before same)
-
-  -- and has
-  pub site_done : (last : FileRow) (new : LinkLists)
-      → ((test : Link → Bool) → count_by test new.links + cond (was_live && test (link_of_row (get_or (set rows place after) place last))) 1 0
-      ≡ count_by test old.links + added_by test (get_or (set rows place after) place last))
-      → new.known ≡ old.known → AreLoadsOf (set rows place after) new
-  site_done last new counts known =
-      recounted rows place (get_or rows place before) after was_live old new loaded stood was_before same
-      (subst (λ (row : FileRow). (test : Link → Bool) → count_by test new.links + cond (was_live && test (link_of_row row)) 1 0
-      ≡ count_by test old.links + added_by test row) (get_or-set_same rows place after last inside) counts) known

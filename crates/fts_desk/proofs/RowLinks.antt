@@ -1,26 +1,19 @@
 -- No command changes the link of a row, and the links of new rows are those of their files.
 use Rattle.std.proofs.Common.{◌≡◌, ℕ, suc, Bool, true, false, List, [], ◌∷◌, map, Option, Some, None, refl, ap, ◌∙◌}
-use Rattle.std.specs.Prelude.{◌==◌, ◌||◌, if◌then◌else◌}
-use Rattle.fts_tables.specs.Tables.{is_submitted, is_active, is_not_used}
+use Rattle.std.specs.Prelude.{◌==◌, if◌then◌else◌}
+use Rattle.fts_tables.specs.Tables.{is_not_used}
 use Rattle.fts_tables.specs.JobData.{JobData}
 use Rattle.fts_tables.specs.Choice.{next_alternative}
-use Rattle.fts_tables.specs.Moves.{submitted, canceled, canceled_for, cancelled_for, reported, new_rows, submit_if_not_used, submit_chosen, rows_of_kind}
-use Rattle.fts_tables.specs.Step.{released}
-use Rattle.fts_tables.specs.Laws.{FileOfRow}
+use Rattle.fts_tables.specs.Moves.{submitted, new_rows, submit_if_not_used, submit_chosen, rows_of_kind}
 use Rattle.fts_tables.specs.declared.rows.NewFile.{NewFile}
 use Rattle.fts_tables.specs.declared.rows.FileRow.{FileRow}
-use Rattle.fts_tables.specs.declared.rows.JobRow.{JobRow}
 use Rattle.fts_tables.specs.declared.rows.JobKind.{JobKind}
 use Rattle.fts_tables.specs.declared.rows.JobKind.TheVariants.{Plain, Replica, Multihop}
 use Rattle.fts_tables.specs.declared.rows.FileState.{FileState}
 use Rattle.fts_tables.specs.declared.rows.FileState.TheVariants.{Submitted, NotUsed}
-use Rattle.fts_tables.specs.declared.rows.Outcome.{Outcome}
-use Rattle.fts_tables.specs.declared.rows.Reason.{Reason}
 use Rattle.fts_index.specs.LiveLinks.{link_of_row}
 use Rattle.fts_desk.specs.Loaded.{link_of_file}
 use Rattle.fts_desk.specs.Places.{woken}
-use Rattle.fts_desk.specs.Cancels.{cancelled_of}
-use Rattle.fts_desk.proofs.KeptFiles.{reported_file}
 
 -- of two rows of one link each answer of a test gives that link
 either_link : (one other row : FileRow) (answer : Bool) → link_of_row one ≡ link_of_row row → link_of_row other ≡ link_of_row row
@@ -31,26 +24,6 @@ either_link one other row false is_one is_other = is_other
 -- a row that is woken
 pub link_woken : (row : FileRow) → link_of_row (woken row) ≡ link_of_row row
 link_woken row = either_link (submitted row) row row (is_not_used row.state) refl refl
-
--- a row that is cancelled
-pub link_cancelled : (reason : Reason) (row : FileRow) → link_of_row (cancelled_for reason row) ≡ link_of_row row
-link_cancelled reason row = either_link (canceled_for reason row) (if is_active row.state then record row { cancel_asked = true } else row) row
-    (is_submitted row.state || is_not_used row.state) refl
-    (either_link (record row { cancel_asked = true }) row row (is_active row.state) refl refl)
-
--- a row that is cancelled with its job
-pub link_cancelled_of : (reason : Reason) (job : ℕ) (row : FileRow) → link_of_row (cancelled_of reason job row) ≡ link_of_row row
-link_cancelled_of reason job row = either_link (cancelled_for reason row) row row (row.job == job) (link_cancelled reason row) refl
-
--- a row that is given up
-pub link_released : (row : FileRow) → link_of_row (released row) ≡ link_of_row row
-link_released row = either_link (if row.cancel_asked then canceled row else submitted row) row row (is_active row.state)
-    (either_link (canceled row) (submitted row) row row.cancel_asked refl refl) refl
-
--- a row whose copy is reported
-pub link_reported : (job : JobRow) (now : ℕ) (outcome : Outcome) (row : FileRow) → link_of_row (reported job now outcome row) ≡ link_of_row row
-link_reported job now outcome row =
-    ap (λ (file : FileOfRow). record { source = file.source.endpoint; dest = file.dest.endpoint }) (reported_file job now outcome row)
 
 -- new rows, all in one state
 links_new_rows : (job id : ℕ) (state : FileState) (files : List NewFile) → map link_of_row (new_rows job id state files) ≡ map link_of_file files

@@ -6,7 +6,7 @@ use Rattle.std.proofs.lemmas.Bool.{and_parts}
 use Rattle.std.proofs.lemmas.List.{get_or-set_same}
 use Rattle.std.proofs.lemmas.Option.{same_Some, slice_get-get_or, get_or_from_slice_get}
 use Rattle.fts_tables.specs.SettingsData.{SettingsData}
-use Rattle.fts_tables.specs.Tables.{AreNumberedFrom, row_at, job_at, rows_of_job, is_submitted, is_active, is_finished, is_failed, is_not_used, is_live}
+use Rattle.fts_tables.specs.Tables.{AreNumberedFrom, row_at, job_at, rows_of_job, is_submitted, is_active, is_finished, is_failed, is_not_used}
 use Rattle.fts_tables.specs.Limits.{has_known_ends}
 use Rattle.fts_tables.specs.Moves.{submitted, canceled, is_retryable, reported, reported_failure, reported_without_cancel}
 use Rattle.fts_tables.specs.Laws.{FileOfRow, file_of}
@@ -17,7 +17,7 @@ use Rattle.fts_tables.specs.declared.rows.JobRow.{JobRow}
 use Rattle.fts_tables.specs.declared.rows.JobKind.{JobKind}
 use Rattle.fts_tables.specs.declared.rows.JobKind.TheVariants.{Plain, Replica, Multihop}
 use Rattle.fts_tables.specs.declared.rows.FileState.{FileState}
-use Rattle.fts_tables.specs.declared.rows.FileState.TheVariants.{Submitted, Active, Finished, Failed, Canceled, NotUsed}
+use Rattle.fts_tables.specs.declared.rows.FileState.TheVariants.{Submitted, Failed}
 use Rattle.fts_tables.specs.declared.rows.Reason.TheVariants.{Ended}
 use Rattle.fts_tables.specs.declared.rows.Outcome.{Outcome}
 use Rattle.fts_tables.specs.declared.rows.Outcome.TheVariants.{Verified, SourceMissing, DestinationExists, SourceSize, SourceDigest, ReadBackDiffers, StoreFailed, Stopped}
@@ -216,15 +216,6 @@ room_to_follow job place rows before written old left new room there same none o
     let stood = file_behind rows place other before written row there same at in
     same_queue 1 stood.0 row new stood.2
     (room_left 1 1 stood.0 left new one (room_left 0 2 stood.0 old left none (room.others follows other stood.0 low high stood.1)))
-
--- a row whose turn hadn't come was not live
-pub unused_rests : (state : FileState) → is_not_used state ≡ true → false ≡ is_live state
-unused_rests Submitted unused = cc
-unused_rests Active unused = cc
-unused_rests Finished unused = refl
-unused_rests Failed unused = refl
-unused_rests Canceled unused = refl
-unused_rests NotUsed unused = refl
 
 -- with room for more there is room for fewer
 pub room_fewer : (fewer more : ℕ) (row : FileRow) (parts : Option ClaimParts) → fewer ≤ more → HasRoomToWait more row parts → HasRoomToWait fewer row parts

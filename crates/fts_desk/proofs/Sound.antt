@@ -7,7 +7,6 @@ use Rattle.fts_tables.specs.History.{IsAccepted, tables_after}
 use Rattle.fts_tables.specs.declared.limits.TheConstants.{MAX_COMMANDS}
 use Rattle.fts_desk.specs.Prepared.{IsPrepared}
 use Rattle.fts_desk.specs.declared.desk.DeskFault.{DeskFault}
-use Rattle.fts_desk.specs.declared.desk.DeskFault.TheVariants.{Rule, Memory}
 use Rattle.fts_tables.specs.Choice.{pick}
 use Rattle.fts_tables.specs.Laws.{IsStanding}
 use Rattle.fts_tables.specs.declared.places.Place.{Place}
@@ -52,13 +51,6 @@ pub made_as : (T U : Type 0) (outcome : Outcomes) (made : T) (other : U) → IsP
 made_as T U (Ok done) made other prepared = tt
 made_as T U (Err refusal) made other prepared = absurd prepared
 
--- and refused is refused
-pub refused_as : (T U : Type 0) (outcome : Outcomes) (fault : DeskFault) → IsPrepared {T = T} outcome (Err fault) → IsPrepared {T = U} outcome (Err fault)
-refused_as T U (Ok done) Memory prepared = prepared
-refused_as T U (Err refusal) Memory prepared = prepared
-refused_as T U (Ok done) (Rule rule) prepared = prepared
-refused_as T U (Err refusal) (Rule rule) prepared = prepared
-
 -- what was prepared is accepted
 accepted_of : (outcome : Outcomes) (decided : Decided) → IsPrepared {T = Decided} outcome (Ok decided) → IsAccepted outcome
 accepted_of (Ok done) decided prepared = tt
@@ -71,6 +63,13 @@ pub planned_restart : (kept : Kept) (now : ℕ) (settings : SettingsData) (comma
 planned_restart kept now settings command (Ok decided) is given =
     subst (λ command. IsPlanned kept command decided) (sym is) (record { room = tt; files = tt; decided = given now })
 planned_restart kept now settings command (Err fault) is given = tt
+
+-- what was decided for a restart under any settings in force was decided for these
+pub resumed : (kept new : Kept) (settings : SettingsData) (result : Result Decided DeskFault) → kept.settings ≡ Some settings
+    → IfOk result (λ decided. (now : ℕ) (settings : SettingsData) → kept.settings ≡ Some settings → IsDecided new (Restart now settings) decided)
+    → IfOk result (λ decided. (now : ℕ) → IsDecided new (Restart now settings) decided)
+resumed kept new settings (Ok decided) same given = λ now. given now settings same
+resumed kept new settings (Err fault) same given = tt
 
 -- all that a report needs
 pub planned_report : (kept : Kept) (now file attempt : ℕ) (outcome : Outcome) (command : Command) (result : Result Decided DeskFault)

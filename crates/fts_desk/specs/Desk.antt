@@ -12,9 +12,10 @@ use Rattle.fts_tables.specs.declared.commands.Command.TheVariants.{Restart, Subm
 use Rattle.fts_desk.specs.DeskData.{DeskData}
 use Rattle.fts_desk.specs.Kept.{tables_kept, HasRoom}
 use Rattle.fts_desk.specs.Bounds.{AreBounded, BringsFiles}
+use Rattle.fts_desk.specs.Parts.{HaveRoomToRelease}
 use Rattle.fts_desk.specs.declared.kept.Kept.{Kept}
 use Rattle.fts_desk.specs.declared.commands.Decided.{Decided}
-use Rattle.fts_desk.specs.declared.commands.Decided.TheVariants.{Nothing, Claim as Claimed, Restart as Restarted}
+use Rattle.fts_desk.specs.declared.commands.Decided.TheVariants.{Nothing, Claim as Claimed, Restart as Restarted, Resume as Resumed}
 use Rattle.fts_claims.specs.Ties.{flags_of}
 use Rattle.fts_claims.specs.Changes.{AreTiedTo}
 use Rattle.fts_claims.specs.declared.parts.ClaimParts.{ClaimParts}
@@ -48,15 +49,22 @@ pub record IsReleased (kept : Kept) (settings : SettingsData) (parts : ClaimPart
   pub limits : parts.slots.settings ≡ settings
   pub bans : flags ≡ flags_of settings kept.banned.items
 
+-- a run may begin under these settings, which are in force: there is room for each file that is ACTIVE to wait again
+pub record CanResume (kept : Kept) (settings : SettingsData) : Type 0 where
+  pub in_force : kept.settings ≡ Some settings
+  pub room : HaveRoomToRelease kept.rows.items kept.beside.parts
+
 -- the place of the row that a claim picks, and that row's destination
 pub record IsClaimAt (kept : Kept) (now word place : ℕ) (copy : Place) : Type 0 where
   pub at : IsPickedAt (tables_kept kept) now word place
   pub dest : (row : FileRow) → slice_get kept.rows.items place ≡ Some row → row.dest ≡ copy
 
--- what was decided for a command: of a claim the place of its row and that row's destination, of a restart what a claim looks at from then on, with the flags
+-- what was decided for a command: of a claim the place of its row and that row's destination, of a restart what a claim looks at from then on with the
+-- flags, or that it is under the settings in force
 abbrev pub IsDecided : Kept → Command → Decided → Type 0
 IsDecided kept (Restart now settings) Nothing = ⊥
 IsDecided kept (Restart now settings) (Claimed place dest) = ⊥
+IsDecided kept (Restart now settings) Resumed = CanResume kept settings
 IsDecided kept (Restart now settings) (Restarted parts flags) = IsReleased kept settings parts flags.items
 IsDecided kept (Submit now job) decided = Unit {0}
 IsDecided kept (CancelJob now job) decided = Unit {0}
@@ -64,6 +72,7 @@ IsDecided kept (CancelFile now job file) decided = Unit {0}
 IsDecided kept (SetPriority now job priority) decided = Unit {0}
 IsDecided kept (Claim now word) Nothing = ⊥
 IsDecided kept (Claim now word) (Claimed place dest) = IsClaimAt kept now word place dest
+IsDecided kept (Claim now word) Resumed = ⊥
 IsDecided kept (Claim now word) (Restarted parts flags) = ⊥
 IsDecided kept (Report now file attempt outcome) decided = Unit {0}
 IsDecided kept (Ban now storage cancel) decided = Unit {0}

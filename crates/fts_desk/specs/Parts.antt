@@ -1,7 +1,8 @@
 -- What a claim looks at, beside the rows: there from the first Restart on, tied to the rows and jobs, with room for what a command may add.
-use Rattle.std.specs.Prelude.{◌≡◌, ◌≢◌, ℕ, ◌+◌, ◌-◌, ◌<◌, ◌≤◌, Bool, true, List, [], length, slice_get, Option, Some, None, option_map, IfSome}
+use Rattle.std.specs.Prelude.{◌≡◌, ◌≢◌, ℕ, ◌+◌, ◌-◌, ◌<◌, ◌≤◌, Bool, true, List, [], length, slice_get, count_by, Option, Some, None, option_map, IfSome}
 use Rattle.fts_tables.specs.SettingsData.{SettingsData}
 use Rattle.fts_tables.specs.Limits.{has_known_ends}
+use Rattle.fts_tables.specs.Tables.{is_active}
 use Rattle.fts_tables.specs.declared.rows.FileRow.{FileRow}
 use Rattle.fts_tables.specs.declared.rows.JobRow.{JobRow}
 use Rattle.fts_tables.specs.declared.rows.NewFile.{NewFile}
@@ -68,6 +69,15 @@ HaveRisenRooms (Some old) (Some new) = HasRoomsRisen old new
 abbrev pub MayRunIn : FileRow → Option ClaimParts → Type 0
 MayRunIn row None = Unit {0}
 MayRunIn row (Some parts) = MayRun row parts
+
+-- how many rows are ACTIVE
+abbrev pub count_active : List FileRow → ℕ
+count_active rows = count_by (λ row. is_active row.state) rows
+
+-- each ACTIVE row may wait again, with all the others in its queue
+abbrev pub HaveRoomToRelease : List FileRow → Option ClaimParts → Type 0
+HaveRoomToRelease rows parts = (place : ℕ) (row : FileRow) → slice_get rows place ≡ Some row → is_active row.state ≡ true
+    → HasRoomToWait (count_active rows) row parts
 
 -- there is room for the destination of one row more that runs
 abbrev pub HasRoomToRun : Option ClaimParts → Type 0

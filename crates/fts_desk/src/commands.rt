@@ -1,7 +1,8 @@
 //! Each command by its own module: `decide` checks it and makes its room, `make_step` does it once it was decided.
 //! `decide` leaves the tables as they are. What it decides holds while they stay so.
 //! Called by the desk alone, which keeps the decided command between the two.
-ghost use Rattle.std.specs.Prelude.{◌≡◌, ℕ, Bool, Ok, IfOk, length};
+ghost use Rattle.std.specs.Prelude.{◌≡◌, ℕ, Bool, Ok, Some, IfOk, length};
+ghost use Rattle.fts_tables.specs.SettingsData.{SettingsData};
 ghost use Rattle.fts_tables.specs.Tables.{AreNumberedFrom, AreWellFormed};
 ghost use Rattle.fts_tables.specs.Step.{Outcomes, step};
 ghost use Rattle.fts_tables.specs.History.{IsAccepted};
@@ -15,6 +16,7 @@ ghost use Rattle.fts_desk.specs.declared.commands.Decided.TheVariants.{Nothing};
 ghost use Rattle.fts_desk.specs.Prepared.{IsPrepared, IsChecked};
 
 use crate::kept::Kept;
+use crate::same_settings::are_in_force;
 use crate::{DeskFault, bans, cancels, claims, expiries, priority, reports, restart, submit};
 use fts_claims::ClaimParts;
 use fts_tables::{Answer, Command, EndpointName, Memory, NewJob, Place, Refusal, Settings};
@@ -29,6 +31,8 @@ pub enum Decided {
     Claim { place: usize, dest: Place },
     /// Of a restart what a claim looks at from then on, and for each endpoint whether it is banned.
     Restart { parts: ClaimParts, flags: Vec<bool> },
+    /// Of a restart that its settings are those in force.
+    Resume,
 }
 
 /// Checks a command and makes room for it, or says why the machine refuses it.
@@ -53,14 +57,31 @@ pub fn decide(alloc: Global, kept: &mut Kept, command: &Command) -> Result<Decid
     }
 }
 
-/// Decides a restart.
-fn decide_restart(alloc: Global, kept: &Kept, settings: &Settings) -> Result<Decided, DeskFault>
-    requires formed { AreWellFormed (tables_kept kept.now) }
-    ensures answer { (now : ℕ) → IsPrepared (step (tables_kept kept.now) (Restart now settings.now)) result }
-    ensures decided { IfOk result (λ decided. (now : ℕ) → IsDecided kept.now (Restart now settings.now) decided) }
+/// Decides a restart: under the settings in force all that waits stays where it is.
+fn decide_restart(alloc: Global, kept: &mut Kept, settings: &Settings) -> Result<Decided, DeskFault>
+    requires formed { AreWellFormed (tables_kept kept.old) }
+    ensures tables { tables_kept kept.new ≡ tables_kept kept.old }
+    ensures answer { (now : ℕ) → IsPrepared (step (tables_kept kept.old) (Restart now settings.now)) result }
+    ensures decided { IfOk result (λ decided. (now : ℕ) → IsDecided kept.new (Restart now settings.now) decided) }
 {
+    if are_in_force(settings, &kept.settings) {
+        return decide_resume(kept);
+    }
     match restart::prepare_restart(alloc, kept, settings) {
         Ok((parts, flags)) => Ok(Decided::Restart { parts, flags }),
+        Err(Memory) => Err(DeskFault::Memory),
+    }
+}
+
+/// Decides a restart under the settings in force.
+fn decide_resume(kept: &mut Kept) -> Result<Decided, DeskFault>
+    ensures tables { tables_kept kept.new ≡ tables_kept kept.old }
+    ensures answer { (now : ℕ) (settings : SettingsData) → IsPrepared (step (tables_kept kept.old) (Restart now settings)) result }
+    ensures decided { IfOk result (λ decided. (now : ℕ) (settings : SettingsData) → kept.old.settings ≡ Some settings
+        → IsDecided kept.new (Restart now settings) decided) }
+{
+    match restart::make_room(kept) {
+        Ok(()) => Ok(Decided::Resume),
         Err(Memory) => Err(DeskFault::Memory),
     }
 }
@@ -147,6 +168,7 @@ pub fn make_step(kept: &mut Kept, decided: Decided, command: Command) -> Answer
             Decided::Restart { parts, flags } => restart::restart(
                 kept, now, settings, parts, flags,
             ),
+            Decided::Resume => restart::resume(kept, now),
             Decided::Nothing | Decided::Claim { .. } => unreachable!(),
         },
         Command::Submit { now, job } => submit::submit(kept, now, job),
@@ -157,7 +179,7 @@ pub fn make_step(kept: &mut Kept, decided: Decided, command: Command) -> Answer
         ),
         Command::Claim { now, word: _ } => match decided {
             Decided::Claim { place, dest } => claims::claim(kept, now, place, dest),
-            Decided::Nothing | Decided::Restart { .. } => unreachable!(),
+            Decided::Nothing | Decided::Restart { .. } | Decided::Resume => unreachable!(),
         },
         Command::Report {
             now,

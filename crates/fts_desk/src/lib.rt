@@ -20,6 +20,7 @@ mod parts;
 mod priority;
 mod reports;
 mod restart;
+mod same_settings;
 mod sources;
 mod submit;
 mod waking;

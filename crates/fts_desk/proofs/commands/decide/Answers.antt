@@ -14,7 +14,7 @@ returns-in-Restart-clause-answer c =
 
 pub returns-in-Restart-clause-planned : goal.returns-in-Restart-clause-planned
 returns-in-Restart-clause-planned c =
-    planned_restart c.args.kept.now c.in-Restart.now c.in-Restart.settings c.args.command.now c.decide_restart.result c.in-Restart.is
+    planned_restart c.decide_restart.new.kept c.in-Restart.now c.in-Restart.settings c.args.command.now c.decide_restart.result c.in-Restart.is
     c.decide_restart.ensures.decided
 
 pub returns-in-Submit-clause-answer : goal.returns-in-Submit-clause-answer

@@ -1,30 +1,28 @@
--- A row that is given up at its place, and counts anew.
-use Rattle.std.proofs.Common.{set, ap, ◌∙◌}
-use Rattle.std.proofs.lemmas.Option.{get_or_from_slice_get}
-use Rattle.fts_tables.specs.Step.{released}
+-- A row that isn't ACTIVE stays as it is.
+use Rattle.std.proofs.Common.{◌+◌, get_or, ap, arith, sym, ◌∙◌}
+use Rattle.std.proofs.lemmas.Option.{get_or_from_slice_get, slice_get-get_or}
 use Rattle.fts_tables.specs.Tables.{is_active}
+use Rattle.fts_tables.specs.Step.{released}
 use Rattle.fts_tables.specs.declared.rows.FileRow.{FileRow}
-use Rattle.fts_desk.proofs.ChangedRows.{change_at-set}
-use Rattle.fts_desk.proofs.Counted.{counts_before}
-use Rattle.fts_desk.proofs.Released.{released_file}
-use Rattle.fts_desk.proofs.RowsBeside.{site_numbered}
+use Rattle.fts_desk.proofs.CancelledParts.{change_at-same}
+use Rattle.fts_desk.proofs.Released.{released_stays}
+use Rattle.fts_desk.proofs.RowsBeside.{room_fewer}
 use Rattle.fts_desk.proofs.restart.release_at.Goals as goal
 
-pub recount-requires-clause-rows_numbered : goal.recount-requires-clause-rows_numbered
-recount-requires-clause-rows_numbered c =
-    site_numbered c.args.rows.now c.args.place released released_file c.index-rows-place.result c.release_one-was_active.new.row c.requires.inside
-    c.release_one-was_active.ensures.row c.requires.numbered
+pub returns-then-is_active-clause-was : goal.returns-then-is_active-clause-was
+returns-then-is_active-clause-was c = λ row at. sym c.if-is_active.true ∙ (c.is_active.ensures
+    ∙ ap (λ (other : FileRow). is_active other.state) (get_or_from_slice_get c.args.rows.now c.args.place row c.index-rows-place.result at))
 
-pub recount-requires-clause-before : goal.recount-requires-clause-before
-recount-requires-clause-before c =
-    counts_before c.args.jobs.now c.args.rows.now _ c.args.place released released_file c.counted-was.result c.args.counts.now c.requires.inside
-    c.counted-was.ensures.counted c.requires.counts c.index-rows-place.result
-    (ap (set c.args.rows.now c.args.place) c.release_one-was_active.ensures.row)
+pub returns-else-is_active-clause-rows : goal.returns-else-is_active-clause-rows
+returns-else-is_active-clause-rows c =
+    let rows = c.args.rows.now in
+    let row = get_or rows c.args.place c.index-rows-place.result in
+    change_at-same rows c.args.place released row (slice_get-get_or rows c.args.place c.index-rows-place.result c.requires.inside)
+    (released_stays row (sym c.is_active.ensures ∙ c.if-is_active.false))
 
-pub returns-clause-rows : goal.returns-clause-rows
-returns-clause-rows c = change_at-set c.args.rows.now c.args.place released c.index-rows-place.result c.release_one-was_active.new.row c.requires.inside
-    c.release_one-was_active.ensures.row
+pub returns-else-is_active-clause-was : goal.returns-else-is_active-clause-was
+returns-else-is_active-clause-was c = λ row at. sym c.if-is_active.false ∙ (c.is_active.ensures
+    ∙ ap (λ (other : FileRow). is_active other.state) (get_or_from_slice_get c.args.rows.now c.args.place row c.index-rows-place.result at))
 
-pub returns-clause-was : goal.returns-clause-was
-returns-clause-was c = λ row at. c.release_one-was_active.ensures.was
-    ∙ ap (λ (other : FileRow). is_active other.state) (get_or_from_slice_get c.args.rows.now c.args.place row c.index-rows-place.result at)
+pub returns-else-is_active-clause-room : goal.returns-else-is_active-clause-room
+returns-else-is_active-clause-room c = λ count row room. room_fewer count (count + 0) row c.args.beside.now.parts (omega arith) room

@@ -10,15 +10,16 @@ use Rattle.fts_desk.proofs.restart.restart.Goals as goal
 
 pub invariant_of-kept : goal.invariant_of-kept
 invariant_of-kept c =
+    let jobs = c.args.kept.now.jobs.items in
     let stay = with_items_is c.args.kept.now.rows c.release-released.new.rows (c.release-released.auto.rows ∙ c.deref_mut.ensures.len) in
     let left = stay ∙ (c.release-released.ensures.rows ∙ ap (map released) c.deref_mut.ensures.value) in
     record {
       ids_of_jobs = c.args.kept.now.ids_of_jobs;
       beside_rows = record {
-        counts = subst (λ (rows : List FileRow). AreCountsOf c.args.kept.now.jobs.items rows c.release-released.new.counts) (sym stay)
-            (subst (λ (jobs : List JobRow). AreCountsOf jobs c.release-released.new.rows c.release-released.new.counts) c.deref.ensures.value
-            c.release-released.ensures.counts);
-        parts = subst (λ (rows : List FileRow). AreTiedTo c.args.kept.now.jobs.items rows c.args.parts) (sym left) c.requires.tied;
+        counts = subst (λ (rows : List FileRow). AreCountsOf jobs rows c.release-released.new.beside.counts) (sym stay)
+            (subst (λ (jobs : List JobRow). AreCountsOf jobs c.release-released.new.rows c.release-released.new.beside.counts) c.deref.ensures.value
+            c.release-released.ensures.beside.counts);
+        parts = subst (λ (rows : List FileRow). AreTiedTo jobs rows c.args.parts) (sym left) c.requires.tied;
       };
       of_settings = ap (λ settings. Some settings) c.requires.settings;
       of_bans = c.requires.flags;
