@@ -10,7 +10,10 @@ use Rattle.fts_tables.specs.declared.commands.Command.{Command}
 use Rattle.fts_tables.specs.declared.rows.JobRow.{JobRow}
 use Rattle.fts_tables.specs.declared.rows.FileRow.{FileRow}
 use Rattle.fts_jobdoc.specs.Documents.{job_of, priority_of}
+use Rattle.fts_jobdoc.specs.Bans.{ban_of}
 use Rattle.fts_jobdoc.specs.declared.fault.DocFault.{DocFault}
+use Rattle.fts_jobdoc.specs.declared.ban.BanAsk.{BanAsk}
+use Rattle.fts_jobdoc.specs.declared.ban.BanFault.{BanFault}
 use Rattle.fts_wire.specs.RequestData.{RequestData}
 use Rattle.fts_keep.specs.Applied.{Applies, applied_to, entry_by}
 use Rattle.fts_keep.specs.Keeps.{used_of}
@@ -19,9 +22,9 @@ use Rattle.fts_keep.specs.declared.fault.KeepFault.TheVariants.{Rule, DiskFailed
 use Rattle.fts_tables.specs.History.{tables_of}
 use Rattle.fts_routes.specs.Objects.{endpoint_object, link_object, settings_in, weight_object}
 use Rattle.fts_routes.specs.Refusals.{no_route}
-use Rattle.fts_routes.specs.Routes.{Route, Jobs, Job, Files, File, Links, Endpoints, Shares, route_of, job_named, file_named}
-use Rattle.fts_routes.specs.Queries.{QueryFault, asked_in}
-use Rattle.fts_routes.specs.Replies.{Plan, Replies, Tries, Way, AsDefined, WithoutMemory, WithoutDisk, if_job, if_file, if_read, jobs_plan, submission, has_method, plan_on_jobs, look_at_job, cancellation, prioritization, plan_on_job, look_at_files, plan_on_files, file_cancellation, plan_on_file, look_at_settings, plan_on, plan_of, said_by, said_to, said_over, said_so}
+use Rattle.fts_routes.specs.Routes.{Route, Jobs, Job, Files, File, Links, Endpoints, Shares, Bans, route_of, job_named, file_named}
+use Rattle.fts_routes.specs.Queries.{QueryFault, asked_in, storage_asked}
+use Rattle.fts_routes.specs.Replies.{Plan, Replies, Tries, Way, AsDefined, WithoutMemory, WithoutDisk, if_job, if_file, if_read, if_ban, if_storage, banning, unbanning, plan_on_bans, jobs_plan, submission, has_method, plan_on_jobs, look_at_job, cancellation, prioritization, plan_on_job, look_at_files, plan_on_files, file_cancellation, plan_on_file, look_at_settings, plan_on, plan_of, said_by, said_to, said_over, said_so}
 use Rattle.fts_ledger.specs.Reports.{AddsAsked, IsAsked}
 
 -- a plan that tries a client's command, or none
@@ -76,6 +79,20 @@ on_file tables now request id file =
 on_settings : {A : Type 0} (request : RequestData) (shown : A → Data) (items : List A) → PlansAsked (look_at_settings request shown items)
 on_settings request shown items = either (has_method request (codes "GET")) _ _ tt tt
 
+ban_asked : (read : Result BanAsk BanFault) (plan : BanAsk → Plan) → ((asked : BanAsk) → PlansAsked (plan asked)) → PlansAsked (if_ban read plan)
+ban_asked (Err fault) plan asks = tt
+ban_asked (Ok asked) plan asks = asks asked
+
+storage_is_asked : (storage : Option (List ℕ)) (plan : List ℕ → Plan) → ((name : List ℕ) → PlansAsked (plan name)) → PlansAsked (if_storage storage plan)
+storage_is_asked None plan asks = tt
+storage_is_asked (Some name) plan asks = asks name
+
+on_bans : (tables : Tables) (now : ℕ) (request : RequestData) → PlansAsked (plan_on_bans tables now request)
+on_bans tables now request =
+    either (has_method request (codes "GET")) _ _ tt
+    (either (has_method request (codes "POST")) _ _ (ban_asked (ban_of request.body) (banning tables now) (λ asked. tt))
+    (either (has_method request (codes "DELETE")) _ _ (storage_is_asked (storage_asked request.query) (unbanning now) (λ name. tt)) tt))
+
 on_route : (tables : Tables) (now : ℕ) (request : RequestData) (route : Route) → PlansAsked (plan_on tables now request route)
 on_route tables now request Jobs = on_jobs tables now request
 on_route tables now request (Job id) = on_job tables now request id
@@ -84,6 +101,7 @@ on_route tables now request (File id file) = on_file tables now request id file
 on_route tables now request Links = on_settings request link_object (settings_in tables).links
 on_route tables now request Endpoints = on_settings request endpoint_object (settings_in tables).endpoints
 on_route tables now request Shares = on_settings request weight_object (settings_in tables).weights
+on_route tables now request Bans = on_bans tables now request
 
 plan_asked : (tables : Tables) (now : ℕ) (request : RequestData) → PlansAsked (plan_of tables now request)
 plan_asked tables now request = by (route_of request.path)
