@@ -1,8 +1,7 @@
 -- Each try is one dial, and leaves as many lines out as there were.
-use Rattle.std.proofs.Common.{◌≡◌, ℕ, zero, suc, ◌+◌, ◌-◌, List, [], ◌∷◌, length, Option, Some, None, Ok, refl, ap, sym, ◌∙◌, arith}
-use Rattle.std.specs.Prelude.{min}
+use Rattle.std.proofs.Common.{◌≡◌, ℕ, zero, suc, ◌+◌, ◌-◌, List, [], ◌∷◌, length, Option, Some, None, refl, ap, ◌∙◌, arith}
 use Rattle.fts_wire.specs.Outside.{Side, raised}
-use Rattle.fts_client.specs.Links.{LinkData, GivesFirst, given_out}
+use Rattle.fts_client.specs.Links.{LinkData, GivesFirst}
 use Rattle.fts_client.specs.Tries.{Try, NoLine, NotSent, Sent, OverLine, TriesLink, AreTried}
 
 -- a count that went up by one and then by so many

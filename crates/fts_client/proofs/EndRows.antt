@@ -6,7 +6,7 @@ use Rattle.serde_json.proofs.OnLiterals.{serde_json_on_literals}
 use Rattle.fts_client.specs.Worlds.{Done, Refused, CannotServe, NoAnswer}
 use Rattle.fts_client.specs.Tries.{Try, NoLine, NotSent, Sent}
 use Rattle.fts_client.specs.Ends.{IsSubmitEnd, IsQueryEnd}
-use Rattle.fts_client.specs.declared.answers.AnswerFault.TheVariants.{EndsInside}
+use Rattle.fts_wire.specs.declared.answers.AnswerFault.TheVariants.{EndsInside}
 use Rattle.fts_client.specs.declared.ends.SubmitEnd.TheVariants.{Done as SubmitDone, Refused as SubmitRefused, LinkFailed as SubmitLinkFailed, CannotServe as SubmitCannotServe, NoAnswer as SubmitNoAnswer}
 use Rattle.fts_client.specs.declared.ends.QueryEnd.TheVariants.{Found, Refused as QueryRefused}
 

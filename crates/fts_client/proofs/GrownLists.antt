@@ -1,6 +1,6 @@
 -- Lists that grow: what holds of each item, legal lists, and the VO's name of a list with more behind it.
 use Rattle.std.proofs.Common.{◌≡◌, ℕ, zero, suc, Bool, true, false, cond, List, [], ◌∷◌, ◌++◌, slice_get, Option, Some, None, Ok, Err, refl, ap, sym, ◌∙◌, append-nil, true≢false, eqb-true}
-use Rattle.std.specs.Prelude.{not, ◌&&◌, ◌==◌, bytes_eq}
+use Rattle.std.specs.Prelude.{◌==◌, bytes_eq}
 use Rattle.std.proofs.lemmas.Bool.{and_parts}
 use Rattle.fts_tables.specs.Tables.{Tables, empty_tables}
 use Rattle.fts_tables.specs.Step.{Outcomes, step}

@@ -1,10 +1,10 @@
 -- What a response is heard as, and how a query's tries end by it.
-use Rattle.std.proofs.Common.{◌≡◌, ◌⊎◌, inl, inr, ℕ, ◌≤◌, Bool, true, false, List, [], ◌∷◌, length, Option, Some, None, Ok, Err, refl, sym, subst, eqb-true}
+use Rattle.std.proofs.Common.{◌≡◌, ◌⊎◌, inl, inr, ℕ, Bool, true, false, List, [], ◌∷◌, Option, Some, None, Ok, Err, refl, sym, subst, eqb-true}
 use Rattle.std.specs.Prelude.{◌==◌, ◌||◌, if◌then◌else◌}
 use Rattle.fts_wire.specs.Outside.{Side}
-use Rattle.fts_client.specs.NextAnswers.{AnswerData, AnswerRoomData}
-use Rattle.fts_client.specs.Worlds.{Heard, Done, Refused, CannotServe, NoAnswer}
-use Rattle.fts_client.specs.Hearing.{done_by, heard_in, shown_in}
+use Rattle.fts_wire.specs.NextAnswers.{AnswerData, AnswerRoomData}
+use Rattle.fts_client.specs.Worlds.{Heard, Done, Refused, CannotServe}
+use Rattle.fts_client.specs.Hearing.{done_by, shown_in}
 use Rattle.fts_client.specs.Links.{LinkData}
 use Rattle.fts_client.specs.Tries.{Try, NoLine, NotSent, Sent, AreTried}
 use Rattle.fts_client.specs.Ends.{says_to_submission, says_to_query, Says, HasStatus, EndsWith, IsEnd, IsQueryEnd, Repeated, SaysSo, end_by}

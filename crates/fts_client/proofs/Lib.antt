@@ -4,6 +4,7 @@ mod HeardRuns
 mod HeardTries
 mod CountedDials
 mod OneTry
+mod FailedLines
 mod MoreTries
 mod BodyValues
 mod HeardEnds

@@ -1,8 +1,8 @@
 -- One try more behind those so far.
-use Rattle.std.proofs.Common.{◌≡◌, ℕ, ◌+◌, ◌≤◌, Bool, true, false, List, [], ◌∷◌, ◌++◌, length, Ok, Err, refl, ap, sym, ◌∙◌, subst, arith, true≢false, length-append}
+use Rattle.std.proofs.Common.{◌≡◌, ℕ, ◌+◌, ◌≤◌, true, false, List, [], ◌∷◌, ◌++◌, length, Ok, Err, refl, ap, sym, ◌∙◌, subst, arith, true≢false, length-append}
 use Rattle.std.specs.List.{AllByRecursion}
 use Rattle.fts_wire.specs.Outside.{Side}
-use Rattle.fts_client.specs.NextAnswers.{AnswerData, AnswerRoomData, held_behind}
+use Rattle.fts_wire.specs.NextAnswers.{AnswerData, AnswerRoomData, held_behind}
 use Rattle.fts_client.specs.Worlds.{Heard, NoAnswer}
 use Rattle.fts_client.specs.Links.{LinkData}
 use Rattle.fts_client.specs.Tries.{Try, NoLine, NotSent, Sent, IsByLink, IsTried, AreTried}

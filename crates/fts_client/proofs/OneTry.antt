@@ -1,13 +1,13 @@
 -- One try over a line that was given: what its calls say of the line, put together.
-use Rattle.std.proofs.Common.{◌≡◌, ◌⊎◌, inl, inr, ℕ, ◌<◌, ◌≤◌, List, Option, Some, None, Result, Ok, Err, refl, ap, sym, ◌∙◌, subst, arith}
-use Rattle.fts_tables.specs.Counts.{Rose, CountsFaults}
+use Rattle.std.proofs.Common.{◌≡◌, inl, inr, ℕ, ◌≤◌, List, Option, Some, None, Result, Ok, Err, ap, sym, ◌∙◌, subst, arith}
+use Rattle.fts_tables.specs.Counts.{Rose}
 use Rattle.fts_wire.specs.Outside.{Beside, Side, side_at, IsLine}
 use Rattle.fts_wire.specs.Response.{Sends}
-use Rattle.fts_client.specs.NextAnswers.{AnswerData, ReadsAnswer, AnswerCause}
+use Rattle.fts_wire.specs.NextAnswers.{AnswerData, ReadsAnswer, AnswerCause}
 use Rattle.fts_client.specs.Links.{LinkData, Dials, with_one_back, CountsLine}
-use Rattle.fts_client.specs.Tries.{NotSent, Sent, IsByLink, ReadsNothing, IsTried}
-use Rattle.fts_client.specs.declared.answers.AnswerFault.{AnswerFault}
-use Rattle.fts_client.specs.declared.answers.AnswerFault.TheVariants.{BadResponse, EndsInside, SourceFailed}
+use Rattle.fts_client.specs.Tries.{NotSent, Sent, IsByLink, IsTried}
+use Rattle.fts_wire.specs.declared.answers.AnswerFault.{AnswerFault}
+use Rattle.fts_wire.specs.declared.answers.AnswerFault.TheVariants.{BadResponse, EndsInside, SourceFailed}
 use Rattle.fts_client.specs.declared.link.LinkFailed.{LinkFailed}
 
 -- what was sent doesn't depend on how a failure is told

@@ -1,14 +1,13 @@
 -- How a client's tries end: which try is the last, and what it says.
 use Rattle.std.specs.Prelude.{◌≡◌, ℕ, ◌≤◌, ◌==◌, ◌||◌, Bool, true, false, if◌then◌else◌, List, [], ◌∷◌, length, Option, Some, None, Ok, Err}
 use Rattle.fts_wire.specs.Outside.{Side}
-use Rattle.fts_wire.specs.declared.response.Reply.{Reply}
-use Rattle.fts_client.specs.NextAnswers.{AnswerData, AnswerRoomData, held_behind}
+use Rattle.fts_wire.specs.NextAnswers.{AnswerData, AnswerRoomData, held_behind}
 use Rattle.fts_client.specs.Worlds.{Heard, Done, Refused, CannotServe, NoAnswer}
 use Rattle.fts_client.specs.Hearing.{heard_in, shown_in}
 use Rattle.fts_client.specs.Links.{LinkData}
 use Rattle.fts_client.specs.RequestBytes.{submission_bytes, query_bytes}
 use Rattle.fts_client.specs.Tries.{Try, NoLine, NotSent, Sent, IsByLink, AreTried}
-use Rattle.fts_client.specs.declared.answers.AnswerFault.TheVariants.{BadResponse, EndsInside, SourceFailed}
+use Rattle.fts_wire.specs.declared.answers.AnswerFault.TheVariants.{BadResponse, EndsInside, SourceFailed}
 use Rattle.fts_client.specs.declared.ends.SubmitEnd.{SubmitEnd}
 use Rattle.fts_client.specs.declared.ends.SubmitEnd.TheVariants.{Done as SubmitDone, Refused as SubmitRefused, LinkFailed as SubmitLinkFailed, CannotServe as SubmitCannotServe, NoAnswer as SubmitNoAnswer, Memory as SubmitMemory}
 use Rattle.fts_client.specs.declared.ends.QueryEnd.{QueryEnd}
@@ -117,10 +116,6 @@ Submitted read written port document most end = Repeated read written (submissio
 -- what asking for a job on a port did
 abbrev pub Queried : {L : Type 0} → Side L → Side L → ℕ → ℕ → ℕ → QueryEnd → LinkData L → LinkData L → ℕ → ℕ → AnswerRoomData → AnswerRoomData → Type 0
 Queried read written port job most end = Repeated read written (query_bytes port job) (λ tries. IsQueryEnd most tries end)
-
--- a reply as a client sees it
-abbrev pub answer_of : Reply → AnswerData
-answer_of reply = record { status = reply.status; body = reply.body }
 
 -- ---- the end that a try would be
 

@@ -13,8 +13,12 @@ submission_head port size =
 abbrev pub submission_bytes : ℕ → List ℕ → List ℕ
 submission_bytes port document = submission_head port (length document) ++ document
 
+-- an id as a UUID in lower case (RFC 9562)
+unfoldable pub id_text : ℕ → List ℕ
+id_text job = hyphenated_text lower (to_be_bytes w128 job)
+
 -- the request that asks for the job with this id
 abbrev pub query_bytes : ℕ → ℕ → List ℕ
 query_bytes port job =
-    codes "GET /jobs/" ++ hyphenated_text lower (to_be_bytes w128 job) ++ codes " HTTP/1.1\r\nHost: 127.0.0.1:" ++ decimal port
+    codes "GET /jobs/" ++ id_text job ++ codes " HTTP/1.1\r\nHost: 127.0.0.1:" ++ decimal port
     ++ codes "\r\nConnection: close\r\n\r\n"

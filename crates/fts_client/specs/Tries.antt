@@ -3,10 +3,10 @@ use Rattle.std.specs.Prelude.{◌≡◌, ℕ, ◌≤◌, List, [], ◌∷◌, Re
 use Rattle.fts_tables.specs.Counts.{Rose}
 use Rattle.fts_wire.specs.Outside.{Side}
 use Rattle.fts_wire.specs.Response.{Sends}
-use Rattle.fts_client.specs.NextAnswers.{AnswerData, ReadsAnswer, loaded}
+use Rattle.fts_wire.specs.NextAnswers.{AnswerData, ReadsAnswer, loaded}
 use Rattle.fts_client.specs.Links.{LinkData, dialed, Dials, with_one_back}
-use Rattle.fts_client.specs.declared.answers.AnswerFault.{AnswerFault}
-use Rattle.fts_client.specs.declared.answers.AnswerFault.TheVariants.{BadResponse, EndsInside, SourceFailed}
+use Rattle.fts_wire.specs.declared.answers.AnswerFault.{AnswerFault}
+use Rattle.fts_wire.specs.declared.answers.AnswerFault.TheVariants.{BadResponse, EndsInside, SourceFailed}
 use Rattle.fts_client.specs.declared.link.LinkFailed.{LinkFailed}
 use Rattle.fts_client.specs.declared.tries.Tried.{Tried}
 use Rattle.fts_client.specs.declared.tries.Tried.TheVariants.{NoLine as TriedNoLine, NotSent as TriedNotSent, Sent as TriedSent}

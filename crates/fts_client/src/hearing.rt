@@ -6,7 +6,7 @@ ghost use Rattle.std.specs.Prelude.{◌≡◌, ◌⊎◌, Ok, IfOk, codes, optio
 ghost use Rattle.serde_json.specs.Find.{get, as_str};
 ghost use Rattle.serde_json.specs.View.{view};
 ghost use Rattle.fts_jobdoc.specs.Json.{value_of};
-ghost use Rattle.fts_client.specs.NextAnswers.{AnswerData};
+ghost use Rattle.fts_wire.specs.NextAnswers.{AnswerData};
 ghost use Rattle.fts_client.specs.Worlds.{Heard};
 ghost use Rattle.fts_client.specs.Hearing.{id_spelled, job_named_in};
 ghost use Rattle.fts_client.specs.Tries.{Sent};

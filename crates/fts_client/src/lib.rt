@@ -4,10 +4,10 @@
 //! Called by the commands `submit` and `query`, and by a standby. Which link is real, and what the service replies, are not known here.
 #![tactic(auto)]
 
-mod answers;
 mod ends;
 mod hearing;
 mod link;
+mod memory_link;
 mod querying;
 mod repeating;
 mod requests;
@@ -15,9 +15,9 @@ mod submitting;
 mod tries;
 mod worlds;
 
-pub use answers::{AnswerCalls, AnswerFault, Answered};
 pub use ends::{QueryEnd, SubmitEnd};
 pub use link::{Link, LinkFailed};
+pub use memory_link::MemoryLink;
 pub use querying::query;
 pub use submitting::submit;
 pub use tries::{Tried, each_try_is_a_dial, try_once};

@@ -6,28 +6,28 @@ ghost use Rattle.std.specs.List.{concat};
 ghost use Rattle.fts_client.specs.Tries.{try_of};
 ghost use Rattle.fts_client.specs.Ends.{SaysSo, is_last, IsEnd, Repeated};
 
-use crate::answers::{AnswerCalls, AnswerFault};
 use crate::ends::SubmitEnd;
 use crate::hearing::Hears;
 use crate::link::Link;
 use crate::tries::{Tried, try_once};
+use fts_wire::{AnswerFault, AnswerRoom};
 use std::alloc::Global;
 
 /// Writes a request in each try, until one ends them or they are used up.
-pub fn repeat<L: Link, R: AnswerCalls, H: Hears>(
+pub fn repeat<L: Link, H: Hears>(
     alloc: Global,
     link: &mut L,
     port: u16,
     request: &[&[u8]],
     tries: u32,
-    room: &mut R,
+    room: &mut AnswerRoom,
 ) -> SubmitEnd
     requires some { 1 ≤ tries }
     ensures { Repeated
         (record { bytes = L.Line.Source.left; faults = L.Line.Source.faults; reads = L.Line.Source.reads; beside = L.Line.Source.beside })
         (record { bytes = L.Line.Sink.held; faults = L.Line.Sink.faults; reads = λ _. 0; beside = L.Line.Sink.beside })
         (concat (map (λ part. part.now) request.now)) (λ all. IsEnd H.says tries all result)
-        (L.link link.old) (L.link link.new) (L.faults link.old) (L.faults link.new) (R.model room.old) (R.model room.new) }
+        (L.link link.old) (L.link link.new) (L.faults link.old) (L.faults link.new) room.old (room.new) }
 {
     let mut end = SubmitEnd::NoAnswer;
     for _ in 0..tries {

@@ -9,9 +9,8 @@ ghost use Rattle.fts_client.specs.Links.{LinkData};
 ghost use Rattle.fts_client.specs.Tries.{Try, IsTried, AreTried, try_of};
 ghost use Rattle.fts_client.specs.Ends.{room_behind};
 
-use crate::answers::{AnswerCalls, AnswerFault};
 use crate::link::{Link, LinkFailed};
-use fts_wire::{SinkFailed, send_parts};
+use fts_wire::{AnswerFault, AnswerRoom, SinkFailed, send_parts};
 
 /// How a try went.
 #[derive(Clone, Copy, Debug, PartialEq, Eq)]
@@ -25,18 +24,13 @@ pub enum Tried {
 }
 
 /// One try, with a request that is handed over in parts.
-pub fn try_once<L: Link, R: AnswerCalls>(
-    link: &mut L,
-    port: u16,
-    request: &[&[u8]],
-    room: &mut R,
-) -> Tried
+pub fn try_once<L: Link>(link: &mut L, port: u16, request: &[&[u8]], room: &mut AnswerRoom) -> Tried
     ensures tried { IsTried
         (record { bytes = L.Line.Source.left; faults = L.Line.Source.faults; reads = L.Line.Source.reads; beside = L.Line.Source.beside })
         (record { bytes = L.Line.Sink.held; faults = L.Line.Sink.faults; reads = λ _. 0; beside = L.Line.Sink.beside })
         (concat (map (λ part. part.now) request.now)) (L.link link.old) (L.link link.new) (L.faults link.old) (L.faults link.new)
-        (try_of result (R.model room.new).body) }
-    ensures room { R.model room.new ≡ room_behind (R.model room.old) (try_of result (R.model room.new).body ∷ []) }
+        (try_of result room.new.body) }
+    ensures room { room.new ≡ room_behind room.old (try_of result room.new.body ∷ []) }
 {
     let mut line = match link.dial(port) {
         Ok(line) => line,

@@ -1,5 +1,5 @@
 -- A text that is no UUID spells no id.
-use Rattle.std.proofs.Common.{◌≡◌, ℕ, Some, None, refl, sym, true≢false}
+use Rattle.std.proofs.Common.{refl, sym, true≢false}
 use Rattle.uuid.specs.Text.{parsed}
 use Rattle.fts_client.proofs.BodyValues.{not_parsed}
 use Rattle.fts_client.proofs.hearing.id_spelled.Goals as goal

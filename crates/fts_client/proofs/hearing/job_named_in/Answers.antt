@@ -7,10 +7,10 @@ use Rattle.fts_client.proofs.hearing.job_named_in.Goals as goal
 
 pub returns-in-Some : goal.returns-in-Some
 returns-in-Some c =
-    let value : value_of c.args.body.now ≡ Some (view c.in-Some.value) = sym c.in_ok-read_value.ensures ∙ ap (option_map view) c.in-Some.is in
+    let value : value_of c.args.body.now ≡ Some (view c.in-Some.value) = sym c.in_ok-value.ensures ∙ ap (option_map view) c.in-Some.is in
     rw value c.id_in.ensures
 
 pub returns-in-None : goal.returns-in-None
 returns-in-None c =
-    let value : value_of c.args.body.now ≡ None = sym c.in_ok-read_value.ensures ∙ ap (option_map view) c.in-None.is in
+    let value : value_of c.args.body.now ≡ None = sym c.in_ok-value.ensures ∙ ap (option_map view) c.in-None.is in
     rw value refl

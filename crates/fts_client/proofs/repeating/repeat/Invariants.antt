@@ -10,4 +10,4 @@ invariant-loop g l = TriedSoFar g.H.Hears.says
     (record { bytes = g.L.Line.Sink.held; faults = g.L.Line.Sink.faults; reads = λ x. 0; beside = g.L.Line.Sink.beside })
     (concat (map (λ part. part.now) l.request)) l.counter
     (g.L.Link.link l.fn.link) (g.L.Link.link l.link) (g.L.Link.faults l.fn.link) (g.L.Link.faults l.link)
-    (g.R.AnswerCalls.model l.fn.room) (g.R.AnswerCalls.model l.room) l.end
+    l.fn.room l.room l.end
