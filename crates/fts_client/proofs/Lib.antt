@@ -1,0 +1,13 @@
+mod GrownLists
+mod KeptWorlds
+mod HeardRuns
+mod HeardTries
+mod CountedDials
+mod OneTry
+mod FailedLines
+mod MoreTries
+mod BodyValues
+mod HeardEnds
+mod WorldRows
+mod EndRows
+mod HeardRows
