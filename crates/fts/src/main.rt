@@ -14,6 +14,7 @@ ghost use Rattle.fts.specs.CommandLine.{stand_of, words_of, asks_service, exit_s
 
 mod accepting;
 mod outside;
+mod relief;
 #[cfg(test)]
 mod sockets;
 mod steps;
@@ -132,7 +133,7 @@ fn closed_doors(rt: &HostRuntime) -> Result<Vec<TcpDoors<&HostRuntime>>, Memory>
     let mut doors = Vec::new(rt.alloc());
     for _ in 0..LANES {
         if doors
-            .push(TcpDoors::new(rt, LineLimits::of_service()))
+            .push(TcpDoors::new(rt, rt.alloc(), LineLimits::of_service()))
             .is_err()
         {
             return Err(Memory);
