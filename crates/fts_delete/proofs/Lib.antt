@@ -24,3 +24,7 @@ pub mod Since
 pub mod AskExits
 pub mod RowExits
 pub mod PlacesLoop
+pub mod JsonLemmas
+pub mod UrlLemmas
+pub mod Left
+pub mod AskedBy

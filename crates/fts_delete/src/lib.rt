@@ -23,7 +23,7 @@ mod visits;
 mod walking;
 
 pub use deletes::Deletes;
-pub use document::DeleteDocFault;
+pub use document::{DeleteDocFault, read_deletes};
 pub use fault::DeleteFault;
 pub use limits::{MAX_ASKED, MAX_DELETE_ROWS};
 pub use rows::{DeleteRow, DeleteState};
