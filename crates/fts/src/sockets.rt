@@ -264,7 +264,7 @@ fn a_client_that_closes_in_the_middle_harms_no_other(rt: HostRuntime) -> Result<
 const GET: &[u8] = b"GET /jobs HTTP/1.1\r\n\r\n";
 
 /// Serves a client of the doors that sends these bytes, a request and what comes behind it, and then stays silent, while another one connects.
-/// What the line is found to be then, and whether the other one is served next.
+/// What the line is found to be then, and whether its first request was answered and the other one is served next.
 fn serve_beside_another(
     rt: &HostRuntime,
     bytes: &[u8],
@@ -274,9 +274,7 @@ fn serve_beside_another(
     let mut kept = connect(rt, port)?;
     kept.write_all(bytes)?;
     let mut line = next_line(&mut doors)?;
-    let is_asked = room.load(&mut line) == Ok(true);
-    let is_answered = is_asked && line.write(b"x").is_ok();
-    assert!(rt; is_answered, "its first request is answered");
+    let is_answered = room.load(&mut line) == Ok(true) && line.write(b"x").is_ok();
     let mut other = connect(rt, port)?;
     other.write_all(GET)?;
     let found = room.load(&mut line);
@@ -284,7 +282,7 @@ fn serve_beside_another(
     let next = load_next(rt, &mut doors)?;
     drop(kept);
     drop(other);
-    Ok((found, next == Ok(true)))
+    Ok((found, is_answered && next == Ok(true)))
 }
 
 #[test]
