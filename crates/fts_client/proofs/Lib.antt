@@ -1,7 +1,7 @@
-mod GrownLists
-mod KeptWorlds
-mod HeardRuns
-mod HeardTries
+pub mod GrownLists
+pub mod KeptWorlds
+pub mod HeardRuns
+pub mod HeardTries
 mod CountedDials
 mod OneTry
 mod FailedLines
