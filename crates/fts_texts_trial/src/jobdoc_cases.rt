@@ -735,3 +735,72 @@ pub const PRIORITIES: [(&str, &str, (u32, u32, &str)); 8] = [
     ("a number", "5", (0, 2, "not an object")),
     ("nothing", "", (0, 1, "not JSON")),
 ];
+
+/// A sentence, a document, the own id that a client reads in it, and the rule and message of the refusal.
+pub type SidCase = (&'static str, &'static str, &'static str, u32, &'static str);
+
+/// Documents whose own id is read before they are sent.
+pub const SIDS: [SidCase; 14] = [
+    ("an example", MULTIHOP, "f1 there and back", 0, ""),
+    (
+        "what else the document has isn't looked at",
+        "{\"files\":0,\"params\":{\"id_generator\":\"deterministic\",\"sid\":\"a1\",\"retry\":99}}",
+        "a1",
+        0,
+        "",
+    ),
+    (
+        "an id that the service makes",
+        "{\"params\":{\"id_generator\":\"standard\",\"sid\":\"a1\"}}",
+        "",
+        24,
+        "bad sid",
+    ),
+    (
+        "a sid, and nothing of how the id is made",
+        "{\"params\":{\"sid\":\"a1\"}}",
+        "",
+        24,
+        "bad sid",
+    ),
+    ("an example without one", ONE_FILE, "", 24, "bad sid"),
+    ("an ordinary document", ORDINARY, "", 24, "bad sid"),
+    (
+        "another way to make ids",
+        "{\"params\":{\"id_generator\":\"random\",\"sid\":\"a1\"}}",
+        "",
+        24,
+        "bad sid",
+    ),
+    (
+        "no sid",
+        "{\"params\":{\"id_generator\":\"deterministic\"}}",
+        "",
+        24,
+        "bad sid",
+    ),
+    (
+        "an empty sid",
+        "{\"params\":{\"id_generator\":\"deterministic\",\"sid\":\"\"}}",
+        "",
+        24,
+        "bad sid",
+    ),
+    (
+        "a number for the sid",
+        "{\"params\":{\"id_generator\":\"deterministic\",\"sid\":1}}",
+        "",
+        24,
+        "bad sid",
+    ),
+    (
+        "a list for the parameters",
+        "{\"params\":[]}",
+        "",
+        16,
+        "params is not an object",
+    ),
+    ("a list", "[]", "", 2, "not an object"),
+    ("an object that doesn't end", "{", "", 1, "not JSON"),
+    ("nothing", "", "", 1, "not JSON"),
+];
