@@ -274,9 +274,9 @@ fn serve_beside_another(
     let mut kept = connect(rt, port)?;
     kept.write_all(bytes)?;
     let mut line = next_line(&mut doors)?;
-    let is_asked = room.load(&mut line) == Ok(true);
-    let is_answered = is_asked && line.write(b"x").is_ok();
-    assert!(rt; is_answered, "its first request is answered");
+    if room.load(&mut line) != Ok(true) || line.write(b"x").is_err() {
+        return Err(Fail::new("its first request is not answered"));
+    }
     let mut other = connect(rt, port)?;
     other.write_all(GET)?;
     let found = room.load(&mut line);
