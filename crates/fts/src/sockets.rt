@@ -261,64 +261,6 @@ fn a_client_that_closes_in_the_middle_harms_no_other(rt: HostRuntime) -> Result<
     Ok(())
 }
 
-const GET: &[u8] = b"GET /jobs HTTP/1.1\r\n\r\n";
-
-/// Serves a client of the doors that sends these bytes, a request and what comes behind it, and then stays silent, while another one connects.
-/// What the line is found to be then, and whether the other one is served next.
-fn serve_beside_another(
-    rt: &HostRuntime,
-    bytes: &[u8],
-) -> Result<(Result<bool, WireFault>, bool), Fail> {
-    let (mut doors, port) = open_doors(rt, short_limits())?;
-    let mut room = Room::new(rt.alloc())?;
-    let mut kept = connect(rt, port)?;
-    kept.write_all(bytes)?;
-    let mut line = next_line(&mut doors)?;
-    if room.load(&mut line) != Ok(true) || line.write(b"x").is_err() {
-        return Err(Fail::new("its first request is not answered"));
-    }
-    let mut other = connect(rt, port)?;
-    other.write_all(GET)?;
-    let found = room.load(&mut line);
-    doors.done(line);
-    let next = load_next(rt, &mut doors)?;
-    drop(kept);
-    drop(other);
-    Ok((found, next == Ok(true)))
-}
-
-#[test]
-fn a_silent_line_gives_way_between_two_requests(rt: HostRuntime) -> Result<(), Fail> {
-    let (found, is_next) = serve_beside_another(&rt, GET)?;
-    assert!(rt; found == Ok(false), "the silent line is at its end");
-    assert!(rt; is_next, "and the connection that waited is the next one");
-    Ok(())
-}
-
-#[test]
-fn a_request_that_began_gives_way_to_none(rt: HostRuntime) -> Result<(), Fail> {
-    let rows: [(&str, &[u8]); 3] = [
-        ("its first byte came", b"GET /jobs HTTP/1.1\r\n\r\nG"),
-        (
-            "its head came",
-            b"GET /jobs HTTP/1.1\r\n\r\nPOST /jobs HTTP/1.1\r\nContent-Length: 2\r\n\r\n",
-        ),
-        (
-            "a part of its body came",
-            b"GET /jobs HTTP/1.1\r\n\r\nPOST /jobs HTTP/1.1\r\nContent-Length: 2\r\n\r\n{",
-        ),
-    ];
-    for (case, bytes) in rows {
-        let (found, is_next) = serve_beside_another(&rt, bytes)?;
-        assert!(rt;
-            found == Err(WireFault::SourceFailed),
-            "{case}: it is waited for"
-        );
-        assert!(rt; is_next, "{case}: the other is served behind it");
-    }
-    Ok(())
-}
-
 /// A head that announces more than a body may have, the body, and then what is answered.
 fn send_too_much(rt: &HostRuntime, client: &mut TcpStream) -> io::Result<Vec<u8>> {
     let body = vec![in rt.alloc(); 7; 4_000_000]?;
