@@ -1,0 +1,5 @@
+pub mod Prefixes
+pub mod Taking
+mod WrittenOut
+mod Showing
+mod Answered
