@@ -285,7 +285,14 @@ fn asks_service(words: &[String]) -> bool
 {
     match read_words(words) {
         Some(Asked::Session | Asked::Load { .. } | Asked::Serve { .. }) => true,
-        Some(Asked::Show) | None => false,
+        Some(
+            Asked::Show
+            | Asked::Submit { .. }
+            | Asked::Query { .. }
+            | Asked::Delete
+            | Asked::Follow { .. },
+        )
+        | None => false,
     }
 }
 
@@ -317,7 +324,14 @@ fn disk_for<'a>(rt: &'a HostRuntime, words: &[String], path: &str) -> SystemDisk
 {
     match read_words(words) {
         Some(Asked::Session | Asked::Load { .. } | Asked::Serve { .. }) => FileDisk::open(rt, path),
-        Some(Asked::Show) | None => FileDisk::view(rt, path),
+        Some(
+            Asked::Show
+            | Asked::Submit { .. }
+            | Asked::Query { .. }
+            | Asked::Delete
+            | Asked::Follow { .. },
+        )
+        | None => FileDisk::view(rt, path),
     }
 }
 

@@ -30,7 +30,7 @@ use Rattle.fts_workers.specs.declared.ends.RoundEnd.{RoundEnd}
 use Rattle.fts_workers.specs.declared.ends.RoundEnd.TheVariants as round_ends
 use Rattle.fts_words.specs.declared.asked.Asked.{Asked}
 use Rattle.fts_words.specs.declared.asked.Asked.TheVariants as asks
-use Rattle.fts_top.specs.Asked.{DoesAsked}
+use Rattle.fts_top.specs.Asked.{is_refused, DoesAsked}
 use Rattle.fts_session.specs.Connections.{Reading, Exchange, requests_of, responses_of, AreRequestsIn, GoOn, EndsByClose as ClosedByLast, AreWritten, Ends, is_there, AreServed, LastAnswered}
 use Rattle.fts_top.specs.Ends.{status_of, line_status, round_status, session_status}
 use Rattle.fts_top.specs.Looks.{IsLook, IsLookStop, Shows, WritesText}
@@ -357,22 +357,23 @@ module _ {D E : Type 0} (disks : disk.Ghosts D) (stores : store.Ghosts E)
 pub completes : {D E : Type 0} (disks : disk.Ghosts D) (stores : store.Ghosts E)
     (text : Option (List ℕ)) (before after : OneThread D E) (end : RunEnd) (tally : Tally) (settings settings2 input input2 output output2 : ℕ) (asked : Option Asked)
     → DoesAsked disks stores asked end tally text before after
-    → (status_of end ≡ 2 → asked ≡ None) → (status_of end ≡ 8 → Rose settings settings2) → (status_of end ≡ 5 → Rose input input2) → (status_of end ≡ 6 → Rose output output2)
+    → (status_of end ≡ 2 → is_refused asked ≡ true) → (status_of end ≡ 8 → Rose settings settings2) → (status_of end ≡ 5 → Rose input input2) → (status_of end ≡ 6 → Rose output output2)
     → (status_of end ≡ 4 → Rose (disks.faults before.disk) (disks.faults after.disk))
     → Completes disks stores text before after end tally asked
     (failures_of settings input output (disks.faults before.disk)) (failures_of settings2 input2 output2 (disks.faults after.disk))
 completes disks stores text before after end tally settings settings2 input input2 output output2 None does words unread read sent failed = tt
 completes disks stores text before after end tally settings settings2 input input2 output output2 (Some asks.Session) does words unread read sent failed =
     λ none requests rules. run_finishes disks stores text before after end tally requests rules none.disk (λ e. none.disk (failed e)) (λ e. none.input (read e))
-    (λ e. none.output (sent e)) (λ e. some (words e)) (λ e. none.settings (unread e)) does
-  where
-    some : Some asks.Session ≡ None → ⊥
-    some e = cc
+    (λ e. none.output (sent e)) (λ e. true≢false (sym (words e))) (λ e. none.settings (unread e)) does
 completes disks stores text before after end tally settings settings2 input input2 output output2 (Some asks.Show) does words unread read sent failed =
     λ settings_stay output_stays disk_stays good told undamaged. look_finishes disks stores text before after end tally (λ e. settings_stay (unread e))
     (λ e. output_stays (sent e)) disk_stays good told undamaged does.0
 completes disks stores text before after end tally settings settings2 input input2 output output2 (Some (asks.Load number)) does words unread read sent failed = tt
 completes disks stores text before after end tally settings settings2 input input2 output output2 (Some (asks.Serve port lanes connections)) does words unread read sent failed = tt
+completes disks stores text before after end tally settings settings2 input input2 output output2 (Some (asks.Submit port tries)) does words unread read sent failed = tt
+completes disks stores text before after end tally settings settings2 input input2 output output2 (Some (asks.Query port job tries)) does words unread read sent failed = tt
+completes disks stores text before after end tally settings settings2 input input2 output output2 (Some asks.Delete) does words unread read sent failed = tt
+completes disks stores text before after end tally settings settings2 input input2 output output2 (Some (asks.Follow port tries)) does words unread read sent failed = tt
 
 -- the same over the disk and the first hand
 pub completes_over : {D E H : Type 0} (disks : disk.Ghosts D) (stores : store.Ghosts E)
@@ -380,7 +381,7 @@ pub completes_over : {D E H : Type 0} (disks : disk.Ghosts D) (stores : store.Gh
     (end : RunEnd) (tally : Tally) (asked : Option Asked) (settings settings2 reads reads2 writes writes2 : ℕ) (old new : Option D) (hands hands2 : List H)
     → OverDisks old new (λ disk left. OverHands hands hands2 (λ hand now. DoesAsked disks stores asked end tally text
     (one_thread disk (store_of hand) input output moments (words_of hand)) (one_thread left (store_of now) input2 output2 moments2 (words_of now))))
-    → (status_of end ≡ 2 → asked ≡ None) → (status_of end ≡ 8 → Rose settings settings2) → (status_of end ≡ 5 → Rose reads reads2) → (status_of end ≡ 6 → Rose writes writes2)
+    → (status_of end ≡ 2 → is_refused asked ≡ true) → (status_of end ≡ 8 → Rose settings settings2) → (status_of end ≡ 5 → Rose reads reads2) → (status_of end ≡ 6 → Rose writes writes2)
     → (status_of end ≡ 4 → OverDisks old new (λ disk left. Rose (disks.faults disk) (disks.faults left)))
     → OverDisks old new (λ disk left. OverHands hands hands2 (λ hand now. Completes disks stores text
     (one_thread disk (store_of hand) input output moments (words_of hand)) (one_thread left (store_of now) input2 output2 moments2 (words_of now)) end tally asked

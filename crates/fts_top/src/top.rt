@@ -3,13 +3,13 @@
 //! Restart with the settings accepted, requests are answered and rounds made, the disk is given back, and the end is noted. For `show` the journal
 //! is only looked at, behind the settings.
 //! `run_alone` does every command but `serve`, and waits for nobody; `run` calls it first.
-ghost use Rattle.std.specs.Prelude.{◌≡◌, ◌≢◌, ◌↔◌, ℕ, None, List, map, length, string_bytes, Option, IsSome, IfSome};
+ghost use Rattle.std.specs.Prelude.{◌≡◌, ◌≢◌, ◌↔◌, ℕ, true, None, List, map, length, string_bytes, Option, IsSome, IfSome};
 ghost use Rattle.fts_tables.specs.Counts.{Rose};
 ghost use Rattle.fts_tables.specs.declared.limits.TheConstants.{MAX_LANES, MAX_WORKERS};
 ghost use Rattle.fts_words.specs.Words.{asked_in, IsToServe};
 ghost use Rattle.fts_top.specs.Ends.{status_of, IsServingStatus};
 ghost use Rattle.fts_top.specs.Notes.{note_of, IsNoted};
-ghost use Rattle.fts_top.specs.Asked.{DoesAsked, DoesOrServes};
+ghost use Rattle.fts_top.specs.Asked.{is_refused, DoesAsked, DoesOrServes};
 ghost use Rattle.fts_top.specs.Complete.{Completes, failures_of};
 ghost use Rattle.fts_session.specs.Connections.{reading_in};
 ghost use Rattle.fts_session.specs.Sessions.{IsReady, thread, thread_at};
@@ -83,8 +83,8 @@ where
     requires disk { IsSome outside.old.disk }
     requires hands { length outside.old.hands.items ≡ MAX_WORKERS }
     requires lanes { length outside.old.lanes.items ≡ MAX_LANES }
-    ensures words { (result.status ≡ 2) ↔ (asked_in (map string_bytes words.now) ≡ None) }
-    ensures untouched { asked_in (map string_bytes words.now) ≡ None → (outside.new.settings ≡ outside.old.settings) × (outside.new.input ≡ outside.old.input)
+    ensures words { (result.status ≡ 2) ↔ (is_refused (asked_in (map string_bytes words.now)) ≡ true) }
+    ensures untouched { is_refused (asked_in (map string_bytes words.now)) ≡ true → (outside.new.settings ≡ outside.old.settings) × (outside.new.input ≡ outside.old.input)
         × (outside.new.output ≡ outside.old.output) × (outside.new.disk ≡ outside.old.disk) × (outside.new.clock ≡ outside.old.clock) }
     // Its end decides the status and the note, and is the end of what it did: alone, with the first hand and no lane, or with lanes and hands.
     ensures run { (end : RunEnd) × ((result.status ≡ status_of end)
@@ -206,8 +206,8 @@ pub fn run_alone<
     requires lanes { length outside.old.lanes.items ≡ MAX_LANES }
     ensures serve { (result ≡ None) ↔ IsToServe (asked_in (map string_bytes words.now)) }
     ensures nothing { result ≡ None → outside.new ≡ outside.old }
-    ensures words { IfSome result (λ ending. (ending.status ≡ 2) ↔ (asked_in (map string_bytes words.now) ≡ None)) }
-    ensures untouched { asked_in (map string_bytes words.now) ≡ None → (outside.new.settings ≡ outside.old.settings) × (outside.new.input ≡ outside.old.input)
+    ensures words { IfSome result (λ ending. (ending.status ≡ 2) ↔ (is_refused (asked_in (map string_bytes words.now)) ≡ true)) }
+    ensures untouched { is_refused (asked_in (map string_bytes words.now)) ≡ true → (outside.new.settings ≡ outside.old.settings) × (outside.new.input ≡ outside.old.input)
         × (outside.new.output ≡ outside.old.output) × (outside.new.disk ≡ outside.old.disk) × (outside.new.clock ≡ outside.old.clock) }
     // Its end decides the status and the note, and is the end of what it did.
     ensures run { IfSome result (λ ending. (end : RunEnd) × ((ending.status ≡ status_of end)
@@ -234,7 +234,16 @@ pub fn run_alone<
 {
     match read_words(words) {
         Some(Asked::Serve { .. }) => return None,
-        Some(Asked::Session | Asked::Show | Asked::Load { .. }) | None => {}
+        Some(
+            Asked::Session
+            | Asked::Show
+            | Asked::Load { .. }
+            | Asked::Submit { .. }
+            | Asked::Query { .. }
+            | Asked::Delete
+            | Asked::Follow { .. },
+        )
+        | None => {}
     }
     let Some(disk) = outside.disk.take() else {
         unreachable!();
@@ -276,8 +285,8 @@ fn do_command<F: Source, S: Source, K: Sink, D: Disk, E: Store, C: Clock, W: Wor
     draws: &mut W,
 ) -> Done<D>
     requires alone { IsToServe (asked_in (map string_bytes words.now)) → ⊥ }
-    ensures words { (status_of result.end ≡ 2) ↔ (asked_in (map string_bytes words.now) ≡ None) }
-    ensures untouched { asked_in (map string_bytes words.now) ≡ None → (settings.new ≡ settings.old) × (input.new ≡ input.old)
+    ensures words { (status_of result.end ≡ 2) ↔ (is_refused (asked_in (map string_bytes words.now)) ≡ true) }
+    ensures untouched { is_refused (asked_in (map string_bytes words.now)) ≡ true → (settings.new ≡ settings.old) × (input.new ≡ input.old)
         × (output.new ≡ output.old) × (result.disk ≡ disk) × (clock.new ≡ clock.old) }
     ensures run { DoesAsked D.Disk E.Store (asked_in (map string_bytes words.now)) result.end result.tally (F.left settings.old)
         (one_thread_at S.Source K.Sink C.Clock W.Words disk store.old input.old output.old clock.old draws.old)
@@ -287,12 +296,14 @@ fn do_command<F: Source, S: Source, K: Sink, D: Disk, E: Store, C: Clock, W: Wor
     ensures output { status_of result.end ≡ 6 → Rose (K.faults output.old) (K.faults output.new) }
     ensures disk { status_of result.end ≡ 4 → Rose (D.faults disk) (D.faults result.disk) }
 {
+    if is_refused(words) {
+        return stop(RunEnd::NoCommand, disk);
+    }
     let asked = match take_words(alloc, words) {
         Ok(asked) => asked,
         Err(Memory) => return stop(RunEnd::NoMemory, disk),
     };
     match asked {
-        None => stop(RunEnd::NoCommand, disk),
         Some(Asked::Session) => {
             begin_session(alloc, settings, input, output, disk, clock, store, draws)
         }
@@ -300,7 +311,27 @@ fn do_command<F: Source, S: Source, K: Sink, D: Disk, E: Store, C: Clock, W: Wor
         Some(Asked::Load { number }) => {
             run_load(alloc, number, settings, output, disk, clock, store, draws)
         }
-        Some(Asked::Serve { .. }) => unreachable!(),
+        Some(
+            Asked::Serve { .. }
+            | Asked::Submit { .. }
+            | Asked::Query { .. }
+            | Asked::Delete
+            | Asked::Follow { .. },
+        )
+        | None => unreachable!(),
+    }
+}
+
+/// Whether words ask for no command of a run. Those of clients and of a standby are none yet.
+fn is_refused(words: &[String]) -> bool
+    ensures { result ≡ is_refused (asked_in (map string_bytes words.now)) }
+{
+    match read_words(words) {
+        Some(Asked::Session | Asked::Show | Asked::Load { .. } | Asked::Serve { .. }) => false,
+        Some(
+            Asked::Submit { .. } | Asked::Query { .. } | Asked::Delete | Asked::Follow { .. },
+        )
+        | None => true,
     }
 }
 
