@@ -23,6 +23,19 @@ const RESTART: &[u8] =
 const SUBMIT: &[u8] =
     b"\x01\x02\x80\xe2\xcf\xaa\x06\x00\x01\x01\x00\x01\x02\x03\x04\x05\x06\x07\x08\x09\x0a\x0b\x0c\x0d\x0e\x0f\x03\x02\xac\x02\x01\x01\x00\x05a://a\x01s\x05a://a\x01d\x81\x01\x01\x90\x01\x50\x98\x3c\xd2\x4f\xb0\xd6\x96\x3f\x7d\x28\xe1\x7f\x72\x07default";
 
+/// The same job, whose files may wait for a day.
+const LIMITED_SUBMIT: &[u8] =
+    b"\x01\x0b\x80\xe2\xcf\xaa\x06\x18\x00\x01\x01\x00\x01\x02\x03\x04\x05\x06\x07\x08\x09\x0a\x0b\x0c\x0d\x0e\x0f\x03\x02\xac\x02\x01\x01\x00\x05a://a\x01s\x05a://a\x01d\x81\x01\x01\x90\x01\x50\x98\x3c\xd2\x4f\xb0\xd6\x96\x3f\x7d\x28\xe1\x7f\x72\x07default";
+
+/// A ban of a storage that cancels the files that wait there.
+const BAN: &[u8] = b"\x00\x08\x80\xe2\xcf\xaa\x06\x11https://b.example\x01";
+
+/// The end of that ban.
+const UNBAN: &[u8] = b"\x00\x09\x80\xe2\xcf\xaa\x06\x11https://b.example";
+
+/// An expiry.
+const EXPIRE: &[u8] = b"\x00\x0a\x80\xe2\xcf\xaa\x06";
+
 /// The bytes that are written of the entry that is read.
 fn again(alloc: Global, bytes: &[u8]) -> Result<Vec<u8>, ReadFault> {
     let entry = read_entry(alloc, bytes)?;
@@ -138,6 +151,52 @@ fn a_worked_job_is_read_field_by_field(rt: HostRuntime) -> Result<(), Fail> {
     Ok(())
 }
 
+#[test]
+fn a_worked_ban_is_read_field_by_field(rt: HostRuntime) -> Result<(), Fail> {
+    let ban = read_entry(rt.alloc(), BAN)?;
+    let is_worked = match &ban.command {
+        Command::Ban {
+            now: 1_700_000_000,
+            storage,
+            cancel: true,
+        } => storage.as_str() == "https://b.example",
+        _ => false,
+    };
+    assert!(rt;
+        ban.writer == 0 && is_worked,
+        "the service bans b with its files"
+    );
+    Ok(())
+}
+
+#[test]
+fn a_worked_end_of_a_ban_is_read_field_by_field(rt: HostRuntime) -> Result<(), Fail> {
+    let unban = read_entry(rt.alloc(), UNBAN)?;
+    let is_worked = match &unban.command {
+        Command::Unban {
+            now: 1_700_000_000,
+            storage,
+        } => storage.as_str() == "https://b.example",
+        _ => false,
+    };
+    assert!(rt; unban.writer == 0 && is_worked, "the ban of b ends");
+    Ok(())
+}
+
+#[test]
+fn worked_hours_and_expiries_are_read(rt: HostRuntime) -> Result<(), Fail> {
+    let submit = read_entry(rt.alloc(), LIMITED_SUBMIT)?;
+    let is_limited = match &submit.command {
+        Command::Submit { job, .. } => job.queue_hours == 24 && is_worked_job(job),
+        _ => false,
+    };
+    let expiry = read_entry(rt.alloc(), EXPIRE)?;
+    let is_expiry = matches!(&expiry.command, Command::Expire { now: 1_700_000_000 });
+    assert!(rt; is_limited, "a job whose files may wait for a day");
+    assert!(rt; expiry.writer == 0 && is_expiry, "an expiry of the service");
+    Ok(())
+}
+
 /// Whether each front of an entry is a broken one.
 fn are_fronts_broken(alloc: Global, bytes: &[u8]) -> bool {
     for end in 0..bytes.len() {
@@ -156,6 +215,10 @@ fn worked_entries_are_written_byte_by_byte(rt: HostRuntime) -> Result<(), Fail> 
         ("a report", REPORT),
         ("a restart", RESTART),
         ("a submission", SUBMIT),
+        ("a submission with hours in the queue", LIMITED_SUBMIT),
+        ("a ban", BAN),
+        ("the end of a ban", UNBAN),
+        ("an expiry", EXPIRE),
     ] {
         let is_written = again(rt.alloc(), bytes)?.as_slice() == bytes;
         let are_whole = are_fronts_broken(rt.alloc(), bytes);
@@ -277,6 +340,22 @@ fn a_broken_outcome_is_named_by_its_place(rt: HostRuntime) -> Result<(), Fail> {
 }
 
 #[test]
+fn a_broken_ban_is_named_by_its_place(rt: HostRuntime) -> Result<(), Fail> {
+    for (case, bytes, changed, byte, want) in [
+        ("a name past the end", BAN, 7, 0x13, 7),
+        ("a name in capitals", BAN, 8, 0x48, 7),
+        ("a flag 02", BAN, 25, 0x02, 25),
+        ("an empty name", UNBAN, 7, 0x00, 7),
+        ("a byte behind the name", UNBAN, 7, 0x10, 24),
+        ("no hours", LIMITED_SUBMIT, 7, 0x00, 7),
+    ] {
+        let is_broken = breaks_at(rt.alloc(), bytes, changed, byte, want)?;
+        assert!(rt; is_broken, "{case}");
+    }
+    Ok(())
+}
+
+#[test]
 fn too_few_or_many_bytes_are_no_entry(rt: HostRuntime) {
     for (case, bytes, want) in [
         ("the empty list", b"".as_slice(), 0),
@@ -355,7 +434,7 @@ fn command(state: &mut u64) -> Command
 {
     let now = draw(state);
     let job = small(state);
-    match draw(state) % 5 {
+    match draw(state) % 6 {
         0 => Command::CancelJob { now, job },
         1 => Command::CancelFile {
             now,
@@ -371,6 +450,7 @@ fn command(state: &mut u64) -> Command
             now,
             word: draw(state),
         },
+        4 => Command::Expire { now },
         _ => Command::Report {
             now,
             file: job,

@@ -6,7 +6,7 @@ use Rattle.fts_tables.specs.declared.commands.Entry.{Entry}
 use Rattle.fts_tables.specs.declared.commands.Command.{Command}
 use Rattle.fts_tables.specs.declared.commands.Command.TheVariants.{Claim, Expire}
 use Rattle.fts_tables.specs.declared.commands.Answer.{Answer}
-use Rattle.fts_turnstile.specs.declared.turn.Turn.{Turn}
+use Rattle.fts_turnstile.specs.declared.turn.LoggedTurn.{LoggedTurn}
 use Rattle.fts_turnstile.specs.History.{AllName, AllNamed, NoneBy, items_of}
 use Rattle.fts_turnstile.specs.Passes.{PassView}
 use Rattle.fts_keep.specs.Keeps.{used_of}
@@ -27,18 +27,18 @@ none_items number writer [] named other = tt
 none_items number writer (item ∷ items) named other = ((λ is. other (sym named.0 ∙ is)), none_items number writer items named.1 other)
 
 -- nor are those of turns of others
-pub none_by : (number : ℕ) (joined : List ℕ) (turns : List (Turn Entry)) → NoneBy (number ∷ joined) turns → AllNamed writer_of turns → NoneOf number (items_of turns)
+pub none_by : (number : ℕ) (joined : List ℕ) (turns : List (LoggedTurn Entry)) → NoneBy (number ∷ joined) turns → AllNamed writer_of turns → NoneOf number (items_of turns)
 none_by number joined [] none named = tt
 none_by number joined (turn ∷ turns) none named =
     none_on number turn.items (items_of turns) (none_items number turn.number turn.items named.0 (λ is. none.0 (inl is)))
     (none_by number joined turns none.1 named.1)
 
 -- the turns behind others name their numbers, and those before others
-named_behind : (first second : List (Turn Entry)) → AllNamed writer_of (first ++ second) → AllNamed writer_of second
+named_behind : (first second : List (LoggedTurn Entry)) → AllNamed writer_of (first ++ second) → AllNamed writer_of second
 named_behind [] second named = named
 named_behind (turn ∷ first) second named = named_behind first second named.1
 
-named_front : (first second : List (Turn Entry)) → AllNamed writer_of (first ++ second) → AllNamed writer_of first
+named_front : (first second : List (LoggedTurn Entry)) → AllNamed writer_of (first ++ second) → AllNamed writer_of first
 named_front [] second named = tt
 named_front (turn ∷ first) second named = (named.0, named_front first second named.1)
 

@@ -9,7 +9,7 @@ use Rattle.fts_tables.specs.declared.commands.Entry.{Entry}
 use Rattle.fts_tables.specs.declared.commands.Command.TheVariants.{Claim, Report}
 use Rattle.fts_tables.specs.declared.commands.Answer.{Answer}
 use Rattle.fts_tables.specs.declared.commands.Answer.TheVariants.{Restarted, Submitted, Cancelled, PrioritySet, Claimed, Reported, Banned, Unbanned, Expired}
-use Rattle.fts_turnstile.specs.declared.turn.Turn.{Turn}
+use Rattle.fts_turnstile.specs.declared.turn.LoggedTurn.{LoggedTurn}
 use Rattle.fts_turnstile.specs.History.{items_of}
 use Rattle.fts_turnstile.specs.Passes.{PassView, IsSame, seen_list}
 use Rattle.fts_keep.specs.Applied.{entry_by}
@@ -21,7 +21,7 @@ use Rattle.fts_shop.specs.Looking.{NoneOf}
 use Rattle.fts_shop.specs.Looked.{items_on, same_on, same_pass}
 use Rattle.fts_shop.specs.Turns.{Copies, GoesOn, HandData, IsTurn, ReportTurn, held_with}
 use Rattle.fts_shop.specs.Workers.{AreTurns, StationData, TakesOne, WorkerDone}
-use Rattle.fts_shop.specs.declared.ends.Turn.{Turn as TurnEnd}
+use Rattle.fts_shop.specs.declared.ends.Turn.{Turn}
 use Rattle.fts_ledger.specs.Fitting.{Fits}
 use Rattle.fts_ledger.specs.Ledger.{KeepsLedger, MayKeep}
 use Rattle.fts_ledger.specs.Reports.{AddsWork, ReportsOwn, StopsAsked}
@@ -33,7 +33,7 @@ use Rattle.fts_store.specs.declared.store.Store as store
 -- a pass is the same, and has seen more
 pub record Grown (old new : PassView Entry) : Type 0 where
   pub same : IsSame old new
-  pub since : List (Turn Entry)
+  pub since : List (LoggedTurn Entry)
   pub seen : new.seen ≡ old.seen ++ since
 
 pub grown_itself : (pass : PassView Entry) → Grown pass pass
@@ -72,7 +72,7 @@ module _ {E : Type 0} (stores : store.Ghosts E) where
       → Copies stores old new store after file outcome → Grown old new
   grown_copies old new store after file outcome copies = record { same = copies.same; since = copies.since; seen = copies.seen }
 
-  pub grown_goes : (claimed new : PassView Entry) (behind after : HandData E) (end : TurnEnd) (left : List Held) (lanes : ℕ)
+  pub grown_goes : (claimed new : PassView Entry) (behind after : HandData E) (end : Turn) (left : List Held) (lanes : ℕ)
       (result : Result Answer KeepFault) → GoesOn stores lanes result claimed new behind after end left → Grown claimed new
   grown_goes claimed new behind after end left lanes (Ok (Claimed file attempt)) goes =
       grown_on claimed goes.between new (grown_copies claimed goes.between behind.store after.store file goes.outcome goes.copied)
@@ -88,7 +88,7 @@ module _ {E : Type 0} (stores : store.Ghosts E) where
   grown_goes claimed new behind after end left lanes (Err fault) goes = subst (Grown claimed) (sym goes.1.pass) (grown_itself claimed)
 
   -- a turn
-  pub grown_turn : (old new : PassView Entry) (hand after : HandData E) (held : List Held) (end : TurnEnd) (left : List Held)
+  pub grown_turn : (old new : PassView Entry) (hand after : HandData E) (held : List Held) (end : Turn) (left : List Held)
       → IsTurn stores old new hand after held end left → Grown old new
   grown_turn old new hand after [] end left turn =
       grown_on old turn.claimed new (grown_taken old turn.claimed turn.tried.taken)
@@ -104,7 +104,7 @@ module _ {E : Type 0} (stores : store.Ghosts E) where
 
   module _ (machine : Machine) (opening : List Entry) (writer : ℕ) (told : opening ≢ []) where
     -- the report of what is held
-    report_turned : (old new : PassView Entry) (moments later : Option Coming) (held : Held) (outcome : Outcome) (end : TurnEnd) (left : List Held)
+    report_turned : (old new : PassView Entry) (moments later : Option Coming) (held : Held) (outcome : Outcome) (end : Turn) (left : List Held)
         → old.opening ≡ opening → old.number ≡ writer → IsLegal (opening ++ items_of new.seen) → Fits writer opening (items_of old.seen) (held ∷ [])
         → ReportTurn old new moments later held outcome end left → Turned opening writer (items_of old.seen) (items_of new.seen) left
     report_turned old new moments later held outcome end left opens number legal fits turn =
@@ -114,7 +114,7 @@ module _ {E : Type 0} (stores : store.Ghosts E) where
         turn.tried.answers legal fits)
 
     -- a claim that was tried behind a list and came to this, and what follows
-    claim_goes : (before : List Entry) (claimed new : PassView Entry) (now word : ℕ) (behind after : HandData E) (end : TurnEnd) (left : List Held)
+    claim_goes : (before : List Entry) (claimed new : PassView Entry) (now word : ℕ) (behind after : HandData E) (end : Turn) (left : List Held)
         (lanes : ℕ) (result : Result Answer KeepFault) → claimed.opening ≡ opening → claimed.number ≡ writer → IsLegal (opening ++ items_of new.seen)
         → Fits writer opening before [] → Tried opening writer before (items_of claimed.seen) (Claim now word) result
         → GoesOn stores lanes result claimed new behind after end left → Turned opening writer before (items_of new.seen) left
@@ -155,7 +155,7 @@ module _ {E : Type 0} (stores : store.Ghosts E) where
         first.fits goes.reported)
 
     -- an expiry and a claim, and what follows
-    step_goes : (old claimed new : PassView Entry) (now word : ℕ) (behind after : HandData E) (end : TurnEnd) (left : List Held) (lanes : ℕ)
+    step_goes : (old claimed new : PassView Entry) (now word : ℕ) (behind after : HandData E) (end : Turn) (left : List Held) (lanes : ℕ)
         (expiry : Result Answer KeepFault) (claim : Option (Result Answer KeepFault)) → old.opening ≡ opening → old.number ≡ writer
         → IsLegal (opening ++ items_of new.seen) → Fits writer opening (items_of old.seen) [] → StepInTurn old claimed now word expiry claim lanes
         → GoesOn stores lanes (step_answer expiry claim) claimed new behind after end left → Turned opening writer (items_of old.seen) (items_of new.seen) left
@@ -171,7 +171,7 @@ module _ {E : Type 0} (stores : store.Ghosts E) where
         (tried.taken.same.3 ∙ number) legal first.fits at.claimed goes)
 
     -- a turn
-    pub turn_turned : (old new : PassView Entry) (hand after : HandData E) (held : List Held) (end : TurnEnd) (left : List Held)
+    pub turn_turned : (old new : PassView Entry) (hand after : HandData E) (held : List Held) (end : Turn) (left : List Held)
         → old.opening ≡ opening → old.number ≡ writer → IsLegal (opening ++ items_of new.seen) → Fits writer opening (items_of old.seen) held
         → IsTurn stores old new hand after held end left → Turned opening writer (items_of old.seen) (items_of new.seen) left
     turn_turned old new hand after [] end left opens number legal fits turn =
@@ -219,7 +219,7 @@ module _ {E : Type 0} (stores : store.Ghosts E) where
         }
 
     -- a turn
-    pub turn_keeps : (old new : StationData E) (end : TurnEnd) → TakesOne stores old new end → MayKeep old.pass new.pass old.held
+    pub turn_keeps : (old new : StationData E) (end : Turn) → TakesOne stores old new end → MayKeep old.pass new.pass old.held
         → KeepsLedger old.pass new.pass new.held
     turn_keeps old new end turn may =
         let grown = grown_turn old.pass new.pass old.hand new.hand old.held end new.held turn in

@@ -5,7 +5,7 @@ use Rattle.fts_tables.specs.declared.rows.Outcome.{Outcome}
 use Rattle.fts_tables.specs.declared.commands.Entry.{Entry}
 use Rattle.fts_tables.specs.declared.commands.Command.{Command}
 use Rattle.fts_tables.specs.declared.commands.Command.TheVariants.{Restart, Submit, CancelJob, CancelFile, SetPriority, Claim, Report, Ban, Unban, Expire}
-use Rattle.fts_turnstile.specs.declared.turn.Turn.{Turn}
+use Rattle.fts_turnstile.specs.declared.turn.LoggedTurn.{LoggedTurn}
 use Rattle.fts_turnstile.specs.History.{items_of}
 use Rattle.fts_turnstile.specs.Passes.{PassView, seen_list}
 use Rattle.fts_workers.specs.declared.held.Held.{Held}
@@ -78,7 +78,7 @@ pub own_none : (writer : ℕ) (opening before entries : List Entry) → NoneOf w
 own_none writer opening before entries none = each_none writer entries (λ earlier file outcome. IsOwn writer (last_claim file opening (before ++ earlier))) none
 
 -- a pass that had added nothing has reported only its own in all turns, where it took none behind what it has seen
-pub own_in_all : (old new : PassView Entry) (held : List Held) (later : List (Turn Entry)) → KeepsLedger old new held → NoneOf old.number (items_of old.seen)
+pub own_in_all : (old new : PassView Entry) (held : List Held) (later : List (LoggedTurn Entry)) → KeepsLedger old new held → NoneOf old.number (items_of old.seen)
     → NoneOf old.number (items_of later) → ReportsOwn old.number old.opening [] (items_of (new.seen ++ later))
 own_in_all old new held later keeps none_before none_later =
     let seen : items_of new.seen ≡ items_of old.seen ++ items_of keeps.since = ap items_of keeps.seen ∙ items_on old.seen keeps.since in
@@ -90,7 +90,7 @@ own_in_all old new held later keeps none_before none_later =
     (own_none old.number old.opening (items_of new.seen) (items_of later) none_later))
 
 -- and has added expiries, claims and reports alone
-pub work_in_all : (old new : PassView Entry) (held : List Held) (later : List (Turn Entry)) → KeepsLedger old new held → NoneOf old.number (items_of old.seen)
+pub work_in_all : (old new : PassView Entry) (held : List Held) (later : List (LoggedTurn Entry)) → KeepsLedger old new held → NoneOf old.number (items_of old.seen)
     → NoneOf old.number (items_of later) → AddsWork old.number (items_of (new.seen ++ later))
 work_in_all old new held later keeps none_before none_later =
     let seen : items_of new.seen ≡ items_of old.seen ++ items_of keeps.since = ap items_of keeps.seen ∙ items_on old.seen keeps.since in
@@ -101,11 +101,11 @@ work_in_all old new held later keeps none_before none_later =
     (work_none old.number (items_of later) none_later))
 
 -- what is legal in all turns is legal in what a pass has seen of them
-pub legal_seen : (pass : PassView Entry) (later : List (Turn Entry)) → IsLegal (pass.opening ++ items_of (pass.seen ++ later)) → IsLegal (seen_list pass)
+pub legal_seen : (pass : PassView Entry) (later : List (LoggedTurn Entry)) → IsLegal (pass.opening ++ items_of (pass.seen ++ later)) → IsLegal (seen_list pass)
 legal_seen pass later legal = legal_back pass.opening (items_of pass.seen) (items_of (pass.seen ++ later)) (items_of later) (items_on pass.seen later) legal
 
 -- and what nobody took in all turns nobody took there
-pub undisturbed_seen : (pass : PassView Entry) (later : List (Turn Entry)) → IsUndisturbed pass.number pass.opening (items_of (pass.seen ++ later))
+pub undisturbed_seen : (pass : PassView Entry) (later : List (LoggedTurn Entry)) → IsUndisturbed pass.number pass.opening (items_of (pass.seen ++ later))
     → KeepsItsFiles pass
 undisturbed_seen pass later free = undisturbed_before pass.number pass.opening (items_of pass.seen) (items_of later)
     (subst (IsUndisturbed pass.number pass.opening) (items_on pass.seen later) free)

@@ -13,7 +13,7 @@ use Rattle.fts_tables.specs.declared.commands.Refusal.{Refusal}
 use Rattle.fts_tables.specs.declared.commands.Command.TheVariants.{Claim, Report, Expire}
 use Rattle.fts_tables.specs.declared.commands.Answer.{Answer}
 use Rattle.fts_tables.specs.declared.commands.Answer.TheVariants.{Restarted, Submitted, Cancelled, PrioritySet, Claimed, Reported, Banned, Unbanned, Expired}
-use Rattle.fts_turnstile.specs.declared.turn.Turn.{Turn}
+use Rattle.fts_turnstile.specs.declared.turn.LoggedTurn.{LoggedTurn}
 use Rattle.fts_turnstile.specs.History.{items_of}
 use Rattle.fts_turnstile.specs.Passes.{PassView, seen_list}
 use Rattle.fts_keep.specs.Applied.{entry_by}
@@ -27,7 +27,7 @@ use Rattle.fts_shop.specs.Looking.{NoneOf}
 use Rattle.fts_shop.specs.Looked.{items_on}
 use Rattle.fts_shop.specs.Turns.{GoesOn, HandData, IsTurn, ReportTurn, end_by_claim, end_by_report, end_by_state, held_with, idle_end, is_over}
 use Rattle.fts_shop.specs.Workers.{AreTurns, StationData, TakesOne, WorkerDone}
-use Rattle.fts_shop.specs.declared.ends.Turn.{Turn as TurnEnd}
+use Rattle.fts_shop.specs.declared.ends.Turn.{Turn}
 use Rattle.fts_shop.specs.declared.ends.Turn.TheVariants as turn_ends
 use Rattle.fts_ledger.specs.Reports.{IsUndisturbed}
 use Rattle.fts_ledger.specs.Fitting.{Fits, IsLastOwn}
@@ -42,7 +42,7 @@ use Rattle.fts_ledger.proofs.Turned.{Came, Tried, last_own_more, legal_back}
 use Rattle.fts_store.specs.declared.store.Store as store
 
 -- no turn whose report was answered with a state, or by a fault of the disk, the journal or memory, is stale
-fresh_state : (held file : ℕ) (left : FileState) → IsEndState left → ◌≡◌ {A = TurnEnd} (end_by_state held left) (turn_ends.Stale file) → ⊥
+fresh_state : (held file : ℕ) (left : FileState) → IsEndState left → ◌≡◌ {A = Turn} (end_by_state held left) (turn_ends.Stale file) → ⊥
 fresh_state held file state_is.Submitted ends is = absurd cc
 fresh_state held file state_is.Active ends is = absurd ends
 fresh_state held file state_is.Finished ends is = absurd cc
@@ -51,7 +51,7 @@ fresh_state held file state_is.Canceled ends is = absurd cc
 fresh_state held file state_is.NotUsed ends is = absurd ends
 
 fresh_report : (held file lanes : ℕ) (answer : Answer) → AnswersReport held (Ok answer)
-    → ◌≡◌ {A = TurnEnd} (end_by_report held lanes (Ok answer)) (turn_ends.Stale file) → ⊥
+    → ◌≡◌ {A = Turn} (end_by_report held lanes (Ok answer)) (turn_ends.Stale file) → ⊥
 fresh_report held file lanes (Restarted count) answers is = absurd answers
 fresh_report held file lanes (Submitted job id) answers is = absurd answers
 fresh_report held file lanes (Cancelled job) answers is = absurd answers
@@ -62,11 +62,11 @@ fresh_report held file lanes (Banned count) answers is = absurd answers
 fresh_report held file lanes Unbanned answers is = absurd answers
 fresh_report held file lanes (Expired count) answers is = absurd answers
 
-fresh_idle : (file lanes : ℕ) → ◌≡◌ {A = TurnEnd} (idle_end lanes) (turn_ends.Stale file) → ⊥
+fresh_idle : (file lanes : ℕ) → ◌≡◌ {A = Turn} (idle_end lanes) (turn_ends.Stale file) → ⊥
 fresh_idle file zero is = absurd cc
 fresh_idle file (suc more) is = absurd cc
 
-fresh_claim : (file lanes : ℕ) (fault : KeepFault) → ◌≡◌ {A = TurnEnd} (end_by_claim lanes fault) (turn_ends.Stale file) → ⊥
+fresh_claim : (file lanes : ℕ) (fault : KeepFault) → ◌≡◌ {A = Turn} (end_by_claim lanes fault) (turn_ends.Stale file) → ⊥
 fresh_claim file lanes (Rule refusal) is = fresh_idle file lanes is
 fresh_claim file lanes DiskFailed is = absurd cc
 fresh_claim file lanes (JournalFull used) is = absurd cc
@@ -76,12 +76,12 @@ fresh_claim file lanes (Damaged offset) is = absurd cc
 module _ {E : Type 0} (stores : store.Ghosts E) (machine : Machine) (orders : OrdersStay)
     (opening : List Entry) (writer : ℕ) (told : opening ≢ []) where
   -- what a turn comes to where nobody takes a file: the store follows, and it isn't stale
-  pub record GoesWell (before after : List Entry) (held left : List Held) (old new : E) (end : TurnEnd) : Type 0 where
+  pub record GoesWell (before after : List Entry) (held left : List Held) (old new : E) (end : Turn) : Type 0 where
     pub followed : Followed stores opening writer before after held left old new
     pub fresh : (file : ℕ) → end ≢ turn_ends.Stale file
 
   -- the report of what is held
-  report_well : (old new : PassView Entry) (moments later : Option Coming) (held : Held) (outcome : Outcome) (end : TurnEnd) (left : List Held) (store : E)
+  report_well : (old new : PassView Entry) (moments later : Option Coming) (held : Held) (outcome : Outcome) (end : Turn) (left : List Held) (store : E)
       → old.opening ≡ opening → old.number ≡ writer → IsLegal (opening ++ items_of new.seen) → IsLastOwn writer opening (items_of old.seen) held.file held.attempt
       → IsUndisturbed writer opening (items_of new.seen) → ReportTurn old new moments later held outcome end left
       → GoesWell (items_of old.seen) (items_of new.seen) (held ∷ []) left store store end
@@ -139,7 +139,7 @@ module _ {E : Type 0} (stores : store.Ghosts E) (machine : Machine) (orders : Or
       by (Err (Damaged offset)) is = kept_on (after_by (Err (Damaged offset)) is)
 
       fresh_by : (file : ℕ) (r : Result Answer KeepFault) → turn.result ≡ r
-          → ◌≡◌ {A = TurnEnd} (end_by_report held.file turn.lanes r) (turn_ends.Stale file) → ⊥
+          → ◌≡◌ {A = Turn} (end_by_report held.file turn.lanes r) (turn_ends.Stale file) → ⊥
       fresh_by file (Ok answer) is stale = fresh_report held.file file turn.lanes answer (subst (AnswersReport held.file) is turn.tried.answers) stale
       fresh_by file (Err (Rule refusal)) is stale = refused refusal is
       fresh_by file (Err DiskFailed) is stale = absurd cc
@@ -148,7 +148,7 @@ module _ {E : Type 0} (stores : store.Ghosts E) (machine : Machine) (orders : Or
       fresh_by file (Err (Damaged offset)) is stale = absurd cc
 
   -- a claim that was tried behind a list and came to this, and what follows
-  claim_well : (before : List Entry) (claimed new : PassView Entry) (now word : ℕ) (behind after : HandData E) (end : TurnEnd) (left : List Held)
+  claim_well : (before : List Entry) (claimed new : PassView Entry) (now word : ℕ) (behind after : HandData E) (end : Turn) (left : List Held)
       (lanes : ℕ) (result : Result Answer KeepFault) → claimed.opening ≡ opening → claimed.number ≡ writer → IsLegal (opening ++ items_of new.seen)
       → IsUndisturbed writer opening (items_of new.seen) → Tried opening writer before (items_of claimed.seen) (Claim now word) result
       → GoesOn stores lanes result claimed new behind after end left
@@ -222,7 +222,7 @@ module _ {E : Type 0} (stores : store.Ghosts E) (machine : Machine) (orders : Or
       }
 
   -- an expiry and a claim, and what follows
-  step_well : (old claimed new : PassView Entry) (now word : ℕ) (behind after : HandData E) (end : TurnEnd) (left : List Held) (lanes : ℕ)
+  step_well : (old claimed new : PassView Entry) (now word : ℕ) (behind after : HandData E) (end : Turn) (left : List Held) (lanes : ℕ)
       (expiry : Result Answer KeepFault) (claim : Option (Result Answer KeepFault)) → old.opening ≡ opening → old.number ≡ writer
       → IsLegal (opening ++ items_of new.seen) → IsUndisturbed writer opening (items_of new.seen) → StepInTurn old claimed now word expiry claim lanes
       → GoesOn stores lanes (step_answer expiry claim) claimed new behind after end left
@@ -241,7 +241,7 @@ module _ {E : Type 0} (stores : store.Ghosts E) (machine : Machine) (orders : Or
       }
 
   -- a turn
-  pub turn_well : (old new : PassView Entry) (hand after : HandData E) (held : List Held) (end : TurnEnd) (left : List Held)
+  pub turn_well : (old new : PassView Entry) (hand after : HandData E) (held : List Held) (end : Turn) (left : List Held)
       → old.opening ≡ opening → old.number ≡ writer → IsLegal (opening ++ items_of new.seen) → Fits writer opening (items_of old.seen) held
       → IsUndisturbed writer opening (items_of new.seen) → IsTurn stores old new hand after held end left
       → GoesWell (items_of old.seen) (items_of new.seen) held left hand.store after.store end
@@ -320,7 +320,7 @@ module _ {E : Type 0} (stores : store.Ghosts E) (machine : Machine) (orders : Or
       (subst (λ o. IsUndisturbed new.number o (items_of new.seen)) grown.same.1 free)
 
   -- a turn
-  pub turn_follows : (old new : StationData E) (end : TurnEnd) → TakesOne stores old new end → MayKeep old.pass new.pass old.held
+  pub turn_follows : (old new : StationData E) (end : Turn) → TakesOne stores old new end → MayKeep old.pass new.pass old.held
       → KeepsItsFiles new.pass → FollowsOwn stores old new × ((file : ℕ) → end ≢ turn_ends.Stale file)
   turn_follows old new end turn may free =
       let grown = grown_turn stores old.pass new.pass old.hand new.hand old.held end new.held turn in
@@ -364,7 +364,7 @@ module _ {E : Type 0} (stores : store.Ghosts E) (machine : Machine) (orders : Or
       )
 
 -- the copies that a pass's reports stand for in all turns are those that stand for what it added, where it took no turn before or behind that
-pub copies_in_all : (old : PassView Entry) (since later : List (Turn Entry)) → NoneOf old.number (items_of old.seen) → NoneOf old.number (items_of later)
+pub copies_in_all : (old : PassView Entry) (since later : List (LoggedTurn Entry)) → NoneOf old.number (items_of old.seen) → NoneOf old.number (items_of later)
     → copies_from (λ writer. writer == old.number) (tables_of old.opening) (items_of ((old.seen ++ since) ++ later))
     ≡ copies_from (λ writer. writer == old.number) (tables_of (seen_list old)) (items_of since)
 copies_in_all old since later none_before none_later =

@@ -2,14 +2,14 @@
 use Rattle.std.specs.Prelude.{◌≡◌, ◌≢◌, ℕ, zero, suc, ◌==◌, List, ◌++◌, None}
 use Rattle.fts_tables.specs.History.{tables_of, IsLegal}
 use Rattle.fts_tables.specs.declared.commands.Entry.{Entry}
-use Rattle.fts_turnstile.specs.declared.turn.Turn.{Turn}
+use Rattle.fts_turnstile.specs.declared.turn.LoggedTurn.{LoggedTurn}
 use Rattle.fts_turnstile.specs.History.{items_of}
 use Rattle.fts_turnstile.specs.Passes.{PassView, IsSame, seen_list}
 use Rattle.fts_workers.specs.Copies.{copies_from, copies_kept, FollowsReports}
 use Rattle.fts_workers.specs.declared.held.Held.{Held}
 use Rattle.fts_shop.specs.Shops.{IsToldList}
 use Rattle.fts_shop.specs.Workers.{StationData, TakesOne, worker_end_of}
-use Rattle.fts_shop.specs.declared.ends.Turn.{Turn as TurnEnd}
+use Rattle.fts_shop.specs.declared.ends.Turn.{Turn}
 use Rattle.fts_shop.specs.declared.ends.Turn.TheVariants as turn_ends
 use Rattle.fts_ledger.specs.Reports.{AddsWork, IsUndisturbed, ReportsOwn, StopsAsked}
 use Rattle.fts_ledger.specs.Fitting.{FitsPass}
@@ -18,7 +18,7 @@ use Rattle.fts_store.specs.declared.store.Store as store
 -- turns of a pass with its bench: what it has then seen, what it added, what holds of the reports among that, and that the bench fits it
 pub record KeepsLedger (old new : PassView Entry) (held_now : List Held) : Type 0 where
   pub same : IsSame old new
-  pub since : List (Turn Entry)
+  pub since : List (LoggedTurn Entry)
   pub seen : new.seen ≡ old.seen ++ since
   pub work : AddsWork old.number (items_of since)
   pub own_reports : ReportsOwn old.number old.opening (items_of old.seen) (items_of since)
@@ -38,7 +38,7 @@ KeepsItsFiles pass = IsUndisturbed pass.number pass.opening (items_of pass.seen)
 module _ {E : Type 0} (stores : store.Ghosts E) where
   -- a station's store follows from the reports that its pass added, with the copy that the bench keeps
   pub record FollowsOwn (old new : StationData E) : Type 0 where
-    pub since : List (Turn Entry)
+    pub since : List (LoggedTurn Entry)
     pub seen : new.pass.seen ≡ old.pass.seen ++ since
     pub follows : FollowsReports stores.state stores.calls stores.faults
         (copies_kept (tables_of (seen_list old.pass)) old.held)
@@ -48,5 +48,5 @@ module _ {E : Type 0} (stores : store.Ghosts E) where
   -- turns, one after the other, after none of which a worker ends, and of which none is stale
   abbrev pub AreFresh : ℕ → StationData E → StationData E → Type 0
   AreFresh zero old new = (old.hand ≡ new.hand) × (old.held ≡ new.held) × (old.pass ≡ new.pass)
-  AreFresh (suc more) old new = (next : StationData E) × (end : TurnEnd) × (TakesOne stores old next end
+  AreFresh (suc more) old new = (next : StationData E) × (end : Turn) × (TakesOne stores old next end
       × ((worker_end_of end ≡ None) × (((file : ℕ) → end ≢ turn_ends.Stale file) × AreFresh more next new)))

@@ -6,7 +6,7 @@ ghost use Rattle.fts_tables.specs.SettingsData.{SettingsData};
 ghost use Rattle.fts_tables.specs.History.{IsLegal, out_of_list, tables_of};
 ghost use Rattle.fts_tables.specs.declared.commands.Entry.{Entry};
 ghost use Rattle.fts_tables.specs.declared.commands.Command.TheVariants.{Restart};
-ghost use Rattle.fts_turnstile.specs.declared.turn.Turn.{Turn};
+ghost use Rattle.fts_turnstile.specs.declared.turn.LoggedTurn.{LoggedTurn};
 ghost use Rattle.fts_turnstile.specs.History.{AllNamed, NoneBy, items_of};
 ghost use Rattle.fts_turnstile.specs.Passes.{PassView, seen_list};
 ghost use Rattle.fts_keep.specs.Applied.{entry_by};
@@ -15,7 +15,7 @@ ghost use Rattle.fts_workers.specs.declared.held.Held.{Held};
 ghost use Rattle.fts_shop.specs.Shops.{writer_of};
 ghost use Rattle.fts_shop.specs.Looking.{NoneOf};
 ghost use Rattle.fts_shop.specs.Workers.{AreTurns, StationData, TakesOne, WorkerDone};
-ghost use Rattle.fts_shop.specs.declared.ends.Turn.{Turn as TurnEnd};
+ghost use Rattle.fts_shop.specs.declared.ends.Turn.{Turn};
 ghost use Rattle.fts_shop.specs.declared.ends.Turn.TheVariants.{Stale};
 ghost use Rattle.fts_ledger.specs.Claims.{IsOut, IsOwn, last_claim};
 ghost use Rattle.fts_ledger.specs.Reports.{AddsAsked, AddsWork, HasNoRestart, IsUndisturbed, ReportsOwn};
@@ -32,7 +32,7 @@ use fts_tables::laws::{
 /// asked; and each file that is out and was claimed last by the pass is held by its bench, which holds nothing else. Of one turn, of turns, of a worker.
 pub fn turns_keep_the_ledger<E: Store>()
     ensures begins { (pass : PassView Entry) → NoneOf pass.number (items_of pass.seen) → FitsPass pass [] }
-    ensures turn { (old new : StationData E) (end : TurnEnd) → TakesOne E.Store old new end → MayKeep old.pass new.pass old.held
+    ensures turn { (old new : StationData E) (end : Turn) → TakesOne E.Store old new end → MayKeep old.pass new.pass old.held
         → KeepsLedger old.pass new.pass new.held }
     ensures turns { (more : ℕ) (old new : StationData E) → AreTurns E.Store more old new → MayKeep old.pass new.pass old.held
         → KeepsLedger old.pass new.pass new.held }
@@ -57,16 +57,16 @@ pub fn own_reports_disturb_nobody()
 /// there only what it claimed last (`own`) and adds expiries, claims and reports alone (`work`). Turns of others have no entry of it (`others`), and so
 /// no report (`none`).
 pub fn passes_see_one_list()
-    ensures legal { (pass : PassView Entry) (later : List (Turn Entry)) → IsLegal (pass.opening ++ items_of (pass.seen ++ later))
+    ensures legal { (pass : PassView Entry) (later : List (LoggedTurn Entry)) → IsLegal (pass.opening ++ items_of (pass.seen ++ later))
         → IsLegal (seen_list pass) }
-    ensures before { (pass : PassView Entry) (later : List (Turn Entry))
+    ensures before { (pass : PassView Entry) (later : List (LoggedTurn Entry))
         → IsUndisturbed pass.number pass.opening (items_of (pass.seen ++ later)) → KeepsItsFiles pass }
-    ensures own { (old new : PassView Entry) (held : List Held) (later : List (Turn Entry)) → KeepsLedger old new held
+    ensures own { (old new : PassView Entry) (held : List Held) (later : List (LoggedTurn Entry)) → KeepsLedger old new held
         → NoneOf old.number (items_of old.seen) → NoneOf old.number (items_of later)
         → ReportsOwn old.number old.opening [] (items_of (new.seen ++ later)) }
-    ensures work { (old new : PassView Entry) (held : List Held) (later : List (Turn Entry)) → KeepsLedger old new held
+    ensures work { (old new : PassView Entry) (held : List Held) (later : List (LoggedTurn Entry)) → KeepsLedger old new held
         → NoneOf old.number (items_of old.seen) → NoneOf old.number (items_of later) → AddsWork old.number (items_of (new.seen ++ later)) }
-    ensures others { (writer : ℕ) (joined : List ℕ) (turns : List (Turn Entry)) → NoneBy (writer ∷ joined) turns → AllNamed writer_of turns
+    ensures others { (writer : ℕ) (joined : List ℕ) (turns : List (LoggedTurn Entry)) → NoneBy (writer ∷ joined) turns → AllNamed writer_of turns
         → NoneOf writer (items_of turns) }
     ensures none { (writer : ℕ) (opening before entries : List Entry) → NoneOf writer entries → ReportsOwn writer opening before entries }
 {}
@@ -95,13 +95,13 @@ pub fn files_out_have_claimants()
 /// reports, with the copy that the bench keeps. Of one turn, of turns, of a worker. In the list of all turns these are the same copies (`copies`),
 /// where the pass took no turn before what the clause speaks of, and none behind it.
 pub fn undisturbed_stores_follow<E: Store>()
-    ensures turn { (old new : StationData E) (end : TurnEnd) → TakesOne E.Store old new end → MayKeep old.pass new.pass old.held
+    ensures turn { (old new : StationData E) (end : Turn) → TakesOne E.Store old new end → MayKeep old.pass new.pass old.held
         → KeepsItsFiles new.pass → FollowsOwn E.Store old new × ((file : ℕ) → end ≢ Stale file) }
     ensures turns { (more : ℕ) (old new : StationData E) → AreTurns E.Store more old new → MayKeep old.pass new.pass old.held
         → KeepsItsFiles new.pass → FollowsOwn E.Store old new × AreFresh E.Store more old new }
     ensures worker { (old new : StationData E) (done : WorkerDone E.Store old new) → MayKeep old.pass new.pass old.held
         → KeepsItsFiles new.pass → FollowsOwn E.Store old new × AreFresh E.Store done.more old done.between }
-    ensures copies { (old : PassView Entry) (since later : List (Turn Entry)) → NoneOf old.number (items_of old.seen) → NoneOf old.number (items_of later)
+    ensures copies { (old : PassView Entry) (since later : List (LoggedTurn Entry)) → NoneOf old.number (items_of old.seen) → NoneOf old.number (items_of later)
         → copies_from (λ writer. writer == old.number) (tables_of old.opening) (items_of ((old.seen ++ since) ++ later))
         ≡ copies_from (λ writer. writer == old.number) (tables_of (seen_list old)) (items_of since) }
 {

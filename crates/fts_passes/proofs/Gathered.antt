@@ -1,6 +1,6 @@
 -- Passes that are made one after the other, and taken in one after the other.
 use Rattle.std.proofs.Common.{◌≡◌, ◌≢◌, ◌⊎◌, ℕ, zero, suc, ◌+◌, ◌<◌, ◌≤◌, List, [], ◌∷◌, ◌++◌, map, refl, sym, ap, ◌∙◌, subst, inl, inr, ⊎_elim, arith, append_assoc, append-nil}
-use Rattle.fts_turnstile.specs.declared.turn.Turn.{Turn}
+use Rattle.fts_turnstile.specs.declared.turn.LoggedTurn.{LoggedTurn}
 use Rattle.fts_turnstile.specs.History.{Among, NoneBy, OnlyOthersSince}
 use Rattle.fts_turnstile.specs.Passes.{TurnstileView, PassView, IsOf, numbers_of, pass_given, pass_after_join, HasAll}
 use Rattle.fts_passes.specs.Crews.{numbers_from, passes_given, AreOf, AreTakenIn, AreSeenBy}
@@ -58,7 +58,7 @@ module _ {I : Type 0} where
   are_of_last lock (y ∷ xs) ys x of = are_of_last lock xs ys x of.1.1.1
 
   -- none by these numbers is none by one of them
-  none_by_one : (n : ℕ) (ns : List ℕ) (turns : List (Turn I)) → Among n ns → NoneBy ns turns → NoneBy (n ∷ []) turns
+  none_by_one : (n : ℕ) (ns : List ℕ) (turns : List (LoggedTurn I)) → Among n ns → NoneBy ns turns → NoneBy (n ∷ []) turns
   none_by_one n ns [] among none = tt
   none_by_one n ns (turn ∷ turns) among none =
       ((λ a. none.0 (subst (λ m. Among m ns) (sym (is_one turn.number n a)) among)), none_by_one n ns turns among none.1)
@@ -66,12 +66,12 @@ module _ {I : Type 0} where
       is_one : (m n : ℕ) → Among m (n ∷ []) → m ≡ n
       is_one m n a = ⊎_elim (λ e. e) (λ none. absurd none) a
 
-  pub none_by-append : (ns : List ℕ) (xs ys : List (Turn I)) → NoneBy ns xs → NoneBy ns ys → NoneBy ns (xs ++ ys)
+  pub none_by-append : (ns : List ℕ) (xs ys : List (LoggedTurn I)) → NoneBy ns xs → NoneBy ns ys → NoneBy ns (xs ++ ys)
   none_by-append ns [] ys a b = b
   none_by-append ns (x ∷ xs) ys a b = (a.0, none_by-append ns xs ys a.1 b)
 
   -- turns of others alone came, and then again
-  others_on : (n : ℕ) (ns : List ℕ) (before between now : List (Turn I)) → Among n ns → OnlyOthersSince (n ∷ []) before between
+  others_on : (n : ℕ) (ns : List ℕ) (before between now : List (LoggedTurn I)) → Among n ns → OnlyOthersSince (n ∷ []) before between
       → OnlyOthersSince ns between now → OnlyOthersSince (n ∷ []) before now
   others_on n ns before between now among one two = (
     one.0 ++ two.0,

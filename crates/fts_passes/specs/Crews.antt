@@ -1,6 +1,6 @@
 -- The passes that pass 0 gives to many threads, and what is known of all of them behind the closing of their lock.
 use Rattle.std.specs.Prelude.{◌≡◌, ◌≢◌, ℕ, zero, suc, List, [], ◌∷◌, ◌++◌}
-use Rattle.fts_turnstile.specs.declared.turn.Turn.{Turn}
+use Rattle.fts_turnstile.specs.declared.turn.LoggedTurn.{LoggedTurn}
 use Rattle.fts_turnstile.specs.History.{Among, items_of, shown_after, NoneBy, OnlyOthersSince, AllNamed, AllGiven}
 use Rattle.fts_turnstile.specs.Passes.{TurnstileView, PassView, IsOf, numbers_of, pass_given}
 
@@ -37,13 +37,13 @@ module _ {I : Type 0} where
   AreTakenIn first (pass ∷ passes) = IsTakenIn first pass × AreTakenIn first passes
 
   -- each of these passes has seen a beginning of the turns, and behind it none has its number
-  abbrev pub AreSeenBy : List (Turn I) → List (PassView I) → Type 0
+  abbrev pub AreSeenBy : List (LoggedTurn I) → List (PassView I) → Type 0
   AreSeenBy turns [] = Unit {0}
   AreSeenBy turns (pass ∷ passes) = OnlyOthersSince (pass.number ∷ []) pass.seen turns × AreSeenBy turns passes
 
   -- a lock was closed behind these passes: its value holds the opening list and the items of all turns, and shows what the last turn left
   pub record ClosedWith {T : Type 0} (items : T → List I) (names : I → ℕ) (shows : T → List ℕ) (first : PassView I) (passes : List (PassView I)) (value : T) : Type 0 where
-    pub turns : List (Turn I)
+    pub turns : List (LoggedTurn I)
     pub list : items value ≡ first.opening ++ items_of turns
     pub shown : shows value ≡ shown_after first.opening_shows turns
     pub named : AllNamed names turns

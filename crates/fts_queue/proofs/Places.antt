@@ -5,7 +5,7 @@ use Rattle.std.specs.List.{prefix_len, AllByRecursion}
 use Rattle.std.specs.List.Sorted.{IsPartitionPoint}
 use Rattle.std.proofs.lemmas.List.Sums.{prefix_len_is}
 use Rattle.fts_tables.specs.declared.settings.LinkAt.{LinkAt}
-use Rattle.fts_queue.specs.declared.rooms.Room.{Room}
+use Rattle.fts_queue.specs.declared.rooms.QueueRoom.{QueueRoom}
 use Rattle.fts_queue.specs.WaitingData.{put_by, AreSortedBy, is_queue_before, is_room_of, with_room}
 use Rattle.fts_queue.proofs.QueueRooms.{new_room, raise_behind, raise_here, raise_before}
 
@@ -49,7 +49,7 @@ put_at before item (first ∷ rest) = by_test (before item first) (put_at before
         ap (λ later. first ∷ later) behind ∙ ap (λ place. insert (first ∷ rest) place item) next
 
 -- a room is raised at its place
-pub raised_at : (link : LinkAt) (activity wanted : ℕ) (rooms : List Room) (d : Room)
+pub raised_at : (link : LinkAt) (activity wanted : ℕ) (rooms : List QueueRoom) (d : QueueRoom)
     → prefix_len (λ room. is_queue_before room.link room.activity link activity) rooms < length rooms
     → is_room_of link activity (get_or rooms (prefix_len (λ room. is_queue_before room.link room.activity link activity) rooms) d) ≡ true
     → with_room link activity wanted rooms ≡ set rooms (prefix_len (λ room. is_queue_before room.link room.activity link activity) rooms)
@@ -88,7 +88,7 @@ raised_at link activity wanted (first ∷ rest) d less own =
     by_test false goes behind less own = raise_here link activity wanted first rest goes own
 
 -- or comes in there
-pub comes_in_at : (link : LinkAt) (activity wanted : ℕ) (rooms : List Room) (d : Room)
+pub comes_in_at : (link : LinkAt) (activity wanted : ℕ) (rooms : List QueueRoom) (d : QueueRoom)
     → (prefix_len (λ room. is_queue_before room.link room.activity link activity) rooms < length rooms
     → is_room_of link activity (get_or rooms (prefix_len (λ room. is_queue_before room.link room.activity link activity) rooms) d) ≡ false)
     → with_room link activity wanted rooms ≡ insert rooms (prefix_len (λ room. is_queue_before room.link room.activity link activity) rooms)
@@ -118,19 +118,19 @@ comes_in_at link activity wanted (first ∷ rest) d own =
     by_test false goes behind own = raise_before link activity wanted first rest goes (own (omega arith))
 
 -- the same, where the place and the room are known by equations
-pub raised_here : (link : LinkAt) (activity wanted : ℕ) (rooms : List Room) (place : ℕ) (here : Room)
+pub raised_here : (link : LinkAt) (activity wanted : ℕ) (rooms : List QueueRoom) (place : ℕ) (here : QueueRoom)
     → place ≡ prefix_len (λ room. is_queue_before room.link room.activity link activity) rooms → here ≡ get_or rooms place here
     → place < length rooms → is_room_of link activity here ≡ true
     → set rooms place (record here { room = max here.room wanted }) ≡ with_room link activity wanted rooms
 raised_here link activity wanted rooms place here at is less own =
     let found = is ∙ ap (λ n. get_or rooms n here) at in
-    let write : ℕ → Room → List Room = λ n room. set rooms n (record room { room = max room.room wanted }) in
+    let write : ℕ → QueueRoom → List QueueRoom = λ n room. set rooms n (record room { room = max room.room wanted }) in
     ap (write place) is
     ∙ (ap (λ n. write n (get_or rooms n here)) at
     ∙ sym (raised_at link activity wanted rooms here (subst (λ n. n < length rooms) at less)
     (ap (is_room_of link activity) (sym found) ∙ own)))
 
-pub comes_in_here : (link : LinkAt) (activity wanted : ℕ) (rooms : List Room) (place : ℕ) (d : Room)
+pub comes_in_here : (link : LinkAt) (activity wanted : ℕ) (rooms : List QueueRoom) (place : ℕ) (d : QueueRoom)
     → place ≡ prefix_len (λ room. is_queue_before room.link room.activity link activity) rooms
     → (place < length rooms → is_room_of link activity (get_or rooms place d) ≡ false)
     → insert rooms place (new_room link activity wanted) ≡ with_room link activity wanted rooms

@@ -8,7 +8,7 @@ use Rattle.std.proofs.lemmas.List.Sums.{sum_by-cons}
 use Rattle.std.proofs.lemmas.List.Filters.{length-filter_both}
 use Rattle.fts_tables.specs.declared.settings.LinkAt.{LinkAt}
 use Rattle.fts_queue.specs.declared.waiter.Waiter.{Waiter}
-use Rattle.fts_queue.specs.declared.rooms.Room.{Room}
+use Rattle.fts_queue.specs.declared.rooms.QueueRoom.{QueueRoom}
 use Rattle.fts_queue.specs.WaitingData.{is_first_by, is_queue_before, is_room_of, room_of, with_room, AreQueuesInOrder, is_in, waiting_in, with_waiter, without_file, goes_before, WaitingData, AreWaiting, is_waiting}
 use Rattle.fts_queue.proofs.Sorting.{count_put, put_keeps, put_apart, filter_sorted, filter_apart}
 use Rattle.fts_queue.proofs.Orders.{waiting_order, first_less, first_equal, first_passes_on, less_passes_on}
@@ -21,7 +21,7 @@ three_same a1 a2 b1 b2 c1 c2 is =
     (eqb-true a1 a2 inner.0, eqb-true b1 b2 inner.1, eqb-true c1 c2 outer.1)
 
 -- the number of files that wait, and the sum of rooms
-abbrev pub whole_room : List Room → ℕ
+abbrev pub whole_room : List QueueRoom → ℕ
 whole_room rooms = sum_by (λ room. room.room) rooms
 
 -- a queue's files among those of another queue are none
@@ -56,7 +56,7 @@ fewer passes other (first ∷ rest) = by_tests (other first) (passes first) refl
     by_tests false false is behind = simp is (omega arith)
 
 -- a queue of a room is before another
-abbrev pub goes_by : LinkAt → ℕ → Room → Bool
+abbrev pub goes_by : LinkAt → ℕ → QueueRoom → Bool
 goes_by link activity room = is_queue_before room.link room.activity link activity
 
 -- of two queues one is before the other, or they are one
@@ -100,7 +100,7 @@ queues_pass_on s1 d1 a1 s2 d2 a2 s3 d3 a3 first then_third =
     (λ one other. first_passes_on d1 d2 d3 (nat_lt a1 a2) (nat_lt a2 a3) (nat_lt a1 a3) one other (less_passes_on a1 a2 a3))
 
 -- a queue that goes before the first of those in order has no room among them
-no_room_behind : (link : LinkAt) (activity : ℕ) (first : Room) (rest : List Room)
+no_room_behind : (link : LinkAt) (activity : ℕ) (first : QueueRoom) (rest : List QueueRoom)
     → is_queue_before link activity first.link first.activity ≡ true
     → AllByRecursion (λ later. is_queue_before first.link first.activity later.link later.activity ≡ true) rest
     → find (is_room_of link activity) rest ≡ None
@@ -128,46 +128,46 @@ is_own link activity room =
     (eq-eqb activity activity refl)
 
 -- a queue that isn't before and isn't the first room's, of rooms in order, has none of them
-pub no_room : (link : LinkAt) (activity : ℕ) (first : Room) (rest : List Room) → is_queue_before first.link first.activity link activity ≡ false
+pub no_room : (link : LinkAt) (activity : ℕ) (first : QueueRoom) (rest : List QueueRoom) → is_queue_before first.link first.activity link activity ≡ false
     → is_room_of link activity first ≡ false
     → AllByRecursion (λ later. is_queue_before first.link first.activity later.link later.activity ≡ true) rest
     → room_of link activity rest ≡ 0
 no_room link activity first rest goes own all =
-    ap (λ found. option_map_or (λ (room : Room). room.room) found 0)
+    ap (λ found. option_map_or (λ (room : QueueRoom). room.room) found 0)
     (no_room_behind link activity first rest
     (queues_decide first.link.source first.link.dest first.activity link.source link.dest activity goes own) all)
 
 -- a room that comes in
-abbrev pub new_room : LinkAt → ℕ → ℕ → Room
+abbrev pub new_room : LinkAt → ℕ → ℕ → QueueRoom
 new_room link activity wanted = record { link = link; activity = activity; room = wanted }
 
 -- the three ways to raise a room: behind the first, at it, before it
-pub raise_behind : (link : LinkAt) (activity wanted : ℕ) (first : Room) (rest : List Room)
+pub raise_behind : (link : LinkAt) (activity wanted : ℕ) (first : QueueRoom) (rest : List QueueRoom)
     → is_queue_before first.link first.activity link activity ≡ true
     → with_room link activity wanted (first ∷ rest) ≡ first ∷ with_room link activity wanted rest
 raise_behind link activity wanted first rest goes = rw goes refl
 
-pub raise_here : (link : LinkAt) (activity wanted : ℕ) (first : Room) (rest : List Room)
+pub raise_here : (link : LinkAt) (activity wanted : ℕ) (first : QueueRoom) (rest : List QueueRoom)
     → is_queue_before first.link first.activity link activity ≡ false → is_room_of link activity first ≡ true
     → with_room link activity wanted (first ∷ rest) ≡ record first { room = max first.room wanted } ∷ rest
 raise_here link activity wanted first rest goes own = rw (goes, own) refl
 
-pub raise_before : (link : LinkAt) (activity wanted : ℕ) (first : Room) (rest : List Room)
+pub raise_before : (link : LinkAt) (activity wanted : ℕ) (first : QueueRoom) (rest : List QueueRoom)
     → is_queue_before first.link first.activity link activity ≡ false → is_room_of link activity first ≡ false
     → with_room link activity wanted (first ∷ rest) ≡ new_room link activity wanted ∷ first ∷ rest
 raise_before link activity wanted first rest goes own = rw (goes, own) refl
 
 -- the room of a queue that stands first, and that of one that doesn't
-pub room_here : (link : LinkAt) (activity : ℕ) (first : Room) (rest : List Room) → is_room_of link activity first ≡ true
+pub room_here : (link : LinkAt) (activity : ℕ) (first : QueueRoom) (rest : List QueueRoom) → is_room_of link activity first ≡ true
     → room_of link activity (first ∷ rest) ≡ first.room
-room_here link activity first rest own = ap (λ test. option_map_or (λ (room : Room). room.room) (cond test (Some first) (find (is_room_of link activity) rest)) 0) own
+room_here link activity first rest own = ap (λ test. option_map_or (λ (room : QueueRoom). room.room) (cond test (Some first) (find (is_room_of link activity) rest)) 0) own
 
-pub room_behind : (link : LinkAt) (activity : ℕ) (first : Room) (rest : List Room) → is_room_of link activity first ≡ false
+pub room_behind : (link : LinkAt) (activity : ℕ) (first : QueueRoom) (rest : List QueueRoom) → is_room_of link activity first ≡ false
     → room_of link activity (first ∷ rest) ≡ room_of link activity rest
-room_behind link activity first rest own = ap (λ test. option_map_or (λ (room : Room). room.room) (cond test (Some first) (find (is_room_of link activity) rest)) 0) own
+room_behind link activity first rest own = ap (λ test. option_map_or (λ (room : QueueRoom). room.room) (cond test (Some first) (find (is_room_of link activity) rest)) 0) own
 
 -- the raised room of a queue
-pub room_raised : (link : LinkAt) (activity wanted : ℕ) (rooms : List Room) → AreQueuesInOrder rooms
+pub room_raised : (link : LinkAt) (activity wanted : ℕ) (rooms : List QueueRoom) → AreQueuesInOrder rooms
     → room_of link activity (with_room link activity wanted rooms) ≡ max (room_of link activity rooms) wanted
 room_raised link activity wanted [] sorted = room_here link activity (new_room link activity wanted) [] (is_own link activity wanted) ∙ omega arith
 room_raised link activity wanted (first ∷ rest) sorted =
@@ -193,7 +193,7 @@ room_raised link activity wanted (first ∷ rest) sorted =
         ∙ (omega arith ∙ ap (λ room. max room wanted) (sym (room_behind link activity first rest own ∙ no_room link activity first rest goes own sorted.0))))
 
 -- rooms of equal queues are the same queue's
-same_room : (link other : LinkAt) (activity other_activity : ℕ) (room : Room) → is_room_of link activity room ≡ true
+same_room : (link other : LinkAt) (activity other_activity : ℕ) (room : QueueRoom) → is_room_of link activity room ≡ true
     → is_room_of other other_activity room ≡ is_room_of other other_activity (new_room link activity 0)
 same_room link other activity other_activity room own =
     let same = three_same room.link.source link.source room.link.dest link.dest room.activity activity own in
@@ -202,7 +202,7 @@ same_room link other activity other_activity room own =
     ∙ ap (λ number. (link.source == other.source) && (link.dest == other.dest) && (number == other_activity)) same.2)
 
 -- the rooms of the others stay
-pub room_of_others : (link other : LinkAt) (activity other_activity wanted : ℕ) (rooms : List Room)
+pub room_of_others : (link other : LinkAt) (activity other_activity wanted : ℕ) (rooms : List QueueRoom)
     → is_room_of other other_activity (new_room link activity wanted) ≡ false
     → room_of other other_activity (with_room link activity wanted rooms) ≡ room_of other other_activity rooms
 room_of_others link other activity other_activity wanted [] apart = room_behind other other_activity (new_room link activity wanted) [] apart
@@ -230,7 +230,7 @@ room_of_others link other activity other_activity wanted (first ∷ rest) apart 
         ∙ room_behind other other_activity (new_room link activity wanted) (first ∷ rest) apart
 
 -- what goes before all rooms and before one more goes before all of them
-all_raised : (link : LinkAt) (activity wanted : ℕ) (head : Room) (rooms : List Room)
+all_raised : (link : LinkAt) (activity wanted : ℕ) (head : QueueRoom) (rooms : List QueueRoom)
     → is_queue_before head.link head.activity link activity ≡ true
     → AllByRecursion (λ later. is_queue_before head.link head.activity later.link later.activity ≡ true) rooms
     → AllByRecursion (λ later. is_queue_before head.link head.activity later.link later.activity ≡ true) (with_room link activity wanted rooms)
@@ -248,7 +248,7 @@ all_raised link activity wanted head (first ∷ rest) goes all =
     by_tests false false behind = (goes, (all.0, all.1))
 
 -- what goes before the first goes before all
-all_behind : (link : LinkAt) (activity : ℕ) (first : Room) (rest : List Room) → is_queue_before link activity first.link first.activity ≡ true
+all_behind : (link : LinkAt) (activity : ℕ) (first : QueueRoom) (rest : List QueueRoom) → is_queue_before link activity first.link first.activity ≡ true
     → AllByRecursion (λ later. is_queue_before first.link first.activity later.link later.activity ≡ true) rest
     → AllByRecursion (λ later. is_queue_before link activity later.link later.activity ≡ true) rest
 all_behind link activity first [] goes all = tt
@@ -258,7 +258,7 @@ all_behind link activity first (next ∷ rest) goes all = (
 )
 
 -- rooms in order stay so
-pub raised_in_order : (link : LinkAt) (activity wanted : ℕ) (rooms : List Room) → AreQueuesInOrder rooms
+pub raised_in_order : (link : LinkAt) (activity wanted : ℕ) (rooms : List QueueRoom) → AreQueuesInOrder rooms
     → AreQueuesInOrder (with_room link activity wanted rooms)
 raised_in_order link activity wanted [] sorted = (tt, tt)
 raised_in_order link activity wanted (first ∷ rest) sorted =
@@ -276,10 +276,10 @@ raised_in_order link activity wanted (first ∷ rest) sorted =
         ((before, all_behind link activity first rest before sorted.0), sorted)
 
 -- the sum of rooms with one more, and the sum after a raise
-pub whole_cons : (first : Room) (rest : List Room) → whole_room (first ∷ rest) ≡ first.room + whole_room rest
-whole_cons first rest = sum_by-cons (λ (room : Room). room.room) first rest
+pub whole_cons : (first : QueueRoom) (rest : List QueueRoom) → whole_room (first ∷ rest) ≡ first.room + whole_room rest
+whole_cons first rest = sum_by-cons (λ (room : QueueRoom). room.room) first rest
 
-pub whole_raised : (link : LinkAt) (activity wanted : ℕ) (rooms : List Room) → AreQueuesInOrder rooms
+pub whole_raised : (link : LinkAt) (activity wanted : ℕ) (rooms : List QueueRoom) → AreQueuesInOrder rooms
     → whole_room (with_room link activity wanted rooms) ≡ whole_room rooms + (wanted - room_of link activity rooms)
 whole_raised link activity wanted [] sorted = omega (arith, whole_cons (new_room link activity wanted) [])
 whole_raised link activity wanted (first ∷ rest) sorted =
@@ -314,7 +314,7 @@ is_in_own waiter =
     (eq-eqb waiter.activity waiter.activity refl)
 
 -- a file of a room's queue is one of that queue by whatever name
-same_queue : (link : LinkAt) (activity : ℕ) (room : Room) (waiter : Waiter) → is_room_of link activity room ≡ true
+same_queue : (link : LinkAt) (activity : ℕ) (room : QueueRoom) (waiter : Waiter) → is_room_of link activity room ≡ true
     → is_in link activity waiter ≡ is_in room.link room.activity waiter
 same_queue link activity room waiter own =
     let same = three_same room.link.source link.source room.link.dest link.dest room.activity activity own in
@@ -323,15 +323,15 @@ same_queue link activity room waiter own =
     ∙ ap (λ number. (waiter.link.source == room.link.source) && (waiter.link.dest == room.link.dest) && (waiter.activity == number)) (sym same.2))
 
 -- each queue's files are within its room
-abbrev pub AreWithin : List Waiter → List Room → Type 0
+abbrev pub AreWithin : List Waiter → List QueueRoom → Type 0
 AreWithin waiters rooms = (link : LinkAt) (activity : ℕ) → length (waiting_in link activity waiters) ≤ room_of link activity rooms
 
 -- the files that are of no room's queue
-abbrev others : Room → List Waiter → List Waiter
+abbrev others : QueueRoom → List Waiter → List Waiter
 others room waiters = filter (λ waiter. not (is_in room.link room.activity waiter)) waiters
 
 -- these are within the other rooms
-others_within : (first : Room) (rest : List Room) (waiters : List Waiter) → AreWithin waiters (first ∷ rest) → AreWithin (others first waiters) rest
+others_within : (first : QueueRoom) (rest : List QueueRoom) (waiters : List Waiter) → AreWithin waiters (first ∷ rest) → AreWithin (others first waiters) rest
 others_within first rest waiters within = λ link activity. by_test link activity (cases_Bool (is_room_of link activity first))
   where
     by_test : (link : LinkAt) (activity : ℕ) → (is_room_of link activity first ≡ true) ⊎ (is_room_of link activity first ≡ false)
@@ -349,13 +349,13 @@ others_within first rest waiters within = λ link activity. by_test link activit
         )
 
 -- the first room holds the files of its queue
-first_within : (first : Room) (rest : List Room) (waiters : List Waiter) → AreWithin waiters (first ∷ rest)
+first_within : (first : QueueRoom) (rest : List QueueRoom) (waiters : List Waiter) → AreWithin waiters (first ∷ rest)
     → length (waiting_in first.link first.activity waiters) ≤ first.room
 first_within first rest waiters within =
     omega (arith, within first.link first.activity, room_here first.link first.activity first rest (is_own first.link first.activity first.room))
 
 -- all files find room in all rooms together
-pub all_fit : (rooms : List Room) (waiters : List Waiter) → AreWithin waiters rooms → length waiters ≤ whole_room rooms
+pub all_fit : (rooms : List QueueRoom) (waiters : List Waiter) → AreWithin waiters rooms → length waiters ≤ whole_room rooms
 all_fit [] [] within = omega arith
 all_fit [] (waiter ∷ rest) within =
     let one = ap (λ test. length (cond test (waiter ∷ waiting_in waiter.link waiter.activity rest) (waiting_in waiter.link waiter.activity rest)))
@@ -371,7 +371,7 @@ all_fit (first ∷ rest) waiters within =
     )
 
 -- and what is left of a queue's room is left of them too
-pub room_is_left : (link : LinkAt) (activity : ℕ) (rooms : List Room) (waiters : List Waiter) → AreWithin waiters rooms
+pub room_is_left : (link : LinkAt) (activity : ℕ) (rooms : List QueueRoom) (waiters : List Waiter) → AreWithin waiters rooms
     → length (waiting_in link activity waiters) < room_of link activity rooms → length waiters < whole_room rooms
 room_is_left link activity [] waiters within less = absurd (omega arith)
 room_is_left link activity (first ∷ rest) waiters within less =
@@ -408,7 +408,7 @@ abbrev one_if : Bool → ℕ
 one_if passes = cond passes 1 0
 
 -- a file more in a queue that has room
-pub within_more : (rooms : List Room) (waiter : Waiter) (waiters : List Waiter) → AreWithin waiters rooms
+pub within_more : (rooms : List QueueRoom) (waiter : Waiter) (waiters : List Waiter) → AreWithin waiters rooms
     → length (waiting_in waiter.link waiter.activity waiters) < room_of waiter.link waiter.activity rooms → AreWithin (with_waiter waiter waiters) rooms
 within_more rooms waiter waiters within less = λ link activity. by_test link activity (cases_Bool (is_in link activity waiter))
   where
@@ -425,7 +425,7 @@ within_more rooms waiter waiters within less = λ link activity. by_test link ac
         omega (arith, count_put goes_before (is_in link activity) waiter waiters, ap one_if not_in, within link activity)
 
 -- the rooms after a raise hold what they held
-pub within_raised : (link : LinkAt) (activity wanted : ℕ) (rooms : List Room) (waiters : List Waiter) → AreQueuesInOrder rooms → AreWithin waiters rooms
+pub within_raised : (link : LinkAt) (activity wanted : ℕ) (rooms : List QueueRoom) (waiters : List Waiter) → AreQueuesInOrder rooms → AreWithin waiters rooms
     → AreWithin waiters (with_room link activity wanted rooms)
 within_raised link activity wanted rooms waiters sorted within = λ other number. by_test other number (cases_Bool (is_room_of other number (new_room link activity wanted)))
   where

@@ -4,15 +4,15 @@ use Rattle.std.specs.Prelude.{slice_get}
 use Rattle.std.specs.List.{prefix_len}
 use Rattle.std.specs.Option.{option_map_or}
 use Rattle.fts_tables.specs.declared.settings.LinkAt.{LinkAt}
-use Rattle.fts_queue.specs.declared.rooms.Room.{Room}
+use Rattle.fts_queue.specs.declared.rooms.QueueRoom.{QueueRoom}
 use Rattle.fts_queue.specs.WaitingData.{is_queue_before, is_room_of, room_of, AreQueuesInOrder}
 use Rattle.fts_queue.proofs.QueueRooms.{goes_by, queue_not_before, room_here, room_behind, no_room}
 
 -- how many files a room is for, where it is a queue's
-abbrev pub number_for : LinkAt → ℕ → Room → ℕ
+abbrev pub number_for : LinkAt → ℕ → QueueRoom → ℕ
 number_for link activity room = cond (is_room_of link activity room) room.room 0
 
-pub room_there : (link : LinkAt) (activity : ℕ) (rooms : List Room) → AreQueuesInOrder rooms
+pub room_there : (link : LinkAt) (activity : ℕ) (rooms : List QueueRoom) → AreQueuesInOrder rooms
     → option_map_or (number_for link activity) (slice_get rooms (prefix_len (goes_by link activity) rooms)) 0 ≡ room_of link activity rooms
 room_there link activity [] sorted = refl
 room_there link activity (first ∷ rest) sorted =

@@ -4,13 +4,13 @@ use Rattle.std.specs.List.{list_any, AllByRecursion}
 use Rattle.std.specs.Option.{option_map_or}
 use Rattle.fts_tables.specs.declared.settings.LinkAt.{LinkAt}
 use Rattle.fts_queue.specs.declared.waiter.Waiter.{Waiter}
-use Rattle.fts_queue.specs.declared.rooms.Room.{Room}
+use Rattle.fts_queue.specs.declared.rooms.QueueRoom.{QueueRoom}
 
 -- the files that wait, in their order; the moment of the last ripening; and the room of each queue that any was made for
 pub record WaitingData : Type 0 where
   pub waiters : List Waiter
   pub moment : ℕ
-  pub rooms : List Room
+  pub rooms : List QueueRoom
 
 -- the lesser number first; of equal ones the rest decides
 abbrev pub is_first_by : ℕ → ℕ → Bool → Bool
@@ -97,15 +97,15 @@ is_queue_before link activity other_link other_activity =
     (nat_lt activity other_activity))
 
 -- whether a room is a queue's
-abbrev pub is_room_of : LinkAt → ℕ → Room → Bool
+abbrev pub is_room_of : LinkAt → ℕ → QueueRoom → Bool
 is_room_of link activity room = (room.link.source == link.source) && (room.link.dest == link.dest) && (room.activity == activity)
 
 -- how many files a queue has room for
-abbrev pub room_of : LinkAt → ℕ → List Room → ℕ
+abbrev pub room_of : LinkAt → ℕ → List QueueRoom → ℕ
 room_of link activity rooms = option_map_or (λ room. room.room) (find (is_room_of link activity) rooms) 0
 
 -- the rooms, with that of a queue raised to a number, or come in at the queue's place
-abbrev pub with_room : LinkAt → ℕ → ℕ → List Room → List Room
+abbrev pub with_room : LinkAt → ℕ → ℕ → List QueueRoom → List QueueRoom
 with_room link activity wanted [] = record { link = link; activity = activity; room = wanted } ∷ []
 with_room link activity wanted (first ∷ rest) =
     if is_queue_before first.link first.activity link activity then first ∷ with_room link activity wanted rest
@@ -113,7 +113,7 @@ with_room link activity wanted (first ∷ rest) =
     else record { link = link; activity = activity; room = wanted } ∷ first ∷ rest
 
 -- queues in their order, each once
-abbrev pub AreQueuesInOrder : List Room → Type 0
+abbrev pub AreQueuesInOrder : List QueueRoom → Type 0
 AreQueuesInOrder rooms = AreSortedBy (λ room later. is_queue_before room.link room.activity later.link later.activity) rooms
 
 -- the files stand in their order, none twice, in queues that have room for them and stand in their order too

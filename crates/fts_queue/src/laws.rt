@@ -33,7 +33,7 @@ ghost use Rattle.std.specs.List.{list_any};
 ghost use Rattle.fts_tables.specs.Choice.{least};
 ghost use Rattle.fts_tables.specs.declared.settings.LinkAt.{LinkAt};
 ghost use Rattle.fts_queue.specs.declared.waiter.Waiter.{Waiter};
-ghost use Rattle.fts_queue.specs.declared.rooms.Room.{Room};
+ghost use Rattle.fts_queue.specs.declared.rooms.QueueRoom.{QueueRoom};
 ghost use Rattle.fts_queue.specs.WaitingData.{
   WaitingData,
   AreWaiting,
@@ -103,9 +103,9 @@ pub fn ripe_files_are_numbered()
 
 /// A queue's room is raised to what is asked for, and never falls; every other queue's stays.
 pub fn rooms_are_raised()
-    ensures raised { (link : LinkAt) (activity wanted : ℕ) (rooms : List Room) → AreQueuesInOrder rooms
+    ensures raised { (link : LinkAt) (activity wanted : ℕ) (rooms : List QueueRoom) → AreQueuesInOrder rooms
         → room_of link activity (with_room link activity wanted rooms) ≡ max (room_of link activity rooms) wanted }
-    ensures others { (link other : LinkAt) (activity other_activity wanted : ℕ) (rooms : List Room)
+    ensures others { (link other : LinkAt) (activity other_activity wanted : ℕ) (rooms : List QueueRoom)
         → is_room_of other other_activity (record { link = link; activity = activity; room = wanted }) ≡ false
         → room_of other other_activity (with_room link activity wanted rooms) ≡ room_of other other_activity rooms }
 {}

@@ -25,14 +25,14 @@ use fts_tables::LinkAt;
 
 /// How many files may wait on a link under an activity.
 #[derive(Clone, Copy, Debug, PartialEq, Eq)]
-pub struct Room {
+pub struct QueueRoom {
     pub link: LinkAt,
     pub activity: u16,
     pub room: usize,
 }
 
 /// Whether a room's queue stands before another.
-fn is_queue_before(room: &Room, link: LinkAt, activity: u16) -> bool
+fn is_queue_before(room: &QueueRoom, link: LinkAt, activity: u16) -> bool
     ensures answer { result ≡ is_queue_before room.now.link room.now.activity link activity }
 {
     room.link.source < link.source
@@ -42,14 +42,14 @@ fn is_queue_before(room: &Room, link: LinkAt, activity: u16) -> bool
 }
 
 /// Whether a room is a queue's.
-fn is_room_of(room: &Room, link: LinkAt, activity: u16) -> bool
+fn is_room_of(room: &QueueRoom, link: LinkAt, activity: u16) -> bool
     ensures answer { result ≡ is_room_of link activity room.now }
 {
     room.link.source == link.source && room.link.dest == link.dest && room.activity == activity
 }
 
 /// How many queues stand before one.
-fn place_of(rooms: &[Room], link: LinkAt, activity: u16) -> usize
+fn place_of(rooms: &[QueueRoom], link: LinkAt, activity: u16) -> usize
     requires order { AreQueuesInOrder rooms.now }
     ensures place { result ≡ prefix_len (λ room. is_queue_before room.link room.activity link activity) rooms.now }
     ensures inside { result ≤ length rooms.now }
@@ -58,7 +58,7 @@ fn place_of(rooms: &[Room], link: LinkAt, activity: u16) -> usize
 }
 
 /// How many files the room at a place is for, where it is a queue's, and 0 where it isn't or there is none.
-fn room_at(rooms: &[Room], place: usize, link: LinkAt, activity: u16) -> usize
+fn room_at(rooms: &[QueueRoom], place: usize, link: LinkAt, activity: u16) -> usize
     ensures room { result ≡ option_map_or (λ room. if is_room_of link activity room then room.room else 0) (slice_get rooms.now place) 0 }
 {
     match rooms.get(place) {
@@ -74,7 +74,7 @@ fn room_at(rooms: &[Room], place: usize, link: LinkAt, activity: u16) -> usize
 }
 
 /// How many files a queue has room for.
-pub fn room_of(rooms: &[Room], link: LinkAt, activity: u16) -> usize
+pub fn room_of(rooms: &[QueueRoom], link: LinkAt, activity: u16) -> usize
     requires order { AreQueuesInOrder rooms.now }
     ensures room { result ≡ room_of link activity rooms.now }
 {
@@ -82,7 +82,7 @@ pub fn room_of(rooms: &[Room], link: LinkAt, activity: u16) -> usize
 }
 
 /// Raises the room of a queue to a number, or puts it in, in memory that is there.
-pub fn raise(rooms: &mut Vec<Room>, link: LinkAt, activity: u16, wanted: usize)
+pub fn raise(rooms: &mut Vec<QueueRoom>, link: LinkAt, activity: u16, wanted: usize)
     requires order { AreQueuesInOrder rooms.old.items }
     requires memory { vec_len rooms.old < vec_capacity rooms.old }
     ensures rooms { rooms.new.items ≡ with_room link activity wanted rooms.old.items }
@@ -94,7 +94,7 @@ pub fn raise(rooms: &mut Vec<Room>, link: LinkAt, activity: u16, wanted: usize)
     } else {
         let _ = rooms.insert(
             place,
-            Room {
+            QueueRoom {
                 link,
                 activity,
                 room: wanted,

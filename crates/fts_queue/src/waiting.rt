@@ -46,7 +46,7 @@ use crate::chunk::CHUNK_ROOM;
 use crate::lookup::{count_before, ripe_at, ripe_before, ripen, waiter_at};
 use crate::pack::{Packed, pack};
 use crate::put::put;
-use crate::rooms::{Room, raise, room_of};
+use crate::rooms::{QueueRoom, raise, room_of};
 use crate::spare::{grow, store};
 use crate::take::{Taken, take};
 use crate::tree::{Tree, is_leaf, ripe_of};
@@ -78,7 +78,7 @@ pub struct Waiting {
     tree: Tree,
     spare: Tree,
     moment: u64,
-    rooms: Vec<Room>,
+    rooms: Vec<QueueRoom>,
     whole: usize,
     alloc: Global,
 }

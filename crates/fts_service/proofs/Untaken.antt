@@ -1,6 +1,6 @@
 -- A lock whose passes have taken no turn.
 use Rattle.std.proofs.Common.{◌≡◌, ◌⊎◌, ℕ, zero, suc, ◌+◌, ◌<◌, ◌≤◌, List, [], ◌∷◌, ◌++◌, refl, sym, ap, ◌∙◌, subst, inl, inr, ⊎_elim, arith}
-use Rattle.fts_turnstile.specs.declared.turn.Turn.{Turn}
+use Rattle.fts_turnstile.specs.declared.turn.LoggedTurn.{LoggedTurn}
 use Rattle.fts_turnstile.specs.History.{NoneBy, AllGiven, OnlyOthersSince}
 use Rattle.fts_turnstile.specs.Passes.{PassView}
 use Rattle.fts_passes.specs.Crews.{passes_given, AreSeenBy}
@@ -14,7 +14,7 @@ or_more (suc a) (suc b) h = ⊎_elim (λ e. inl (ap suc e)) (λ lt. inr (omega a
 
 module _ {I : Type 0} where
   -- the pass of a number that was given has seen no turn, where none has seen any
-  seen_at : (turns : List (Turn I)) (giver : PassView I) (count n : ℕ) → giver.given < n → n ≤ giver.given + count → AreSeenBy turns (passes_given giver count)
+  seen_at : (turns : List (LoggedTurn I)) (giver : PassView I) (count n : ℕ) → giver.given < n → n ≤ giver.given + count → AreSeenBy turns (passes_given giver count)
       → OnlyOthersSince (n ∷ []) giver.seen turns
   seen_at turns giver zero n low high seen = absurd (omega arith)
   seen_at turns giver (suc more) n low high seen = ⊎_elim
@@ -23,11 +23,11 @@ module _ {I : Type 0} where
       (or_more (suc giver.given) n low)
 
   -- a turn with a number that is none of these
-  no_turn : (turn : Turn I) (turns since : List (Turn I)) → turn ∷ turns ≡ since → NoneBy (turn.number ∷ []) since → ⊥
+  no_turn : (turn : LoggedTurn I) (turns since : List (LoggedTurn I)) → turn ∷ turns ≡ since → NoneBy (turn.number ∷ []) since → ⊥
   no_turn turn turns since e none = (subst (NoneBy (turn.number ∷ [])) (sym e) none).0 (inl refl)
 
   -- no turn was taken, where pass 0 took none and those that it gave have seen none
-  pub untaken : (first : PassView I) (turns : List (Turn I)) → first.seen ≡ [] → NoneBy (0 ∷ []) turns → AllGiven first.given turns
+  pub untaken : (first : PassView I) (turns : List (LoggedTurn I)) → first.seen ≡ [] → NoneBy (0 ∷ []) turns → AllGiven first.given turns
       → AreSeenBy turns (passes_given (record first { given = 0 }) first.given) → turns ≡ []
   untaken first [] unseen none given seen = refl
   untaken first (turn ∷ turns) unseen none given seen = absurd (⊎_elim

@@ -12,7 +12,7 @@ use Rattle.fts_tables.specs.declared.commands.Command.{Command}
 use Rattle.fts_tables.specs.declared.commands.Command.TheVariants.{Claim, Expire}
 use Rattle.fts_tables.specs.declared.commands.Answer.{Answer}
 use Rattle.fts_tables.specs.declared.commands.Answer.TheVariants.{Restarted, Submitted, Cancelled, PrioritySet, Claimed, Reported, Banned, Unbanned, Expired}
-use Rattle.fts_turnstile.specs.declared.turn.Turn.{Turn}
+use Rattle.fts_turnstile.specs.declared.turn.LoggedTurn.{LoggedTurn}
 use Rattle.fts_turnstile.specs.History.{items_of, shown_after}
 use Rattle.fts_turnstile.specs.Passes.{PassView}
 use Rattle.fts_keep.specs.Applied.{applied_by, entry_by, fits}
@@ -23,7 +23,7 @@ use Rattle.fts_workers.specs.declared.held.Held.{Held}
 use Rattle.fts_shop.specs.Shops.{CameTo, HasFault, IsToldList, StepInTurn, TriedInTurn, added_by, added_by_claim, faults_shown, point, step_answer}
 use Rattle.fts_shop.specs.Turns.{GoesOn, HandData, IsTurn, ReportsHeld, end_by_claim, end_by_report, end_by_state, idle_end}
 use Rattle.fts_shop.specs.Workers.{end_without_lanes, worker_end_of}
-use Rattle.fts_shop.specs.declared.ends.Turn.{Turn as TurnEnd}
+use Rattle.fts_shop.specs.declared.ends.Turn.{Turn}
 use Rattle.fts_shop.specs.declared.ends.Turn.TheVariants as turn_ends
 use Rattle.fts_shop.specs.declared.ends.WorkerEnd.{WorkerEnd}
 use Rattle.fts_shop.specs.declared.ends.WorkerEnd.TheVariants as worker_ends
@@ -31,8 +31,8 @@ use Rattle.fts_store.specs.declared.store.Store as store
 
 -- the last command that was tried in the last turn that a pass has seen, over a told list, behind what the turn had added until then
 pub record TriesLast (pass : PassView Entry) (result : Result Answer KeepFault) : Type 0 where
-  pub before : List (Turn Entry)
-  pub turn : Turn Entry
+  pub before : List (LoggedTurn Entry)
+  pub turn : LoggedTurn Entry
   pub seen : pass.seen ≡ before ++ turn ∷ []
   pub cause : result ≡ Err DiskFailed → Rose (faults_shown (shown_after pass.opening_shows before)) (faults_shown turn.shows)
   pub own : List Entry
@@ -103,7 +103,7 @@ step_last {old} {new} {now} {word} expiry (Some result) told tried = record {
 }
 
 -- the fault by which a turn ended
-abbrev pub fault_of : TurnEnd → Option KeepFault
+abbrev pub fault_of : Turn → Option KeepFault
 fault_of turn_ends.Idle = None
 fault_of turn_ends.Stopping = None
 fault_of (turn_ends.Done file) = None
@@ -160,7 +160,7 @@ pub record FailsLast (pass : PassView Entry) (fault : KeepFault) : Type 0 where
   pub is : result ≡ Err fault
 
 module _ {E : Type 0} (stores : store.Ghosts E) where
-  reports_fail : (old new : PassView Entry) (moments later : Option Coming) (held : List Held) (end : TurnEnd) (left : List Held) (fault : KeepFault)
+  reports_fail : (old new : PassView Entry) (moments later : Option Coming) (held : List Held) (end : Turn) (left : List Held) (fault : KeepFault)
       → IsToldList old → ReportsHeld old new moments later held end left → fault_of end ≡ Some fault → FailsLast new fault
   reports_fail old new moments later [] end left fault told reported is = absurd reported
   reports_fail old new moments later (held ∷ []) end left fault told reported is = record {
@@ -170,7 +170,7 @@ module _ {E : Type 0} (stores : store.Ghosts E) where
   }
   reports_fail old new moments later (held ∷ next ∷ others) end left fault told reported is = absurd reported
 
-  goes_fail : (claimed new : PassView Entry) (lanes : ℕ) (result : Result Answer KeepFault) (hand after : HandData E) (end : TurnEnd) (left : List Held)
+  goes_fail : (claimed new : PassView Entry) (lanes : ℕ) (result : Result Answer KeepFault) (hand after : HandData E) (end : Turn) (left : List Held)
       (fault : KeepFault) → IsToldList claimed → TriesLast claimed result
       → GoesOn stores lanes result claimed new hand after end left → fault_of end ≡ Some fault → FailsLast new fault
   goes_fail claimed new lanes (Ok (Claimed file attempt)) hand after end left fault told tried goes is = record {
@@ -193,7 +193,7 @@ module _ {E : Type 0} (stores : store.Ghosts E) where
   }
 
   -- a turn that ends by a fault
-  pub turn_fails : (old new : PassView Entry) (hand after : HandData E) (held : List Held) (end : TurnEnd) (left : List Held) (fault : KeepFault) → IsToldList old
+  pub turn_fails : (old new : PassView Entry) (hand after : HandData E) (held : List Held) (end : Turn) (left : List Held) (fault : KeepFault) → IsToldList old
       → IsTurn stores old new hand after held end left → fault_of end ≡ Some fault → FailsLast new fault
   turn_fails old new hand after [] end left fault told turn is =
       goes_fail turn.claimed new turn.lanes (step_answer turn.expiry turn.claim) turn.behind after end left fault
@@ -212,7 +212,7 @@ without_lanes : (lanes : ℕ) (end other : WorkerEnd) → end_without_lanes lane
 without_lanes zero end other is = cc
 without_lanes (suc more) end other is = absurd cc
 
-pub last_fault : (last : TurnEnd) (end : WorkerEnd) (fault : KeepFault) → worker_end_of last ≡ Some end → worker_fault end ≡ Some fault → fault_of last ≡ Some fault
+pub last_fault : (last : Turn) (end : WorkerEnd) (fault : KeepFault) → worker_end_of last ≡ Some end → worker_fault end ≡ Some fault → fault_of last ≡ Some fault
 last_fault turn_ends.Idle end fault is by = absurd cc
 last_fault turn_ends.Stopping end fault is by =
     let same : worker_ends.Drained ≡ end = cc in
@@ -244,10 +244,10 @@ full_by used full entry (Ok found) is = (refl, unfit (fits used entry) used full
 full_by used full entry (Err refusal) is = absurd cc
 
 -- a worker that ended by a fault, in the list of all turns
-pub record Failed (first : PassView Entry) (turns : List (Turn Entry)) (fault : KeepFault) : Type 0 where
-  pub before : List (Turn Entry)
-  pub turn : Turn Entry
-  pub later : List (Turn Entry)
+pub record Failed (first : PassView Entry) (turns : List (LoggedTurn Entry)) (fault : KeepFault) : Type 0 where
+  pub before : List (LoggedTurn Entry)
+  pub turn : LoggedTurn Entry
+  pub later : List (LoggedTurn Entry)
   pub is : turns ≡ before ++ turn ∷ later
   pub cause : fault ≡ DiskFailed → Rose (faults_shown (shown_after first.opening_shows before)) (faults_shown turn.shows)
   pub own : List Entry

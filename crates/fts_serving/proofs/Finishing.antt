@@ -4,7 +4,7 @@ use Rattle.std.specs.Prelude.{◌||◌, nat_lt, unwrap_or}
 use Rattle.std.specs.List.{list_any}
 use Rattle.fts_tables.specs.Counts.{Rose}
 use Rattle.fts_tables.specs.declared.commands.Entry.{Entry}
-use Rattle.fts_turnstile.specs.declared.turn.Turn.{Turn}
+use Rattle.fts_turnstile.specs.declared.turn.LoggedTurn.{LoggedTurn}
 use Rattle.fts_turnstile.specs.History.{shown_after}
 use Rattle.fts_turnstile.specs.Passes.{PassView}
 use Rattle.fts_wire.specs.RoomData.{RoomData}
@@ -32,7 +32,7 @@ use Rattle.fts_service.specs.declared.doors.Doors as doors
 use Rattle.fts_tables.specs.declared.clock.Clock as clock
 
 -- no turn rises that shows no more than before
-pub none_rises_at : (shown : List ℕ) (before : List (Turn Entry)) (turn : Turn Entry) (later : List (Turn Entry)) → NoneRises shown (before ++ turn ∷ later)
+pub none_rises_at : (shown : List ℕ) (before : List (LoggedTurn Entry)) (turn : LoggedTurn Entry) (later : List (LoggedTurn Entry)) → NoneRises shown (before ++ turn ∷ later)
     → Rose (faults_shown (shown_after shown before)) (faults_shown turn.shows) → ⊥
 none_rises_at shown [] turn later none rose = none.0 rose
 none_rises_at shown (first ∷ before) turn later none rose = none_rises_at first.shows before turn later none.1 rose

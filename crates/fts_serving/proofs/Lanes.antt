@@ -1,7 +1,7 @@
 -- What a lane's pass adds and shows: client's commands alone, and one lane less in its last turn.
 use Rattle.std.proofs.Common.{◌≡◌, ◌≢◌, refl, sym, ap, ◌∙◌, subst, inl, ℕ, ◌+◌, ◌-◌, true, false, cond, List, [], ◌∷◌, ◌++◌, Option, append_assoc}
 use Rattle.fts_tables.specs.declared.commands.Entry.{Entry}
-use Rattle.fts_turnstile.specs.declared.turn.Turn.{Turn}
+use Rattle.fts_turnstile.specs.declared.turn.LoggedTurn.{LoggedTurn}
 use Rattle.fts_turnstile.specs.History.{AllNamed, NoneBy, items_of, shown_after}
 use Rattle.fts_turnstile.specs.Passes.{PassView, IsSame}
 use Rattle.fts_wire.specs.RequestData.{RequestData}
@@ -74,8 +74,8 @@ module _ (base : PassView Entry) (told : IsToldList base) where
 pub record LaneEnded (base pass : PassView Entry) : Type 0 where
   pub same : IsSame base pass
   pub asked : AddsAsked base.number (items_of pass.seen)
-  pub before : List (Turn Entry)
-  pub turn : Turn Entry
+  pub before : List (LoggedTurn Entry)
+  pub turn : LoggedTurn Entry
   pub seen : pass.seen ≡ before ++ turn ∷ []
   pub mine : turn.number ≡ base.number
   pub leaves : LeaveLanes base.number base.opening_shows before
@@ -110,13 +110,13 @@ lane_ended sides connections old new doors doors_now rose stop told unseen done 
     }
 
 -- in all turns the lane's last one stands where no other of its own follows
-lane_turns : (number : ℕ) (shown : List ℕ) (before : List (Turn Entry)) (turn : Turn Entry) (later : List (Turn Entry)) → LeaveLanes number shown before
+lane_turns : (number : ℕ) (shown : List ℕ) (before : List (LoggedTurn Entry)) (turn : LoggedTurn Entry) (later : List (LoggedTurn Entry)) → LeaveLanes number shown before
     → turn.number ≡ number → lanes_shown turn.shows ≡ lanes_shown (shown_after shown before) - 1 → NoneBy (number ∷ []) later
     → has_turn number later ≡ false → LaneTurns number shown (before ++ turn ∷ later)
 lane_turns number shown [] turn later leaves mine one_less none has =
     ((λ is. one_less ∙ sym (ap (λ b. cond {A = ℕ} b (lanes_shown shown) (lanes_shown shown - 1)) has)), none_turns number turn.shows later none)
   where
-    none_turns : (number : ℕ) (shown : List ℕ) (turns : List (Turn Entry)) → NoneBy (number ∷ []) turns → LaneTurns number shown turns
+    none_turns : (number : ℕ) (shown : List ℕ) (turns : List (LoggedTurn Entry)) → NoneBy (number ∷ []) turns → LaneTurns number shown turns
     none_turns number shown [] none = tt
     none_turns number shown (one ∷ turns) none = ((λ is. absurd (none.0 (inl is))), none_turns number one.shows turns none.1)
 lane_turns number shown (first ∷ before) turn later leaves mine one_less none has = (
@@ -124,19 +124,19 @@ lane_turns number shown (first ∷ before) turn later leaves mine one_less none 
   lane_turns number first.shows before turn later leaves.1 mine one_less none has,
 )
 
-pub ended_turns : (base pass : PassView Entry) (later : List (Turn Entry)) → LaneEnded base pass → NoneBy (base.number ∷ []) later
+pub ended_turns : (base pass : PassView Entry) (later : List (LoggedTurn Entry)) → LaneEnded base pass → NoneBy (base.number ∷ []) later
     → has_turn base.number later ≡ false → LaneTurns base.number base.opening_shows (pass.seen ++ later)
 ended_turns base pass later ended none has =
     subst (LaneTurns base.number base.opening_shows) (sym (ap (λ l. l ++ later) ended.seen ∙ append_assoc ended.before (ended.turn ∷ []) later))
     (lane_turns base.number base.opening_shows ended.before ended.turn later ended.leaves ended.mine ended.one_less none has)
 
-pub ended_there : (base pass : PassView Entry) (later : List (Turn Entry)) → LaneEnded base pass → has_turn base.number (pass.seen ++ later) ≡ true
+pub ended_there : (base pass : PassView Entry) (later : List (LoggedTurn Entry)) → LaneEnded base pass → has_turn base.number (pass.seen ++ later) ≡ true
 ended_there base pass later ended =
     ap (has_turn base.number) (ap (λ l. l ++ later) ended.seen ∙ append_assoc ended.before (ended.turn ∷ []) later)
     ∙ there base.number ended.before ended.turn later ended.mine
 
 -- what it added in all turns
-pub ended_asked : (base pass : PassView Entry) (later : List (Turn Entry)) → LaneEnded base pass → NoneBy (base.number ∷ []) later
+pub ended_asked : (base pass : PassView Entry) (later : List (LoggedTurn Entry)) → LaneEnded base pass → NoneBy (base.number ∷ []) later
     → AllNamed writer_of (pass.seen ++ later) → AddsAsked base.number (items_of (pass.seen ++ later))
 ended_asked base pass later ended none named =
     subst (AddsAsked base.number) (sym (items_on pass.seen later))

@@ -2,7 +2,7 @@
 use Rattle.std.proofs.Common.{◌≡◌, ◌≢◌, refl, sym, ap, ◌∙◌, subst, inl, inr, ⊎_elim, ℕ, zero, suc, ◌+◌, ◌<◌, ◌≤◌, Bool, true, false, List, [], ◌∷◌, ◌++◌, arith}
 use Rattle.std.specs.Prelude.{◌⊎◌, ◌==◌}
 use Rattle.fts_tables.specs.declared.commands.Entry.{Entry}
-use Rattle.fts_turnstile.specs.declared.turn.Turn.{Turn}
+use Rattle.fts_turnstile.specs.declared.turn.LoggedTurn.{LoggedTurn}
 use Rattle.fts_turnstile.specs.History.{AllGiven, Among, NoneBy}
 use Rattle.fts_serving.proofs.Open.{has_turn, there}
 
@@ -13,28 +13,28 @@ within (suc n) zero = inr (omega arith)
 within (suc n) (suc m) = ⊎_elim (λ le. inl (omega (arith, le))) (λ lt. inr (omega (arith, lt))) (within n m)
 
 -- turns up to the last one
-pub record HasLast (turns : List (Turn Entry)) : Type 0 where
-  pub before : List (Turn Entry)
-  pub turn : Turn Entry
+pub record HasLast (turns : List (LoggedTurn Entry)) : Type 0 where
+  pub before : List (LoggedTurn Entry)
+  pub turn : LoggedTurn Entry
   pub is : turns ≡ before ++ turn ∷ []
 
-pub last_of : (first : Turn Entry) (turns : List (Turn Entry)) → HasLast (first ∷ turns)
+pub last_of : (first : LoggedTurn Entry) (turns : List (LoggedTurn Entry)) → HasLast (first ∷ turns)
 last_of first [] = record { before = []; turn = first; is = refl }
 last_of first (next ∷ turns) =
     let behind = last_of next turns in
     record { before = first ∷ behind.before; turn = behind.turn; is = ap (λ l. first ∷ l) behind.is }
 
 -- a turn of all is the last one, or that one stands behind it
-pub record IsLast (before : List (Turn Entry)) (turn : Turn Entry) (later whole : List (Turn Entry)) (last : Turn Entry) : Type 0 where
+pub record IsLast (before : List (LoggedTurn Entry)) (turn : LoggedTurn Entry) (later whole : List (LoggedTurn Entry)) (last : LoggedTurn Entry) : Type 0 where
   pub none : later ≡ []
   pub turn_is : turn ≡ last
   pub before_is : before ≡ whole
 
-pub record IsBehind (later : List (Turn Entry)) (last : Turn Entry) : Type 0 where
-  pub between : List (Turn Entry)
+pub record IsBehind (later : List (LoggedTurn Entry)) (last : LoggedTurn Entry) : Type 0 where
+  pub between : List (LoggedTurn Entry)
   pub is : later ≡ between ++ last ∷ []
 
-behind_one : (turn : Turn Entry) (later whole : List (Turn Entry)) (last : Turn Entry) → turn ∷ later ≡ whole ++ last ∷ []
+behind_one : (turn : LoggedTurn Entry) (later whole : List (LoggedTurn Entry)) (last : LoggedTurn Entry) → turn ∷ later ≡ whole ++ last ∷ []
     → IsLast [] turn later whole last ⊎ IsBehind later last
 behind_one turn later [] last is =
     let none : later ≡ [] = cc in
@@ -44,18 +44,18 @@ behind_one turn later (first ∷ whole) last is =
     let rest : later ≡ whole ++ last ∷ [] = cc in
     inr (record { between = whole; is = rest })
 
-no_end : (whole : List (Turn Entry)) (last : Turn Entry) → ◌≡◌ {A = List (Turn Entry)} [] (whole ++ last ∷ []) → ⊥
+no_end : (whole : List (LoggedTurn Entry)) (last : LoggedTurn Entry) → ◌≡◌ {A = List (LoggedTurn Entry)} [] (whole ++ last ∷ []) → ⊥
 no_end [] last is = absurd cc
 no_end (first ∷ whole) last is = absurd cc
 
-pub last_or_behind : (before : List (Turn Entry)) (turn : Turn Entry) (later whole : List (Turn Entry)) (last : Turn Entry)
+pub last_or_behind : (before : List (LoggedTurn Entry)) (turn : LoggedTurn Entry) (later whole : List (LoggedTurn Entry)) (last : LoggedTurn Entry)
     → before ++ turn ∷ later ≡ whole ++ last ∷ [] → IsLast before turn later whole last ⊎ IsBehind later last
 last_or_behind [] turn later whole last is = behind_one turn later whole last is
 last_or_behind (first ∷ before) turn later [] last is =
     let rest : before ++ turn ∷ later ≡ [] = cc in
     absurd (not_empty before turn later rest)
   where
-    not_empty : (before : List (Turn Entry)) (turn : Turn Entry) (later : List (Turn Entry)) → before ++ turn ∷ later ≡ [] → ⊥
+    not_empty : (before : List (LoggedTurn Entry)) (turn : LoggedTurn Entry) (later : List (LoggedTurn Entry)) → before ++ turn ∷ later ≡ [] → ⊥
     not_empty [] turn later is = absurd cc
     not_empty (first ∷ before) turn later is = absurd cc
 last_or_behind (first ∷ before) turn later (one ∷ whole) last is =
@@ -67,23 +67,23 @@ last_or_behind (first ∷ before) turn later (one ∷ whole) last is =
     (last_or_behind before turn later whole last rest)
 
 -- a turn with this number stands where the last one has it
-pub last_there : (number : ℕ) (later : List (Turn Entry)) (last : Turn Entry) → IsBehind later last → last.number ≡ number → has_turn number later ≡ true
+pub last_there : (number : ℕ) (later : List (LoggedTurn Entry)) (last : LoggedTurn Entry) → IsBehind later last → last.number ≡ number → has_turn number later ≡ true
 last_there number later last behind is = ap (has_turn number) behind.is ∙ there number behind.between last [] is
 
 -- and then not all turns there are of others
-none_but_last : (number : ℕ) (between : List (Turn Entry)) (last : Turn Entry) → NoneBy (number ∷ []) (between ++ last ∷ []) → last.number ≡ number → ⊥
+none_but_last : (number : ℕ) (between : List (LoggedTurn Entry)) (last : LoggedTurn Entry) → NoneBy (number ∷ []) (between ++ last ∷ []) → last.number ≡ number → ⊥
 none_but_last number [] last none is = none.0 (inl is)
 none_but_last number (turn ∷ between) last none is = none_but_last number between last none.1 is
 
-pub not_behind : (number : ℕ) (later : List (Turn Entry)) (last : Turn Entry) → NoneBy (number ∷ []) later → last.number ≡ number → IsBehind later last → ⊥
+pub not_behind : (number : ℕ) (later : List (LoggedTurn Entry)) (last : LoggedTurn Entry) → NoneBy (number ∷ []) later → last.number ≡ number → IsBehind later last → ⊥
 not_behind number later last none is behind = none_but_last number behind.between last (subst (NoneBy (number ∷ [])) behind.is none) is
 
 -- numbers of the last one
-pub given_last : (all : ℕ) (before : List (Turn Entry)) (last : Turn Entry) → AllGiven all (before ++ last ∷ []) → last.number ≤ all
+pub given_last : (all : ℕ) (before : List (LoggedTurn Entry)) (last : LoggedTurn Entry) → AllGiven all (before ++ last ∷ []) → last.number ≤ all
 given_last all [] last given = given.0
 given_last all (turn ∷ before) last given = given_last all before last given.1
 
-pub none_last : (before : List (Turn Entry)) (last : Turn Entry) → NoneBy (0 ∷ []) (before ++ last ∷ []) → 1 ≤ last.number
+pub none_last : (before : List (LoggedTurn Entry)) (last : LoggedTurn Entry) → NoneBy (0 ∷ []) (before ++ last ∷ []) → 1 ≤ last.number
 none_last [] last none = not_zero last.number (λ e. none.0 (inl e))
   where
     not_zero : (n : ℕ) → n ≢ 0 → 1 ≤ n
@@ -92,7 +92,7 @@ none_last [] last none = not_zero last.number (λ e. none.0 (inl e))
 none_last (turn ∷ before) last none = none_last before last none.1
 
 -- no turn has a number above those given
-pub none_above : (all number : ℕ) (turns : List (Turn Entry)) → AllGiven all turns → all < number → NoneBy (number ∷ []) turns
+pub none_above : (all number : ℕ) (turns : List (LoggedTurn Entry)) → AllGiven all turns → all < number → NoneBy (number ∷ []) turns
 none_above all number [] given above = tt
 none_above all number (turn ∷ turns) given above = (λ among. by among, none_above all number turns given.1 above)
   where

@@ -9,7 +9,7 @@ use Rattle.fts_tables.specs.History.{IsLegal, out_of_list, tables_of}
 use Rattle.fts_tables.specs.declared.commands.Entry.{Entry}
 use Rattle.fts_tables.specs.declared.commands.Command.TheVariants.{Claim, Restart}
 use Rattle.fts_tables.specs.declared.commands.Refusal.TheVariants.{Idle}
-use Rattle.fts_turnstile.specs.declared.turn.Turn.{Turn}
+use Rattle.fts_turnstile.specs.declared.turn.LoggedTurn.{LoggedTurn}
 use Rattle.fts_turnstile.specs.History.{AllGiven, AllNamed, Among, NoneBy, OnlyOthersSince, items_of, shown_after}
 use Rattle.fts_turnstile.specs.Passes.{PassView, pass_given}
 use Rattle.fts_passes.specs.Crews.{AreSeenBy, passes_given}
@@ -84,7 +84,7 @@ pub record ListLaws : Type 0 where
 -- the laws of stations that are cited here
 pub record StoreLaws {E : Type 0} (stores : store.Ghosts E) : Type 0 where
   pub own : Laws stores
-  pub before : (pass : PassView Entry) (later : List (Turn Entry)) → IsUndisturbed pass.number pass.opening (items_of (pass.seen ++ later)) → KeepsItsFiles pass
+  pub before : (pass : PassView Entry) (later : List (LoggedTurn Entry)) → IsUndisturbed pass.number pass.opening (items_of (pass.seen ++ later)) → KeepsItsFiles pass
   pub follow : (old new : StationData E) (done : WorkerDone stores old new) → MayKeep old.pass new.pass old.held
       → KeepsItsFiles new.pass
       → FollowsOwn stores old new × AreFresh stores done.more old done.between
@@ -107,7 +107,7 @@ module _ {D A E C W L : Type 0} (world : World D A E C W L)
     (settings : SettingsData) (opened : IsOpenedBy keep.entries settings) (legal : IsLegal (keep.entries ++ items_of serves.ran.history.turns))
     (lanes_there : lanes ≤ length serves.opened) (hands_there : workers ≤ length hands) (some : 1 ≤ workers) where
   -- the one list of turns, pass 0, and what the list was opened with
-  abbrev turns : List (Turn Entry)
+  abbrev turns : List (LoggedTurn Entry)
   turns = serves.ran.history.turns
 
   abbrev items : List Entry
@@ -357,7 +357,7 @@ module _ {D A E C W L : Type 0} (world : World D A E C W L)
       opening : pass.opening ≡ first.opening
       shows : pass.opening_shows ≡ first.opening_shows
       finds : FindsNone pass
-      later : List (Turn Entry)
+      later : List (LoggedTurn Entry)
       is : turns ≡ pass.seen ++ later
       none : NoneBy (n ∷ []) later
       whole : (file : ℕ) → IsOut file (pass.opening ++ items_of pass.seen) → IsOwn n (last_claim file pass.opening (items_of pass.seen)) → ⊥
@@ -459,7 +459,7 @@ module _ {D A E C W L : Type 0} (world : World D A E C W L)
         whole_of : {n : ℕ} (at : Found n) → turns ≡ at.finds.before ++ at.finds.turn ∷ at.later
         whole_of at = at.is ∙ ap (λ l. l ++ at.later) at.finds.seen ∙ append_assoc at.finds.before (at.finds.turn ∷ []) at.later
 
-        not_none : (before : List (Turn Entry)) (turn : Turn Entry) (later : List (Turn Entry)) → ◌≡◌ {A = List (Turn Entry)} [] (before ++ turn ∷ later) → ⊥
+        not_none : (before : List (LoggedTurn Entry)) (turn : LoggedTurn Entry) (later : List (LoggedTurn Entry)) → ◌≡◌ {A = List (LoggedTurn Entry)} [] (before ++ turn ∷ later) → ⊥
         not_none [] turn later is = absurd cc
         not_none (one ∷ before) turn later is = absurd cc
 
@@ -482,14 +482,14 @@ module _ {D A E C W L : Type 0} (world : World D A E C W L)
             let at = worker_one in
             let none = none_behind at last.turn.number low high in
             ⊎_elim
-            (λ here. clash (sym (own_there at.finds.turn at.later last.turn.number (ap (λ (t : Turn Entry). t.number) here.turn_is)) ∙ none))
+            (λ here. clash (sym (own_there at.finds.turn at.later last.turn.number (ap (λ (t : LoggedTurn Entry). t.number) here.turn_is)) ∙ none))
             (λ behind. clash (sym (there_behind last.turn.number at.finds.turn at.later (last_there last.turn.number at.later last.turn behind refl)) ∙ none))
             (last_or_behind at.finds.before at.finds.turn at.later last.before last.turn (sym (whole_of at) ∙ last.is))
           where
             clash : true ≡ false → ⊥
             clash is = absurd cc
 
-            own_there : (turn : Turn Entry) (later : List (Turn Entry)) (number : ℕ) → turn.number ≡ number → has_turn number (turn ∷ later) ≡ true
+            own_there : (turn : LoggedTurn Entry) (later : List (LoggedTurn Entry)) (number : ℕ) → turn.number ≡ number → has_turn number (turn ∷ later) ≡ true
             own_there turn later number is = own_turn number turn later is
 
         by_last : (last : HasLast turns) → eligible_rows (tables_of (keep.entries ++ items)) (tables_of (keep.entries ++ items)).moment ≡ []
@@ -499,7 +499,7 @@ module _ {D A E C W L : Type 0} (world : World D A E C W L)
             given_last (lanes + workers) last.before last.turn (subst (AllGiven (lanes + workers)) last.is (subst (λ m. AllGiven m turns) given_is serves.ran.history.given)) in
             ⊎_elim (λ upto. absurd (by_lane last low upto)) (λ above. by_worker last above high) (within last.turn.number lanes)
 
-        by : (all : List (Turn Entry)) → turns ≡ all → eligible_rows (tables_of (keep.entries ++ items)) (tables_of (keep.entries ++ items)).moment ≡ []
+        by : (all : List (LoggedTurn Entry)) → turns ≡ all → eligible_rows (tables_of (keep.entries ++ items)) (tables_of (keep.entries ++ items)).moment ≡ []
         by [] is = absurd (not_none worker_one.finds.before worker_one.finds.turn worker_one.later (sym is ∙ whole_of worker_one))
         by (turn ∷ all) is = let last = last_of turn all in by_last (record { before = last.before; turn = last.turn; is = is ∙ last.is })
 

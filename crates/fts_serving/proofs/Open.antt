@@ -2,36 +2,36 @@
 use Rattle.std.proofs.Common.{◌≡◌, ◌≢◌, refl, sym, ap, ◌∙◌, subst, inl, inr, ⊎_elim, ℕ, zero, suc, ◌+◌, ◌-◌, ◌<◌, ◌≤◌, Bool, true, false, cond, List, [], ◌∷◌, ◌++◌, arith, eq-eqb, eqb-true}
 use Rattle.std.specs.Prelude.{◌⊎◌, ◌==◌, ◌||◌, if◌then◌else◌}
 use Rattle.fts_tables.specs.declared.commands.Entry.{Entry}
-use Rattle.fts_turnstile.specs.declared.turn.Turn.{Turn}
+use Rattle.fts_turnstile.specs.declared.turn.LoggedTurn.{LoggedTurn}
 use Rattle.fts_turnstile.specs.History.{shown_after, AllGiven, NoneBy}
 use Rattle.fts_shop.specs.Looking.{LeaveLanes}
 use Rattle.fts_shop.specs.Shops.{lanes_shown}
 
 -- whether a pass has a turn among these
-abbrev pub has_turn : ℕ → List (Turn Entry) → Bool
+abbrev pub has_turn : ℕ → List (LoggedTurn Entry) → Bool
 has_turn number [] = false
 has_turn number (turn ∷ turns) = (turn.number == number) || has_turn number turns
 
 -- how many of the lanes 1, 2 and so on have turns among these
-abbrev pub open_lanes : ℕ → List (Turn Entry) → ℕ
+abbrev pub open_lanes : ℕ → List (LoggedTurn Entry) → ℕ
 open_lanes zero turns = 0
 open_lanes (suc more) turns = cond {A = ℕ} (has_turn (suc more) turns) 1 0 + open_lanes more turns
 
 -- the turns of a lane leave the lanes that are shown, but the last one, which leaves one less
-abbrev pub LaneTurns : ℕ → List ℕ → List (Turn Entry) → Type 0
+abbrev pub LaneTurns : ℕ → List ℕ → List (LoggedTurn Entry) → Type 0
 LaneTurns number shown [] = Unit {0}
 LaneTurns number shown (turn ∷ turns) =
     (turn.number ≡ number → lanes_shown turn.shows ≡ cond {A = ℕ} (has_turn number turns) (lanes_shown shown) (lanes_shown shown - 1)) × LaneTurns number turn.shows turns
 
 -- so do those of each lane, and the others leave the lanes
-pub record Rules (lanes all : ℕ) (shown : List ℕ) (turns : List (Turn Entry)) : Type 0 where
+pub record Rules (lanes all : ℕ) (shown : List ℕ) (turns : List (LoggedTurn Entry)) : Type 0 where
   pub lane : (n : ℕ) → 1 ≤ n → n ≤ lanes → LaneTurns n shown turns
   pub other : (n : ℕ) → lanes < n → n ≤ all → LeaveLanes n shown turns
   pub given : AllGiven all turns
   pub none : NoneBy (0 ∷ []) turns
 
 -- the rules hold behind the first turn
-pub rules_behind : (lanes all : ℕ) (shown : List ℕ) (turn : Turn Entry) (turns : List (Turn Entry)) → Rules lanes all shown (turn ∷ turns)
+pub rules_behind : (lanes all : ℕ) (shown : List ℕ) (turn : LoggedTurn Entry) (turns : List (LoggedTurn Entry)) → Rules lanes all shown (turn ∷ turns)
     → Rules lanes all turn.shows turns
 rules_behind lanes all shown turn turns rules = record {
   lane = λ n low high. (rules.lane n low high).1;
@@ -45,7 +45,7 @@ no_test : (test : Bool) → test ≡ true → test ≡ false → ⊥
 no_test test holds fails = let clash : true ≡ false = sym holds ∙ fails in absurd cc
 
 -- another number's turn is passed over
-other_turn : (number : ℕ) (turn : Turn Entry) (turns : List (Turn Entry)) → turn.number ≢ number → has_turn number (turn ∷ turns) ≡ has_turn number turns
+other_turn : (number : ℕ) (turn : LoggedTurn Entry) (turns : List (LoggedTurn Entry)) → turn.number ≢ number → has_turn number (turn ∷ turns) ≡ has_turn number turns
 other_turn number turn turns other = by (turn.number == number) refl
   where
     by : (same : Bool) → (turn.number == number) ≡ same → (same || has_turn number turns) ≡ has_turn number turns
@@ -53,11 +53,11 @@ other_turn number turn turns other = by (turn.number == number) refl
     by false is = refl
 
 -- its own turn is there
-pub own_turn : (number : ℕ) (turn : Turn Entry) (turns : List (Turn Entry)) → turn.number ≡ number → has_turn number (turn ∷ turns) ≡ true
+pub own_turn : (number : ℕ) (turn : LoggedTurn Entry) (turns : List (LoggedTurn Entry)) → turn.number ≡ number → has_turn number (turn ∷ turns) ≡ true
 own_turn number turn turns is = ap (λ b. b || has_turn number turns) (eq-eqb turn.number number is)
 
 -- a turn of none of the lanes leaves as many of them open
-open_other : (lanes : ℕ) (turn : Turn Entry) (turns : List (Turn Entry)) → lanes < turn.number → open_lanes lanes (turn ∷ turns) ≡ open_lanes lanes turns
+open_other : (lanes : ℕ) (turn : LoggedTurn Entry) (turns : List (LoggedTurn Entry)) → lanes < turn.number → open_lanes lanes (turn ∷ turns) ≡ open_lanes lanes turns
 open_other zero turn turns above = refl
 open_other (suc more) turn turns above =
     let one = ap (λ b. cond {A = ℕ} b 1 0) (other_turn (suc more) turn turns (λ is. omega (arith, is, above))) in
@@ -68,7 +68,7 @@ abbrev one_if_last : Bool → ℕ
 one_if_last has = cond {A = ℕ} has 0 1
 
 -- a turn of a lane leaves one open less, where it was the lane's last
-open_own : (lanes : ℕ) (turn : Turn Entry) (turns : List (Turn Entry)) → 1 ≤ turn.number → turn.number ≤ lanes
+open_own : (lanes : ℕ) (turn : LoggedTurn Entry) (turns : List (LoggedTurn Entry)) → 1 ≤ turn.number → turn.number ≤ lanes
     → open_lanes lanes (turn ∷ turns) ≡ one_if_last (has_turn turn.number turns) + open_lanes lanes turns
 open_own zero turn turns low high = absurd (omega (arith, low, high))
 open_own (suc more) turn turns low high = by (turn.number == suc more) refl (λ upto. open_own more turn turns low upto)
@@ -94,7 +94,7 @@ open_own (suc more) turn turns low high = by (turn.number == suc more) refl (λ 
         omega (arith, one, behind (omega (arith, high, unlike)))
 
 -- the lanes that are shown are those with turns to come: one turn on
-open_turn : (lanes all : ℕ) (shown : List ℕ) (turn : Turn Entry) (turns : List (Turn Entry)) → Rules lanes all shown (turn ∷ turns)
+open_turn : (lanes all : ℕ) (shown : List ℕ) (turn : LoggedTurn Entry) (turns : List (LoggedTurn Entry)) → Rules lanes all shown (turn ∷ turns)
     → lanes_shown shown ≡ open_lanes lanes (turn ∷ turns) → lanes_shown turn.shows ≡ open_lanes lanes turns
 open_turn lanes all shown turn turns rules is = ⊎_elim at_lane at_other (within turn.number lanes)
   where
@@ -122,7 +122,7 @@ open_turn lanes all shown turn turns rules is = ⊎_elim at_lane at_other (withi
     at_other high = (rules.other turn.number high rules.given.0).0 refl ∙ is ∙ open_other lanes turn turns high
 
 -- and behind any beginning of the turns
-pub open_behind : (lanes all : ℕ) (shown : List ℕ) (before after : List (Turn Entry)) → Rules lanes all shown (before ++ after)
+pub open_behind : (lanes all : ℕ) (shown : List ℕ) (before after : List (LoggedTurn Entry)) → Rules lanes all shown (before ++ after)
     → lanes_shown shown ≡ open_lanes lanes (before ++ after) → lanes_shown (shown_after shown before) ≡ open_lanes lanes after
 open_behind lanes all shown [] after rules is = is
 open_behind lanes all shown (turn ∷ before) after rules is =
@@ -130,14 +130,14 @@ open_behind lanes all shown (turn ∷ before) after rules is =
     (open_turn lanes all shown turn (before ++ after) rules is)
 
 -- where each lane has a turn to come, all are open
-pub open_all : (lanes : ℕ) (turns : List (Turn Entry)) → ((n : ℕ) → 1 ≤ n → n ≤ lanes → has_turn n turns ≡ true) → lanes ≡ open_lanes lanes turns
+pub open_all : (lanes : ℕ) (turns : List (LoggedTurn Entry)) → ((n : ℕ) → 1 ≤ n → n ≤ lanes → has_turn n turns ≡ true) → lanes ≡ open_lanes lanes turns
 open_all zero turns has = refl
 open_all (suc more) turns has =
     let one = ap (λ b. cond {A = ℕ} b 1 0) (has (suc more) (omega arith) (omega arith)) in
     omega (arith, one, open_all more turns (λ n low high. has n low (omega (arith, high))))
 
 -- where none is open, no lane has a turn to come
-pub none_open : (lanes : ℕ) (turns : List (Turn Entry)) → open_lanes lanes turns ≡ 0 → (n : ℕ) → 1 ≤ n → n ≤ lanes → has_turn n turns ≡ false
+pub none_open : (lanes : ℕ) (turns : List (LoggedTurn Entry)) → open_lanes lanes turns ≡ 0 → (n : ℕ) → 1 ≤ n → n ≤ lanes → has_turn n turns ≡ false
 none_open zero turns none n low high = absurd (omega (arith, low, high))
 none_open (suc more) turns none n low high =
     by_head (has_turn (suc more) turns) refl none (n == suc more) refl (λ sum upto. none_open more turns sum n low upto)
@@ -151,7 +151,7 @@ none_open (suc more) turns none n low high =
         behind (omega (arith, sum)) (omega (arith, high, unlike))
 
 -- a turn that stands among these is there
-pub there : (number : ℕ) (before : List (Turn Entry)) (turn : Turn Entry) (after : List (Turn Entry)) → turn.number ≡ number
+pub there : (number : ℕ) (before : List (LoggedTurn Entry)) (turn : LoggedTurn Entry) (after : List (LoggedTurn Entry)) → turn.number ≡ number
     → has_turn number (before ++ turn ∷ after) ≡ true
 there number [] turn after is = own_turn number turn after is
 there number (first ∷ before) turn after is = by (first.number == number) (there number before turn after is)
@@ -161,12 +161,12 @@ there number (first ∷ before) turn after is = by (first.number == number) (the
     by false behind = behind
 
 -- none stands among turns of others
-pub none_there : (number : ℕ) (turns : List (Turn Entry)) → NoneBy (number ∷ []) turns → has_turn number turns ≡ false
+pub none_there : (number : ℕ) (turns : List (LoggedTurn Entry)) → NoneBy (number ∷ []) turns → has_turn number turns ≡ false
 none_there number [] none = refl
 none_there number (turn ∷ turns) none = other_turn number turn turns (λ e. none.0 (inl e)) ∙ none_there number turns none.1
 
 -- what stands behind a turn is there
-pub there_behind : (number : ℕ) (turn : Turn Entry) (later : List (Turn Entry)) → has_turn number later ≡ true → has_turn number (turn ∷ later) ≡ true
+pub there_behind : (number : ℕ) (turn : LoggedTurn Entry) (later : List (LoggedTurn Entry)) → has_turn number later ≡ true → has_turn number (turn ∷ later) ≡ true
 there_behind number turn later behind = by (turn.number == number)
   where
     by : (same : Bool) → (same || has_turn number later) ≡ true

@@ -1,7 +1,7 @@
 -- One turn more of a pass: what it adds, and how it leaves the lanes, behind turns of others.
 use Rattle.std.proofs.Common.{◌≡◌, ◌⊎◌, ◌≢◌, refl, sym, ap, ◌∙◌, subst, inl, inr, ℕ, ◌-◌, List, [], ◌∷◌, ◌++◌, append-nil, append_assoc}
 use Rattle.fts_tables.specs.declared.commands.Entry.{Entry}
-use Rattle.fts_turnstile.specs.declared.turn.Turn.{Turn}
+use Rattle.fts_turnstile.specs.declared.turn.LoggedTurn.{LoggedTurn}
 use Rattle.fts_turnstile.specs.History.{AllName, AllNamed, NoneBy, items_of, shown_after}
 use Rattle.fts_turnstile.specs.Passes.{PassView, IsSame, numbers_of}
 use Rattle.fts_shop.specs.Looking.{LeaveLanes, NoneOf}
@@ -11,18 +11,18 @@ use Rattle.fts_ledger.specs.Reports.{AddsAsked, IsAsked}
 use Rattle.fts_serving.proofs.Asked.{AllAsked}
 
 -- what is shown behind turns behind turns
-pub shown_on : (shown : List ℕ) (before after : List (Turn Entry)) → shown_after shown (before ++ after) ≡ shown_after (shown_after shown before) after
+pub shown_on : (shown : List ℕ) (before after : List (LoggedTurn Entry)) → shown_after shown (before ++ after) ≡ shown_after (shown_after shown before) after
 shown_on shown [] after = refl
 shown_on shown (turn ∷ before) after = shown_on turn.shows before after
 
 -- turns that leave the lanes, one behind the other
-pub leave_on : (number : ℕ) (shown : List ℕ) (before after : List (Turn Entry)) → LeaveLanes number shown before
+pub leave_on : (number : ℕ) (shown : List ℕ) (before after : List (LoggedTurn Entry)) → LeaveLanes number shown before
     → LeaveLanes number (shown_after shown before) after → LeaveLanes number shown (before ++ after)
 leave_on number shown [] after one two = two
 leave_on number shown (turn ∷ before) after one two = (one.0, leave_on number turn.shows before after one.1 two)
 
 -- turns of others do
-pub leave_none : (number : ℕ) (shown : List ℕ) (turns : List (Turn Entry)) → NoneBy (number ∷ []) turns → LeaveLanes number shown turns
+pub leave_none : (number : ℕ) (shown : List ℕ) (turns : List (LoggedTurn Entry)) → NoneBy (number ∷ []) turns → LeaveLanes number shown turns
 leave_none number shown [] none = tt
 leave_none number shown (turn ∷ turns) none = ((λ is. absurd (none.0 (inl is))), leave_none number turn.shows turns none.1)
 
@@ -40,7 +40,7 @@ asked_none writer [] none = tt
 asked_none writer (entry ∷ entries) none = ((λ is. absurd (none.0 is)), asked_none writer entries none.1)
 
 -- fewer numbers
-pub none_by_one : (number : ℕ) (joined : List ℕ) (turns : List (Turn Entry)) → NoneBy (number ∷ joined) turns → NoneBy (number ∷ []) turns
+pub none_by_one : (number : ℕ) (joined : List ℕ) (turns : List (LoggedTurn Entry)) → NoneBy (number ∷ joined) turns → NoneBy (number ∷ []) turns
 none_by_one number joined [] none = tt
 none_by_one number joined (turn ∷ turns) none = (λ among. by among, none_by_one number joined turns none.1)
   where
@@ -57,7 +57,7 @@ none_of_on : (number : ℕ) (one two : List Entry) → NoneOf number one → Non
 none_of_on number [] two a b = b
 none_of_on number (entry ∷ one) two a b = (a.0, none_of_on number one two a.1 b)
 
-pub none_items : (number : ℕ) (turns : List (Turn Entry)) → NoneBy (number ∷ []) turns → AllNamed writer_of turns → NoneOf number (items_of turns)
+pub none_items : (number : ℕ) (turns : List (LoggedTurn Entry)) → NoneBy (number ∷ []) turns → AllNamed writer_of turns → NoneOf number (items_of turns)
 none_items number [] none named = tt
 none_items number (turn ∷ turns) none named =
     none_of_on number turn.items (items_of turns)
@@ -65,11 +65,11 @@ none_items number (turn ∷ turns) none named =
     (none_items number turns none.1 named.1)
 
 -- names of the first of two lists
-pub named_front : (one two : List (Turn Entry)) → AllNamed writer_of (one ++ two) → AllNamed writer_of one
+pub named_front : (one two : List (LoggedTurn Entry)) → AllNamed writer_of (one ++ two) → AllNamed writer_of one
 named_front [] two named = tt
 named_front (turn ∷ one) two named = (named.0, named_front one two named.1)
 
-pub named_back : (one two : List (Turn Entry)) → AllNamed writer_of (one ++ two) → AllNamed writer_of two
+pub named_back : (one two : List (LoggedTurn Entry)) → AllNamed writer_of (one ++ two) → AllNamed writer_of two
 named_back [] two named = named
 named_back (turn ∷ one) two named = named_back one two named.1
 

@@ -2,7 +2,7 @@
 use Rattle.std.proofs.Common.{◌≡◌, ◌⊎◌, refl, ap, ◌∙◌, inl, inr, ⊎_elim, ℕ, zero, suc, ◌+◌, ◌<◌, ◌≤◌, List, [], ◌∷◌, ◌++◌, length, map, drop, All, arith}
 use Rattle.std.proofs.lemmas.List.Elements.{All-head, All-tail}
 use Rattle.fts_tables.specs.declared.commands.Entry.{Entry}
-use Rattle.fts_turnstile.specs.declared.turn.Turn.{Turn}
+use Rattle.fts_turnstile.specs.declared.turn.LoggedTurn.{LoggedTurn}
 use Rattle.fts_turnstile.specs.History.{OnlyOthersSince}
 use Rattle.fts_turnstile.specs.Passes.{PassView, pass_given}
 use Rattle.fts_passes.specs.Crews.{AreSeenBy, passes_given}
@@ -60,13 +60,13 @@ stations_given D (hand ∷ hands) (bench ∷ benches) giver given (suc count) fe
     ap (λ l. pass_given (giver_from giver given) ∷ l) (stations_given D hands benches giver (suc given) count (omega (arith, few)) (omega (arith, least)))
 
 -- a seat before and behind its thread, by the pass that it was given, and what that has seen of all turns
-pub record Seat {S : Type 0} (pass_of : S → PassView Entry) (R : S → S → Type 0) (turns : List (Turn Entry)) (giver : PassView Entry) (old new : S) : Type 0 where
+pub record Seat {S : Type 0} (pass_of : S → PassView Entry) (R : S → S → Type 0) (turns : List (LoggedTurn Entry)) (giver : PassView Entry) (old new : S) : Type 0 where
   pub holds : R old new
   pub given : ℕ
   pub pass : pass_of old ≡ pass_given (giver_from giver given)
   pub since : OnlyOthersSince ((pass_of new).number ∷ []) (pass_of new).seen turns
 
-module _ {S : Type 0} (pass_of : S → PassView Entry) (R : S → S → Type 0) (turns : List (Turn Entry)) (giver : PassView Entry) where
+module _ {S : Type 0} (pass_of : S → PassView Entry) (R : S → S → Type 0) (turns : List (LoggedTurn Entry)) (giver : PassView Entry) where
   -- a seat whose pass has this number
   pub record At (number : ℕ) : Type 0 where
     pub old : S
@@ -146,6 +146,6 @@ each_idle R (hand ∷ hands) (bench ∷ benches) (pass ∷ passes) (new ∷ news
 )
 
 -- passes behind others have seen what they have
-pub seen_behind : (turns : List (Turn Entry)) (passes others : List (PassView Entry)) → AreSeenBy turns (passes ++ others) → AreSeenBy turns others
+pub seen_behind : (turns : List (LoggedTurn Entry)) (passes others : List (PassView Entry)) → AreSeenBy turns (passes ++ others) → AreSeenBy turns others
 seen_behind turns [] others seen = seen
 seen_behind turns (pass ∷ passes) others seen = seen_behind turns passes others seen.1

@@ -13,7 +13,7 @@ use Rattle.fts_tables.specs.declared.commands.Answer.{Answer}
 use Rattle.fts_tables.specs.declared.commands.Answer.TheVariants.{Restarted, Submitted, Cancelled, PrioritySet, Claimed, Reported, Banned, Unbanned, Expired}
 use Rattle.fts_tables.specs.declared.commands.Refusal.{Refusal}
 use Rattle.fts_tables.specs.declared.commands.Refusal.TheVariants.{Idle}
-use Rattle.fts_turnstile.specs.declared.turn.Turn.{Turn}
+use Rattle.fts_turnstile.specs.declared.turn.LoggedTurn.{LoggedTurn}
 use Rattle.fts_turnstile.specs.History.{items_of, shown_after}
 use Rattle.fts_turnstile.specs.Passes.{PassView, IsSame}
 use Rattle.fts_keep.specs.Keeps.{used_of}
@@ -28,7 +28,7 @@ use Rattle.fts_shop.specs.Looking.{LeaveLanes}
 use Rattle.fts_shop.specs.Shops.{IsToldList, StepInTurn, TriedInTurn, added_by, lanes_shown, point, step_answer}
 use Rattle.fts_shop.specs.Turns.{Copies, GoesOn, HandData, IsTurn, ReportsHeld, end_by_report, end_by_state, idle_end}
 use Rattle.fts_shop.specs.Workers.{AreTurns, StationData, WorkerDone, worker_end_of}
-use Rattle.fts_shop.specs.declared.ends.Turn.{Turn as TurnEnd}
+use Rattle.fts_shop.specs.declared.ends.Turn.{Turn}
 use Rattle.fts_shop.specs.declared.ends.Turn.TheVariants as turn_ends
 use Rattle.fts_shop.specs.declared.ends.WorkerEnd.TheVariants as worker_ends
 use Rattle.fts_serving.proofs.Own.{leave_on, turn_leaves}
@@ -77,14 +77,14 @@ module _ {E : Type 0} (stores : store.Ghosts E) where
   }
 
   -- a report more
-  reports_leave : (base : PassView Entry) {old new : PassView Entry} (moments later : Option Coming) (held : List Held) (end : TurnEnd) (left : List Held)
+  reports_leave : (base : PassView Entry) {old new : PassView Entry} (moments later : Option Coming) (held : List Held) (end : Turn) (left : List Held)
       → Leaves base old → ReportsHeld old new moments later held end left → Leaves base new
   reports_leave base moments later [] end left was reported = absurd reported
   reports_leave base moments later (held ∷ []) end left was reported = tried_leaves base was reported.1.tried
   reports_leave base moments later (held ∷ next ∷ others) end left was reported = absurd reported
 
   -- what follows a claim
-  goes_leave : (base : PassView Entry) {old new : PassView Entry} (hand after : HandData E) (lanes : ℕ) (result : Result Answer KeepFault) (end : TurnEnd)
+  goes_leave : (base : PassView Entry) {old new : PassView Entry} (hand after : HandData E) (lanes : ℕ) (result : Result Answer KeepFault) (end : Turn)
       (left : List Held) → Leaves base old → GoesOn stores lanes result old new hand after end left → Leaves base new
   goes_leave base hand after lanes (Ok (Claimed file attempt)) end left was goes = tried_leaves base (copy_leaves base was goes.copied) goes.reported.tried
   goes_leave base hand after lanes (Ok (Restarted released)) end left was goes = absurd goes
@@ -98,7 +98,7 @@ module _ {E : Type 0} (stores : store.Ghosts E) where
   goes_leave base hand after lanes (Err fault) end left was goes = subst (Leaves base) (sym goes.1.pass) was
 
   -- a turn at a station
-  turn_leaves_lanes : (base old new : PassView Entry) (hand after : HandData E) (held : List Held) (end : TurnEnd) (left : List Held) → Leaves base old
+  turn_leaves_lanes : (base old new : PassView Entry) (hand after : HandData E) (held : List Held) (end : Turn) (left : List Held) → Leaves base old
       → IsTurn stores old new hand after held end left → Leaves base new
   turn_leaves_lanes base old new hand after [] end left was turn =
       goes_leave base turn.behind after turn.lanes (step_answer turn.expiry turn.claim) end left (step_leaves base was turn.tried) turn.goes_on
@@ -126,8 +126,8 @@ module _ {E : Type 0} (stores : store.Ghosts E) where
 
 -- the last turn of a worker that ended drained: no lane was left, and no row was eligible on the list with what the turn added
 pub record FindsNone (pass : PassView Entry) : Type 0 where
-  pub before : List (Turn Entry)
-  pub turn : Turn Entry
+  pub before : List (LoggedTurn Entry)
+  pub turn : LoggedTurn Entry
   pub seen : pass.seen ≡ before ++ turn ∷ []
   pub mine : turn.number ≡ pass.number
   pub no_lane : lanes_shown (shown_after pass.opening_shows before) ≡ 0
@@ -136,14 +136,14 @@ pub record FindsNone (pass : PassView Entry) : Type 0 where
   pub refused : step (tables_of (pass.opening ++ items_of (before ++ turn ∷ []))) (Claim now word) ≡ Err Idle
 
 -- the list with what the last turn added
-items_with : (opening : List Entry) (before : List (Turn Entry)) (turn : Turn Entry) (own : List Entry) → turn.items ≡ own ++ []
+items_with : (opening : List Entry) (before : List (LoggedTurn Entry)) (turn : LoggedTurn Entry) (own : List Entry) → turn.items ≡ own ++ []
     → opening ++ items_of (before ++ turn ∷ []) ≡ (opening ++ items_of before) ++ own
 items_with opening before turn own is =
     ap (λ l. opening ++ l) (items_on before (turn ∷ []) ∙ ap (λ l. items_of before ++ l) (append-nil turn.items ∙ is ∙ append-nil own))
     ∙ sym (append_assoc opening (items_of before) own)
 
 -- a turn that ends so
-drained_end : (end : TurnEnd) → worker_end_of end ≡ Some worker_ends.Drained → end ≡ turn_ends.Stopping
+drained_end : (end : Turn) → worker_end_of end ≡ Some worker_ends.Drained → end ≡ turn_ends.Stopping
 drained_end turn_ends.Idle is = absurd cc
 drained_end turn_ends.Stopping is = refl
 drained_end (turn_ends.Done file) is = absurd cc

@@ -2,7 +2,7 @@
 use Rattle.std.proofs.Common.{◌≡◌, ◌≢◌, sym, ap, ◌∙◌, subst, ℕ, ◌+◌, ◌-◌, true, List, [], ◌∷◌, ◌++◌, Option}
 use Rattle.fts_tables.specs.History.{IsLegal}
 use Rattle.fts_tables.specs.declared.commands.Entry.{Entry}
-use Rattle.fts_turnstile.specs.declared.turn.Turn.{Turn}
+use Rattle.fts_turnstile.specs.declared.turn.LoggedTurn.{LoggedTurn}
 use Rattle.fts_turnstile.specs.History.{AllNamed, NoneBy, OnlyOthersSince, items_of}
 use Rattle.fts_turnstile.specs.Passes.{PassView, IsSame, seen_list}
 use Rattle.fts_workers.specs.declared.held.Held.{Held}
@@ -25,13 +25,13 @@ use Rattle.fts_service.specs.declared.doors.Doors as doors
 use Rattle.fts_tables.specs.declared.clock.Clock as clock
 
 -- a pass that has seen a beginning of the turns, behind which none is its own
-pub record Sees (turns : List (Turn Entry)) (old new : PassView Entry) : Type 0 where
-  pub later : List (Turn Entry)
+pub record Sees (turns : List (LoggedTurn Entry)) (old new : PassView Entry) : Type 0 where
+  pub later : List (LoggedTurn Entry)
   pub is : turns ≡ new.seen ++ later
   pub none : NoneBy (old.number ∷ []) later
 
 -- the turns that it sees, by its number from before
-pub sees : (turns : List (Turn Entry)) (old new : PassView Entry) → IsSame old new → OnlyOthersSince (new.number ∷ []) new.seen turns → Sees turns old new
+pub sees : (turns : List (LoggedTurn Entry)) (old new : PassView Entry) → IsSame old new → OnlyOthersSince (new.number ∷ []) new.seen turns → Sees turns old new
 sees turns old new same since = record {
   later = since.0;
   is = since.1;
@@ -39,18 +39,18 @@ sees turns old new same since = record {
 }
 
 -- what is known of a lane's pass, and of a worker's
-pub record OfLane (turns : List (Turn Entry)) (pass : PassView Entry) : Type 0 where
+pub record OfLane (turns : List (LoggedTurn Entry)) (pass : PassView Entry) : Type 0 where
   pub asked : AddsAsked pass.number (items_of turns)
   pub lane : LaneTurns pass.number pass.opening_shows turns
   pub there : has_turn pass.number turns ≡ true
 
-pub record OfWorker (turns : List (Turn Entry)) (pass : PassView Entry) : Type 0 where
+pub record OfWorker (turns : List (LoggedTurn Entry)) (pass : PassView Entry) : Type 0 where
   pub work : AddsWork pass.number (items_of turns)
   pub own : ReportsOwn pass.number pass.opening [] (items_of turns)
   pub leaves : LeaveLanes pass.number pass.opening_shows turns
 
 pub of_lane : {D A C L : Type 0} (sides : Sides L) (all_doors : doors.Ghosts A L) (clocks : clock.Ghosts C) (connections : Option ℕ)
-    (turns : List (Turn Entry)) (old new : Booth D A C L) → IsToldList old.pass → old.pass.seen ≡ [] → AllNamed writer_of turns
+    (turns : List (LoggedTurn Entry)) (old new : Booth D A C L) → IsToldList old.pass → old.pass.seen ≡ [] → AllNamed writer_of turns
     → OnlyOthersSince (new.pass.number ∷ []) new.pass.seen turns
     → IsBoothServed sides all_doors clocks connections old new → OfLane turns old.pass
 of_lane sides all_doors clocks connections turns old new told unseen named since served =
@@ -71,15 +71,15 @@ pub record Laws {E : Type 0} (stores : store.Ghosts E) : Type 0 where
   pub begins : (pass : PassView Entry) → NoneOf pass.number (items_of pass.seen) → FitsPass pass []
   pub worker : (old new : StationData E) → WorkerDone stores old new → MayKeep old.pass new.pass old.held
       → KeepsLedger old.pass new.pass new.held
-  pub legal : (pass : PassView Entry) (later : List (Turn Entry)) → IsLegal (pass.opening ++ items_of (pass.seen ++ later)) → IsLegal (seen_list pass)
-  pub own : (old new : PassView Entry) (held : List Held) (later : List (Turn Entry)) → KeepsLedger old new held
+  pub legal : (pass : PassView Entry) (later : List (LoggedTurn Entry)) → IsLegal (pass.opening ++ items_of (pass.seen ++ later)) → IsLegal (seen_list pass)
+  pub own : (old new : PassView Entry) (held : List Held) (later : List (LoggedTurn Entry)) → KeepsLedger old new held
       → NoneOf old.number (items_of old.seen) → NoneOf old.number (items_of later)
       → ReportsOwn old.number old.opening [] (items_of (new.seen ++ later))
-  pub work : (old new : PassView Entry) (held : List Held) (later : List (Turn Entry)) → KeepsLedger old new held
+  pub work : (old new : PassView Entry) (held : List Held) (later : List (LoggedTurn Entry)) → KeepsLedger old new held
       → NoneOf old.number (items_of old.seen) → NoneOf old.number (items_of later) → AddsWork old.number (items_of (new.seen ++ later))
 
 module _ {E : Type 0} (stores : store.Ghosts E) (laws : Laws stores)
-    (turns : List (Turn Entry)) (old new : StationData E) (told : IsToldList old.pass) (unseen : old.pass.seen ≡ []) (empty : old.held ≡ [])
+    (turns : List (LoggedTurn Entry)) (old new : StationData E) (told : IsToldList old.pass) (unseen : old.pass.seen ≡ []) (empty : old.held ≡ [])
     (legal : IsLegal (old.pass.opening ++ items_of turns)) (done : WorkerDone stores old new)
     (since : OnlyOthersSince (new.pass.number ∷ []) new.pass.seen turns) where
   pub seen : Sees turns old.pass new.pass

@@ -8,7 +8,7 @@ use Rattle.fts_tables.specs.Step.{step}
 use Rattle.fts_tables.specs.History.{tables_of}
 use Rattle.fts_tables.specs.declared.commands.Entry.{Entry}
 use Rattle.fts_disk.specs.Disk.{DiskState, IsTold}
-use Rattle.fts_turnstile.specs.declared.turn.Turn.{Turn}
+use Rattle.fts_turnstile.specs.declared.turn.LoggedTurn.{LoggedTurn}
 use Rattle.fts_keep.specs.Applied.{fits}
 use Rattle.fts_keep.specs.Keeps.{KeepData, used_of}
 use Rattle.fts_workers.specs.declared.hand.Hand.{Hand}
@@ -36,7 +36,7 @@ pub record BreaksNoRule (text : Option (List ℕ)) (disk : DiskState) : Type 0 w
   pub journal : (disk.seen ≡ []) ⊎ IsUndamaged disk.seen
 
 -- the disk's count of failures that is shown rises in none of these turns
-abbrev pub NoneRises : List ℕ → List (Turn Entry) → Type 0
+abbrev pub NoneRises : List ℕ → List (LoggedTurn Entry) → Type 0
 NoneRises shown [] = Unit {0}
 NoneRises shown (turn ∷ turns) = Stays (faults_shown shown) (faults_shown turn.shows) × NoneRises turn.shows turns
 

@@ -2,7 +2,7 @@
 use Rattle.std.proofs.Common.{◌≡◌, ◌≢◌, refl, sym, ap, ◌∙◌, subst, inl, ℕ, ◌+◌, ◌≤◌, ◌<◌, ◌&&◌, Bool, true, false, cond, List, [], ◌∷◌, ◌++◌, append-nil, append_assoc, eq-eqb, arith}
 use Rattle.fts_tables.specs.History.{tables_of}
 use Rattle.fts_tables.specs.declared.commands.Entry.{Entry}
-use Rattle.fts_turnstile.specs.declared.turn.Turn.{Turn}
+use Rattle.fts_turnstile.specs.declared.turn.LoggedTurn.{LoggedTurn}
 use Rattle.fts_turnstile.specs.History.{items_of, shown_after, turn_of, AllName, AllNamed, NoneBy}
 use Rattle.fts_turnstile.specs.Passes.{PassView, IsSame, TookTurn, seen_list, own_items}
 use Rattle.fts_shop.specs.Shops.{ShopData, shop_entries, writer_of, shop_shows, lanes_shown, IsToldList}
@@ -18,7 +18,7 @@ none_named number other [] named apart = tt
 none_named number other (entry ∷ entries) named apart = ((λ is. apart (sym named.0 ∙ is)), none_named number other entries named.1 apart)
 
 -- the entries of others' turns are none of a writer's
-pub others_none : (number : ℕ) (joined : List ℕ) (turns : List (Turn Entry)) → AllNamed writer_of turns → NoneBy (number ∷ joined) turns
+pub others_none : (number : ℕ) (joined : List ℕ) (turns : List (LoggedTurn Entry)) → AllNamed writer_of turns → NoneBy (number ∷ joined) turns
     → NoneOf number (items_of turns)
 others_none number joined [] named others = tt
 others_none number joined (turn ∷ turns) named others =
@@ -26,25 +26,25 @@ others_none number joined (turn ∷ turns) named others =
     (others_none number joined turns named.1 others.1)
 
 -- turns behind others, whose entries name their turns
-pub named_behind : (first turns : List (Turn Entry)) → AllNamed writer_of (first ++ turns) → AllNamed writer_of turns
+pub named_behind : (first turns : List (LoggedTurn Entry)) → AllNamed writer_of (first ++ turns) → AllNamed writer_of turns
 named_behind [] turns named = named
 named_behind (turn ∷ first) turns named = named_behind first turns named.1
 
 -- others' turns are not the pass's, whatever it does in its own
-others_unasked : (number file : ℕ) (joined : List ℕ) (entries : List Entry) (turns : List (Turn Entry)) → NoneBy (number ∷ joined) turns
+others_unasked : (number file : ℕ) (joined : List ℕ) (entries : List Entry) (turns : List (LoggedTurn Entry)) → NoneBy (number ∷ joined) turns
     → Unasked number file entries turns
 others_unasked number file joined entries [] others = tt
 others_unasked number file joined entries (turn ∷ turns) others =
     ((λ mine. absurd (others.0 (inl mine))), others_unasked number file joined (entries ++ turn.items) turns others.1)
 
-others_lanes : (number : ℕ) (joined shown : List ℕ) (turns : List (Turn Entry)) → NoneBy (number ∷ joined) turns → LeaveLanes number shown turns
+others_lanes : (number : ℕ) (joined shown : List ℕ) (turns : List (LoggedTurn Entry)) → NoneBy (number ∷ joined) turns → LeaveLanes number shown turns
 others_lanes number joined shown [] others = tt
 others_lanes number joined shown (turn ∷ turns) others = ((λ mine. absurd (others.0 (inl mine))), others_lanes number joined turn.shows turns others.1)
 
 module _ {D : Type 0} (disks : disk.Ghosts D) (work : ShopData D → ShopData D → Type 0) (old new : PassView Entry) (same : IsSame old new)
     (took : TookTurn shop_entries writer_of (shop_shows disks) work old new) (file : ℕ) (asked : Bool)
     (looked : IsLookIn disks file took.before took.after asked) where
-  abbrev last : Turn Entry
+  abbrev last : LoggedTurn Entry
   last = turn_of old.number took.added (shop_shows disks took.after)
 
   none : took.added ≡ []

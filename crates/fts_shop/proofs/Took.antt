@@ -9,7 +9,7 @@ use Rattle.fts_tables.specs.declared.commands.Command.{Command}
 use Rattle.fts_tables.specs.declared.commands.Command.TheVariants.{Claim, Expire}
 use Rattle.fts_tables.specs.declared.commands.Answer.{Answer}
 use Rattle.fts_disk.specs.Disk.{IsTold}
-use Rattle.fts_turnstile.specs.declared.turn.Turn.{Turn}
+use Rattle.fts_turnstile.specs.declared.turn.LoggedTurn.{LoggedTurn}
 use Rattle.fts_turnstile.specs.History.{items_of, turn_of, AllName, AllNamed}
 use Rattle.fts_turnstile.specs.Passes.{PassView, IsSame, TookTurn, seen_list}
 use Rattle.fts_keep.specs.Keeps.{KeepData, IsKeep, HoldsList}
@@ -26,7 +26,7 @@ use Rattle.fts_shop.proofs.Answered.{answers_to}
 use Rattle.fts_disk.specs.declared.disk.Disk as disk
 
 -- one turn more, whose entries are of its writer
-pub named_more : (turns : List (Turn Entry)) (turn : Turn Entry) → AllNamed writer_of turns → AllName writer_of turn.number turn.items
+pub named_more : (turns : List (LoggedTurn Entry)) (turn : LoggedTurn Entry) → AllNamed writer_of turns → AllName writer_of turn.number turn.items
     → AllNamed writer_of (turns ++ turn ∷ [])
 named_more [] turn named last = (last, tt)
 named_more (first ∷ turns) turn named last = (named.0, named_more turns turn named.1 last)

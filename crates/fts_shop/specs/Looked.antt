@@ -28,7 +28,7 @@ use Rattle.fts_tables.specs.declared.commands.Command.{Command}
 use Rattle.fts_tables.specs.declared.commands.Command.TheVariants.{Restart, Submit, CancelJob, CancelFile, SetPriority, Claim, Report, Ban, Unban, Expire}
 use Rattle.fts_tables.specs.declared.commands.Refusal.{Refusal}
 use Rattle.fts_tables.specs.declared.commands.Refusal.TheVariants.{NoJob, NoFile, Duplicate, JobsFull, RowsFull, Idle, Stale, Unchanged, NoStorage, NotBanned}
-use Rattle.fts_turnstile.specs.declared.turn.Turn.{Turn}
+use Rattle.fts_turnstile.specs.declared.turn.LoggedTurn.{LoggedTurn}
 use Rattle.fts_turnstile.specs.History.{items_of, shown_after}
 use Rattle.fts_turnstile.specs.Passes.{PassView, IsSame, seen_list}
 use Rattle.fts_shop.specs.Shops.{IsToldList}
@@ -283,23 +283,23 @@ asked_stays entries more file asked =
     subst (λ tables. is_cancel_asked tables file ≡ true) (sym (tables_on empty_tables entries more)) (asked_from (tables_of entries) more file asked)
 
 -- the items of turns, and of those that follow
-pub items_on : (turns more : List (Turn Entry)) → items_of (turns ++ more) ≡ items_of turns ++ items_of more
+pub items_on : (turns more : List (LoggedTurn Entry)) → items_of (turns ++ more) ≡ items_of turns ++ items_of more
 items_on [] more = refl
 items_on (turn ∷ turns) more = ap (λ rest. turn.items ++ rest) (items_on turns more) ∙ sym (append_assoc turn.items (items_of turns) (items_of more))
 
 -- what was seen, and what follows
-pub seen_on : (old new : PassView Entry) (since : List (Turn Entry)) → new.opening ≡ old.opening → new.seen ≡ old.seen ++ since
+pub seen_on : (old new : PassView Entry) (since : List (LoggedTurn Entry)) → new.opening ≡ old.opening → new.seen ≡ old.seen ++ since
     → seen_list new ≡ seen_list old ++ items_of since
 seen_on old new since opening seen =
     (λ i. opening i ++ items_of (seen i)) ∙ ap (λ rest. old.opening ++ rest) (items_on old.seen since)
     ∙ sym (append_assoc old.opening (items_of old.seen) (items_of since))
 
 -- looks, and looks behind them
-pub looks_on : (number : ℕ) (turns more : List (Turn Entry)) → looks_in number (turns ++ more) ≡ looks_in number turns + looks_in number more
+pub looks_on : (number : ℕ) (turns more : List (LoggedTurn Entry)) → looks_in number (turns ++ more) ≡ looks_in number turns + looks_in number more
 looks_on number [] more = omega arith
 looks_on number (turn ∷ turns) more = omega (arith, looks_on number turns more)
 
-pub unasked_on : (number file : ℕ) (entries : List Entry) (turns more : List (Turn Entry)) → Unasked number file entries turns
+pub unasked_on : (number file : ℕ) (entries : List Entry) (turns more : List (LoggedTurn Entry)) → Unasked number file entries turns
     → Unasked number file (entries ++ items_of turns) more → Unasked number file entries (turns ++ more)
 unasked_on number file entries [] more one two = subst (λ list. Unasked number file list more) (append-nil entries) two
 unasked_on number file entries (turn ∷ turns) more one two = (
@@ -308,11 +308,11 @@ unasked_on number file entries (turn ∷ turns) more one two = (
       (subst (λ list. Unasked number file list more) (sym (append_assoc entries turn.items (items_of turns))) two),
 )
 
-pub shown_on : (first : List ℕ) (turns more : List (Turn Entry)) → shown_after first (turns ++ more) ≡ shown_after (shown_after first turns) more
+pub shown_on : (first : List ℕ) (turns more : List (LoggedTurn Entry)) → shown_after first (turns ++ more) ≡ shown_after (shown_after first turns) more
 shown_on first [] more = refl
 shown_on first (turn ∷ turns) more = shown_on turn.shows turns more
 
-pub lanes_on : (number : ℕ) (shown : List ℕ) (turns more : List (Turn Entry)) → LeaveLanes number shown turns
+pub lanes_on : (number : ℕ) (shown : List ℕ) (turns more : List (LoggedTurn Entry)) → LeaveLanes number shown turns
     → LeaveLanes number (shown_after shown turns) more → LeaveLanes number shown (turns ++ more)
 lanes_on number shown [] more one two = two
 lanes_on number shown (turn ∷ turns) more one two = (one.0, lanes_on number turn.shows turns more one.1 two)

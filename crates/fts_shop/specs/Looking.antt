@@ -2,7 +2,7 @@
 use Rattle.std.specs.Prelude.{◌≡◌, ◌≢◌, ℕ, ◌+◌, ◌≤◌, ◌<◌, ◌==◌, ◌&&◌, Bool, true, false, if◌then◌else◌, List, [], ◌∷◌, ◌++◌}
 use Rattle.fts_tables.specs.History.{tables_of}
 use Rattle.fts_tables.specs.declared.commands.Entry.{Entry}
-use Rattle.fts_turnstile.specs.declared.turn.Turn.{Turn}
+use Rattle.fts_turnstile.specs.declared.turn.LoggedTurn.{LoggedTurn}
 use Rattle.fts_turnstile.specs.History.{items_of, shown_after}
 use Rattle.fts_turnstile.specs.Passes.{PassView, IsSame, own_items, seen_list}
 use Rattle.fts_shop.specs.Shops.{IsToldList, lanes_shown}
@@ -14,18 +14,18 @@ is_empty [] = true
 is_empty (entry ∷ entries) = false
 
 -- how many turns have this number and added nothing
-abbrev pub looks_in : ℕ → List (Turn Entry) → ℕ
+abbrev pub looks_in : ℕ → List (LoggedTurn Entry) → ℕ
 looks_in number [] = 0
 looks_in number (turn ∷ turns) = (if (turn.number == number) && is_empty turn.items then 1 else 0) + looks_in number turns
 
 -- of a file no cancel was asked before any turn with this number, from a list on
-abbrev pub Unasked : ℕ → ℕ → List Entry → List (Turn Entry) → Type 0
+abbrev pub Unasked : ℕ → ℕ → List Entry → List (LoggedTurn Entry) → Type 0
 Unasked number file entries [] = Unit {0}
 Unasked number file entries (turn ∷ turns) =
     (turn.number ≡ number → is_cancel_asked (tables_of entries) file ≡ false) × Unasked number file (entries ++ turn.items) turns
 
 -- the turns with this number leave the lanes as the turn before them showed them
-abbrev pub LeaveLanes : ℕ → List ℕ → List (Turn Entry) → Type 0
+abbrev pub LeaveLanes : ℕ → List ℕ → List (LoggedTurn Entry) → Type 0
 LeaveLanes number shown [] = Unit {0}
 LeaveLanes number shown (turn ∷ turns) = (turn.number ≡ number → lanes_shown turn.shows ≡ lanes_shown shown) × LeaveLanes number turn.shows turns
 
@@ -39,7 +39,7 @@ NoneOf writer (entry ∷ entries) = (entry.writer ≢ writer) × NoneOf writer e
 pub record IsWatched (file : ℕ) (old new : PassView Entry) (askings askings_now noes noes_now : ℕ) : Type 0 where
   pub same : IsSame old new
   pub only_looks : own_items new ≡ own_items old
-  pub since : List (Turn Entry)
+  pub since : List (LoggedTurn Entry)
   pub seen : new.seen ≡ old.seen ++ since
   pub others : NoneOf old.number (items_of since)
   pub lanes : LeaveLanes old.number (shown_after old.opening_shows old.seen) since

@@ -10,7 +10,7 @@ use Rattle.fts_tables.specs.declared.commands.Answer.{Answer}
 use Rattle.fts_tables.specs.declared.commands.Answer.TheVariants.{Restarted, Submitted, Cancelled, PrioritySet, Claimed, Reported, Banned, Unbanned, Expired}
 use Rattle.fts_tables.specs.declared.rows.FileState.{FileState}
 use Rattle.fts_tables.specs.declared.rows.FileState.TheVariants as state
-use Rattle.fts_turnstile.specs.declared.turn.Turn.{Turn}
+use Rattle.fts_turnstile.specs.declared.turn.LoggedTurn.{LoggedTurn}
 use Rattle.fts_turnstile.specs.History.{items_of, shown_after, AllNamed, NoneBy}
 use Rattle.fts_turnstile.specs.Passes.{PassView, IsSame, numbers_of}
 use Rattle.fts_keep.specs.Keeps.{KeepData}
@@ -56,8 +56,8 @@ lanes_shown shown = slice_index shown 1
 
 -- a pass took one turn, behind turns of others
 pub record TakesTurn (old new : PassView Entry) : Type 0 where
-  pub between : List (Turn Entry)
-  pub turn : Turn Entry
+  pub between : List (LoggedTurn Entry)
+  pub turn : LoggedTurn Entry
   pub others : NoneBy (numbers_of old) between
   pub mine : turn.number ≡ old.number
   pub seen : new.seen ≡ (old.seen ++ between) ++ turn ∷ []

@@ -13,7 +13,7 @@ use Rattle.fts_tables.specs.declared.rows.Outcome.{Outcome}
 use Rattle.fts_tables.specs.declared.rows.Outcome.TheVariants.{Verified, SourceMissing, DestinationExists, SourceSize, SourceDigest, ReadBackDiffers, StoreFailed, Stopped}
 use Rattle.fts_copy.specs.Copy.{Order}
 use Rattle.fts_copy.specs.Watch.{pieces}
-use Rattle.fts_turnstile.specs.declared.turn.Turn.{Turn}
+use Rattle.fts_turnstile.specs.declared.turn.LoggedTurn.{LoggedTurn}
 use Rattle.fts_turnstile.specs.History.{items_of, shown_after}
 use Rattle.fts_turnstile.specs.Passes.{PassView, IsSame, seen_list, own_items}
 use Rattle.fts_keep.specs.declared.fault.KeepFault.{KeepFault}
@@ -24,7 +24,7 @@ use Rattle.fts_workers.specs.declared.hand.Hand.{Hand}
 use Rattle.fts_shop.specs.Within.{is_cancel_asked}
 use Rattle.fts_shop.specs.Shops.{IsToldList, StepInTurn, TriedInTurn, step_answer}
 use Rattle.fts_shop.specs.Looking.{looks_in, Unasked, LeaveLanes, NoneOf}
-use Rattle.fts_shop.specs.declared.ends.Turn.{Turn as TurnEnd}
+use Rattle.fts_shop.specs.declared.ends.Turn.{Turn}
 use Rattle.fts_shop.specs.declared.ends.Turn.TheVariants as turn_ends
 use Rattle.fts_store.specs.declared.store.Store as store
 use Rattle.fts_tables.specs.declared.clock.Clock as clock
@@ -51,7 +51,7 @@ IsLookedAfter Stopped looks unasked = Unit {0}
 pub record Copies {E : Type 0} (stores : store.Ghosts E) (old new : PassView Entry) (store after : E)
     (file : ℕ) (outcome : Outcome) : Type 0 where
   pub same : IsSame old new
-  pub since : List (Turn Entry)
+  pub since : List (LoggedTurn Entry)
   pub seen : new.seen ≡ old.seen ++ since
   pub only_looks : own_items new ≡ own_items old
   pub others : NoneOf old.number (items_of since)
@@ -65,7 +65,7 @@ pub record Copies {E : Type 0} (stores : store.Ghosts E) (old new : PassView Ent
   pub stopped : IsToldList old → outcome ≡ Stopped → is_cancel_asked (tables_of (seen_list new)) file ≡ true
 
 -- the end of a turn by the state that a report was answered with
-abbrev pub end_by_state : ℕ → FileState → TurnEnd
+abbrev pub end_by_state : ℕ → FileState → Turn
 end_by_state file state.Finished = turn_ends.Done file
 end_by_state file state.Failed = turn_ends.Failed file
 end_by_state file state.Submitted = turn_ends.Retried file
@@ -75,7 +75,7 @@ end_by_state file state.Active = turn_ends.Stale file
 end_by_state file state.NotUsed = turn_ends.Stale file
 
 -- the end of a turn by the fault of a report that was tried while so many lanes were left; a refused one is stale
-abbrev pub end_by_fault : ℕ → ℕ → KeepFault → TurnEnd
+abbrev pub end_by_fault : ℕ → ℕ → KeepFault → Turn
 end_by_fault file lanes DiskFailed = turn_ends.DiskFailed lanes
 end_by_fault file lanes (JournalFull used) = turn_ends.JournalFull used lanes
 end_by_fault file lanes Memory = turn_ends.Memory lanes
@@ -83,7 +83,7 @@ end_by_fault file lanes (Rule refusal) = turn_ends.Stale file
 end_by_fault file lanes (Damaged offset) = turn_ends.Memory lanes
 
 -- the end of a turn by the answer to the report of a file; the answers that no report is given end it as stale
-abbrev pub end_by_report : ℕ → ℕ → Result Answer KeepFault → TurnEnd
+abbrev pub end_by_report : ℕ → ℕ → Result Answer KeepFault → Turn
 end_by_report file lanes (Ok (Reported reported left)) = end_by_state file left
 end_by_report file lanes (Ok (Restarted released)) = turn_ends.Stale file
 end_by_report file lanes (Ok (Submitted job id)) = turn_ends.Stale file
@@ -105,7 +105,7 @@ is_over (Err Memory) = false
 is_over (Err (Damaged offset)) = false
 
 -- the report of a held file that ended so, in one turn and at the next moment
-pub record ReportTurn (old new : PassView Entry) (moments later : Option Coming) (held : Held) (outcome : Outcome) (end : TurnEnd) (left : List Held)
+pub record ReportTurn (old new : PassView Entry) (moments later : Option Coming) (held : Held) (outcome : Outcome) (end : Turn) (left : List Held)
     : Type 0 where
   pub kept : held.outcome ≡ Some outcome
   pub now : ℕ
@@ -117,18 +117,18 @@ pub record ReportTurn (old new : PassView Entry) (moments later : Option Coming)
   pub leaves : left ≡ (if is_over result then [] else held ∷ [])
 
 -- the report of the one file that a bench holds
-abbrev pub ReportsHeld : PassView Entry → PassView Entry → Option Coming → Option Coming → List Held → TurnEnd → List Held → Type 0
+abbrev pub ReportsHeld : PassView Entry → PassView Entry → Option Coming → Option Coming → List Held → Turn → List Held → Type 0
 ReportsHeld old new moments later [] end left = ⊥
 ReportsHeld old new moments later (held ∷ []) end left = (outcome : Outcome) × ReportTurn old new moments later held outcome end left
 ReportsHeld old new moments later (held ∷ next ∷ others) end left = ⊥
 
 -- no row was eligible, with a lane left or without
-abbrev pub idle_end : ℕ → TurnEnd
+abbrev pub idle_end : ℕ → Turn
 idle_end zero = turn_ends.Stopping
 idle_end (suc more) = turn_ends.Idle
 
 -- the end of a turn by the fault of a claim that was tried while so many lanes were left, or by that of the expiry before it
-abbrev pub end_by_claim : ℕ → KeepFault → TurnEnd
+abbrev pub end_by_claim : ℕ → KeepFault → Turn
 end_by_claim lanes (Rule refusal) = idle_end lanes
 end_by_claim lanes DiskFailed = turn_ends.DiskFailed lanes
 end_by_claim lanes (JournalFull used) = turn_ends.JournalFull used lanes
@@ -151,7 +151,7 @@ held_with file attempt outcome = record { file = file; attempt = attempt; outcom
 
 module _ {E : Type 0} (stores : store.Ghosts E) where
   -- a claimed file was copied, and its report tried
-  pub record WorksOn (old new : PassView Entry) (hand after : HandData E) (file attempt : ℕ) (end : TurnEnd) (left : List Held) : Type 0 where
+  pub record WorksOn (old new : PassView Entry) (hand after : HandData E) (file attempt : ℕ) (end : Turn) (left : List Held) : Type 0 where
     pub outcome : Outcome
     pub between : PassView Entry
     pub copied : Copies stores old between hand.store after.store file outcome
@@ -165,7 +165,7 @@ module _ {E : Type 0} (stores : store.Ghosts E) where
     pub nothing : left ≡ []
 
   -- how a turn goes on from what its expiry and its claim came to
-  abbrev pub GoesOn : ℕ → Result Answer KeepFault → PassView Entry → PassView Entry → HandData E → HandData E → TurnEnd → List Held → Type 0
+  abbrev pub GoesOn : ℕ → Result Answer KeepFault → PassView Entry → PassView Entry → HandData E → HandData E → Turn → List Held → Type 0
   GoesOn lanes (Ok (Claimed file attempt)) old new hand after end left = WorksOn old new hand after file attempt end left
   GoesOn lanes (Ok (Restarted released)) old new hand after end left = ⊥
   GoesOn lanes (Ok (Submitted job id)) old new hand after end left = ⊥
@@ -178,7 +178,7 @@ module _ {E : Type 0} (stores : store.Ghosts E) where
   GoesOn lanes (Err fault) old new hand after end left = (end ≡ end_by_claim lanes fault) × Rests old new hand after left
 
   -- an expiry and a claim in one turn, at the next moment; the claim has the next word, which is used up also where no claim was tried; and what follows
-  pub record ClaimTurn (old new : PassView Entry) (hand after : HandData E) (end : TurnEnd) (left : List Held) : Type 0 where
+  pub record ClaimTurn (old new : PassView Entry) (hand after : HandData E) (end : Turn) (left : List Held) : Type 0 where
     pub now : ℕ
     pub word : ℕ
     pub claimed : PassView Entry
@@ -193,12 +193,12 @@ module _ {E : Type 0} (stores : store.Ghosts E) where
     pub goes_on : GoesOn lanes (step_answer expiry claim) claimed new behind after end left
 
   -- the report of a file that was kept from before
-  pub record KeptTurn (old new : PassView Entry) (hand after : HandData E) (held : List Held) (end : TurnEnd) (left : List Held) : Type 0 where
+  pub record KeptTurn (old new : PassView Entry) (hand after : HandData E) (held : List Held) (end : Turn) (left : List Held) : Type 0 where
     pub words : after.words ≡ hand.words
     pub store : after.store ≡ hand.store
     pub reported : ReportsHeld old new hand.moments after.moments held end left
 
   -- a turn, by what the bench held before it
-  abbrev pub IsTurn : PassView Entry → PassView Entry → HandData E → HandData E → List Held → TurnEnd → List Held → Type 0
+  abbrev pub IsTurn : PassView Entry → PassView Entry → HandData E → HandData E → List Held → Turn → List Held → Type 0
   IsTurn old new hand after [] end left = ClaimTurn old new hand after end left
   IsTurn old new hand after (held ∷ others) end left = KeptTurn old new hand after (held ∷ others) end left

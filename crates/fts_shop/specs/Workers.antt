@@ -4,7 +4,7 @@ use Rattle.fts_tables.specs.declared.commands.Entry.{Entry}
 use Rattle.fts_turnstile.specs.Passes.{PassView, IsSame}
 use Rattle.fts_workers.specs.declared.held.Held.{Held}
 use Rattle.fts_shop.specs.Turns.{HandData, IsReady, IsTurn, hand_data}
-use Rattle.fts_shop.specs.declared.ends.Turn.{Turn as TurnEnd}
+use Rattle.fts_shop.specs.declared.ends.Turn.{Turn}
 use Rattle.fts_shop.specs.declared.ends.Turn.TheVariants as turn_ends
 use Rattle.fts_shop.specs.declared.ends.WorkerEnd.{WorkerEnd}
 use Rattle.fts_shop.specs.declared.ends.WorkerEnd.TheVariants as worker_ends
@@ -37,7 +37,7 @@ end_without_lanes zero end = Some end
 end_without_lanes (suc more) end = None
 
 -- how a worker ends after a turn that ended so, where it does
-abbrev pub worker_end_of : TurnEnd → Option WorkerEnd
+abbrev pub worker_end_of : Turn → Option WorkerEnd
 worker_end_of turn_ends.Idle = None
 worker_end_of turn_ends.Stopping = Some worker_ends.Drained
 worker_end_of (turn_ends.Done file) = None
@@ -50,7 +50,7 @@ worker_end_of (turn_ends.JournalFull used lanes) = end_without_lanes lanes (work
 worker_end_of (turn_ends.Memory lanes) = end_without_lanes lanes worker_ends.Memory
 
 -- whether nothing was eligible, or a fault was met
-abbrev pub is_restful : TurnEnd → Bool
+abbrev pub is_restful : Turn → Bool
 is_restful turn_ends.Idle = true
 is_restful turn_ends.Stopping = false
 is_restful (turn_ends.Done file) = false
@@ -64,20 +64,20 @@ is_restful (turn_ends.Memory lanes) = true
 
 module _ {E : Type 0} (stores : store.Ghosts E) where
   -- one turn at a station
-  abbrev pub TakesOne : StationData E → StationData E → TurnEnd → Type 0
+  abbrev pub TakesOne : StationData E → StationData E → Turn → Type 0
   TakesOne old new end = IsTurn stores old.pass new.pass old.hand new.hand old.held end new.held
 
   -- turns, one after the other, after none of which a worker ends
   abbrev pub AreTurns : ℕ → StationData E → StationData E → Type 0
   AreTurns zero old new = (old.hand ≡ new.hand) × (old.held ≡ new.held) × (old.pass ≡ new.pass)
-  AreTurns (suc more) old new = (next : StationData E) × (end : TurnEnd) × (TakesOne old next end × ((worker_end_of end ≡ None) × AreTurns more next new))
+  AreTurns (suc more) old new = (next : StationData E) × (end : Turn) × (TakesOne old next end × ((worker_end_of end ≡ None) × AreTurns more next new))
 
   -- a worker that has ended: turns, and one more, after which it ended so
   pub record WorkerDone (old new : StationData E) : Type 0 where
     pub more : ℕ
     pub between : StationData E
     pub turns : AreTurns more old between
-    pub last : TurnEnd
+    pub last : Turn
     pub ends : TakesOne between new last
     pub end_is : new.end ≡ worker_end_of last
     pub ended : IsSome new.end

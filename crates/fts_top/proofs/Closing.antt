@@ -8,7 +8,7 @@ use Rattle.fts_tables.specs.History.{tables_of, IsLegal}
 use Rattle.fts_tables.specs.declared.commands.Entry.{Entry}
 use Rattle.fts_laws.specs.Attempts.{attempts_in, claims_in}
 use Rattle.fts_disk.specs.Disk.{IsTold}
-use Rattle.fts_turnstile.specs.declared.turn.Turn.{Turn}
+use Rattle.fts_turnstile.specs.declared.turn.LoggedTurn.{LoggedTurn}
 use Rattle.fts_turnstile.specs.History.{items_of, items_by, AllNamed}
 use Rattle.fts_turnstile.specs.Passes.{TurnstileView, PassView}
 use Rattle.fts_passes.specs.Crews.{IsFirst, passes_given}
@@ -98,7 +98,7 @@ module _ {D A E C W L : Type 0} (world : World D A E C W L)
       → (rooms : List RoomData) (benches : List BenchData) → length rooms ≡ lanes → length benches ≡ workers → (served : ServedEnd)
       → RanTogether world first connections opened after hands hands_now rooms benches closed served
       → end ≡ end_when_served served
-      → ((turns : List (Turn Entry)) (n : ℕ) → AllNamed writer_of turns → filter (λ item. writer_of item == n) (items_of turns) ≡ items_by (n ∷ []) turns)
+      → ((turns : List (LoggedTurn Entry)) (n : ℕ) → AllNamed writer_of turns → filter (λ item. writer_of item == n) (items_of turns) ≡ items_by (n ∷ []) turns)
       → (added : List Entry) × Closes world lanes workers connections keep before hands
       after hands_now closed end added
   closes_served lock first passes locked opened opens rooms benches many workers_are served ran ended names = (

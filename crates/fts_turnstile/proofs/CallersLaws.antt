@@ -2,7 +2,7 @@
 use Rattle.std.proofs.Common.{◌≡◌, ℕ, List, [], ◌∷◌, ◌++◌, Bool, true, false, cond, ◌==◌, ◌||◌, filter, refl, sym, ap, ◌∙◌, append-nil}
 use Rattle.std.proofs.lemmas.List.{append_cancel_left}
 use Rattle.std.proofs.lemmas.List.Elements.{filter-append}
-use Rattle.fts_turnstile.specs.declared.turn.Turn.{Turn}
+use Rattle.fts_turnstile.specs.declared.turn.LoggedTurn.{LoggedTurn}
 use Rattle.fts_turnstile.specs.History.{is_among, items_of, items_by, OnlyOthersSince, AllName, AllNamed}
 use Rattle.fts_turnstile.specs.Passes.{PassView, own_items, numbers_of, TookTurn}
 use Rattle.fts_turnstile.proofs.Histories.{items_by-others}
@@ -37,7 +37,7 @@ all_named names n m (x ∷ xs) named =
     by_case false = refl
 
 -- where each item names its turn, the items that name a number are those of its turns
-pub named_law : {I : Type 0} (names : I → ℕ) (turns : List (Turn I)) (n : ℕ) → AllNamed names turns
+pub named_law : {I : Type 0} (names : I → ℕ) (turns : List (LoggedTurn I)) (n : ℕ) → AllNamed names turns
     → filter (λ x. names x == n) (items_of turns) ≡ items_by (n ∷ []) turns
 named_law {I} names [] n named = refl
 named_law {I} names (t ∷ ts) n named =
@@ -45,7 +45,7 @@ named_law {I} names (t ∷ ts) n named =
     ∙ (λ i. all_named names n t.number t.items named.0 i ++ named_law names ts n named.1 i)
     ∙ by_case (t.number == n)
   where
-    others : List (Turn I)
+    others : List (LoggedTurn I)
     others = filter (λ u. is_among u.number (n ∷ [])) ts
 
     by_case : (b : Bool) → cond b t.items [] ++ items_of others ≡ items_of (cond (b || false) (t ∷ others) others)

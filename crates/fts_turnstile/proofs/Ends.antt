@@ -4,7 +4,7 @@ use mathlib.Core.Option.{some, some-ne-none, some-injective}
 use lib.ListN.{get_elem?}
 use Rattle.atomic_table.specs.Table.{State, Seen, Final, opening as first_state}
 use Rattle.atomic_table.specs.Seated.{TableId}
-use Rattle.fts_turnstile.specs.declared.turn.Turn.{Turn}
+use Rattle.fts_turnstile.specs.declared.turn.LoggedTurn.{LoggedTurn}
 use Rattle.fts_turnstile.specs.declared.view.View.{View}
 use Rattle.fts_turnstile.specs.History.{Among, items_of, shown_after, AllNamed, AllGiven}
 use Rattle.fts_turnstile.specs.Views.{first_view, own_numbers, Rests}
@@ -19,7 +19,7 @@ module _ {T I : Type 0} (items : T → List I) (names : I → ℕ) (shows : T �
   Rule = IsOrderly items names shows opening opening_shows
 
   -- what is so of each view of this lock
-  abbrev Ok : List (Turn I) → ℕ → ℕ → ℕ → View I → Type 0
+  abbrev Ok : List (LoggedTurn I) → ℕ → ℕ → ℕ → View I → Type 0
   Ok = IsInOrder opening opening_shows
 
   -- the rule holds of a new table

@@ -4,7 +4,7 @@ use mathlib.Core.Option.{some, none}
 use lib.ListN.{get_elem?}
 use Rattle.atomic_table.specs.Table.{State, step, keeps, Allows, Splits, Joins}
 use Rattle.atomic_table.proofs.Lists.{set_else, set_again}
-use Rattle.fts_turnstile.specs.declared.turn.Turn.{Turn}
+use Rattle.fts_turnstile.specs.declared.turn.LoggedTurn.{LoggedTurn}
 use Rattle.fts_turnstile.specs.declared.view.View.{View}
 use Rattle.fts_turnstile.specs.History.{Among, NoneTwice}
 use Rattle.fts_turnstile.specs.Views.{spent_view, note_of, view_with_note, view_with_pass, own_numbers, all_numbers, learned_view}
@@ -22,7 +22,7 @@ module _ {T I : Type 0} (items : T → List I) (names : I → ℕ) (shows : T �
   Rule = IsOrderly items names shows opening opening_shows
 
   -- what is so of each view of this lock
-  abbrev Ok : List (Turn I) → ℕ → ℕ → ℕ → View I → Type 0
+  abbrev Ok : List (LoggedTurn I) → ℕ → ℕ → ℕ → View I → Type 0
   Ok = IsInOrder opening opening_shows
 
   -- the rule holds with a note beside the views

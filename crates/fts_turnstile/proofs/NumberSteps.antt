@@ -3,7 +3,7 @@ use Rattle.std.proofs.Common.{◌≡◌, ℕ, ◌+◌, ◌%◌, ◌<◌, List, [
 use mathlib.Core.Option.{some, none}
 use lib.ListN.{get_elem?}
 use Rattle.atomic_table.specs.Table.{State, step, keeps, Allows, Splits}
-use Rattle.fts_turnstile.specs.declared.turn.Turn.{Turn}
+use Rattle.fts_turnstile.specs.declared.turn.LoggedTurn.{LoggedTurn}
 use Rattle.fts_turnstile.specs.declared.view.View.{View}
 use Rattle.fts_turnstile.specs.Views.{new_view, view_after_giving, view_with_number}
 use Rattle.fts_turnstile.specs.Rule.{ShareNumber, ShareTicket, IsInOrder, IsOrderly}
@@ -20,7 +20,7 @@ module _ {T I : Type 0} (items : T → List I) (names : I → ℕ) (shows : T �
   Rule = IsOrderly items names shows opening opening_shows
 
   -- what is so of each view of this lock
-  abbrev Ok : List (Turn I) → ℕ → ℕ → ℕ → View I → Type 0
+  abbrev Ok : List (LoggedTurn I) → ℕ → ℕ → ℕ → View I → Type 0
   Ok = IsInOrder opening opening_shows
 
   -- pass 0 draws a number

@@ -4,7 +4,7 @@ use mathlib.Core.Option.{some}
 use lib.ListN.{get_elem?}
 use Rattle.atomic_table.specs.Table.{State}
 use Rattle.atomic_table.proofs.Lists.{set_else, at_longer}
-use Rattle.fts_turnstile.specs.declared.turn.Turn.{Turn}
+use Rattle.fts_turnstile.specs.declared.turn.LoggedTurn.{LoggedTurn}
 use Rattle.fts_turnstile.specs.declared.view.View.{View}
 use Rattle.fts_turnstile.specs.Rule.{ShareNumber, ShareTicket, IsInOrder, IsHome, IsAway, IsOrderly}
 use Rattle.fts_turnstile.proofs.Words.{at}
@@ -22,7 +22,7 @@ module _ {I : Type 0} where
 
 module _ {I : Type 0} (opening : List I) (opening_shows : List ℕ) where
   -- a view is in order where there are more tickets
-  pub more_tickets : (turns : List (Turn I)) (n m given hand : ℕ) (v : View I) → n ≤ m → IsInOrder opening opening_shows turns n given hand v
+  pub more_tickets : (turns : List (LoggedTurn I)) (n m given hand : ℕ) (v : View I) → n ≤ m → IsInOrder opening opening_shows turns n given hand v
       → IsInOrder opening opening_shows turns m given hand v
   more_tickets turns n m given hand v le f = record {
     seen = f.seen;
@@ -35,7 +35,7 @@ module _ {I : Type 0} (opening : List I) (opening_shows : List ℕ) where
   }
 
   -- a view is in order with another count of numbers given and in hand, where no fewer were given and pass 0 says that count
-  pub recounted : (turns : List (Turn I)) (tickets given hand more held count kept : ℕ) (v : View I) → given ≤ more
+  pub recounted : (turns : List (LoggedTurn I)) (tickets given hand more held count kept : ℕ) (v : View I) → given ≤ more
       → IsInOrder opening opening_shows turns tickets given hand v
       → (v.lives ≡ 1 → v.number ≡ 0 → (count ≡ more) × (kept ≡ held))
       → IsInOrder opening opening_shows turns tickets more held (record v { given = count; hand = kept })
@@ -63,11 +63,11 @@ module _ {T I : Type 0} (items : T → List I) (names : I → ℕ) (shows : T �
   Rule = IsOrderly items names shows opening opening_shows
 
   -- what is so of each view of this lock
-  abbrev Ok : List (Turn I) → ℕ → ℕ → ℕ → View I → Type 0
+  abbrev Ok : List (LoggedTurn I) → ℕ → ℕ → ℕ → View I → Type 0
   Ok = IsInOrder opening opening_shows
 
   -- where the value is
-  abbrev Placed : State (Option T) (View I) → List (Turn I) → Type 0
+  abbrev Placed : State (Option T) (View I) → List (LoggedTurn I) → Type 0
   Placed s turns = IsHome items names shows opening opening_shows s turns ⊎ IsAway items names shows opening opening_shows s
 
   -- there are no more tickets than pass numbers
@@ -84,7 +84,7 @@ module _ {T I : Type 0} (items : T → List I) (names : I → ℕ) (shows : T �
   not_first s r id v here lives first j u apart e live z = apart (sym (r.apart id j v u here e (lives, live, (0, inl (sym first), inl (sym z)))))
 
   -- where the value is, once a view that hasn't it has changed
-  pub still : (s : State (Option T) (View I)) (turns : List (Turn I)) (id : ℕ) (v w : View I) (ws : List ℕ) → at s id v → ¬ (v.served ≡ 1) → ¬ (w.served ≡ 1)
+  pub still : (s : State (Option T) (View I)) (turns : List (LoggedTurn I)) (id : ℕ) (v w : View I) (ws : List ℕ) → at s id v → ¬ (v.served ≡ 1) → ¬ (w.served ≡ 1)
       → Placed s turns
       → Placed (record { words = ws; homes = s.homes; views = set s.views id w }) turns
   still s turns id v w ws here not_v not_w value = ⊎_elim
@@ -103,7 +103,7 @@ module _ {T I : Type 0} (items : T → List I) (names : I → ℕ) (shows : T �
       value
 
   -- where the value is, once there is one more view
-  pub still_pushed : (s : State (Option T) (View I)) (turns : List (Turn I)) (w : View I) → ¬ (w.served ≡ 1) → Placed s turns
+  pub still_pushed : (s : State (Option T) (View I)) (turns : List (LoggedTurn I)) (w : View I) → ¬ (w.served ≡ 1) → Placed s turns
       → Placed (record { words = s.words; homes = s.homes; views = s.views ++ w ∷ [] }) turns
   still_pushed s turns w not_w value = ⊎_elim
       (λ h. inl (h.0, h.1, h.2, h.3, each_push (λ u. ¬ (u.served ≡ 1)) s.views w not_w h.4))

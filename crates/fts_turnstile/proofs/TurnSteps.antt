@@ -7,7 +7,7 @@ use native.Mathlib.Decide.{ℕ_discrete}
 use lib.ListN.{get_elem?}
 use Rattle.atomic_table.specs.Table.{State, step, keeps, takes, gives, put_back, rest, Allows}
 use Rattle.atomic_table.proofs.Lists.{set_here, set_again, one_turn}
-use Rattle.fts_turnstile.specs.declared.turn.Turn.{Turn}
+use Rattle.fts_turnstile.specs.declared.turn.LoggedTurn.{LoggedTurn}
 use Rattle.fts_turnstile.specs.declared.view.View.{View}
 use Rattle.fts_turnstile.specs.History.{Begins, Among, turn_of, items_of, shown_after, AllName}
 use Rattle.fts_turnstile.specs.Views.{own_numbers, all_numbers, view_with_ticket, served_view, view_after_turn}
@@ -25,7 +25,7 @@ module _ {T I : Type 0} (items : T → List I) (names : I → ℕ) (shows : T �
   Rule = IsOrderly items names shows opening opening_shows
 
   -- what is so of each view of this lock
-  abbrev Ok : List (Turn I) → ℕ → ℕ → ℕ → View I → Type 0
+  abbrev Ok : List (LoggedTurn I) → ℕ → ℕ → ℕ → View I → Type 0
   Ok = IsInOrder opening opening_shows
 
   -- a ticket is taken
@@ -188,9 +188,9 @@ module _ {T I : Type 0} (items : T → List I) (names : I → ℕ) (shows : T �
       let f = r.each id v here in
       let k = f.pass lives in
       let g = f.served is_served in
-      let t : Turn I = turn_of v.number added (shows y) in
+      let t : LoggedTurn I = turn_of v.number added (shows y) in
       let w : View I = view_after_turn v t in
-      let turns : List (Turn I) = r.turns ++ t ∷ [] in
+      let turns : List (LoggedTurn I) = r.turns ++ t ∷ [] in
       let long : length turns ≡ length r.turns + 1 = omega (arith, length-append r.turns (t ∷ [])) in
       let a = total_set (λ (u : View I). u.waits) s.views id v w here in
       let l = total_set (λ (u : View I). u.lives) s.views id v w here in
@@ -219,7 +219,7 @@ module _ {T I : Type 0} (items : T → List I) (names : I → ℕ) (shows : T �
           few = r.few;
           named = named-push names r.turns t r.named name;
           takers = λ i u e. ⊎_elim (λ x. r.takers i u x)
-              (λ (x : (i ≡ length r.turns) × (t ≡ u)). subst (λ (z : Turn I). z.number ≤ r.given) x.1 (k.given_all v.number (inl refl)))
+              (λ (x : (i ≡ length r.turns) × (t ≡ u)). subst (λ (z : LoggedTurn I). z.number ≤ r.given) x.1 (k.given_all v.number (inl refl)))
               (at_pushed r.turns t u i e);
           waiting = omega arith;
           living = omega arith;
@@ -257,11 +257,11 @@ module _ {T I : Type 0} (items : T → List I) (names : I → ℕ) (shows : T �
                       opening_is = q.opening_is;
                       shows_is = q.shows_is;
                       own = λ i u' e' h. ⊎_elim (λ x. q.own i u' x h)
-                          (λ (x : (i ≡ length r.turns) × (t ≡ u')). subst (λ (z' : Turn I). ¬ Among z'.number (own_numbers u)) x.1
+                          (λ (x : (i ≡ length r.turns) × (t ≡ u')). subst (λ (z' : LoggedTurn I). ¬ Among z'.number (own_numbers u)) x.1
                           (λ b. mine (among_left v.number (own_numbers u) u.told_numbers b)))
                           (at_pushed r.turns t u' i e');
                       told_own = λ i u' e' h. ⊎_elim (λ x. q.told_own i u' x h)
-                          (λ (x : (i ≡ length r.turns) × (t ≡ u')). subst (λ (z' : Turn I). ¬ Among z'.number u.told_numbers) x.1
+                          (λ (x : (i ≡ length r.turns) × (t ≡ u')). subst (λ (z' : LoggedTurn I). ¬ Among z'.number u.told_numbers) x.1
                           (λ b. mine (among_right v.number (own_numbers u) u.told_numbers b)))
                           (at_pushed r.turns t u' i e');
                       once = q.once;

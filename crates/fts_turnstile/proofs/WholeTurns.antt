@@ -2,7 +2,7 @@
 use Rattle.std.proofs.Common.{◌≡◌, ℕ, ◌+◌, List, [], ◌∷◌, ◌++◌, Option, Some, None, sym, ap, ◌∙◌, subst, append_assoc}
 use Rattle.atomic_table.specs.Table.{Me}
 use Rattle.atomic_table.specs.Seated.{TableId}
-use Rattle.fts_turnstile.specs.declared.turn.Turn.{Turn}
+use Rattle.fts_turnstile.specs.declared.turn.LoggedTurn.{LoggedTurn}
 use Rattle.fts_turnstile.specs.declared.view.View.{View}
 use Rattle.fts_turnstile.specs.History.{Begins, turn_of, items_of, items_by, shown_after, NoneBy, OnlyOthersSince, AllName, AllNamed}
 use Rattle.fts_turnstile.specs.Views.{own_numbers, new_view, view_with_ticket, view_with_number, served_view}
@@ -21,7 +21,7 @@ module _ {T I : Type 0} (items : T → List I) (names : I → ℕ) (shows : T �
 
   -- the value and the view, once it is served
   abbrev Came : View I → Me (Option T) (View I) → T → Type 0
-  Came v m x = (n : ℕ) × (turns : List (Turn I)) × (m ≡ (served_view (view_with_ticket v n) turns, (0, None) ∷ []))
+  Came v m x = (n : ℕ) × (turns : List (LoggedTurn I)) × (m ≡ (served_view (view_with_ticket v n) turns, (0, None) ∷ []))
       × OnlyOthersSince (own_numbers v) v.seen turns × AllNamed names turns × (items x ≡ v.opening ++ items_of turns)
       × (shows x ≡ shown_after v.opening_shows turns)
 

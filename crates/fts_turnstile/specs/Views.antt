@@ -1,7 +1,7 @@
 -- What the rule sees of one holder of a seat, and what each kind of step makes of it.
 -- A pass has a number and lives. A note, which tells one pass what another has seen, has no number and does not, nor does what a join leaves.
 use Rattle.std.specs.Prelude.{◌≡◌, ℕ, ◌+◌, ◌%◌, List, [], ◌∷◌, ◌++◌}
-use Rattle.fts_turnstile.specs.declared.turn.Turn.{Turn}
+use Rattle.fts_turnstile.specs.declared.turn.LoggedTurn.{LoggedTurn}
 use Rattle.fts_turnstile.specs.declared.view.View.{View}
 use Rattle.fts_turnstile.specs.History.{longer_of}
 
@@ -27,7 +27,7 @@ module _ {I : Type 0} where
   IsServed view = (view.lives ≡ 1) × (view.served ≡ 1) × (view.told_numbers ≡ [])
 
   -- the view of a pass that has added nothing, with what it has seen and its number
-  abbrev pub fresh_view : List I → List ℕ → List (Turn I) → ℕ → View I
+  abbrev pub fresh_view : List I → List ℕ → List (LoggedTurn I) → ℕ → View I
   fresh_view opening opening_shows seen number = record {
     opening = opening;
     opening_shows = opening_shows;
@@ -61,11 +61,11 @@ module _ {I : Type 0} where
   view_with_ticket view ticket = record view { waits = 1; ticket = ticket }
 
   -- the pass has the value, and has seen all turns so far
-  abbrev pub served_view : View I → List (Turn I) → View I
+  abbrev pub served_view : View I → List (LoggedTurn I) → View I
   served_view view turns = record view { seen = turns; served = 1 }
 
   -- the pass took a turn, and gave the value and the ticket back
-  abbrev pub view_after_turn : View I → Turn I → View I
+  abbrev pub view_after_turn : View I → LoggedTurn I → View I
   view_after_turn view turn = record view { seen = view.seen ++ turn ∷ []; waits = 0; served = 0 }
 
   -- pass 0 has drawn a number, which no seat has yet

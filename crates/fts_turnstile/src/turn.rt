@@ -3,7 +3,7 @@
 use std::collections::LinkedList;
 
 /// One turn: who took it, what it added, and what the value showed after it.
-pub struct Turn<I> {
+pub struct LoggedTurn<I> {
     /// The number of the pass that took the turn.
     pub number: u32,
     /// The items that it added, oldest first. There may be none.

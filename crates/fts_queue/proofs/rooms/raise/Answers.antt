@@ -1,7 +1,7 @@
 use Rattle.std.proofs.Common.{◌≡◌, ◌<◌, ◌∙◌, sym, ap, length, arith, cond, set, Bool, List}
 use Rattle.std.specs.Prelude.{insert}
 use Rattle.std.specs.List.{prefix_len}
-use Rattle.fts_queue.specs.declared.rooms.Room.{Room}
+use Rattle.fts_queue.specs.declared.rooms.QueueRoom.{QueueRoom}
 use Rattle.fts_queue.specs.WaitingData.{is_queue_before, is_room_of}
 use Rattle.fts_queue.proofs.QueueRooms.{new_room}
 use Rattle.fts_queue.proofs.Places.{raised_here, comes_in_here, get_or_any}
@@ -10,10 +10,10 @@ use Rattle.fts_queue.proofs.rooms.raise.Goals.{else-place-len-via-then-place-len
 
 pub returns-then-is_room_of : goal.returns-then-is_room_of
 returns-then-is_room_of c =
-    let here : Room = c.index_mut-room.result.now in
-    let rooms : List Room = c.args.rooms.now.items in
+    let here : QueueRoom = c.index_mut-room.result.now in
+    let rooms : List QueueRoom = c.args.rooms.now.items in
     let at = c.place_of-place.ensures.place
-    ∙ ap (prefix_len (λ (room : Room). is_queue_before room.link room.activity c.args.link c.args.activity)) c.as_slice.ensures.value in
+    ∙ ap (prefix_len (λ (room : QueueRoom). is_queue_before room.link room.activity c.args.link c.args.activity)) c.as_slice.ensures.value in
     let inside : c.place_of-place.result < length rooms = omega (arith, c.as_slice.ensures.len, ap length c.as_slice.ensures.value) in
     let same : c.index.result.now ≡ here =
     c.index.ensures ∙ (get_or_any rooms c.place_of-place.result c.index.result.now here inside ∙ sym c.index_mut-room.ensures.value) in
@@ -26,9 +26,9 @@ returns-then-is_room_of c =
 
 pub returns-else-place-len : goal.returns-else-place-len
 returns-else-place-len c =
-    let rooms : List Room = c.args.rooms.now.items in
+    let rooms : List QueueRoom = c.args.rooms.now.items in
     let at = c.place_of-place.ensures.place
-    ∙ ap (prefix_len (λ (room : Room). is_queue_before room.link room.activity c.args.link c.args.activity)) c.as_slice.ensures.value in
+    ∙ ap (prefix_len (λ (room : QueueRoom). is_queue_before room.link room.activity c.args.link c.args.activity)) c.as_slice.ensures.value in
     let ok = c.insert.ensures.succeeds c.requires.memory in
     record {
       rooms =

@@ -1,5 +1,5 @@
 use Rattle.std.proofs.Common.{◌≡◌, ◌+◌, ◌∙◌, sym, ap, subst, arith, List, ℕ}
-use Rattle.fts_queue.specs.declared.rooms.Room.{Room}
+use Rattle.fts_queue.specs.declared.rooms.QueueRoom.{QueueRoom}
 use Rattle.fts_queue.specs.WaitingData.{WaitingData, AreWaiting, AreQueuesInOrder, with_room, room_of}
 use Rattle.fts_queue.specs.Waiting.{waiting_data}
 use Rattle.fts_queue.proofs.QueueRooms.{waiting_raised, whole_raised, whole_room}
@@ -19,7 +19,7 @@ invariant_of-self-2 c =
     let rooms : c.raise.new.rooms.items ≡ with_room c.args.link c.args.activity wanted inside.rooms =
     c.raise.ensures.rooms ∙ ap (with_room c.args.link c.args.activity wanted) c.in_ok-reserve.ensures.items in
     record {
-      waiters = subst (λ (rooms : List Room). AreWaiting (record inside { rooms = rooms })) (sym rooms)
+      waiters = subst (λ (rooms : List QueueRoom). AreWaiting (record inside { rooms = rooms })) (sym rooms)
           (waiting_raised inside c.args.link c.args.activity wanted c.self.invariant.waiters);
       counted = c.self.invariant.counted;
       whole = omega (
