@@ -1,7 +1,7 @@
 -- No text that begins with a hyphen is a UUID's.
-use Rattle.std.proofs.Common.{◌≡◌, refl, ℕ, Bool, true, false, ◌&&◌, if◌then◌else◌, List, [], ◌∷◌, length, Option, Some, None}
-use Rattle.std.specs.Prelude.{◌==◌, slice_index, take, drop}
-use Rattle.uuid.specs.Text.{parsed, parsed_simple, parsed_hyphenated, parsed_braced, parsed_urn, digits_of, has_hyphens, has_urn_prefix}
+use Rattle.std.proofs.Common.{◌≡◌, refl, ℕ, Bool, true, false, ◌&&◌, if◌then◌else◌, List, ◌∷◌, length, Option, None}
+use Rattle.std.specs.Prelude.{◌==◌, slice_index}
+use Rattle.uuid.specs.Text.{parsed, parsed_simple, parsed_hyphenated, parsed_braced, parsed_urn, digits_of, has_hyphens}
 use Rattle.uuid.proofs.OnLiterals.{uuid_on_literals}
 
 -- where a test fails, whatever stands before it and behind it

@@ -5,7 +5,6 @@ use Rattle.std.proofs.lemmas.Bool.{leb-true}
 use Rattle.std.specs.List.{before_first, after_first}
 use Rattle.fts_tables.specs.SettingsData.{is_within, are_apart}
 use Rattle.fts_words.specs.Words.{IsInRange, AreTries, within, given_by, given_to_client, names_job, job_named, number_of, option_of, before_others, options_behind, has_value, is_equals, each_once, first_of, lanes_of, connections_of, port_of, number_given, tries_of, job_of, numbers_of, asked_with, asked_of, asked_in, command_named, is_same_option}
-use Rattle.fts_words.specs.declared.asked.Asked.{Asked}
 use Rattle.fts_words.specs.declared.asked.Command.{Command}
 use Rattle.fts_words.specs.declared.asked.Command.TheVariants.{Session, Show, Load, Serve, Submit, Query, Delete, Follow}
 use Rattle.fts_words.specs.declared.options.Given.{Given}

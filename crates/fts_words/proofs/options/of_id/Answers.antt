@@ -1,5 +1,5 @@
 -- A text that is no UUID names no job.
-use Rattle.std.proofs.Common.{◌≡◌, List, ℕ, Option, Some, None, refl, ap, sym, true, false, true≢false}
+use Rattle.std.proofs.Common.{◌≡◌, List, ℕ, Option, Some, None, refl, ap, sym, true≢false}
 use Rattle.std.specs.Prelude.{option_map}
 use Rattle.std.specs.Int.{from_be_bytes, w128}
 use Rattle.uuid.specs.Text.{parsed}
