@@ -137,8 +137,9 @@ class Made:
         opening = HEADER + b"".join(framed(body) for body in OPENING) + b"\0"
         stand, self.ends, self.shows = Stand(program, opening), [FIRST_GATE], [""]
         for number in range(3):
-            requests = [("POST /jobs", one_file(stand, f"data/{number}")), *BAN, ("POST /jobs", two_files(stand, number))]
-            requests += [(f"POST /jobs/{ID.format(2 * number + 3)}", {"params": {"priority": 5}}), *CANCELLATIONS[number]]
+            # the files of the second job wait for the end of the ban, so that a cancellation meets them
+            requests = [("POST /jobs", one_file(stand, f"data/{number}")), BAN, ("POST /jobs", two_files(stand, number))]
+            requests += [(f"POST /jobs/{ID.format(2 * number + 3)}", {"params": {"priority": 5}}), *CANCELLATIONS[number], END_OF_BAN]
             statuses, status = stand.session(*requests)
             shown = stand.show()
             if (statuses, status, shown[0]) != ([200] * len(requests), 0, 0) or "SUBMITTED" in shown[2] or "ACTIVE" in shown[2]:
@@ -161,7 +162,8 @@ class Made:
 
 
 CANCELLATIONS = [[(f"DELETE /jobs/{ID.format(3)}", None)], [(f"DELETE /jobs/{ID.format(5)}/files/7", None)], []]
-BAN = [("POST /ban/se", {"storage": B, "status": "wait"}), (f"DELETE /ban/se?storage={B}", None)]
+BAN = ("POST /ban/se", {"storage": B, "status": "wait"})
+END_OF_BAN = (f"DELETE /ban/se?storage={B}", None)
 
 
 def one_file(stand, name):

@@ -21,8 +21,8 @@ import time
 A, B = "https://a.example", "https://b.example"
 SETTINGS = f'vo = "demo"\nworkers = 4\n[[storage]]\nurl = "{A}"\n[[storage]]\nurl = "{B}"\n'
 SETTLED = ("FINISHED", "FAILED", "CANCELED")
-# seconds from a submission to a small file, and behind silent clients, who are let go after 10; percent of a processor of an idle service
-SOON, BEHIND_SILENT, IDLE = 5, 14, 5
+# seconds from a submission to a small file, and behind silent clients, of which all but one give way after 1; percent of a processor of an idle service
+SOON, BEHIND_SILENT, IDLE = 5, 4, 5
 # seconds until a service that was started takes connections
 LISTENS = 20
 

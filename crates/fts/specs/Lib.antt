@@ -1,3 +1,4 @@
 pub mod CommandLine
+pub mod Relief
 pub mod Settings
 pub mod Steps

@@ -14,6 +14,7 @@ ghost use Rattle.fts.specs.CommandLine.{stand_of, words_of, asks_service, exit_s
 
 mod accepting;
 mod outside;
+mod relief;
 #[cfg(test)]
 mod sockets;
 mod steps;
@@ -23,7 +24,7 @@ mod tcp_line;
 mod tests;
 
 use fts_disk::{Disk, FileDisk, MemoryDisk, SystemDisk};
-use fts_files::FileSystem;
+use fts_files::{FileSystem, SystemFiles};
 use fts_store::{FolderStore, MemoryStore, Store, StoredFile};
 use fts_tables::limits::{MAX_LANES, MAX_WORKERS};
 use fts_tables::{Clock, EndpointName, Items, Memory, PathKey, Place};
@@ -95,6 +96,9 @@ fn exit_status(ended: Result<Ending, Memory>) -> u8
     }
 }
 
+/// A store in a folder of the machine.
+type GridStore<'a> = FolderStore<SystemFiles<&'a HostRuntime>>;
+
 /// What one thread of the program has in hand.
 type RealHand<'a, E> = Hand<E, SystemClock<&'a HostRuntime>, PcgWords>;
 
@@ -103,7 +107,7 @@ fn hands_over<'a, E: Store + Drop>(
     rt: &'a HostRuntime,
     stores: Vec<E>,
 ) -> Result<Vec<RealHand<'a, E>>, Memory>
-    ensures { IfOk result (λ hands. length hands.items ≡ MAX_WORKERS) }
+    ensures { IfOk result (λ hands. length hands.items ≡ length stores.items) }
 {
     let moment = SystemClock::new(rt).now();
     let mut hands = Vec::new(rt.alloc());
@@ -119,19 +123,17 @@ fn hands_over<'a, E: Store + Drop>(
         }
         place = u64::saturating_add(place, 1);
     }
-    if hands.len() == HANDS {
-        Ok(hands)
-    } else {
-        Err(Memory)
-    }
+    Ok(hands)
 }
 
 /// Doors for each lane, which don't listen yet.
-fn closed_doors(rt: &HostRuntime) -> Result<Vec<TcpDoors<&HostRuntime>>, Memory> {
+fn closed_doors(rt: &HostRuntime) -> Result<Vec<TcpDoors<&HostRuntime>>, Memory>
+    ensures { IfOk result (λ doors. length doors.items ≡ MAX_LANES) }
+{
     let mut doors = Vec::new(rt.alloc());
     for _ in 0..LANES {
         if doors
-            .push(TcpDoors::new(rt, LineLimits::of_service()))
+            .push(TcpDoors::new(rt, rt.alloc(), LineLimits::of_service()))
             .is_err()
         {
             return Err(Memory);
@@ -148,7 +150,7 @@ fn lanes_over<'a, A: Doors + Drop>(
     rt: &'a HostRuntime,
     doors: Vec<A>,
 ) -> Result<Vec<RealLane<'a, A>>, Memory>
-    ensures { IfOk result (λ lanes. length lanes.items ≡ MAX_LANES) }
+    ensures { IfOk result (λ lanes. length lanes.items ≡ length doors.items) }
 {
     let mut lanes = Vec::new(rt.alloc());
     for doors in doors {
@@ -160,11 +162,7 @@ fn lanes_over<'a, A: Doors + Drop>(
             return Err(Memory);
         }
     }
-    if lanes.len() == LANES {
-        Ok(lanes)
-    } else {
-        Err(Memory)
-    }
+    Ok(lanes)
 }
 
 /// Runs the command over these settings, this disk and these hands, the system's streams and clock, and the ports of the machine.
@@ -185,6 +183,8 @@ fn run_over<
 ) -> Result<Ending, Memory>
 where
     A::Line: Send,
+    requires hands { length stores.items ≡ MAX_WORKERS }
+    requires lanes { length doors.items ≡ MAX_LANES }
 {
     let mut outside = Outside {
         settings,
@@ -218,6 +218,19 @@ fn stand_store(rt: &HostRuntime) -> Result<MemoryStore, Memory> {
     Ok(MemoryStore::new(alloc, files, Vec::new(alloc), Vec::new(alloc)))
 }
 
+/// A store in memory for each hand.
+fn stand_stores(rt: &HostRuntime) -> Result<Vec<MemoryStore>, Memory>
+    ensures { IfOk result (λ stores. length stores.items ≡ MAX_WORKERS) }
+{
+    let mut stores = Vec::new(rt.alloc());
+    for _ in 0..HANDS {
+        if stores.push(stand_store(rt)?).is_err() {
+            return Err(Memory);
+        }
+    }
+    Ok(stores)
+}
+
 /// Runs the command in memory, with the stand's settings.
 fn run_in_memory<R: Threads + Wait + Sync>(
     rt: &HostRuntime,
@@ -228,21 +241,24 @@ fn run_in_memory<R: Threads + Wait + Sync>(
     let text = Vec::from_slice(alloc, STAND_SETTINGS.as_bytes())?;
     let settings = MemorySource::new(text, Vec::new(alloc));
     let disk = MemoryDisk::new(alloc, Vec::new(alloc));
+    let stores = stand_stores(rt)?;
+    let doors = closed_doors(rt)?;
+    run_over(rt, threads, words, settings, disk, stores, doors)
+}
+
+/// A store in a stand's folder for each hand.
+fn folder_stores<'a>(rt: &'a HostRuntime, folder: &str) -> Result<Vec<GridStore<'a>>, Memory>
+    ensures { IfOk result (λ stores. length stores.items ≡ MAX_WORKERS) }
+{
+    let alloc = rt.alloc();
     let mut stores = Vec::new(alloc);
     for _ in 0..HANDS {
-        if stores.push(stand_store(rt)?).is_err() {
+        let grid = format!(in alloc; "{folder}/grid")?;
+        if stores.push(FolderStore::new(rt, alloc, grid)).is_err() {
             return Err(Memory);
         }
     }
-    run_over(
-        rt,
-        threads,
-        words,
-        settings,
-        disk,
-        stores,
-        closed_doors(rt)?,
-    )
+    Ok(stores)
 }
 
 /// Runs the command in a folder.
@@ -255,28 +271,15 @@ fn run_in_folder<R: Threads + Wait + Sync>(
     let alloc = rt.alloc();
     let settings = format!(in alloc; "{folder}/fts.toml")?;
     let journal = format!(in alloc; "{folder}/fts.journal")?;
-    let mut stores = Vec::new(alloc);
-    for _ in 0..HANDS {
-        let grid = format!(in alloc; "{folder}/grid")?;
-        if stores.push(FolderStore::new(rt, alloc, grid)).is_err() {
-            return Err(Memory);
-        }
-    }
+    let mut stores = folder_stores(rt, folder)?;
     let settings = StdSource::new(OpenedFile::open(rt, settings.as_str()));
     let mut disk = disk_for(rt, words, journal.as_str());
     if asks_service(words) && disk.len().is_ok() {
         sweep_parts(rt, folder)?;
         meet_endpoints(&mut stores)?;
     }
-    run_over(
-        rt,
-        threads,
-        words,
-        settings,
-        disk,
-        stores,
-        closed_doors(rt)?,
-    )
+    let doors = closed_doors(rt)?;
+    run_over(rt, threads, words, settings, disk, stores, doors)
 }
 
 /// Whether a service is asked for.

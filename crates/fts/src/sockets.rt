@@ -30,7 +30,7 @@ fn short_limits() -> LineLimits {
 
 /// Doors that listen on a free port, and the port.
 fn open_doors(rt: &HostRuntime, limits: LineLimits) -> Result<(Opened<'_>, u16), Fail> {
-    let mut doors = TcpDoors::new(rt, limits);
+    let mut doors = TcpDoors::new(rt, rt.alloc(), limits);
     match (doors.listen(0), doors.place()) {
         (Ok(()), Some(place)) => Ok((doors, place.port())),
         _ => Err(Fail::new("no port")),
@@ -242,7 +242,7 @@ fn a_kept_line_is_served_beyond_its_first_limit(rt: HostRuntime) -> Result<(), F
 #[test]
 fn a_client_that_closes_in_the_middle_harms_no_other(rt: HostRuntime) -> Result<(), Fail> {
     let (mut first, port) = open_doors(&rt, LineLimits::of_service())?;
-    let mut doors = TcpDoors::new(&rt, LineLimits::of_service());
+    let mut doors = TcpDoors::new(&rt, rt.alloc(), LineLimits::of_service());
     assert!(rt;
         doors.listen(port) == Err(DoorsFailed),
         "the port is in use"
@@ -258,6 +258,62 @@ fn a_client_that_closes_in_the_middle_harms_no_other(rt: HostRuntime) -> Result<
     other.shutdown(Shutdown::Write)?;
     let loaded = load_next(&rt, &mut doors)?;
     assert!(rt; loaded == Ok(true), "the other, by the doors that share");
+    Ok(())
+}
+
+const GET: &[u8] = b"GET /jobs HTTP/1.1\r\n\r\n";
+
+/// Serves a client of the doors that sends these bytes, a request and what comes behind it, and then stays silent, while another one connects.
+/// What the line is found to be then, and whether its first request was answered and the other one is served next.
+fn serve_beside_another(
+    rt: &HostRuntime,
+    bytes: &[u8],
+) -> Result<(Result<bool, WireFault>, bool), Fail> {
+    let (mut doors, port) = open_doors(rt, short_limits())?;
+    let mut room = Room::new(rt.alloc())?;
+    let mut kept = connect(rt, port)?;
+    kept.write_all(bytes)?;
+    let mut line = next_line(&mut doors)?;
+    let is_answered = room.load(&mut line) == Ok(true) && line.write(b"x").is_ok();
+    let mut other = connect(rt, port)?;
+    other.write_all(GET)?;
+    let found = room.load(&mut line);
+    doors.done(line);
+    let next = load_next(rt, &mut doors)?;
+    drop(kept);
+    drop(other);
+    Ok((found, is_answered && next == Ok(true)))
+}
+
+#[test]
+fn a_silent_line_gives_way_between_two_requests(rt: HostRuntime) -> Result<(), Fail> {
+    let (found, is_next) = serve_beside_another(&rt, GET)?;
+    assert!(rt; found == Ok(false), "the silent line is at its end");
+    assert!(rt; is_next, "and the connection that waited is the next one");
+    Ok(())
+}
+
+#[test]
+fn a_request_that_began_gives_way_to_none(rt: HostRuntime) -> Result<(), Fail> {
+    let rows: [(&str, &[u8]); 3] = [
+        ("its first byte came", b"GET /jobs HTTP/1.1\r\n\r\nG"),
+        (
+            "its head came",
+            b"GET /jobs HTTP/1.1\r\n\r\nPOST /jobs HTTP/1.1\r\nContent-Length: 2\r\n\r\n",
+        ),
+        (
+            "a part of its body came",
+            b"GET /jobs HTTP/1.1\r\n\r\nPOST /jobs HTTP/1.1\r\nContent-Length: 2\r\n\r\n{",
+        ),
+    ];
+    for (case, bytes) in rows {
+        let (found, is_next) = serve_beside_another(&rt, bytes)?;
+        assert!(rt;
+            found == Err(WireFault::SourceFailed),
+            "{case}: it is waited for"
+        );
+        assert!(rt; is_next, "{case}: the other is served behind it");
+    }
     Ok(())
 }
 

@@ -1,10 +1,12 @@
 //! What doors and lines decide by what the system answered. The socket loops carry it out and decide nothing else.
 //! Keeps: each is one function of its answer, with an equation over the system's own numbers (`specs/Steps.antt`).
 //! Called by `TcpDoors` and `TcpLine`.
-ghost use Rattle.std.specs.Prelude.{◌≡◌};
+ghost use Rattle.std.specs.Prelude.{◌≡◌, pos};
+ghost use Rattle.std.specs.Duration.{as_nanos};
 ghost use Rattle.std.specs.Net.Addr.{ipv4_octets};
-ghost use Rattle.fts.specs.Steps.{IsLeft, drains_on, is_end, loopback, may_send, untaken_by};
+ghost use Rattle.fts.specs.Steps.{IsLeft, IsOwnTime, drains_on, is_end, loopback, may_send, poll_millis, seen_by, untaken_by};
 
+use libc::net::POLLIN;
 use std::io::{self, ErrorKind};
 use std::net::Ipv4Addr;
 use std::time::Duration;
@@ -12,7 +14,7 @@ use std::time::Duration;
 /// What follows a connection that was not taken.
 #[derive(Clone, Copy, Debug, PartialEq, Eq)]
 pub enum Untaken {
-    /// It is gone, and the next one may be there.
+    /// It is gone, to another lane or altogether, and the next one may be there.
     Gone,
     /// None can be taken for now.
     NotYet,
@@ -26,7 +28,7 @@ pub fn untaken_by(errno: u32) -> Untaken
     ensures { result ≡ untaken_by errno }
 {
     match errno {
-        4 | 103 => Untaken::Gone,
+        4 | 11 | 103 => Untaken::Gone,
         9 | 22 | 88 => Untaken::NoListener,
         _ => Untaken::NotYet,
     }
@@ -69,4 +71,52 @@ pub fn may_send(is_at_end: bool, read_faults: u64, write_faults: u64) -> bool
     ensures { result ≡ may_send is_at_end read_faults write_faults }
 {
     !is_at_end && read_faults == 0 && write_faults == 0
+}
+
+/// What a look at a silent line, and at the listener beside it, found.
+#[derive(Clone, Copy, Debug, PartialEq, Eq)]
+pub enum Seen {
+    /// The line has something to be read, or a read will tell its fault.
+    Line,
+    /// The line has nothing, and a connection waits at the listener.
+    Waiting,
+    /// Neither came in time.
+    Nothing,
+}
+
+/// What a look found, by the system's answer: its count, negative where it failed, and the events of the line and of the listener.
+pub fn seen_by(count: i32, line: i16, listener: i16) -> Seen
+    ensures { result ≡ seen_by count line listener }
+{
+    if count < 0 || line != 0 {
+        Seen::Line
+    } else if listener == POLLIN {
+        Seen::Waiting
+    } else {
+        Seen::Nothing
+    }
+}
+
+/// The longest that a look may take, in milliseconds.
+const LOOK_MILLIS: u128 = 60_000;
+
+/// How long a look for this time is, in the system's milliseconds: rounded up, and a minute at most.
+pub fn poll_millis(wait: Duration) -> i32
+    ensures { result ≡ pos (poll_millis (as_nanos wait)) }
+{
+    let millis = wait.as_millis().min(LOOK_MILLIS - 1);
+    millis as i32 + 1
+}
+
+/// What is left of a line's own time, in which it gives way to none: nothing was answered on it, and no more than this has passed.
+pub fn own_time(has_answered: bool, own: Duration, passed: Duration) -> Option<Duration>
+    ensures { IsOwnTime has_answered own passed result }
+{
+    if has_answered {
+        return None;
+    }
+    match own.checked_sub(passed) {
+        Some(left) if !left.is_zero() => Some(left),
+        Some(_) | None => None,
+    }
 }

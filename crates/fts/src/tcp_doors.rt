@@ -1,15 +1,19 @@
 //! The real doors: connections to a port of 127.0.0.1, taken one by one from a listener that the lanes share.
 //! Keeps: a connection that is gone before it is taken, or can't be set up, is passed over, and want of descriptors or of memory is waited out, so
 //! that no client ends a lane. Only a listener that can't be had or isn't one makes a call fail, and each such failure is counted.
+//! Each line gets the doors' relief: while it is silent between two requests its lane takes the connection that waits, which then is the next one.
 //! Doors that wait for a connection sleep in the system. They never say that no more connections come, and tell nothing of lines. What follows of an
 //! error of an accept is in `accepting`, and which address is listened on in `steps`.
 ghost use Rattle.std.specs.Prelude.{◌≡◌, ◌↔◌, IfOk, IsOk, IsSome};
 ghost use Rattle.fts_tables.specs.Counts.{CountsFaults};
 
 use crate::accepting::{Listens, next_line};
+use crate::relief::{Relief, wait_at};
 use crate::steps::address;
 use crate::tcp_line::{LineLimits, TcpLine};
 use fts_top::{Doors, DoorsFailed};
+use std::alloc::Global;
+use std::io::ErrorKind;
 use std::net::{Net, SocketAddr, TcpListener, TcpStream};
 use std::rt::Clock as SystemTimes;
 use std::time::Duration;
@@ -22,8 +26,11 @@ const REST_MILLIS: u64 = 100;
 #[derive(Drop)]
 pub struct TcpDoors<R: Net<Listener = TcpListener, Stream = TcpStream> + SystemTimes + Copy> {
     rt: R,
+    alloc: Global,
     limits: LineLimits,
     listener: Option<TcpListener>,
+    /// That of the next line; the line that is out has it.
+    relief: Option<Relief>,
     out: u64,
     faults: u64,
 }
@@ -45,14 +52,30 @@ struct Listening<'a, R: SystemTimes + Copy> {
     rt: R,
     limits: LineLimits,
     listener: &'a TcpListener,
+    /// The connection that was taken while a line gave way.
+    taken: Option<TcpStream>,
+}
+
+impl<'a, R: SystemTimes + Copy> Listening<'a, R> {
+    /// The connection that was taken, or the next one.
+    fn stream(&mut self) -> io::Result<TcpStream> {
+        if let Some(stream) = self.taken.take() {
+            return Ok(stream);
+        }
+        if !wait_at(self.listener) {
+            return Err(io::Error::from(ErrorKind::Other));
+        }
+        let (stream, _) = self.listener.accept()?;
+        Ok(stream)
+    }
 }
 
 impl<'a, R: SystemTimes + Copy> Listens for Listening<'a, R> {
     type Line = TcpLine<R>;
 
     fn take(&mut self) -> Result<TcpLine<R>, u32> {
-        match self.listener.accept() {
-            Ok((stream, _)) => TcpLine::new(self.rt, stream, self.limits).map_err(|_| ABORTED),
+        match self.stream() {
+            Ok(stream) => TcpLine::new(self.rt, stream, self.limits).map_err(|_| ABORTED),
             Err(error) => Err(errno_of(&error)),
         }
     }
@@ -64,11 +87,13 @@ impl<'a, R: SystemTimes + Copy> Listens for Listening<'a, R> {
 
 impl<R: Net<Listener = TcpListener, Stream = TcpStream> + SystemTimes + Copy> TcpDoors<R> {
     /// Doors that don't listen yet, whose lines have these limits.
-    pub fn new(rt: R, limits: LineLimits) -> TcpDoors<R> {
+    pub fn new(rt: R, alloc: Global, limits: LineLimits) -> TcpDoors<R> {
         TcpDoors {
             rt,
+            alloc,
             limits,
             listener: None,
+            relief: None,
             out: 0,
             faults: 0,
         }
@@ -77,6 +102,17 @@ impl<R: Net<Listener = TcpListener, Stream = TcpStream> + SystemTimes + Copy> Tc
     /// The address and the port that they listen on.
     pub fn place(&self) -> Option<SocketAddr> {
         self.listener.as_ref()?.local_addr().ok()
+    }
+
+    /// This listener, at which no accept waits, with relief at it; none where either can't be had.
+    fn ready(&mut self, listener: Option<TcpListener>) -> Option<TcpListener>
+        ensures same { (self.new.out ≡ self.old.out) × (self.new.faults ≡ self.old.faults) }
+    {
+        let listener = listener?;
+        listener.set_nonblocking(true).ok()?;
+        let other = listener.try_clone().ok()?;
+        self.relief = Some(Relief::new(self.alloc, other).ok()?);
+        Some(listener)
     }
 
     /// Takes this listener, or counts a fault.
@@ -98,14 +134,22 @@ impl<R: Net<Listener = TcpListener, Stream = TcpStream> + SystemTimes + Copy> Tc
         }
     }
 
-    /// Waits for a connection.
-    fn accept(&self) -> Option<TcpLine<R>> {
+    /// Waits for a connection, if none was taken already.
+    fn accept(&mut self) -> Option<TcpLine<R>>
+        ensures same { (self.new.out ≡ self.old.out) × (self.new.faults ≡ self.old.faults) × (self.new.listener ≡ self.old.listener) }
+    {
         let listener = self.listener.as_ref()?;
-        next_line(&mut Listening {
+        let taken = match &mut self.relief {
+            Some(relief) => relief.take_next(),
+            None => None,
+        };
+        let line = next_line(&mut Listening {
             rt: self.rt,
             limits: self.limits,
             listener,
-        })
+            taken,
+        })?;
+        Some(line.relieved_by(self.relief.take()))
     }
 }
 
@@ -126,6 +170,7 @@ impl<R: Net<Listener = TcpListener, Stream = TcpStream> + SystemTimes + Copy> Do
 
     fn listen(&mut self, port: u16) -> Result<(), DoorsFailed> {
         let listener = TcpListener::bind(&self.rt, (address(), port)).ok();
+        let listener = self.ready(listener);
         self.take(listener)
     }
 
@@ -134,6 +179,7 @@ impl<R: Net<Listener = TcpListener, Stream = TcpStream> + SystemTimes + Copy> Do
             Some(listener) => listener.try_clone().ok(),
             None => None,
         };
+        let listener = self.ready(listener);
         self.take(listener)
     }
 
@@ -148,6 +194,6 @@ impl<R: Net<Listener = TcpListener, Stream = TcpStream> + SystemTimes + Copy> Do
 
     fn done(&mut self, line: TcpLine<R>) {
         self.out -= 1;
-        line.end();
+        self.relief = line.end();
     }
 }

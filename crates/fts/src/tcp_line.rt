@@ -2,19 +2,24 @@
 //! Keeps: no client holds its lane. A read or a write that waits too long fails, and so does a read for a request that isn't whole in time, however
 //! its bytes drip (`LineLimits`): the time of a request goes from the last response that was written whole, and no read and no failed write begins it
 //! anew (`read`, clause `since`). Each failure is counted, and is this line's alone.
+//! A line that is silent between two requests gives way to a connection that waits, as to the end of its input (`gives_way`, clause `between`);
+//! before its first request it has a time of its own. `relief` has how the connection is taken.
 //! Order of an end: where the client may still be sending, the writing side is shut, and what comes is taken in for a while; then it is closed.
 //! Else unread bytes would make the system reset the connection, and the last response could be lost.
 //! Made by `TcpDoors`. It tells nothing of bytes.
-ghost use Rattle.std.specs.Prelude.{◌≡◌, ◌≤◌, ◌<◌, length, None, IfOk, IsErr};
+ghost use Rattle.std.specs.Prelude.{◌≡◌, ◌≤◌, ◌<◌, length, None, true, IfOk, IsErr};
 ghost use Rattle.fts_tables.specs.Counts.{CountsFaults};
 ghost use Rattle.fts_wire.specs.Outside.{Reads, Writes, raised};
+ghost use Rattle.fts.specs.Relief.{MayEnd};
 ghost use Rattle.fts.specs.Steps.{is_end};
 
-use crate::steps::{drains_on, is_end, may_send, time_left};
+use crate::relief::{Met, Relief, look_at_line};
+use crate::steps::{Seen, drains_on, is_end, may_send, own_time, time_left};
 use fts_wire::{Sink, SinkFailed, Source, SourceFailed};
 use std::io;
 use std::io::{ErrorKind, Read, Write};
 use std::net::{Shutdown, TcpStream};
+use std::os::fd::AsRawFd;
 use std::rt::Clock as SystemTimes;
 use std::time::{Duration, Instant};
 
@@ -25,6 +30,8 @@ pub struct LineLimits {
     pub wait: Duration,
     /// How long a request may take, from the last response or the beginning of the line until it is whole.
     pub request: Duration,
+    /// How long a line that is silent from its beginning gives way to none.
+    pub own: Duration,
     /// How long what still comes is taken in at the end of a line.
     pub drain: Duration,
     /// How many bytes are taken in then.
@@ -36,6 +43,9 @@ const WAIT_SECONDS: u64 = 10;
 
 /// How long a request may take until it is whole, in seconds since the last response or the beginning of its line.
 const REQUEST_SECONDS: u64 = 60;
+
+/// How long a line that is silent from its beginning gives way to none, in seconds.
+const OWN_SECONDS: u64 = 1;
 
 /// How long what still comes is taken in at the end of a line, in seconds.
 const DRAIN_SECONDS: u64 = 5;
@@ -52,6 +62,7 @@ impl LineLimits {
         LineLimits {
             wait: Duration::from_secs(WAIT_SECONDS),
             request: Duration::from_secs(REQUEST_SECONDS),
+            own: Duration::from_secs(OWN_SECONDS),
             drain: Duration::from_secs(DRAIN_SECONDS),
             drain_bytes: DRAIN_BYTES,
         }
@@ -66,6 +77,12 @@ pub struct TcpLine<R: SystemTimes + Copy> {
     limits: LineLimits,
     /// When its last response was written, or when it began.
     since: Instant,
+    /// Whether a response was written.
+    has_answered: bool,
+    /// Whether a byte came since then.
+    is_asked: bool,
+    /// Who waits at the listener; a line without relief never gives way.
+    relief: Option<Relief>,
     /// Whether its input has ended.
     is_at_end: bool,
     reads: u64,
@@ -84,6 +101,9 @@ impl<R: SystemTimes + Copy> TcpLine<R> {
             stream,
             limits,
             since,
+            has_answered: false,
+            is_asked: false,
+            relief: None,
             is_at_end: false,
             reads: 0,
             read_faults: 0,
@@ -91,18 +111,83 @@ impl<R: SystemTimes + Copy> TcpLine<R> {
         })
     }
 
-    /// Reads, as long as the request may still take and one read may wait.
+    /// The same line, which gives way to connections that wait at this relief's listener.
+    pub fn relieved_by(mut self, relief: Option<Relief>) -> TcpLine<R> {
+        self.relief = relief;
+        if let Some(relief) = &mut self.relief {
+            relief.begin();
+        }
+        self
+    }
+
+    /// Waits for the next request of a silent line. `true` where a connection was taken that waited, and this line gives way.
+    fn gives_way(&mut self) -> io::Result<bool>
+        ensures same { (self.new.reads ≡ self.old.reads) × (self.new.read_faults ≡ self.old.read_faults) × (self.new.write_faults ≡ self.old.write_faults) }
+        ensures since { self.new.since ≡ self.old.since }
+        ensures between { IfOk result (λ way. way ≡ true → MayEnd self.old.relief) }
+    {
+        let Some(relief) = &mut self.relief else {
+            return Ok(false);
+        };
+        if self.is_asked || !relief.is_between() {
+            return Ok(false);
+        }
+        let (line, limits) = (self.stream.as_raw_fd(), self.limits);
+        let start = Instant::now(&self.rt)?;
+        for _ in 0..u64::MAX {
+            let silent = start.elapsed(&self.rt)?;
+            let left = time_left(limits.wait, silent)?.min(time_left(
+                limits.request,
+                self.since.elapsed(&self.rt)?,
+            )?);
+            let seen = match own_time(self.has_answered, limits.own, silent) {
+                Some(own) => look_at_line(line, left.min(own)),
+                None => relief.look(line, left),
+            };
+            match seen {
+                Seen::Line => return Ok(false),
+                Seen::Nothing => {}
+                Seen::Waiting => match relief.meet(line) {
+                    Met::GoesOn => return Ok(false),
+                    Met::Taken => return Ok(true),
+                    Met::Gone => {}
+                },
+            }
+        }
+        Ok(false)
+    }
+
+    /// Reads, as long as the request may still take and one read may wait. A line that gives way is at its end.
     fn read_in_time(&mut self, into: &mut [u8]) -> io::Result<usize>
         ensures bound { IfOk result (λ n. n ≤ length into.new) }
         ensures faults { (self.new.reads ≡ self.old.reads) × (self.new.read_faults ≡ self.old.read_faults) × (self.new.write_faults ≡ self.old.write_faults) }
         ensures since { self.new.since ≡ self.old.since }
         ensures end { IfOk result (λ n. self.new.is_at_end ≡ is_end n (length into.old)) }
     {
+        let n = if self.gives_way()? {
+            0
+        } else {
+            self.read_line(into)?
+        };
+        self.is_at_end = is_end(n, into.len());
+        Ok(n)
+    }
+
+    /// Reads what the client sends, and notes it.
+    fn read_line(&mut self, into: &mut [u8]) -> io::Result<usize>
+        ensures bound { IfOk result (λ n. n ≤ length into.new) }
+        ensures room { length into.new ≡ length into.old }
+        ensures same { (self.new.reads ≡ self.old.reads) × (self.new.read_faults ≡ self.old.read_faults) × (self.new.write_faults ≡ self.old.write_faults) }
+        ensures since { self.new.since ≡ self.old.since }
+    {
         let left = time_left(self.limits.request, self.since.elapsed(&self.rt)?)?;
         self.stream
             .set_read_timeout(Some(left.min(self.limits.wait)))?;
         let n = read_once(&mut self.stream, into)?;
-        self.is_at_end = is_end(n, into.len());
+        self.is_asked = self.is_asked || n > 0;
+        if let Some(relief) = &mut self.relief {
+            relief.note(&into[..n]);
+        }
         Ok(n)
     }
 
@@ -114,15 +199,18 @@ impl<R: SystemTimes + Copy> TcpLine<R> {
     {
         write_whole(&self.rt, &mut self.stream, bytes, self.limits.wait)?;
         self.since = Instant::now(&self.rt)?;
+        self.has_answered = true;
+        self.is_asked = false;
         Ok(self.since)
     }
 
-    /// Ends the connection. A client that may still be sending can read its last response to the end.
-    pub fn end(mut self) {
+    /// Ends the connection, and hands its relief back. A client that may still be sending can read its last response to the end.
+    pub fn end(mut self) -> Option<Relief> {
         if may_send(self.is_at_end, self.read_faults, self.write_faults) {
             // Whatever comes of it, the line is closed, and nobody is left to be told.
             let _drained = self.drain();
         }
+        self.relief
     }
 
     /// Shuts the writing side, and takes in what comes until the client ends too, for a bounded time and number of bytes.

@@ -196,7 +196,12 @@ fn a_refused_accept_ends_no_lane_that_has_a_listener(rt: HostRuntime) -> Result<
         ("aborted, and a signal", &[103, 4], Some(3), 0),
         ("no descriptors", &[24, 23], Some(3), 2),
         ("no memory", &[12, 105], Some(3), 2),
-        ("others", &[71, 11], Some(3), 2),
+        (
+            "others, and one that another lane took",
+            &[71, 11],
+            Some(3),
+            1,
+        ),
         ("all of them", &[103, 24, 4, 23, 103], Some(6), 2),
         ("no handle", &[9, 0], None, 0),
         ("no socket, behind a rest", &[24, 88, 0], None, 1),

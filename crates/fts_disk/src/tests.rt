@@ -300,8 +300,8 @@ fn zeros_are_written_and_synced_before_a_file_grows(rt: HostRuntime) {
         ("a whole block", 8, 8, "wwwwwwwwwwwwwwwwsw"),
         (
             "no further than a journal goes",
-            67_108_860,
-            67_108_860,
+            1_073_741_820,
+            1_073_741_820,
             "wsw",
         ),
         ("far behind the end", 8, 1_000_000, "w"),

@@ -7,3 +7,4 @@ pub mod Checks
 pub mod Ends
 pub mod Documents
 pub mod Bans
+pub mod Sids

@@ -1,8 +1,8 @@
 //! Job documents: a request's body, read as a new job or refused by the least broken of 25 rules; the priority or the ban that another body
 //! asks for; and the id that a client's own id stands for. JSON (RFC 8259) is what `serde_json` reads, a URL what `fts_joburl` reads.
 //! Each answer is one function of the body and the settings: `job_of`, `priority_of` (`specs/Documents.antt`), `ban_of` (`specs/Bans.antt`),
-//! `sid_id` (`specs/Ids.antt`).
-//! Called by fts_routes, for the bodies of its requests, and by trials. Nothing here knows of HTTP, or of the rows that a job becomes.
+//! `sid_of` (`specs/Sids.antt`), `sid_id` (`specs/Ids.antt`).
+//! Called by fts_routes, for the bodies of its requests, by clients, and by trials. Nothing here knows of HTTP, or of the rows that a job becomes.
 #![tactic(auto)]
 
 mod ban;
@@ -15,8 +15,10 @@ mod job;
 mod json;
 mod params;
 mod rules;
+mod sid;
 
 pub use ban::{BanAsk, BanFault, read_ban, read_storage};
 pub use fault::{DocFault, Unoffered};
 pub use ids::sid_id;
 pub use job::{read_job, read_priority};
+pub use sid::read_sid;

@@ -6,6 +6,7 @@ ghost use Rattle.serde_json.specs.View.{view};
 ghost use Rattle.fts_tables.specs.FirstFault.{fault_if, first_fault, unless};
 ghost use Rattle.fts_jobdoc.specs.Documents.{shape_rules, ends_rules, files_rules, params_rules, kind_rules, later_rules, priority_rules, has_replicas_among, has_wrong_hops};
 ghost use Rattle.fts_jobdoc.specs.Fields.{unoffered_in};
+ghost use Rattle.fts_jobdoc.specs.Sids.{sid_rules};
 
 use crate::DocFault;
 use crate::ends::{FileEnds, breaks_chain, some_has_same_url, some_has_unknown_endpoint};
@@ -148,4 +149,14 @@ pub fn check_priority_document(document: &Value) -> Result<(), DocFault>
     refuse_if(!is_object(document), DocFault::NotObject)?;
     refuse_if(has_wrong_params(document), DocFault::ParamsNotObject)?;
     refuse_if(lacks_priority(document), DocFault::BadPriority)
+}
+
+/// The rules of a document as a client looks at it, which sends it under an own id: 2, 16 and 24.
+#[tactic(auto, unfolding(crate::specs::Sids::sid_rules))]
+pub fn check_sid_document(document: &Value) -> Result<(), DocFault>
+    ensures { result ≡ unless (first_fault (sid_rules (view document.now))) tt }
+{
+    refuse_if(!is_object(document), DocFault::NotObject)?;
+    refuse_if(has_wrong_params(document), DocFault::ParamsNotObject)?;
+    refuse_if(has_bad_sid(document), DocFault::BadSid)
 }

@@ -9,4 +9,5 @@ pub mod Folded
 pub mod Settled
 pub mod Starting
 pub mod Applying
+pub mod Looking
 pub mod Ending

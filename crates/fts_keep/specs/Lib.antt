@@ -7,3 +7,4 @@ pub mod Ending
 pub mod Folding
 pub mod Opening
 pub mod Started
+pub mod Looking

@@ -9,6 +9,7 @@ ghost use Rattle.fts_record.specs.Proper.{has_priority};
 ghost use Rattle.fts_keep.specs.Applied.{Applied, AppliesSafely, DoubtIsOwn, entry_by};
 ghost use Rattle.fts_keep.specs.Ending.{KeepsFirstLimit, LeavesRoom, IsNotFull, StaysFilled};
 ghost use Rattle.fts_keep.specs.Started.{Started, Viewed};
+ghost use Rattle.fts_keep.specs.Looking.{GivesEntry};
 
 use crate::KeepFault;
 use crate::accepting::accept;
@@ -53,7 +54,7 @@ impl<D: Disk> Model for Keep<D> {
 }
 
 impl<D: Disk> Keep<D> {
-    ghost use Rattle.std.specs.Prelude.{◌≡◌, ◌≢◌, [], IsSome, IfOk, IfErr, IsTrue, Ok, Err};
+    ghost use Rattle.std.specs.Prelude.{◌≡◌, ◌≢◌, ◌<◌, [], IsSome, IfOk, IfErr, IsTrue, Ok, Err};
     ghost use Rattle.fts_disk.specs.Disk.{IsTold};
     ghost use Rattle.fts_keep.specs.Keeps.{with_doubt, IsOver, IsKeep, Grows, DoubtHasCause, KeepsImagesSinceAny};
 
@@ -135,6 +136,19 @@ impl<D: Disk> Keep<D> {
         ensures { result ≡ self.now.used }
     {
         self.journal.used()
+    }
+
+    /// Puts the spelling of the n-th entry, from 0, in the place of what is there: by one read, wherever the entry stands.
+    /// Nothing is written, and list, tables and doubt stay. `DiskFailed` comes only where the disk counted a failure in this call, and else `Memory`
+    /// alone; the buffer may then hold anything.
+    pub fn entry_bytes(&mut self, n: u32, into: &mut Vec<u8>) -> Result<(), KeepFault>
+        requires { n < self.old.commands }
+        ensures { GivesEntry D.state D.faults self.old self.new n into.new.items result }
+    {
+        // The bytes that are used are those of the bodies.
+        self.journal.used();
+        self.journal.body(n as usize, into)?;
+        Ok(())
     }
 
     /// The disk, given back.

@@ -6,5 +6,7 @@ mod EligibleLists
 mod Drawn
 mod Picks
 mod Worked
+mod StepIds
+pub mod SubmissionLists
 pub mod Cut
 pub mod Standing

@@ -98,7 +98,7 @@ inbound_max_active = 10
 outbound_max_active = 40
 
 [[storage]]
-url = \"https://b.example:8443\"
+url = \"https://b.example\"
 
 [[storage]]
 url = \"root://c.example:1094/\"
@@ -106,7 +106,7 @@ url = \"root://c.example:1094/\"
 [[link]]
 symbolicname = \"a-to-b\"
 source = \"https://a.example\"
-destination = \"https://b.example:8443\"
+destination = \"https://b.example\"
 max_active = 20
 
 [[activity]]
@@ -123,7 +123,7 @@ fn the_example_gives_its_settings(rt: HostRuntime) -> Result<(), Fail> {
     let settings = read_settings(rt.alloc(), EXAMPLE.as_bytes())?;
     let line = shown(rt.alloc(), &settings)?;
     let want =
-        "demo 8 5, https://a.example 10 40, https://b.example:8443 20 20, root://c.example:1094 20 20, a-to-b https://a.example https://b.example:8443 20, default 1, production 9,";
+        "demo 8 5, https://a.example 10 40, https://b.example 20 20, root://c.example:1094 20 20, a-to-b https://a.example https://b.example 20, default 1, production 9,";
     assert!(rt; line.as_str() == want, "the example's settings");
     Ok(())
 }

@@ -5,9 +5,9 @@ ghost use Rattle.std.specs.Prelude.{◌≡◌, ◌∷◌, [], ◌++◌, IfOk, On
 
 use crate::jobdoc_cases::{
     ABC, BANS, BODIES, BodyCase, EXAMPLES, FIELDS, HOURS, KINDS, MULTIHOP, PARAMETERS, PRIORITIES,
-    PairCase, URLS, WITH_CHECKSUM,
+    PairCase, SIDS, URLS, WITH_CHECKSUM,
 };
-use fts_jobdoc::{read_ban, read_job, read_priority, read_storage, sid_id};
+use fts_jobdoc::{read_ban, read_job, read_priority, read_sid, read_storage, sid_id};
 use fts_tables::{
     Endpoint, EndpointName, Items, Label, Memory, NewFile, NewJob, Place, Settings, Weight,
 };
@@ -360,6 +360,22 @@ fn a_sid_makes_the_id_that_another_program_makes(rt: HostRuntime) -> Result<(), 
         "a document's sid"
     );
     Ok(())
+}
+
+/// Whether a client reads this own id in a document, or is refused by this rule with this message.
+fn is_sid(alloc: Global, body: &str, sid: &str, rule: u32, message: &str) -> bool {
+    match read_sid(alloc, body.as_bytes()) {
+        Ok(found) => rule == 0 && found.as_str() == sid,
+        Err(fault) => fault.rule() == rule && fault.message() == message,
+    }
+}
+
+#[test]
+fn an_own_id_is_read_before_the_document_is_sent(rt: HostRuntime) {
+    for (case, body, sid, rule, message) in SIDS {
+        let is_read = is_sid(rt.alloc(), body, sid, rule, message);
+        assert!(rt; is_read, "{case}");
+    }
 }
 
 /// What a body asks for, and the rule and message of its refusal.

@@ -18,13 +18,13 @@ pub const SEVERAL_FILES: &str =
     "{\"files\":[{\"sources\":[\"https://a.example/data/f1\"],\"destinations\":[\"https://b.example/f1\"],\"filesize\":3},{\"sources\":[\"https://a.example/data/f2\"],\"destinations\":[\"https://b.example/f2\"],\"activity\":\"production\"}],\"params\":{\"retry\":3,\"retry_delay\":60,\"priority\":5,\"overwrite\":true}}";
 
 pub const WITH_CHECKSUM: &str =
-    "{\"files\":[{\"sources\":[\"https://a.example/data/f1\"],\"destinations\":[\"https://b.example/f1\"],\"checksum\":\"MD5:900150983cd24fb0d6963f7d28e17f72\",\"filesize\":3}],\"params\":{\"verify_checksum\":\"both\"}}";
+    "{\"files\":[{\"sources\":[\"https://a.example/data/f1\"],\"destinations\":[\"https://b.example/checked\"],\"checksum\":\"MD5:900150983cd24fb0d6963f7d28e17f72\",\"filesize\":3}],\"params\":{\"verify_checksum\":\"both\"}}";
 
 pub const REPLICAS: &str =
-    "{\"files\":[{\"sources\":[\"https://a.example/data/f1\",\"https://a.example/copies/f1\"],\"destinations\":[\"https://b.example/f1\"],\"selection_strategy\":\"orderly\"}]}";
+    "{\"files\":[{\"sources\":[\"https://a.example/data/f1\",\"https://a.example/copies/f1\"],\"destinations\":[\"https://b.example/nearest\"],\"selection_strategy\":\"orderly\"}]}";
 
 pub const MULTIHOP: &str =
-    "{\"files\":[{\"sources\":[\"https://a.example/data/f1\"],\"destinations\":[\"https://b.example/f1\"]},{\"sources\":[\"https://b.example/f1\"],\"destinations\":[\"https://a.example/back/f1\"]}],\"params\":{\"multihop\":true,\"id_generator\":\"deterministic\",\"sid\":\"f1 there and back\"}}";
+    "{\"files\":[{\"sources\":[\"https://a.example/data/f1\"],\"destinations\":[\"https://b.example/hop\"]},{\"sources\":[\"https://b.example/hop\"],\"destinations\":[\"https://a.example/back/f1\"]}],\"params\":{\"multihop\":true,\"id_generator\":\"deterministic\",\"sid\":\"f1 there and back\"}}";
 
 /// As clients of the field send it, with every field that they have.
 pub const ORDINARY: &str =
@@ -693,17 +693,17 @@ pub const EXAMPLES: [(&str, &str, &str); 6] = [
     (
         "a digest to be verified",
         WITH_CHECKSUM,
-        "Plain Auto 3 0 0\n0 https://a.example/data/f1 https://b.example/f1 3 default\n",
+        "Plain Auto 3 0 0\n0 https://a.example/data/f1 https://b.example/checked 3 default\n",
     ),
     (
         "two replicas",
         REPLICAS,
-        "Replica Orderly 3 0 0\n0 https://a.example/data/f1 https://b.example/f1 0 default\n0 https://a.example/copies/f1 https://b.example/f1 0 default\n",
+        "Replica Orderly 3 0 0\n0 https://a.example/data/f1 https://b.example/nearest 0 default\n0 https://a.example/copies/f1 https://b.example/nearest 0 default\n",
     ),
     (
         "two hops",
         MULTIHOP,
-        "Multihop Auto 3 0 0\n0 https://a.example/data/f1 https://b.example/f1 0 default\n1 https://b.example/f1 https://a.example/back/f1 0 default\n",
+        "Multihop Auto 3 0 0\n0 https://a.example/data/f1 https://b.example/hop 0 default\n1 https://b.example/hop https://a.example/back/f1 0 default\n",
     ),
     (
         "every field that clients send",
@@ -734,4 +734,73 @@ pub const PRIORITIES: [(&str, &str, (u32, u32, &str)); 8] = [
     ),
     ("a number", "5", (0, 2, "not an object")),
     ("nothing", "", (0, 1, "not JSON")),
+];
+
+/// A sentence, a document, the own id that a client reads in it, and the rule and message of the refusal.
+pub type SidCase = (&'static str, &'static str, &'static str, u32, &'static str);
+
+/// Documents whose own id is read before they are sent.
+pub const SIDS: [SidCase; 14] = [
+    ("an example", MULTIHOP, "f1 there and back", 0, ""),
+    (
+        "what else the document has isn't looked at",
+        "{\"files\":0,\"params\":{\"id_generator\":\"deterministic\",\"sid\":\"a1\",\"retry\":99}}",
+        "a1",
+        0,
+        "",
+    ),
+    (
+        "an id that the service makes",
+        "{\"params\":{\"id_generator\":\"standard\",\"sid\":\"a1\"}}",
+        "",
+        24,
+        "bad sid",
+    ),
+    (
+        "a sid, and nothing of how the id is made",
+        "{\"params\":{\"sid\":\"a1\"}}",
+        "",
+        24,
+        "bad sid",
+    ),
+    ("an example without one", ONE_FILE, "", 24, "bad sid"),
+    ("an ordinary document", ORDINARY, "", 24, "bad sid"),
+    (
+        "another way to make ids",
+        "{\"params\":{\"id_generator\":\"random\",\"sid\":\"a1\"}}",
+        "",
+        24,
+        "bad sid",
+    ),
+    (
+        "no sid",
+        "{\"params\":{\"id_generator\":\"deterministic\"}}",
+        "",
+        24,
+        "bad sid",
+    ),
+    (
+        "an empty sid",
+        "{\"params\":{\"id_generator\":\"deterministic\",\"sid\":\"\"}}",
+        "",
+        24,
+        "bad sid",
+    ),
+    (
+        "a number for the sid",
+        "{\"params\":{\"id_generator\":\"deterministic\",\"sid\":1}}",
+        "",
+        24,
+        "bad sid",
+    ),
+    (
+        "a list for the parameters",
+        "{\"params\":[]}",
+        "",
+        16,
+        "params is not an object",
+    ),
+    ("a list", "[]", "", 2, "not an object"),
+    ("an object that doesn't end", "{", "", 1, "not JSON"),
+    ("nothing", "", "", 1, "not JSON"),
 ];

@@ -15,3 +15,7 @@ pub mod Stable
 pub mod Values
 pub mod WholeInput
 pub mod Worked
+pub mod ReadResponses
+pub mod LengthDigits
+pub mod AnswerHeads
+pub mod AnswerPieces

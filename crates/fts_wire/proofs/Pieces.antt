@@ -49,7 +49,7 @@ AreRead-push kept [] piece each one = (subst (λ xs. IsRead xs piece) (append-ni
 AreRead-push kept (first ∷ pieces) piece each one =
     (each.0, AreRead-push (kept ++ first) pieces piece each.1 (subst (λ xs. IsRead xs piece) (sym (append_assoc kept first (concat pieces))) one))
 
-concat-push : (pieces : List (List ℕ)) (piece : List ℕ) → concat (pieces ++ piece ∷ []) ≡ concat pieces ++ piece
+pub concat-push : (pieces : List (List ℕ)) (piece : List ℕ) → concat (pieces ++ piece ∷ []) ≡ concat pieces ++ piece
 concat-push pieces piece = concat-append pieces (piece ∷ []) ∙ ap (λ xs. concat pieces ++ xs) (append-nil piece)
 
 -- nothing is taken at first, by no read

@@ -15,3 +15,7 @@ pub mod Taken
 pub mod Answered
 pub mod Response
 pub mod ReadAll
+pub mod NextAnswers
+pub mod AnswerRoom
+pub mod AnswerLook
+pub mod AnswerTaken

@@ -21,7 +21,7 @@ const SHORT_BYTES: usize = 4_096;
 const ONE_PIECE_BYTES: usize = 65_536;
 
 /// More than the longest head.
-const HEAD_BYTES: usize = 400;
+pub const HEAD_BYTES: usize = 400;
 
 /// The methods that a refusal of a method names.
 #[derive(Clone, Copy, Debug, PartialEq, Eq)]
@@ -117,7 +117,7 @@ fn joined<const N: usize>(head: &ArrayString<HEAD_BYTES>, body: &[u8]) -> ArrayV
 }
 
 /// The head of a response with a body of this length.
-fn response_head(status: u16, n: usize, allow: Allow, close: bool) -> ArrayString<HEAD_BYTES>
+pub fn response_head(status: u16, n: usize, allow: Allow, close: bool) -> ArrayString<HEAD_BYTES>
     requires phrase { IsTrue (has_phrase status) }
     ensures { result.bytes ≡ head_of status n allow close }
 {
@@ -137,7 +137,7 @@ fn response_head(status: u16, n: usize, allow: Allow, close: bool) -> ArrayStrin
 }
 
 /// The phrase of a status.
-fn phrase(status: u16) -> &'static str
+pub fn phrase(status: u16) -> &'static str
     requires { IsTrue (has_phrase status) }
     ensures phrase { result.now ≡ phrase_of status }
     ensures short { length result.now ≤ 40 }

@@ -1,0 +1,9 @@
+-- Both clauses of the law, by the tries one after the other.
+use Rattle.fts_client.proofs.CountedDials.{all_dials, all_back}
+use Rattle.fts_client.proofs.tries.each_try_is_a_dial.Goals as goal
+
+pub returns : goal.returns
+returns g c = record {
+  dials = λ read written request old new faults_old faults_new tries tried. all_dials read written request old new faults_old faults_new tries tried;
+  back = λ read written request old new faults_old faults_new tries tried. all_back read written request old new faults_old faults_new tries tried;
+}

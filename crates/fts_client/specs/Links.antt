@@ -1,0 +1,40 @@
+-- Links: where a client's lines come from, each for one try, and what each call makes of a link.
+use Rattle.std.specs.Prelude.{◌≡◌, ◌⊎◌, ℕ, ◌+◌, ◌-◌, ◌≤◌, List, [], ◌∷◌, ◌++◌, Option, Some, None, option_map, Result, Ok, Err}
+use Rattle.fts_tables.specs.Counts.{Rose}
+use Rattle.fts_wire.specs.Outside.{raised}
+
+-- what is known of a link: the lines to come and those that came back, where they are told, how many are out, and how often it was dialed
+pub record LinkData (L : Type 0) : Type 0 where
+  pub coming : Option (List L)
+  pub back : Option (List L)
+  pub out : ℕ
+  pub dials : ℕ
+
+-- a link that was dialed once more
+abbrev pub dialed : {L : Type 0} → LinkData L → LinkData L
+dialed link = record link { dials = raised link.dials 1 }
+
+-- a dialed link that gave a line: one more is out, and the lines to come are these
+abbrev pub given_out : {L : Type 0} → LinkData L → Option (List L) → LinkData L
+given_out link coming = record link { coming = coming; out = link.out + 1; dials = raised link.dials 1 }
+
+-- the first of the lines to come was given, where they are told
+abbrev pub GivesFirst : {L : Type 0} → LinkData L → LinkData L → L → Option (List L) → Type 0
+GivesFirst old new line None = new ≡ given_out old None
+GivesFirst old new line (Some []) = ⊥
+GivesFirst old new line (Some (first ∷ others)) = (line ≡ first) × (new ≡ given_out old (Some others))
+
+-- what a dial does: it gives the first line to come, or it fails and leaves the lines; it counts in both cases
+abbrev pub Dials : {L E : Type 0} → LinkData L → LinkData L → Result L E → Type 0
+Dials old new (Ok line) = GivesFirst old new line old.coming
+Dials old new (Err fault) = new ≡ dialed old
+
+-- a link to which a line came back
+abbrev pub with_one_back : {L : Type 0} → LinkData L → L → LinkData L
+with_one_back link line = record link { back = option_map (λ lines. lines ++ line ∷ []) link.back; out = link.out - 1 }
+
+-- How a link's count of faults goes on where a line comes back whose source and sink have failed so often: it rises exactly where one of them has.
+pub record CountsLine (old new source sink : ℕ) : Type 0 where
+  pub keeps : old ≤ new
+  pub rises : (1 ≤ source) ⊎ (1 ≤ sink) → Rose old new
+  pub stays : source ≡ 0 → sink ≡ 0 → new ≡ old

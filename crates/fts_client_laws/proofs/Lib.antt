@@ -1,0 +1,6 @@
+mod OwnIds
+mod HeardJobs
+mod Answering
+mod HeardReplies
+mod RequestsRead
+mod RequestRows

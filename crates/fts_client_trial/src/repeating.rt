@@ -1,0 +1,508 @@
+//! Submissions and queries over links in memory. A row is a sentence, what the lines answer in order, and the end that is wanted.
+//! Ends and texts are those of `docs/API.md`; the id is that of another program.
+ghost use Rattle.std.specs.Prelude.{◌≡◌, ◌≤◌, false, IfOk};
+ghost use Rattle.fts_client.specs.MemoryLinks.{has_failed};
+
+use fts_client::{Link, MemoryLink, QueryEnd, SubmitEnd, query, submit};
+use fts_wire::{AnswerRoom, MemoryLine, MemorySink, MemorySource, Sink};
+use std::alloc::Global;
+use std::test::Fail;
+
+const PORT: u16 = 8080;
+
+/// The number of a call that never comes.
+const NEVER: u64 = 1_000_000;
+
+/// A number of a dial that never comes.
+const NO_DIAL: u32 = 1_000_000;
+
+/// 8b35c5cc-fec2-5479-8778-9cbe6f137978.
+const JOB: u128 = 0x8b35_c5cc_fec2_5479_8778_9cbe_6f13_7978;
+
+const DOCUMENT: &str =
+    "{\"files\":[{\"sources\":[\"https://a.example/data/f1\"],\"destinations\":[\"https://b.example/f1\"]}],\"params\":{\"id_generator\":\"deterministic\",\"sid\":\"f1\"}}";
+
+const REQUEST: &str =
+    "POST /jobs HTTP/1.1\r\nHost: 127.0.0.1:8080\r\nContent-Length: 146\r\nConnection: close\r\n\r\n{\"files\":[{\"sources\":[\"https://a.example/data/f1\"],\"destinations\":[\"https://b.example/f1\"]}],\"params\":{\"id_generator\":\"deterministic\",\"sid\":\"f1\"}}";
+
+const QUERY: &str =
+    "GET /jobs/8b35c5cc-fec2-5479-8778-9cbe6f137978 HTTP/1.1\r\nHost: 127.0.0.1:8080\r\nConnection: close\r\n\r\n";
+
+const CREATED: &str =
+    "HTTP/1.1 200 OK\r\nContent-Type: application/json\r\nContent-Length: 49\r\nConnection: close\r\n\r\n{\"job_id\":\"8b35c5cc-fec2-5479-8778-9cbe6f137978\"}";
+
+const DUPLICATE: &str =
+    "HTTP/1.1 409 Conflict\r\nContent-Type: application/json\r\nContent-Length: 94\r\nConnection: close\r\n\r\n{\"job_id\":\"8b35c5cc-fec2-5479-8778-9cbe6f137978\",\"message\":\"duplicate\",\"rule\":34,\"status\":409}";
+
+const NOT_FOUND: &str =
+    "HTTP/1.1 404 Not Found\r\nContent-Type: application/json\r\nContent-Length: 43\r\nConnection: close\r\n\r\n{\"message\":\"no job\",\"rule\":31,\"status\":404}";
+
+const NOT_JSON: &str =
+    "HTTP/1.1 400 Bad Request\r\nContent-Type: application/json\r\nContent-Length: 44\r\nConnection: close\r\n\r\n{\"message\":\"not JSON\",\"rule\":1,\"status\":400}";
+
+const DISK_FAILED: &str =
+    "HTTP/1.1 503 Service Unavailable\r\nContent-Type: application/json\r\nContent-Length: 48\r\nConnection: close\r\n\r\n{\"message\":\"disk failed\",\"rule\":35,\"status\":503}";
+
+const NO_MEMORY: &str =
+    "HTTP/1.1 500 Internal Server Error\r\nContent-Type: application/json\r\nContent-Length: 0\r\nConnection: close\r\n\r\n";
+
+const CUT: &str = "HTTP/1.1 200 OK\r\nCon";
+
+const DONE: SubmitEnd = SubmitEnd::Done {
+    job: JOB,
+    again: false,
+};
+
+const DONE_AGAIN: SubmitEnd = SubmitEnd::Done {
+    job: JOB,
+    again: true,
+};
+
+/// A line that answers this, and whose read and write of these numbers fail.
+fn line(alloc: Global, answer: &str, read: u64, write: u64) -> Result<MemoryLine, Fail>
+    ensures { IfOk result (λ made. has_failed made ≡ false) }
+{
+    let source = MemorySource::new(answer.as_bytes().to_vec(alloc)?, vec![in alloc; read]?);
+    let sink = MemorySink::new(alloc, vec![in alloc; write]?);
+    Ok(MemoryLine::new(source, sink))
+}
+
+/// A link of three lines that answer these. The dial of this number fails.
+fn link(alloc: Global, answers: [&str; 3], fail: u32) -> Result<MemoryLink, Fail> {
+    let first = line(alloc, answers[0], NEVER, NEVER)?;
+    let second = line(alloc, answers[1], NEVER, NEVER)?;
+    let third = line(alloc, answers[2], NEVER, NEVER)?;
+    let lines = vec![in alloc; first, second, third]?;
+    match MemoryLink::new(alloc, lines, vec![in alloc; fail]?) {
+        Ok(link) => Ok(link),
+        Err(_) => Err(Fail::new("no link")),
+    }
+}
+
+/// A link of one line that answers this, and whose read and write of these numbers fail.
+fn link_of_one(alloc: Global, answer: &str, read: u64, write: u64) -> Result<MemoryLink, Fail> {
+    let lines = vec![in alloc; line(alloc, answer, read, write)?]?;
+    match MemoryLink::new(alloc, lines, vec![in alloc; NO_DIAL]?) {
+        Ok(link) => Ok(link),
+        Err(_) => Err(Fail::new("no link")),
+    }
+}
+
+/// A row: a sentence, the answers of three lines, the dial that fails, how many tries are allowed, the end, and how many lines came back.
+type SubmitRow = (&'static str, [&'static str; 3], u32, u32, SubmitEnd, usize);
+
+const SUBMISSIONS: [SubmitRow; 16] = [
+    ("a job is made", [CREATED, "", ""], NO_DIAL, 3, DONE, 1),
+    (
+        "a job is there",
+        [DUPLICATE, "", ""],
+        NO_DIAL,
+        3,
+        DONE_AGAIN,
+        1,
+    ),
+    (
+        "an answer that is cut, and then the job is there",
+        [CUT, DUPLICATE, ""],
+        NO_DIAL,
+        3,
+        DONE_AGAIN,
+        2,
+    ),
+    (
+        "a refusal ends it",
+        [NOT_JSON, CREATED, ""],
+        NO_DIAL,
+        3,
+        SubmitEnd::Refused { status: 400 },
+        1,
+    ),
+    (
+        "a service that can't serve, and then a job",
+        [DISK_FAILED, NO_MEMORY, CREATED],
+        NO_DIAL,
+        3,
+        DONE,
+        3,
+    ),
+    (
+        "a disk that failed to the last try",
+        [CUT, NO_MEMORY, DISK_FAILED],
+        NO_DIAL,
+        3,
+        SubmitEnd::CannotServe { status: 503 },
+        3,
+    ),
+    (
+        "no memory at the last try",
+        [DISK_FAILED, NO_MEMORY, CREATED],
+        NO_DIAL,
+        2,
+        SubmitEnd::CannotServe { status: 500 },
+        2,
+    ),
+    (
+        "one try, and no line",
+        [CREATED, "", ""],
+        1,
+        1,
+        SubmitEnd::LinkFailed,
+        0,
+    ),
+    ("no line, and then a job", [CREATED, "", ""], 1, 2, DONE, 1),
+    (
+        "the last of three tries has no line",
+        [DISK_FAILED, CUT, CREATED],
+        3,
+        3,
+        SubmitEnd::LinkFailed,
+        2,
+    ),
+    (
+        "more tries than lines",
+        [CUT, CUT, CUT],
+        NO_DIAL,
+        4,
+        SubmitEnd::LinkFailed,
+        3,
+    ),
+    (
+        "no byte at all",
+        ["", "", ""],
+        NO_DIAL,
+        3,
+        SubmitEnd::NoAnswer,
+        3,
+    ),
+    (
+        "a cut answer at the last try",
+        [DISK_FAILED, CUT, CREATED],
+        NO_DIAL,
+        2,
+        SubmitEnd::NoAnswer,
+        2,
+    ),
+    (
+        "an answer of 200 that names no job",
+        [
+            "HTTP/1.1 200 OK\r\nContent-Type: application/json\r\nContent-Length: 2\r\n\r\n{}",
+            "",
+            "",
+        ],
+        NO_DIAL,
+        1,
+        SubmitEnd::NoAnswer,
+        1,
+    ),
+    (
+        "an answer of 409 that names a number",
+        [
+            "HTTP/1.1 409 Conflict\r\nContent-Type: application/json\r\nContent-Length: 12\r\n\r\n{\"job_id\":7}",
+            "",
+            "",
+        ],
+        NO_DIAL,
+        1,
+        SubmitEnd::NoAnswer,
+        1,
+    ),
+    (
+        "an answer of 409 whose id is no id",
+        [
+            "HTTP/1.1 409 Conflict\r\nContent-Type: application/json\r\nContent-Length: 17\r\n\r\n{\"job_id\":\"8b35\"}",
+            "",
+            "",
+        ],
+        NO_DIAL,
+        1,
+        SubmitEnd::NoAnswer,
+        1,
+    ),
+];
+
+/// Whether a submission over such a link ends so, with so many lines back, on each of which the whole request stands and nothing else.
+fn is_submitted_so(
+    alloc: Global,
+    answers: [&str; 3],
+    fail: u32,
+    tries: u32,
+    want: SubmitEnd,
+    back: usize,
+) -> Result<bool, Fail>
+    requires { 1 ≤ tries }
+{
+    let mut link = link(alloc, answers, fail)?;
+    let mut room = AnswerRoom::new(alloc)?;
+    let end = submit(
+        alloc,
+        &mut link,
+        PORT,
+        DOCUMENT.as_bytes(),
+        tries,
+        &mut room,
+    );
+    let whole = link
+        .back()
+        .iter()
+        .all(|line| line.bytes() == REQUEST.as_bytes());
+    Ok(end == want && link.back().len() == back && whole)
+}
+
+#[test]
+fn a_submission_ends_by_its_answers(rt: HostRuntime) -> Result<(), Fail> {
+    for (case, answers, fail, tries, want, back) in SUBMISSIONS {
+        if tries > 0 {
+            let is_so = is_submitted_so(rt.alloc(), answers, fail, tries, want, back)?;
+            assert!(rt; is_so, "{case}");
+        }
+    }
+    Ok(())
+}
+
+/// A row: a sentence, and an answer that is none.
+type HostileRow = (&'static str, &'static str);
+
+const HOSTILE: [HostileRow; 11] = [
+    (
+        "no length",
+        "HTTP/1.1 200 OK\r\nContent-Type: application/json\r\n\r\n{}",
+    ),
+    (
+        "a length past the limit",
+        "HTTP/1.1 200 OK\r\nContent-Type: application/json\r\nContent-Length: 8389633\r\n\r\n{}",
+    ),
+    (
+        "a length of twenty digits",
+        "HTTP/1.1 200 OK\r\nContent-Type: application/json\r\nContent-Length: 18446744073709551616\r\n\r\n{}",
+    ),
+    (
+        "a body that ends early",
+        "HTTP/1.1 200 OK\r\nContent-Type: application/json\r\nContent-Length: 49\r\n\r\n{\"job_id\":\"8b35c5cc",
+    ),
+    (
+        "two lengths",
+        "HTTP/1.1 200 OK\r\nContent-Type: application/json\r\nContent-Length: 49\r\nContent-Length: 49\r\n\r\n{\"job_id\":\"8b35c5cc-fec2-5479-8778-9cbe6f137978\"}",
+    ),
+    (
+        "another version",
+        "HTTP/1.0 200 OK\r\nContent-Type: application/json\r\nContent-Length: 49\r\n\r\n{\"job_id\":\"8b35c5cc-fec2-5479-8778-9cbe6f137978\"}",
+    ),
+    (
+        "another status",
+        "HTTP/1.1 201 Created\r\nContent-Type: application/json\r\nContent-Length: 49\r\n\r\n{\"job_id\":\"8b35c5cc-fec2-5479-8778-9cbe6f137978\"}",
+    ),
+    (
+        "a length with a zero before it",
+        "HTTP/1.1 200 OK\r\nContent-Type: application/json\r\nContent-Length: 049\r\n\r\n{\"job_id\":\"8b35c5cc-fec2-5479-8778-9cbe6f137978\"}",
+    ),
+    (
+        "chunks",
+        "HTTP/1.1 200 OK\r\nTransfer-Encoding: chunked\r\n\r\n31\r\n{\"job_id\":\"8b35c5cc-fec2-5479-8778-9cbe6f137978\"}\r\n0\r\n\r\n",
+    ),
+    (
+        "line feeds alone",
+        "HTTP/1.1 200 OK\nContent-Type: application/json\nContent-Length: 2\n\n{}",
+    ),
+    ("zero bytes", "\0\0\0\0"),
+];
+
+#[test]
+fn a_hostile_answer_is_none(rt: HostRuntime) -> Result<(), Fail> {
+    for (case, answer) in HOSTILE {
+        let mut link = link_of_one(rt.alloc(), answer, NEVER, NEVER)?;
+        let mut room = AnswerRoom::new(rt.alloc())?;
+        let end = submit(
+            rt.alloc(),
+            &mut link,
+            PORT,
+            DOCUMENT.as_bytes(),
+            1,
+            &mut room,
+        );
+        assert!(rt; end == SubmitEnd::NoAnswer, "{case}");
+        assert!(rt; room.body().is_empty(), "{case}: the room");
+    }
+    Ok(())
+}
+
+#[test]
+fn bytes_behind_an_answer_are_left_alone(rt: HostRuntime) -> Result<(), Fail> {
+    let two = format!(in rt.alloc(); "{CREATED}{NOT_JSON}")?;
+    let mut link = link_of_one(rt.alloc(), two.as_str(), NEVER, NEVER)?;
+    let mut room = AnswerRoom::new(rt.alloc())?;
+    let end = submit(
+        rt.alloc(),
+        &mut link,
+        PORT,
+        DOCUMENT.as_bytes(),
+        1,
+        &mut room,
+    );
+    assert_eq!(rt; end, DONE, "the first answer counts");
+    Ok(())
+}
+
+#[test]
+fn a_status_line_without_an_end_is_refused_at_once(rt: HostRuntime) -> Result<(), Fail> {
+    let mut answer = "HTTP/1.1 200 ".as_bytes().to_vec(rt.alloc())?;
+    for _ in 0..16_384 {
+        answer.push(b'O')?;
+    }
+    let source = MemorySource::new(answer, vec![in rt.alloc(); NEVER]?);
+    let sink = MemorySink::new(rt.alloc(), vec![in rt.alloc(); NEVER]?);
+    let lines = vec![in rt.alloc(); MemoryLine::new(source, sink)]?;
+    let Ok(mut link) = MemoryLink::new(rt.alloc(), lines, vec![in rt.alloc(); NO_DIAL]?) else {
+        return Err(Fail::new("no link"));
+    };
+    let mut room = AnswerRoom::new(rt.alloc())?;
+    let end = submit(
+        rt.alloc(),
+        &mut link,
+        PORT,
+        DOCUMENT.as_bytes(),
+        1,
+        &mut room,
+    );
+    assert_eq!(rt; end, SubmitEnd::NoAnswer, "no answer");
+    Ok(())
+}
+
+#[test]
+fn a_failing_read_or_write_is_the_link_s(rt: HostRuntime) -> Result<(), Fail> {
+    for (case, read, write, written) in [
+        ("a failing read", 1, NEVER, REQUEST),
+        ("a failing read behind a cut answer", 2, NEVER, REQUEST),
+        ("a failing write", NEVER, 1, ""),
+    ] {
+        let mut link = link_of_one(rt.alloc(), CUT, read, write)?;
+        let mut room = AnswerRoom::new(rt.alloc())?;
+        let end = submit(
+            rt.alloc(),
+            &mut link,
+            PORT,
+            DOCUMENT.as_bytes(),
+            1,
+            &mut room,
+        );
+        assert!(rt; end == SubmitEnd::LinkFailed, "{case}");
+        let is_written = link
+            .back()
+            .iter()
+            .all(|line| line.bytes() == written.as_bytes());
+        assert!(rt; is_written && link.back().len() == 1, "{case}: the line");
+    }
+    Ok(())
+}
+
+/// A row: a sentence, the answers of three lines, the dial that fails, how many tries are allowed, the end, and the body that is held behind it.
+type QueryRow = (
+    &'static str,
+    [&'static str; 3],
+    u32,
+    u32,
+    QueryEnd,
+    &'static str,
+);
+
+const SHOWN: &str =
+    "HTTP/1.1 200 OK\r\nContent-Type: application/json\r\nContent-Length: 22\r\nConnection: close\r\n\r\n{\"job_state\":\"ACTIVE\"}";
+
+const QUERIES: [QueryRow; 7] = [
+    (
+        "a job is shown",
+        [SHOWN, "", ""],
+        NO_DIAL,
+        3,
+        QueryEnd::Found,
+        "{\"job_state\":\"ACTIVE\"}",
+    ),
+    (
+        "a job is shown behind a cut answer and a failed disk",
+        [CUT, DISK_FAILED, SHOWN],
+        NO_DIAL,
+        3,
+        QueryEnd::Found,
+        "{\"job_state\":\"ACTIVE\"}",
+    ),
+    (
+        "no such job",
+        [NOT_FOUND, SHOWN, ""],
+        NO_DIAL,
+        3,
+        QueryEnd::Refused { status: 404 },
+        "{\"message\":\"no job\",\"rule\":31,\"status\":404}",
+    ),
+    (
+        "an answer that shows another thing is a refusal",
+        [DUPLICATE, "", ""],
+        NO_DIAL,
+        1,
+        QueryEnd::Refused { status: 409 },
+        "{\"job_id\":\"8b35c5cc-fec2-5479-8778-9cbe6f137978\",\"message\":\"duplicate\",\"rule\":34,\"status\":409}",
+    ),
+    (
+        "one try, and no line",
+        [SHOWN, "", ""],
+        1,
+        1,
+        QueryEnd::LinkFailed,
+        "",
+    ),
+    (
+        "no memory at the last try",
+        [CUT, NO_MEMORY, SHOWN],
+        NO_DIAL,
+        2,
+        QueryEnd::CannotServe { status: 500 },
+        "",
+    ),
+    (
+        "a cut answer",
+        [CUT, CUT, CUT],
+        NO_DIAL,
+        3,
+        QueryEnd::NoAnswer,
+        "",
+    ),
+];
+
+#[test]
+fn a_query_ends_by_its_answers(rt: HostRuntime) -> Result<(), Fail> {
+    for (case, answers, fail, tries, want, body) in QUERIES {
+        if tries > 0 {
+            let mut link = link(rt.alloc(), answers, fail)?;
+            let mut room = AnswerRoom::new(rt.alloc())?;
+            let end = query(rt.alloc(), &mut link, PORT, JOB, tries, &mut room);
+            assert!(rt; end == want, "{case}");
+            assert!(rt; room.body() == body.as_bytes(), "{case}: the body");
+            let whole = link
+                .back()
+                .iter()
+                .all(|line| line.bytes() == QUERY.as_bytes());
+            assert!(rt; whole, "{case}: the request");
+        }
+    }
+    Ok(())
+}
+
+#[test]
+fn a_link_gives_its_lines_in_order(rt: HostRuntime) -> Result<(), Fail> {
+    let mut link = link(rt.alloc(), [CREATED, CUT, ""], 2)?;
+    let Ok(mut first) = link.dial(PORT) else {
+        return Err(Fail::new("the first dial"));
+    };
+    assert!(rt; link.dial(PORT).is_err(), "the second dial is listed");
+    let Ok(second) = link.dial(PORT) else {
+        return Err(Fail::new("the third dial"));
+    };
+    assert_eq!(rt; first.write(b"ab"), Ok(2), "a line is written");
+    link.done(second);
+    link.done(first);
+    assert_eq!(rt; link.back().len(), 2, "both came back");
+    assert!(rt; link.back()[0].bytes().is_empty(), "the second came first");
+    assert!(rt;
+        link.back()[1].bytes() == b"ab".as_slice(),
+        "with what was written"
+    );
+    Ok(())
+}

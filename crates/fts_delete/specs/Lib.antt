@@ -1,0 +1,17 @@
+pub mod Rows
+pub mod Visits
+pub mod Passes
+pub mod Laws
+pub mod Looks
+pub mod Spelling
+pub mod Answers
+pub mod Faults
+pub mod Journals
+pub mod Opened
+pub mod Folding
+pub mod Views
+pub mod Recording
+pub mod Asked
+pub mod Passed
+pub mod Walking
+pub mod Documents
