@@ -18,8 +18,9 @@ use std::{fs, io};
 /// Where the first request ends.
 const MIDDLE: usize = 136;
 
-/// Reads before each moment: a Restart, a request, a claim and an idle one, and so on.
-const READS: [u64; 10] = [0, 1, 1, 1, 2, 2, 2, 2, 3, 3];
+/// Reads before each moment: a Restart; a request, an expiry, a claim and an idle one; a request, a report, an expiry and two claims; and behind the
+/// end a report, an expiry and an idle claim.
+const READS: [u64; 13] = [0, 1, 1, 1, 1, 2, 2, 2, 2, 2, 3, 3, 3];
 
 /// A client that sends its second request only once something was written to it. How often it was read stands in a cell.
 #[derive(Drop)]
