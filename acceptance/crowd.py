@@ -129,7 +129,7 @@ def ninth(program):
 
 
 def keeps(program):
-    """One kept connection over four lanes, beside many that come and go: a free lane takes them, where it comes to run within two milliseconds,
+    """One kept connection over four lanes, beside many that come and go: a free lane takes them, where it comes to run within five milliseconds,
     which on a machine that is busy with other work it does not always."""
     service, closings = Service(program, lanes=4), 0
     kept = Polite(service)

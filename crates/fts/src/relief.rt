@@ -18,7 +18,7 @@ use std::os::fd::{AsRawFd, RawFd};
 use std::time::Duration;
 
 /// How long a free lane has to take a connection, and a client to go on, before a line gives way, in milliseconds.
-const PAUSE_MILLIS: u64 = 2;
+const PAUSE_MILLIS: u64 = 5;
 
 /// In the place of a handle, where none is looked at.
 const NO_HANDLE: RawFd = -1;

@@ -3,11 +3,8 @@
 //! and in `stdin` and `stdout` beside the program.
 use crate::accepting::{Listens, next_line};
 use crate::outside::{OpenedFile, PcgWords, SystemClock};
-use crate::{
-    HANDS, STAND_SETTINGS, closed_doors, hands_over, run_in_folder, run_over, stand_store,
-};
+use crate::{STAND_SETTINGS, closed_doors, hands_over, run_in_folder, run_over, stand_stores};
 use fts_disk::{FileDisk, MemoryDisk};
-use fts_store::MemoryStore;
 use fts_tables::{Clock, Words};
 use fts_wire::StdSource;
 use std::io::{ErrorKind, Read, Write};
@@ -100,15 +97,6 @@ impl Read for Scripted {
 const FIRST: &str = "vo = \"demo\"\n[[storage]]\nurl = \"https://a.example\"\n";
 
 const SECOND: &str = "[[storage]]\nurl = \"https://b.example\"\n";
-
-/// The stores of all hands, in memory.
-fn stand_stores(rt: &HostRuntime) -> Result<Vec<MemoryStore>, Fail> {
-    let mut stores = Vec::new(rt.alloc());
-    for _ in 0..HANDS {
-        stores.push(stand_store(rt)?)?;
-    }
-    Ok(stores)
-}
 
 /// The status of a session whose settings are read so.
 fn status_over<R: Threads + Wait + Sync>(
