@@ -16,7 +16,7 @@ use fts_disk::Disk;
 use fts_keep::KeepFault;
 use fts_tables::laws::{claimed_files_were_in, tables_are_well_formed};
 use fts_tables::{Answer, Command};
-use fts_workers::{ClaimStep, claim_step, order_of_file, row_of_file};
+use fts_workers::{ClaimStep, claim_step, order_of_file};
 
 /// What a command came to in a turn.
 #[derive(Drop)]
@@ -103,7 +103,7 @@ pub fn claim_in<D: Disk>(shop: &mut Shop<D>, writer: u32, now: u64, word: u64) -
 pub fn look_in<D: Disk>(shop: &mut Shop<D>, file: u32) -> bool
     ensures { IsLookIn D.Disk file shop.old shop.new result }
 {
-    match row_of_file(shop.keep().desk(), file) {
+    match shop.keep().desk().row(file) {
         Some(row) => row.cancel_asked,
         None => false,
     }

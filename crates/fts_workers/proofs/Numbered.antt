@@ -1,5 +1,5 @@
 -- Rows and jobs by their numbers: what is found by its number stands at the place before it, and the other way round.
-use Rattle.std.proofs.Common.{◌≡◌, refl, sym, ap, ◌∙◌, subst, inl, inr, ⊎_elim, ℕ, zero, suc, ◌+◌, ◌-◌, ◌<◌, ◌≤◌, Bool, true, false, cond, List, [], ◌∷◌, ◌++◌, map, Option, Some, None, arith, eq-eqb}
+use Rattle.std.proofs.Common.{◌≡◌, refl, ap, ◌∙◌, subst, inl, inr, ⊎_elim, ℕ, zero, suc, ◌+◌, ◌-◌, ◌<◌, ◌≤◌, Bool, true, false, cond, List, [], ◌∷◌, ◌++◌, map, Some, arith, eq-eqb}
 use Rattle.std.specs.Prelude.{◌==◌, ◌&&◌, ◌⊎◌, find, replicate, slice_get, count_by}
 use Rattle.std.proofs.lemmas.Bool.{eqb-true, ne_eqb}
 use Rattle.std.proofs.lemmas.List.Sums.{sum_by-cons}
@@ -150,22 +150,3 @@ active_found start (row ∷ rows) id numbered some =
     by_head behind false is active was =
         let found = behind (subst (λ n. 1 ≤ n) (counted_head id row rows (row.id == id) refl is) some) in
         record { row = found.row; at = ap (λ a. cond a (Some row) (row_at rows id)) is ∙ found.at; active = found.active }
-
--- the row at the place before an id is the one that is found by it
-pub row_there : (tables : Tables) → AreWellFormed tables
-    → ((id : ℕ) (row : FileRow) → row_at tables.rows id ≡ Some row → (1 ≤ id) × (slice_get tables.rows (id - 1) ≡ Some row))
-    → (file : ℕ) → 1 ≤ file → slice_get tables.rows (file - 1) ≡ row_at tables.rows file
-row_there tables formed stands file some = by_place (slice_get tables.rows (file - 1)) refl (row_at tables.rows file) refl
-  where
-    number : 1 + (file - 1) ≡ file
-    number = omega (arith, some)
-
-    no_row : (row : FileRow) → None ≡ Some row → ⊥
-    no_row row is = absurd cc
-
-    by_place : (here : Option FileRow) → slice_get tables.rows (file - 1) ≡ here → (found : Option FileRow) → row_at tables.rows file ≡ found
-        → slice_get tables.rows (file - 1) ≡ row_at tables.rows file
-    by_place (Some row) at found is =
-        at ∙ sym (subst (λ id. row_at tables.rows id ≡ Some row) number (found_at (λ (r : FileRow). r.id) 1 tables.rows (file - 1) row formed.rows at))
-    by_place None at (Some row) is = absurd (no_row row (sym at ∙ (stands file row is).1))
-    by_place None at None is = at ∙ sym is

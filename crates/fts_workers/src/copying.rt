@@ -15,17 +15,17 @@ use crate::watch::AlwaysWanted;
 use fts_copy::{CopyRoom, Loaded, Watch, copy_verified, remove_part};
 use fts_desk::Desk;
 use fts_store::Store;
-use fts_tables::laws::found_rows_stand;
 use fts_tables::{FileRow, JobRow, Outcome};
 
-// The row of a file, at the place before its id.
+// The row of a file that has one.
 fn find_row<'a>(desk: &'a Desk, file: u32) -> &'a FileRow
-    requires formed { AreWellFormed desk.now.tables }
     requires there { IsSome (row_at desk.now.tables.rows file) }
     ensures { row_at desk.now.tables.rows file ≡ Some result.now }
 {
-    found_rows_stand();
-    &desk.rows()[file as usize - 1]
+    match desk.row(file) {
+        Some(row) => row,
+        None => unreachable!(),
+    }
 }
 
 // The job of a row, at the place before its number.
@@ -49,25 +49,13 @@ pub fn load_order(room: &mut CopyRoom, desk: &Desk, file: u32)
     room.load(row, job.overwrite);
 }
 
-/// The row of a file. None exactly where there is none.
-pub fn row_of_file<'a>(desk: &'a Desk, file: u32) -> Option<&'a FileRow>
-    ensures { option_map (λ row. row.now) result ≡ row_at desk.now.tables.rows file }
-{
-    found_rows_stand();
-    let _standing = desk.commands();
-    if file == 0 {
-        return None;
-    }
-    desk.rows().get(file as usize - 1)
-}
-
 /// What the copy of a file is asked for, by its row and its job, as an order of its own. None exactly where the file has no row.
 pub fn order_of_file(desk: &Desk, file: u32) -> Option<Loaded>
     ensures order { result ≡ option_map (order_in desk.now.tables) (row_at desk.now.tables.rows file) }
     ensures inside { IfSome result StaysInside }
 {
-    let _standing = desk.commands();
-    let row = row_of_file(desk, file)?;
+    desk.standing();
+    let row = desk.row(file)?;
     let job = find_job(desk, row);
     Some(Loaded::of(row, job.overwrite))
 }

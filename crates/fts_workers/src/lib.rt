@@ -16,7 +16,7 @@ mod watch;
 
 pub use bench::Bench;
 pub use claiming::{ClaimStep, claim_step};
-pub use copying::{order_of_file, row_of_file};
+pub use copying::order_of_file;
 pub use ends::RoundEnd;
 pub use gate::{Gate, NoGate};
 pub use hand::Hand;

@@ -7,5 +7,5 @@ use Rattle.fts_workers.proofs.copying.order_of_file.Goals as goal
 pub find_job-job-requires-clause-there : goal.find_job-job-requires-clause-there
 find_job-job-requires-clause-there c =
     let row = c.in_ok-row.row.now in
-    let found : row_at c.args.desk.now.tables.rows c.args.file ≡ Some row = sym c.in_ok-row.ensures in
+    let found : row_at c.args.desk.now.tables.rows c.args.file ≡ Some row = sym c.in_ok-row.ensures.row in
     subst (λ id. row_at c.args.desk.now.tables.rows id ≡ Some row) (sym (row_at-id c.args.desk.now.tables.rows c.args.file row found)) found
