@@ -368,7 +368,10 @@ def lead_back(program, kind, stand, by_close, wrong):
 def goes_on(stand, kind, wrong):
     """A session opens the copy, and a next one has a job accepted, as the one behind those that are left."""
     jobs = kind.left.count("job ")
-    answers = [stand.session(), stand.session(("POST /jobs", one_file(stand, "new")))]
+    opened = stand.session()
+    # what was cut away may have ended a ban
+    stand.session(END_OF_BAN)
+    answers = [opened, stand.session(("POST /jobs", one_file(stand, "new")))]
     status, _, shown = stand.show()
     if answers != [([], 0), ([200], 0)] or status != 0 or shown.count("job ") != jobs + 1 or f"job {ID.format(jobs + 1)} FINISHED" not in shown:
         wrong.append(f"sessions do not go on: {answers}, {status}, {shown}")
