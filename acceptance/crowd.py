@@ -129,8 +129,7 @@ def ninth(program):
 
 
 def keeps(program):
-    """One kept connection over four lanes, beside many that come and go: a free lane takes them, where it comes to run within five milliseconds,
-    which on a machine that is busy with other work it does not always."""
+    """One kept connection over four lanes, beside many that come and go: a free lane is to take them. Not so today: docs/OPERATING.md has the numbers."""
     service, closings = Service(program, lanes=4), 0
     kept = Polite(service)
     for _ in range(500):
@@ -138,7 +137,7 @@ def keeps(program):
         kept.ask()
         service.ask("GET", "/jobs")
     closings -= 1  # the first was none
-    yield f"a kept connection over 4 lanes, beside 500 connections of others one by one: closed {closings} times", closings <= 100
+    yield f"a kept connection over 4 lanes, beside 500 connections of others one by one: closed {closings} times", closings <= 25
     kept.close()
     service.stop()
 
