@@ -21,7 +21,7 @@ use Rattle.fts_jobdoc.specs.Fields.{sid_in}
 use Rattle.fts_jobdoc.specs.Documents.{rules_of, new_job, job_in, job_of, of_value}
 use Rattle.fts_jobdoc.specs.Ids.{sid_id}
 use Rattle.fts_jobdoc.specs.declared.fault.DocFault.{DocFault}
-use Rattle.fts_keep.specs.Keeps.{used_of}
+use Rattle.fts_keep.specs.Keeps.{bodies_of, used_of}
 use Rattle.fts_keep.specs.Applied.{entry_by, fits, applied_by}
 use Rattle.fts_routes.specs.Objects.{settings_in, no_settings, accepted_object}
 use Rattle.fts_routes.specs.Refusals.{jobs_full, rows_full, journal_full, duplicate, duplicate_members, bad_document}
@@ -212,11 +212,11 @@ module _ (vo : List ℕ) (id : ℕ) (small : id < 2 ^ 128) (own : is_standard_id
     known_here : option_and_then (number_of_id tables.jobs) job.id ≡ number_of_id tables.jobs id
     known_here = ap (option_and_then (number_of_id tables.jobs)) asked
 
-    pub fits_submission : Fits (said_to tables (used_of entries) writer (submission tables now job))
+    pub fits_submission : Fits (said_to tables (bodies_of entries) (used_of entries) writer (submission tables now job))
     fits_submission = by_known (option_and_then (number_of_id tables.jobs) job.id) known_here (λ accepted. accepted)
 
   by_read : (writer now : ℕ) (read : Result JobData DocFault) → ((job : JobData) → read ≡ Ok job → job.id ≡ Some id)
-      → Fits (said_to (tables_of entries) (used_of entries) writer (if_read read (submission (tables_of entries) now)))
+      → Fits (said_to (tables_of entries) (bodies_of entries) (used_of entries) writer (if_read read (submission (tables_of entries) now)))
   by_read writer now (Err fault) asked = nothing_added (bad_document fault) tt (record { accepted = λ is. absurd (omega (arith, is)); duplicate = λ is. absurd (omega (arith, is)) })
   by_read writer now (Ok job) asked = fits_submission writer now job (asked job refl)
 

@@ -10,7 +10,7 @@ use Rattle.fts_tables.specs.declared.commands.Entry.{Entry}
 use Rattle.fts_wire.specs.RequestData.{RequestData}
 use Rattle.fts_keep.specs.Applied.{applied_by, entry_by, fits}
 use Rattle.fts_keep.specs.declared.fault.KeepFault.TheVariants.{JournalFull}
-use Rattle.fts_routes.specs.Replies.{Plan, Replies, Tries, plan_of, said, said_by, said_to, said_so, Way, AsDefined, WithoutMemory, WithoutDisk}
+use Rattle.fts_routes.specs.Replies.{Plan, Replies, Looks, Tries, plan_of, said, said_by, said_to, said_so, Way, AsDefined, WithoutMemory, WithoutDisk}
 use Rattle.fts_routes.specs.Planned.{IsAsked}
 use Rattle.fts_routes.proofs.Sendable.{IsGoodPlan, planned}
 
@@ -30,14 +30,16 @@ stepping tables shown used entry (Ok done) is asked =
     fitting tables shown used entry done (fits used entry) (subst (λ (outcome : Outcomes). IsAccepted outcome) (sym is) tt) asked
 stepping tables shown used entry (Err refusal) is asked = inl refl
 
-planning : (tables : Tables) (used writer : ℕ) (plan : Plan) → IsGoodPlan plan → AddsWell tables (said_to tables used writer plan).added
-planning tables used writer (Replies reply) good = inl refl
-planning tables used writer (Tries command shown) asked =
+planning : (tables : Tables) (bodies : List (List ℕ)) (used writer : ℕ) (plan : Plan) → IsGoodPlan plan
+    → AddsWell tables (said_to tables bodies used writer plan).added
+planning tables bodies used writer (Replies reply) good = inl refl
+planning tables bodies used writer (Looks number) good = inl refl
+planning tables bodies used writer (Tries command shown) asked =
     stepping tables shown used (entry_by writer command) (step tables command) refl asked
 
 -- whatever is said
-pub adds_well : (tables : Tables) (used writer : ℕ) (request : RequestData) (now : ℕ) (way : Way)
-    → AddsWell tables (said_so way (said tables used writer request now)).added
-adds_well tables used writer request now AsDefined = planning tables used writer (plan_of tables now request) (planned tables now request)
-adds_well tables used writer request now WithoutMemory = inl refl
-adds_well tables used writer request now WithoutDisk = inl refl
+pub adds_well : (tables : Tables) (bodies : List (List ℕ)) (used writer : ℕ) (request : RequestData) (now : ℕ) (way : Way)
+    → AddsWell tables (said_so way (said tables bodies used writer request now)).added
+adds_well tables bodies used writer request now AsDefined = planning tables bodies used writer (plan_of tables now request) (planned tables now request)
+adds_well tables bodies used writer request now WithoutMemory = inl refl
+adds_well tables bodies used writer request now WithoutDisk = inl refl

@@ -1,5 +1,5 @@
 -- What an answer comes to: by what its command came to, and by what was planned.
-use Rattle.std.proofs.Common.{◌≡◌, ◌≢◌, ℕ, Bool, true, false, inl, inr, ⊎_elim, [], Result, Ok, Err, refl, sym, ◌∙◌, ap, subst, append-nil, arith}
+use Rattle.std.proofs.Common.{◌≡◌, ◌≢◌, ℕ, Bool, true, false, inl, inr, ⊎_elim, List, [], Option, Result, Ok, Err, refl, sym, ◌∙◌, ap, subst, append-nil, arith}
 use Rattle.std.specs.Prelude.{IfOk, IfErr, IsOk, IsTrue, if◌then◌else◌}
 use Rattle.serde_json.specs.Data.{Data}
 use Rattle.fts_tables.specs.Tables.{Tables}
@@ -18,9 +18,9 @@ use Rattle.fts_keep.specs.Applied.{Applies, applied_by, applied_to, entry_by, fi
 use Rattle.fts_keep.specs.declared.fault.KeepFault.{KeepFault}
 use Rattle.fts_keep.specs.declared.fault.KeepFault.TheVariants.{Rule, DiskFailed, JournalFull, Damaged, Memory as LacksMemory}
 use Rattle.fts_routes.specs.Refusals.{disk_failed, journal_full, no_memory}
-use Rattle.fts_routes.specs.Replies.{Plan, Replies, Tries, Said, said_only, said_by, said_to, said, reply_to_refusal, AsDefined, WithoutMemory, WithoutDisk, Answers, DoubtHasCause}
+use Rattle.fts_routes.specs.Replies.{Plan, Replies, Looks, Tries, Said, said_only, said_by, said_to, said, reply_to_refusal, entry_reply, AsDefined, WithoutMemory, WithoutDisk, AreShown, Answers, DoubtHasCause}
 use Rattle.fts_routes.specs.Planned.{Comes, IsPlanned, ShowsOutcome, ShowsUnchanged}
-use Rattle.fts_routes.specs.declared.planned.Planned.TheVariants.{Replies as PlannedReply, Tries as PlannedCommand}
+use Rattle.fts_routes.specs.declared.planned.Planned.TheVariants.{Replies as PlannedReply, Looks as PlannedLook, Tries as PlannedCommand}
 
 -- what the machine refuses, where a command comes to its refusal
 pub refused-step : (used : ℕ) (entry : Entry) (outcome : Outcomes) (refusal : Refusal) → applied_by used entry outcome ≡ Err (Rule refusal) → outcome ≡ Err refusal
@@ -69,7 +69,7 @@ module _ {D : Type 0} (state : D → DiskState) (faults : D → ℕ) where
       → IfOk made (λ reply_made. (shown : Tables → Data) → ShowsUnchanged shown old.tables reply refusal → reply_made ≡ reply_to_refusal old.tables shown refusal)
       → IfOk made (λ reply_made. result ≡ reply_made) → IfErr made (λ e. result ≡ no_memory)
       → (shown : Tables → Data) → ShowsOutcome shown old.tables reply (step old.tables command)
-      → Comes state faults old new (said_to old.tables old.used writer (Tries command shown)) result
+      → Comes state faults old new (said_to old.tables [] old.used writer (Tries command shown)) result
   comes-refused old new writer command reply result refusal (Ok reply_made) is same shows taken lacks shown outcome =
       subst (λ (applied : Applies). Comes state faults old new (said_by old.tables shown (entry_by writer command) applied) result) (sym is)
       (unmoved old new (said_only (reply_to_refusal old.tables shown refusal)) result same refl (taken ∙ shows shown
@@ -81,7 +81,7 @@ module _ {D : Type 0} (state : D → DiskState) (faults : D → ℕ) where
   pub comes-full : (old new : KeepData D) (writer : ℕ) (command : Command) (result : Reply) (used : ℕ) (made : Result Reply Memory)
       → applied_to old.tables old.used (entry_by writer command) ≡ Err (JournalFull used) → new ≡ old
       → IfOk made (λ reply_made. reply_made ≡ journal_full) → IfOk made (λ reply_made. result ≡ reply_made) → IfErr made (λ e. result ≡ no_memory)
-      → (shown : Tables → Data) → Comes state faults old new (said_to old.tables old.used writer (Tries command shown)) result
+      → (shown : Tables → Data) → Comes state faults old new (said_to old.tables [] old.used writer (Tries command shown)) result
   comes-full old new writer command result used (Ok reply_made) is same full taken lacks shown =
       subst (λ (applied : Applies). Comes state faults old new (said_by old.tables shown (entry_by writer command) applied) result) (sym is)
       (unmoved old new (said_only journal_full) result same refl (taken ∙ full))
@@ -97,11 +97,11 @@ module _ {D : Type 0} (state : D → DiskState) (faults : D → ℕ) where
   pub comes-without_disk : (old new : KeepData D) (writer : ℕ) (command : Command) (result : Reply) (made : Result Reply Memory)
       → FailsByDisk state faults old new (entry_by writer command)
       → IfOk made (λ reply_made. reply_made ≡ disk_failed) → IfOk made (λ reply_made. result ≡ reply_made) → IfErr made (λ e. result ≡ no_memory)
-      → (shown : Tables → Data) → Comes state faults old new (said_to old.tables old.used writer (Tries command shown)) result
+      → (shown : Tables → Data) → Comes state faults old new (said_to old.tables [] old.used writer (Tries command shown)) result
   comes-without_disk old new writer command result (Ok reply_made) fails failed taken lacks shown = record {
     way = WithoutDisk;
     cause = fails.rose;
-    instead = adds old.tables shown (entry_by writer command) (applied_to old.tables old.used (entry_by writer command)) fails.would;
+    instead = inl (adds old.tables shown (entry_by writer command) (applied_to old.tables old.used (entry_by writer command)) fails.would);
     replies = taken ∙ failed;
     tables = fails.keeps.tables;
     commands = omega (arith, fails.keeps.commands);
@@ -122,25 +122,38 @@ module _ {D : Type 0} (state : D → DiskState) (faults : D → ℕ) where
   doubt-caused old new entry (Err (Damaged offset)) applied = absurd applied
 
   -- a reply was planned
-  pub comes-replied : (keep : KeepData D) (writer : ℕ) (plan : Plan) (reply : Reply) → IsPlanned keep.tables (PlannedReply reply) plan
-      → Comes state faults keep keep (said_to keep.tables keep.used writer plan) reply
-  comes-replied keep writer (Replies wanted) reply is = unmoved keep keep (said_only wanted) reply refl refl is
-  comes-replied keep writer (Tries wanted shown) reply is = absurd is
+  pub comes-replied : (keep : KeepData D) (bodies : List (List ℕ)) (writer : ℕ) (plan : Plan) (reply : Reply) → IsPlanned keep.tables (PlannedReply reply) plan
+      → Comes state faults keep keep (said_to keep.tables bodies keep.used writer plan) reply
+  comes-replied keep bodies writer (Replies wanted) reply is = unmoved keep keep (said_only wanted) reply refl refl is
+  comes-replied keep bodies writer (Looks wanted) reply is = absurd is
+  comes-replied keep bodies writer (Tries wanted shown) reply is = absurd is
+
+  -- a look at an entry was planned, and made
+  pub comes-looked : (old new : KeepData D) (bodies : List (List ℕ)) (writer : ℕ) (plan : Plan) (number : Option ℕ) (reply : Reply)
+      → IsPlanned old.tables (PlannedLook number) plan
+      → Comes state faults old new (said_only (entry_reply bodies number)) reply → Comes state faults old new (said_to old.tables bodies old.used writer plan) reply
+  comes-looked old new bodies writer (Replies wanted) number reply is comes = absurd is
+  comes-looked old new bodies writer (Looks wanted) number reply is comes =
+      subst (λ (n : Option ℕ). Comes state faults old new (said_only (entry_reply bodies n)) reply) is comes
+  comes-looked old new bodies writer (Tries wanted shown) number reply is comes = absurd is
 
   -- a command was planned, and tried
-  pub comes-tried : (old new : KeepData D) (writer : ℕ) (plan : Plan) (command : Command) (reply result : Reply) → IsPlanned old.tables (PlannedCommand command reply) plan
+  pub comes-tried : (old new : KeepData D) (bodies : List (List ℕ)) (writer : ℕ) (plan : Plan) (command : Command) (reply result : Reply) → IsPlanned old.tables (PlannedCommand command reply) plan
       → ((shown : Tables → Data) → ShowsOutcome shown old.tables reply (step old.tables command)
-      → Comes state faults old new (said_to old.tables old.used writer (Tries command shown)) result)
-      → Comes state faults old new (said_to old.tables old.used writer plan) result
-  comes-tried old new writer (Replies wanted) command reply result is comes = absurd is
-  comes-tried old new writer (Tries wanted shown) command reply result is comes =
-      subst (λ (tried : Command). Comes state faults old new (said_to old.tables old.used writer (Tries tried shown)) result) is.same
+      → Comes state faults old new (said_to old.tables [] old.used writer (Tries command shown)) result)
+      → Comes state faults old new (said_to old.tables bodies old.used writer plan) result
+  comes-tried old new bodies writer (Replies wanted) command reply result is comes = absurd is
+  comes-tried old new bodies writer (Looks wanted) command reply result is comes = absurd is
+  comes-tried old new bodies writer (Tries wanted shown) command reply result is comes =
+      subst (λ (tried : Command). Comes state faults old new (said_to old.tables [] old.used writer (Tries tried shown)) result) is.same
       (comes shown (subst (λ (tried : Command). ShowsOutcome shown old.tables reply (step old.tables tried)) (sym is.same) is.outcome))
 
   -- what an answer comes to is what is answered
-  pub answers : (old new : KeepData D) (writer : ℕ) (request : RequestData) (now : ℕ) (reply : Reply)
-      → Comes state faults old new (said old.tables old.used writer request now) reply → Answers state faults old new writer request now reply
-  answers old new writer request now reply comes = record {
+  pub answers : (old new : KeepData D) (bodies : List (List ℕ)) (writer : ℕ) (request : RequestData) (now : ℕ) (reply : Reply) → AreShown state old bodies
+      → Comes state faults old new (said old.tables bodies old.used writer request now) reply → Answers state faults old new writer request now reply
+  answers old new bodies writer request now reply shown comes = record {
+    bodies = bodies;
+    shown = shown;
     way = comes.way;
     cause = comes.cause;
     instead = comes.instead;
@@ -154,4 +167,5 @@ module _ {D : Type 0} (state : D → DiskState) (faults : D → ℕ) where
 -- a command that was planned sets no priority out of its range
 pub planned-priority : (tables : Tables) (plan : Plan) (command : Command) (reply : Reply) → IsPlanned tables (PlannedCommand command reply) plan → IsTrue (has_priority command)
 planned-priority tables (Replies wanted) command reply is = absurd is
+planned-priority tables (Looks wanted) command reply is = absurd is
 planned-priority tables (Tries wanted shown) command reply is = subst (λ (tried : Command). IsTrue (has_priority tried)) (sym is.same) is.in_range

@@ -7,6 +7,7 @@ pub mod Coming
 pub mod Sendable
 pub mod Adding
 pub mod Still
+pub mod ReadEntries
 pub mod Told
 pub mod Rows
 pub mod Counted

@@ -1,5 +1,5 @@
--- Replies over lists that are written out, by computing: no route, a bad limit, a priority, a cancellation, a client's id that comes twice, and
--- bans.
+-- Replies over lists that are written out, by computing: no route, a bad limit, a priority, a cancellation, a client's id that comes twice, bans,
+-- and looks at entries.
 use Rattle.std.proofs.Common.{◌≡◌, refl, ℕ, true, false, Some, None, [], ◌∷◌, ◌++◌, List, Option}
 use Rattle.std.specs.Prelude.{codes, replicate}
 use Rattle.fts_tables.specs.JobData.{JobData}
@@ -11,7 +11,7 @@ use Rattle.fts_tables.specs.declared.commands.Entry.{Entry}
 use Rattle.fts_tables.specs.declared.commands.Command.TheVariants.{Restart, Submit, CancelJob, SetPriority, Claim, Report, Ban}
 use Rattle.fts_tables.specs.declared.rows.NewFile.{NewFile}
 use Rattle.fts_wire.specs.RequestData.{RequestData}
-use Rattle.fts_wire.specs.declared.response.Allow.TheVariants.{None as NoAllow}
+use Rattle.fts_wire.specs.declared.response.Allow.TheVariants.{None as NoAllow, Get as AllowGet}
 use Rattle.fts_jobdoc.specs.Faults.{rule_of, message_of}
 use Rattle.fts_jobdoc.specs.Documents.{priority_of, priority_rules}
 use Rattle.fts_jobdoc.specs.Fields.{has_wrong_params, lacks_priority, priority_in}
@@ -97,7 +97,7 @@ mine = job (Some 7) (file 0 (codes "s0") (codes "d0") ∷ [])
 abbrev after-first : List Entry
 after-first = restarted ++ by 0 (Submit 1000 mine) ∷ []
 
-second-time : said_to (tables_of after-first) (used_of after-first) 0 (submission (tables_of after-first) 1000 mine)
+second-time : said_to (tables_of after-first) [] (used_of after-first) 0 (submission (tables_of after-first) 1000 mine)
     ≡ replies 409 NoAllow (codes "{\"job_id\":\"00000000-0000-0000-0000-000000000007\",\"message\":\"duplicate\",\"rule\":34,\"status\":409}") []
 unfolding spelled command_bytes number_bytes text_bytes settings_bytes endpoint_bytes link_bytes weight_bytes job_bytes file_bytes outcome_bytes by_index encode_with split raw_pairs utf8_lossy rule_of message_of escape_byte digits percent_decode utf8_valid_len is_utf8 chars encode priority_of priority_rules has_wrong_params lacks_priority priority_in field param value punctuate lex content word after_number number_of scan_numeral
 second-time = refl
@@ -115,17 +115,41 @@ of-b = record { storage = codes "https://b.example"; cancel = true }
 abbrev of-c : BanAsk
 of-c = record { storage = codes "https://c.example"; cancel = true }
 
-one-cancelled : said_to (tables_of waiting) (used_of waiting) 0 (banning (tables_of waiting) 1000 of-b)
+one-cancelled : said_to (tables_of waiting) [] (used_of waiting) 0 (banning (tables_of waiting) 1000 of-b)
     ≡ replies 200 NoAllow (codes "{\"cancelled\":1,\"storage\":\"https://b.example\"}") (by 0 (Ban 1000 (codes "https://b.example") true) ∷ [])
 unfolding spelled command_bytes number_bytes text_bytes settings_bytes endpoint_bytes link_bytes weight_bytes job_bytes file_bytes outcome_bytes by_index encode_with split raw_pairs utf8_lossy rule_of message_of escape_byte digits percent_decode utf8_valid_len is_utf8 chars encode priority_of priority_rules has_wrong_params lacks_priority priority_in field param value punctuate lex content word after_number number_of scan_numeral
 one-cancelled = refl
 
-no-storage : said_to (tables_of waiting) (used_of waiting) 0 (banning (tables_of waiting) 1000 of-c)
+no-storage : said_to (tables_of waiting) [] (used_of waiting) 0 (banning (tables_of waiting) 1000 of-c)
     ≡ replies 404 NoAllow (codes "{\"message\":\"no storage\",\"rule\":39,\"status\":404}") []
 unfolding spelled command_bytes number_bytes text_bytes settings_bytes endpoint_bytes link_bytes weight_bytes job_bytes file_bytes outcome_bytes by_index encode_with split raw_pairs utf8_lossy rule_of message_of escape_byte digits percent_decode utf8_valid_len is_utf8 chars encode priority_of priority_rules has_wrong_params lacks_priority priority_in field param value punctuate lex content word after_number number_of scan_numeral
 no-storage = refl
 
-not-banned : said_to (tables_of waiting) (used_of waiting) 0 (unbanning 1000 (codes "https://a.example"))
+not-banned : said_to (tables_of waiting) [] (used_of waiting) 0 (unbanning 1000 (codes "https://a.example"))
     ≡ replies 404 NoAllow (codes "{\"message\":\"not banned\",\"rule\":46,\"status\":404}") []
 unfolding spelled command_bytes number_bytes text_bytes settings_bytes endpoint_bytes link_bytes weight_bytes job_bytes file_bytes outcome_bytes by_index encode_with split raw_pairs utf8_lossy rule_of message_of escape_byte digits percent_decode utf8_valid_len is_utf8 chars encode priority_of priority_rules has_wrong_params lacks_priority priority_in field param value punctuate lex content word after_number number_of scan_numeral
 not-banned = refl
+
+-- ---- looks at entries: of the only one, of one that isn't there, and by a text that is no number
+
+abbrev priority : Entry
+priority = by 3 (SetPriority 1000 1 5)
+
+first-entry : said_over (priority ∷ []) 0 (get (codes "/journal/0") None) 1000
+    ≡ replies 200 NoAllow (codes "{\"body\":\"0305e8070105\",\"count\":1,\"number\":0}") []
+unfolding spelled command_bytes number_bytes text_bytes settings_bytes endpoint_bytes link_bytes weight_bytes job_bytes file_bytes outcome_bytes by_index encode_with split raw_pairs utf8_lossy rule_of message_of escape_byte digits percent_decode utf8_valid_len is_utf8 chars encode priority_of priority_rules has_wrong_params lacks_priority priority_in field param value punctuate lex content word after_number number_of scan_numeral
+first-entry = refl
+
+no-entry : said_over (priority ∷ []) 0 (get (codes "/journal/1") None) 1000 ≡ replies 404 NoAllow (codes "{\"message\":\"no entry\",\"rule\":47,\"status\":404}") []
+unfolding spelled command_bytes number_bytes text_bytes settings_bytes endpoint_bytes link_bytes weight_bytes job_bytes file_bytes outcome_bytes by_index encode_with split raw_pairs utf8_lossy rule_of message_of escape_byte digits percent_decode utf8_valid_len is_utf8 chars encode priority_of priority_rules has_wrong_params lacks_priority priority_in field param value punctuate lex content word after_number number_of scan_numeral
+no-entry = refl
+
+no-number : said_over (priority ∷ []) 0 (get (codes "/journal/00000000000") None) 1000
+    ≡ replies 404 NoAllow (codes "{\"message\":\"no entry\",\"rule\":47,\"status\":404}") []
+unfolding spelled command_bytes number_bytes text_bytes settings_bytes endpoint_bytes link_bytes weight_bytes job_bytes file_bytes outcome_bytes by_index encode_with split raw_pairs utf8_lossy rule_of message_of escape_byte digits percent_decode utf8_valid_len is_utf8 chars encode priority_of priority_rules has_wrong_params lacks_priority priority_in field param value punctuate lex content word after_number number_of scan_numeral
+no-number = refl
+
+no-such-method : said_over (priority ∷ []) 0 (asks (codes "POST") (codes "/journal/x") None []) 1000
+    ≡ replies 405 AllowGet (codes "{\"message\":\"no such method\",\"rule\":33,\"status\":405}") []
+unfolding spelled command_bytes number_bytes text_bytes settings_bytes endpoint_bytes link_bytes weight_bytes job_bytes file_bytes outcome_bytes by_index encode_with split raw_pairs utf8_lossy rule_of message_of escape_byte digits percent_decode utf8_valid_len is_utf8 chars encode priority_of priority_rules has_wrong_params lacks_priority priority_in field param value punctuate lex content word after_number number_of scan_numeral
+no-such-method = refl

@@ -1,6 +1,6 @@
 -- Each reply can be written: its status has a phrase, and a refusal of a method names others. Each command is one that a request may ask for.
 use Rattle.std.proofs.Common.{ℕ, Bool, true, false, List, Option, Some, None, Result, Ok, Err, refl, sym, subst}
-use Rattle.std.specs.Prelude.{if◌then◌else◌, codes, ◌||◌, IsTrue}
+use Rattle.std.specs.Prelude.{if◌then◌else◌, codes, ◌||◌, length, slice_get, option_map, unwrap_or, IsTrue}
 use Rattle.std.specs.Option.{option_map_or}
 use Rattle.serde_json.specs.Data.{Data}
 use Rattle.fts_tables.specs.Tables.{Tables}
@@ -23,11 +23,11 @@ use Rattle.fts_keep.specs.Keeps.{KeepData}
 use Rattle.fts_keep.specs.Applied.{applied_by, entry_by, fits}
 use Rattle.fts_keep.specs.declared.fault.KeepFault.TheVariants.{JournalFull}
 use Rattle.fts_wire.specs.Response.{has_phrase, has_methods}
-use Rattle.fts_routes.specs.Objects.{settings_in, link_object, endpoint_object, weight_object}
+use Rattle.fts_routes.specs.Objects.{settings_in, link_object, endpoint_object, weight_object, entry_object}
 use Rattle.fts_routes.specs.Queries.{QueryFault, BadStates, BadLimit, asked_in, storage_asked}
-use Rattle.fts_routes.specs.Routes.{Route, Jobs, Job, Files, File, Links, Endpoints, Shares, Bans, route_of, job_named, file_named}
-use Rattle.fts_routes.specs.Refusals.{no_route}
-use Rattle.fts_routes.specs.Replies.{Plan, Replies, Tries, if_job, if_file, if_read, if_ban, if_storage, banning, unbanning, jobs_plan, submission, has_method, look_at_settings, look_at_job, look_at_files, cancellation, prioritization, file_cancellation, plan_on, plan_of, Said, Way, AsDefined, WithoutMemory, WithoutDisk, said_so, said_by, said_to, said, reply_to_refusal, Answers}
+use Rattle.fts_routes.specs.Routes.{Route, Jobs, Job, Files, File, Links, Endpoints, Shares, Bans, JournalEntry, route_of, job_named, file_named}
+use Rattle.fts_routes.specs.Refusals.{shows, no_route, no_entry}
+use Rattle.fts_routes.specs.Replies.{Plan, Replies, Looks, Tries, entry_reply, if_job, if_file, if_read, if_ban, if_storage, banning, unbanning, jobs_plan, submission, has_method, look_at_settings, look_at_job, look_at_files, cancellation, prioritization, file_cancellation, plan_on, plan_of, Said, Way, AsDefined, WithoutMemory, WithoutDisk, said_so, said_by, said_to, said, reply_to_refusal, Answers}
 use Rattle.fts_routes.specs.Planned.{IsSendable, IsAsked, IsOfRequests, IsPlanned, is_decided}
 use Rattle.fts_routes.specs.declared.planned.Planned.TheVariants.{Tries as PlannedCommand}
 use Rattle.fts_routes.proofs.Asked.{IsOfRequest, asked-outcomes}
@@ -41,6 +41,7 @@ pub record IsSaid (reply : Reply) : Type 0 where
 -- a plan's reply may be said, and its command may be asked for
 abbrev pub IsGoodPlan : Plan → Type 0
 IsGoodPlan (Replies reply) = IsSaid reply
+IsGoodPlan (Looks number) = Unit {0}
 IsGoodPlan (Tries command shown) = IsAsked command
 
 either-way : (test : Bool) (one other : Plan) → IsGoodPlan one → IsGoodPlan other → IsGoodPlan (if test then one else other)
@@ -100,6 +101,7 @@ on-route tables now request Bans = either-way (has_method request (codes "GET"))
     (either-way (has_method request (codes "POST")) _ _ (with-ban (ban_of request.body) (banning tables now) (λ asked. tt))
     (either-way (has_method request (codes "DELETE")) _ _ (with-storage (storage_asked request.query) (unbanning now) (λ storage. tt))
     (record { phrase = refl; methods = refl; decided = refl })))
+on-route tables now request (JournalEntry number) = either-way (has_method request (codes "GET")) _ _ tt (record { phrase = refl; methods = refl; decided = refl })
 
 pub planned : (tables : Tables) (now : ℕ) (request : RequestData) → IsGoodPlan (plan_of tables now request)
 planned tables now request = by_route (route_of request.path)
@@ -131,9 +133,19 @@ come-to tables shown used entry (Ok done) of_request = by_fit (fits used entry)
     by_fit false = record { phrase = refl; methods = refl; decided = refl }
 come-to tables shown used entry (Err refusal) of_request = refused tables shown refusal of_request
 
-pub said-to : (tables : Tables) (used writer : ℕ) (plan : Plan) → IsGoodPlan plan → IsSaid (said_to tables used writer plan).reply
-said-to tables used writer (Replies reply) good = good
-said-to tables used writer (Tries command shown) asked =
+-- a look at an entry
+look-at : (bodies : List (List ℕ)) (number : Option ℕ) → IsSaid (entry_reply bodies number)
+look-at bodies None = record { phrase = refl; methods = refl; decided = refl }
+look-at bodies (Some number) = by_body (slice_get bodies number)
+  where
+    by_body : (found : Option (List ℕ)) → IsSaid (unwrap_or (option_map (λ body. shows (entry_object body (length bodies) number)) found) no_entry)
+    by_body None = record { phrase = refl; methods = refl; decided = refl }
+    by_body (Some body) = record { phrase = refl; methods = refl; decided = refl }
+
+pub said-to : (tables : Tables) (bodies : List (List ℕ)) (used writer : ℕ) (plan : Plan) → IsGoodPlan plan → IsSaid (said_to tables bodies used writer plan).reply
+said-to tables bodies used writer (Replies reply) good = good
+said-to tables bodies used writer (Looks number) good = look-at bodies number
+said-to tables bodies used writer (Tries command shown) asked =
     come-to tables shown used (entry_by writer command) (step tables command) (asked-outcomes tables command asked)
 
 in-any-way : (way : Way) (said : Said) → IsSaid said.reply → IsSendable (said_so way said).reply
@@ -146,11 +158,12 @@ pub sendable : {D : Type 0} (state : D → DiskState) (faults : D → ℕ) (old 
     → Answers state faults old new writer request now reply → IsSendable reply
 sendable state faults old new writer request now reply answers =
     subst (λ (reply : Reply). IsSendable reply) (sym answers.replies)
-    (in-any-way answers.way (said old.tables old.used writer request now)
-    (said-to old.tables old.used writer (plan_of old.tables now request) (planned old.tables now request)))
+    (in-any-way answers.way (said old.tables answers.bodies old.used writer request now)
+    (said-to old.tables answers.bodies old.used writer (plan_of old.tables now request) (planned old.tables now request)))
 
 -- the command of a plan that is good may be asked for
 pub planned-asked : (tables : Tables) (plan : Plan) (command : Command) (reply : Reply) → IsGoodPlan plan → IsPlanned tables (PlannedCommand command reply) plan
     → IsAsked command
 planned-asked tables (Replies wanted) command reply good is = absurd is
+planned-asked tables (Looks wanted) command reply good is = absurd is
 planned-asked tables (Tries wanted shown) command reply good is = subst (λ (tried : Command). IsAsked tried) (sym is.same) good

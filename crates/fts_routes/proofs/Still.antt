@@ -1,11 +1,12 @@
--- A keep that nothing is done to keeps its images.
-use Rattle.std.proofs.Common.{◌≡◌, inl, inr, ℕ, List, [], ◌∷◌, ◌++◌, Option, Some, None, sym, ◌∙◌, subst, append-nil, arith}
+-- A keep that nothing is done to, or that is only looked at, keeps its images.
+use Rattle.std.proofs.Common.{◌≡◌, inl, inr, ⊎_elim, ℕ, List, [], ◌∷◌, ◌++◌, Option, Some, None, sym, ◌∙◌, subst, append-nil, arith}
 use Rattle.fts_tables.specs.Tables.{Tables, empty_tables}
 use Rattle.fts_tables.specs.Step.{step}
 use Rattle.fts_tables.specs.History.{IsLegal, IsLegalFrom, tables_after}
 use Rattle.fts_tables.specs.declared.commands.Entry.{Entry}
 use Rattle.fts_disk.specs.Disk.{DiskState, IsTold, IsLawful}
-use Rattle.fts_keep.specs.Keeps.{KeepData, IsKeep, IsImageOf, IsImageSince, KeepsImagesSinceAny, StandsFor, with_doubt}
+use Rattle.fts_keep.specs.Looking.{OnlyLooks}
+use Rattle.fts_keep.specs.Keeps.{KeepData, IsKeep, HoldsList, IsImageOf, IsImageSince, KeepsImagesSinceAny, StandsFor, with_doubt}
 
 -- the beginning of a legal list is legal
 legal-front : (tables : Tables) (entries more : List Entry) → IsLegalFrom tables (entries ++ more) → IsLegalFrom tables entries
@@ -45,3 +46,20 @@ still state lawful keep kept opening since parts told = record {
       ((kept.fold.holds told).images content ((lawful keep.disk told).only_now content left));
   before = λ moment content le left. inl left;
 }
+
+-- the keep was only looked at
+pub looked_since : {D : Type 0} (state : D → DiskState) (faults : D → ℕ) → ((disk : D) → IsTold (state disk) → IsLawful (state disk))
+    → (old new : KeepData D) → IsKeep state old → OnlyLooks state faults old new → KeepsImagesSinceAny state old new
+looked_since state faults lawful old new kept only opening since parts told =
+    let moments = only.moments told in
+    let holds = kept.fold.holds told in
+    record {
+      later = moments.later;
+      each = λ content left. image holds content (moments.each content left);
+      before = λ moment content le left. ⊎_elim (λ past. inl past) (λ may. inr (image holds content may)) (moments.before moment content le left);
+    }
+  where
+    image : HoldsList (state old.disk) old.entries old.doubt old.tables old.commands old.used old.in_doubt → (content : List ℕ)
+        → (state old.disk).may_leave content → IsImageSince opening new.entries content
+    image holds content may = subst (λ list. IsImageSince opening list content) (sym only.entries)
+        (since-opening opening since old.entries old.doubt content parts holds.legal (holds.images content may))

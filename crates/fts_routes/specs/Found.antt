@@ -7,9 +7,9 @@ use Rattle.serde_json.specs.Data.{Data}
 use Rattle.fts_tables.specs.Tables.{Tables}
 use Rattle.fts_tables.specs.declared.rows.JobRow.{JobRow}
 use Rattle.fts_routes.specs.Objects.{job_object, job_state_text, state_in}
-use Rattle.fts_routes.specs.Routes.{Route, Jobs, Job, Files, File, Links, Endpoints, Shares, Bans}
+use Rattle.fts_routes.specs.Routes.{Route, Jobs, Job, Files, File, Links, Endpoints, Shares, Bans, JournalEntry}
 use Rattle.fts_routes.specs.declared.routes.Route.{Route as Found}
-use Rattle.fts_routes.specs.declared.routes.Route.TheVariants.{Jobs as FoundJobs, Job as FoundJob, Files as FoundFiles, File as FoundFile, Links as FoundLinks, Endpoints as FoundEndpoints, Shares as FoundShares, Bans as FoundBans}
+use Rattle.fts_routes.specs.declared.routes.Route.TheVariants.{Jobs as FoundJobs, Job as FoundJob, Files as FoundFiles, File as FoundFile, Links as FoundLinks, Endpoints as FoundEndpoints, Shares as FoundShares, Bans as FoundBans, JournalEntry as FoundEntry}
 
 -- the route that was found
 abbrev pub route_data : Found → Route
@@ -21,6 +21,7 @@ route_data FoundLinks = Links
 route_data FoundEndpoints = Endpoints
 route_data FoundShares = Shares
 route_data FoundBans = Bans
+route_data (FoundEntry number) = JournalEntry number.now
 
 -- the names behind a slash, and none where there is no slash
 abbrev pub names_behind : Option (Bor (List ℕ)) → List (List ℕ)

@@ -2,6 +2,7 @@
 use Rattle.std.specs.Prelude.{ℕ, Bool, if◌then◌else◌, List, [], ◌∷◌, ◌++◌, Option, Some, None, unwrap_or, codes, decimal}
 use Rattle.std.specs.Option.{option_map_or}
 use Rattle.serde_json.specs.Data.{Data, null, boolean, string}
+use Rattle.hex.specs.Hex.{encode_lower}
 use Rattle.fts_tables.specs.SettingsData.{SettingsData}
 use Rattle.fts_tables.specs.Tables.{Tables, is_finished, rows_of_job, job_at, row_at}
 use Rattle.fts_tables.specs.Moves.{state_of_job}
@@ -171,6 +172,14 @@ weight_object weight = object_of ((codes "activity", string weight.name) ∷ (co
 -- a ban of a storage, and how many files it cancelled
 abbrev pub ban_object : List ℕ → ℕ → Data
 ban_object storage cancelled = object_of ((codes "cancelled", whole_number cancelled) ∷ (codes "storage", string storage) ∷ [])
+
+-- an entry of the journal: its spelling in lower hexadecimal digits, how many entries there are, and its number
+abbrev pub entry_object : List ℕ → ℕ → ℕ → Data
+entry_object body count number = object_of (
+    (codes "body", string (encode_lower body))
+    ∷ (codes "count", whole_number count)
+    ∷ (codes "number", whole_number number)
+    ∷ [])
 
 -- the end of a ban of a storage
 abbrev pub unban_object : List ℕ → Data

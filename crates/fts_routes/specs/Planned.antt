@@ -1,5 +1,5 @@
 -- What is made of a plan before a command is applied: the reply, or the command with the reply that shows what it will leave.
-use Rattle.std.specs.Prelude.{◌≡◌, ℕ, ◌+◌, ◌==◌, Bool, not, ◌&&◌, ◌++◌, length, IsTrue, Ok, Err}
+use Rattle.std.specs.Prelude.{◌≡◌, ℕ, ◌+◌, ◌==◌, Bool, not, ◌&&◌, List, ◌++◌, length, Option, IsTrue, Ok, Err}
 use Rattle.serde_json.specs.Data.{Data}
 use Rattle.fts_tables.specs.Tables.{Tables}
 use Rattle.fts_tables.specs.Step.{Outcomes, step}
@@ -14,9 +14,9 @@ use Rattle.fts_wire.specs.declared.response.Reply.{Reply}
 use Rattle.fts_keep.specs.Keeps.{KeepData, used_after}
 use Rattle.fts_tables.specs.History.{tables_from}
 use Rattle.fts_routes.specs.Refusals.{shows}
-use Rattle.fts_routes.specs.Replies.{Plan, Replies, Tries, Said, Way, said_so, CausedBy, IsInsteadOf}
+use Rattle.fts_routes.specs.Replies.{Plan, Replies, Looks, Tries, Said, Way, said_only, said_so, entry_reply, CausedBy, IsInsteadOf, AreShown}
 use Rattle.fts_routes.specs.declared.planned.Planned.{Planned}
-use Rattle.fts_routes.specs.declared.planned.Planned.TheVariants.{Replies as PlannedReply, Tries as PlannedCommand}
+use Rattle.fts_routes.specs.declared.planned.Planned.TheVariants.{Replies as PlannedReply, Looks as PlannedLook, Tries as PlannedCommand}
 
 -- a command that a request may ask for
 abbrev pub IsAsked : Command → Type 0
@@ -76,8 +76,13 @@ pub record IsReady (tables : Tables) (command : Command) (reply : Reply) (wanted
 abbrev pub IsPlanned : Tables → Planned → Plan → Type 0
 IsPlanned tables (PlannedReply reply) (Replies wanted) = reply ≡ wanted
 IsPlanned tables (PlannedCommand command reply) (Tries wanted shown) = IsReady tables command reply wanted shown
+IsPlanned tables (PlannedLook number) (Looks wanted) = number ≡ wanted
 IsPlanned tables (PlannedReply reply) (Tries wanted shown) = ⊥
+IsPlanned tables (PlannedReply reply) (Looks wanted) = ⊥
+IsPlanned tables (PlannedLook number) (Replies wanted) = ⊥
+IsPlanned tables (PlannedLook number) (Tries wanted shown) = ⊥
 IsPlanned tables (PlannedCommand command reply) (Replies wanted) = ⊥
+IsPlanned tables (PlannedCommand command reply) (Looks wanted) = ⊥
 
 -- a reply that can be written: its status has a phrase, and a refusal of a method names others
 pub record IsSendable (reply : Reply) : Type 0 where
@@ -94,3 +99,9 @@ pub record Comes {D : Type 0} (state : D → DiskState) (faults : D → ℕ) (ol
   pub commands : new.commands ≡ old.commands + length (said_so way said).added
   pub used : new.used ≡ used_after old.used (said_so way said).added
   pub listed : IsTold (state old.disk) → new.entries ≡ old.entries ++ (said_so way said).added
+
+-- what looking at an entry did to a keep: it said what is shown of that entry
+pub record LooksAtEntry {D : Type 0} (state : D → DiskState) (faults : D → ℕ) (old new : KeepData D) (number : Option ℕ) (reply : Reply) : Type 0 where
+  pub bodies : List (List ℕ)
+  pub shown : AreShown state old bodies
+  pub comes : Comes state faults old new (said_only (entry_reply bodies number)) reply

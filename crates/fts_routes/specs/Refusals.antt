@@ -61,6 +61,10 @@ no_storage = refusal_of (codes "no storage") 39 404
 abbrev pub not_banned : Reply
 not_banned = refusal_of (codes "not banned") 46 404
 
+-- no entry of the journal has the number
+abbrev pub no_entry : Reply
+no_entry = refusal_of (codes "no entry") 47 404
+
 -- the route has no such method, but these
 abbrev pub no_method : Allow → Reply
 no_method allow = reply_of 405 allow (object_of (refusal_members (codes "no such method") 33 405))

@@ -1,6 +1,6 @@
 -- What a request is answered over a list, at a moment, and the entry that it adds. The checks come in this order: the route, its method,
 -- the job, the file, the document's or the query's rules, and then what the machine and the journal refuse.
-use Rattle.std.specs.Prelude.{◌≡◌, ◌≢◌, ◌⊎◌, ℕ, ◌+◌, ◌||◌, Bool, if◌then◌else◌, List, [], ◌∷◌, ◌++◌, length, Option, Some, None, bytes_eq, codes, Result, Ok, Err}
+use Rattle.std.specs.Prelude.{◌≡◌, ◌≢◌, ◌⊎◌, ℕ, ◌+◌, ◌||◌, Bool, if◌then◌else◌, List, [], ◌∷◌, ◌++◌, length, Option, Some, None, option_map, option_and_then, unwrap_or, slice_get, bytes_eq, codes, Result, Ok, Err}
 use Rattle.std.specs.Option.{option_map_or}
 use Rattle.serde_json.specs.Data.{Data, string}
 use Rattle.fts_tables.specs.Tables.{Tables, job_at, rows_of_job}
@@ -28,19 +28,21 @@ use Rattle.fts_jobdoc.specs.declared.ban.BanAsk.{BanAsk}
 use Rattle.fts_jobdoc.specs.declared.ban.BanFault.{BanFault}
 use Rattle.fts_jobdoc.specs.declared.ban.BanFault.TheVariants.{BadStorage}
 use Rattle.fts_jobdoc.specs.declared.fault.DocFault.{DocFault}
-use Rattle.fts_keep.specs.Keeps.{KeepData, used_of, used_after}
+use Rattle.fts_keep.specs.Keeps.{KeepData, bodies_of, used_of, used_after}
 use Rattle.fts_keep.specs.Applied.{Applies, applied_to, entry_by}
 use Rattle.fts_keep.specs.declared.fault.KeepFault.TheVariants.{Rule, DiskFailed, JournalFull, Damaged, Memory}
 use Rattle.fts_routes.specs.Json.{array_of}
-use Rattle.fts_routes.specs.Objects.{settings_in, job_object, file_object, link_object, endpoint_object, weight_object, job_shown, file_shown, accepted_object, ban_object, unban_object}
-use Rattle.fts_routes.specs.Routes.{Route, Jobs, Job, Files, File, Links, Endpoints, Shares, Bans, route_of, allow_of, job_named, file_named}
+use Rattle.fts_routes.specs.Objects.{settings_in, job_object, file_object, link_object, endpoint_object, weight_object, job_shown, file_shown, accepted_object, ban_object, unban_object, entry_object}
+use Rattle.fts_routes.specs.Routes.{Route, Jobs, Job, Files, File, Links, Endpoints, Shares, Bans, JournalEntry, route_of, allow_of, job_named, file_named, entry_number}
 use Rattle.fts_routes.specs.Queries.{QueryFault, asked_in, jobs_asked, storage_asked}
-use Rattle.fts_routes.specs.Refusals.{shows, bad_document, bad_ban, bad_query, no_route, no_job, no_file, no_storage, not_banned, no_method, duplicate, disk_failed, rows_full, jobs_full, journal_full, no_memory}
+use Rattle.fts_routes.specs.Refusals.{shows, bad_document, bad_ban, bad_query, no_route, no_job, no_file, no_storage, not_banned, no_entry, no_method, duplicate, disk_failed, rows_full, jobs_full, journal_full, no_memory}
 
 -- what a request comes to before any command is tried
 pub data Plan : Type 0 where
   -- a reply that needs no command
   Replies : Reply → Plan
+  -- a look at the entry of this number, where a text spells one
+  Looks : Option ℕ → Plan
   -- a command, and what a reply shows of the tables behind it
   Tries : Command → (Tables → Data) → Plan
 
@@ -174,6 +176,11 @@ plan_on_bans tables now request =
     else if has_method request (codes "DELETE") then if_storage (storage_asked request.query) (unbanning now)
     else Replies (no_method (allow_of Bans))
 
+-- /journal/{n}: a look at an entry
+abbrev pub plan_on_entry : RequestData → List ℕ → Plan
+plan_on_entry request text =
+    if has_method request (codes "GET") then Looks (entry_number text) else Replies (no_method (allow_of (JournalEntry text)))
+
 -- the plan of a request, by its route
 abbrev pub plan_on : Tables → ℕ → RequestData → Route → Plan
 plan_on tables now request Jobs = plan_on_jobs tables now request
@@ -184,6 +191,7 @@ plan_on tables now request Links = look_at_settings request link_object (setting
 plan_on tables now request Endpoints = look_at_settings request endpoint_object (settings_in tables).endpoints
 plan_on tables now request Shares = look_at_settings request weight_object (settings_in tables).weights
 plan_on tables now request Bans = plan_on_bans tables now request
+plan_on tables now request (JournalEntry text) = plan_on_entry request text
 
 -- the plan of a request
 abbrev pub plan_of : Tables → ℕ → RequestData → Plan
@@ -197,6 +205,14 @@ pub record Said : Type 0 where
 -- a reply that adds nothing
 abbrev pub said_only : Reply → Said
 said_only reply = record { reply = reply; added = [] }
+
+-- what is shown of the entry of a number, where there is one, over the spellings of all entries
+abbrev pub entry_shown : List (List ℕ) → ℕ → Option Reply
+entry_shown bodies number = option_map (λ body. shows (entry_object body (length bodies) number)) (slice_get bodies number)
+
+-- the reply to a look at an entry
+abbrev pub entry_reply : List (List ℕ) → Option ℕ → Reply
+entry_reply bodies number = unwrap_or (option_and_then (entry_shown bodies) number) no_entry
 
 -- the id of a job
 abbrev pub id_of_job : Tables → ℕ → ℕ
@@ -227,18 +243,19 @@ said_by tables shown entry (Err Memory) = said_only no_memory
 said_by tables shown entry (Err (Damaged offset)) = said_only no_memory
 
 -- what is said by a plan
-abbrev pub said_to : Tables → ℕ → ℕ → Plan → Said
-said_to tables used writer (Replies reply) = said_only reply
-said_to tables used writer (Tries command shown) =
+abbrev pub said_to : Tables → List (List ℕ) → ℕ → ℕ → Plan → Said
+said_to tables bodies used writer (Replies reply) = said_only reply
+said_to tables bodies used writer (Looks number) = said_only (entry_reply bodies number)
+said_to tables bodies used writer (Tries command shown) =
     said_by tables shown (entry_by writer command) (applied_to tables used (entry_by writer command))
 
--- what is said to a request over tables, with so many bytes of the journal used
-abbrev pub said : Tables → ℕ → ℕ → RequestData → ℕ → Said
-said tables used writer request now = said_to tables used writer (plan_of tables now request)
+-- what is said to a request over tables and the spellings of their entries, with so many bytes of the journal used
+abbrev pub said : Tables → List (List ℕ) → ℕ → ℕ → RequestData → ℕ → Said
+said tables bodies used writer request now = said_to tables bodies used writer (plan_of tables now request)
 
 -- the same over a list
 abbrev pub said_over : List Entry → ℕ → RequestData → ℕ → Said
-said_over entries writer request now = said (tables_of entries) (used_of entries) writer request now
+said_over entries writer request now = said (tables_of entries) (bodies_of entries) (used_of entries) writer request now
 
 -- how an answer came about: as it is defined, or there was no memory, or the disk failed
 pub data Way : Type 0 where
@@ -258,23 +275,35 @@ CausedBy AsDefined old new = Unit {0}
 CausedBy WithoutMemory old new = Unit {0}
 CausedBy WithoutDisk old new = Rose old new
 
--- the disk is the cause only where the reply would have come with an entry
+-- a reply shows an entry of a journal
+abbrev pub ShowsEntry : Reply → Type 0
+ShowsEntry reply = (body : List ℕ) × ((count : ℕ) × ((number : ℕ) × (reply ≡ shows (entry_object body count number))))
+
+-- the disk is the cause only where the reply would have come with an entry, or would have shown one
 abbrev pub IsInsteadOf : Way → Said → Type 0
 IsInsteadOf AsDefined said = Unit {0}
 IsInsteadOf WithoutMemory said = Unit {0}
-IsInsteadOf WithoutDisk said = said.added ≢ []
+IsInsteadOf WithoutDisk said = (said.added ≢ []) ⊎ ShowsEntry said.reply
+
+-- The entries of a keep as they are shown: as many as there are commands, and where its disk tells its contents each by its spelling. Over
+-- another disk what a read gives is not known.
+pub record AreShown {D : Type 0} (state : D → DiskState) (keep : KeepData D) (bodies : List (List ℕ)) : Type 0 where
+  pub counted : length bodies ≡ keep.commands
+  pub spelled : IsTold (state keep.disk) → bodies ≡ bodies_of keep.entries
 
 -- what answering a request did to a keep
 pub record Answers {D : Type 0} (state : D → DiskState) (faults : D → ℕ) (old new : KeepData D)
     (writer : ℕ) (request : RequestData) (now : ℕ) (reply : Reply) : Type 0 where
+  pub bodies : List (List ℕ)
+  pub shown : AreShown state old bodies
   pub way : Way
   pub cause : CausedBy way (faults old.disk) (faults new.disk)
-  pub instead : IsInsteadOf way (said old.tables old.used writer request now)
-  pub replies : reply ≡ (said_so way (said old.tables old.used writer request now)).reply
-  pub tables : new.tables ≡ tables_from old.tables (said_so way (said old.tables old.used writer request now)).added
-  pub commands : new.commands ≡ old.commands + length (said_so way (said old.tables old.used writer request now)).added
-  pub used : new.used ≡ used_after old.used (said_so way (said old.tables old.used writer request now)).added
-  pub listed : IsTold (state old.disk) → new.entries ≡ old.entries ++ (said_so way (said old.tables old.used writer request now)).added
+  pub instead : IsInsteadOf way (said old.tables bodies old.used writer request now)
+  pub replies : reply ≡ (said_so way (said old.tables bodies old.used writer request now)).reply
+  pub tables : new.tables ≡ tables_from old.tables (said_so way (said old.tables bodies old.used writer request now)).added
+  pub commands : new.commands ≡ old.commands + length (said_so way (said old.tables bodies old.used writer request now)).added
+  pub used : new.used ≡ used_after old.used (said_so way (said old.tables bodies old.used writer request now)).added
+  pub listed : IsTold (state old.disk) → new.entries ≡ old.entries ++ (said_so way (said old.tables bodies old.used writer request now)).added
 
 -- an entry is in doubt only where it was before, or where the disk's count rose
 abbrev pub DoubtHasCause : {D : Type 0} → (D → DiskState) → (D → ℕ) → KeepData D → KeepData D → Type 0

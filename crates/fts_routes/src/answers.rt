@@ -1,8 +1,9 @@
 //! The answer to a request: its reply, and what it adds to a keep's list, one entry at most.
 //! Order of checks: the route, its method, the job, the file, the document's or the query's rules; so far nothing changes (`plan`). Then the
 //! command is tried, with the reply at hand that shows what it leaves (`try_command`).
+//! A look at an entry of the journal reads it then, and changes nothing (`look_at_entry`).
 //! Called by fts_top. A reply of 503 stands only where the disk's count of faults rose in the call, one of 500 where there was no memory.
-ghost use Rattle.std.specs.Prelude.{◌≡◌, Some, IfOk, IsTrue};
+ghost use Rattle.std.specs.Prelude.{◌≡◌, ℕ, List, [], Some, IfOk, IsTrue};
 ghost use Rattle.serde_json.specs.Data.{Data};
 ghost use Rattle.fts_tables.specs.Tables.{Tables};
 ghost use Rattle.fts_record.specs.Proper.{has_priority};
@@ -14,6 +15,7 @@ ghost use Rattle.fts_routes.specs.Replies.{Answers, DoubtHasCause, Tries, said_t
 ghost use Rattle.fts_routes.specs.Planned.{Comes, IsAsked, IsOfRequests, is_decided, ShowsOutcome, ShowsUnchanged};
 ghost use Rattle.fts_routes.specs.Replies.{reply_to_refusal, id_of_job, said};
 
+use crate::entries::look_at_entry;
 use crate::named::job_of_number;
 use crate::plan::plan;
 use crate::planned::Planned;
@@ -45,10 +47,12 @@ pub fn answer<D: Disk>(
     ensures phrase { IsTrue (has_phrase result.status) }
     ensures methods { IsTrue (has_methods result.status result.allow) }
     // What is said as it is defined is never 500 or 503: these two have their causes outside of the tables.
-    ensures decided { IsTrue (is_decided (said keep.old.tables keep.old.used writer (request_data request.now) now).reply.status) }
+    ensures decided { (bodies : List (List ℕ))
+        → IsTrue (is_decided (said keep.old.tables bodies keep.old.used writer (request_data request.now) now).reply.status) }
 {
     match plan(alloc, keep.desk(), request, now) {
         Ok(Planned::Replies { reply }) => reply,
+        Ok(Planned::Looks { number }) => look_at_entry(alloc, keep, number),
         Ok(Planned::Tries { command, reply }) => try_command(alloc, keep, writer, command, reply),
         Err(Memory) => no_memory(alloc),
     }
@@ -65,7 +69,7 @@ fn try_command<D: Disk>(
     requires priority { IsTrue (has_priority command) }
     requires asked { IsAsked command }
     ensures comes { (shown : Tables → Data) → ShowsOutcome shown keep.old.tables reply (step keep.old.tables command)
-        → Comes D.state D.faults keep.old keep.new (said_to keep.old.tables keep.old.used writer (Tries command shown)) result }
+        → Comes D.state D.faults keep.old keep.new (said_to keep.old.tables [] keep.old.used writer (Tries command shown)) result }
     ensures grows { Grows D.state D.faults writer keep.old keep.new }
     ensures images { KeepsImagesSinceAny D.state keep.old keep.new }
     ensures doubt { DoubtHasCause D.state D.faults keep.old keep.new }

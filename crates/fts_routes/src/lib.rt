@@ -9,6 +9,7 @@ mod answers;
 mod bans;
 mod changes;
 mod counts;
+mod entries;
 mod looks;
 mod named;
 mod objects;

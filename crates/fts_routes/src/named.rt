@@ -3,13 +3,16 @@
 //! Called by `answers`.
 ghost use Rattle.std.specs.Prelude.{◌≡◌, Some, IfSome, IsSome, option_map};
 ghost use Rattle.fts_tables.specs.Tables.{job_at, row_at};
-ghost use Rattle.fts_routes.specs.Routes.{id_in, job_named, file_named};
+ghost use Rattle.fts_routes.specs.Routes.{id_in, job_named, file_named, entry_number};
 ghost use Rattle.fts_routes.specs.Objects.{settings_in, state_in};
 
 use crate::queries::number_in;
 use fts_desk::Desk;
 use fts_tables::{FileRow, JobRow, JobState, Settings};
 use uuid::Uuid;
+
+/// The number of a file or of an entry has so many decimal digits at most.
+const MAX_DIGITS: usize = 10;
 
 /// The id that a text of 36 bytes spells (RFC 9562).
 fn id_in(text: &str) -> Option<u128>
@@ -49,13 +52,20 @@ pub fn file_named<'d>(desk: &'d Desk, job: &JobRow, text: &str) -> Option<&'d Fi
     ensures id { IfSome result (λ row. row_at desk.now.tables.rows row.now.id ≡ Some row.now) }
     ensures own { IfSome result (λ row. row.now.job ≡ job.now.number) }
 {
-    let number = number_in(text, 10)?;
+    let number = number_in(text, MAX_DIGITS)?;
     let row = row_of_number(desk, number)?;
     if row.job == job.number {
         Some(row)
     } else {
         None
     }
+}
+
+/// The number of an entry that a text spells.
+pub fn entry_number(text: &str) -> Option<u64>
+    ensures { result ≡ entry_number text.now }
+{
+    number_in(text, MAX_DIGITS)
 }
 
 /// The row of an id.

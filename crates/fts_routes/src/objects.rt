@@ -10,10 +10,10 @@ ghost use Rattle.fts_tables.specs.Step.{with_priority};
 ghost use Rattle.fts_states.specs.Afters.{with_cancel};
 ghost use Rattle.fts_routes.specs.Json.{array_of, body_of, whole_number};
 ghost use Rattle.fts_routes.specs.Values.{file_with_texts};
-ghost use Rattle.fts_routes.specs.Objects.{job_in_state, file_object, link_object, endpoint_object, weight_object, accepted_object, ban_object, unban_object};
+ghost use Rattle.fts_routes.specs.Objects.{job_in_state, file_object, link_object, endpoint_object, weight_object, accepted_object, ban_object, unban_object, entry_object};
 
 use crate::texts::{
-    checksum_text, file_state_text, id_text, job_state_text, kind_text, reason_text,
+    checksum_text, file_state_text, hex_text, id_text, job_state_text, kind_text, reason_text,
     seen_digest_text, surl_text,
 };
 use fts_states::CancelStep;
@@ -47,6 +47,15 @@ pub fn ban_value(alloc: Global, storage: &str, cancelled: u32) -> Result<Value, 
     ensures { IfOk result (λ value. view value ≡ ban_object storage.now cancelled) }
 {
     let value = json!(in alloc; {"cancelled": cancelled, "storage": storage})?;
+    Ok(value)
+}
+
+/// An entry of the journal, of so many.
+pub fn entry_value(alloc: Global, body: &[u8], count: u32, number: u32) -> Result<Value, Memory>
+    ensures { IfOk result (λ value. view value ≡ entry_object body.now count number) }
+{
+    let body = hex_text(alloc, body)?;
+    let value = json!(in alloc; {"body": &body, "count": count, "number": number})?;
     Ok(value)
 }
 

@@ -9,7 +9,7 @@ ghost use Rattle.fts_routes.specs.Objects.{settings_in};
 ghost use Rattle.fts_routes.specs.Routes.{job_named, file_named};
 ghost use Rattle.fts_routes.specs.Found.{route_data};
 ghost use Rattle.fts_routes.specs.Refusals.{bad_document, no_job};
-ghost use Rattle.fts_routes.specs.Replies.{plan_of, plan_on, plan_on_jobs, plan_on_job, plan_on_files, plan_on_file, look_at_settings};
+ghost use Rattle.fts_routes.specs.Replies.{plan_of, plan_on, plan_on_jobs, plan_on_job, plan_on_files, plan_on_file, plan_on_entry, look_at_settings};
 ghost use Rattle.fts_routes.specs.Replies.{look_at_job, look_at_files, submission, cancellation, prioritization, file_cancellation, if_read, if_job, if_file};
 ghost use Rattle.fts_routes.specs.Planned.{IsPlanned};
 ghost use Rattle.fts_routes.specs.declared.planned.Planned.TheVariants.{Replies as PlannedReply};
@@ -17,7 +17,7 @@ ghost use Rattle.fts_routes.specs.declared.planned.Planned.TheVariants.{Replies 
 use crate::bans::plan_on_bans;
 use crate::changes::{plan_cancellation, plan_file_cancellation, plan_priority, plan_submission};
 use crate::looks::{look_at_job, look_at_jobs, look_at_list};
-use crate::named::{file_named, job_named, settings_of};
+use crate::named::{entry_number, file_named, job_named, settings_of};
 use crate::objects::Shown;
 use crate::planned::{Planned, refuse_method};
 use crate::replies::{bad_document, no_file, no_job, no_route};
@@ -62,6 +62,7 @@ fn plan_on(
         Route::Endpoints => { plan_on_list(alloc, request, settings_of(desk).endpoints.as_slice()) }
         Route::Shares => plan_on_list(alloc, request, settings_of(desk).weights.as_slice()),
         Route::Bans => plan_on_bans(alloc, desk, request, now),
+        Route::JournalEntry { number } => plan_on_entry(alloc, request, number),
     }
 }
 
@@ -269,6 +270,18 @@ fn plan_on_list<T: Shown>(
             let reply = look_at_list(alloc, items)?;
             Ok(Planned::Replies { reply })
         }
+        _ => refuse_method(alloc, Allow::Get),
+    }
+}
+
+/// /journal/{n}: a look at an entry.
+fn plan_on_entry(alloc: Global, request: &Request<'_>, number: &str) -> Result<Planned, Memory>
+    ensures { IfOk result (λ planned. (tables : Tables) → IsPlanned tables planned (plan_on_entry (request_data request.now) number.now)) }
+{
+    match request.method {
+        "GET" => Ok(Planned::Looks {
+            number: entry_number(number),
+        }),
         _ => refuse_method(alloc, Allow::Get),
     }
 }

@@ -14,6 +14,8 @@ use std::alloc::Global;
 pub enum Planned {
     /// A reply that needs no command.
     Replies { reply: Reply },
+    /// A look at the journal's entry of this number, where a text spells one.
+    Looks { number: Option<u64> },
     /// A command, and the reply that shows what it leaves, or what it doesn't change.
     Tries { command: Command, reply: Reply },
 }

@@ -5,7 +5,7 @@ ghost use Rattle.std.specs.Prelude.{◌≡◌, IfOk, IfErr, false};
 ghost use Rattle.serde_json.specs.View.{view};
 ghost use Rattle.serde_json.specs.Written.{has_float};
 ghost use Rattle.fts_routes.specs.Json.{object_of};
-ghost use Rattle.fts_routes.specs.Refusals.{refusal_members, refusal_of, reply_of, shows, bad_document, bad_ban, bad_query, no_route, no_job, no_file, no_storage, not_banned};
+ghost use Rattle.fts_routes.specs.Refusals.{refusal_members, refusal_of, reply_of, shows, bad_document, bad_ban, bad_query, no_route, no_job, no_file, no_storage, not_banned, no_entry};
 ghost use Rattle.fts_routes.specs.Refusals.{no_method, duplicate, disk_failed, rows_full, jobs_full, journal_full, no_memory, duplicate_members, IsOrNoMemory};
 ghost use Rattle.fts_routes.specs.Queries.{BadStates as TheBadStates, BadLimit as TheBadLimit};
 
@@ -55,6 +55,9 @@ const NO_STORAGE: u32 = 39;
 
 /// The rule that the storage is banned.
 const NOT_BANNED: u32 = 46;
+
+/// The rule that the journal has the entry.
+const NO_ENTRY: u32 = 47;
 
 /// The reply where there is no memory for another one. It takes none.
 pub fn no_memory(alloc: Global) -> Reply
@@ -182,6 +185,13 @@ pub fn not_banned(alloc: Global) -> Result<Reply, Memory>
     ensures { IfOk result (λ reply. reply ≡ not_banned) }
 {
     refusal(alloc, "not banned", NOT_BANNED, statuses::NOT_FOUND)
+}
+
+/// No entry of the journal has the number.
+pub fn no_entry(alloc: Global) -> Result<Reply, Memory>
+    ensures { IfOk result (λ reply. reply ≡ no_entry) }
+{
+    refusal(alloc, "no entry", NO_ENTRY, statuses::NOT_FOUND)
 }
 
 /// The route has no such method, but these.

@@ -3,7 +3,7 @@
 //! Called by `answers`.
 ghost use Rattle.std.specs.Prelude.{◌≡◌, [], ◌∷◌, false, bytes_eq, option_map};
 ghost use Rattle.fts_tables.specs.Names.{segments};
-ghost use Rattle.fts_routes.specs.Routes.{route_of, route_of_names, route_of_jobs, route_of_job, route_of_files, route_of_config, route_of_ban};
+ghost use Rattle.fts_routes.specs.Routes.{route_of, route_of_names, route_of_jobs, route_of_job, route_of_files, route_of_config, route_of_ban, route_of_journal};
 ghost use Rattle.fts_routes.specs.Found.{route_data, names_behind};
 
 /// Where a path leads, with the texts at its names.
@@ -17,6 +17,7 @@ pub enum Route<'a> {
     Endpoints,
     Shares,
     Bans,
+    JournalEntry { number: &'a str },
 }
 
 /// Where a path leads. `None` exactly where it has no route.
@@ -49,6 +50,7 @@ fn find_among_names(names: &str) -> Option<Route<'_>>
         "jobs" => find_behind_jobs(rest),
         "config" => find_behind_config(rest),
         "ban" => find_behind_ban(rest),
+        "journal" => find_behind_journal(rest),
         _ => None,
     }
 }
@@ -150,5 +152,17 @@ fn find_bans(word: &str) -> Option<Route<'_>>
     match word {
         "se" => Some(Route::Bans),
         _ => None,
+    }
+}
+
+/// Behind /journal.
+fn find_behind_journal(rest: Option<&str>) -> Option<Route<'_>>
+    ensures { option_map route_data result ≡ route_of_journal (names_behind rest.entry) }
+{
+    let (number, rest) = cut(rest?);
+    match rest {
+        Some(_) => None,
+        None if number.is_empty() => None,
+        None => Some(Route::JournalEntry { number }),
     }
 }

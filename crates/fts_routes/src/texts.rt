@@ -3,6 +3,7 @@
 //! Called by `objects` and `replies`.
 ghost use Rattle.std.specs.Prelude.{◌≡◌, ◌++◌, IfOk, decimal};
 ghost use Rattle.std.specs.String.{string_bytes};
+ghost use Rattle.hex.specs.Hex.{encode_lower};
 ghost use Rattle.fts_routes.specs.Json.{id_text, digest_text};
 ghost use Rattle.fts_routes.specs.Objects.{file_state_text, job_state_text, kind_text, outcome_text, reason_text};
 ghost use Rattle.fts_routes.specs.Objects.{surl_text, checksum_text, seen_digest_text_of};
@@ -64,7 +65,14 @@ pub fn id_text(alloc: Global, id: u128) -> Result<String, Memory>
 pub fn digest_text(alloc: Global, digest: [u8; 16]) -> Result<String, Memory>
     ensures { IfOk result (λ text. string_bytes text ≡ digest_text digest) }
 {
-    let text = hex::encode(alloc, digest)?;
+    hex_text(alloc, &digest)
+}
+
+/// Bytes in lower hexadecimal digits.
+pub fn hex_text(alloc: Global, bytes: &[u8]) -> Result<String, Memory>
+    ensures { IfOk result (λ text. string_bytes text ≡ encode_lower bytes.now) }
+{
+    let text = hex::encode(alloc, bytes)?;
     Ok(text)
 }
 

@@ -16,11 +16,12 @@ module _ {D : Type 0} (disks : disk.Ghosts D) (work : ShopData D → ShopData D 
     (took : TookTurn shop_entries writer_of (shop_shows disks) work old new) (request : RequestData) (now : ℕ) (reply : Reply)
     (answers : AnswersIn disks old.number request now took.before took.after reply) where
   -- what is said over the keep is what is said over the list before the turn
-  said_is : IsToldList old → said took.before.keep.tables took.before.keep.used old.number request now
+  said_is : IsToldList old → said took.before.keep.tables answers.answers.bodies took.before.keep.used old.number request now
       ≡ said_over (point (taken_of disks work old new same took)) old.number request now
   said_is told =
-      let holds = answers.kept.fold.holds (answers.told (some_met disks work old new same took told)) in
-      (λ i. said (holds.folded i) (holds.fills i) old.number request now) ∙ ap (λ (list : List Entry). said_over list old.number request now) took.began
+      let tells = answers.told (some_met disks work old new same took told) in
+      let holds = answers.kept.fold.holds tells in
+      (λ i. said (holds.folded i) (answers.answers.shown.spelled tells i) (holds.fills i) old.number request now) ∙ ap (λ (list : List Entry). said_over list old.number request now) took.began
 
   -- the request was answered in the turn
   pub answered_in_turn : AnsweredInTurn old new request now reply
@@ -33,7 +34,7 @@ module _ {D : Type 0} (disks : disk.Ghosts D) (work : ShopData D → ShopData D 
     instead = λ told. subst (λ (s : Said). IsInsteadOf answers.answers.way s) (said_is told) answers.answers.instead;
     replies = λ told. answers.answers.replies ∙ ap (λ (s : Said). (said_so answers.answers.way s).reply) (said_is told);
     added = λ told. append_cancel_left took.before.keep.entries took.added
-        (said_so answers.answers.way (said took.before.keep.tables took.before.keep.used old.number request now)).added
+        (said_so answers.answers.way (said took.before.keep.tables answers.answers.bodies took.before.keep.used old.number request now)).added
         (sym took.appended ∙ answers.answers.listed (answers.told (some_met disks work old new same took told)))
         ∙ ap (λ (s : Said). (said_so answers.answers.way s).added) (said_is told);
   }

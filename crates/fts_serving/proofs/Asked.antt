@@ -16,20 +16,21 @@ use Rattle.fts_jobdoc.specs.declared.ban.BanAsk.{BanAsk}
 use Rattle.fts_jobdoc.specs.declared.ban.BanFault.{BanFault}
 use Rattle.fts_wire.specs.RequestData.{RequestData}
 use Rattle.fts_keep.specs.Applied.{Applies, applied_to, entry_by}
-use Rattle.fts_keep.specs.Keeps.{used_of}
+use Rattle.fts_keep.specs.Keeps.{bodies_of, used_of}
 use Rattle.fts_keep.specs.declared.fault.KeepFault.{KeepFault}
 use Rattle.fts_keep.specs.declared.fault.KeepFault.TheVariants.{Rule, DiskFailed, JournalFull, Damaged, Memory}
 use Rattle.fts_tables.specs.History.{tables_of}
 use Rattle.fts_routes.specs.Objects.{endpoint_object, link_object, settings_in, weight_object}
 use Rattle.fts_routes.specs.Refusals.{no_route}
-use Rattle.fts_routes.specs.Routes.{Route, Jobs, Job, Files, File, Links, Endpoints, Shares, Bans, route_of, job_named, file_named}
+use Rattle.fts_routes.specs.Routes.{Route, Jobs, Job, Files, File, Links, Endpoints, Shares, Bans, JournalEntry, route_of, job_named, file_named}
 use Rattle.fts_routes.specs.Queries.{QueryFault, asked_in, storage_asked}
-use Rattle.fts_routes.specs.Replies.{Plan, Replies, Tries, Way, AsDefined, WithoutMemory, WithoutDisk, if_job, if_file, if_read, if_ban, if_storage, banning, unbanning, plan_on_bans, jobs_plan, submission, has_method, plan_on_jobs, look_at_job, cancellation, prioritization, plan_on_job, look_at_files, plan_on_files, file_cancellation, plan_on_file, look_at_settings, plan_on, plan_of, said_by, said_to, said_over, said_so}
+use Rattle.fts_routes.specs.Replies.{Plan, Replies, Looks, Tries, Way, AsDefined, WithoutMemory, WithoutDisk, if_job, if_file, if_read, if_ban, if_storage, banning, unbanning, plan_on_bans, jobs_plan, submission, has_method, plan_on_jobs, look_at_job, cancellation, prioritization, plan_on_job, look_at_files, plan_on_files, file_cancellation, plan_on_file, look_at_settings, plan_on, plan_of, said_by, said_to, said_over, said_so}
 use Rattle.fts_ledger.specs.Reports.{AddsAsked, IsAsked}
 
 -- a plan that tries a client's command, or none
 abbrev PlansAsked : Plan → Type 0
 PlansAsked (Replies reply) = Unit {0}
+PlansAsked (Looks number) = Unit {0}
 PlansAsked (Tries command shown) = IsAsked command
 
 either : (test : Bool) (one other : Plan) → PlansAsked one → PlansAsked other → PlansAsked (cond test one other)
@@ -102,6 +103,7 @@ on_route tables now request Links = on_settings request link_object (settings_in
 on_route tables now request Endpoints = on_settings request endpoint_object (settings_in tables).endpoints
 on_route tables now request Shares = on_settings request weight_object (settings_in tables).weights
 on_route tables now request Bans = on_bans tables now request
+on_route tables now request (JournalEntry number) = either (has_method request (codes "GET")) _ _ tt tt
 
 plan_asked : (tables : Tables) (now : ℕ) (request : RequestData) → PlansAsked (plan_of tables now request)
 plan_asked tables now request = by (route_of request.path)
@@ -123,15 +125,16 @@ by_asked tables shown entry (Err DiskFailed) asked = tt
 by_asked tables shown entry (Err Memory) asked = tt
 by_asked tables shown entry (Err (Damaged offset)) asked = tt
 
-to_asked : (tables : Tables) (used writer : ℕ) (plan : Plan) → PlansAsked plan → AllAsked (said_to tables used writer plan).added
-to_asked tables used writer (Replies reply) asked = tt
-to_asked tables used writer (Tries command shown) asked =
+to_asked : (tables : Tables) (bodies : List (List ℕ)) (used writer : ℕ) (plan : Plan) → PlansAsked plan → AllAsked (said_to tables bodies used writer plan).added
+to_asked tables bodies used writer (Replies reply) asked = tt
+to_asked tables bodies used writer (Looks number) asked = tt
+to_asked tables bodies used writer (Tries command shown) asked =
     by_asked tables shown (entry_by writer command) (applied_to tables used (entry_by writer command)) asked
 
 -- what is said to a request adds a client's command, or none
 pub said_asked : (way : Way) (entries : List Entry) (writer : ℕ) (request : RequestData) (now : ℕ)
     → AllAsked (said_so way (said_over entries writer request now)).added
 said_asked AsDefined entries writer request now =
-    to_asked (tables_of entries) (used_of entries) writer (plan_of (tables_of entries) now request) (plan_asked (tables_of entries) now request)
+    to_asked (tables_of entries) (bodies_of entries) (used_of entries) writer (plan_of (tables_of entries) now request) (plan_asked (tables_of entries) now request)
 said_asked WithoutMemory entries writer request now = tt
 said_asked WithoutDisk entries writer request now = tt

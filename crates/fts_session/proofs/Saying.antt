@@ -34,7 +34,7 @@ adds tables added (inl none) = inl none
 adds tables added (inr one) = inr (one.0, (one.1.0, (one.1.1.0, is_of_request one.0.command one.1.1.1)))
 
 -- whatever is said to a request
-pub said_well : (tables : Tables) (used writer : ℕ) (request : RequestData) (now : ℕ) (way : Way)
-    → AddsWell tables (said_so way (said tables used writer request now)).added
-said_well tables used writer request now way =
-    adds tables (said_so way (said tables used writer request now)).added (adds_well tables used writer request now way)
+pub said_well : (tables : Tables) (bodies : List (List ℕ)) (used writer : ℕ) (request : RequestData) (now : ℕ) (way : Way)
+    → AddsWell tables (said_so way (said tables bodies used writer request now)).added
+said_well tables bodies used writer request now way =
+    adds tables (said_so way (said tables bodies used writer request now)).added (adds_well tables bodies used writer request now way)

@@ -1,5 +1,5 @@
 -- A connection's loop over a keep and a bench, request by request, and the last rounds.
-use Rattle.std.proofs.Common.{◌≡◌, ◌⊎◌, inl, inr, ℕ, zero, suc, ◌+◌, ◌-◌, ◌<◌, ◌≤◌, true, false, List, [], ◌∷◌, ◌++◌, length, Option, Ok, Err, refl, ap, sym, ◌∙◌, subst, arith}
+use Rattle.std.proofs.Common.{◌≡◌, ◌⊎◌, inl, inr, ℕ, zero, suc, ◌+◌, ◌-◌, ◌<◌, ◌≤◌, Bool, true, false, List, [], ◌∷◌, ◌++◌, length, Option, Ok, Err, refl, ap, sym, ◌∙◌, subst, arith}
 use Rattle.fts_tables.specs.Coming.{Coming, Gives}
 use Rattle.fts_tables.specs.History.{out_of_list}
 use Rattle.fts_tables.specs.declared.limits.TheConstants.{MAX_REQUESTS}
@@ -93,49 +93,49 @@ module _ {D E : Type 0} (disks : disk.Ghosts D) (stores : store.Ghosts E)
   -- so many requests were answered, and a round was made behind each
   abbrev pub SoFar : ℕ → List ℕ → Reading → Option (List ℕ) → ThreadData D E → Type 0
   SoFar n behind now output here = Works disks stores
-      (λ start at. InProgress AnswersNext (FollowedByRound workers) kept start input held n behind now output at) old here
+      (λ own start at. InProgress (AnswersNext own) (FollowedByRound workers) kept start input held n behind now output at) old here
 
   -- a connection that ended so
   abbrev pub Ended : LineEnd → Reading → Option (List ℕ) → ThreadData D E → Type 0
   Ended end left output here = Works disks stores
-      (λ before after. IsConnection AnswersNext (FollowedByRound workers) kept before after input left held output end) old here
+      (λ own before after. IsConnection (AnswersNext own) (FollowedByRound workers) kept before after input left held output end) old here
 
   -- none was answered yet
   pub nothing_yet : IsReady old → IsKeep disks.state old.keep → (IsTold (disks.state old.keep.disk) → IsLawful (disks.state old.keep.disk)) → SoFar 0 kept input held old
   nothing_yet ready sound lawful = works_none disks stores
-      (λ start at. InProgress AnswersNext (FollowedByRound workers) kept start input held 0 kept input held at) old ready sound lawful
-      (λ walk. begun AnswersNext (FollowedByRound workers) kept walk input held walk refl)
+      (λ own start at. InProgress (AnswersNext own) (FollowedByRound workers) kept start input held 0 kept input held at) old ready sound lawful
+      (λ own walk. begun (AnswersNext own) (FollowedByRound workers) kept walk input held walk refl)
 
   module _ (n : ℕ) (behind : List ℕ) (now : Reading) (output : Option (List ℕ)) (here : ThreadData D E) (so_far : SoFar n behind now output here) where
     -- the connection ends with what was answered
     ends_over : (end : LineEnd) (left : Reading) (output2 : Option (List ℕ))
-        → ((start at : Walk) → InProgress AnswersNext (FollowedByRound workers) kept start input held n behind now output at
-        → IsConnection AnswersNext (FollowedByRound workers) kept start at input left held output2 end)
+        → ((own : Bool) (start at : Walk) → InProgress (AnswersNext own) (FollowedByRound workers) kept start input held n behind now output at
+        → IsConnection (AnswersNext own) (FollowedByRound workers) kept start at input left held output2 end)
         → Ended end left output2 here
     ends_over end left output2 implies = works_as disks stores
-        (λ start at. InProgress AnswersNext (FollowedByRound workers) kept start input held n behind now output at)
-        (λ before after. IsConnection AnswersNext (FollowedByRound workers) kept before after input left held output2 end) old here implies so_far
+        (λ own start at. InProgress (AnswersNext own) (FollowedByRound workers) kept start input held n behind now output at)
+        (λ own before after. IsConnection (AnswersNext own) (FollowedByRound workers) kept before after input left held output2 end) old here implies so_far
 
     pub ends_closed : (input2 : Reading) (room : RoomData) → n < MAX_REQUESTS → Loads behind now input2 room (Ok false) → Ended line_ends.Closed input2 output here
     ends_closed input2 room few load = ends_over line_ends.Closed input2 output
-        (λ start at done. closed AnswersNext (FollowedByRound workers) kept start input held n behind now output at done input2 room few load)
+        (λ own start at done. closed (AnswersNext own) (FollowedByRound workers) kept start input held n behind now output at done input2 room few load)
 
     pub ends_inside : (input2 : Reading) (room : RoomData) → n < MAX_REQUESTS → Loads behind now input2 room (Err EndsInside) → Ended line_ends.EndsInside input2 output here
     ends_inside input2 room few load = ends_over line_ends.EndsInside input2 output
-        (λ start at done. ended_inside AnswersNext (FollowedByRound workers) kept start input held n behind now output at done input2 room few load)
+        (λ own start at done. ended_inside (AnswersNext own) (FollowedByRound workers) kept start input held n behind now output at done input2 room few load)
 
     pub ends_by_read : (input2 : Reading) (room : RoomData) → n < MAX_REQUESTS → Loads behind now input2 room (Err SourceFailed) → Ended line_ends.SourceFailed input2 output here
     ends_by_read input2 room few load = ends_over line_ends.SourceFailed input2 output
-        (λ start at done. read_failed AnswersNext (FollowedByRound workers) kept start input held n behind now output at done input2 room few load)
+        (λ own start at done. read_failed (AnswersNext own) (FollowedByRound workers) kept start input held n behind now output at done input2 room few load)
 
     pub ends_refused : (input2 : Reading) (output2 : Option (List ℕ)) (room : RoomData) (fault : WireFault) (end : LineEnd) → n < MAX_REQUESTS
         → Loads behind now input2 room (Err fault) → IsRefused output output2 fault end → Ended end input2 output2 here
     ends_refused input2 output2 room fault end few load is = ends_over end input2 output2
-        (λ start at done. refused AnswersNext (FollowedByRound workers) kept start input held n behind now output at done input2 output2 room fault end few load is)
+        (λ own start at done. refused (AnswersNext own) (FollowedByRound workers) kept start input held n behind now output at done input2 output2 room fault end few load is)
 
     pub ends_by_many : n ≡ MAX_REQUESTS → Ended line_ends.Many now output here
     ends_by_many all = ends_over line_ends.Many now output
-        (λ start at done. many AnswersNext (FollowedByRound workers) kept start input held n behind now output at done all)
+        (λ own start at done. many (AnswersNext own) (FollowedByRound workers) kept start input held n behind now output at done all)
 
     module _ (law : LeavesBench) (new : KeepData D) (input2 : Reading) (output2 : Option (List ℕ)) (coming : Option Coming) (room : RoomData) (moment : ℕ) (reply : Reply)
         (load : Loads behind now input2 room (Ok true)) (tick : Gives here.moments coming moment)
@@ -145,18 +145,18 @@ module _ {D E : Type 0} (disks : disk.Ghosts D) (stores : store.Ghosts E)
       answered = record here { keep = new; moments = coming }
 
       -- the request, answered over whatever list
-      one_answer : Works disks stores (λ before after. AnswersNext before room.request reply after) here answered
+      one_answer : Works disks stores (λ own before after. AnswersNext own before room.request reply after) here answered
       one_answer = works_answer disks stores law here.keep new here.bench here.claims here.store here.moments coming here.words room.request moment reply
           so_far.ready answers grows images tick
 
       -- what was answered, and this request behind it
-      abbrev WithOne : Walk → Walk → Type 0
-      WithOne start after = (at : Walk) × (InProgress AnswersNext (FollowedByRound workers) kept start input held n behind now output at × AnswersNext at room.request reply after)
+      abbrev WithOne : Bool → Walk → Walk → Type 0
+      WithOne own start after = (at : Walk) × (InProgress (AnswersNext own) (FollowedByRound workers) kept start input held n behind now output at × AnswersNext own at room.request reply after)
 
       with_one : Works disks stores WithOne old answered
       with_one = works_more disks stores
-          (λ start at. InProgress AnswersNext (FollowedByRound workers) kept start input held n behind now output at)
-          (λ before after. AnswersNext before room.request reply after) WithOne old here answered (λ start at after done next. (at, (done, next))) so_far one_answer
+          (λ own start at. InProgress (AnswersNext own) (FollowedByRound workers) kept start input held n behind now output at)
+          (λ own before after. AnswersNext own before room.request reply after) WithOne old here answered (λ own start at after done next. (at, (done, next))) so_far one_answer
 
       pub is_ready : IsReady answered
       is_ready = one_answer.ready
@@ -167,58 +167,59 @@ module _ {D E : Type 0} (disks : disk.Ghosts D) (stores : store.Ghosts E)
 
       -- its response was written, and a round was made; the connection goes on
       pub one_more : (end : RoundEnd) (next : ThreadData D E) → here.bench.places ≡ workers → Sends {E = SinkFailed} output output2 response (Ok tt)
-          → Works disks stores (λ before after. IsRound here.bench.places before end after) answered next
+          → Works disks stores (λ own before after. IsRound here.bench.places before end after) answered next
           → room.request.close ≡ false → SoFar (n + 1) room.kept input2 output2 next
-      one_more end next places sent round goes = works_more disks stores WithOne (λ before after. IsRound here.bench.places before end after)
-          (λ start at. InProgress AnswersNext (FollowedByRound workers) kept start input held (n + 1) room.kept input2 output2 at) old answered next
-          (λ start mid after done made. turn AnswersNext (FollowedByRound workers) kept start input held n behind now output done.0 done.1.0 input2 output2 room reply mid after
+      one_more end next places sent round goes = works_more disks stores WithOne (λ own before after. IsRound here.bench.places before end after)
+          (λ own start at. InProgress (AnswersNext own) (FollowedByRound workers) kept start input held (n + 1) room.kept input2 output2 at) old answered next
+          (λ own start mid after done made. turn (AnswersNext own) (FollowedByRound workers) kept start input held n behind now output done.0 done.1.0 input2 output2 room reply mid after
           load done.1.1 (end, subst (λ (w : ℕ). IsRound w mid end after) places made) sent goes) with_one round
 
       -- its response was written, and a round was made; it says close
       pub ends_by_close : (end : RoundEnd) (next : ThreadData D E) → n < MAX_REQUESTS → here.bench.places ≡ workers → Sends {E = SinkFailed} output output2 response (Ok tt)
-          → Works disks stores (λ before after. IsRound here.bench.places before end after) answered next
+          → Works disks stores (λ own before after. IsRound here.bench.places before end after) answered next
           → room.request.close ≡ true → Ended line_ends.Closed input2 output2 next
-      ends_by_close end next few places sent round closes = works_more disks stores WithOne (λ before after. IsRound here.bench.places before end after)
-          (λ before after. IsConnection AnswersNext (FollowedByRound workers) kept before after input input2 held output2 line_ends.Closed) old answered next
-          (λ start mid after done made. closed_by AnswersNext (FollowedByRound workers) kept start input held n behind now output done.0 done.1.0 input2 output2 room reply mid after
+      ends_by_close end next few places sent round closes = works_more disks stores WithOne (λ own before after. IsRound here.bench.places before end after)
+          (λ own before after. IsConnection (AnswersNext own) (FollowedByRound workers) kept before after input input2 held output2 line_ends.Closed) old answered next
+          (λ own start mid after done made. closed_by (AnswersNext own) (FollowedByRound workers) kept start input held n behind now output done.0 done.1.0 input2 output2 room reply mid after
           few load done.1.1 (end, subst (λ (w : ℕ). IsRound w mid end after) places made) sent closes) with_one round
 
       -- its response was cut short
       pub ends_cut : (e : SinkFailed) → n < MAX_REQUESTS → Sends output output2 response (Err e) → Ended line_ends.SinkFailed input2 output2 answered
       ends_cut e few sent = works_as disks stores WithOne
-          (λ before after. IsConnection AnswersNext (FollowedByRound workers) kept before after input input2 held output2 line_ends.SinkFailed) old answered
-          (λ start after done. cut AnswersNext (FollowedByRound workers) kept start input held n behind now output done.0 done.1.0 input2 output2 room reply after e few
+          (λ own before after. IsConnection (AnswersNext own) (FollowedByRound workers) kept before after input input2 held output2 line_ends.SinkFailed) old answered
+          (λ own start after done. cut (AnswersNext own) (FollowedByRound workers) kept start input held n behind now output done.0 done.1.0 input2 output2 room reply after e few
           load done.1.1 sent) with_one
 
   -- a connection and the last rounds behind it are a session
   pub session_of : (line : LineEnd) (last : RoundEnd) (mid new : ThreadData D E) (left : Reading) (output : Option (List ℕ)) → mid.bench.places ≡ workers
-      → Ended line left output mid → Works disks stores (LastRounds mid.bench.places last) mid new
-      → Works disks stores (IsSession kept workers input left held output (record { line = line; last = last })) old new
+      → Ended line left output mid → Works disks stores (λ own before after. LastRounds mid.bench.places last before after) mid new
+      → Works disks stores (λ own before after. IsSession own kept workers input left held output (record { line = line; last = last }) before after) old new
   session_of line last mid new left output places ended rounds = works_more disks stores
-      (λ before after. IsConnection AnswersNext (FollowedByRound workers) kept before after input left held output line) (LastRounds mid.bench.places last)
-      (IsSession kept workers input left held output (record { line = line; last = last })) old mid new
-      (λ before between after one two. record { between = between; connection = one; rounds = subst (λ (w : ℕ). LastRounds w last between after) places two })
+      (λ own before after. IsConnection (AnswersNext own) (FollowedByRound workers) kept before after input left held output line)
+      (λ own before after. LastRounds mid.bench.places last before after)
+      (λ own before after. IsSession own kept workers input left held output (record { line = line; last = last }) before after) old mid new
+      (λ own before between after one two. record { between = between; connection = one; rounds = subst (λ (w : ℕ). LastRounds w last between after) places two })
       ended rounds
 
 module _ {D E : Type 0} (disks : disk.Ghosts D) (stores : store.Ghosts E)
-    (workers : ℕ) (old here next : ThreadData D E) (places : here.bench.places ≡ workers) (so_far : Works disks stores (RoundsOn workers) old here) where
+    (workers : ℕ) (old here next : ThreadData D E) (places : here.bench.places ≡ workers) (so_far : Works disks stores (λ own before after. RoundsOn workers before after) old here) where
   -- a busy round more
-  pub rounds_more : (busy : ℕ) → Works disks stores (λ before after. IsRound here.bench.places before (Busy busy) after) here next
-      → Works disks stores (RoundsOn workers) old next
-  rounds_more busy round = works_more disks stores (RoundsOn workers) (λ before after. IsRound here.bench.places before (Busy busy) after)
-      (RoundsOn workers) old here next
-      (λ before between after one two. busy_more workers busy before between after one (subst (λ (w : ℕ). IsRound w between (Busy busy) after) places two)) so_far round
+  pub rounds_more : (busy : ℕ) → Works disks stores (λ own before after. IsRound here.bench.places before (Busy busy) after) here next
+      → Works disks stores (λ own before after. RoundsOn workers before after) old next
+  rounds_more busy round = works_more disks stores (λ own before after. RoundsOn workers before after) (λ own before after. IsRound here.bench.places before (Busy busy) after)
+      (λ own before after. RoundsOn workers before after) old here next
+      (λ own before between after one two. busy_more workers busy before between after one (subst (λ (w : ℕ). IsRound w between (Busy busy) after) places two)) so_far round
 
   -- the last one
   pub rounds_end : (end : RoundEnd) → ((busy : ℕ) → end ≡ Busy busy → ⊥)
-      → Works disks stores (λ before after. IsRound here.bench.places before end after) here next
-      → Works disks stores (LastRounds workers end) old next
-  rounds_end end calm round = works_more disks stores (RoundsOn workers) (λ before after. IsRound here.bench.places before end after)
-      (LastRounds workers end) old here next
-      (λ before between after one two. last_one workers end before between after calm one (subst (λ (w : ℕ). IsRound w between end after) places two)) so_far round
+      → Works disks stores (λ own before after. IsRound here.bench.places before end after) here next
+      → Works disks stores (λ own before after. LastRounds workers end before after) old next
+  rounds_end end calm round = works_more disks stores (λ own before after. RoundsOn workers before after) (λ own before after. IsRound here.bench.places before end after)
+      (λ own before after. LastRounds workers end before after) old here next
+      (λ own before between after one two. last_one workers end before between after calm one (subst (λ (w : ℕ). IsRound w between end after) places two)) so_far round
 
   -- a busy round uses more of the journal
-  pub round_uses : (busy : ℕ) → Works disks stores (λ before after. IsRound here.bench.places before (Busy busy) after) here next
+  pub round_uses : (busy : ℕ) → Works disks stores (λ own before after. IsRound here.bench.places before (Busy busy) after) here next
       → here.keep.used < next.keep.used
   round_uses busy round = busy_uses here.bench.places busy (walk_of disks.faults so_far.ready.over.0 here) (walk_of disks.faults (so_far.ready.over.0 ++ round.added) next)
-      (round.goes so_far.ready.over.0 so_far.ready.over.1)
+      (round.goes false so_far.ready.over.0 so_far.ready.over.1 (λ never. absurd cc))

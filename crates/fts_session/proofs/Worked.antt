@@ -10,7 +10,7 @@ use Rattle.fts_tables.specs.declared.commands.Command.{Command}
 use Rattle.fts_tables.specs.declared.commands.Command.TheVariants.{Restart, Submit, CancelJob, CancelFile, SetPriority, Claim, Report, Ban, Unban, Expire}
 use Rattle.fts_tables.specs.declared.rows.Outcome.{Outcome}
 use Rattle.fts_disk.specs.Disk.{IsTold, IsLawful}
-use Rattle.fts_keep.specs.Keeps.{KeepData, IsKeep, Grows, KeepsImagesSinceAny, used_after}
+use Rattle.fts_keep.specs.Keeps.{KeepData, IsKeep, Grows, KeepsImagesSinceAny, bodies_of, used_after}
 use Rattle.fts_workers.specs.Benches.{BenchData, HoldsActive, held_over, kept_of, newly_held}
 use Rattle.fts_workers.specs.Copies.{Copy, copies_in, copies_from, copies_kept, AreCopied, FollowsReports}
 use Rattle.fts_workers.specs.Requests.{IsOfRequest}
@@ -21,7 +21,7 @@ use Rattle.fts_wire.specs.RequestData.{RequestData}
 use Rattle.fts_wire.specs.declared.response.Reply.{Reply}
 use Rattle.fts_routes.specs.Replies.{Answers, said, said_so, IsInsteadOf}
 use Rattle.fts_laws.specs.Attempts.{claims_in, is_claim}
-use Rattle.fts_session.specs.Sessions.{AnswersNext, ThreadData, IsOver, IsReady, walk_of, kept_at, Works}
+use Rattle.fts_session.specs.Sessions.{AnswersNext, ThreadData, Extends, IsOver, IsOwn, IsReady, walk_of, kept_at, Works}
 use Rattle.fts_session.proofs.Keeping.{none_more, tables_from-append, legal_behind, extends_none, extends_more}
 use Rattle.fts_session.proofs.Saying.{AddsWell, said_well}
 use Rattle.fts_disk.specs.declared.disk.Disk as disk
@@ -191,13 +191,14 @@ asked_over law keep new bench entries added well tables commands over =
 
 module _ {D E : Type 0} (disks : disk.Ghosts D) (stores : store.Ghosts E) where
   -- nothing was done
-  pub works_none : (Goes : Walk → Walk → Type 0) (at : ThreadData D E) → IsReady at → IsKeep disks.state at.keep → (IsTold (disks.state at.keep.disk) → IsLawful (disks.state at.keep.disk))
-      → ((walk : Walk) → Goes walk walk) → Works disks stores Goes at at
+  pub works_none : (Goes : Bool → Walk → Walk → Type 0) (at : ThreadData D E) → IsReady at → IsKeep disks.state at.keep → (IsTold (disks.state at.keep.disk) → IsLawful (disks.state at.keep.disk))
+      → ((own : Bool) (walk : Walk) → Goes own walk walk) → Works disks stores Goes at at
   works_none Goes at ready sound lawful here = record {
     added = [];
     extends = extends_none disks at.keep sound lawful;
     over = λ entries over. subst (λ l. IsOver at l) (sym (none_more entries)) over;
-    goes = λ entries over. subst (λ l. Goes (walk_of disks.faults entries at) (walk_of disks.faults l at)) (sym (none_more entries)) (here (walk_of disks.faults entries at));
+    goes = λ own entries over is. subst (λ l. Goes own (walk_of disks.faults entries at) (walk_of disks.faults l at)) (sym (none_more entries))
+        (here own (walk_of disks.faults entries at));
     follows = follows_none stores (kept_at at) [] (kept_at at) at.store refl refl;
     counted = omega arith;
     places = refl;
@@ -205,31 +206,39 @@ module _ {D E : Type 0} (disks : disk.Ghosts D) (stores : store.Ghosts E) where
   }
 
   -- the same, told otherwise
-  pub works_as : (Goes As : Walk → Walk → Type 0) (old new : ThreadData D E) → ((before after : Walk) → Goes before after → As before after)
+  pub works_as : (Goes As : Bool → Walk → Walk → Type 0) (old new : ThreadData D E)
+      → ((own : Bool) (before after : Walk) → Goes own before after → As own before after)
       → Works disks stores Goes old new → Works disks stores As old new
   works_as Goes As old new implies work = record {
     added = work.added;
     extends = work.extends;
     over = work.over;
-    goes = λ entries over. implies (walk_of disks.faults entries old) (walk_of disks.faults (entries ++ work.added) new) (work.goes entries over);
+    goes = λ own entries over is. implies own (walk_of disks.faults entries old) (walk_of disks.faults (entries ++ work.added) new) (work.goes own entries over is);
     follows = work.follows;
     counted = work.counted;
     places = work.places;
     ready = work.ready;
   }
 
+  -- a list that is the disk's own is so with what was added
+  own_more : (own : Bool) (old mid : ThreadData D E) (entries added : List Entry) → Extends disks old.keep mid.keep added → IsOwn disks own old entries
+      → IsOwn disks own mid (entries ++ added)
+  own_more own old mid entries added extends is = λ so.
+      let both = is so in (extends.told ∙ both.0, ap (λ l. l ++ added) both.1 ∙ sym (extends.listed both.0))
+
   -- one part, and another one behind it
-  pub works_more : (First Second Both : Walk → Walk → Type 0) (old mid new : ThreadData D E)
-      → ((before between after : Walk) → First before between → Second between after → Both before after)
+  pub works_more : (First Second Both : Bool → Walk → Walk → Type 0) (old mid new : ThreadData D E)
+      → ((own : Bool) (before between after : Walk) → First own before between → Second own between after → Both own before after)
       → Works disks stores First old mid → Works disks stores Second mid new
       → Works disks stores Both old new
   works_more First Second Both old mid new join one two = record {
     added = one.added ++ two.added;
     extends = extends_more disks old.keep mid.keep new.keep one.added two.added one.extends two.extends;
     over = λ entries over. subst (λ l. IsOver new l) (append_assoc entries one.added two.added) (two.over (entries ++ one.added) (one.over entries over));
-    goes = λ entries over. subst (λ l. Both (walk_of disks.faults entries old) (walk_of disks.faults l new)) (append_assoc entries one.added two.added)
-        (join (walk_of disks.faults entries old) (walk_of disks.faults (entries ++ one.added) mid) (walk_of disks.faults ((entries ++ one.added) ++ two.added) new)
-        (one.goes entries over) (two.goes (entries ++ one.added) (one.over entries over)));
+    goes = λ own entries over is. subst (λ l. Both own (walk_of disks.faults entries old) (walk_of disks.faults l new)) (append_assoc entries one.added two.added)
+        (join own (walk_of disks.faults entries old) (walk_of disks.faults (entries ++ one.added) mid) (walk_of disks.faults ((entries ++ one.added) ++ two.added) new)
+        (one.goes own entries over is)
+        (two.goes own (entries ++ one.added) (one.over entries over) (own_more own old mid entries one.added one.extends is)));
     follows = follows_more stores (kept_at old) (copies_from (λ writer. true) old.keep.tables one.added) (kept_at mid)
         (copies_from (λ writer. true) mid.keep.tables two.added) (kept_at new) (copies_from (λ writer. true) old.keep.tables (one.added ++ two.added))
         old.store mid.store new.store
@@ -259,7 +268,7 @@ module _ {D E : Type 0} (disks : disk.Ghosts D) (stores : store.Ghosts E) where
       → (round : MakesRound disks.state disks.faults stores.state stores.calls stores.faults keep new bench bench_now store store_now moments later words words_later end)
       → HoldsActive new.tables bench_now → bench_now.places ≡ bench.places → Grows disks.state disks.faults 0 keep new → KeepsImagesSinceAny disks.state keep new
       → claims_now ≡ claims + newly_held bench_now.held
-      → Works disks stores (λ before after. IsRound bench.places before end after)
+      → Works disks stores (λ own before after. IsRound bench.places before end after)
       (record { keep = keep; bench = bench; claims = claims; store = store; moments = moments; words = words })
       (record { keep = new; bench = bench_now; claims = claims_now; store = store_now; moments = later; words = words_later })
   works_round keep new bench bench_now claims claims_now store store_now moments later words words_later end ready round active places grows images counted =
@@ -271,7 +280,7 @@ module _ {D E : Type 0} (disks : disk.Ghosts D) (stores : store.Ghosts E) where
         added = round.added;
         extends = record { tables = round.tables; listed = round.listed; told = grows.told; counts = grows.counts; images = images };
         over = round.over;
-        goes = round.round;
+        goes = λ own entries over is. round.round entries over;
         follows = round.follows;
         counted = omega (arith, counted, claimed);
         places = places;
@@ -286,12 +295,12 @@ module _ {D E : Type 0} (disks : disk.Ghosts D) (stores : store.Ghosts E) where
   pub works_answer : LeavesBench → (keep new : KeepData D) (bench : BenchData) (claims : ℕ) (store : E) (moments later words : Option Coming) (request : RequestData) (now : ℕ) (reply : Reply)
       → IsReady (record { keep = keep; bench = bench; claims = claims; store = store; moments = moments; words = words })
       → Answers disks.state disks.faults keep new 0 request now reply → Grows disks.state disks.faults 0 keep new → KeepsImagesSinceAny disks.state keep new → Gives moments later now
-      → Works disks stores (λ before after. AnswersNext before request reply after)
+      → Works disks stores (λ own before after. AnswersNext own before request reply after)
       (record { keep = keep; bench = bench; claims = claims; store = store; moments = moments; words = words })
       (record { keep = new; bench = bench; claims = claims; store = store; moments = later; words = words })
   works_answer law keep new bench claims store moments later words request now reply ready answers grows images tick =
-      let added = (said_so answers.way (said keep.tables keep.used 0 request now)).added in
-      let well : AddsWell keep.tables added = said_well keep.tables keep.used 0 request now answers.way in
+      let added = (said_so answers.way (said keep.tables answers.bodies keep.used 0 request now)).added in
+      let well : AddsWell keep.tables added = said_well keep.tables answers.bodies keep.used 0 request now answers.way in
       let base = ready.over.0 in
       let over = ready.over.1 in
       let over_now = asked_over law keep new bench base added well answers.tables answers.commands over in
@@ -301,18 +310,23 @@ module _ {D E : Type 0} (disks : disk.Ghosts D) (stores : store.Ghosts E) where
         added = added;
         extends = record { tables = answers.tables; listed = answers.listed; told = grows.told; counts = grows.counts; images = images };
         over = λ entries is. asked_over law keep new bench entries added well answers.tables answers.commands is;
-        goes = λ entries is. record {
+        goes = λ own entries is whose. record {
           now = now;
           moment = tick;
           words = refl;
           kept = refl;
+          bodies = answers.bodies;
+          shown = record {
+            counted = answers.shown.counted ∙ is.list.counted;
+            spelled = λ so. let both = whose so in answers.shown.spelled both.0 ∙ ap bodies_of (sym both.1);
+          };
           way = answers.way;
           cause = answers.cause;
-          instead = subst (λ t. IsInsteadOf answers.way (said t keep.used 0 request now)) is.list.folded answers.instead;
+          instead = subst (λ t. IsInsteadOf answers.way (said t answers.bodies keep.used 0 request now)) is.list.folded answers.instead;
           counts = grows.counts;
-          replies = answers.replies ∙ ap (λ t. (said_so answers.way (said t keep.used 0 request now)).reply) is.list.folded;
-          listed = ap (λ t. entries ++ (said_so answers.way (said t keep.used 0 request now)).added) is.list.folded;
-          filled = answers.used ∙ ap (λ t. used_after keep.used (said_so answers.way (said t keep.used 0 request now)).added) is.list.folded;
+          replies = answers.replies ∙ ap (λ t. (said_so answers.way (said t answers.bodies keep.used 0 request now)).reply) is.list.folded;
+          listed = ap (λ t. entries ++ (said_so answers.way (said t answers.bodies keep.used 0 request now)).added) is.list.folded;
+          filled = answers.used ∙ ap (λ t. used_after keep.used (said_so answers.way (said t answers.bodies keep.used 0 request now)).added) is.list.folded;
         };
         follows = follows_none stores (copies_kept keep.tables bench.held) (copies_from (λ writer. true) keep.tables added)
             (copies_kept new.tables bench.held) store (reports_none keep.tables keep.tables added well)

@@ -1,13 +1,13 @@
 -- A session of one thread: each request is answered and followed by a round, and behind the last one come rounds until one is clear or fails.
 -- It is a walk over any list that the tables and the bench are of: over a disk that tells its contents that is the disk's own.
-use Rattle.std.specs.Prelude.{◌≡◌, ◌≢◌, ℕ, zero, suc, ◌+◌, ◌≤◌, true, List, ◌++◌, Option}
+use Rattle.std.specs.Prelude.{◌≡◌, ◌≢◌, ℕ, zero, suc, ◌+◌, ◌≤◌, Bool, true, List, ◌++◌, length, Option}
 use Rattle.fts_tables.specs.Coming.{Coming, Gives}
 use Rattle.fts_tables.specs.History.{tables_of, tables_from}
 use Rattle.fts_tables.specs.declared.commands.Entry.{Entry}
 use Rattle.fts_disk.specs.Disk.{IsTold}
 use Rattle.fts_wire.specs.RequestData.{RequestData}
 use Rattle.fts_wire.specs.declared.response.Reply.{Reply}
-use Rattle.fts_keep.specs.Keeps.{KeepData, KeepsImagesSinceAny, used_after}
+use Rattle.fts_keep.specs.Keeps.{KeepData, KeepsImagesSinceAny, bodies_of, used_after}
 use Rattle.fts_workers.specs.Benches.{BenchData, KeepsOne}
 use Rattle.fts_workers.specs.Copies.{Copy, copies_from, copies_kept, FollowsReports}
 use Rattle.fts_workers.specs.Rounds.{Walk, IsRound, IsWorkedOver, walk_over}
@@ -23,24 +23,32 @@ use Rattle.fts_tables.specs.declared.clock.Clock as clock
 use Rattle.fts_tables.specs.declared.words.Words as words
 use Rattle.fts_session.specs.declared.session.Working.{Working}
 
--- what is said to a request where one thread stands
-abbrev pub said_at : Walk → RequestData → ℕ → Said
-said_at walk request now = said (tables_of walk.entries) walk.used 0 request now
+-- what is said to a request where one thread stands, with its entries shown so
+abbrev pub said_at : Walk → List (List ℕ) → RequestData → ℕ → Said
+said_at walk bodies request now = said (tables_of walk.entries) bodies walk.used 0 request now
+
+-- The entries of a list as they are shown: as many, and each by its spelling where the list is the disk's own. Over a disk that tells nothing what
+-- a read gives is not known.
+pub record AreShownOf (own : Bool) (entries : List Entry) (bodies : List (List ℕ)) : Type 0 where
+  pub counted : length bodies ≡ length entries
+  pub spelled : own ≡ true → bodies ≡ bodies_of entries
 
 -- a request was answered over the list so far, at the next moment
-pub record AnswersNext (old : Walk) (request : RequestData) (reply : Reply) (new : Walk) : Type 0 where
+pub record AnswersNext (own : Bool) (old : Walk) (request : RequestData) (reply : Reply) (new : Walk) : Type 0 where
   pub now : ℕ
   pub moment : Gives old.moments new.moments now
   pub words : new.words ≡ old.words
   pub kept : new.kept ≡ old.kept
+  pub bodies : List (List ℕ)
+  pub shown : AreShownOf own old.entries bodies
   -- as it is defined, or without memory, or without the disk, whose count rose then
   pub way : Way
   pub cause : CausedBy way old.faults new.faults
-  pub instead : IsInsteadOf way (said_at old request now)
+  pub instead : IsInsteadOf way (said_at old bodies request now)
   pub counts : old.faults ≤ new.faults
-  pub replies : reply ≡ (said_so way (said_at old request now)).reply
-  pub listed : new.entries ≡ old.entries ++ (said_so way (said_at old request now)).added
-  pub filled : new.used ≡ used_after old.used (said_so way (said_at old request now)).added
+  pub replies : reply ≡ (said_so way (said_at old bodies request now)).reply
+  pub listed : new.entries ≡ old.entries ++ (said_so way (said_at old bodies request now)).added
+  pub filled : new.used ≡ used_after old.used (said_so way (said_at old bodies request now)).added
 
 -- the round behind a request, however it ended
 abbrev pub FollowedByRound : ℕ → Walk → Walk → Type 0
@@ -56,10 +64,10 @@ AreLastRounds workers (suc busy) old end new =
 abbrev pub LastRounds : ℕ → RoundEnd → Walk → Walk → Type 0
 LastRounds workers end old new = (busy : ℕ) × AreLastRounds workers busy old end new
 
--- a session with so many workers, which began with these bytes kept
-pub record IsSession (kept : List ℕ) (workers : ℕ) (input left : Reading) (held now : Option (List ℕ)) (end : SessionEnd) (before after : Walk) : Type 0 where
+-- a session with so many workers, which began with these bytes kept; over a list that is the disk's own, or another one that keep and bench may be of
+pub record IsSession (own : Bool) (kept : List ℕ) (workers : ℕ) (input left : Reading) (held now : Option (List ℕ)) (end : SessionEnd) (before after : Walk) : Type 0 where
   pub between : Walk
-  pub connection : IsConnection AnswersNext (FollowedByRound workers) kept before between input left held now end.line
+  pub connection : IsConnection (AnswersNext own) (FollowedByRound workers) kept before between input left held now end.line
   pub rounds : LastRounds workers end.last between after
 
 -- A keep has these entries more: each was accepted, its tables are those behind them, and where its disk tells its contents they stand behind its
@@ -93,6 +101,10 @@ thread_at clocks draws working store at words = thread working.keep working.benc
 abbrev pub IsOver : {D E : Type 0} → ThreadData D E → List Entry → Type 0
 IsOver at entries = IsWorkedOver at.keep at.bench entries
 
+-- a list is its disk's own, if this says so
+abbrev pub IsOwn : {D E : Type 0} → disk.Ghosts D → Bool → ThreadData D E → List Entry → Type 0
+IsOwn disks own at entries = own ≡ true → IsTold (disks.state at.keep.disk) × (entries ≡ at.keep.entries)
+
 -- where a thread stands over a list
 abbrev pub walk_of : {D E : Type 0} → (D → ℕ) → List Entry → ThreadData D E → Walk
 walk_of faults entries at = walk_over faults entries at.keep at.bench at.moments at.words
@@ -107,14 +119,15 @@ pub record IsReady {D E : Type 0} (at : ThreadData D E) : Type 0 where
   pub kept : KeepsOne at.bench.held
   pub few : at.claims ≤ at.keep.commands
 
--- A part of a session over every disk: it added entries, and whatever list keep and bench are over, it goes so from that list to it with these
--- entries. The store follows from the reports among them, and the claims among them are counted.
+-- A part of a session over every disk: it added entries, and whatever list keep and bench are over, the disk's own or another one, it goes so from
+-- that list to it with these entries. The store follows from the reports among them, and the claims among them are counted.
 pub record Works {D E : Type 0} (disks : disk.Ghosts D) (stores : store.Ghosts E)
-    (Goes : Walk → Walk → Type 0) (old new : ThreadData D E) : Type 0 where
+    (Goes : Bool → Walk → Walk → Type 0) (old new : ThreadData D E) : Type 0 where
   pub added : List Entry
   pub extends : Extends disks old.keep new.keep added
   pub over : (entries : List Entry) → IsOver old entries → IsOver new (entries ++ added)
-  pub goes : (entries : List Entry) → IsOver old entries → Goes (walk_of disks.faults entries old) (walk_of disks.faults (entries ++ added) new)
+  pub goes : (own : Bool) (entries : List Entry) → IsOver old entries → IsOwn disks own old entries
+      → Goes own (walk_of disks.faults entries old) (walk_of disks.faults (entries ++ added) new)
   pub follows : FollowsReports stores.state stores.calls stores.faults (kept_at old) (copies_from (λ writer. true) old.keep.tables added) (kept_at new) old.store new.store
   pub counted : new.claims ≡ old.claims + claims_in added
   pub places : new.bench.places ≡ old.bench.places

@@ -44,8 +44,8 @@ pub fn run_session<D: Disk, S: Source, K: Sink, E: Store, C: Clock, W: Words>(
     requires ready { IsReady (thread_at C.Clock W.Words working.old store.old clock.old words.old) }
     // Whatever list keep and bench are over, the session goes on from it.
     ensures session { Works D.Disk E.Store
-        (IsSession room.old.kept working.old.bench.places (reading_in S.Source input.old) (reading_in S.Source input.new)
-        (K.held output.old) (K.held output.new) result)
+        (λ own before after. IsSession own room.old.kept working.old.bench.places (reading_in S.Source input.old) (reading_in S.Source input.new)
+        (K.held output.old) (K.held output.new) result before after)
         (thread_at C.Clock W.Words working.old store.old clock.old words.old)
         (thread_at C.Clock W.Words working.new store.new clock.new words.new) }
     ensures input { result.line ≡ LineEnd.SourceFailed → Rose (S.faults input.old) (S.faults input.new) }
@@ -70,7 +70,7 @@ fn answer_requests<D: Disk, S: Source, K: Sink, E: Store, C: Clock, W: Words>(
 ) -> LineEnd
     requires ready { IsReady (thread_at C.Clock W.Words working.old store.old clock.old words.old) }
     ensures works { Works D.Disk E.Store
-        (λ before after. IsConnection AnswersNext (FollowedByRound working.old.bench.places) room.old.kept before after
+        (λ own before after. IsConnection (AnswersNext own) (FollowedByRound working.old.bench.places) room.old.kept before after
         (reading_in S.Source input.old) (reading_in S.Source input.new) (K.held output.old) (K.held output.new) result)
         (thread_at C.Clock W.Words working.old store.old clock.old words.old)
         (thread_at C.Clock W.Words working.new store.new clock.new words.new) }
@@ -111,7 +111,7 @@ fn make_last_rounds<D: Disk, E: Store, C: Clock, W: Words>(
     words: &mut W,
 ) -> RoundEnd
     requires ready { IsReady (thread_at C.Clock W.Words working.old store.old clock.old words.old) }
-    ensures works { Works D.Disk E.Store (LastRounds working.old.bench.places result)
+    ensures works { Works D.Disk E.Store (λ own before after. LastRounds working.old.bench.places result before after)
         (thread_at C.Clock W.Words working.old store.old clock.old words.old)
         (thread_at C.Clock W.Words working.new store.new clock.new words.new) }
     ensures disk { result ≡ RoundEnd.DiskFailed → Rose (D.faults working.old.keep.disk) (D.faults working.new.keep.disk) }
@@ -137,7 +137,7 @@ fn make_round<D: Disk, E: Store, C: Clock, W: Words>(
     words: &mut W,
 ) -> RoundEnd
     requires ready { IsReady (thread_at C.Clock W.Words working.old store.old clock.old words.old) }
-    ensures works { Works D.Disk E.Store (λ before after. IsRound working.old.bench.places before result after)
+    ensures works { Works D.Disk E.Store (λ own before after. IsRound working.old.bench.places before result after)
         (thread_at C.Clock W.Words working.old store.old clock.old words.old)
         (thread_at C.Clock W.Words working.new store.new clock.new words.new) }
     ensures disk { result ≡ RoundEnd.DiskFailed → Rose (D.faults working.old.keep.disk) (D.faults working.new.keep.disk) }

@@ -12,7 +12,7 @@ use std::io;
 /// The folder that an exchange is played in.
 const STAND: &str = "stand";
 
-const EXCHANGES: [&str; 29] = [
+const EXCHANGES: [&str; 30] = [
     "several-files",
     "checksum",
     "wrong-checksum",
@@ -28,6 +28,7 @@ const EXCHANGES: [&str; 29] = [
     "settings",
     "ban-and-wait",
     "ban-and-cancel",
+    "entries",
     "routes-and-methods",
     "no-job-no-file",
     "own-id-twice",

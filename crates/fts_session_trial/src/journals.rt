@@ -35,6 +35,15 @@ const UNBAN: &str = "the-end-of-a-ban.in.http";
 /// What is answered to it.
 const UNBANNED: &str = "the-end-of-a-ban.out.http";
 
+/// A look at the journal's first entry.
+const FIRST_ENTRY: &str = "a-look-at-the-first-entry.in.http";
+
+/// What is answered to it over a new journal.
+const SHOWN_FIRST: &str = "a-look-at-the-first-entry.out.http";
+
+/// What is answered to it over the journal that this leaves: one entry more, which is the second Restart.
+const SHOWN_AGAIN: &str = "the-same-behind-a-restart.out.http";
+
 /// What `show` writes after the two submissions: the file of the first is there, and the second finds its destination.
 const SHOWN: &str = "shown.txt";
 
@@ -118,6 +127,23 @@ fn waits_for_the_end_of_a_ban(rt: &HostRuntime) -> io::Result<bool> {
     Ok(waits && is_copied)
 }
 
+fn shows_the_first_entry(rt: &HostRuntime) -> io::Result<bool> {
+    let alloc = rt.alloc();
+    let input = fs::read(rt, FIRST_ENTRY)?;
+    let first = run_over(alloc, "session", empty_disk(alloc), input.as_slice())?;
+    let shown = fs::read(rt, SHOWN_FIRST)?;
+    let is_shown = first.output.bytes() == shown.as_slice() && first.ending.status == 0;
+    let left = left_by(&first.disk, 7)?;
+    let second = run_over(alloc, "session", first.disk, input.as_slice())?;
+    let again = fs::read(rt, SHOWN_AGAIN)?;
+    Ok(
+        is_shown
+            && left.as_slice() == RESTARTED
+            && second.output.bytes() == again.as_slice()
+            && second.ending.status == 0,
+    )
+}
+
 fn leaves_one_restart(rt: &HostRuntime) -> io::Result<bool> {
     let ended = run_over(rt.alloc(), "session", empty_disk(rt.alloc()), b"")?;
     let left = left_by(&ended.disk, 7)?;
@@ -192,6 +218,10 @@ pub fn play_all(rt: &HostRuntime) -> io::Result<()> {
         (
             "a file waits over a restart for the end of a ban",
             waits_for_the_end_of_a_ban(rt)?,
+        ),
+        (
+            "a look at the first entry shows a Restart and counts one, and behind another start two",
+            shows_the_first_entry(rt)?,
         ),
         ("an empty input leaves one Restart", leaves_one_restart(rt)?),
         ("a file is copied to its destination", copies_a_file(rt)?),

@@ -191,6 +191,18 @@ fn to_bans(rt: &HostRuntime) -> io::Result<u32> {
     Ok(waiting.saturating_add(first).saturating_add(copied))
 }
 
+/// Entries of the journal, over a disk that does its part and over one whose first call behind the start fails.
+fn to_looks_at_entries(rt: &HostRuntime) -> io::Result<u32> {
+    let alloc = rt.alloc();
+    let looks = over_a_new_keep(rt, Vec::new(alloc), "replies-to-looks-at-entries.rows")?;
+    let failing = over_a_new_keep(
+        rt,
+        [8].to_vec(alloc)?,
+        "replies-to-a-look-that-fails-once.rows",
+    )?;
+    Ok(looks.saturating_add(failing))
+}
+
 /// Plays each file, and prints what is otherwise than wanted, and how many replies were as wanted.
 pub fn play_all(rt: &HostRuntime) -> io::Result<()> {
     let alloc = rt.alloc();
@@ -214,5 +226,7 @@ pub fn play_all(rt: &HostRuntime) -> io::Result<()> {
     println!(rt; "replies to each change as wanted: {changes}")?;
     let bans = to_bans(rt)?;
     println!(rt; "replies to bans as wanted: {bans}")?;
+    let looks = to_looks_at_entries(rt)?;
+    println!(rt; "replies to looks at entries as wanted: {looks}")?;
     Ok(())
 }

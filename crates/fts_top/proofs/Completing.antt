@@ -209,7 +209,7 @@ module _ {D E : Type 0} (disks : disk.Ghosts D) (stores : store.Ghosts E)
 
     -- nothing was answered whose response was not written
     between_is : run.ran.session.between ≡ run.ran.session.connection.middle
-    between_is = subst (λ (l : List Exchange). LastAnswered AnswersNext (FollowedByRound run.settings.workers) run.ran.session.connection.middle l run.ran.session.between)
+    between_is = subst (λ (l : List Exchange). LastAnswered (AnswersNext (disks.state before.disk).told) (FollowedByRound run.settings.workers) run.ran.session.connection.middle l run.ran.session.between)
         line_closed.none run.ran.session.connection.unwritten
 
     stays : Stays begun_at.faults run.ran.session.connection.middle.faults
@@ -221,7 +221,7 @@ module _ {D E : Type 0} (disks : disk.Ghosts D) (stores : store.Ghosts E)
     abbrev Answered : (Walk → RequestData → Reply → Walk → Type 0) → Type 0
     Answered Answers = AnswersAll disks stores text before after end tally Answers requests run
 
-    answered_all : Answered AnswersUnlessMemory
+    answered_all : Answered (AnswersUnlessMemory (disks.state before.disk).told)
     answered_all = record {
       all = line_closed.all;
       answered = served_unless_memory run.settings.workers begun_at run.ran.session.connection.served run.ran.session.connection.middle run.ran.session.connection.answered stays;
@@ -240,7 +240,7 @@ module _ {D E : Type 0} (disks : disk.Ghosts D) (stores : store.Ghosts E)
     Finished = Finishes disks stores text before after end tally requests
 
     by_replies : status_of end ≡ 0
-        → AreServed AnswersAsDefined (FollowedByRound run.settings.workers) begun_at run.ran.session.connection.served run.ran.session.connection.middle
+        → AreServed (AnswersAsDefined (disks.state before.disk).told) (FollowedByRound run.settings.workers) begun_at run.ran.session.connection.served run.ran.session.connection.middle
         ⊎ Any (λ (exchange : Exchange). exchange.reply ≡ no_memory) run.ran.session.connection.served → Finished
     by_replies status (inl defined) = inl (record {
       run = run;

@@ -19,7 +19,7 @@ use Rattle.fts_workers.specs.declared.held.Held.{Held}
 use Rattle.fts_session.specs.Connections.{Reading}
 use Rattle.fts_laws.specs.Attempts.{claims_in}
 use Rattle.fts_top.specs.Tallies.{tally_with, no_tally}
-use Rattle.fts_session.specs.Sessions.{IsSession, IsOver, IsReady, walk_of, kept_at, thread}
+use Rattle.fts_session.specs.Sessions.{IsSession, IsOver, IsOwn, IsReady, walk_of, kept_at, thread}
 use Rattle.fts_top.specs.Runs.{one_thread, begun_with, AreRead, HasNoSettings, IsStop, StartsWith, LeavesList, ServesKeep, StopsEarly, RunsSession, IsSessionRun, start_end}
 use Rattle.fts_top.specs.declared.ends.RunEnd.{RunEnd}
 use Rattle.fts_top.specs.declared.ends.RunEnd.TheVariants.{NoMemory, NoCommand, SettingsUnread, SettingsRule, DiskFailed, Damaged, JournalFull, Session, Shown, SourcesUnmade, LineUnwritten, DoorsFailed, Served}
@@ -157,17 +157,21 @@ module _ {D E : Type 0} (disks : disk.Ghosts D) (stores : store.Ghosts E) where
     final_over : IsOver serves.last final_list
     final_over = serves.session.over (restarted opening now settings) begun_over
 
+    -- the list is the disk's own, where it tells its contents
+    own_list : IsOwn disks (disks.state disk).told (thread keep bench 0 store moments words) (restarted opening now settings)
+    own_list = λ told. (starts.told ∙ told, sym (starts.own told).listed)
+
     -- the session began with nothing kept
-    session_is : kept ≡ [] → IsSession [] settings.workers input after held output serves.session_end
+    session_is : kept ≡ [] → IsSession (disks.state disk).told [] settings.workers input after held output serves.session_end
         (begun_with (restarted opening now settings) keep.used (disks.faults keep.disk) moments words) (walk_of disks.faults final_list serves.last)
     session_is none =
-        let ran = serves.session.goes (restarted opening now settings) begun_over in
-        subst (λ (k : Option Outcome). IsSession [] settings.workers input after held output serves.session_end
+        let ran = serves.session.goes (disks.state disk).told (restarted opening now settings) begun_over own_list in
+        subst (λ (k : Option Outcome). IsSession (disks.state disk).told [] settings.workers input after held output serves.session_end
         (record { entries = restarted opening now settings; used = keep.used; faults = disks.faults keep.disk; kept = k; moments = moments; words = words })
         (walk_of disks.faults final_list serves.last)) (ap kept_of empty)
-        (subst (λ (w : ℕ). IsSession [] w input after held output serves.session_end (walk_of disks.faults (restarted opening now settings) (thread keep bench 0 store moments words))
+        (subst (λ (w : ℕ). IsSession (disks.state disk).told [] w input after held output serves.session_end (walk_of disks.faults (restarted opening now settings) (thread keep bench 0 store moments words))
         (walk_of disks.faults final_list serves.last)) places
-        (subst (λ (k : List ℕ). IsSession k bench.places input after held output serves.session_end
+        (subst (λ (k : List ℕ). IsSession (disks.state disk).told k bench.places input after held output serves.session_end
         (walk_of disks.faults (restarted opening now settings) (thread keep bench 0 store moments words)) (walk_of disks.faults final_list serves.last)) none ran))
 
     -- the store follows from the reports of the run

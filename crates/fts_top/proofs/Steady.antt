@@ -75,15 +75,16 @@ works_on workers (file ∷ files) walk end after (inr stops) = none_on walk afte
 pub round_on : (workers : ℕ) (walk : Walk) (end : RoundEnd) (after : Walk) → IsRound workers walk end after → GoesOn walk after
 round_on workers walk end after round = works_on workers (out_of_list walk.entries) walk end after round
 
-answer_on : (old : Walk) (request : RequestData) (reply : Reply) (new : Walk) → AnswersNext old request reply new → GoesOn old new
+answer_on : {own : Bool} (old : Walk) (request : RequestData) (reply : Reply) (new : Walk) → AnswersNext own old request reply new → GoesOn old new
 answer_on old request reply new answer = record {
   counts = answer.counts;
   fills = λ e.
-      let added = (said_so answer.way (said_at old request answer.now)).added in
+      let added = (said_so answer.way (said_at old answer.bodies request answer.now)).added in
       answer.filled ∙ ap (λ n. used_after n added) e ∙ filled_as_listed old.entries added ∙ ap used_of (sym answer.listed);
 }
 
-pub served_on : (workers : ℕ) (before : Walk) (exchanges : List Exchange) (after : Walk) → AreServed AnswersNext (FollowedByRound workers) before exchanges after → GoesOn before after
+pub served_on : {own : Bool} (workers : ℕ) (before : Walk) (exchanges : List Exchange) (after : Walk)
+    → AreServed (AnswersNext own) (FollowedByRound workers) before exchanges after → GoesOn before after
 served_on workers before [] after served = same_on before after served
 served_on workers before (exchange ∷ exchanges) after (answered, (next, (answer, (follows, served)))) =
     goes_further before answered after (answer_on before exchange.request exchange.reply answered answer)
@@ -106,14 +107,15 @@ pub stays_within : (old mid mid2 new : ℕ) → old ≤ mid → mid2 ≤ new →
 stays_within old mid mid2 new low high stays rose = stays (rose_within old mid mid2 new low high rose)
 
 -- where the disk's count did not rise, a reply is the machine's or that for want of memory
-answered_by : (old : Walk) (request : RequestData) (reply : Reply) (new : Walk) (answer : AnswersNext old request reply new) (way : Way) → answer.way ≡ way
-    → CausedBy way old.faults new.faults → Stays old.faults new.faults → AnswersUnlessMemory old request reply new
+answered_by : {own : Bool} (old : Walk) (request : RequestData) (reply : Reply) (new : Walk) (answer : AnswersNext own old request reply new) (way : Way) → answer.way ≡ way
+    → CausedBy way old.faults new.faults → Stays old.faults new.faults → AnswersUnlessMemory own old request reply new
 answered_by old request reply new answer AsDefined is cause stays = inl (answer, is)
 answered_by old request reply new answer WithoutMemory is cause stays = inr (answer, is)
 answered_by old request reply new answer WithoutDisk is cause stays = absurd (stays cause)
 
-pub served_unless_memory : (workers : ℕ) (before : Walk) (exchanges : List Exchange) (after : Walk) → AreServed AnswersNext (FollowedByRound workers) before exchanges after
-    → Stays before.faults after.faults → AreServed AnswersUnlessMemory (FollowedByRound workers) before exchanges after
+pub served_unless_memory : {own : Bool} (workers : ℕ) (before : Walk) (exchanges : List Exchange) (after : Walk)
+    → AreServed (AnswersNext own) (FollowedByRound workers) before exchanges after
+    → Stays before.faults after.faults → AreServed (AnswersUnlessMemory own) (FollowedByRound workers) before exchanges after
 served_unless_memory workers before [] after served stays = served
 served_unless_memory workers before (exchange ∷ exchanges) after (answered, (next, (answer, (follows, served)))) stays =
     let first = answer_on before exchange.request exchange.reply answered answer in
@@ -135,16 +137,16 @@ served_unless_memory workers before (exchange ∷ exchanges) after (answered, (n
     )
 
 -- each reply is the machine's, or one of them is that for want of memory
-pub defined_or_wanting : (workers : ℕ) (before : Walk) (exchanges : List Exchange) (after : Walk) → AreServed AnswersUnlessMemory (FollowedByRound workers) before exchanges after
-    → AreServed AnswersAsDefined (FollowedByRound workers) before exchanges after ⊎ Any (λ (exchange : Exchange). exchange.reply ≡ no_memory) exchanges
-defined_or_wanting workers before [] after served = inl served
-defined_or_wanting workers before (exchange ∷ exchanges) after (answered, (next, (inr wanting, (follows, served)))) =
-    inr (0, exchange, omega arith, refl, wanting.0.replies ∙ ap (λ (way : Way). (said_so way (said_at before exchange.request wanting.0.now)).reply) wanting.1)
-defined_or_wanting workers before (exchange ∷ exchanges) after (answered, (next, (inl defined, (follows, served)))) =
+pub defined_or_wanting : {own : Bool} (workers : ℕ) (before : Walk) (exchanges : List Exchange) (after : Walk) → AreServed (AnswersUnlessMemory own) (FollowedByRound workers) before exchanges after
+    → AreServed (AnswersAsDefined own) (FollowedByRound workers) before exchanges after ⊎ Any (λ (exchange : Exchange). exchange.reply ≡ no_memory) exchanges
+defined_or_wanting {own = own} workers before [] after served = inl served
+defined_or_wanting {own = own} workers before (exchange ∷ exchanges) after (answered, (next, (inr wanting, (follows, served)))) =
+    inr (0, exchange, omega arith, refl, wanting.0.replies ∙ ap (λ (way : Way). (said_so way (said_at before wanting.0.bodies exchange.request wanting.0.now)).reply) wanting.1)
+defined_or_wanting {own = own} workers before (exchange ∷ exchanges) after (answered, (next, (inl defined, (follows, served)))) =
     more (defined_or_wanting workers next exchanges after served)
   where
-    more : AreServed AnswersAsDefined (FollowedByRound workers) next exchanges after ⊎ Any (λ (one : Exchange). one.reply ≡ no_memory) exchanges
-        → AreServed AnswersAsDefined (FollowedByRound workers) before (exchange ∷ exchanges) after ⊎ Any (λ (one : Exchange). one.reply ≡ no_memory) (exchange ∷ exchanges)
+    more : AreServed (AnswersAsDefined own) (FollowedByRound workers) next exchanges after ⊎ Any (λ (one : Exchange). one.reply ≡ no_memory) exchanges
+        → AreServed (AnswersAsDefined own) (FollowedByRound workers) before (exchange ∷ exchanges) after ⊎ Any (λ (one : Exchange). one.reply ≡ no_memory) (exchange ∷ exchanges)
     more (inl all) = inl (answered, (next, (defined, (follows, all))))
     more (inr (k, one, inside, is, wanting)) = inr (suc k, one, omega (arith, inside), is, wanting)
 

@@ -1,7 +1,7 @@
 -- When a run comes to its end. What it is given is told and breaks no rule, and no device counts a failure: then a session answers all requests
 -- of its input as the machine does and ends with status 0, and `show` shows its tables. Two things are left to stop a session, want of memory, which
 -- is free, and a record that passes the journal's limit; and want of memory alone to stop `show`.
-use Rattle.std.specs.Prelude.{◌≡◌, ◌≢◌, ◌⊎◌, ℕ, ◌<◌, ◌≤◌, true, false, List, [], ◌∷◌, ◌++◌, length, All, Option, Some, None, IsSomeAnd, IsOk}
+use Rattle.std.specs.Prelude.{◌≡◌, ◌≢◌, ◌⊎◌, ℕ, ◌<◌, ◌≤◌, Bool, true, false, List, [], ◌∷◌, ◌++◌, length, All, Option, Some, None, IsSomeAnd, IsOk}
 use Rattle.std.specs.List.{Any}
 use Rattle.fts_tables.specs.Coming.{Coming, Gives}
 use Rattle.fts_tables.specs.Counts.{Rose}
@@ -99,17 +99,17 @@ pub record NoneRose (old new : Failures) : Type 0 where
   pub output : Stays old.output new.output
   pub disk : Stays old.disk new.disk
 
--- a request was answered over the list so far, and its reply came about in this way
-abbrev pub AnswersBy : Way → Walk → RequestData → Reply → Walk → Type 0
-AnswersBy way old request reply new = (answer : AnswersNext old request reply new) × (answer.way ≡ way)
+-- a request was answered over the list so far, which is the disk's own or another one, and its reply came about in this way
+abbrev pub AnswersBy : Bool → Way → Walk → RequestData → Reply → Walk → Type 0
+AnswersBy own way old request reply new = (answer : AnswersNext own old request reply new) × (answer.way ≡ way)
 
 -- its reply is the machine's
-abbrev pub AnswersAsDefined : Walk → RequestData → Reply → Walk → Type 0
-AnswersAsDefined old request reply new = AnswersBy AsDefined old request reply new
+abbrev pub AnswersAsDefined : Bool → Walk → RequestData → Reply → Walk → Type 0
+AnswersAsDefined own old request reply new = AnswersBy own AsDefined old request reply new
 
 -- its reply is the machine's, or that for want of memory
-abbrev pub AnswersUnlessMemory : Walk → RequestData → Reply → Walk → Type 0
-AnswersUnlessMemory old request reply new = AnswersBy AsDefined old request reply new ⊎ AnswersBy WithoutMemory old request reply new
+abbrev pub AnswersUnlessMemory : Bool → Walk → RequestData → Reply → Walk → Type 0
+AnswersUnlessMemory own old request reply new = AnswersBy own AsDefined old request reply new ⊎ AnswersBy own WithoutMemory old request reply new
 
 -- the Restart of a run doesn't fit the journal behind what the disk stands for, at the moment that comes next
 pub record RestartPasses (text : Option (List ℕ)) (disk : DiskState) (moments : Option Coming) : Type 0 where
@@ -156,13 +156,13 @@ module _ {D E : Type 0} (disks : disk.Ghosts D) (stores : store.Ghosts E)
   -- all requests were answered as the machine does, and the status is 0
   pub record DoesAll (requests : List RequestData) : Type 0 where
     pub run : RunsSession disks stores text before after end tally
-    pub answers : AnswersAll AnswersAsDefined requests run
+    pub answers : AnswersAll (AnswersAsDefined (disks.state before.disk).told) requests run
     pub status : status_of end ≡ 0
 
   -- all requests were answered, and memory was wanting in place of a reply or for the last round
   pub record WantsMemoryWithin (requests : List RequestData) : Type 0 where
     pub run : RunsSession disks stores text before after end tally
-    pub answers : AnswersAll AnswersUnlessMemory requests run
+    pub answers : AnswersAll (AnswersUnlessMemory (disks.state before.disk).told) requests run
     pub wanting : (status_of end ≡ 1) ⊎ ((status_of end ≡ 0) × Any (λ (exchange : Exchange). exchange.reply ≡ no_memory) (exchanges_of run))
 
   -- memory was wanting to begin, and the status is 1
@@ -173,7 +173,7 @@ module _ {D E : Type 0} (disks : disk.Ghosts D) (stores : store.Ghosts E)
   -- all requests were answered, and then a claim, a report or an expiry didn't fit the journal
   pub record FillsWithin (requests : List RequestData) : Type 0 where
     pub run : RunsSession disks stores text before after end tally
-    pub answers : AnswersAll AnswersUnlessMemory requests run
+    pub answers : AnswersAll (AnswersUnlessMemory (disks.state before.disk).told) requests run
     pub passes : RoundPasses run.ran.final.entries
     pub status : status_of end ≡ 11
 

@@ -164,7 +164,7 @@ module _ {D E : Type 0} (disks : disk.Ghosts D) (stores : store.Ghosts E) where
       (opening : List Entry) (end : RunEnd) (tally : Tally) : Type 0 where
     pub final : Walk
     pub session_end : SessionEnd
-    pub session : IsSession [] settings.workers before.input after.input before.output after.output session_end
+    pub session : IsSession (disks.state before.disk).told [] settings.workers before.input after.input before.output after.output session_end
         (begun_with (restarted opening now settings) keep.used (disks.faults keep.disk) moments before.words) final
     pub ended : end ≡ Session session_end
     pub moments_left : after.moments ≡ final.moments
@@ -203,7 +203,7 @@ module _ {D E : Type 0} (disks : disk.Ghosts D) (stores : store.Ghosts E) where
     pub store_is : store ≡ last.store
     pub moments_are : later ≡ last.moments
     pub words_are : words_later ≡ last.words
-    pub session : Works disks stores (IsSession kept workers input after held now session_end) at last
+    pub session : Works disks stores (λ own begun final. IsSession own kept workers input after held now session_end begun final) at last
     pub sound : IsKeep disks.state last.keep
     pub counted : tally ≡ tally_with last.claims last.keep.tables
 

@@ -7,9 +7,9 @@ use Rattle.fts_session.proofs.Serving.{RoundsOn, rounds_more, rounds_end, round_
 use Rattle.fts_session.proofs.session.make_last_rounds.Goals as goal
 
 pub rounds-init : goal.rounds-init
-rounds-init g c = works_none g.D.Disk g.E.Store (RoundsOn c.args.working.now.bench.places)
+rounds-init g c = works_none g.D.Disk g.E.Store (λ own before after. RoundsOn c.args.working.now.bench.places before after)
     (thread c.args.working.now.keep c.args.working.now.bench c.args.working.now.claims c.args.store.now (g.C.Clock.moments c.args.clock.now) (g.W.Words.words c.args.words.now))
-    c.requires.ready c.desk.ensures.kept (g.met.D.Disk.lawful c.args.working.now.keep.disk) (λ walk end after rest. rest)
+    c.requires.ready c.desk.ensures.kept (g.met.D.Disk.lawful c.args.working.now.keep.disk) (λ own walk end after rest. rest)
 
 pub rounds-smaller : goal.rounds-smaller
 rounds-smaller g c =

@@ -7,7 +7,7 @@ use Rattle.fts_session.proofs.session.make_last_rounds.Given as goal
 
 -- whatever last rounds are made from here were made from the beginning
 abbrev pub invariant-rounds : goal.invariant-rounds
-invariant-rounds g l = Works g.D.Disk g.E.Store (RoundsOn l.fn.working.bench.places)
+invariant-rounds g l = Works g.D.Disk g.E.Store (λ own before after. RoundsOn l.fn.working.bench.places before after)
     (thread l.fn.working.keep l.fn.working.bench l.fn.working.claims l.fn.store (g.C.Clock.moments l.fn.clock) (g.W.Words.words l.fn.words))
     (thread l.working.keep l.working.bench l.working.claims l.store (g.C.Clock.moments l.clock) (g.W.Words.words l.words))
 
