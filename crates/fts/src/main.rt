@@ -1,16 +1,17 @@
 //! The program `fts STAND COMMAND`: it makes the real outside, calls `run`, and ends with its status.
-//! The stand `-` has its settings, its journal and its stores in memory. Any other one is a folder with `fts.toml`, `fts.journal`, which a service
-//! makes where it is absent and locks against other services, and `grid`, in which files are copied. For `show`, and for words that are no command,
-//! the journal is only looked at. Where a word is no UTF-8, `run` gets an empty list
+//! The stand `-` has its settings, its journals and its stores in memory. Any other one is a folder with `fts.toml`, `fts.journal`, which a service or
+//! a standby makes where it is absent and locks against others, `fts.deletes`, the same for deletions, and `grid`, in which files are copied. For
+//! other commands, and for words that are none, a journal is only looked at. Where a word is no UTF-8, `run` gets an empty list
 //! of words, which is no command, over the stand `-`.
 //! Which word is the stand stands in `specs/CommandLine.antt`.
 #![tactic(auto)]
 
-ghost use Rattle.std.specs.Prelude.{◌≡◌, length, map, string_bytes, IfOk};
+ghost use Rattle.std.specs.Prelude.{◌≡◌, false, length, map, string_bytes, IfOk};
 ghost use Rattle.fts_disk.specs.File.{IsReadOnly};
 ghost use Rattle.fts_tables.specs.declared.limits.TheConstants.{MAX_LANES, MAX_WORKERS};
+ghost use Rattle.fts_store.specs.Folder.{is_deleting};
 ghost use Rattle.fts_words.specs.Words.{asked_in};
-ghost use Rattle.fts.specs.CommandLine.{stand_of, words_of, asks_service, exit_status_of, LooksAtMost};
+ghost use Rattle.fts.specs.CommandLine.{stand_of, words_of, asks_service, exit_status_of, LooksAtMost, DeletesNothing};
 
 mod accepting;
 mod outside;
@@ -20,6 +21,7 @@ mod sockets;
 mod steps;
 mod tcp_doors;
 mod tcp_line;
+mod tcp_link;
 #[cfg(test)]
 mod tests;
 
@@ -39,6 +41,7 @@ use std::thread::Threads;
 use std::{env, io};
 use tcp_doors::TcpDoors;
 use tcp_line::LineLimits;
+use tcp_link::TcpLink;
 
 /// The settings of the stand `-`.
 const STAND_SETTINGS: &str =
@@ -165,7 +168,13 @@ fn lanes_over<'a, A: Doors + Drop>(
     Ok(lanes)
 }
 
-/// Runs the command over these settings, this disk and these hands, the system's streams and clock, and the ports of the machine.
+/// The disks of a stand: that of the service's journal, and that of the journal of deletions.
+struct Disks<D> {
+    journal: D,
+    deletes: D,
+}
+
+/// Runs the command over these settings, these disks and these hands, the system's streams and clock, and the ports of the machine.
 fn run_over<
     F: Source + Drop,
     D: Disk + Send + Drop,
@@ -177,7 +186,7 @@ fn run_over<
     threads: &R,
     words: &[String],
     settings: F,
-    disk: D,
+    disks: Disks<D>,
     stores: Vec<E>,
     doors: Vec<A>,
 ) -> Result<Ending, Memory>
@@ -191,10 +200,12 @@ where
         input: StdSource::new(rt.stdin()),
         output: StdSink::new(rt.stdout()),
         notes: StdSink::new(rt.stderr()),
-        disk: Some(disk),
+        disk: Some(disks.journal),
+        deletes: Some(disks.deletes),
         clock: SystemClock::new(rt),
         hands: hands_over(rt, stores)?,
         lanes: lanes_over(rt, doors)?,
+        link: TcpLink::new(rt, rt.alloc(), LineLimits::of_service()),
     };
     Ok(run(threads, rt.alloc(), words, &mut outside))
 }
@@ -240,21 +251,49 @@ fn run_in_memory<R: Threads + Wait + Sync>(
     let alloc = rt.alloc();
     let text = Vec::from_slice(alloc, STAND_SETTINGS.as_bytes())?;
     let settings = MemorySource::new(text, Vec::new(alloc));
-    let disk = MemoryDisk::new(alloc, Vec::new(alloc));
+    let disks = Disks {
+        journal: MemoryDisk::new(alloc, Vec::new(alloc)),
+        deletes: MemoryDisk::new(alloc, Vec::new(alloc)),
+    };
     let stores = stand_stores(rt)?;
     let doors = closed_doors(rt)?;
-    run_over(rt, threads, words, settings, disk, stores, doors)
+    run_over(rt, threads, words, settings, disks, stores, doors)
 }
 
-/// A store in a stand's folder for each hand.
-fn folder_stores<'a>(rt: &'a HostRuntime, folder: &str) -> Result<Vec<GridStore<'a>>, Memory>
+/// A store in a folder of files, for what the words ask for: deletions, or copies.
+fn store_for<'a>(rt: &'a HostRuntime, words: &[String], grid: String) -> GridStore<'a>
+    ensures deletes { DeletesNothing (asked_in (map string_bytes words.now)) → is_deleting result ≡ false }
+    ensures copies { is_deleting result ≡ false → DeletesNothing (asked_in (map string_bytes words.now)) }
+{
+    let store = FolderStore::new(rt, rt.alloc(), grid);
+    match read_words(words) {
+        Some(Asked::Delete) => store.for_deletions(),
+        Some(
+            Asked::Session
+            | Asked::Show
+            | Asked::Load { .. }
+            | Asked::Serve { .. }
+            | Asked::Submit { .. }
+            | Asked::Query { .. }
+            | Asked::Follow { .. },
+        )
+        | None => store,
+    }
+}
+
+/// A store in a stand's folder for each hand, for what the words ask for.
+fn folder_stores<'a>(
+    rt: &'a HostRuntime,
+    words: &[String],
+    folder: &str,
+) -> Result<Vec<GridStore<'a>>, Memory>
     ensures { IfOk result (λ stores. length stores.items ≡ MAX_WORKERS) }
 {
     let alloc = rt.alloc();
     let mut stores = Vec::new(alloc);
     for _ in 0..HANDS {
         let grid = format!(in alloc; "{folder}/grid")?;
-        if stores.push(FolderStore::new(rt, alloc, grid)).is_err() {
+        if stores.push(store_for(rt, words, grid)).is_err() {
             return Err(Memory);
         }
     }
@@ -271,15 +310,19 @@ fn run_in_folder<R: Threads + Wait + Sync>(
     let alloc = rt.alloc();
     let settings = format!(in alloc; "{folder}/fts.toml")?;
     let journal = format!(in alloc; "{folder}/fts.journal")?;
-    let mut stores = folder_stores(rt, folder)?;
+    let deletes = format!(in alloc; "{folder}/fts.deletes")?;
+    let mut stores = folder_stores(rt, words, folder)?;
     let settings = StdSource::new(OpenedFile::open(rt, settings.as_str()));
-    let mut disk = disk_for(rt, words, journal.as_str());
-    if asks_service(words) && disk.len().is_ok() {
+    let mut disks = Disks {
+        journal: disk_for(rt, words, journal.as_str()),
+        deletes: deletes_for(rt, words, deletes.as_str()),
+    };
+    if asks_service(words) && disks.journal.len().is_ok() {
         sweep_parts(rt, folder)?;
         meet_endpoints(&mut stores)?;
     }
     let doors = closed_doors(rt)?;
-    run_over(rt, threads, words, settings, disk, stores, doors)
+    run_over(rt, threads, words, settings, disks, stores, doors)
 }
 
 /// Whether a service is asked for.
@@ -288,7 +331,14 @@ fn asks_service(words: &[String]) -> bool
 {
     match read_words(words) {
         Some(Asked::Session | Asked::Load { .. } | Asked::Serve { .. }) => true,
-        Some(Asked::Show) | None => false,
+        Some(
+            Asked::Show
+            | Asked::Submit { .. }
+            | Asked::Query { .. }
+            | Asked::Delete
+            | Asked::Follow { .. },
+        )
+        | None => false,
     }
 }
 
@@ -313,14 +363,35 @@ fn meet_endpoints<F: FileSystem + Drop>(stores: &mut [FolderStore<F>]) -> Result
     Ok(())
 }
 
-/// The journal's file, opened for what the words ask for: made and locked for a service, and only looked at for `show` and for words that are no
-/// command, which leave a folder as it is.
+/// The journal's file, opened for what the words ask for: made and locked for a service and for a standby, and only looked at for other commands and
+/// for words that are none, which leave it as it is.
 fn disk_for<'a>(rt: &'a HostRuntime, words: &[String], path: &str) -> SystemDisk<&'a HostRuntime>
     ensures { LooksAtMost (asked_in (map string_bytes words.now)) → IsReadOnly result }
 {
     match read_words(words) {
-        Some(Asked::Session | Asked::Load { .. } | Asked::Serve { .. }) => FileDisk::open(rt, path),
-        Some(Asked::Show) | None => FileDisk::view(rt, path),
+        Some(Asked::Session | Asked::Load { .. } | Asked::Serve { .. } | Asked::Follow { .. }) =>
+            FileDisk::open(rt, path),
+        Some(Asked::Show | Asked::Submit { .. } | Asked::Query { .. } | Asked::Delete) | None =>
+            FileDisk::view(rt, path),
+    }
+}
+
+/// The file of the deletions' journal: made and locked for a deletion, and left as it is by all else.
+fn deletes_for<'a>(rt: &'a HostRuntime, words: &[String], path: &str) -> SystemDisk<&'a HostRuntime>
+    ensures { DeletesNothing (asked_in (map string_bytes words.now)) → IsReadOnly result }
+{
+    match read_words(words) {
+        Some(Asked::Delete) => FileDisk::open(rt, path),
+        Some(
+            Asked::Session
+            | Asked::Show
+            | Asked::Load { .. }
+            | Asked::Serve { .. }
+            | Asked::Submit { .. }
+            | Asked::Query { .. }
+            | Asked::Follow { .. },
+        )
+        | None => FileDisk::view(rt, path),
     }
 }
 

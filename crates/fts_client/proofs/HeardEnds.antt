@@ -51,13 +51,13 @@ found_so most tries job again ends =
     (ends_so says_to_query (Says says_to_query (Done job again)) (HasStatus 200) (λ try says. found_by_200 try job again says) tries ends.0, ends.1)
 
 -- the same tries with the same bytes, which end so by other words
-pub repeated_so : {L : Type 0} (read written : Side L) (request other : List ℕ) (One Other : List Try → Type 0) (old new : LinkData L) (faults_old faults_new : ℕ)
+pub repeated_so : {L : Type 0} (read written : Side L) (port : ℕ) (request other : List ℕ) (One Other : List Try → Type 0) (old new : LinkData L) (faults_old faults_new : ℕ)
     (room_old room_new : AnswerRoomData) → request ≡ other → ((tries : List Try) → One tries → Other tries)
-    → Repeated read written request One old new faults_old faults_new room_old room_new
-    → Repeated read written other Other old new faults_old faults_new room_old room_new
-repeated_so read written request other One Other old new faults_old faults_new room_old room_new same so one = record {
+    → Repeated read written port request One old new faults_old faults_new room_old room_new
+    → Repeated read written port other Other old new faults_old faults_new room_old room_new
+repeated_so read written port request other One Other old new faults_old faults_new room_old room_new same so one = record {
   tries = one.tries;
-  tried = subst (λ bytes. AreTried read written bytes old new faults_old faults_new one.tries) same one.tried;
+  tried = subst (λ bytes. AreTried read written port bytes old new faults_old faults_new one.tries) same one.tried;
   ends = so one.tries one.ends;
   room = one.room;
 }

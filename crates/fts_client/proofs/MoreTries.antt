@@ -11,28 +11,28 @@ use Rattle.fts_client.specs.declared.ends.SubmitEnd.{SubmitEnd}
 use Rattle.fts_client.specs.declared.ends.SubmitEnd.TheVariants.{Done as SubmitDone, Refused as SubmitRefused, LinkFailed as SubmitLinkFailed, CannotServe as SubmitCannotServe, NoAnswer as SubmitNoAnswer, Memory as SubmitMemory}
 
 -- tries so far, of which each says to go on, the last of them so
-pub record TriedSoFar {L : Type 0} (says : AnswerData → Heard) (read written : Side L) (request : List ℕ) (count : ℕ) (old new : LinkData L)
+pub record TriedSoFar {L : Type 0} (says : AnswerData → Heard) (read written : Side L) (port : ℕ) (request : List ℕ) (count : ℕ) (old new : LinkData L)
     (faults_old faults_new : ℕ) (room_old room_new : AnswerRoomData) (end : SubmitEnd) : Type 0 where
   pub tries : List Try
-  pub tried : AreTried read written request old new faults_old faults_new tries
+  pub tried : AreTried read written port request old new faults_old faults_new tries
   pub on : AllByRecursion (λ try. goes_on (said_in says try) ≡ true) tries
   pub so_many : length tries ≡ count
   pub room : room_new ≡ room_behind room_old tries
   pub last : 1 ≤ count → EndsWith says (λ try. SaysSo says try end) tries
   pub none : is_last end ≡ false
 
-tried-push : {L : Type 0} (read written : Side L) (request : List ℕ) (old between new : LinkData L) (faults_old faults faults_new : ℕ) (tries : List Try) (try : Try)
-    → AreTried read written request old between faults_old faults tries → IsTried read written request between new faults faults_new try
-    → AreTried read written request old new faults_old faults_new (tries ++ try ∷ [])
-tried-push read written request old between new faults_old faults faults_new [] try so_far more = (
+tried-push : {L : Type 0} (read written : Side L) (port : ℕ) (request : List ℕ) (old between new : LinkData L) (faults_old faults faults_new : ℕ) (tries : List Try) (try : Try)
+    → AreTried read written port request old between faults_old faults tries → IsTried read written port request between new faults faults_new try
+    → AreTried read written port request old new faults_old faults_new (tries ++ try ∷ [])
+tried-push read written port request old between new faults_old faults faults_new [] try so_far more = (
   new,
   faults_new,
-  subst (λ link. IsTried read written request link new faults_old faults_new try) so_far.0
-      (subst (λ count. IsTried read written request between new count faults_new try) so_far.1 more),
+  subst (λ link. IsTried read written port request link new faults_old faults_new try) so_far.0
+      (subst (λ count. IsTried read written port request between new count faults_new try) so_far.1 more),
   (refl, refl),
 )
-tried-push read written request old between new faults_old faults faults_new (first ∷ tries) try so_far more =
-    (so_far.0, so_far.1, so_far.2, tried-push read written request so_far.0 between new so_far.1 faults faults_new tries try so_far.3 more)
+tried-push read written port request old between new faults_old faults faults_new (first ∷ tries) try so_far more =
+    (so_far.0, so_far.1, so_far.2, tried-push read written port request so_far.0 between new so_far.1 faults faults_new tries try so_far.3 more)
 
 ends-push : (says : AnswerData → Heard) (Is : Try → Type 0) (tries : List Try) (try : Try) → AllByRecursion (λ one. goes_on (said_in says one) ≡ true) tries → Is try
     → EndsWith says Is (tries ++ try ∷ [])
@@ -86,19 +86,19 @@ is_end says most tries (SubmitCannotServe status) ends few all = (ends, all refl
 is_end says most tries SubmitNoAnswer ends few all = (ends, all refl)
 is_end says most tries SubmitMemory ends few all = (ends_on says (λ try. SaysSo says try SubmitMemory) tries ends, few)
 
-module _ {L : Type 0} (says : AnswerData → Heard) (read written : Side L) (request : List ℕ) (old between new : LinkData L) (faults_old faults faults_new : ℕ)
+module _ {L : Type 0} (says : AnswerData → Heard) (read written : Side L) (port : ℕ) (request : List ℕ) (old between new : LinkData L) (faults_old faults faults_new : ℕ)
     (room_old room room_new : AnswerRoomData) where
   -- one try more, behind which there is another
-  pub try_more : (count : ℕ) (end next : SubmitEnd) (try : Try) → TriedSoFar says read written request count old between faults_old faults room_old room end
-      → IsTried read written request between new faults faults_new try → room_new ≡ room_behind room (try ∷ []) → SaysSo says try next → is_last next ≡ false
-      → TriedSoFar says read written request (count + 1) old new faults_old faults_new room_old room_new next
+  pub try_more : (count : ℕ) (end next : SubmitEnd) (try : Try) → TriedSoFar says read written port request count old between faults_old faults room_old room end
+      → IsTried read written port request between new faults faults_new try → room_new ≡ room_behind room (try ∷ []) → SaysSo says try next → is_last next ≡ false
+      → TriedSoFar says read written port request (count + 1) old new faults_old faults_new room_old room_new next
   try_more count end next try so_far more held so none =
       let tries = so_far.tries in
       let many = length-append so_far.tries (try ∷ []) in
       let before = so_far.so_many in
       record {
         tries = so_far.tries ++ try ∷ [];
-        tried = tried-push read written request old between new faults_old faults faults_new so_far.tries try so_far.tried more;
+        tried = tried-push read written port request old between new faults_old faults faults_new so_far.tries try so_far.tried more;
         on = all-push (λ one. goes_on (said_in says one) ≡ true) so_far.tries try so_far.on (goes_on_behind says try next so none);
         so_many = omega (arith, many, before);
         room = held ∙ (ap (λ one. room_behind one (try ∷ [])) so_far.room ∙ sym (room-push room_old so_far.tries try));
@@ -107,25 +107,25 @@ module _ {L : Type 0} (says : AnswerData → Heard) (read written : Side L) (req
       }
 
   -- the last try, behind which there is no other
-  pub try_last : (count most : ℕ) (end next : SubmitEnd) (try : Try) → TriedSoFar says read written request count old between faults_old faults room_old room end
-      → IsTried read written request between new faults faults_new try → room_new ≡ room_behind room (try ∷ []) → SaysSo says try next → is_last next ≡ true
-      → count + 1 ≤ most → Repeated read written request (λ all. IsEnd says most all next) old new faults_old faults_new room_old room_new
+  pub try_last : (count most : ℕ) (end next : SubmitEnd) (try : Try) → TriedSoFar says read written port request count old between faults_old faults room_old room end
+      → IsTried read written port request between new faults faults_new try → room_new ≡ room_behind room (try ∷ []) → SaysSo says try next → is_last next ≡ true
+      → count + 1 ≤ most → Repeated read written port request (λ all. IsEnd says most all next) old new faults_old faults_new room_old room_new
   try_last count most end next try so_far more held so last few =
       let many = length-append so_far.tries (try ∷ []) in
       let before = so_far.so_many in
       record {
         tries = so_far.tries ++ try ∷ [];
-        tried = tried-push read written request old between new faults_old faults faults_new so_far.tries try so_far.tried more;
+        tried = tried-push read written port request old between new faults_old faults faults_new so_far.tries try so_far.tried more;
         ends = is_end says most (so_far.tries ++ try ∷ []) next (ends-push says (λ one. SaysSo says one next) so_far.tries try so_far.on so) (omega (arith, many, before, few))
             (λ none. absurd (true≢false (sym last ∙ none)));
         room = held ∙ (ap (λ one. room_behind one (try ∷ [])) so_far.room ∙ sym (room-push room_old so_far.tries try));
       }
 
 -- all tries were used up
-pub tries_used : {L : Type 0} (says : AnswerData → Heard) (read written : Side L) (request : List ℕ) (old new : LinkData L) (faults_old faults_new : ℕ) (room_old room_new : AnswerRoomData)
-    (count most : ℕ) (end : SubmitEnd) → TriedSoFar says read written request count old new faults_old faults_new room_old room_new end → 1 ≤ most → count ≡ most
-    → Repeated read written request (λ all. IsEnd says most all end) old new faults_old faults_new room_old room_new
-tries_used says read written request old new faults_old faults_new room_old room_new count most end so_far some same =
+pub tries_used : {L : Type 0} (says : AnswerData → Heard) (read written : Side L) (port : ℕ) (request : List ℕ) (old new : LinkData L) (faults_old faults_new : ℕ) (room_old room_new : AnswerRoomData)
+    (count most : ℕ) (end : SubmitEnd) → TriedSoFar says read written port request count old new faults_old faults_new room_old room_new end → 1 ≤ most → count ≡ most
+    → Repeated read written port request (λ all. IsEnd says most all end) old new faults_old faults_new room_old room_new
+tries_used says read written port request old new faults_old faults_new room_old room_new count most end so_far some same =
     let many = so_far.so_many in
     record {
       tries = so_far.tries;
@@ -135,9 +135,9 @@ tries_used says read written request old new faults_old faults_new room_old room
     }
 
 -- no try yet
-pub none_tried : {L : Type 0} (says : AnswerData → Heard) (read written : Side L) (request : List ℕ) (link : LinkData L) (faults : ℕ) (room : AnswerRoomData)
-    → TriedSoFar says read written request 0 link link faults faults room room SubmitNoAnswer
-none_tried says read written request link faults room = record {
+pub none_tried : {L : Type 0} (says : AnswerData → Heard) (read written : Side L) (port : ℕ) (request : List ℕ) (link : LinkData L) (faults : ℕ) (room : AnswerRoomData)
+    → TriedSoFar says read written port request 0 link link faults faults room room SubmitNoAnswer
+none_tried says read written port request link faults room = record {
   tries = [];
   tried = (refl, refl);
   on = tt;

@@ -38,8 +38,8 @@ read_failed (Err BadResponse) old new cause by = absurd by
 read_failed (Err EndsInside) old new cause by = absurd by
 read_failed (Err SourceFailed) old new cause by = rose_some old new cause
 
-module _ {L : Type 0} (read written : Side L) (line : IsLine read written) (request : List ℕ) (old given new : LinkData L) (faults_old faults_given faults_new : ℕ)
-    (before : L) (dials : Dials {E = LinkFailed} old given (Ok before)) (keeps : faults_old ≤ faults_given) where
+module _ {L : Type 0} (read written : Side L) (line : IsLine read written) (port : ℕ) (request : List ℕ) (old given new : LinkData L) (faults_old faults_given faults_new : ℕ)
+    (before : L) (dials : Dials {E = LinkFailed} port old given (Ok before)) (keeps : faults_old ≤ faults_given) where
   -- where a call of one side leaves the other, that one has read or holds what it had
   read_stays : (from to : L) → written.beside to ≡ written.beside from → side_at read to ≡ side_at read from
   read_stays from to same = sym (line.as_sink to) ∙ (same ∙ line.as_sink from)
@@ -52,7 +52,7 @@ module _ {L : Type 0} (read written : Side L) (line : IsLine read written) (requ
       → written.beside sent ≡ written.beside before → ReadsAnswer (read.bytes sent) (read.bytes after) (read.reads sent) (read.reads after) result
       → AnswerCause result (read.faults sent) (read.faults after) → read.beside after ≡ read.beside sent → new ≡ with_one_back given after
       → CountsLine faults_given faults_new (read.faults after) (written.faults after)
-      → IsTried read written request old new faults_old faults_new (Sent result)
+      → IsTried read written port request old new faults_old faults_new (Sent result)
   tried_whole sent after result E sends beside reads cause other back counts =
       let unread = read_stays before sent beside in
       let unwritten = written_stays sent after other in
@@ -80,7 +80,7 @@ module _ {L : Type 0} (read written : Side L) (line : IsLine read written) (requ
   pub tried_in_part : (after : L) (E : Type 0) (fault : E) → Sends (written.bytes before) (written.bytes after) request (Err fault)
       → Rose (written.faults before) (written.faults after) → written.beside after ≡ written.beside before → new ≡ with_one_back given after
       → CountsLine faults_given faults_new (read.faults after) (written.faults after)
-      → IsTried read written request old new faults_old faults_new NotSent
+      → IsTried read written port request old new faults_old faults_new NotSent
   tried_in_part after E fault sends rose beside back counts =
       let unread = read_stays before after beside in
       let some = rose_some (written.faults before) (written.faults after) rose in

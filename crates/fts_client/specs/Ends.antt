@@ -101,21 +101,22 @@ room_behind room (NoLine ∷ tries) = room_behind room tries
 room_behind room (NotSent ∷ tries) = room_behind room tries
 room_behind room (Sent result ∷ tries) = room_behind (held_behind result) tries
 
--- what repeating a request with these bytes did, to the link, to its count of faults, and to the room: tries with it and no other, which ended so
-pub record Repeated {L : Type 0} (read written : Side L) (request : List ℕ) (Ends : List Try → Type 0) (old new : LinkData L) (faults_old faults_new : ℕ)
+-- what repeating a request with these bytes at a port did, to the link, to its count of faults, and to the room: tries at this port and no other,
+-- with these bytes and no others, which ended so
+pub record Repeated {L : Type 0} (read written : Side L) (port : ℕ) (request : List ℕ) (Ends : List Try → Type 0) (old new : LinkData L) (faults_old faults_new : ℕ)
     (room_old room_new : AnswerRoomData) : Type 0 where
   pub tries : List Try
-  pub tried : AreTried read written request old new faults_old faults_new tries
+  pub tried : AreTried read written port request old new faults_old faults_new tries
   pub ends : Ends tries
   pub room : room_new ≡ room_behind room_old tries
 
 -- what submitting a document on a port did
 abbrev pub Submitted : {L : Type 0} → Side L → Side L → ℕ → List ℕ → ℕ → SubmitEnd → LinkData L → LinkData L → ℕ → ℕ → AnswerRoomData → AnswerRoomData → Type 0
-Submitted read written port document most end = Repeated read written (submission_bytes port document) (λ tries. IsSubmitEnd most tries end)
+Submitted read written port document most end = Repeated read written port (submission_bytes port document) (λ tries. IsSubmitEnd most tries end)
 
 -- what asking for a job on a port did
 abbrev pub Queried : {L : Type 0} → Side L → Side L → ℕ → ℕ → ℕ → QueryEnd → LinkData L → LinkData L → ℕ → ℕ → AnswerRoomData → AnswerRoomData → Type 0
-Queried read written port job most end = Repeated read written (query_bytes port job) (λ tries. IsQueryEnd most tries end)
+Queried read written port job most end = Repeated read written port (query_bytes port job) (λ tries. IsQueryEnd most tries end)
 
 -- ---- the end that a try would be
 

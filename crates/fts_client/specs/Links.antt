@@ -3,31 +3,33 @@ use Rattle.std.specs.Prelude.{◌≡◌, ◌⊎◌, ℕ, ◌+◌, ◌-◌, ◌�
 use Rattle.fts_tables.specs.Counts.{Rose}
 use Rattle.fts_wire.specs.Outside.{raised}
 
--- what is known of a link: the lines to come and those that came back, where they are told, how many are out, and how often it was dialed
+-- what is known of a link: the lines to come and those that came back, where they are told, how many are out, how often it was dialed,
+-- and the port that was dialed last, if any was
 pub record LinkData (L : Type 0) : Type 0 where
   pub coming : Option (List L)
   pub back : Option (List L)
   pub out : ℕ
   pub dials : ℕ
+  pub port : Option ℕ
 
--- a link that was dialed once more
-abbrev pub dialed : {L : Type 0} → LinkData L → LinkData L
-dialed link = record link { dials = raised link.dials 1 }
+-- a link that was dialed once more, at this port
+abbrev pub dialed : {L : Type 0} → ℕ → LinkData L → LinkData L
+dialed port link = record link { dials = raised link.dials 1; port = Some port }
 
 -- a dialed link that gave a line: one more is out, and the lines to come are these
-abbrev pub given_out : {L : Type 0} → LinkData L → Option (List L) → LinkData L
-given_out link coming = record link { coming = coming; out = link.out + 1; dials = raised link.dials 1 }
+abbrev pub given_out : {L : Type 0} → ℕ → LinkData L → Option (List L) → LinkData L
+given_out port link coming = record link { coming = coming; out = link.out + 1; dials = raised link.dials 1; port = Some port }
 
 -- the first of the lines to come was given, where they are told
-abbrev pub GivesFirst : {L : Type 0} → LinkData L → LinkData L → L → Option (List L) → Type 0
-GivesFirst old new line None = new ≡ given_out old None
-GivesFirst old new line (Some []) = ⊥
-GivesFirst old new line (Some (first ∷ others)) = (line ≡ first) × (new ≡ given_out old (Some others))
+abbrev pub GivesFirst : {L : Type 0} → ℕ → LinkData L → LinkData L → L → Option (List L) → Type 0
+GivesFirst port old new line None = new ≡ given_out port old None
+GivesFirst port old new line (Some []) = ⊥
+GivesFirst port old new line (Some (first ∷ others)) = (line ≡ first) × (new ≡ given_out port old (Some others))
 
--- what a dial does: it gives the first line to come, or it fails and leaves the lines; it counts in both cases
-abbrev pub Dials : {L E : Type 0} → LinkData L → LinkData L → Result L E → Type 0
-Dials old new (Ok line) = GivesFirst old new line old.coming
-Dials old new (Err fault) = new ≡ dialed old
+-- what a dial of a port does: it gives the first line to come, or it fails and leaves the lines; it counts, and its port is noted, in both cases
+abbrev pub Dials : {L E : Type 0} → ℕ → LinkData L → LinkData L → Result L E → Type 0
+Dials port old new (Ok line) = GivesFirst port old new line old.coming
+Dials port old new (Err fault) = new ≡ dialed port old
 
 -- a link to which a line came back
 abbrev pub with_one_back : {L : Type 0} → LinkData L → L → LinkData L

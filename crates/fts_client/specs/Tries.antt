@@ -1,5 +1,5 @@
 -- One try of a client: it dials, writes its one request, reads one response, and hands the line back, whatever came.
-use Rattle.std.specs.Prelude.{◌≡◌, ℕ, ◌≤◌, List, [], ◌∷◌, Result, Ok, Err}
+use Rattle.std.specs.Prelude.{◌≡◌, ℕ, ◌≤◌, List, [], ◌∷◌, Option, Some, Result, Ok, Err}
 use Rattle.fts_tables.specs.Counts.{Rose}
 use Rattle.fts_wire.specs.Outside.{Side}
 use Rattle.fts_wire.specs.Response.{Sends}
@@ -40,33 +40,38 @@ IsByLink (Sent (Err BadResponse)) = ⊥
 IsByLink (Sent (Err EndsInside)) = ⊥
 IsByLink (Sent (Err SourceFailed)) = Unit {0}
 
--- a line was given, the try was on it, and it came back
-pub record OverLine {L : Type 0} (read written : Side L) (request : List ℕ) (old new : LinkData L) (try : Try) : Type 0 where
+-- the dial of a port gave a line, the try was on it, and it came back
+pub record OverLine {L : Type 0} (read written : Side L) (port : ℕ) (request : List ℕ) (old new : LinkData L) (try : Try) : Type 0 where
   pub before : L
   pub after : L
   pub given : LinkData L
-  pub dials : Dials {E = LinkFailed} old given (Ok before)
+  pub dials : Dials {E = LinkFailed} port old given (Ok before)
   pub line : IsOnLine read written request before after try
   pub back : new ≡ with_one_back given after
 
--- what a try did to the link
-abbrev pub TriesLink : {L : Type 0} → Side L → Side L → List ℕ → LinkData L → LinkData L → Try → Type 0
-TriesLink read written request old new NoLine = new ≡ dialed old
-TriesLink read written request old new NotSent = OverLine read written request old new NotSent
-TriesLink read written request old new (Sent result) = OverLine read written request old new (Sent result)
+-- what a try at a port did to the link: it dialed that port once, and no other
+abbrev pub TriesLink : {L : Type 0} → Side L → Side L → ℕ → List ℕ → LinkData L → LinkData L → Try → Type 0
+TriesLink read written port request old new NoLine = new ≡ dialed port old
+TriesLink read written port request old new NotSent = OverLine read written port request old new NotSent
+TriesLink read written port request old new (Sent result) = OverLine read written port request old new (Sent result)
 
 -- a try, and how the link's count of faults went on: it rose where a failure of the link ended the try
-pub record IsTried {L : Type 0} (read written : Side L) (request : List ℕ) (old new : LinkData L) (faults_old faults_new : ℕ) (try : Try) : Type 0 where
-  pub link : TriesLink read written request old new try
+pub record IsTried {L : Type 0} (read written : Side L) (port : ℕ) (request : List ℕ) (old new : LinkData L) (faults_old faults_new : ℕ) (try : Try) : Type 0 where
+  pub link : TriesLink read written port request old new try
   pub keeps : faults_old ≤ faults_new
   pub cause : IsByLink try → Rose faults_old faults_new
 
--- tries one after the other, each with the same request
-abbrev pub AreTried : {L : Type 0} → Side L → Side L → List ℕ → LinkData L → LinkData L → ℕ → ℕ → List Try → Type 0
-AreTried read written request old new faults_old faults_new [] = (new ≡ old) × (faults_new ≡ faults_old)
-AreTried {L = L} read written request old new faults_old faults_new (try ∷ tries) =
-    (between : LinkData L) × (faults : ℕ) × IsTried read written request old between faults_old faults try
-    × AreTried read written request between new faults faults_new tries
+-- tries one after the other, each at the same port and with the same request
+abbrev pub AreTried : {L : Type 0} → Side L → Side L → ℕ → List ℕ → LinkData L → LinkData L → ℕ → ℕ → List Try → Type 0
+AreTried read written port request old new faults_old faults_new [] = (new ≡ old) × (faults_new ≡ faults_old)
+AreTried {L = L} read written port request old new faults_old faults_new (try ∷ tries) =
+    (between : LinkData L) × (faults : ℕ) × IsTried read written port request old between faults_old faults try
+    × AreTried read written port request between new faults faults_new tries
+
+-- the port that was dialed last, where tries at a port stand behind this one
+abbrev pub port_behind : ℕ → Option ℕ → List Try → Option ℕ
+port_behind port before [] = before
+port_behind port before (try ∷ tries) = Some port
 
 -- the responses that tries read, in order
 abbrev pub answers_of : List Try → List AnswerData

@@ -1,6 +1,6 @@
 //! A link: it gives a line for each try, and takes it back.
 //! Keeps: told lines are given in their order, each once, and noted in the order in which they come back (`dials`, `back`); each dial counts,
-//! also one that fails; a line that has failed raises the link's count of faults when it comes back, and no other does (`faults`).
+//! also one that fails, and the port of the last one is noted; a line that has failed raises the link's count of faults when it comes back, and no other does (`faults`).
 //! Called by `submit` and `query`. `MemoryLink` is the fake; the program has the real one.
 ghost use Rattle.std.specs.Prelude.{◌≡◌, ◌<◌, ℕ, IfOk};
 ghost use Rattle.fts_tables.specs.Counts.{CountsFaults};
@@ -18,7 +18,7 @@ pub trait Link {
     /// A line: what one request is written to, and its response is read from.
     type Line: Source + Sink;
 
-    /// The lines to come and those that came back, where they are told, how many are out, and how often it was dialed.
+    /// The lines to come and those that came back, where they are told, how many are out, how often it was dialed, and the port that was dialed last.
     ghost link: { Self → LinkData Self.Line };
 
     /// How often it or a line of it has failed, up to the greatest `u64`.
@@ -26,7 +26,7 @@ pub trait Link {
 
     /// A line to a port of this machine. Neither side of it has failed yet.
     fn dial(&mut self, port: u16) -> Result<Self::Line, LinkFailed>
-        ensures dials { Dials (link self.old) (link self.new) result }
+        ensures dials { Dials port (link self.old) (link self.new) result }
         ensures fresh { IfOk result (λ line. (Self.Line.Source.faults line ≡ 0) × (Self.Line.Sink.faults line ≡ 0)) }
         ensures cause { CountsFaults (faults self.old) (faults self.new) result };
 

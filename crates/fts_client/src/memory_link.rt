@@ -4,7 +4,7 @@
 //! Keeps: there is room for each line that may come back, so that taking one back needs no memory; and no line to come has failed yet
 //! (`IsMemoryLink`, the invariant below).
 //! Tests are run over it, and whatever is proved of all links is true of it.
-ghost use Rattle.std.specs.Prelude.{◌≡◌, ◌↔◌, ◌<◌, [], false, Some, IfOk, IfErr, IsErr, IsTrue};
+ghost use Rattle.std.specs.Prelude.{◌≡◌, ◌↔◌, ◌<◌, [], false, None, Some, IfOk, IfErr, IsErr, IsTrue};
 ghost use Rattle.fts_tables.specs.Counts.{CountsFaults};
 ghost use Rattle.fts_wire.specs.Memory.{is_listed};
 ghost use Rattle.fts_wire.specs.Outside.{raised};
@@ -25,6 +25,7 @@ pub struct MemoryLink {
     out: usize,
     fail: Vec<u32>,
     dials: u64,
+    port: Option<u16>,
     failed: u64,
 }
 
@@ -36,6 +37,7 @@ impl Drop for MemoryLink {
             out: _,
             fail: _,
             dials: _,
+            port: _,
             failed: _,
         } = self;
     }
@@ -60,7 +62,7 @@ impl MemoryLink {
     ) -> Result<MemoryLink, (Memory, Vec<MemoryLine>)>
         requires fresh { AreFresh lines.items }
         ensures made { IfOk result (λ made. made ≡ record {
-          link = record { coming = Some lines.items; back = Some []; out = 0; dials = 0 };
+          link = record { coming = Some lines.items; back = Some []; out = 0; dials = 0; port = None };
           fail = fail.items;
           failed = 0;
         }) }
@@ -76,6 +78,7 @@ impl MemoryLink {
             out: 0,
             fail,
             dials: 0,
+            port: None,
             failed: 0,
         })
     }
@@ -85,6 +88,13 @@ impl MemoryLink {
         ensures { self.now.link.back ≡ Some result.now }
     {
         self.back.as_slice()
+    }
+
+    /// The port that was dialed last, if any was.
+    pub fn port(&self) -> Option<u16>
+        ensures { result ≡ self.now.link.port }
+    {
+        self.port
     }
 
     /// Whether the dial that was counted last is one of those that fail.
@@ -109,14 +119,15 @@ impl Link for MemoryLink {
 
     ghost line = { Prim.search rules };
 
-    fn dial(&mut self, _port: u16) -> Result<MemoryLine, LinkFailed>
-        ensures dials { Dials self.old.link self.new.link result }
+    fn dial(&mut self, port: u16) -> Result<MemoryLine, LinkFailed>
+        ensures dials { Dials port self.old.link self.new.link result }
         ensures fresh { IfOk result (λ line. has_failed line ≡ false) }
         ensures cause { CountsFaults (link_faults self.old) (link_faults self.new) result }
         ensures fails { IsErr result ↔ IsTrue (is_failing self.old (raised self.old.link.dials 1)) }
         ensures after { self.new ≡ link_after self.old self.new.link result }
     {
         self.dials = self.dials.saturating_add(1);
+        self.port = Some(port);
         if !self.is_listed() {
             if let Some(line) = self.coming.pop_front() {
                 self.out += 1;

@@ -13,7 +13,7 @@ use crate::tries::{Tried, try_once};
 use fts_wire::{AnswerFault, AnswerRoom};
 use std::alloc::Global;
 
-/// Writes a request in each try, until one ends them or they are used up.
+/// Writes a request in each try at a port, until one ends them or they are used up.
 pub fn repeat<L: Link, H: Hears>(
     alloc: Global,
     link: &mut L,
@@ -26,7 +26,7 @@ pub fn repeat<L: Link, H: Hears>(
     ensures { Repeated
         (record { bytes = L.Line.Source.left; faults = L.Line.Source.faults; reads = L.Line.Source.reads; beside = L.Line.Source.beside })
         (record { bytes = L.Line.Sink.held; faults = L.Line.Sink.faults; reads = λ _. 0; beside = L.Line.Sink.beside })
-        (concat (map (λ part. part.now) request.now)) (λ all. IsEnd H.says tries all result)
+        port (concat (map (λ part. part.now) request.now)) (λ all. IsEnd H.says tries all result)
         (L.link link.old) (L.link link.new) (L.faults link.old) (L.faults link.new) room.old (room.new) }
 {
     let mut end = SubmitEnd::NoAnswer;

@@ -1,4 +1,4 @@
-//! One try of a client: it dials, writes its request whole, reads one response, and hands the line back, whatever came.
+//! One try of a client: it dials a port, writes its request whole, reads one response, and hands the line back, whatever came.
 //! Keeps: nothing is read before the whole request is written, and the line comes back in any case (`try_once`, clause `tried`: `IsTried`).
 //! Nothing here knows what a request asks for, or what a response says.
 //! Called by the loop of tries.
@@ -6,7 +6,7 @@ ghost use Rattle.std.specs.Prelude.{◌≡◌, ℕ, List, ◌∷◌, [], map, le
 ghost use Rattle.std.specs.List.{concat};
 ghost use Rattle.fts_wire.specs.Outside.{Side, raised};
 ghost use Rattle.fts_client.specs.Links.{LinkData};
-ghost use Rattle.fts_client.specs.Tries.{Try, IsTried, AreTried, try_of};
+ghost use Rattle.fts_client.specs.Tries.{Try, IsTried, AreTried, port_behind, try_of};
 ghost use Rattle.fts_client.specs.Ends.{room_behind};
 
 use crate::link::{Link, LinkFailed};
@@ -23,12 +23,12 @@ pub enum Tried {
     Sent(Result<u16, AnswerFault>),
 }
 
-/// One try, with a request that is handed over in parts.
+/// One try at a port of this machine, with a request that is handed over in parts.
 pub fn try_once<L: Link>(link: &mut L, port: u16, request: &[&[u8]], room: &mut AnswerRoom) -> Tried
     ensures tried { IsTried
         (record { bytes = L.Line.Source.left; faults = L.Line.Source.faults; reads = L.Line.Source.reads; beside = L.Line.Source.beside })
         (record { bytes = L.Line.Sink.held; faults = L.Line.Sink.faults; reads = λ _. 0; beside = L.Line.Sink.beside })
-        (concat (map (λ part. part.now) request.now)) (L.link link.old) (L.link link.new) (L.faults link.old) (L.faults link.new)
+        port (concat (map (λ part. part.now) request.now)) (L.link link.old) (L.link link.new) (L.faults link.old) (L.faults link.new)
         (try_of result room.new.body) }
     ensures room { room.new ≡ room_behind room.old (try_of result room.new.body ∷ []) }
 {
@@ -44,10 +44,12 @@ pub fn try_once<L: Link>(link: &mut L, port: u16, request: &[&[u8]], room: &mut 
     tried
 }
 
-/// Tries are as many dials, up to the end of the count, and leave as many lines out as there were.
+/// Tries are as many dials, up to the end of the count, and leave as many lines out as there were; the port that was dialed last is theirs.
 pub fn each_try_is_a_dial<L>()
-    ensures dials { (read written : Side L) (request : List ℕ) (old new : LinkData L) (faults_old faults_new : ℕ) (tries : List Try)
-        → AreTried read written request old new faults_old faults_new tries → new.dials ≡ raised old.dials (length tries) }
-    ensures back { (read written : Side L) (request : List ℕ) (old new : LinkData L) (faults_old faults_new : ℕ) (tries : List Try)
-        → AreTried read written request old new faults_old faults_new tries → new.out ≡ old.out }
+    ensures dials { (read written : Side L) (port : ℕ) (request : List ℕ) (old new : LinkData L) (faults_old faults_new : ℕ) (tries : List Try)
+        → AreTried read written port request old new faults_old faults_new tries → new.dials ≡ raised old.dials (length tries) }
+    ensures back { (read written : Side L) (port : ℕ) (request : List ℕ) (old new : LinkData L) (faults_old faults_new : ℕ) (tries : List Try)
+        → AreTried read written port request old new faults_old faults_new tries → new.out ≡ old.out }
+    ensures port { (read written : Side L) (port : ℕ) (request : List ℕ) (old new : LinkData L) (faults_old faults_new : ℕ) (tries : List Try)
+        → AreTried read written port request old new faults_old faults_new tries → new.port ≡ port_behind port old.port tries }
 {}

@@ -2,6 +2,7 @@
 //! Keeps: there are 16 hands and 8 lanes, as a run asks for. Every error is answered as want of memory.
 ghost use Rattle.std.specs.Prelude.{◌≡◌, ◌≤◌, length, IfOk};
 
+use fts_client::MemoryLink;
 use fts_disk::MemoryDisk;
 use fts_store::{MemoryStore, StoredFile};
 use fts_tables::{EndpointName, Items, ListClock, ListWords, Memory, PathKey, Place};
@@ -104,6 +105,14 @@ pub struct Left<A: Doors> {
     pub lanes: Vec<Lane<A, ListClock>>,
 }
 
+/// A link that gives no line.
+fn no_link(alloc: Global) -> Result<MemoryLink, Memory> {
+    match MemoryLink::new(alloc, Vec::new(alloc), Vec::new(alloc)) {
+        Ok(link) => Ok(link),
+        Err((Memory, _)) => Err(Memory),
+    }
+}
+
 /// A run of these words over these eight doors and this disk.
 pub fn run_over<A: Doors + Send + Drop, R: Threads + Wait + Sync>(
     alloc: Global,
@@ -127,9 +136,11 @@ where
         output: MemorySink::new(alloc, Vec::new(alloc)),
         notes: MemorySink::new(alloc, Vec::new(alloc)),
         disk: Some(disk),
+        deletes: Some(MemoryDisk::new(alloc, Vec::new(alloc))),
         clock: clock(alloc)?,
         hands: hands(alloc)?,
         lanes: lanes(alloc, doors)?,
+        link: no_link(alloc)?,
     };
     let ending = run(threads, alloc, owned.as_slice(), &mut outside);
     let Outside {
@@ -138,9 +149,11 @@ where
         output: _,
         notes,
         disk,
+        deletes: _,
         clock: _,
         hands: _,
         lanes,
+        link: _,
     } = outside;
     match disk {
         Some(disk) => Ok(Left {

@@ -124,6 +124,7 @@ no_lane_status all_doors before opened (run_ends.Shown whole) why is = absurd wh
 no_lane_status all_doors before opened run_ends.SourcesUnmade why is = absurd why
 no_lane_status all_doors before opened run_ends.LineUnwritten why is = absurd why
 no_lane_status all_doors before opened (run_ends.Served end) why is = absurd why
+no_lane_status all_doors before opened (run_ends.Errand end) why is = absurd why
 
 rule_status : (rule : _) → status_of (run_ends.SettingsRule rule) ≡ 0 → ⊥
 rule_status rule is = absurd cc
@@ -144,6 +145,7 @@ module _ {D : Type 0} (disks : disk.Ghosts D) where
   stop_status text moments later disk left run_ends.SourcesUnmade stop is = absurd stop
   stop_status text moments later disk left run_ends.LineUnwritten stop is = absurd stop
   stop_status text moments later disk left (run_ends.Served end) stop is = absurd stop
+  stop_status text moments later disk left (run_ends.Errand end) stop is = absurd stop
 
 -- settings have a worker at least, and no more than a run has hands
 both_true : (one other : Bool) → (one && other) ≡ true → (one ≡ true) × (other ≡ true)
@@ -272,6 +274,7 @@ module _ {D A E C W L : Type 0} (world : World D A E C W L)
     by_stop run_ends.LineUnwritten is stop = absurd stop
     by_stop run_ends.DoorsFailed is stop = absurd stop
     by_stop (run_ends.Served found) is stop = absurd stop
+    by_stop (run_ends.Errand found) is stop = absurd stop
 
     by_unserved : (found : RunEnd) → end ≡ found → WhyNoLane world.doors before.lanes after.lanes found → status_of end ≡ 1
     by_unserved run_ends.NoMemory is why = ap status_of is
@@ -287,6 +290,7 @@ module _ {D A E C W L : Type 0} (world : World D A E C W L)
     by_unserved run_ends.SourcesUnmade is why = absurd why
     by_unserved run_ends.LineUnwritten is why = absurd why
     by_unserved (run_ends.Served found) is why = absurd why
+    by_unserved (run_ends.Errand found) is why = absurd why
 
     pub finishes : (ran : IsServingRun world lanes connections end tally text before
         after) → Finishes world ran

@@ -1,13 +1,12 @@
 //! Exchanges over a folder: the requests of `NAME.http`, the replies of `NAME.reply.http`, byte for byte, and in `NAME.after` the status of the run
 //! and which file of the grid is then equal to which, or is not there. Each has a new folder with the settings of `fts.toml` and the same sources.
-use crate::stand::{hands_over, no_memory, session};
+use crate::stand::{Disks, hands_over, no_memory, session};
 use fts_disk::{Disk, FileDisk};
 use fts_files::SystemFiles;
 use fts_store::{FolderStore, Store};
 use fts_tables::Memory;
 use fts_wire::{MemorySink, MemorySource};
-use std::fs::{self, File, Files};
-use std::io;
+use std::{fs, io};
 
 /// The folder that an exchange is played in.
 const STAND: &str = "stand";
@@ -141,11 +140,11 @@ fn stores(rt: &HostRuntime) -> io::Result<Vec<FolderStore<SystemFiles<&HostRunti
     Ok(stores)
 }
 
-/// Answers the requests of an exchange over this disk and these stores. The status, and whether the reply is the one that is written down.
+/// Answers the requests of an exchange over these disks and these stores. The status, and whether the reply is the one that is written down.
 fn answered<D: Disk + Drop, E: Store + Drop>(
     rt: &HostRuntime,
     name: &str,
-    disk: D,
+    disks: Disks<D>,
     stores: Vec<E>,
 ) -> io::Result<(u8, bool)> {
     let alloc = rt.alloc();
@@ -155,7 +154,7 @@ fn answered<D: Disk + Drop, E: Store + Drop>(
         settings.as_slice(),
         MemorySource::new(read_part(rt, name, ".http")?, Vec::new(alloc)),
         MemorySink::new(alloc, Vec::new(alloc)),
-        disk,
+        disks,
         hands_over(alloc, stores)?,
     )?;
     let reply = read_part(rt, name, ".reply.http")?;
@@ -163,21 +162,15 @@ fn answered<D: Disk + Drop, E: Store + Drop>(
     Ok((ended.ending.status, is_reply))
 }
 
-/// Answers the requests of an exchange over these stores, with this journal's file.
-fn answered_on_file<R: Files<File = File> + Drop, E: Store + Drop>(
-    rt: &HostRuntime,
-    files: R,
-    name: &str,
-    path: &str,
-    stores: Vec<E>,
-) -> io::Result<(u8, bool)> {
-    answered(rt, name, FileDisk::open(files, path), stores)
-}
-
 /// Answers the requests of an exchange in its folder.
 fn answered_in_folder(rt: &HostRuntime, name: &str) -> io::Result<(u8, bool)> {
-    let path = format!(in rt.alloc(); "{STAND}/fts.journal")?;
-    answered_on_file(rt, rt, name, path.as_str(), stores(rt)?)
+    let journal = format!(in rt.alloc(); "{STAND}/fts.journal")?;
+    let deletes = format!(in rt.alloc(); "{STAND}/fts.deletes")?;
+    let disks = Disks {
+        journal: FileDisk::open(rt, journal.as_str()),
+        deletes: FileDisk::view(rt, deletes.as_str()),
+    };
+    answered(rt, name, disks, stores(rt)?)
 }
 
 /// Plays an exchange in a folder of its own.

@@ -2,7 +2,8 @@
 //! a damaged journal stops the run and stays. The list that a start leaves is written byte for byte, by the format of journals and entries; what `show`
 //! writes stands in `shown.txt`.
 use crate::stand::{
-    Ended, SETTINGS, count_row, hands_with, make_given, no_memory, run_words, source,
+    Ended, SETTINGS, beside_deletes, count_row, hands_with, make_given, no_memory, run_words,
+    source,
 };
 use fts_disk::MemoryDisk;
 use fts_store::{MemoryStore, Store};
@@ -67,7 +68,7 @@ fn run_over(alloc: Global, command: &str, disk: MemoryDisk, input: &[u8]) -> io:
         alloc,
         &[command],
         make_given(alloc, SETTINGS, source(alloc, input)?)?,
-        disk,
+        beside_deletes(alloc, disk),
         hands_with(alloc, &["data/f1"], Vec::new(alloc))?,
     )
 }

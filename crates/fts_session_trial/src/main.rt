@@ -4,10 +4,11 @@
 //! is otherwise than wanted, and then for each kind how many there were. The exchanges are files of `data/`, and examples for users.
 //! Order: requests alone with their replies over a keep in memory (`replies`), the exchanges (`exchanges`), inputs that are cut (`cuts`), journals that
 //! stand or are damaged (`journals`), settings and words that stop a run (`refused`), which call comes first (`order`), loads (`loads`), the failing
-//! calls (`failing`), the stops (`stops`).
+//! calls (`failing`), the stops (`stops`), the errands (`errands`).
 #![tactic(auto)]
 
 mod cuts;
+mod errands;
 mod exchanges;
 mod failing;
 mod journals;
@@ -31,5 +32,6 @@ fn main(rt: HostRuntime) -> io::Result<()> {
     order::play_all(&rt)?;
     loads::play_all(&rt)?;
     failing::play_all(&rt)?;
-    stops::play_all(&rt)
+    stops::play_all(&rt)?;
+    errands::play_all(&rt)
 }

@@ -4,7 +4,7 @@
 ghost use Rattle.std.specs.Prelude.{◌≡◌, ◌≤◌, length, IfOk};
 
 use crate::journals::{ANSWERED, TWO};
-use crate::stand::{NOW, SETTINGS, count_row, lanes, no_memory, owned, source, store};
+use crate::stand::{NOW, SETTINGS, count_row, lanes, no_link, no_memory, owned, source, store};
 use fts_disk::MemoryDisk;
 use fts_store::MemoryStore;
 use fts_tables::{Clock, ListWords, Memory};
@@ -168,9 +168,11 @@ fn is_in_order(rt: &HostRuntime) -> io::Result<bool> {
         },
         notes: MemorySink::new(alloc, Vec::new(alloc)),
         disk: Some(MemoryDisk::new(alloc, Vec::new(alloc))),
+        deletes: Some(MemoryDisk::new(alloc, Vec::new(alloc))),
         clock: noting(alloc, &reads_seen),
         hands: noting_hands(alloc, &reads_seen)?,
         lanes: lanes(alloc, noting_clocks(alloc, &reads_seen)?)?,
+        link: no_link(alloc)?,
     };
     let words = owned(alloc, &["session"])?;
     let Some(ending) = run_alone(alloc, words.as_slice(), &mut outside) else {

@@ -1,7 +1,9 @@
 //! Runs that are stopped before their first request: by settings that can't be had, and by words that are no command. What is seen is the status and
 //! the line that is noted, or, where that can't be written, a part of it or none.
 use crate::journals::TWO;
-use crate::stand::{Ended, Given, SETTINGS, count_row, hands_with, make_given, run_words, source};
+use crate::stand::{
+    Ended, Given, SETTINGS, beside_deletes, count_row, hands_with, make_given, run_words, source,
+};
 use fts_disk::MemoryDisk;
 use fts_store::MemoryStore;
 use fts_wire::{MemorySink, MemorySource};
@@ -99,7 +101,7 @@ fn run_under(
         alloc,
         words,
         given,
-        MemoryDisk::new(alloc, Vec::new(alloc)),
+        beside_deletes(alloc, MemoryDisk::new(alloc, Vec::new(alloc))),
         hands_with(alloc, &["data/f1"], Vec::new(alloc))?,
     )
 }

@@ -3,7 +3,8 @@
 //! The exchanges have a folder's disk and store, all others those in memory.
 ghost use Rattle.std.specs.Prelude.{◌≡◌, length, IfOk};
 
-use fts_disk::Disk;
+use fts_client::MemoryLink;
+use fts_disk::{Disk, MemoryDisk};
 use fts_store::{MemoryStore, Store, StoredFile};
 use fts_tables::{Clock, EndpointName, Items, ListClock, ListWords, Memory, PathKey, Place};
 use fts_top::{Ending, Lane, MemoryDoors, Outside, run_alone};
@@ -29,6 +30,7 @@ pub struct Given<S> {
     pub input: S,
     pub output: MemorySink,
     pub notes: MemorySink,
+    pub link: MemoryLink,
 }
 
 /// What is left behind a run.
@@ -70,6 +72,7 @@ pub fn make_given<S: Drop>(alloc: Global, settings: &str, input: S) -> io::Resul
         input,
         output: MemorySink::new(alloc, Vec::new(alloc)),
         notes: MemorySink::new(alloc, Vec::new(alloc)),
+        link: no_link(alloc)?,
     })
 }
 
@@ -175,6 +178,28 @@ pub fn lanes<C: Clock + Drop>(
     }
 }
 
+/// A link that gives no line.
+pub fn no_link(alloc: Global) -> io::Result<MemoryLink> {
+    match MemoryLink::new(alloc, Vec::new(alloc), Vec::new(alloc)) {
+        Ok(link) => Ok(link),
+        Err((Memory, _)) => Err(no_memory(Memory)),
+    }
+}
+
+/// The disks of a run: that of its journal, and that of its deletions.
+pub struct Disks<D> {
+    pub journal: D,
+    pub deletes: D,
+}
+
+/// A disk in memory beside an empty one for deletions.
+pub fn beside_deletes(alloc: Global, journal: MemoryDisk) -> Disks<MemoryDisk> {
+    Disks {
+        journal,
+        deletes: MemoryDisk::new(alloc, Vec::new(alloc)),
+    }
+}
+
 /// The words of a command line.
 pub fn owned(alloc: Global, words: &[&str]) -> io::Result<Vec<String>> {
     let mut owned = Vec::new(alloc);
@@ -189,7 +214,7 @@ pub fn run_words<S: Source + Drop, D: Disk + Drop, E: Store + Drop>(
     alloc: Global,
     words: &[&str],
     given: Given<S>,
-    disk: D,
+    disks: Disks<D>,
     hands: Vec<StillHand<E>>,
 ) -> io::Result<Ended<D, E>>
     requires { length hands.items ≡ 16 }
@@ -201,16 +226,19 @@ pub fn run_words<S: Source + Drop, D: Disk + Drop, E: Store + Drop>(
         input,
         output,
         notes,
+        link,
     } = given;
     let mut outside = Outside {
         settings,
         input,
         output,
         notes,
-        disk: Some(disk),
+        disk: Some(disks.journal),
+        deletes: Some(disks.deletes),
         clock: clock(alloc)?,
         hands,
         lanes: lanes(alloc, clocks(alloc)?)?,
+        link,
     };
     let ended = run_alone(alloc, words.as_slice(), &mut outside);
     let Outside {
@@ -219,9 +247,11 @@ pub fn run_words<S: Source + Drop, D: Disk + Drop, E: Store + Drop>(
         output,
         notes,
         disk,
+        deletes: _,
         clock: _,
         hands,
         lanes: _,
+        link: _,
     } = outside;
     match (ended, disk) {
         (Some(ending), Some(disk)) => Ok(Ended {
@@ -242,7 +272,7 @@ pub fn session<D: Disk + Drop, E: Store + Drop>(
     settings: &[u8],
     input: MemorySource,
     output: MemorySink,
-    disk: D,
+    disks: Disks<D>,
     hands: Vec<StillHand<E>>,
 ) -> io::Result<Ended<D, E>>
     requires { length hands.items ≡ 16 }
@@ -253,6 +283,7 @@ pub fn session<D: Disk + Drop, E: Store + Drop>(
         input,
         output,
         notes: MemorySink::new(alloc, Vec::new(alloc)),
+        link: no_link(alloc)?,
     };
-    run_words(alloc, &["session"], given, disk, hands)
+    run_words(alloc, &["session"], given, disks, hands)
 }

@@ -7,6 +7,7 @@ mod Metings
 mod Listings
 mod Sweepings
 mod Lookings
+mod Removings
 mod Counted
 mod Entries
 mod Appends

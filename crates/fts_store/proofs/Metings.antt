@@ -26,7 +26,7 @@ makes_last [] last next = refl
 makes_last (lowest ∷ above) last next = makes_last above last (makes_one lowest next)
 
 -- one folder more in front of the last
-take_last : (folders : List (List ℕ)) (n : ℕ) (d : List ℕ) → n < length folders → take (suc n) folders ≡ take n folders ++ get_or folders n d ∷ []
+pub take_last : (folders : List (List ℕ)) (n : ℕ) (d : List ℕ) → n < length folders → take (suc n) folders ≡ take n folders ++ get_or folders n d ∷ []
 take_last [] n d inside = absurd (omega arith)
 take_last (f ∷ folders) zero d inside = refl
 take_last (f ∷ folders) (suc n) d inside = ap (λ l. f ∷ l) (take_last folders n d (omega arith))

@@ -9,6 +9,10 @@ use Rattle.fts_store.specs.declared.folder.FolderStore.{FolderStore}
 abbrev pub folder_faults : {F Handle : Type 0} → FolderStore F Handle → ℕ
 folder_faults store = store.faults
 
+-- it is for deletions
+abbrev pub is_deleting : {F Handle : Type 0} → FolderStore F Handle → Bool
+is_deleting store = store.deleting
+
 -- a name of one thing in a folder: not empty, neither "." nor ".."
 abbrev pub is_name : List ℕ → Bool
 is_name text = not (bytes_eq text []) && not (bytes_eq text (codes ".")) && not (bytes_eq text (codes ".."))

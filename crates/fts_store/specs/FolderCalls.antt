@@ -1,10 +1,10 @@
 -- The calls of a file system that the calls of a store in a folder make.
-use Rattle.std.specs.Prelude.{◌≡◌, ℕ, not, if◌then◌else◌, Option, Some, None, option_map, Result, IsErr, List, ◌++◌, String}
+use Rattle.std.specs.Prelude.{◌≡◌, ℕ, ◌&&◌, not, Bool, if◌then◌else◌, Option, Some, None, option_map, Result, IsErr, List, ◌++◌, String}
 use Rattle.std.specs.declared.alloc.Global.{Global}
 use Rattle.fts_tables.specs.declared.places.Place.{Place}
 use Rattle.fts_files.specs.Calls.{Call}
 use Rattle.fts_files.specs.declared.parts.OpenPart.{OpenPart}
-use Rattle.fts_files.specs.Making.{makes_part, removes, removes_part}
+use Rattle.fts_files.specs.Making.{makes_part, removes_part}
 use Rattle.fts_files.specs.Moved.{IsMoved}
 use Rattle.fts_files.specs.Reading.{sizes, opens_source, reads_once}
 use Rattle.fts_files.specs.Script.{Script, LeadsTo, either, fails}
@@ -14,8 +14,9 @@ use Rattle.fts_store.specs.declared.folders.Met.{Met}
 use Rattle.fts_store.specs.declared.folders.Missing.{Missing}
 use Rattle.fts_store.specs.Folder.{stays_inside, is_among_parts}
 use Rattle.fts_store.specs.Paths.{endpoint_in, path_in, folders_of}
-use Rattle.fts_store.specs.Folders.{meets, has_all, still_stable, to_sync}
+use Rattle.fts_store.specs.Folders.{meets, below, has_all, still_stable, to_sync}
 use Rattle.fts_store.specs.Opened.{is_open_at, is_free}
+use Rattle.fts_store.specs.Removing.{sizes_for_good, removes_for_good}
 
 -- the calls that were told end with some of which this holds
 abbrev pub EndWith : (List Call → Type 0) → Option (List Call) → Type 0
@@ -83,10 +84,33 @@ part_end writing = option_map (λ part. part.file.end) writing
 abbrev pub part_handle : {H : Type 0} → Option (Opened (OpenPart H)) → Option H
 part_handle writing = option_map (λ part. part.file.file) writing
 
--- a name is taken away: that of a part only where no run holds it
-abbrev pub takes_away : List ℕ → List ℕ → Script → Script
-takes_away path full next = if is_among_parts path then removes_part full next else removes full next
+-- the folders that a file lies in, below its endpoint's own
+abbrev pub inner_folders : List ℕ → Place → List (List ℕ)
+inner_folders root place = below (folders_of (path_in root place)) (endpoint_in root place.endpoint)
 
--- a file is removed
-abbrev pub removes_in : List ℕ → List Met → Place → Script → Script
-removes_in root met place next = inside root met place (takes_away place.path (path_in root place) next)
+-- a place that lies inside, and in no folder of parts
+abbrev pub apart_from_parts : List ℕ → List Met → Place → Script → Script
+apart_from_parts root met place next = if is_among_parts place.path then fails else inside root met place next
+
+-- a store for deletions looks for a file's size: of a plain file behind no link; that there is none is told once no crash undoes it
+abbrev pub looks_for_good : List ℕ → List Met → Place → (Option ℕ → Script) → Script
+looks_for_good root met place next =
+    apart_from_parts root met place (sizes_for_good (endpoint_in root place.endpoint) (inner_folders root place) (path_in root place) next)
+
+-- by whether the store is for deletions
+abbrev pub looks_in : Bool → List ℕ → List Met → Place → (Option ℕ → Script) → Script
+looks_in deleting root met place next = if deleting then looks_for_good root met place next else sizes_in root met place next
+
+-- the name of a part is taken away, unless a run holds it
+abbrev pub removes_part_in : List ℕ → List Met → Place → Script → Script
+removes_part_in root met place next = inside root met place (removes_part (path_in root place) next)
+
+-- a plain file behind no link is removed, so that no crash gives it back
+abbrev pub removes_file_in : List ℕ → List Met → Place → Script → Script
+removes_file_in root met place next =
+    apart_from_parts root met place (removes_for_good (endpoint_in root place.endpoint) (inner_folders root place) (path_in root place) next)
+
+-- a file is removed, and no part by a store for deletions
+abbrev pub removes_in : Bool → List ℕ → List Met → Place → Script → Script
+removes_in deleting root met place next =
+    if is_among_parts place.path && not deleting then removes_part_in root met place next else removes_file_in root met place next

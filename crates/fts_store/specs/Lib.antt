@@ -6,6 +6,7 @@ pub mod Folder
 pub mod Paths
 pub mod Folders
 pub mod Opened
+pub mod Removing
 pub mod FolderCalls
 pub mod Listing
 pub mod Sweep

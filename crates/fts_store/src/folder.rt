@@ -5,22 +5,23 @@
 //! A file that is made is the open part: new, locked until it is moved or let go, and the only one that gets bytes or is moved. What had its
 //! name loses it, unless another run holds it. It is moved as `OpenPart` does, to where the last look found nothing without replacing anything.
 //! At most two files are open: one that is read, and the part. A look at a size lets both go, and so does a move.
+//! A file that is no part is removed only as a plain one behind no link, and so that no crash gives it back (`removing`). A store for deletions
+//! looks for sizes in the same way, and removes no part (`deleting`).
 ghost use Rattle.std.specs.Prelude.{◌≡◌, ◌+◌, ◌≤◌, ℕ, List, length, take, option_map, IsErr, IfOk, OnOk, OnErr};
 ghost use Rattle.fts_files.specs.Reading.{reads_once};
 ghost use Rattle.fts_files.specs.Script.{Script, LeadsTo, either, fails};
-ghost use Rattle.fts_store.specs.FolderCalls.{with_opened, with_part, part_end, part_handle, takes_away};
+ghost use Rattle.fts_store.specs.FolderCalls.{with_opened, with_part, part_end, part_handle};
 ghost use Rattle.fts_tables.specs.Counts.{CountsFaults};
 ghost use Rattle.fts_store.specs.Store.{place_at};
 ghost use Rattle.fts_store.specs.Opened.{is_free, is_open_at};
 
-use crate::folders::{Met, forget, have_all, meet, remember, to_meet, to_sync};
-use crate::inside::{folders_of, is_among_parts, path_of, stays_inside};
+use crate::folders::{Met, below, forget, have_all, meet, remember, to_meet, to_sync};
+use crate::inside::{endpoint_of, folders_of, is_among_parts, path_of, stays_inside};
 use crate::meeting::meet_all;
+use crate::removing::{remove_for_good, size_for_good};
 use crate::sweep::sweep;
 use crate::{Store, StoreFailed};
-use fts_files::{
-    FileSystem, OpenPart, SystemFiles, open_source, read_some, remove, remove_part, size,
-};
+use fts_files::{FileSystem, OpenPart, SystemFiles, open_source, read_some, remove_part, size};
 use fts_tables::PlaceRef;
 use std::alloc::{AllocError, Global};
 use std::fs::{File, Files};
@@ -48,6 +49,8 @@ pub struct FolderStore<F: FileSystem + Drop> {
     stable: Vec<String>,
     /// The endpoints' own folders, as they were first met.
     met: Vec<Met>,
+    /// Whether it is for deletions.
+    pub(crate) deleting: bool,
     pub(crate) faults: u64,
 }
 
@@ -133,18 +136,6 @@ fn append_to<F: FileSystem>(
     }
 }
 
-// Takes a name away; that of a part only where no run holds it, since another run that writes it would lose its file.
-fn take_away<F: FileSystem>(files: &mut F, at: PlaceRef<'_>, path: &str) -> Result<(), StoreFailed>
-    ensures { (next : Script) → LeadsTo (takes_away (place_at at.entry).path path.now next)
-        (F.calls files.old) (either (λ done. next) fails result) (F.calls files.new) }
-{
-    if is_among_parts(at.path.as_bytes()) {
-        Ok(remove_part(files, path)?)
-    } else {
-        Ok(remove(files, path)?)
-    }
-}
-
 // Counts a failure.
 fn count<T: Drop>(faults: &mut u64, answer: Result<T, StoreFailed>) -> Result<T, StoreFailed>
     ensures value { IfOk result (λ value. answer ≡ Ok value) }
@@ -163,28 +154,31 @@ fn count<T: Drop>(faults: &mut u64, answer: Result<T, StoreFailed>) -> Result<T,
 
 impl<R: Files<File = File> + Drop> FolderStore<SystemFiles<R>> {
     ghost use Rattle.std.specs.Prelude.{◌≡◌};
-    ghost use Rattle.fts_store.specs.Folder.{folder_faults};
+    ghost use Rattle.std.specs.Prelude.{false};
+    ghost use Rattle.fts_store.specs.Folder.{folder_faults, is_deleting};
 
     /// A store in a folder of the system, which is made once a file is.
     pub fn new(rt: R, alloc: Global, root: String) -> FolderStore<SystemFiles<R>>
-        ensures { folder_faults result ≡ 0 }
+        ensures faults { folder_faults result ≡ 0 }
+        ensures copies { is_deleting result ≡ false }
     {
         FolderStore::over(SystemFiles::new(rt), alloc, root)
     }
 }
 
 impl<F: FileSystem + Drop> FolderStore<F> {
-    ghost use Rattle.std.specs.Prelude.{◌≡◌, ◌⊎◌, ◌+◌, ◌≤◌, ℕ, Option, Some, None, option_map, List, false, length, take, string_bytes, IfOk, OnOk, OnErr, IfSome, IsErr};
+    ghost use Rattle.std.specs.Prelude.{◌≡◌, ◌⊎◌, ◌+◌, ◌≤◌, ℕ, Option, Some, None, option_map, List, true, false, length, take, string_bytes, IfOk, OnOk, OnErr, IfSome, IsErr};
     ghost use Rattle.fts_files.specs.Script.{Script, LeadsTo, either, fails};
     ghost use Rattle.fts_store.specs.Store.{place_at};
-    ghost use Rattle.fts_store.specs.Folder.{folder_faults, stays_inside};
+    ghost use Rattle.fts_store.specs.Folder.{folder_faults, is_deleting, stays_inside, is_among_parts};
     ghost use Rattle.fts_store.specs.Sweep.{Sweeps};
     ghost use Rattle.fts_store.specs.Meeting.{Meets};
-    ghost use Rattle.fts_store.specs.FolderCalls.{OpenMoved, IsUnasked, sizes_in, opens_in, reads_in, creates_in, appends_in, removes_in, with_opened, part_end, part_handle};
+    ghost use Rattle.fts_store.specs.FolderCalls.{OpenMoved, IsUnasked, sizes_in, opens_in, reads_in, creates_in, appends_in, looks_for_good, removes_part_in, removes_file_in, removes_in, with_opened, part_end, part_handle};
 
     /// A store in a folder of these files, which is made once a file is.
     pub fn over(files: F, alloc: Global, root: String) -> FolderStore<F>
-        ensures { folder_faults result ≡ 0 }
+        ensures faults { folder_faults result ≡ 0 }
+        ensures copies { is_deleting result ≡ false }
     {
         FolderStore {
             files,
@@ -195,7 +189,20 @@ impl<F: FileSystem + Drop> FolderStore<F> {
             free: None,
             stable: Vec::new(alloc),
             met: Vec::new(alloc),
+            deleting: false,
             faults: 0,
+        }
+    }
+
+    /// The same store, for deletions: a size is told only of a plain file behind no link, that there is no file only once no crash undoes it, and
+    /// nothing is removed from a folder of parts.
+    pub fn for_deletions(self) -> FolderStore<F>
+        ensures faults { folder_faults result ≡ folder_faults self }
+        ensures deletes { is_deleting result ≡ true }
+    {
+        FolderStore {
+            deleting: true,
+            ..self
         }
     }
 
@@ -364,27 +371,84 @@ impl<F: FileSystem + Drop> FolderStore<F> {
         Ok(())
     }
 
+    // Looks for a plain file behind no link.
+    fn look_for_good(&mut self, at: PlaceRef<'_>) -> Result<Option<u64>, StoreFailed>
+        ensures faults { folder_faults self.new ≡ folder_faults self.old }
+        ensures outside { stays_inside (place_at at.entry) ≡ false → IsErr result }
+        ensures script { IsUnasked result (F.calls self.old.files) (F.calls self.new.files)
+            ⊎ ((next : Option ℕ → Script) → LeadsTo (looks_for_good (string_bytes self.old.root) self.old.met.items (place_at at.entry) next)
+            (F.calls self.old.files) (either next fails result) (F.calls self.new.files)) }
+    {
+        self.reading = None;
+        self.writing = None;
+        self.free = None;
+        if is_among_parts(at.path.as_bytes()) {
+            return Err(StoreFailed);
+        }
+        let path = path_of(self.alloc, self.root.as_str(), at)?;
+        let folders = folders_of(self.alloc, path.as_str())?;
+        let own = endpoint_of(self.alloc, self.root.as_str(), at.endpoint)?;
+        let met = to_meet(self.alloc, self.root.as_str(), &mut self.met, at)?;
+        let _was_there = meet(&mut self.files, &mut self.met, met)?;
+        let inner = below(&folders, own.as_str());
+        Ok(size_for_good(&mut self.files, own.as_str(), inner, path.as_str())?)
+    }
+
+    // Removes a plain file behind no link.
+    fn erase_file(&mut self, at: PlaceRef<'_>) -> Result<(), StoreFailed>
+        ensures faults { folder_faults self.new ≡ folder_faults self.old }
+        ensures outside { stays_inside (place_at at.entry) ≡ false → IsErr result }
+        ensures script { IsUnasked result (F.calls self.old.files) (F.calls self.new.files)
+            ⊎ ((next : Script) → LeadsTo (removes_file_in (string_bytes self.old.root) self.old.met.items (place_at at.entry) next)
+            (F.calls self.old.files) (either (λ done. next) fails result) (F.calls self.new.files)) }
+    {
+        if is_among_parts(at.path.as_bytes()) {
+            return Err(StoreFailed);
+        }
+        let path = path_of(self.alloc, self.root.as_str(), at)?;
+        let folders = folders_of(self.alloc, path.as_str())?;
+        let own = endpoint_of(self.alloc, self.root.as_str(), at.endpoint)?;
+        let met = to_meet(self.alloc, self.root.as_str(), &mut self.met, at)?;
+        let _was_there = meet(&mut self.files, &mut self.met, met)?;
+        let inner = below(&folders, own.as_str());
+        Ok(remove_for_good(&mut self.files, own.as_str(), inner, path.as_str())?)
+    }
+
+    // Removes a part that no run holds: another run that writes it would lose its file.
+    fn erase_part(&mut self, at: PlaceRef<'_>) -> Result<(), StoreFailed>
+        ensures faults { folder_faults self.new ≡ folder_faults self.old }
+        ensures outside { stays_inside (place_at at.entry) ≡ false → IsErr result }
+        ensures script { IsUnasked result (F.calls self.old.files) (F.calls self.new.files)
+            ⊎ ((next : Script) → LeadsTo (removes_part_in (string_bytes self.old.root) self.old.met.items (place_at at.entry) next)
+            (F.calls self.old.files) (either (λ done. next) fails result) (F.calls self.new.files)) }
+    {
+        let path = path_of(self.alloc, self.root.as_str(), at)?;
+        let folder = to_meet(self.alloc, self.root.as_str(), &mut self.met, at)?;
+        let _was_there = meet(&mut self.files, &mut self.met, folder)?;
+        Ok(remove_part(&mut self.files, path.as_str())?)
+    }
+
     fn erase(&mut self, at: PlaceRef<'_>) -> Result<(), StoreFailed>
         ensures faults { folder_faults self.new ≡ folder_faults self.old }
         ensures outside { stays_inside (place_at at.entry) ≡ false → IsErr result }
         ensures script { IsUnasked result (F.calls self.old.files) (F.calls self.new.files)
-            ⊎ ((next : Script) → LeadsTo (removes_in (string_bytes self.old.root) self.old.met.items (place_at at.entry) next)
+            ⊎ ((next : Script) → LeadsTo (removes_in self.old.deleting (string_bytes self.old.root) self.old.met.items (place_at at.entry) next)
             (F.calls self.old.files) (either (λ done. next) fails result) (F.calls self.new.files)) }
-        ensures let_go { (self.new.reading ≡ None) × (self.new.writing ≡ None) }
     {
         self.reading = None;
         self.writing = None;
-        let path = path_of(self.alloc, self.root.as_str(), at)?;
-        let folder = to_meet(self.alloc, self.root.as_str(), &mut self.met, at)?;
-        let _was_there = meet(&mut self.files, &mut self.met, folder)?;
-        take_away(&mut self.files, at, path.as_str())
+        if is_among_parts(at.path.as_bytes()) && !self.deleting {
+            self.erase_part(at)
+        } else {
+            self.erase_file(at)
+        }
     }
 }
 
 impl<F: FileSystem + Drop> Store for FolderStore<F> {
     ghost use Rattle.std.specs.Prelude.{◌≡◌, ◌⊎◌, ◌+◌, ◌≤◌, ℕ, Option, Some, None, option_map, List, false, length, take, string_bytes, IfOk, OnOk, OnErr, IfSome, IsErr};
     ghost use Rattle.fts_files.specs.Script.{Script, LeadsTo, either, fails};
-    ghost use Rattle.fts_store.specs.FolderCalls.{OpenMoved, IsUnasked, sizes_in, opens_in, reads_in, creates_in, appends_in, removes_in, with_opened, part_end, part_handle};
+    ghost use Rattle.fts_store.specs.FolderCalls.{OpenMoved, IsUnasked, looks_in, opens_in, reads_in, creates_in, appends_in, removes_in, with_opened, part_end, part_handle};
     ghost use Rattle.fts_tables.specs.Counts.{CountsFaults};
     ghost use Rattle.fts_store.specs.Store.{untold, place_at};
     ghost use Rattle.fts_store.specs.Folder.{folder_faults, stays_inside};
@@ -399,9 +463,13 @@ impl<F: FileSystem + Drop> Store for FolderStore<F> {
         ensures cause { CountsFaults (folder_faults self.old) (folder_faults self.new) result }
         ensures outside { stays_inside (place_at at.entry) ≡ false → IsErr result }
         ensures script { IsUnasked result (F.calls self.old.files) (F.calls self.new.files)
-            ⊎ ((next : Option ℕ → Script) → LeadsTo (sizes_in (string_bytes self.old.root) self.old.met.items (place_at at.entry) next)
+            ⊎ ((next : Option ℕ → Script) → LeadsTo (looks_in self.old.deleting (string_bytes self.old.root) self.old.met.items (place_at at.entry) next)
             (F.calls self.old.files) (either next fails result) (F.calls self.new.files)) }
     {
+        if self.deleting {
+            let answer = self.look_for_good(at);
+            return count(&mut self.faults, answer);
+        }
         let answer = self.look(at);
         count(&mut self.faults, answer)
     }
@@ -463,7 +531,7 @@ impl<F: FileSystem + Drop> Store for FolderStore<F> {
         ensures cause { CountsFaults (folder_faults self.old) (folder_faults self.new) result }
         ensures outside { stays_inside (place_at at.entry) ≡ false → IsErr result }
         ensures script { IsUnasked result (F.calls self.old.files) (F.calls self.new.files)
-            ⊎ ((next : Script) → LeadsTo (removes_in (string_bytes self.old.root) self.old.met.items (place_at at.entry) next)
+            ⊎ ((next : Script) → LeadsTo (removes_in self.old.deleting (string_bytes self.old.root) self.old.met.items (place_at at.entry) next)
             (F.calls self.old.files) (either (λ done. next) fails result) (F.calls self.new.files)) }
     {
         let answer = self.erase(at);

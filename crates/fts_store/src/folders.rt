@@ -183,8 +183,8 @@ fn first_above(folders: &[String], top: &str) -> Option<usize>
     folders.iter().position(|folder| is_above(folder, top))
 }
 
-// Those of a file's folders that lie below this one.
-fn below<'a>(folders: &'a [String], top: &str) -> &'a [String]
+/// Those of a file's folders that lie below this one.
+pub(crate) fn below<'a>(folders: &'a [String], top: &str) -> &'a [String]
     ensures { map string_bytes result.now ≡ below (map string_bytes folders.now) top.now }
 {
     match first_above(folders, top) {

@@ -10,6 +10,7 @@ mod inside;
 mod listing;
 mod meeting;
 mod memory;
+mod removing;
 mod store;
 mod sweep;
 

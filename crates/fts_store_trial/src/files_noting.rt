@@ -128,3 +128,87 @@ impl<R: Files<File = File> + Drop> FileSystem for NotingFiles<R> {
         let _noted = self.letters.push(b'z');
     }
 }
+
+/// The same files, lent to a store, so that the letters can be read behind it.
+#[derive(Drop)]
+pub(crate) struct LentFiles<'a, R: Drop> {
+    pub(crate) files: &'a mut NotingFiles<R>,
+}
+
+impl<R: Files<File = File> + Drop> FileSystem for LentFiles<'_, R> {
+    ghost use Rattle.std.specs.Prelude.{None};
+
+    type Handle = File;
+
+    ghost calls = { λ _. None };
+
+    ghost number = { λ _. 0 };
+
+    fn open(&mut self, path: &str, way: Way) -> Result<File, Refused> {
+        self.files.open(path, way)
+    }
+
+    fn look(&mut self, path: &str) -> Result<Seen, Refused> {
+        self.files.look(path)
+    }
+
+    fn look_at_name(&mut self, path: &str) -> Result<Seen, Refused> {
+        self.files.look_at_name(path)
+    }
+
+    fn look_at_open(&mut self, file: &File) -> Result<Seen, Refused> {
+        self.files.look_at_open(file)
+    }
+
+    fn read_at(&mut self, file: &File, offset: u64, into: &mut [u8]) -> Result<usize, Refused> {
+        self.files.read_at(file, offset, into)
+    }
+
+    fn write_at(&mut self, file: &File, offset: u64, bytes: &[u8]) -> Result<usize, Refused> {
+        self.files.write_at(file, offset, bytes)
+    }
+
+    fn sync_data(&mut self, file: &File) -> Result<(), Refused> {
+        self.files.sync_data(file)
+    }
+
+    fn sync_all(&mut self, file: &File) -> Result<(), Refused> {
+        self.files.sync_all(file)
+    }
+
+    fn lock(&mut self, file: &File) -> Result<(), Refused> {
+        self.files.lock(file)
+    }
+
+    fn forget(&mut self, file: &File) -> Result<(), Refused> {
+        self.files.forget(file)
+    }
+
+    fn link(&mut self, path: &str, new: &str) -> Result<(), Refused> {
+        self.files.link(path, new)
+    }
+
+    fn rename(&mut self, path: &str, new: &str) -> Result<(), Refused> {
+        self.files.rename(path, new)
+    }
+
+    fn unlink(&mut self, path: &str) -> Result<(), Refused> {
+        self.files.unlink(path)
+    }
+
+    fn make_folder(&mut self, path: &str) -> Result<(), Refused> {
+        self.files.make_folder(path)
+    }
+
+    fn set_mode(&mut self, file: &File, mode: u32) -> Result<(), Refused> {
+        self.files.set_mode(file, mode)
+    }
+
+    fn names(&mut self, path: &str, into: &mut Vec<u8>) -> Result<(), Refused> {
+        self.files.names(path, into)
+    }
+
+    fn rest(&mut self) {
+        self.files.rest();
+    }
+}

@@ -30,7 +30,8 @@ use Rattle.fts_workers.specs.declared.ends.RoundEnd.{RoundEnd}
 use Rattle.fts_workers.specs.declared.ends.RoundEnd.TheVariants as round_ends
 use Rattle.fts_words.specs.declared.asked.Asked.{Asked}
 use Rattle.fts_words.specs.declared.asked.Asked.TheVariants as asks
-use Rattle.fts_top.specs.Asked.{DoesAsked}
+use Rattle.fts_top.specs.Asked.{DoesAsked, IsToDelete}
+use Rattle.fts_top.specs.Errands.{Beyond}
 use Rattle.fts_session.specs.Connections.{Reading, Exchange, requests_of, responses_of, AreRequestsIn, GoOn, EndsByClose as ClosedByLast, AreWritten, Ends, is_there, AreServed, LastAnswered}
 use Rattle.fts_top.specs.Ends.{status_of, line_status, round_status, session_status}
 use Rattle.fts_top.specs.Looks.{IsLook, IsLookStop, Shows, WritesText}
@@ -42,12 +43,14 @@ use Rattle.fts_session.specs.declared.ends.LineEnd.{LineEnd}
 use Rattle.fts_session.specs.declared.ends.LineEnd.TheVariants as line_ends
 use Rattle.fts_session.specs.declared.ends.SessionEnd.{SessionEnd}
 use Rattle.fts_top.specs.declared.ends.RunEnd.{RunEnd}
-use Rattle.fts_top.specs.declared.ends.RunEnd.TheVariants.{NoMemory, NoCommand, SettingsUnread, SettingsRule, DiskFailed, Damaged, JournalFull, Session, Shown, SourcesUnmade, LineUnwritten, DoorsFailed, Served}
+use Rattle.fts_top.specs.declared.ends.RunEnd.TheVariants.{NoMemory, NoCommand, SettingsUnread, SettingsRule, DiskFailed, Damaged, JournalFull, Session, Shown, SourcesUnmade, LineUnwritten, DoorsFailed, Served, Errand}
 use Rattle.fts_top.specs.declared.tally.Tally.{Tally}
 use Rattle.fts_top.proofs.Inputs.{InputEnd, Between, ByClose, ByNumber, Holds, EndsSo, IsEnd, same_input, holds_between, holds_all, holds_close, held_well}
 use Rattle.fts_top.proofs.Steady.{served_on, last_rounds_on, stays_within, served_unless_memory, defined_or_wanting, limit_met, last_not_busy}
 use Rattle.fts_disk.specs.declared.disk.Disk as disk
 use Rattle.fts_store.specs.declared.store.Store as store
+use Rattle.fts_wire.specs.declared.outside.Source as source
+use Rattle.fts_wire.specs.declared.outside.Sink as sink
 
 none_closes : (exchanges : List Exchange) → GoOn exchanges → NoneCloses (requests_of exchanges)
 none_closes [] go_on = All-nil (λ (request : RequestData). request.close ≡ false)
@@ -307,6 +310,7 @@ module _ {D E : Type 0} (disks : disk.Ghosts D) (stores : store.Ghosts E)
     by_stop LineUnwritten is stop stops = absurd stop
     by_stop DoorsFailed is stop stops = absurd stop
     by_stop (Served worst) is stop stops = absurd stop
+    by_stop (Errand found) is stop stops = absurd stop
 
     run_finishes : IsSessionRun disks stores end tally text before after
         → Finishes disks stores text before after end tally requests
@@ -338,6 +342,7 @@ module _ {D E : Type 0} (disks : disk.Ghosts D) (stores : store.Ghosts E)
   by_look_stop LineUnwritten is stop unwritten = absurd stop
   by_look_stop DoorsFailed is stop unwritten = absurd stop
   by_look_stop (Served worst) is stop unwritten = absurd stop
+  by_look_stop (Errand found) is stop unwritten = absurd stop
 
   by_whole : (whole : Bool) → end ≡ Shown whole → (shows : Shows disks text before.disk after.disk before.output after.output end tally)
       → WritesText (shown_text shows.tables) before.output after.output whole → FinishedShowing
@@ -354,48 +359,52 @@ module _ {D E : Type 0} (disks : disk.Ghosts D) (stores : store.Ghosts E)
   look_finishes (inr shows) = by_whole shows.whole shows.ended shows shows.written
 
 -- what one thread does comes to its end
-pub completes : {D E : Type 0} (disks : disk.Ghosts D) (stores : store.Ghosts E)
-    (text : Option (List ℕ)) (before after : OneThread D E) (end : RunEnd) (tally : Tally) (settings settings2 input input2 output output2 : ℕ) (asked : Option Asked)
-    → DoesAsked disks stores asked end tally text before after
+pub completes : {D E L : Type 0} (disks : disk.Ghosts D) (stores : store.Ghosts E) (lines_read : source.Ghosts L) (lines_written : sink.Ghosts L)
+    (text : Option (List ℕ)) (before after : OneThread D E) (beyond left : Beyond L D) (end : RunEnd) (tally : Tally) (settings settings2 input input2 output output2 : ℕ) (asked : Option Asked)
+    → DoesAsked disks stores lines_read lines_written asked end tally text before after beyond left
     → (status_of end ≡ 2 → asked ≡ None) → (status_of end ≡ 8 → Rose settings settings2) → (status_of end ≡ 5 → Rose input input2) → (status_of end ≡ 6 → Rose output output2)
-    → (status_of end ≡ 4 → Rose (disks.faults before.disk) (disks.faults after.disk))
+    → ((IsToDelete asked → ⊥) → status_of end ≡ 4 → Rose (disks.faults before.disk) (disks.faults after.disk))
     → Completes disks stores text before after end tally asked
     (failures_of settings input output (disks.faults before.disk)) (failures_of settings2 input2 output2 (disks.faults after.disk))
-completes disks stores text before after end tally settings settings2 input input2 output output2 None does words unread read sent failed = tt
-completes disks stores text before after end tally settings settings2 input input2 output output2 (Some asks.Session) does words unread read sent failed =
-    λ none requests rules. run_finishes disks stores text before after end tally requests rules none.disk (λ e. none.disk (failed e)) (λ e. none.input (read e))
-    (λ e. none.output (sent e)) (λ e. some (words e)) (λ e. none.settings (unread e)) does
+completes disks stores lines_read lines_written text before after beyond left end tally settings settings2 input input2 output output2 None does words unread read sent failed = tt
+completes disks stores lines_read lines_written text before after beyond left end tally settings settings2 input input2 output output2 (Some asks.Session) does words unread read sent failed =
+    λ none requests rules. run_finishes disks stores text before after end tally requests rules none.disk (λ e. none.disk (failed (λ delete. delete) e)) (λ e. none.input (read e))
+    (λ e. none.output (sent e)) (λ e. some (words e)) (λ e. none.settings (unread e)) does.0
   where
     some : Some asks.Session ≡ None → ⊥
     some e = cc
-completes disks stores text before after end tally settings settings2 input input2 output output2 (Some asks.Show) does words unread read sent failed =
+completes disks stores lines_read lines_written text before after beyond left end tally settings settings2 input input2 output output2 (Some asks.Show) does words unread read sent failed =
     λ settings_stay output_stays disk_stays good told undamaged. look_finishes disks stores text before after end tally (λ e. settings_stay (unread e))
-    (λ e. output_stays (sent e)) disk_stays good told undamaged does.0
-completes disks stores text before after end tally settings settings2 input input2 output output2 (Some (asks.Load number)) does words unread read sent failed = tt
-completes disks stores text before after end tally settings settings2 input input2 output output2 (Some (asks.Serve port lanes connections)) does words unread read sent failed = tt
+    (λ e. output_stays (sent e)) disk_stays good told undamaged does.0.0
+completes disks stores lines_read lines_written text before after beyond left end tally settings settings2 input input2 output output2 (Some (asks.Load number)) does words unread read sent failed = tt
+completes disks stores lines_read lines_written text before after beyond left end tally settings settings2 input input2 output output2 (Some (asks.Serve port lanes connections)) does words unread read sent failed = tt
+completes disks stores lines_read lines_written text before after beyond left end tally settings settings2 input input2 output output2 (Some (asks.Submit port tries)) does words unread read sent failed = tt
+completes disks stores lines_read lines_written text before after beyond left end tally settings settings2 input input2 output output2 (Some (asks.Query port job tries)) does words unread read sent failed = tt
+completes disks stores lines_read lines_written text before after beyond left end tally settings settings2 input input2 output output2 (Some asks.Delete) does words unread read sent failed = tt
+completes disks stores lines_read lines_written text before after beyond left end tally settings settings2 input input2 output output2 (Some (asks.Follow port tries)) does words unread read sent failed = tt
 
 -- the same over the disk and the first hand
-pub completes_over : {D E H : Type 0} (disks : disk.Ghosts D) (stores : store.Ghosts E)
-    (store_of : H → E) (words_of : H → Option Coming) (text : Option (List ℕ)) (input input2 : Reading) (output output2 : Option (List ℕ)) (moments moments2 : Option Coming)
+pub completes_over : {D E H L : Type 0} (disks : disk.Ghosts D) (stores : store.Ghosts E) (lines_read : source.Ghosts L) (lines_written : sink.Ghosts L)
+    (beyond behind : Beyond L D) (store_of : H → E) (words_of : H → Option Coming) (text : Option (List ℕ)) (input input2 : Reading) (output output2 : Option (List ℕ)) (moments moments2 : Option Coming)
     (end : RunEnd) (tally : Tally) (asked : Option Asked) (settings settings2 reads reads2 writes writes2 : ℕ) (old new : Option D) (hands hands2 : List H)
-    → OverDisks old new (λ disk left. OverHands hands hands2 (λ hand now. DoesAsked disks stores asked end tally text
-    (one_thread disk (store_of hand) input output moments (words_of hand)) (one_thread left (store_of now) input2 output2 moments2 (words_of now))))
+    → OverDisks old new (λ disk left. OverHands hands hands2 (λ hand now. DoesAsked disks stores lines_read lines_written asked end tally text
+    (one_thread disk (store_of hand) input output moments (words_of hand)) (one_thread left (store_of now) input2 output2 moments2 (words_of now)) beyond behind))
     → (status_of end ≡ 2 → asked ≡ None) → (status_of end ≡ 8 → Rose settings settings2) → (status_of end ≡ 5 → Rose reads reads2) → (status_of end ≡ 6 → Rose writes writes2)
-    → (status_of end ≡ 4 → OverDisks old new (λ disk left. Rose (disks.faults disk) (disks.faults left)))
+    → ((IsToDelete asked → ⊥) → status_of end ≡ 4 → OverDisks old new (λ disk left. Rose (disks.faults disk) (disks.faults left)))
     → OverDisks old new (λ disk left. OverHands hands hands2 (λ hand now. Completes disks stores text
     (one_thread disk (store_of hand) input output moments (words_of hand)) (one_thread left (store_of now) input2 output2 moments2 (words_of now)) end tally asked
     (failures_of settings reads writes (disks.faults disk)) (failures_of settings2 reads2 writes2 (disks.faults left))))
-completes_over disks stores store_of words_of text input input2 output output2 moments moments2 end tally asked settings settings2 reads reads2 writes writes2
+completes_over disks stores lines_read lines_written beyond behind store_of words_of text input input2 output output2 moments moments2 end tally asked settings settings2 reads reads2 writes writes2
     None new hands hands2 does words unread read sent failed = tt
-completes_over disks stores store_of words_of text input input2 output output2 moments moments2 end tally asked settings settings2 reads reads2 writes writes2
+completes_over disks stores lines_read lines_written beyond behind store_of words_of text input input2 output output2 moments moments2 end tally asked settings settings2 reads reads2 writes writes2
     (Some disk) None hands hands2 does words unread read sent failed = does
-completes_over disks stores store_of words_of text input input2 output output2 moments moments2 end tally asked settings settings2 reads reads2 writes writes2
+completes_over disks stores lines_read lines_written beyond behind store_of words_of text input input2 output output2 moments moments2 end tally asked settings settings2 reads reads2 writes writes2
     (Some disk) (Some left) [] hands2 does words unread read sent failed = tt
-completes_over disks stores store_of words_of text input input2 output output2 moments moments2 end tally asked settings settings2 reads reads2 writes writes2
+completes_over disks stores lines_read lines_written beyond behind store_of words_of text input input2 output output2 moments moments2 end tally asked settings settings2 reads reads2 writes writes2
     (Some disk) (Some left) (hand ∷ others) [] does words unread read sent failed = does
-completes_over disks stores store_of words_of text input input2 output output2 moments moments2 end tally asked settings settings2 reads reads2 writes writes2
+completes_over disks stores lines_read lines_written beyond behind store_of words_of text input input2 output output2 moments moments2 end tally asked settings settings2 reads reads2 writes writes2
     (Some disk) (Some left) (hand ∷ others) (now ∷ others_now) does words unread read sent failed = (
-      completes disks stores text (one_thread disk (store_of hand) input output moments (words_of hand))
-          (one_thread left (store_of now) input2 output2 moments2 (words_of now)) end tally settings settings2 reads reads2 writes writes2 asked does.0 words unread read sent failed,
+      completes disks stores lines_read lines_written text (one_thread disk (store_of hand) input output moments (words_of hand))
+          (one_thread left (store_of now) input2 output2 moments2 (words_of now)) beyond behind end tally settings settings2 reads reads2 writes writes2 asked does.0 words unread read sent failed,
       does.1,
     )

@@ -10,7 +10,7 @@ use Rattle.fts_shop.specs.declared.ends.WorkerEnd.TheVariants as worker_ends
 use Rattle.fts_top.specs.Ends.{status_of, worker_status, IsServingStatus, end_when_served}
 use Rattle.fts_top.specs.Runs.{HasNoSettings, start_end}
 use Rattle.fts_top.specs.declared.ends.RunEnd.{RunEnd}
-use Rattle.fts_top.specs.declared.ends.RunEnd.TheVariants.{NoMemory, NoCommand, SettingsUnread, SettingsRule, DiskFailed, Damaged, JournalFull, Session, Shown, SourcesUnmade, LineUnwritten, DoorsFailed, Served}
+use Rattle.fts_top.specs.declared.ends.RunEnd.TheVariants.{NoMemory, NoCommand, SettingsUnread, SettingsRule, DiskFailed, Damaged, JournalFull, Session, Shown, SourcesUnmade, LineUnwritten, DoorsFailed, Served, Errand}
 use Rattle.fts_service.specs.declared.together.ServedEnd.{ServedEnd}
 use Rattle.fts_service.specs.declared.together.ServedEnd.TheVariants as served_ends
 use Rattle.fts_tables.specs.declared.limits.TheConstants.{MAX_WORKERS}
@@ -60,6 +60,7 @@ unset_status text SourcesUnmade h = absurd h
 unset_status text LineUnwritten h = absurd h
 unset_status text DoorsFailed h = absurd h
 unset_status text (Served end) h = absurd h
+unset_status text (Errand end) h = absurd h
 
 -- a status of a run that serves is none of those that it excludes
 pub not_status : (status other : ℕ) → (other == 2 || (other == 5 || other == 6)) ≡ true → IsServingStatus status → status ≢ other

@@ -2,6 +2,7 @@ mod Started
 mod Loaded
 mod Settled
 mod Endings
+mod Errands
 mod Closing
 mod Chosen
 mod Inputs

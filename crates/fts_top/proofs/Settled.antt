@@ -11,7 +11,7 @@ use Rattle.fts_config.specs.declared.fault.SettingsFault.{SettingsFault}
 use Rattle.fts_config.specs.declared.fault.SettingsFault.TheVariants.{TooLong, Memory}
 use Rattle.fts_top.specs.Runs.{AreRead, IsBroken, HasNoSettings, EndsBy}
 use Rattle.fts_top.specs.declared.ends.RunEnd.{RunEnd}
-use Rattle.fts_top.specs.declared.ends.RunEnd.TheVariants.{NoMemory, NoCommand, SettingsUnread, SettingsRule, DiskFailed, Damaged, JournalFull, Session, Shown, SourcesUnmade, LineUnwritten, DoorsFailed, Served}
+use Rattle.fts_top.specs.declared.ends.RunEnd.TheVariants.{NoMemory, NoCommand, SettingsUnread, SettingsRule, DiskFailed, Damaged, JournalFull, Session, Shown, SourcesUnmade, LineUnwritten, DoorsFailed, Served, Errand}
 
 -- a text that is too long
 too_long : (text : List ℕ) → MAX_SETTINGS_BYTES < length text → settings_of text ≡ Err TooLong
@@ -65,3 +65,4 @@ stop_left left after bytes SourcesUnmade all h = absurd h
 stop_left left after bytes LineUnwritten all h = absurd h
 stop_left left after bytes DoorsFailed all h = absurd h
 stop_left left after bytes (Served end) all h = absurd h
+stop_left left after bytes (Errand end) all h = absurd h

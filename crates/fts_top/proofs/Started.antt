@@ -22,7 +22,7 @@ use Rattle.fts_top.specs.Tallies.{tally_with, no_tally}
 use Rattle.fts_session.specs.Sessions.{IsSession, IsOver, IsOwn, IsReady, walk_of, kept_at, thread}
 use Rattle.fts_top.specs.Runs.{one_thread, begun_with, AreRead, HasNoSettings, IsStop, StartsWith, LeavesList, ServesKeep, StopsEarly, RunsSession, IsSessionRun, start_end}
 use Rattle.fts_top.specs.declared.ends.RunEnd.{RunEnd}
-use Rattle.fts_top.specs.declared.ends.RunEnd.TheVariants.{NoMemory, NoCommand, SettingsUnread, SettingsRule, DiskFailed, Damaged, JournalFull, Session, Shown, SourcesUnmade, LineUnwritten, DoorsFailed, Served}
+use Rattle.fts_top.specs.declared.ends.RunEnd.TheVariants.{NoMemory, NoCommand, SettingsUnread, SettingsRule, DiskFailed, Damaged, JournalFull, Session, Shown, SourcesUnmade, LineUnwritten, DoorsFailed, Served, Errand}
 use Rattle.fts_top.specs.declared.tally.Tally.{Tally}
 use Rattle.fts_session.proofs.Keeping.{legal_behind, joined, weakened, since_more}
 use Rattle.fts_disk.specs.declared.disk.Disk as disk
@@ -81,6 +81,7 @@ module _ {D : Type 0} (disks : disk.Ghosts D) where
   unsettled text moments disk LineUnwritten h = absurd h
   unsettled text moments disk DoorsFailed h = absurd h
   unsettled text moments disk (Served end) h = absurd h
+  unsettled text moments disk (Errand end) h = absurd h
 
   -- a keep that could not be started stops the run
   pub unstarted : (text : Option (List ℕ)) (moments later : Option Coming) (disk left : D) (fault : KeepFault)

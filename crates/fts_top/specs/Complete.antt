@@ -207,3 +207,7 @@ module _ {D E : Type 0} (disks : disk.Ghosts D) (stores : store.Ghosts E)
       → HasGoodSettings text → IsTold (disks.state before.disk) → IsUndamaged (disks.state before.disk).seen → FinishesShowing
   Completes (Some (asks.Load number)) old new = Unit {0}
   Completes (Some (asks.Serve port lanes connections)) old new = Unit {0}
+  Completes (Some (asks.Submit port tries)) old new = Unit {0}
+  Completes (Some (asks.Query port job tries)) old new = Unit {0}
+  Completes (Some asks.Delete) old new = Unit {0}
+  Completes (Some (asks.Follow port tries)) old new = Unit {0}

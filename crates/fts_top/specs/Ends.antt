@@ -9,8 +9,13 @@ use Rattle.fts_service.specs.declared.together.ServedEnd.TheVariants as served_e
 use Rattle.fts_session.specs.declared.ends.SessionEnd.{SessionEnd}
 use Rattle.fts_session.specs.declared.ends.LineEnd.{LineEnd}
 use Rattle.fts_session.specs.declared.ends.LineEnd.TheVariants as line_ends
+use Rattle.fts_submitting.specs.Ends.{client_status}
+use Rattle.fts_deleting.specs.Ends.{delete_status}
+use Rattle.fts_following.specs.Ends.{follow_status}
+use Rattle.fts_top.specs.declared.ends.ErrandEnd.{ErrandEnd}
+use Rattle.fts_top.specs.declared.ends.ErrandEnd.TheVariants.{Client, Deletion, Standby}
 use Rattle.fts_top.specs.declared.ends.RunEnd.{RunEnd}
-use Rattle.fts_top.specs.declared.ends.RunEnd.TheVariants.{NoMemory, NoCommand, SettingsUnread, SettingsRule, DiskFailed, Damaged, JournalFull, Session, Shown, SourcesUnmade, LineUnwritten, DoorsFailed, Served}
+use Rattle.fts_top.specs.declared.ends.RunEnd.TheVariants.{NoMemory, NoCommand, SettingsUnread, SettingsRule, DiskFailed, Damaged, JournalFull, Session, Shown, SourcesUnmade, LineUnwritten, DoorsFailed, Served, Errand}
 
 -- the status of a connection that didn't end well
 abbrev pub line_status : LineEnd → Option ℕ
@@ -40,6 +45,12 @@ worker_status worker_ends.Memory = 1
 worker_status worker_ends.DiskFailed = 4
 worker_status (worker_ends.JournalFull used) = 11
 
+-- the status of a command that is none of the service's own
+abbrev pub errand_status : ErrandEnd → ℕ
+errand_status (Client end) = client_status end
+errand_status (Deletion end) = delete_status end
+errand_status (Standby end) = follow_status end
+
 -- the exit status of a run
 abbrev pub status_of : RunEnd → ℕ
 status_of NoMemory = 1
@@ -55,6 +66,7 @@ status_of SourcesUnmade = 13
 status_of LineUnwritten = 6
 status_of DoorsFailed = 9
 status_of (Served end) = worker_status end
+status_of (Errand end) = errand_status end
 
 -- how a run ends whose lanes and workers ended so together
 abbrev pub end_when_served : ServedEnd → RunEnd

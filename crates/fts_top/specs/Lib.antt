@@ -1,5 +1,6 @@
 pub mod Tallies
 pub mod Ends
+pub mod Errands
 pub mod Notes
 pub mod Runs
 pub mod Looks

@@ -12,7 +12,7 @@ use Rattle.fts_top.specs.Runs.{AreRead, IsBroken, OneThread}
 use Rattle.fts_show.specs.Shown.{shown_text}
 use Rattle.fts_top.specs.Tallies.{tally_of, no_tally}
 use Rattle.fts_top.specs.declared.ends.RunEnd.{RunEnd}
-use Rattle.fts_top.specs.declared.ends.RunEnd.TheVariants.{NoMemory, NoCommand, SettingsUnread, SettingsRule, DiskFailed, Damaged, JournalFull, Session, Shown, SourcesUnmade, LineUnwritten, DoorsFailed, Served}
+use Rattle.fts_top.specs.declared.ends.RunEnd.TheVariants.{NoMemory, NoCommand, SettingsUnread, SettingsRule, DiskFailed, Damaged, JournalFull, Session, Shown, SourcesUnmade, LineUnwritten, DoorsFailed, Served, Errand}
 use Rattle.fts_top.specs.declared.tally.Tally.{Tally}
 use Rattle.fts_disk.specs.declared.disk.Disk as disk
 
@@ -48,6 +48,7 @@ module _ {D : Type 0} (disks : disk.Ghosts D) where
   IsLookStop text disk left LineUnwritten = ⊥
   IsLookStop text disk left DoorsFailed = ⊥
   IsLookStop text disk left (Served end) = ⊥
+  IsLookStop text disk left (Errand end) = ⊥
 
   -- nothing was shown, and a crash leaves nothing else than before
   pub record LookStops (text : Option (List ℕ)) (disk left : D) (held now : Option (List ℕ)) (end : RunEnd) (tally : Tally) : Type 0 where

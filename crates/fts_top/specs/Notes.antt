@@ -9,8 +9,13 @@ use Rattle.fts_shop.specs.declared.ends.WorkerEnd.{WorkerEnd}
 use Rattle.fts_shop.specs.declared.ends.WorkerEnd.TheVariants as worker_ends
 use Rattle.fts_session.specs.declared.ends.LineEnd.{LineEnd}
 use Rattle.fts_session.specs.declared.ends.LineEnd.TheVariants as line_ends
+use Rattle.fts_submitting.specs.Notes.{client_note_of}
+use Rattle.fts_deleting.specs.Notes.{delete_note_of}
+use Rattle.fts_following.specs.Notes.{follow_note_of}
+use Rattle.fts_top.specs.declared.ends.ErrandEnd.{ErrandEnd}
+use Rattle.fts_top.specs.declared.ends.ErrandEnd.TheVariants.{Client, Deletion, Standby}
 use Rattle.fts_top.specs.declared.ends.RunEnd.{RunEnd}
-use Rattle.fts_top.specs.declared.ends.RunEnd.TheVariants.{NoMemory, NoCommand, SettingsUnread, SettingsRule, DiskFailed, Damaged, JournalFull, Session, Shown, SourcesUnmade, LineUnwritten, DoorsFailed, Served}
+use Rattle.fts_top.specs.declared.ends.RunEnd.TheVariants.{NoMemory, NoCommand, SettingsUnread, SettingsRule, DiskFailed, Damaged, JournalFull, Session, Shown, SourcesUnmade, LineUnwritten, DoorsFailed, Served, Errand}
 
 -- a line with a number
 abbrev pub note_with : List ℕ → ℕ → List ℕ
@@ -40,6 +45,12 @@ worker_note_of worker_ends.Memory = codes "fts: no memory\n"
 worker_note_of worker_ends.DiskFailed = codes "fts: disk failed\n"
 worker_note_of (worker_ends.JournalFull used) = note_with (codes "fts: journal full at ") used
 
+-- the line of a command that is none of the service's own
+abbrev pub errand_note_of : ErrandEnd → List ℕ
+errand_note_of (Client end) = client_note_of end
+errand_note_of (Deletion end) = delete_note_of end
+errand_note_of (Standby end) = follow_note_of end
+
 -- the line of a run's end
 abbrev pub note_of : RunEnd → List ℕ
 note_of NoMemory = codes "fts: no memory\n"
@@ -55,6 +66,7 @@ note_of SourcesUnmade = codes "fts: store failed\n"
 note_of LineUnwritten = codes "fts: output failed\n"
 note_of DoorsFailed = codes "fts: doors failed\n"
 note_of (Served end) = worker_note_of end
+note_of (Errand end) = errand_note_of end
 
 -- a text was written to a sink: all of it or, where its count of faults rose, a part
 pub record IsNoted (before after : Option (List ℕ)) (old new : ℕ) (text : List ℕ) : Type 0 where

@@ -23,7 +23,7 @@ use Rattle.fts_session.specs.Sessions.{IsSession, ThreadData, Works}
 use Rattle.fts_top.specs.Tallies.{tally_of, tally_with, no_tally}
 use Rattle.fts_session.specs.declared.ends.SessionEnd.{SessionEnd}
 use Rattle.fts_top.specs.declared.ends.RunEnd.{RunEnd}
-use Rattle.fts_top.specs.declared.ends.RunEnd.TheVariants.{NoMemory, NoCommand, SettingsUnread, SettingsRule, DiskFailed, Damaged, JournalFull, Session, Shown, SourcesUnmade, LineUnwritten, DoorsFailed, Served}
+use Rattle.fts_top.specs.declared.ends.RunEnd.TheVariants.{NoMemory, NoCommand, SettingsUnread, SettingsRule, DiskFailed, Damaged, JournalFull, Session, Shown, SourcesUnmade, LineUnwritten, DoorsFailed, Served, Errand}
 use Rattle.fts_top.specs.declared.tally.Tally.{Tally}
 use Rattle.fts_disk.specs.declared.disk.Disk as disk
 use Rattle.fts_store.specs.declared.store.Store as store
@@ -93,6 +93,7 @@ HasNoSettings text SourcesUnmade = ⊥
 HasNoSettings text LineUnwritten = ⊥
 HasNoSettings text DoorsFailed = ⊥
 HasNoSettings text (Served end) = ⊥
+HasNoSettings text (Errand end) = ⊥
 
 -- how a run ends that could not start its keep, for this fault
 abbrev pub start_end : KeepFault → RunEnd
@@ -143,6 +144,7 @@ module _ {D : Type 0} (disks : disk.Ghosts D) where
   IsStop text moments later disk left LineUnwritten = ⊥
   IsStop text moments later disk left DoorsFailed = ⊥
   IsStop text moments later disk left (Served end) = ⊥
+  IsStop text moments later disk left (Errand end) = ⊥
 
 -- where a session begins: behind the Restart, with nothing kept
 abbrev pub begun_with : List Entry → ℕ → ℕ → Option Coming → Option Coming → Walk

@@ -22,7 +22,7 @@ use Rattle.fts_top.specs.Runs.{AreRead, IsStop}
 use Rattle.fts_service.specs.Serving.{RanTogether}
 use Rattle.fts_top.specs.Tallies.{tally_of, tally_with, no_tally}
 use Rattle.fts_top.specs.declared.ends.RunEnd.{RunEnd}
-use Rattle.fts_top.specs.declared.ends.RunEnd.TheVariants.{NoMemory, NoCommand, SettingsUnread, SettingsRule, DiskFailed, Damaged, JournalFull, Session, Shown, SourcesUnmade, LineUnwritten, DoorsFailed, Served}
+use Rattle.fts_top.specs.declared.ends.RunEnd.TheVariants.{NoMemory, NoCommand, SettingsUnread, SettingsRule, DiskFailed, Damaged, JournalFull, Session, Shown, SourcesUnmade, LineUnwritten, DoorsFailed, Served, Errand}
 use Rattle.fts_service.specs.declared.lane.Lane.{Lane}
 use Rattle.fts_top.specs.declared.tally.Tally.{Tally}
 use Rattle.fts_service.specs.declared.together.ServedEnd.{ServedEnd}
@@ -67,6 +67,7 @@ WhyNoLane all_doors lanes opened (Shown whole) = ⊥
 WhyNoLane all_doors lanes opened SourcesUnmade = ⊥
 WhyNoLane all_doors lanes opened LineUnwritten = ⊥
 WhyNoLane all_doors lanes opened (Served end) = ⊥
+WhyNoLane all_doors lanes opened (Errand end) = ⊥
 
 -- what is known of disks, stores, lines, doors, clocks and words
 module _ {D A E C W L : Type 0} (world : World D A E C W L) where

@@ -1,12 +1,17 @@
 //! How a connection, a session and a run end. Each end has its exit status (`specs/Ends.antt`) and the line that it notes (`specs/Notes.antt`).
 ghost use Rattle.std.specs.Prelude.{◌≡◌};
 ghost use Rattle.fts_top.specs.Ends.{line_status, round_status, session_status, worker_status, status_of, end_when_served};
+ghost use Rattle.fts_top.specs.Errands.{end_of_client, end_of_deletion, end_of_standby};
 ghost use Rattle.fts_top.specs.Runs.{start_end};
 
+use crate::errands::ErrandEnd;
+use fts_deleting::DeleteEnd;
+use fts_following::FollowRunEnd;
 use fts_keep::KeepFault;
 use fts_service::ServedEnd;
 use fts_session::{LineEnd, SessionEnd};
 use fts_shop::WorkerEnd;
+use fts_submitting::ClientEnd;
 use fts_workers::RoundEnd;
 
 /// How a run ended.
@@ -38,6 +43,8 @@ pub enum RunEnd {
     DoorsFailed,
     /// Connections were served, no doors failed, and this is the worst of the workers' ends.
     Served { end: WorkerEnd },
+    /// A command ran that is none of the service's own, and ended so.
+    Errand { end: ErrandEnd },
 }
 
 /// The exit status of a connection, where it didn't end well.
@@ -108,6 +115,7 @@ impl RunEnd {
             RunEnd::LineUnwritten => 6,
             RunEnd::DoorsFailed => 9,
             RunEnd::Served { end } => worker_end_status(end),
+            RunEnd::Errand { end } => end.status(),
         }
     }
 
@@ -120,6 +128,33 @@ impl RunEnd {
             KeepFault::Damaged { offset } => RunEnd::Damaged { offset },
             KeepFault::JournalFull { used } => RunEnd::JournalFull { used },
             KeepFault::Rule(_) | KeepFault::Memory => RunEnd::NoMemory,
+        }
+    }
+
+    /// How a run ends that was a client's command, which ended so.
+    pub fn of_client(end: ClientEnd) -> RunEnd
+        ensures { result ≡ end_of_client end }
+    {
+        RunEnd::Errand {
+            end: ErrandEnd::Client { end },
+        }
+    }
+
+    /// How a run ends that was a deletion, which ended so.
+    pub fn of_deletion(end: DeleteEnd) -> RunEnd
+        ensures { result ≡ end_of_deletion end }
+    {
+        RunEnd::Errand {
+            end: ErrandEnd::Deletion { end },
+        }
+    }
+
+    /// How a run ends that was a standby's, which ended so.
+    pub fn of_standby(end: FollowRunEnd) -> RunEnd
+        ensures { result ≡ end_of_standby end }
+    {
+        RunEnd::Errand {
+            end: ErrandEnd::Standby { end },
         }
     }
 

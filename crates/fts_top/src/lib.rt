@@ -1,5 +1,6 @@
 //! The program's commands, over an outside that it is handed: `session`, which answers the requests of a connection, `show`, which writes the
-//! tables, and `load`, which makes and answers a large input by its number. Which words ask for which is `fts_words`'.
+//! tables, `load`, which makes and answers a large input by its number, `serve`, and the errands `submit`, `query`, `delete` and `follow`, each of
+//! which has a crate of its own. Which words ask for which is `fts_words`'.
 //! Keeps: the list is the journal's, Restart, the accepted commands in the order of their requests, and the expiries, claims and reports of the
 //! rounds between them; what is written are the responses, each over the list so far (`run`, clause `run`; `specs/Runs.antt`). It is generic: which
 //! outside is real, the program decides.
@@ -9,6 +10,7 @@
 
 mod done;
 mod ends;
+mod errands;
 mod loads;
 mod looks;
 mod notes;

@@ -4,6 +4,7 @@ ghost use Rattle.fts_wire.specs.Response.{Sends};
 ghost use Rattle.fts_top.specs.Notes.{round_note_of, session_note_of, worker_note_of, note_of, note_with, IsNoted};
 
 use crate::ends::RunEnd;
+use crate::errands::send_errand_note;
 use fts_session::{LineEnd, SessionEnd};
 use fts_shop::WorkerEnd;
 use fts_wire::{Sink, SinkFailed, send_all, send_parts};
@@ -38,6 +39,7 @@ fn send_note<N: Sink>(notes: &mut N, end: RunEnd) -> Result<(), SinkFailed>
         RunEnd::SourcesUnmade => send_all(notes, "fts: store failed\n".as_bytes()),
         RunEnd::DoorsFailed => send_all(notes, "fts: doors failed\n".as_bytes()),
         RunEnd::Served { end } => send_worker_note(notes, end),
+        RunEnd::Errand { end } => send_errand_note(notes, end),
     }
 }
 

@@ -358,6 +358,15 @@ where
             };
             serve(rt, alloc, order, settings, disk, clock, lanes, hands)
         }
-        Some(Asked::Session | Asked::Show | Asked::Load { .. }) | None => unreachable!(),
+        Some(
+            Asked::Session
+            | Asked::Show
+            | Asked::Load { .. }
+            | Asked::Submit { .. }
+            | Asked::Query { .. }
+            | Asked::Delete
+            | Asked::Follow { .. },
+        )
+        | None => unreachable!(),
     }
 }

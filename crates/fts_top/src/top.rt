@@ -9,7 +9,8 @@ ghost use Rattle.fts_tables.specs.declared.limits.TheConstants.{MAX_LANES, MAX_W
 ghost use Rattle.fts_words.specs.Words.{asked_in, IsToServe};
 ghost use Rattle.fts_top.specs.Ends.{status_of, IsServingStatus};
 ghost use Rattle.fts_top.specs.Notes.{note_of, IsNoted};
-ghost use Rattle.fts_top.specs.Asked.{DoesAsked, DoesOrServes};
+ghost use Rattle.fts_top.specs.Asked.{DoesAsked, DoesOrServes, IsToDelete};
+ghost use Rattle.fts_top.specs.Errands.{beyond_at};
 ghost use Rattle.fts_top.specs.Complete.{Completes, failures_of};
 ghost use Rattle.fts_session.specs.Connections.{reading_in};
 ghost use Rattle.fts_session.specs.Sessions.{IsReady, thread, thread_at};
@@ -20,11 +21,13 @@ ghost use Rattle.fts_service.specs.Worlds.{world_of};
 use crate::Ending;
 use crate::done::{Done, make_tally, stop};
 use crate::ends::RunEnd;
+use crate::errands::{delete_places, follow_service, query_job, submit_input};
 use crate::loads::run_load;
 use crate::looks::show;
 use crate::notes::write_note;
 use crate::reading::load_settings;
 use crate::service::serve_as_asked;
+use fts_client::Link;
 use fts_disk::Disk;
 use fts_keep::Keep;
 use fts_service::{Doors, Lane};
@@ -38,18 +41,21 @@ use std::alloc::Global;
 use std::sync::Wait;
 use std::thread::Threads;
 
-/// What a run meets: the text of its settings, its input, its output, where it notes how it ended, the disk of its journal, the clock, hands, of
-/// which one thread uses the first one's store and words, and lanes, of which only a run that serves uses any.
+/// What a run meets: the text of its settings, its input, its output, where it notes how it ended, the disk of its journal, the disk of the
+/// deletions, the clock, hands, of which one thread uses the first one's store and words, lanes, of which only a run that serves uses any, and the
+/// link to a service, which clients and standbys use.
 #[derive(Drop)]
-pub struct Outside<F, S, K, N, D, E: Store, C: Clock, W: Words, A: Doors> {
+pub struct Outside<F, S, K, N, D, E: Store, C: Clock, W: Words, A: Doors, L> {
     pub settings: F,
     pub input: S,
     pub output: K,
     pub notes: N,
     pub disk: Option<D>,
+    pub deletes: Option<D>,
     pub clock: C,
     pub hands: Vec<Hand<E, C, W>>,
     pub lanes: Vec<Lane<A, C>>,
+    pub link: L,
 }
 
 /// Does all that the program does for these words, and gives its exit status:
@@ -71,32 +77,36 @@ pub fn run<
     C: Clock + Send,
     W: Words + Send,
     A: Doors + Send,
+    L: Link,
     R: Threads + Wait + Sync,
 >(
     rt: &R,
     alloc: Global,
     words: &[String],
-    outside: &mut Outside<F, S, K, N, D, E, C, W, A>,
+    outside: &mut Outside<F, S, K, N, D, E, C, W, A, L>,
 ) -> Ending
 where
     A::Line: Send,
     requires disk { IsSome outside.old.disk }
+    requires deletes { IsSome outside.old.deletes }
     requires hands { length outside.old.hands.items ≡ MAX_WORKERS }
     requires lanes { length outside.old.lanes.items ≡ MAX_LANES }
     ensures words { (result.status ≡ 2) ↔ (asked_in (map string_bytes words.now) ≡ None) }
     ensures untouched { asked_in (map string_bytes words.now) ≡ None → (outside.new.settings ≡ outside.old.settings) × (outside.new.input ≡ outside.old.input)
-        × (outside.new.output ≡ outside.old.output) × (outside.new.disk ≡ outside.old.disk) × (outside.new.clock ≡ outside.old.clock) }
+        × (outside.new.output ≡ outside.old.output) × (outside.new.disk ≡ outside.old.disk) × (outside.new.clock ≡ outside.old.clock)
+        × (outside.new.deletes ≡ outside.old.deletes) × (outside.new.link ≡ outside.old.link) }
     // Its end decides the status and the note, and is the end of what it did: alone, with the first hand and no lane, or with lanes and hands.
     ensures run { (end : RunEnd) × ((result.status ≡ status_of end)
         × (OverDisks outside.old.disk outside.new.disk (λ disk left. DoesOrServes (asked_in (map string_bytes words.now))
         (OverHands outside.old.hands.items outside.new.hands.items
-        (λ hand now. DoesAsked D.Disk E.Store (asked_in (map string_bytes words.now)) end result.tally (F.left outside.old.settings)
+        (λ hand now. DoesAsked D.Disk E.Store L.Line.Source L.Line.Sink (asked_in (map string_bytes words.now)) end result.tally (F.left outside.old.settings)
         (one_thread_at S.Source K.Sink C.Clock W.Words disk hand.store outside.old.input outside.old.output outside.old.clock hand.words)
-        (one_thread_at S.Source K.Sink C.Clock W.Words left now.store outside.new.input outside.new.output outside.new.clock now.words)) × (outside.new.lanes ≡ outside.old.lanes))
+        (one_thread_at S.Source K.Sink C.Clock W.Words left now.store outside.new.input outside.new.output outside.new.clock now.words)
+        (beyond_at L.Link outside.old.link outside.old.deletes) (beyond_at L.Link outside.new.link outside.new.deletes)) × (outside.new.lanes ≡ outside.old.lanes))
         (λ lanes connections. IsServingRun (world_of D.Disk E.Store A.Doors A.Line.Source A.Line.Sink C.Clock W.Words) lanes connections end result.tally (F.left outside.old.settings)
         (many_threads disk outside.old.lanes.items outside.old.hands.items (C.moments outside.old.clock))
         (many_threads left outside.new.lanes.items outside.new.hands.items (C.moments outside.new.clock))
-        × (outside.new.input ≡ outside.old.input) × (outside.new.output ≡ outside.old.output)))
+        × (outside.new.input ≡ outside.old.input) × (outside.new.output ≡ outside.old.output) × (outside.new.deletes ≡ outside.old.deletes) × (outside.new.link ≡ outside.old.link)))
         × IsNoted (N.held outside.old.notes) (N.held outside.new.notes) (N.faults outside.old.notes) (N.faults outside.new.notes) (note_of end))) }
     // Where nothing breaks a rule and no device fails, it comes to its end.
     ensures complete { (IsToServe (asked_in (map string_bytes words.now)) → ⊥) → (end : RunEnd) × ((result.status ≡ status_of end)
@@ -110,9 +120,12 @@ where
     ensures input { result.status ≡ 5 → Rose (S.faults outside.old.input) (S.faults outside.new.input) }
     ensures output { result.status ≡ 6 → Rose (K.faults outside.old.output) (K.faults outside.new.output) }
     // Of a run that serves, what it did says it of the start and of each worker's last turn.
-    ensures disk { (IsToServe (asked_in (map string_bytes words.now)) → ⊥) → result.status ≡ 4
+    ensures disk { (IsToServe (asked_in (map string_bytes words.now)) → ⊥) → (IsToDelete (asked_in (map string_bytes words.now)) → ⊥) → result.status ≡ 4
         → OverDisks outside.old.disk outside.new.disk (λ disk left. Rose (D.faults disk) (D.faults left)) }
+    ensures deletes { IsToDelete (asked_in (map string_bytes words.now)) → result.status ≡ 4
+        → OverDisks outside.old.deletes outside.new.deletes (λ disk left. Rose (D.faults disk) (D.faults left)) }
     ensures there { IsSome outside.new.disk }
+    ensures kept { IsSome outside.new.deletes }
     ensures hands { length outside.new.hands.items ≡ MAX_WORKERS }
     ensures lanes { length outside.new.lanes.items ≡ MAX_LANES }
 {
@@ -133,17 +146,19 @@ fn run_serving<
     C: Clock + Send,
     W: Words + Send,
     A: Doors + Send,
+    L: Link,
     R: Threads + Wait + Sync,
 >(
     rt: &R,
     alloc: Global,
     words: &[String],
-    outside: &mut Outside<F, S, K, N, D, E, C, W, A>,
+    outside: &mut Outside<F, S, K, N, D, E, C, W, A, L>,
 ) -> Ending
 where
     A::Line: Send,
     requires asked { IsToServe (asked_in (map string_bytes words.now)) }
     requires disk { IsSome outside.old.disk }
+    requires deletes { IsSome outside.old.deletes }
     requires hands { length outside.old.hands.items ≡ MAX_WORKERS }
     requires lanes { length outside.old.lanes.items ≡ MAX_LANES }
     ensures run { (end : RunEnd) × ((result.status ≡ status_of end)
@@ -152,10 +167,11 @@ where
         (many_threads disk outside.old.lanes.items outside.old.hands.items (C.moments outside.old.clock))
         (many_threads left outside.new.lanes.items outside.new.hands.items (C.moments outside.new.clock))))
         × IsNoted (N.held outside.old.notes) (N.held outside.new.notes) (N.faults outside.old.notes) (N.faults outside.new.notes) (note_of end))) }
-    ensures nothing { (outside.new.input ≡ outside.old.input) × (outside.new.output ≡ outside.old.output) }
+    ensures nothing { (outside.new.input ≡ outside.old.input) × (outside.new.output ≡ outside.old.output) × (outside.new.deletes ≡ outside.old.deletes) × (outside.new.link ≡ outside.old.link) }
     ensures settings { result.status ≡ 8 → Rose (F.faults outside.old.settings) (F.faults outside.new.settings) }
     ensures status { IsServingStatus result.status }
     ensures there { IsSome outside.new.disk }
+    ensures kept { IsSome outside.new.deletes }
     ensures hands { length outside.new.hands.items ≡ MAX_WORKERS }
     ensures lanes { length outside.new.lanes.items ≡ MAX_LANES }
 {
@@ -196,25 +212,29 @@ pub fn run_alone<
     C: Clock,
     W: Words,
     A: Doors,
+    L: Link,
 >(
     alloc: Global,
     words: &[String],
-    outside: &mut Outside<F, S, K, N, D, E, C, W, A>,
+    outside: &mut Outside<F, S, K, N, D, E, C, W, A, L>,
 ) -> Option<Ending>
     requires disk { IsSome outside.old.disk }
+    requires deletes { IsSome outside.old.deletes }
     requires hands { length outside.old.hands.items ≡ MAX_WORKERS }
     requires lanes { length outside.old.lanes.items ≡ MAX_LANES }
     ensures serve { (result ≡ None) ↔ IsToServe (asked_in (map string_bytes words.now)) }
     ensures nothing { result ≡ None → outside.new ≡ outside.old }
     ensures words { IfSome result (λ ending. (ending.status ≡ 2) ↔ (asked_in (map string_bytes words.now) ≡ None)) }
     ensures untouched { asked_in (map string_bytes words.now) ≡ None → (outside.new.settings ≡ outside.old.settings) × (outside.new.input ≡ outside.old.input)
-        × (outside.new.output ≡ outside.old.output) × (outside.new.disk ≡ outside.old.disk) × (outside.new.clock ≡ outside.old.clock) }
+        × (outside.new.output ≡ outside.old.output) × (outside.new.disk ≡ outside.old.disk) × (outside.new.clock ≡ outside.old.clock)
+        × (outside.new.deletes ≡ outside.old.deletes) × (outside.new.link ≡ outside.old.link) }
     // Its end decides the status and the note, and is the end of what it did.
     ensures run { IfSome result (λ ending. (end : RunEnd) × ((ending.status ≡ status_of end)
         × (OverDisks outside.old.disk outside.new.disk (λ disk left. OverHands outside.old.hands.items outside.new.hands.items
-        (λ hand now. DoesAsked D.Disk E.Store (asked_in (map string_bytes words.now)) end ending.tally (F.left outside.old.settings)
+        (λ hand now. DoesAsked D.Disk E.Store L.Line.Source L.Line.Sink (asked_in (map string_bytes words.now)) end ending.tally (F.left outside.old.settings)
         (one_thread_at S.Source K.Sink C.Clock W.Words disk hand.store outside.old.input outside.old.output outside.old.clock hand.words)
-        (one_thread_at S.Source K.Sink C.Clock W.Words left now.store outside.new.input outside.new.output outside.new.clock now.words)))
+        (one_thread_at S.Source K.Sink C.Clock W.Words left now.store outside.new.input outside.new.output outside.new.clock now.words)
+        (beyond_at L.Link outside.old.link outside.old.deletes) (beyond_at L.Link outside.new.link outside.new.deletes)))
         × IsNoted (N.held outside.old.notes) (N.held outside.new.notes) (N.faults outside.old.notes) (N.faults outside.new.notes) (note_of end)))) }
     // Where nothing breaks a rule and no device fails, it comes to its end.
     ensures complete { IfSome result (λ ending. (end : RunEnd) × ((ending.status ≡ status_of end)
@@ -227,14 +247,27 @@ pub fn run_alone<
     ensures settings { IfSome result (λ ending. ending.status ≡ 8 → Rose (F.faults outside.old.settings) (F.faults outside.new.settings)) }
     ensures input { IfSome result (λ ending. ending.status ≡ 5 → Rose (S.faults outside.old.input) (S.faults outside.new.input)) }
     ensures output { IfSome result (λ ending. ending.status ≡ 6 → Rose (K.faults outside.old.output) (K.faults outside.new.output)) }
-    ensures disk { IfSome result (λ ending. ending.status ≡ 4 → OverDisks outside.old.disk outside.new.disk (λ disk left. Rose (D.faults disk) (D.faults left))) }
+    ensures disk { IfSome result (λ ending. (IsToDelete (asked_in (map string_bytes words.now)) → ⊥) → ending.status ≡ 4
+        → OverDisks outside.old.disk outside.new.disk (λ disk left. Rose (D.faults disk) (D.faults left))) }
+    ensures deletes { IfSome result (λ ending. IsToDelete (asked_in (map string_bytes words.now)) → ending.status ≡ 4
+        → OverDisks outside.old.deletes outside.new.deletes (λ disk left. Rose (D.faults disk) (D.faults left))) }
     ensures there { IsSome outside.new.disk }
+    ensures kept { IsSome outside.new.deletes }
     ensures hands { length outside.new.hands.items ≡ MAX_WORKERS }
     ensures lanes { outside.new.lanes ≡ outside.old.lanes }
 {
     match read_words(words) {
         Some(Asked::Serve { .. }) => return None,
-        Some(Asked::Session | Asked::Show | Asked::Load { .. }) | None => {}
+        Some(
+            Asked::Session
+            | Asked::Show
+            | Asked::Load { .. }
+            | Asked::Submit { .. }
+            | Asked::Query { .. }
+            | Asked::Delete
+            | Asked::Follow { .. },
+        )
+        | None => {}
     }
     let Some(disk) = outside.disk.take() else {
         unreachable!();
@@ -250,6 +283,8 @@ pub fn run_alone<
         &mut outside.clock,
         &mut hand.store,
         &mut hand.words,
+        &mut outside.deletes,
+        &mut outside.link,
     );
     let Done { end, tally, disk } = done;
     match outside.disk.replace(disk) {
@@ -264,7 +299,7 @@ pub fn run_alone<
 }
 
 /// Does the command that the words are, which is not to serve.
-fn do_command<F: Source, S: Source, K: Sink, D: Disk, E: Store, C: Clock, W: Words>(
+fn do_command<F: Source, S: Source, K: Sink, D: Disk, E: Store, C: Clock, W: Words, L: Link>(
     alloc: Global,
     words: &[String],
     settings: &mut F,
@@ -274,18 +309,25 @@ fn do_command<F: Source, S: Source, K: Sink, D: Disk, E: Store, C: Clock, W: Wor
     clock: &mut C,
     store: &mut E,
     draws: &mut W,
+    deletes: &mut Option<D>,
+    link: &mut L,
 ) -> Done<D>
     requires alone { IsToServe (asked_in (map string_bytes words.now)) → ⊥ }
+    requires deletes { IsSome deletes.old }
     ensures words { (status_of result.end ≡ 2) ↔ (asked_in (map string_bytes words.now) ≡ None) }
     ensures untouched { asked_in (map string_bytes words.now) ≡ None → (settings.new ≡ settings.old) × (input.new ≡ input.old)
-        × (output.new ≡ output.old) × (result.disk ≡ disk) × (clock.new ≡ clock.old) }
-    ensures run { DoesAsked D.Disk E.Store (asked_in (map string_bytes words.now)) result.end result.tally (F.left settings.old)
+        × (output.new ≡ output.old) × (result.disk ≡ disk) × (clock.new ≡ clock.old) × (deletes.new ≡ deletes.old) × (link.new ≡ link.old) }
+    ensures run { DoesAsked D.Disk E.Store L.Line.Source L.Line.Sink (asked_in (map string_bytes words.now)) result.end result.tally (F.left settings.old)
         (one_thread_at S.Source K.Sink C.Clock W.Words disk store.old input.old output.old clock.old draws.old)
-        (one_thread_at S.Source K.Sink C.Clock W.Words result.disk store.new input.new output.new clock.new draws.new) }
+        (one_thread_at S.Source K.Sink C.Clock W.Words result.disk store.new input.new output.new clock.new draws.new)
+        (beyond_at L.Link link.old deletes.old) (beyond_at L.Link link.new deletes.new) }
+    ensures kept { IsSome deletes.new }
     ensures settings { status_of result.end ≡ 8 → Rose (F.faults settings.old) (F.faults settings.new) }
     ensures input { status_of result.end ≡ 5 → Rose (S.faults input.old) (S.faults input.new) }
     ensures output { status_of result.end ≡ 6 → Rose (K.faults output.old) (K.faults output.new) }
-    ensures disk { status_of result.end ≡ 4 → Rose (D.faults disk) (D.faults result.disk) }
+    ensures disk { (IsToDelete (asked_in (map string_bytes words.now)) → ⊥) → status_of result.end ≡ 4 → Rose (D.faults disk) (D.faults result.disk) }
+    ensures deletes { IsToDelete (asked_in (map string_bytes words.now)) → status_of result.end ≡ 4
+        → OverDisks deletes.old deletes.new (λ own now. Rose (D.faults own) (D.faults now)) }
 {
     let asked = match take_words(alloc, words) {
         Ok(asked) => asked,
@@ -299,6 +341,16 @@ fn do_command<F: Source, S: Source, K: Sink, D: Disk, E: Store, C: Clock, W: Wor
         Some(Asked::Show) => show(alloc, settings, output, disk),
         Some(Asked::Load { number }) => {
             run_load(alloc, number, settings, output, disk, clock, store, draws)
+        }
+        Some(Asked::Submit { port, tries }) => {
+            submit_input(alloc, port, tries, input, output, link, disk)
+        }
+        Some(Asked::Query { port, job, tries }) => {
+            query_job(alloc, port, job, tries, output, link, disk)
+        }
+        Some(Asked::Delete) => delete_places(alloc, settings, input, output, deletes, store, disk),
+        Some(Asked::Follow { port, tries }) => {
+            follow_service(alloc, port, tries, output, link, disk)
         }
         Some(Asked::Serve { .. }) => unreachable!(),
     }

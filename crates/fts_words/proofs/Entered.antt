@@ -14,13 +14,13 @@ use Rattle.clap.specs.Walk.{Held, Walk, Names, walked, walk, walk_from, settled,
 use Rattle.clap.proofs.OnLiterals.{clap_on_literals}
 use Rattle.fts_tables.specs.SettingsData.{are_apart}
 use Rattle.fts_words.specs.CommandLine.{command_line, value_in, values_in, asked_by, asked_entered, IsTaken}
-use Rattle.fts_words.specs.Words.{command_named, option_of, options_behind, each_once, numbers_of, asked_with, asked_of, is_same_option, port_of, lanes_of, connections_of, number_given, first_of as first_number}
+use Rattle.fts_words.specs.Words.{command_named, option_of, options_behind, each_once, numbers_of, asked_with, asked_of, is_same_option, port_of, lanes_of, connections_of, number_given, tries_of, job_of, first_of as first_number}
 use Rattle.fts_words.specs.declared.asked.Asked.{Asked}
 use Rattle.fts_words.specs.declared.asked.Command.{Command}
-use Rattle.fts_words.specs.declared.asked.Command.TheVariants.{Session, Show, Load, Serve}
+use Rattle.fts_words.specs.declared.asked.Command.TheVariants.{Session, Show, Load, Serve, Submit, Query, Delete, Follow}
 use Rattle.fts_words.specs.declared.options.Given.{Given}
-use Rattle.fts_words.specs.declared.options.Given.TheVariants.{Port, Lanes, Connections, Number}
-use Rattle.fts_words.proofs.Taking.{Name, ThePort, TheLanes, TheConnections, TheNumber, shape_of_command, rules_of_command, at}
+use Rattle.fts_words.specs.declared.options.Given.TheVariants.{Port, Lanes, Connections, Number, Tries, Job}
+use Rattle.fts_words.proofs.Taking.{Name, ThePort, TheLanes, TheConnections, TheNumber, TheTries, TheJob, shape_of_command, rules_of_command, at}
 use Rattle.fts_words.proofs.Walked.{given_as, or_else, value_at, Goes, goes_on}
 
 -- a command's name
@@ -29,6 +29,10 @@ name_of Session = codes "session"
 name_of Show = codes "show"
 name_of Load = codes "load"
 name_of Serve = codes "serve"
+name_of Submit = codes "submit"
+name_of Query = codes "query"
+name_of Delete = codes "delete"
+name_of Follow = codes "follow"
 
 -- the options that are left of an accepted list are each once
 record AreOnce (command : Command) (words : List Text) (asked : Asked) : Type 0 where
@@ -61,20 +65,37 @@ level_taken Session words options goes = rw (goes.passes, goes.settles_at_end) r
 level_taken Show words options goes = rw (goes.passes, goes.settles_at_end) refl
 level_taken Load words options goes = rw (goes.passes, goes.settles_at_end) refl
 level_taken Serve words options goes = rw (goes.passes, goes.settles_at_end) refl
+level_taken Submit words options goes = rw (goes.passes, goes.settles_at_end) refl
+level_taken Query words options goes = rw (goes.passes, goes.settles_at_end) refl
+level_taken Delete words options goes = rw (goes.passes, goes.settles_at_end) refl
+level_taken Follow words options goes = rw (goes.passes, goes.settles_at_end) refl
 
 -- no option has a default
-same_rows : (b : Bool) (rows : List Row) → (if b then rows else rows) ≡ rows
-same_rows true rows = refl
-same_rows false rows = refl
+abbrev kept : Text → List Row → List Row
+kept id rows = if has_row id rows then rows else rows
+
+kept_one : (id : Text) (rows : List Row) → kept id rows ≡ rows
+kept_one id rows = same (has_row id rows)
+  where
+    same : (b : Bool) → (if b then rows else rows) ≡ rows
+    same true = refl
+    same false = refl
+
+kept_two : (id other : Text) (rows : List Row) → kept other (kept id rows) ≡ rows
+kept_two id other rows = ap (kept other) (kept_one id rows) ∙ kept_one other rows
+
+kept_three : (id other third : Text) (rows : List Row) → kept third (kept other (kept id rows)) ≡ rows
+kept_three id other third rows = ap (kept third) (kept_two id other rows) ∙ kept_one third rows
 
 finished_is : (command : Command) (held : Held) → finished (rules_of_command command) held ≡ (settled (rules_of_command command) held).rows
 finished_is Session held = refl
 finished_is Show held = refl
-finished_is Load held = same_rows (has_row (codes "number") (settled (rules_of_command Load) held).rows) (settled (rules_of_command Load) held).rows
-finished_is Serve held =
-    let rows = (settled (rules_of_command Serve) held).rows in
-    ap (λ (l : List Row). if has_row (codes "connections") (if has_row (codes "lanes") l then l else l) then (if has_row (codes "lanes") l then l else l) else (if has_row (codes "lanes") l then l else l)) (same_rows (has_row (codes "port") rows) rows)
-    ∙ ap (λ (l : List Row). if has_row (codes "connections") l then l else l) (same_rows (has_row (codes "lanes") rows) rows) ∙ same_rows (has_row (codes "connections") rows) rows
+finished_is Load held = kept_one (codes "number") (settled (rules_of_command Load) held).rows
+finished_is Serve held = kept_three (codes "port") (codes "lanes") (codes "connections") (settled (rules_of_command Serve) held).rows
+finished_is Submit held = kept_two (codes "port") (codes "tries") (settled (rules_of_command Submit) held).rows
+finished_is Query held = kept_three (codes "job") (codes "port") (codes "tries") (settled (rules_of_command Query) held).rows
+finished_is Delete held = refl
+finished_is Follow held = kept_two (codes "port") (codes "tries") (settled (rules_of_command Follow) held).rows
 
 -- where a walk stopped at a command's name, with the words behind it
 abbrev stopped_at : Command → List Text → Walk
@@ -92,6 +113,10 @@ met_command Session = refl
 met_command Show = refl
 met_command Load = refl
 met_command Serve = refl
+met_command Submit = refl
+met_command Query = refl
+met_command Delete = refl
+met_command Follow = refl
 
 command_passes : (command : Command) → turn_passes top names (walk_from nothing_held) (name_of command) ≡ true
 unfolding clap_on_literals
@@ -99,6 +124,10 @@ command_passes Session = refl
 command_passes Show = refl
 command_passes Load = refl
 command_passes Serve = refl
+command_passes Submit = refl
+command_passes Query = refl
+command_passes Delete = refl
+command_passes Follow = refl
 
 -- the words behind are kept for the command
 kept_words : (command : Command) (before words : List Text) → fold (walked top.rules names) (stopped_at command before) words ≡ stopped_at command (before ++ words)
@@ -125,12 +154,20 @@ entered_taken Session words passes = passes
 entered_taken Show words passes = passes
 entered_taken Load words passes = passes
 entered_taken Serve words passes = passes
+entered_taken Submit words passes = passes
+entered_taken Query words passes = passes
+entered_taken Delete words passes = passes
+entered_taken Follow words passes = passes
 
 entered_rows : (command : Command) (words : List Text) → entered (built command_line) (Some (name_of command, words)) ≡ Some (name_of command, rows_after (rules_of_command command) [] words)
 entered_rows Session words = refl
 entered_rows Show words = refl
 entered_rows Load words = refl
 entered_rows Serve words = refl
+entered_rows Submit words = refl
+entered_rows Query words = refl
+entered_rows Delete words = refl
+entered_rows Follow words = refl
 
 -- `clap` takes the list
 line_taken : (command : Command) (words : List Text) (options : List Given) → Goes command (at [] None) words options [] → takes command_line (name_of command ∷ words) ≡ true
@@ -152,6 +189,8 @@ ports (Port n ∷ options) = refl
 ports (Lanes n ∷ options) = ports options
 ports (Connections n ∷ options) = ports options
 ports (Number n ∷ options) = ports options
+ports (Tries n ∷ options) = ports options
+ports (Job n ∷ options) = ports options
 
 lanes : (options : List Given) → option_and_then lanes_of (given_as TheLanes options) ≡ first_number lanes_of options
 lanes [] = refl
@@ -159,6 +198,8 @@ lanes (Port n ∷ options) = lanes options
 lanes (Lanes n ∷ options) = refl
 lanes (Connections n ∷ options) = lanes options
 lanes (Number n ∷ options) = lanes options
+lanes (Tries n ∷ options) = lanes options
+lanes (Job n ∷ options) = lanes options
 
 connections : (options : List Given) → option_and_then connections_of (given_as TheConnections options) ≡ first_number connections_of options
 connections [] = refl
@@ -166,6 +207,8 @@ connections (Port n ∷ options) = connections options
 connections (Lanes n ∷ options) = connections options
 connections (Connections n ∷ options) = refl
 connections (Number n ∷ options) = connections options
+connections (Tries n ∷ options) = connections options
+connections (Job n ∷ options) = connections options
 
 numbers : (options : List Given) → option_and_then number_given (given_as TheNumber options) ≡ first_number number_given options
 numbers [] = refl
@@ -173,6 +216,26 @@ numbers (Port n ∷ options) = numbers options
 numbers (Lanes n ∷ options) = numbers options
 numbers (Connections n ∷ options) = numbers options
 numbers (Number n ∷ options) = refl
+numbers (Tries n ∷ options) = numbers options
+numbers (Job n ∷ options) = numbers options
+
+tries : (options : List Given) → option_and_then tries_of (given_as TheTries options) ≡ first_number tries_of options
+tries [] = refl
+tries (Port n ∷ options) = tries options
+tries (Lanes n ∷ options) = tries options
+tries (Connections n ∷ options) = tries options
+tries (Number n ∷ options) = tries options
+tries (Tries n ∷ options) = refl
+tries (Job n ∷ options) = tries options
+
+jobs : (options : List Given) → option_and_then job_of (given_as TheJob options) ≡ first_number job_of options
+jobs [] = refl
+jobs (Port n ∷ options) = jobs options
+jobs (Lanes n ∷ options) = jobs options
+jobs (Connections n ∷ options) = jobs options
+jobs (Number n ∷ options) = jobs options
+jobs (Tries n ∷ options) = jobs options
+jobs (Job n ∷ options) = refl
 
 values_are : (command : Command) (words : List Text) (options : List Given) → Goes command (at [] None) words options []
     → values_in command (rows_after (rules_of_command command) [] words) ≡ numbers_of options
@@ -185,36 +248,40 @@ values_are command words options goes =
     let l = ap (option_and_then lanes_of) (value TheLanes) ∙ lanes options in
     let c = ap (option_and_then connections_of) (value TheConnections) ∙ connections options in
     let n = ap (option_and_then number_given) (value TheNumber) ∙ numbers options in
-    rw (p, l, c, n) refl
+    let t = ap (option_and_then tries_of) (value TheTries) ∙ tries options in
+    let j = ap (option_and_then job_of) (value TheJob) ∙ jobs options in
+    rw (p, l, c, n, t, j) refl
 
 -- a name is that of its command
-name_is : (name : Text) (command : Command) → command_named name ≡ Some command → name ≡ name_of command
-name_is name command is = by_session (bytes_eq name (codes "session")) (bytes_eq-Decides name (codes "session")).0 is
+of_names : (name : Text) (command one : Command) (others : Option Command) → (others ≡ Some command → name ≡ name_of command)
+    → (if bytes_eq name (name_of one) then Some one else others) ≡ Some command → name ≡ name_of command
+of_names name command one others behind is = by_test (bytes_eq name (name_of one)) (bytes_eq-Decides name (name_of one)).0 is
   where
-    by_serve : (b : Bool) → (b ≡ true → name ≡ codes "serve") → (if b then Some Serve else None) ≡ Some command → name ≡ name_of command
-    by_serve true same found = let e : Serve ≡ command = cc in same refl ∙ ap name_of e
-    by_serve false same found = absurd cc
+    by_test : (b : Bool) → (b ≡ true → name ≡ name_of one) → (if b then Some one else others) ≡ Some command → name ≡ name_of command
+    by_test true same found = let e : one ≡ command = cc in same refl ∙ ap name_of e
+    by_test false same found = behind found
 
-    by_load : (b : Bool) → (b ≡ true → name ≡ codes "load") → (if b then Some Load else (if bytes_eq name (codes "serve") then Some Serve else None)) ≡ Some command → name ≡ name_of command
-    by_load true same found = let e : Load ≡ command = cc in same refl ∙ ap name_of e
-    by_load false same found = by_serve (bytes_eq name (codes "serve")) (bytes_eq-Decides name (codes "serve")).0 found
-
-    by_show : (b : Bool) → (b ≡ true → name ≡ codes "show")
-        → (if b then Some Show else (if bytes_eq name (codes "load") then Some Load else (if bytes_eq name (codes "serve") then Some Serve else None))) ≡ Some command → name ≡ name_of command
-    by_show true same found = let e : Show ≡ command = cc in same refl ∙ ap name_of e
-    by_show false same found = by_load (bytes_eq name (codes "load")) (bytes_eq-Decides name (codes "load")).0 found
-
-    by_session : (b : Bool) → (b ≡ true → name ≡ codes "session")
-        → (if b then Some Session else (if bytes_eq name (codes "show") then Some Show else (if bytes_eq name (codes "load") then Some Load else (if bytes_eq name (codes "serve") then Some Serve else None)))) ≡ Some command
-        → name ≡ name_of command
-    by_session true same found = let e : Session ≡ command = cc in same refl ∙ ap name_of e
-    by_session false same found = by_show (bytes_eq name (codes "show")) (bytes_eq-Decides name (codes "show")).0 found
+name_is : (name : Text) (command : Command) → command_named name ≡ Some command → name ≡ name_of command
+name_is name command is =
+    of_names name command Session _
+    (of_names name command Show _
+    (of_names name command Load _
+    (of_names name command Serve _
+    (of_names name command Submit _
+    (of_names name command Query _
+    (of_names name command Delete _
+    (of_names name command Follow None
+    (λ none. absurd cc)))))))) is
 
 named_so : (command : Command) → command_named (name_of command) ≡ Some command
 named_so Session = refl
 named_so Show = refl
 named_so Load = refl
 named_so Serve = refl
+named_so Submit = refl
+named_so Query = refl
+named_so Delete = refl
+named_so Follow = refl
 
 -- `clap` takes each list that asks for something, and enters what it asks for
 pub record IsAccepted (words : List Text) (asked : Asked) : Type 0 where

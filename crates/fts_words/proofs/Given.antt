@@ -2,9 +2,9 @@
 use Rattle.std.proofs.Common.{◌≡◌, ℕ, Bool, if◌then◌else◌, List, [], ◌∷◌, ◌++◌, Option, Some, None, refl, ap, sym, subst, ◌∙◌}
 use Rattle.std.specs.Prelude.{is_some, unwrap_or, option_map}
 use Rattle.std.specs.List.{list_any}
-use Rattle.fts_words.specs.Words.{port_of, lanes_of, connections_of, number_given, first_of, numbers_of, is_same_option}
+use Rattle.fts_words.specs.Words.{port_of, lanes_of, connections_of, number_given, tries_of, job_of, first_of, numbers_of, is_same_option}
 use Rattle.fts_words.specs.declared.options.Given.{Given}
-use Rattle.fts_words.specs.declared.options.Given.TheVariants.{Port, Lanes, Connections, Number}
+use Rattle.fts_words.specs.declared.options.Given.TheVariants.{Port, Lanes, Connections, Number, Tries, Job}
 use Rattle.fts_words.specs.declared.options.Numbers.{Numbers}
 
 -- the first that there is stays the first
@@ -31,6 +31,8 @@ any_port number (Port n ∷ before) = refl
 any_port number (Lanes n ∷ before) = any_port number before
 any_port number (Connections n ∷ before) = any_port number before
 any_port number (Number n ∷ before) = any_port number before
+any_port number (Tries n ∷ before) = any_port number before
+any_port number (Job n ∷ before) = any_port number before
 
 any_lanes : (number : ℕ) (before : List Given) → list_any (is_same_option (Lanes number)) before ≡ is_some (first_of lanes_of before)
 any_lanes number [] = refl
@@ -38,6 +40,8 @@ any_lanes number (Port n ∷ before) = any_lanes number before
 any_lanes number (Lanes n ∷ before) = refl
 any_lanes number (Connections n ∷ before) = any_lanes number before
 any_lanes number (Number n ∷ before) = any_lanes number before
+any_lanes number (Tries n ∷ before) = any_lanes number before
+any_lanes number (Job n ∷ before) = any_lanes number before
 
 any_connections : (number : ℕ) (before : List Given) → list_any (is_same_option (Connections number)) before ≡ is_some (first_of connections_of before)
 any_connections number [] = refl
@@ -45,6 +49,8 @@ any_connections number (Port n ∷ before) = any_connections number before
 any_connections number (Lanes n ∷ before) = any_connections number before
 any_connections number (Connections n ∷ before) = refl
 any_connections number (Number n ∷ before) = any_connections number before
+any_connections number (Tries n ∷ before) = any_connections number before
+any_connections number (Job n ∷ before) = any_connections number before
 
 any_number : (number : ℕ) (before : List Given) → list_any (is_same_option (Number number)) before ≡ is_some (first_of number_given before)
 any_number number [] = refl
@@ -52,6 +58,26 @@ any_number number (Port n ∷ before) = any_number number before
 any_number number (Lanes n ∷ before) = any_number number before
 any_number number (Connections n ∷ before) = any_number number before
 any_number number (Number n ∷ before) = refl
+any_number number (Tries n ∷ before) = any_number number before
+any_number number (Job n ∷ before) = any_number number before
+
+any_tries : (number : ℕ) (before : List Given) → list_any (is_same_option (Tries number)) before ≡ is_some (first_of tries_of before)
+any_tries number [] = refl
+any_tries number (Port n ∷ before) = any_tries number before
+any_tries number (Lanes n ∷ before) = any_tries number before
+any_tries number (Connections n ∷ before) = any_tries number before
+any_tries number (Number n ∷ before) = any_tries number before
+any_tries number (Tries n ∷ before) = refl
+any_tries number (Job n ∷ before) = any_tries number before
+
+any_job : (number : ℕ) (before : List Given) → list_any (is_same_option (Job number)) before ≡ is_some (first_of job_of before)
+any_job number [] = refl
+any_job number (Port n ∷ before) = any_job number before
+any_job number (Lanes n ∷ before) = any_job number before
+any_job number (Connections n ∷ before) = any_job number before
+any_job number (Number n ∷ before) = any_job number before
+any_job number (Tries n ∷ before) = any_job number before
+any_job number (Job n ∷ before) = refl
 
 -- what one option more makes of numbers
 abbrev pub Taken : List Given → Given → Option Numbers → Type 0
@@ -70,12 +96,13 @@ fresh before option found result any is same =
     ap (λ (n : Numbers). Some n) same ∙ ap (λ (b : Bool). if b then None else Some (numbers_of (before ++ option ∷ []))) (sym (any ∙ ap (λ (o : Option ℕ). is_some o) is))
 
 -- numbers by their parts
-abbrev record_of : Option ℕ → Option ℕ → Option ℕ → Option ℕ → Numbers
-record_of port lanes connections number = record { port = port; lanes = lanes; connections = connections; number = number }
+abbrev record_of : Option ℕ → Option ℕ → Option ℕ → Option ℕ → Option ℕ → Option ℕ → Numbers
+record_of port lanes connections number tries job =
+    record { port = port; lanes = lanes; connections = connections; number = number; tries = tries; job = job }
 
-same_numbers : {a b c d p q r s : Option ℕ} → a ≡ p → b ≡ q → c ≡ r → d ≡ s
-    → record_of a b c d ≡ record_of p q r s
-same_numbers one two three four = cc
+same_numbers : {a b c d e f p q r s t u : Option ℕ} → a ≡ p → b ≡ q → c ≡ r → d ≡ s → e ≡ t → f ≡ u
+    → record_of a b c d e f ≡ record_of p q r s t u
+same_numbers one two three four five six = cc
 
 -- the option by its variant
 at_variant : (before : List Given) (option variant : Given) (result : Option Numbers) → option ≡ variant → Taken before variant result → Taken before option result
@@ -98,6 +125,14 @@ module _ (self : Numbers) (before : List Given) (are : self ≡ numbers_of befor
   number_there old one is = at_variant before option (Number number) None one
       (there before (Number number) (first_of number_given before) old (any_number number before) (sym (ap (λ (n : Numbers). n.number) are) ∙ is))
 
+  pub tries_there : (old : ℕ) → option ≡ Tries number → self.tries ≡ Some old → Taken before option None
+  tries_there old one is = at_variant before option (Tries number) None one
+      (there before (Tries number) (first_of tries_of before) old (any_tries number before) (sym (ap (λ (n : Numbers). n.tries) are) ∙ is))
+
+  pub job_there : (old : ℕ) → option ≡ Job number → self.job ≡ Some old → Taken before option None
+  job_there old one is = at_variant before option (Job number) None one
+      (there before (Job number) (first_of job_of before) old (any_job number before) (sym (ap (λ (n : Numbers). n.job) are) ∙ is))
+
   pub port_fresh : option ≡ Port number → self.port ≡ None → Taken before option (Some (record self { port = Some number }))
   port_fresh one is =
       let none : first_of port_of before ≡ None = sym (ap (λ (n : Numbers). n.port) are) ∙ is in
@@ -107,7 +142,9 @@ module _ (self : Numbers) (before : List Given) (are : self ≡ numbers_of befor
       (sym (first_new port_of before (Port number) number none refl))
       (ap (λ (n : Numbers). n.lanes) are ∙ sym (first_stays lanes_of before (Port number) refl))
       (ap (λ (n : Numbers). n.connections) are ∙ sym (first_stays connections_of before (Port number) refl))
-      (ap (λ (n : Numbers). n.number) are ∙ sym (first_stays number_given before (Port number) refl))))
+      (ap (λ (n : Numbers). n.number) are ∙ sym (first_stays number_given before (Port number) refl))
+      (ap (λ (n : Numbers). n.tries) are ∙ sym (first_stays tries_of before (Port number) refl))
+      (ap (λ (n : Numbers). n.job) are ∙ sym (first_stays job_of before (Port number) refl))))
 
   pub lanes_fresh : option ≡ Lanes number → self.lanes ≡ None → Taken before option (Some (record self { lanes = Some number }))
   lanes_fresh one is =
@@ -118,7 +155,9 @@ module _ (self : Numbers) (before : List Given) (are : self ≡ numbers_of befor
       (ap (λ (n : Numbers). n.port) are ∙ sym (first_stays port_of before (Lanes number) refl))
       (sym (first_new lanes_of before (Lanes number) number none refl))
       (ap (λ (n : Numbers). n.connections) are ∙ sym (first_stays connections_of before (Lanes number) refl))
-      (ap (λ (n : Numbers). n.number) are ∙ sym (first_stays number_given before (Lanes number) refl))))
+      (ap (λ (n : Numbers). n.number) are ∙ sym (first_stays number_given before (Lanes number) refl))
+      (ap (λ (n : Numbers). n.tries) are ∙ sym (first_stays tries_of before (Lanes number) refl))
+      (ap (λ (n : Numbers). n.job) are ∙ sym (first_stays job_of before (Lanes number) refl))))
 
   pub connections_fresh : option ≡ Connections number → self.connections ≡ None → Taken before option (Some (record self { connections = Some number }))
   connections_fresh one is =
@@ -129,7 +168,9 @@ module _ (self : Numbers) (before : List Given) (are : self ≡ numbers_of befor
       (ap (λ (n : Numbers). n.port) are ∙ sym (first_stays port_of before (Connections number) refl))
       (ap (λ (n : Numbers). n.lanes) are ∙ sym (first_stays lanes_of before (Connections number) refl))
       (sym (first_new connections_of before (Connections number) number none refl))
-      (ap (λ (n : Numbers). n.number) are ∙ sym (first_stays number_given before (Connections number) refl))))
+      (ap (λ (n : Numbers). n.number) are ∙ sym (first_stays number_given before (Connections number) refl))
+      (ap (λ (n : Numbers). n.tries) are ∙ sym (first_stays tries_of before (Connections number) refl))
+      (ap (λ (n : Numbers). n.job) are ∙ sym (first_stays job_of before (Connections number) refl))))
 
   pub number_fresh : option ≡ Number number → self.number ≡ None → Taken before option (Some (record self { number = Some number }))
   number_fresh one is =
@@ -140,4 +181,32 @@ module _ (self : Numbers) (before : List Given) (are : self ≡ numbers_of befor
       (ap (λ (n : Numbers). n.port) are ∙ sym (first_stays port_of before (Number number) refl))
       (ap (λ (n : Numbers). n.lanes) are ∙ sym (first_stays lanes_of before (Number number) refl))
       (ap (λ (n : Numbers). n.connections) are ∙ sym (first_stays connections_of before (Number number) refl))
-      (sym (first_new number_given before (Number number) number none refl))))
+      (sym (first_new number_given before (Number number) number none refl))
+      (ap (λ (n : Numbers). n.tries) are ∙ sym (first_stays tries_of before (Number number) refl))
+      (ap (λ (n : Numbers). n.job) are ∙ sym (first_stays job_of before (Number number) refl))))
+
+  pub tries_fresh : option ≡ Tries number → self.tries ≡ None → Taken before option (Some (record self { tries = Some number }))
+  tries_fresh one is =
+      let none : first_of tries_of before ≡ None = sym (ap (λ (n : Numbers). n.tries) are) ∙ is in
+      at_variant before option (Tries number) (Some (record self { tries = Some number })) one
+      (fresh before (Tries number) (first_of tries_of before) (record self { tries = Some number }) (any_tries number before) none
+      (same_numbers
+      (ap (λ (n : Numbers). n.port) are ∙ sym (first_stays port_of before (Tries number) refl))
+      (ap (λ (n : Numbers). n.lanes) are ∙ sym (first_stays lanes_of before (Tries number) refl))
+      (ap (λ (n : Numbers). n.connections) are ∙ sym (first_stays connections_of before (Tries number) refl))
+      (ap (λ (n : Numbers). n.number) are ∙ sym (first_stays number_given before (Tries number) refl))
+      (sym (first_new tries_of before (Tries number) number none refl))
+      (ap (λ (n : Numbers). n.job) are ∙ sym (first_stays job_of before (Tries number) refl))))
+
+  pub job_fresh : option ≡ Job number → self.job ≡ None → Taken before option (Some (record self { job = Some number }))
+  job_fresh one is =
+      let none : first_of job_of before ≡ None = sym (ap (λ (n : Numbers). n.job) are) ∙ is in
+      at_variant before option (Job number) (Some (record self { job = Some number })) one
+      (fresh before (Job number) (first_of job_of before) (record self { job = Some number }) (any_job number before) none
+      (same_numbers
+      (ap (λ (n : Numbers). n.port) are ∙ sym (first_stays port_of before (Job number) refl))
+      (ap (λ (n : Numbers). n.lanes) are ∙ sym (first_stays lanes_of before (Job number) refl))
+      (ap (λ (n : Numbers). n.connections) are ∙ sym (first_stays connections_of before (Job number) refl))
+      (ap (λ (n : Numbers). n.number) are ∙ sym (first_stays number_given before (Job number) refl))
+      (ap (λ (n : Numbers). n.tries) are ∙ sym (first_stays tries_of before (Job number) refl))
+      (sym (first_new job_of before (Job number) number none refl))))

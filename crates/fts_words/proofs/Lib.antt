@@ -1,6 +1,7 @@
 mod Given
 mod Reading
 mod Ranges
+mod Ids
 mod Taking
 mod Walked
 pub mod Entered

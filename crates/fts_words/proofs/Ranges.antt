@@ -4,20 +4,22 @@ use Rattle.std.specs.Prelude.{IfSome, option_map, option_and_then, unwrap_or, na
 use Rattle.std.proofs.lemmas.Bool.{leb-true}
 use Rattle.std.specs.List.{before_first, after_first}
 use Rattle.fts_tables.specs.SettingsData.{is_within, are_apart}
-use Rattle.fts_words.specs.Words.{IsInRange, within, given_by, number_of, option_of, before_others, options_behind, has_value, is_equals, each_once, first_of, lanes_of, connections_of, port_of, number_given, numbers_of, asked_with, asked_of, asked_in, command_named, is_same_option}
-use Rattle.fts_words.specs.declared.asked.Asked.{Asked}
+use Rattle.fts_words.specs.Words.{IsInRange, AreTries, within, given_by, given_to_client, names_job, job_named, number_of, option_of, before_others, options_behind, has_value, is_equals, each_once, first_of, lanes_of, connections_of, port_of, number_given, tries_of, job_of, numbers_of, asked_with, asked_of, asked_in, command_named, is_same_option}
 use Rattle.fts_words.specs.declared.asked.Command.{Command}
-use Rattle.fts_words.specs.declared.asked.Command.TheVariants.{Session, Show, Load, Serve}
+use Rattle.fts_words.specs.declared.asked.Command.TheVariants.{Session, Show, Load, Serve, Submit, Query, Delete, Follow}
 use Rattle.fts_words.specs.declared.options.Given.{Given}
-use Rattle.fts_words.specs.declared.options.Given.TheVariants.{Port, Lanes, Connections, Number}
+use Rattle.fts_words.specs.declared.options.Given.TheVariants.{Port, Lanes, Connections, Number, Tries, Job}
 use Rattle.fts_tables.specs.declared.limits.TheConstants.{MAX_LANES}
+use Rattle.uuid.specs.Text.{parsed}
 
--- an option whose number is in its range, where a service needs it
+-- an option whose number is in its range, where what is asked for rests on it
 abbrev IsRanged : Given → Type 0
 IsRanged (Port number) = Unit {0}
 IsRanged (Lanes number) = (1 ≤ number) × (number ≤ MAX_LANES)
 IsRanged (Connections number) = 1 ≤ number
 IsRanged (Number number) = Unit {0}
+IsRanged (Tries number) = AreTries number
+IsRanged (Job id) = Unit {0}
 
 abbrev AreRanged : List Given → Type 0
 AreRanged [] = Unit {0}
@@ -54,6 +56,13 @@ within_range : (P : Given → Type 0) (low high : ℕ) (given : ℕ → Given) (
 within_range P low high given number p =
     given_where P (is_within low high number) (given number) (λ e. p (both low high number e).0 (both low high number e).1)
 
+client_ranged : (name : List ℕ) (number : ℕ) → IfSome (given_to_client name number) IsRanged
+client_ranged name number =
+    choice IsRanged (bytes_eq name (codes "--port")) (within 1 65535 Port number) (if bytes_eq name (codes "--tries") then within 1 10 Tries number else None)
+    (within_range IsRanged 1 65535 Port number (λ low high. tt))
+    (choice IsRanged (bytes_eq name (codes "--tries")) (within 1 10 Tries number) None
+    (within_range IsRanged 1 10 Tries number (λ low high. (low, high))) tt)
+
 given_ranged : (command : Command) (name : List ℕ) (number : ℕ) → IfSome (given_by command name number) IsRanged
 given_ranged Session name number = tt
 given_ranged Show name number = tt
@@ -69,6 +78,10 @@ given_ranged Serve name number =
     (within_range IsRanged 1 MAX_LANES Lanes number (λ low high. (low, high)))
     (choice IsRanged (bytes_eq name (codes "--connections")) (within 1 1000000 Connections number) None
     (within_range IsRanged 1 1000000 Connections number (λ low high. low)) tt))
+given_ranged Submit name number = client_ranged name number
+given_ranged Query name number = client_ranged name number
+given_ranged Delete name number = tt
+given_ranged Follow name number = client_ranged name number
 
 any : {A : Type 0} (first : Option A) → IfSome first (λ a. Unit {0})
 any None = tt
@@ -76,7 +89,9 @@ any (Some a) = tt
 
 option_ranged : (command : Command) (name value : List ℕ) → IfSome (option_of command name value) IsRanged
 option_ranged command name value =
-    next_some (λ number. Unit {0}) IsRanged (number_of value) (given_by command name) (any (number_of value)) (λ number q. given_ranged command name number)
+    choice IsRanged (names_job command name) (job_named value) (option_and_then (given_by command name) (number_of value))
+    (some_map (λ id. Unit {0}) IsRanged (parsed value) _ (any (parsed value)) (λ id u. tt))
+    (next_some (λ number. Unit {0}) IsRanged (number_of value) (given_by command name) (any (number_of value)) (λ number q. given_ranged command name number))
 
 more_ranged : (others : Option (List Given)) (next : Option Given) → IfSome others AreRanged → IfSome next IsRanged
     → IfSome (option_and_then (before_others others) next) AreRanged
@@ -102,6 +117,8 @@ lanes_ranged (Port n ∷ options) r = lanes_ranged options r.1
 lanes_ranged (Lanes n ∷ options) r = r.0
 lanes_ranged (Connections n ∷ options) r = lanes_ranged options r.1
 lanes_ranged (Number n ∷ options) r = lanes_ranged options r.1
+lanes_ranged (Tries n ∷ options) r = lanes_ranged options r.1
+lanes_ranged (Job n ∷ options) r = lanes_ranged options r.1
 
 connections_ranged : (options : List Given) → AreRanged options → IfSome (first_of connections_of options) (λ n. 1 ≤ n)
 connections_ranged [] r = tt
@@ -109,10 +126,25 @@ connections_ranged (Port n ∷ options) r = connections_ranged options r.1
 connections_ranged (Lanes n ∷ options) r = connections_ranged options r.1
 connections_ranged (Connections n ∷ options) r = r.0
 connections_ranged (Number n ∷ options) r = connections_ranged options r.1
+connections_ranged (Tries n ∷ options) r = connections_ranged options r.1
+connections_ranged (Job n ∷ options) r = connections_ranged options r.1
+
+tries_ranged : (options : List Given) → AreRanged options → IfSome (first_of tries_of options) (λ n. AreTries n)
+tries_ranged [] r = tt
+tries_ranged (Port n ∷ options) r = tries_ranged options r.1
+tries_ranged (Lanes n ∷ options) r = tries_ranged options r.1
+tries_ranged (Connections n ∷ options) r = tries_ranged options r.1
+tries_ranged (Number n ∷ options) r = tries_ranged options r.1
+tries_ranged (Tries n ∷ options) r = r.0
+tries_ranged (Job n ∷ options) r = tries_ranged options r.1
 
 some_or : (lanes : Option ℕ) → IfSome lanes (λ n. (1 ≤ n) × (n ≤ MAX_LANES)) → (1 ≤ unwrap_or lanes 4) × (unwrap_or lanes 4 ≤ MAX_LANES)
 some_or None r = (omega arith, omega arith)
 some_or (Some n) r = r
+
+tries_or : (tries : Option ℕ) → IfSome tries (λ n. AreTries n) → AreTries (unwrap_or tries 3)
+tries_or None r = (omega arith, omega arith)
+tries_or (Some n) r = r
 
 asked_ranged : (command : Command) (options : List Given) → AreRanged options → IfSome (asked_with command (numbers_of options)) IsInRange
 asked_ranged Session options r = tt
@@ -123,6 +155,14 @@ asked_ranged Serve options r = some_map (λ n. Unit {0}) IsInRange (first_of por
       (some_or (first_of lanes_of options) (lanes_ranged options r)).0,
       ((some_or (first_of lanes_of options) (lanes_ranged options r)).1, connections_ranged options r),
     ))
+asked_ranged Submit options r = some_map (λ n. Unit {0}) IsInRange (first_of port_of options) _ (any (first_of port_of options))
+    (λ n u. tries_or (first_of tries_of options) (tries_ranged options r))
+asked_ranged Query options r = next_some (λ n. Unit {0}) IsInRange (first_of port_of options) _ (any (first_of port_of options))
+    (λ n u. some_map (λ job. Unit {0}) IsInRange (first_of job_of options) _ (any (first_of job_of options))
+    (λ job v. tries_or (first_of tries_of options) (tries_ranged options r)))
+asked_ranged Delete options r = tt
+asked_ranged Follow options r = some_map (λ n. Unit {0}) IsInRange (first_of port_of options) _ (any (first_of port_of options))
+    (λ n u. tries_or (first_of tries_of options) (tries_ranged options r))
 
 once_ranged : (options : List Given) → AreRanged options → IfSome (each_once options) AreRanged
 once_ranged options r = given_where AreRanged (are_apart is_same_option options) options (λ e. r)

@@ -11,7 +11,7 @@ use Rattle.fts_tables.specs.SettingsData.{are_apart}
 use Rattle.fts_words.specs.Words.{option_of, options_behind, before_others, has_value, is_equals, is_same_option, each_once, numbers_of, asked_with, asked_of}
 use Rattle.fts_words.specs.declared.asked.Command.{Command}
 use Rattle.fts_words.specs.declared.options.Given.{Given}
-use Rattle.fts_words.specs.declared.options.Given.TheVariants.{Port, Lanes, Connections, Number}
+use Rattle.fts_words.specs.declared.options.Given.TheVariants.{Port, Lanes, Connections, Number, Tries, Job}
 use Rattle.fts_words.specs.declared.options.Numbers.{Numbers}
 use Rattle.fts_words.proofs.Given.{Taken}
 
@@ -38,18 +38,38 @@ same_option (Port a) (Port b) = refl
 same_option (Port a) (Lanes b) = refl
 same_option (Port a) (Connections b) = refl
 same_option (Port a) (Number b) = refl
+same_option (Port a) (Tries b) = refl
+same_option (Port a) (Job b) = refl
 same_option (Lanes a) (Port b) = refl
 same_option (Lanes a) (Lanes b) = refl
 same_option (Lanes a) (Connections b) = refl
 same_option (Lanes a) (Number b) = refl
+same_option (Lanes a) (Tries b) = refl
+same_option (Lanes a) (Job b) = refl
 same_option (Connections a) (Port b) = refl
 same_option (Connections a) (Lanes b) = refl
 same_option (Connections a) (Connections b) = refl
 same_option (Connections a) (Number b) = refl
+same_option (Connections a) (Tries b) = refl
+same_option (Connections a) (Job b) = refl
 same_option (Number a) (Port b) = refl
 same_option (Number a) (Lanes b) = refl
 same_option (Number a) (Connections b) = refl
 same_option (Number a) (Number b) = refl
+same_option (Number a) (Tries b) = refl
+same_option (Number a) (Job b) = refl
+same_option (Tries a) (Port b) = refl
+same_option (Tries a) (Lanes b) = refl
+same_option (Tries a) (Connections b) = refl
+same_option (Tries a) (Number b) = refl
+same_option (Tries a) (Tries b) = refl
+same_option (Tries a) (Job b) = refl
+same_option (Job a) (Port b) = refl
+same_option (Job a) (Lanes b) = refl
+same_option (Job a) (Connections b) = refl
+same_option (Job a) (Number b) = refl
+same_option (Job a) (Tries b) = refl
+same_option (Job a) (Job b) = refl
 
 -- one that is told apart from all before it
 any_back : (option : Given) (done : List Given) → list_any (λ one. is_same_option one option) done ≡ list_any (is_same_option option) done

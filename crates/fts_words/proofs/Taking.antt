@@ -1,15 +1,17 @@
 -- What `clap` makes of a command's options, word by word: it takes each list that is accepted, and has the values of its options.
-use Rattle.std.proofs.Common.{◌≡◌, refl, ap, ◌∙◌, arith, ℕ, zero, suc, ◌+◌, ◌<◌, ◌||◌, Bool, true, false, List, [], ◌∷◌, ◌++◌, Option, Some, None}
-use Rattle.std.specs.Prelude.{codes, bytes_eq, if◌then◌else◌}
+use Rattle.std.proofs.Common.{◌≡◌, refl, ap, ◌∙◌, ℕ, ◌==◌, ◌||◌, ◌&&◌, Bool, true, false, List, [], ◌∷◌, ◌++◌, Option, Some, None}
+use Rattle.std.specs.Prelude.{codes, bytes_eq, if◌then◌else◌, option_and_then}
+use Rattle.std.specs.Option.{option_map_or}
+use Rattle.clap.specs.Lexer.{long_of, long_of_rest, short_of, short_of_rest, strip_byte}
 use Rattle.clap.specs.Words.{Row, Rule, Shape, Text}
 use Rattle.clap.specs.Simple.{App, filled, built_leaf, inherited, with_leaf_noted, marked_built}
-use Rattle.clap.specs.Takes.{turn_passes, settle_passes}
-use Rattle.clap.specs.Walk.{Walk, walked, settled_rows, has_row, at_row, with_values, without, more_values, reading_by, idle, option}
+use Rattle.clap.specs.Takes.{turn_passes, settle_passes, flag_word_passes, bundle_passes, step_passes}
+use Rattle.clap.specs.Walk.{Walk, Held, Step, trailing, word_met, plain_word, short_or_plain, long_or_other, after_step, walked, settled_rows, has_row, at_row, with_values, without, more_values, reading_by, idle, option}
 use Rattle.clap.specs.declared.parser.matches.ValueSource.TheVariants.{CommandLine}
 use Rattle.clap.proofs.OnLiterals.{clap_on_literals}
-use Rattle.fts_words.specs.CommandLine.{command_line, option_rule, bare_command, load_command, serve_command}
+use Rattle.fts_words.specs.CommandLine.{command_line, option_rule, bare_command, load_command, serve_command, submit_command, query_command, follow_command}
 use Rattle.fts_words.specs.declared.asked.Command.{Command}
-use Rattle.fts_words.specs.declared.asked.Command.TheVariants.{Session, Show, Load, Serve}
+use Rattle.fts_words.specs.declared.asked.Command.TheVariants.{Session, Show, Load, Serve, Submit, Query, Delete, Follow}
 
 -- the options by their names
 pub data Name : Type 0 where
@@ -17,12 +19,16 @@ pub data Name : Type 0 where
   TheLanes : Name
   TheConnections : Name
   TheNumber : Name
+  TheTries : Name
+  TheJob : Name
 
 abbrev pub id_of : Name → Text
 id_of ThePort = codes "port"
 id_of TheLanes = codes "lanes"
 id_of TheConnections = codes "connections"
 id_of TheNumber = codes "number"
+id_of TheTries = codes "tries"
+id_of TheJob = codes "job"
 
 -- the option as a word
 abbrev pub word_of : Name → Text
@@ -32,10 +38,85 @@ word_of name = codes "--" ++ id_of name
 abbrev pub Has : Command → Name → Type 0
 Has Session name = ⊥
 Has Show name = ⊥
+Has Load ThePort = ⊥
+Has Load TheLanes = ⊥
+Has Load TheConnections = ⊥
 Has Load TheNumber = Unit {0}
-Has Load other = ⊥
+Has Load TheTries = ⊥
+Has Load TheJob = ⊥
+Has Serve ThePort = Unit {0}
+Has Serve TheLanes = Unit {0}
+Has Serve TheConnections = Unit {0}
 Has Serve TheNumber = ⊥
-Has Serve other = Unit {0}
+Has Serve TheTries = ⊥
+Has Serve TheJob = ⊥
+Has Submit ThePort = Unit {0}
+Has Submit TheLanes = ⊥
+Has Submit TheConnections = ⊥
+Has Submit TheNumber = ⊥
+Has Submit TheTries = Unit {0}
+Has Submit TheJob = ⊥
+Has Query ThePort = Unit {0}
+Has Query TheLanes = ⊥
+Has Query TheConnections = ⊥
+Has Query TheNumber = ⊥
+Has Query TheTries = Unit {0}
+Has Query TheJob = Unit {0}
+Has Delete name = ⊥
+Has Follow ThePort = Unit {0}
+Has Follow TheLanes = ⊥
+Has Follow TheConnections = ⊥
+Has Follow TheNumber = ⊥
+Has Follow TheTries = Unit {0}
+Has Follow TheJob = ⊥
+
+-- what holds of each option of each command
+pub of_each : (P : Command → Name → Type 0)
+    → P Load TheNumber
+    → P Serve ThePort
+    → P Serve TheLanes
+    → P Serve TheConnections
+    → P Submit ThePort
+    → P Submit TheTries
+    → P Query ThePort
+    → P Query TheTries
+    → P Query TheJob
+    → P Follow ThePort
+    → P Follow TheTries
+    → (command : Command) (name : Name) → Has command name → P command name
+of_each P load_number serve_port serve_lanes serve_connections submit_port submit_tries query_port query_tries query_job follow_port follow_tries Session name has = absurd has
+of_each P load_number serve_port serve_lanes serve_connections submit_port submit_tries query_port query_tries query_job follow_port follow_tries Show name has = absurd has
+of_each P load_number serve_port serve_lanes serve_connections submit_port submit_tries query_port query_tries query_job follow_port follow_tries Load ThePort has = absurd has
+of_each P load_number serve_port serve_lanes serve_connections submit_port submit_tries query_port query_tries query_job follow_port follow_tries Load TheLanes has = absurd has
+of_each P load_number serve_port serve_lanes serve_connections submit_port submit_tries query_port query_tries query_job follow_port follow_tries Load TheConnections has = absurd has
+of_each P load_number serve_port serve_lanes serve_connections submit_port submit_tries query_port query_tries query_job follow_port follow_tries Load TheNumber has = load_number
+of_each P load_number serve_port serve_lanes serve_connections submit_port submit_tries query_port query_tries query_job follow_port follow_tries Load TheTries has = absurd has
+of_each P load_number serve_port serve_lanes serve_connections submit_port submit_tries query_port query_tries query_job follow_port follow_tries Load TheJob has = absurd has
+of_each P load_number serve_port serve_lanes serve_connections submit_port submit_tries query_port query_tries query_job follow_port follow_tries Serve ThePort has = serve_port
+of_each P load_number serve_port serve_lanes serve_connections submit_port submit_tries query_port query_tries query_job follow_port follow_tries Serve TheLanes has = serve_lanes
+of_each P load_number serve_port serve_lanes serve_connections submit_port submit_tries query_port query_tries query_job follow_port follow_tries Serve TheConnections has = serve_connections
+of_each P load_number serve_port serve_lanes serve_connections submit_port submit_tries query_port query_tries query_job follow_port follow_tries Serve TheNumber has = absurd has
+of_each P load_number serve_port serve_lanes serve_connections submit_port submit_tries query_port query_tries query_job follow_port follow_tries Serve TheTries has = absurd has
+of_each P load_number serve_port serve_lanes serve_connections submit_port submit_tries query_port query_tries query_job follow_port follow_tries Serve TheJob has = absurd has
+of_each P load_number serve_port serve_lanes serve_connections submit_port submit_tries query_port query_tries query_job follow_port follow_tries Submit ThePort has = submit_port
+of_each P load_number serve_port serve_lanes serve_connections submit_port submit_tries query_port query_tries query_job follow_port follow_tries Submit TheLanes has = absurd has
+of_each P load_number serve_port serve_lanes serve_connections submit_port submit_tries query_port query_tries query_job follow_port follow_tries Submit TheConnections has = absurd has
+of_each P load_number serve_port serve_lanes serve_connections submit_port submit_tries query_port query_tries query_job follow_port follow_tries Submit TheNumber has = absurd has
+of_each P load_number serve_port serve_lanes serve_connections submit_port submit_tries query_port query_tries query_job follow_port follow_tries Submit TheTries has = submit_tries
+of_each P load_number serve_port serve_lanes serve_connections submit_port submit_tries query_port query_tries query_job follow_port follow_tries Submit TheJob has = absurd has
+of_each P load_number serve_port serve_lanes serve_connections submit_port submit_tries query_port query_tries query_job follow_port follow_tries Query ThePort has = query_port
+of_each P load_number serve_port serve_lanes serve_connections submit_port submit_tries query_port query_tries query_job follow_port follow_tries Query TheLanes has = absurd has
+of_each P load_number serve_port serve_lanes serve_connections submit_port submit_tries query_port query_tries query_job follow_port follow_tries Query TheConnections has = absurd has
+of_each P load_number serve_port serve_lanes serve_connections submit_port submit_tries query_port query_tries query_job follow_port follow_tries Query TheNumber has = absurd has
+of_each P load_number serve_port serve_lanes serve_connections submit_port submit_tries query_port query_tries query_job follow_port follow_tries Query TheTries has = query_tries
+of_each P load_number serve_port serve_lanes serve_connections submit_port submit_tries query_port query_tries query_job follow_port follow_tries Query TheJob has = query_job
+of_each P load_number serve_port serve_lanes serve_connections submit_port submit_tries query_port query_tries query_job follow_port follow_tries Delete name has = absurd has
+of_each P load_number serve_port serve_lanes serve_connections submit_port submit_tries query_port query_tries query_job follow_port follow_tries Follow ThePort has = follow_port
+of_each P load_number serve_port serve_lanes serve_connections submit_port submit_tries query_port query_tries query_job follow_port follow_tries Follow TheLanes has = absurd has
+of_each P load_number serve_port serve_lanes serve_connections submit_port submit_tries query_port query_tries query_job follow_port follow_tries Follow TheConnections has = absurd has
+of_each P load_number serve_port serve_lanes serve_connections submit_port submit_tries query_port query_tries query_job follow_port follow_tries Follow TheNumber has = absurd has
+of_each P load_number serve_port serve_lanes serve_connections submit_port submit_tries query_port query_tries query_job follow_port follow_tries Follow TheTries has = follow_tries
+of_each P load_number serve_port serve_lanes serve_connections submit_port submit_tries query_port query_tries query_job follow_port follow_tries Follow TheJob has = absurd has
 
 -- the names are apart
 abbrev pub same_name : Name → Name → Bool
@@ -43,6 +124,8 @@ same_name ThePort ThePort = true
 same_name TheLanes TheLanes = true
 same_name TheConnections TheConnections = true
 same_name TheNumber TheNumber = true
+same_name TheTries TheTries = true
+same_name TheJob TheJob = true
 same_name one other = false
 
 pub same_id : (one other : Name) → bytes_eq (id_of one) (id_of other) ≡ same_name one other
@@ -50,18 +133,38 @@ same_id ThePort ThePort = refl
 same_id ThePort TheLanes = refl
 same_id ThePort TheConnections = refl
 same_id ThePort TheNumber = refl
+same_id ThePort TheTries = refl
+same_id ThePort TheJob = refl
 same_id TheLanes ThePort = refl
 same_id TheLanes TheLanes = refl
 same_id TheLanes TheConnections = refl
 same_id TheLanes TheNumber = refl
+same_id TheLanes TheTries = refl
+same_id TheLanes TheJob = refl
 same_id TheConnections ThePort = refl
 same_id TheConnections TheLanes = refl
 same_id TheConnections TheConnections = refl
 same_id TheConnections TheNumber = refl
+same_id TheConnections TheTries = refl
+same_id TheConnections TheJob = refl
 same_id TheNumber ThePort = refl
 same_id TheNumber TheLanes = refl
 same_id TheNumber TheConnections = refl
 same_id TheNumber TheNumber = refl
+same_id TheNumber TheTries = refl
+same_id TheNumber TheJob = refl
+same_id TheTries ThePort = refl
+same_id TheTries TheLanes = refl
+same_id TheTries TheConnections = refl
+same_id TheTries TheNumber = refl
+same_id TheTries TheTries = refl
+same_id TheTries TheJob = refl
+same_id TheJob ThePort = refl
+same_id TheJob TheLanes = refl
+same_id TheJob TheConnections = refl
+same_id TheJob TheNumber = refl
+same_id TheJob TheTries = refl
+same_id TheJob TheJob = refl
 
 -- a command as it is built
 abbrev pub built_one : App → Shape
@@ -72,6 +175,10 @@ shape_of_command Session = built_one (bare_command (codes "session"))
 shape_of_command Show = built_one (bare_command (codes "show"))
 shape_of_command Load = built_one load_command
 shape_of_command Serve = built_one serve_command
+shape_of_command Submit = built_one submit_command
+shape_of_command Query = built_one query_command
+shape_of_command Delete = built_one (bare_command (codes "delete"))
+shape_of_command Follow = built_one follow_command
 
 abbrev pub rules_of_command : Command → List Rule
 rules_of_command command = (shape_of_command command).rules
@@ -119,143 +226,127 @@ no_more : (rows : List Row) → rows ++ [] ≡ rows
 no_more [] = refl
 no_more (row ∷ rows) = ap (λ (more : List Row). row ∷ more) (no_more rows)
 
--- what holds of each digit
-ten : (P : ℕ → Type 0) → P 48 → P 49 → P 50 → P 51 → P 52 → P 53 → P 54 → P 55 → P 56 → P 57 → (k : ℕ) → k < 10 → P (48 + k)
-ten P a b c d e f g h i j zero few = a
-ten P a b c d e f g h i j (suc zero) few = b
-ten P a b c d e f g h i j (suc (suc zero)) few = c
-ten P a b c d e f g h i j (suc (suc (suc zero))) few = d
-ten P a b c d e f g h i j (suc (suc (suc (suc zero)))) few = e
-ten P a b c d e f g h i j (suc (suc (suc (suc (suc zero))))) few = f
-ten P a b c d e f g h i j (suc (suc (suc (suc (suc (suc zero)))))) few = g
-ten P a b c d e f g h i j (suc (suc (suc (suc (suc (suc (suc zero))))))) few = h
-ten P a b c d e f g h i j (suc (suc (suc (suc (suc (suc (suc (suc zero)))))))) few = i
-ten P a b c d e f g h i j (suc (suc (suc (suc (suc (suc (suc (suc (suc zero))))))))) few = j
-ten P a b c d e f g h i j (suc (suc (suc (suc (suc (suc (suc (suc (suc (suc k)))))))))) few = absurd (omega (arith, few))
-
 -- one option, with its value behind an equals sign
-pub met_joined : (command : Command) (name : Name) → Has command name → (v : ℕ) (vs : List ℕ) (rows : List Row) (pending : Option (Text × List Text))
+abbrev pub MeetsJoined : Command → Name → Type 0
+MeetsJoined command name = (v : ℕ) (vs : List ℕ) (rows : List Row) (pending : Option (Text × List Text))
     → walked (rules_of_command command) [] (at rows pending) (word_of name ++ 61 ∷ v ∷ vs)
     ≡ at (with_values (id_of name) (row_with name []).reading CommandLine ((v ∷ vs) ∷ []) (without (id_of name) (settled_rows (rules_of_command command) pending rows))) None
+
+pub met_joined : (command : Command) (name : Name) → Has command name → MeetsJoined command name
 unfolding clap_on_literals
-met_joined Serve ThePort has v vs rows pending = refl
-met_joined Serve TheLanes has v vs rows pending = refl
-met_joined Serve TheConnections has v vs rows pending = refl
-met_joined Serve TheNumber has v vs rows pending = absurd has
-met_joined Load TheNumber has v vs rows pending = refl
-met_joined Load ThePort has v vs rows pending = absurd has
-met_joined Load TheLanes has v vs rows pending = absurd has
-met_joined Load TheConnections has v vs rows pending = absurd has
-met_joined Session name has v vs rows pending = absurd has
-met_joined Show name has v vs rows pending = absurd has
+met_joined = of_each MeetsJoined
+    (λ v vs rows pending. refl) (λ v vs rows pending. refl) (λ v vs rows pending. refl) (λ v vs rows pending. refl) (λ v vs rows pending. refl) (λ v vs rows pending. refl)
+    (λ v vs rows pending. refl) (λ v vs rows pending. refl) (λ v vs rows pending. refl) (λ v vs rows pending. refl) (λ v vs rows pending. refl)
 
 -- its name alone
-pub met_name : (command : Command) (name : Name) → Has command name → (rows : List Row) (pending : Option (Text × List Text))
+abbrev pub MeetsName : Command → Name → Type 0
+MeetsName command name = (rows : List Row) (pending : Option (Text × List Text))
     → walked (rules_of_command command) [] (at rows pending) (word_of name) ≡ waiting_at (id_of name) (settled_rows (rules_of_command command) pending rows)
-unfolding clap_on_literals
-met_name Serve ThePort has rows pending = refl
-met_name Serve TheLanes has rows pending = refl
-met_name Serve TheConnections has rows pending = refl
-met_name Serve TheNumber has rows pending = absurd has
-met_name Load TheNumber has rows pending = refl
-met_name Load ThePort has rows pending = absurd has
-met_name Load TheLanes has rows pending = absurd has
-met_name Load TheConnections has rows pending = absurd has
-met_name Session name has rows pending = absurd has
-met_name Show name has rows pending = absurd has
 
--- and then its value, which begins with a digit
-abbrev pub MeetsValue : Command → Name → List ℕ → List Row → ℕ → Type 0
-MeetsValue command name vs rows v = walked (rules_of_command command) [] (waiting_at (id_of name) rows) (v ∷ vs) ≡ at rows (Some (id_of name, (v ∷ vs) ∷ []))
-
-pub met_value : (command : Command) (name : Name) → Has command name → (k : ℕ) (vs : List ℕ) (rows : List Row) → k < 10 → MeetsValue command name vs rows (48 + k)
+pub met_name : (command : Command) (name : Name) → Has command name → MeetsName command name
 unfolding clap_on_literals
-met_value Serve ThePort has k vs rows few = ten (MeetsValue Serve ThePort vs rows) refl refl refl refl refl refl refl refl refl refl k few
-met_value Serve TheLanes has k vs rows few = ten (MeetsValue Serve TheLanes vs rows) refl refl refl refl refl refl refl refl refl refl k few
-met_value Serve TheConnections has k vs rows few = ten (MeetsValue Serve TheConnections vs rows) refl refl refl refl refl refl refl refl refl refl k few
-met_value Serve TheNumber has k vs rows few = absurd has
-met_value Load TheNumber has k vs rows few = ten (MeetsValue Load TheNumber vs rows) refl refl refl refl refl refl refl refl refl refl k few
-met_value Load ThePort has k vs rows few = absurd has
-met_value Load TheLanes has k vs rows few = absurd has
-met_value Load TheConnections has k vs rows few = absurd has
-met_value Session name has k vs rows few = absurd has
-met_value Show name has k vs rows few = absurd has
+met_name = of_each MeetsName
+    (λ rows pending. refl) (λ rows pending. refl) (λ rows pending. refl) (λ rows pending. refl) (λ rows pending. refl) (λ rows pending. refl)
+    (λ rows pending. refl) (λ rows pending. refl) (λ rows pending. refl) (λ rows pending. refl) (λ rows pending. refl)
+
+-- a word that begins with no hyphen is no option
+module _ (v : ℕ) (vs : List ℕ) (plain : (v == 45) ≡ false) where
+  no_long : long_of (v ∷ vs) ≡ None
+  no_long = ap (λ (b : Bool). option_and_then long_of_rest (option_and_then (strip_byte 45) (if b then Some vs else None))) plain
+
+  no_short : short_of (v ∷ vs) ≡ None
+  no_short = ap (λ (b : Bool). option_and_then short_of_rest (if b then Some vs else None)) plain
+
+  no_dashes : bytes_eq (v ∷ vs) (45 ∷ 45 ∷ []) ≡ false
+  no_dashes = ap (λ (b : Bool). b && bytes_eq vs (45 ∷ [])) plain
+
+  met_plain : (rules : List Rule) (id : Text) (h : Held) → word_met rules [] false (option id) 1 (v ∷ vs) h ≡ plain_word rules (option id) (v ∷ vs) h
+  met_plain rules id h =
+      ap (λ (b : Bool). if b then (h, trailing 1) else long_or_other rules (option id) (v ∷ vs) (long_of (v ∷ vs)) h) no_dashes
+      ∙ ap (λ (o : Option (Text × Option Text)). long_or_other rules (option id) (v ∷ vs) o h) no_long
+      ∙ ap (λ (o : Option Text). short_or_plain rules (option id) (v ∷ vs) o h) no_short
+
+  met_word : (rules : List Rule) (id : Text) (rows : List Row) → walked rules [] (waiting_at id rows) (v ∷ vs)
+      ≡ after_step rules (v ∷ vs) (waiting_at id rows) (plain_word rules (option id) (v ∷ vs) (waiting_at id rows).held).0 (plain_word rules (option id) (v ∷ vs) (waiting_at id rows).held).1
+  unfolding walked
+  met_word rules id rows = ap (λ (met : Held × Step). after_step rules (v ∷ vs) (waiting_at id rows) met.0 met.1) (met_plain rules id (waiting_at id rows).held)
+
+  word_turns : (s : Shape) (id : Text) (rows : List Row) → turn_passes s [] (waiting_at id rows) (v ∷ vs) ≡ true
+  word_turns s id rows =
+      let held = (waiting_at id rows).held in
+      let met = word_met s.rules [] false (option id) 1 (v ∷ vs) held in
+      ap (λ (b : Bool). (b || flag_word_passes s.rules s.args_override_self (long_of (v ∷ vs)) (v ∷ vs) held) && step_passes s 1 met.0 met.1) no_dashes
+      ∙ ap (λ (o : Option (Text × Option Text)). flag_word_passes s.rules s.args_override_self o (v ∷ vs) held && step_passes s 1 met.0 met.1) no_long
+      ∙ ap (λ (o : Option Text). option_map_or (λ flags. bundle_passes s.rules s.args_override_self flags held) o true && step_passes s 1 met.0 met.1) no_short
+      ∙ ap (λ (m : Held × Step). step_passes s 1 m.0 m.1) (met_plain s.rules id held)
+
+-- and then its value, which begins with no hyphen
+abbrev pub MeetsValue : Command → Name → Type 0
+MeetsValue command name = (v : ℕ) (vs : List ℕ) (rows : List Row) → (v == 45) ≡ false
+    → walked (rules_of_command command) [] (waiting_at (id_of name) rows) (v ∷ vs) ≡ at rows (Some (id_of name, (v ∷ vs) ∷ []))
+
+abbrev KeepsValue : Command → Name → Type 0
+KeepsValue command name = (word : Text) (rows : List Row)
+    → after_step (rules_of_command command) word (waiting_at (id_of name) rows) (plain_word (rules_of_command command) (option (id_of name)) word (waiting_at (id_of name) rows).held).0
+    (plain_word (rules_of_command command) (option (id_of name)) word (waiting_at (id_of name) rows).held).1 ≡ at rows (Some (id_of name, word ∷ []))
+
+keeps_value : (command : Command) (name : Name) → Has command name → KeepsValue command name
+keeps_value = of_each KeepsValue
+    (λ word rows. refl) (λ word rows. refl) (λ word rows. refl) (λ word rows. refl) (λ word rows. refl) (λ word rows. refl)
+    (λ word rows. refl) (λ word rows. refl) (λ word rows. refl) (λ word rows. refl) (λ word rows. refl)
+
+pub met_value : (command : Command) (name : Name) → Has command name → MeetsValue command name
+met_value command name has v vs rows plain = met_word v vs plain (rules_of_command command) (id_of name) rows ∙ keeps_value command name has (v ∷ vs) rows
 
 -- whether each of them passes
 abbrev pub settles : Command → List Row → Option (Text × List Text) → Bool
 settles command rows pending = settle_passes (rules_of_command command) false (record { rows = rows; pending = pending; skip = 0 })
 
-pub name_passes : (command : Command) (name : Name) → Has command name → (rows : List Row) (pending : Option (Text × List Text)) → settles command rows pending ≡ true
+abbrev pub NamePasses : Command → Name → Type 0
+NamePasses command name = (rows : List Row) (pending : Option (Text × List Text)) → settles command rows pending ≡ true
     → turn_passes (shape_of_command command) [] (at rows pending) (word_of name) ≡ true
-unfolding clap_on_literals
-name_passes Serve ThePort has rows pending so = rw so refl
-name_passes Serve TheLanes has rows pending so = rw so refl
-name_passes Serve TheConnections has rows pending so = rw so refl
-name_passes Serve TheNumber has rows pending so = absurd has
-name_passes Load TheNumber has rows pending so = rw so refl
-name_passes Load ThePort has rows pending so = absurd has
-name_passes Load TheLanes has rows pending so = absurd has
-name_passes Load TheConnections has rows pending so = absurd has
-name_passes Session name has rows pending so = absurd has
-name_passes Show name has rows pending so = absurd has
 
-pub joined_passes : (command : Command) (name : Name) → Has command name → (v : ℕ) (vs : List ℕ) (rows : List Row) (pending : Option (Text × List Text))
-    → settles command rows pending ≡ true → has_row (id_of name) (settled_rows (rules_of_command command) pending rows) ≡ false
+pub name_passes : (command : Command) (name : Name) → Has command name → NamePasses command name
+unfolding clap_on_literals
+name_passes = of_each NamePasses
+    (λ rows pending so. rw so refl) (λ rows pending so. rw so refl) (λ rows pending so. rw so refl) (λ rows pending so. rw so refl) (λ rows pending so. rw so refl) (λ rows pending so. rw so refl)
+    (λ rows pending so. rw so refl) (λ rows pending so. rw so refl) (λ rows pending so. rw so refl) (λ rows pending so. rw so refl) (λ rows pending so. rw so refl)
+
+abbrev pub JoinedPasses : Command → Name → Type 0
+JoinedPasses command name = (v : ℕ) (vs : List ℕ) (rows : List Row) (pending : Option (Text × List Text)) → settles command rows pending ≡ true
+    → has_row (id_of name) (settled_rows (rules_of_command command) pending rows) ≡ false
     → turn_passes (shape_of_command command) [] (at rows pending) (word_of name ++ 61 ∷ v ∷ vs) ≡ true
-unfolding clap_on_literals
-joined_passes Serve ThePort has v vs rows pending so new = rw (so, new) refl
-joined_passes Serve TheLanes has v vs rows pending so new = rw (so, new) refl
-joined_passes Serve TheConnections has v vs rows pending so new = rw (so, new) refl
-joined_passes Serve TheNumber has v vs rows pending so new = absurd has
-joined_passes Load TheNumber has v vs rows pending so new = rw (so, new) refl
-joined_passes Load ThePort has v vs rows pending so new = absurd has
-joined_passes Load TheLanes has v vs rows pending so new = absurd has
-joined_passes Load TheConnections has v vs rows pending so new = absurd has
-joined_passes Session name has v vs rows pending so new = absurd has
-joined_passes Show name has v vs rows pending so new = absurd has
 
-abbrev pub PassesValue : Command → Name → List ℕ → List Row → ℕ → Type 0
-PassesValue command name vs rows v = turn_passes (shape_of_command command) [] (waiting_at (id_of name) rows) (v ∷ vs) ≡ true
-
-pub value_passes : (command : Command) (name : Name) → Has command name → (k : ℕ) (vs : List ℕ) (rows : List Row) → k < 10 → PassesValue command name vs rows (48 + k)
+pub joined_passes : (command : Command) (name : Name) → Has command name → JoinedPasses command name
 unfolding clap_on_literals
-value_passes Serve ThePort has k vs rows few = ten (PassesValue Serve ThePort vs rows) refl refl refl refl refl refl refl refl refl refl k few
-value_passes Serve TheLanes has k vs rows few = ten (PassesValue Serve TheLanes vs rows) refl refl refl refl refl refl refl refl refl refl k few
-value_passes Serve TheConnections has k vs rows few = ten (PassesValue Serve TheConnections vs rows) refl refl refl refl refl refl refl refl refl refl k few
-value_passes Serve TheNumber has k vs rows few = absurd has
-value_passes Load TheNumber has k vs rows few = ten (PassesValue Load TheNumber vs rows) refl refl refl refl refl refl refl refl refl refl k few
-value_passes Load ThePort has k vs rows few = absurd has
-value_passes Load TheLanes has k vs rows few = absurd has
-value_passes Load TheConnections has k vs rows few = absurd has
-value_passes Session name has k vs rows few = absurd has
-value_passes Show name has k vs rows few = absurd has
+joined_passes = of_each JoinedPasses
+    (λ v vs rows pending so new. rw (so, new) refl) (λ v vs rows pending so new. rw (so, new) refl) (λ v vs rows pending so new. rw (so, new) refl) (λ v vs rows pending so new. rw (so, new) refl) (λ v vs rows pending so new. rw (so, new) refl) (λ v vs rows pending so new. rw (so, new) refl)
+    (λ v vs rows pending so new. rw (so, new) refl) (λ v vs rows pending so new. rw (so, new) refl) (λ v vs rows pending so new. rw (so, new) refl) (λ v vs rows pending so new. rw (so, new) refl) (λ v vs rows pending so new. rw (so, new) refl)
+
+abbrev pub ValuePasses : Command → Name → Type 0
+ValuePasses command name = (v : ℕ) (vs : List ℕ) (rows : List Row) → (v == 45) ≡ false
+    → turn_passes (shape_of_command command) [] (waiting_at (id_of name) rows) (v ∷ vs) ≡ true
+
+pub value_passes : (command : Command) (name : Name) → Has command name → ValuePasses command name
+value_passes command name has v vs rows plain = word_turns v vs plain (shape_of_command command) (id_of name) rows
 
 -- an option that waited, and got its value, settles where it is new; and what it leaves
-pub pending_settles : (command : Command) (name : Name) → Has command name → (value : Text) (rows : List Row) → has_row (id_of name) rows ≡ false
-    → settles command rows (Some (id_of name, value ∷ [])) ≡ true
-pending_settles Serve ThePort has value rows new = rw new refl
-pending_settles Serve TheLanes has value rows new = rw new refl
-pending_settles Serve TheConnections has value rows new = rw new refl
-pending_settles Serve TheNumber has value rows new = absurd has
-pending_settles Load TheNumber has value rows new = rw new refl
-pending_settles Load ThePort has value rows new = absurd has
-pending_settles Load TheLanes has value rows new = absurd has
-pending_settles Load TheConnections has value rows new = absurd has
-pending_settles Session name has value rows new = absurd has
-pending_settles Show name has value rows new = absurd has
+abbrev pub PendingSettles : Command → Name → Type 0
+PendingSettles command name = (value : Text) (rows : List Row) → has_row (id_of name) rows ≡ false → settles command rows (Some (id_of name, value ∷ [])) ≡ true
 
-pub pending_leaves : (command : Command) (name : Name) → Has command name → (value : Text) (rows : List Row)
+pub pending_settles : (command : Command) (name : Name) → Has command name → PendingSettles command name
+pending_settles = of_each PendingSettles
+    (λ value rows new. rw new refl) (λ value rows new. rw new refl) (λ value rows new. rw new refl) (λ value rows new. rw new refl) (λ value rows new. rw new refl) (λ value rows new. rw new refl)
+    (λ value rows new. rw new refl) (λ value rows new. rw new refl) (λ value rows new. rw new refl) (λ value rows new. rw new refl) (λ value rows new. rw new refl)
+
+abbrev pub PendingLeaves : Command → Name → Type 0
+PendingLeaves command name = (value : Text) (rows : List Row)
     → settled_rows (rules_of_command command) (Some (id_of name, value ∷ [])) rows ≡ with_values (id_of name) (row_with name []).reading CommandLine (value ∷ []) (without (id_of name) rows)
-pending_leaves Serve ThePort has value rows = refl
-pending_leaves Serve TheLanes has value rows = refl
-pending_leaves Serve TheConnections has value rows = refl
-pending_leaves Serve TheNumber has value rows = absurd has
-pending_leaves Load TheNumber has value rows = refl
-pending_leaves Load ThePort has value rows = absurd has
-pending_leaves Load TheLanes has value rows = absurd has
-pending_leaves Load TheConnections has value rows = absurd has
-pending_leaves Session name has value rows = absurd has
-pending_leaves Show name has value rows = absurd has
+
+pub pending_leaves : (command : Command) (name : Name) → Has command name → PendingLeaves command name
+pending_leaves = of_each PendingLeaves
+    (λ value rows. refl) (λ value rows. refl) (λ value rows. refl) (λ value rows. refl) (λ value rows. refl) (λ value rows. refl)
+    (λ value rows. refl) (λ value rows. refl) (λ value rows. refl) (λ value rows. refl) (λ value rows. refl)
 
 -- the row of a new option stands behind the others
 pub row_behind : (name : Name) (value : Text) (rows : List Row) → has_row (id_of name) rows ≡ false

@@ -1,6 +1,7 @@
 -- The options of an accepted list are taken one after another, each where it is new, and their values are the definition's.
-use Rattle.std.proofs.Common.{◌≡◌, refl, ap, sym, ◌∙◌, subst, arith, ℕ, ◌+◌, ◌-◌, ◌<◌, ◌≤◌, ◌==◌, ◌&&◌, ◌||◌, cond, Bool, true, false, not, List, [], ◌∷◌, ◌++◌, length, get_or, Option, Some, None, is_some}
-use Rattle.std.specs.Prelude.{codes, fold, find, option_and_then, bytes_eq, nat_le, slice_get, if◌then◌else◌}
+use Rattle.std.proofs.Common.{◌≡◌, refl, ap, sym, ◌∙◌, subst, arith, ℕ, ◌<◌, ◌≤◌, ◌==◌, ◌&&◌, ◌||◌, cond, Bool, true, false, not, List, [], ◌∷◌, ◌++◌, length, get_or, Option, Some, None, is_some, ◌⊎◌, inl, inr}
+use Rattle.std.specs.Int.{from_be_bytes, w128}
+use Rattle.std.specs.Prelude.{codes, fold, find, option_map, option_and_then, bytes_eq, nat_le, slice_get, if◌then◌else◌}
 use Rattle.std.specs.List.{list_any, list_all, before_first, after_first, position_or_len}
 use Rattle.std.specs.Str.Parse.{digits_value}
 use Rattle.std.proofs.lemmas.List.Folds.{list_any-append}
@@ -13,13 +14,15 @@ use Rattle.clap.specs.Walk.{Walk, walked, settled, settled_rows, has_row, with_v
 use Rattle.clap.specs.declared.parser.matches.ValueSource.TheVariants.{CommandLine}
 use Rattle.fts_tables.specs.Names.{is_digit}
 use Rattle.fts_tables.specs.SettingsData.{are_apart, is_within}
-use Rattle.fts_words.specs.Words.{number_of, within, given_by, option_of, before_others, options_behind, has_value, is_equals, is_same_option}
+use Rattle.fts_words.specs.Words.{number_of, within, given_by, given_to_client, job_named, option_of, before_others, options_behind, has_value, is_equals, is_same_option}
 use Rattle.fts_words.specs.declared.asked.Command.{Command}
-use Rattle.fts_words.specs.declared.asked.Command.TheVariants.{Session, Show, Load, Serve}
+use Rattle.fts_words.specs.declared.asked.Command.TheVariants.{Session, Show, Load, Serve, Submit, Query, Delete, Follow}
 use Rattle.fts_words.specs.declared.options.Given.{Given}
-use Rattle.fts_words.specs.declared.options.Given.TheVariants.{Port, Lanes, Connections, Number}
-use Rattle.fts_words.proofs.Taking.{Name, ThePort, TheLanes, TheConnections, TheNumber, id_of, word_of, Has, same_name, same_id, shape_of_command, rules_of_command, at, waiting_at, row_with, settles, met_joined, met_name, met_value, name_passes, joined_passes, value_passes, pending_settles, pending_leaves, row_behind}
+use Rattle.fts_words.specs.declared.options.Given.TheVariants.{Port, Lanes, Connections, Number, Tries, Job}
+use Rattle.fts_words.proofs.Taking.{Name, ThePort, TheLanes, TheConnections, TheNumber, TheTries, TheJob, id_of, word_of, Has, same_name, same_id, shape_of_command, rules_of_command, at, waiting_at, row_with, settles, met_joined, met_name, met_value, name_passes, joined_passes, value_passes, pending_settles, pending_leaves, row_behind}
 use Rattle.fts_tables.specs.declared.limits.TheConstants.{MAX_LANES}
+use Rattle.uuid.specs.Text.{parsed}
+use Rattle.fts_words.proofs.Ids.{parsed_hyphen}
 
 both : (a b : Bool) → (a && b) ≡ true → (a ≡ true) × (b ≡ true)
 both true b is = (refl, is)
@@ -42,42 +45,92 @@ name_of_given (Port n) = ThePort
 name_of_given (Lanes n) = TheLanes
 name_of_given (Connections n) = TheConnections
 name_of_given (Number n) = TheNumber
+name_of_given (Tries n) = TheTries
+name_of_given (Job n) = TheJob
 
 same_by_name : (one other : Given) → is_same_option one other ≡ same_name (name_of_given other) (name_of_given one)
 same_by_name (Port a) (Port b) = refl
 same_by_name (Port a) (Lanes b) = refl
 same_by_name (Port a) (Connections b) = refl
 same_by_name (Port a) (Number b) = refl
+same_by_name (Port a) (Tries b) = refl
+same_by_name (Port a) (Job b) = refl
 same_by_name (Lanes a) (Port b) = refl
 same_by_name (Lanes a) (Lanes b) = refl
 same_by_name (Lanes a) (Connections b) = refl
 same_by_name (Lanes a) (Number b) = refl
+same_by_name (Lanes a) (Tries b) = refl
+same_by_name (Lanes a) (Job b) = refl
 same_by_name (Connections a) (Port b) = refl
 same_by_name (Connections a) (Lanes b) = refl
 same_by_name (Connections a) (Connections b) = refl
 same_by_name (Connections a) (Number b) = refl
+same_by_name (Connections a) (Tries b) = refl
+same_by_name (Connections a) (Job b) = refl
 same_by_name (Number a) (Port b) = refl
 same_by_name (Number a) (Lanes b) = refl
 same_by_name (Number a) (Connections b) = refl
 same_by_name (Number a) (Number b) = refl
+same_by_name (Number a) (Tries b) = refl
+same_by_name (Number a) (Job b) = refl
+same_by_name (Tries a) (Port b) = refl
+same_by_name (Tries a) (Lanes b) = refl
+same_by_name (Tries a) (Connections b) = refl
+same_by_name (Tries a) (Number b) = refl
+same_by_name (Tries a) (Tries b) = refl
+same_by_name (Tries a) (Job b) = refl
+same_by_name (Job a) (Port b) = refl
+same_by_name (Job a) (Lanes b) = refl
+same_by_name (Job a) (Connections b) = refl
+same_by_name (Job a) (Number b) = refl
+same_by_name (Job a) (Tries b) = refl
+same_by_name (Job a) (Job b) = refl
+
+same_self : (one : Name) → same_name one one ≡ true
+same_self ThePort = refl
+same_self TheLanes = refl
+same_self TheConnections = refl
+same_self TheNumber = refl
+same_self TheTries = refl
+same_self TheJob = refl
 
 name_is : (one other : Name) → same_name one other ≡ true → one ≡ other
 name_is ThePort ThePort is = refl
 name_is ThePort TheLanes is = absurd cc
 name_is ThePort TheConnections is = absurd cc
 name_is ThePort TheNumber is = absurd cc
+name_is ThePort TheTries is = absurd cc
+name_is ThePort TheJob is = absurd cc
 name_is TheLanes ThePort is = absurd cc
 name_is TheLanes TheLanes is = refl
 name_is TheLanes TheConnections is = absurd cc
 name_is TheLanes TheNumber is = absurd cc
+name_is TheLanes TheTries is = absurd cc
+name_is TheLanes TheJob is = absurd cc
 name_is TheConnections ThePort is = absurd cc
 name_is TheConnections TheLanes is = absurd cc
 name_is TheConnections TheConnections is = refl
 name_is TheConnections TheNumber is = absurd cc
+name_is TheConnections TheTries is = absurd cc
+name_is TheConnections TheJob is = absurd cc
 name_is TheNumber ThePort is = absurd cc
 name_is TheNumber TheLanes is = absurd cc
 name_is TheNumber TheConnections is = absurd cc
 name_is TheNumber TheNumber is = refl
+name_is TheNumber TheTries is = absurd cc
+name_is TheNumber TheJob is = absurd cc
+name_is TheTries ThePort is = absurd cc
+name_is TheTries TheLanes is = absurd cc
+name_is TheTries TheConnections is = absurd cc
+name_is TheTries TheNumber is = absurd cc
+name_is TheTries TheTries is = refl
+name_is TheTries TheJob is = absurd cc
+name_is TheJob ThePort is = absurd cc
+name_is TheJob TheLanes is = absurd cc
+name_is TheJob TheConnections is = absurd cc
+name_is TheJob TheNumber is = absurd cc
+name_is TheJob TheTries is = absurd cc
+name_is TheJob TheJob is = refl
 
 -- the option of a name, where it was given
 abbrev pub given_as : Name → List Given → Option Given
@@ -92,25 +145,40 @@ or_else (Some option) other = Some option
 abbrev pub value_at : Command → Name → List Row → Option Given
 value_at command name rows = option_and_then (option_of command (word_of name)) (first_of (id_of name) rows)
 
--- a value that has a number begins with a digit
-record BeginsWithDigit (value : Text) : Type 0 where
-  pub digit : ℕ
+-- a value that begins with no hyphen
+record BeginsPlainly (value : Text) : Type 0 where
+  pub first : ℕ
   pub more : List ℕ
-  pub few : digit < 10
-  pub is : value ≡ (48 + digit) ∷ more
+  pub plain : (first == 45) ≡ false
+  pub is : value ≡ first ∷ more
 
-digit_first : (value : Text) (number : ℕ) → number_of value ≡ Some number → BeginsWithDigit value
+-- such is that of a number
+digit_first : (value : Text) (number : ℕ) → number_of value ≡ Some number → BeginsPlainly value
 digit_first [] number is = absurd cc
 digit_first (d ∷ ds) number is = by_test (is_within 1 20 (length (d ∷ ds)) && list_all is_digit (d ∷ ds)) refl is
   where
-    by_test : (b : Bool) → (is_within 1 20 (length (d ∷ ds)) && list_all is_digit (d ∷ ds)) ≡ b → (if b then Some (digits_value 10 (d ∷ ds)) else None) ≡ Some number → BeginsWithDigit (d ∷ ds)
+    by_test : (b : Bool) → (is_within 1 20 (length (d ∷ ds)) && list_all is_digit (d ∷ ds)) ≡ b → (if b then Some (digits_value 10 (d ∷ ds)) else None) ≡ Some number → BeginsPlainly (d ∷ ds)
     by_test false same found = absurd cc
     by_test true same found =
         let all = (both (is_within 1 20 (length (d ∷ ds))) (list_all is_digit (d ∷ ds)) same).1 in
         let first = (both (is_digit d) (list_all is_digit ds) all).0 in
         let low = le_of 48 d (both (nat_le 48 d) (nat_le d 57) first).0 in
-        let high = le_of d 57 (both (nat_le 48 d) (nat_le d 57) first).1 in
-        record { digit = d - 48; more = ds; few = omega (arith, low, high); is = ap (λ x. x ∷ ds) (omega (arith, low)) }
+        record { first = d; more = ds; plain = no_hyphen low; is = refl }
+      where
+        no_hyphen : 48 ≤ d → (d == 45) ≡ false
+        no_hyphen low = grind (arith, nat_tests)
+
+-- and the text of an id
+id_first : (value : Text) (id : List ℕ) → parsed value ≡ Some id → BeginsPlainly value
+id_first [] id is = absurd cc
+id_first (d ∷ ds) id is = record { first = d; more = ds; plain = by_test (d == 45) refl; is = refl }
+  where
+    by_test : (b : Bool) → (d == 45) ≡ b → b ≡ false
+    by_test false same = refl
+    by_test true same =
+        let hyphen : d ≡ 45 = grind (arith, nat_tests) in
+        let none = parsed_hyphen ds in
+        let found = subst (λ x. parsed (x ∷ ds) ≡ Some id) hyphen is in absurd cc
 
 -- an option of a command has one of its names
 record IsNamed (command : Command) (word : Text) (option : Given) : Type 0 where
@@ -152,22 +220,82 @@ by_number word number option false same found = absurd cc
 by_number word number option true same found =
     subst (IsNamed Load word) (in_range (is_within 0 18446744073709551615 number) (Number number) option found) (record { has = tt; named = same refl })
 
+-- the options of a client
+record IsClientOption (word : Text) (option : Given) : Type 0 where
+  pub named : word ≡ word_of (name_of_given option)
+  pub kind : (name_of_given option ≡ ThePort) ⊎ (name_of_given option ≡ TheTries)
+
+abbrev tries_or : ℕ → Bool → Option Given
+tries_or number b = if b then within 1 10 Tries number else None
+
+abbrev client_port_or : Text → ℕ → Bool → Option Given
+client_port_or word number b = if b then within 1 65535 Port number else tries_or number (bytes_eq word (codes "--tries"))
+
+by_tries : (word : Text) (number : ℕ) (option : Given) (b : Bool) → (b ≡ true → word ≡ codes "--tries") → tries_or number b ≡ Some option → IsClientOption word option
+by_tries word number option false same found = absurd cc
+by_tries word number option true same found =
+    subst (IsClientOption word) (in_range (is_within 1 10 number) (Tries number) option found) (record { named = same refl; kind = inr refl })
+
+by_client_port : (word : Text) (number : ℕ) (option : Given) (b : Bool) → (b ≡ true → word ≡ codes "--port") → client_port_or word number b ≡ Some option → IsClientOption word option
+by_client_port word number option false same found = by_tries word number option (bytes_eq word (codes "--tries")) (bytes_eq-Decides word (codes "--tries")).0 found
+by_client_port word number option true same found =
+    subst (IsClientOption word) (in_range (is_within 1 65535 number) (Port number) option found) (record { named = same refl; kind = inl refl })
+
+-- a command that has a client's options
+by_client : (command : Command) (word : Text) (number : ℕ) (option : Given) → Has command ThePort → Has command TheTries → given_to_client word number ≡ Some option
+    → IsNamed command word option
+by_client command word number option port tries is =
+    let client = by_client_port word number option (bytes_eq word (codes "--port")) (bytes_eq-Decides word (codes "--port")).0 is in
+    record { has = of_kind client.kind; named = client.named }
+  where
+    of_kind : (name_of_given option ≡ ThePort) ⊎ (name_of_given option ≡ TheTries) → Has command (name_of_given option)
+    of_kind (inl e) = subst (Has command) (sym e) port
+    of_kind (inr e) = subst (Has command) (sym e) tries
+
 named_by : (command : Command) (word : Text) (number : ℕ) (option : Given) → given_by command word number ≡ Some option → IsNamed command word option
 named_by Session word number option is = absurd cc
 named_by Show word number option is = absurd cc
 named_by Load word number option is = by_number word number option (bytes_eq word (codes "--number")) (bytes_eq-Decides word (codes "--number")).0 is
 named_by Serve word number option is = by_port word number option (bytes_eq word (codes "--port")) (bytes_eq-Decides word (codes "--port")).0 is
+named_by Submit word number option is = by_client Submit word number option tt tt is
+named_by Query word number option is = by_client Query word number option tt tt is
+named_by Delete word number option is = absurd cc
+named_by Follow word number option is = by_client Follow word number option tt tt is
 
 record IsOption (command : Command) (word value : Text) (option : Given) : Type 0 where
   pub named : IsNamed command word option
-  pub digits : BeginsWithDigit value
+  pub begins : BeginsPlainly value
 
-option_is : (command : Command) (word value : Text) (option : Given) → option_of command word value ≡ Some option → IsOption command word value option
-option_is command word value option is = by_number (number_of value) refl is
+number_is : (command : Command) (word value : Text) (option : Given) → option_and_then (given_by command word) (number_of value) ≡ Some option → IsOption command word value option
+number_is command word value option is = by_number (number_of value) refl is
   where
     by_number : (o : Option ℕ) → number_of value ≡ o → option_and_then (given_by command word) o ≡ Some option → IsOption command word value option
     by_number None same found = absurd cc
-    by_number (Some number) same found = record { named = named_by command word number option found; digits = digit_first value number same }
+    by_number (Some number) same found = record { named = named_by command word number option found; begins = digit_first value number same }
+
+job_is : (word value : Text) (option : Given) → word ≡ codes "--job" → job_named value ≡ Some option → IsOption Query word value option
+job_is word value option named is = by_id (parsed value) refl is
+  where
+    by_id : (o : Option (List ℕ)) → parsed value ≡ o → option_map (λ id. Job (from_be_bytes w128 id)) o ≡ Some option → IsOption Query word value option
+    by_id None same found = absurd cc
+    by_id (Some id) same found =
+        let e : Job (from_be_bytes w128 id) ≡ option = cc in
+        subst (IsOption Query word value) e (record { named = record { has = tt; named = named }; begins = id_first value id same })
+
+by_job : (word value : Text) (option : Given) (b : Bool) → (b ≡ true → word ≡ codes "--job")
+    → (if b then job_named value else option_and_then (given_by Query word) (number_of value)) ≡ Some option → IsOption Query word value option
+by_job word value option true same found = job_is word value option (same refl) found
+by_job word value option false same found = number_is Query word value option found
+
+option_is : (command : Command) (word value : Text) (option : Given) → option_of command word value ≡ Some option → IsOption command word value option
+option_is Session word value option is = number_is Session word value option is
+option_is Show word value option is = number_is Show word value option is
+option_is Load word value option is = number_is Load word value option is
+option_is Serve word value option is = number_is Serve word value option is
+option_is Submit word value option is = number_is Submit word value option is
+option_is Query word value option is = by_job word value option (bytes_eq word (codes "--job")) (bytes_eq-Decides word (codes "--job")).0 is
+option_is Delete word value option is = number_is Delete word value option is
+option_is Follow word value option is = number_is Follow word value option is
 
 -- a word is cut at its equals sign
 cut : (word : Text) → has_value word ≡ true → word ≡ before_first is_equals word ++ 61 ∷ after_first is_equals word
@@ -205,12 +333,6 @@ value_new : (command : Command) (name : Name) (value : Text) (rows : List Row) �
 value_new command name value rows none =
     ap (λ (o : Option Row). option_and_then (option_of command (word_of name)) (option_and_then (λ (r : Row). slice_get r.values 0) o))
     (first_new (id_of name) rows (row_with name value) none (same_id name name ∙ same_self name))
-  where
-    same_self : (one : Name) → same_name one one ≡ true
-    same_self ThePort = refl
-    same_self TheLanes = refl
-    same_self TheConnections = refl
-    same_self TheNumber = refl
 
 -- of options that are apart the first is the only one of its name
 none_later : (option : Given) (options : List Given) → list_any (is_same_option option) options ≡ false → given_as (name_of_given option) options ≡ None
@@ -225,12 +347,6 @@ AreNew options rows = (name : Name) → is_some (given_as name options) ≡ true
 
 first_is_new : (option : Given) (options : List Given) (rows : List Row) → AreNew (option ∷ options) rows → has_row (id_of (name_of_given option)) rows ≡ false
 first_is_new option options rows new = new (name_of_given option) (ap (λ b. is_some (if b then Some option else given_as (name_of_given option) options)) (same_self (name_of_given option)))
-  where
-    same_self : (one : Name) → same_name one one ≡ true
-    same_self ThePort = refl
-    same_self TheLanes = refl
-    same_self TheConnections = refl
-    same_self TheNumber = refl
 
 -- those behind the first are, with its row
 rest_is_new : (option : Given) (options : List Given) (value : Text) (rows : List Row) → list_any (is_same_option option) options ≡ false → AreNew (option ∷ options) rows
@@ -357,13 +473,13 @@ module _ (command : Command) (word value : Text) (behind : List Text) (options :
   goes_apart : Goes command (at rows pending) (word ∷ value ∷ behind) options here
   goes_apart =
       let has = kind.named.has in
-      let digits = kind.digits in
+      let begins = kind.begins in
       let value_row = row_behind the_name value here first_new_here in
       let end = behind_it here (Some (id_of the_name, value ∷ [])) (pending_settles command the_name has value here first_new_here) (pending_leaves command the_name has value here ∙ value_row) in
-      let met = subst (λ (v : Text). walked (rules_of_command command) [] (waiting_at (id_of the_name) here) v ≡ at here (Some (id_of the_name, v ∷ []))) (sym digits.is)
-      (met_value command the_name has digits.digit digits.more here digits.few) in
-      let passes = subst (λ (v : Text). turn_passes (shape_of_command command) [] (waiting_at (id_of the_name) here) v ≡ true) (sym digits.is)
-      (value_passes command the_name has digits.digit digits.more here digits.few) in
+      let met = subst (λ (v : Text). walked (rules_of_command command) [] (waiting_at (id_of the_name) here) v ≡ at here (Some (id_of the_name, v ∷ []))) (sym begins.is)
+      (met_value command the_name has begins.first begins.more here begins.plain) in
+      let passes = subst (λ (v : Text). turn_passes (shape_of_command command) [] (waiting_at (id_of the_name) here) v ≡ true) (sym begins.is)
+      (value_passes command the_name has begins.first begins.more here begins.plain) in
       let second = goes_step command (waiting_at (id_of the_name) here) (at here (Some (id_of the_name, value ∷ []))) value behind (opened.option ∷ opened.more) here passes met end in
       let first = goes_step command (at rows pending) (waiting_at (id_of the_name) here) (word_of the_name) (value ∷ behind) (opened.option ∷ opened.more) here
       (name_passes command the_name has rows pending so) (met_name command the_name has rows pending) second in
@@ -374,15 +490,15 @@ module _ (command : Command) (word value : Text) (behind : List Text) (options :
   goes_joined : (whole : Text) → whole ≡ word ++ 61 ∷ value → Goes command (at rows pending) (whole ∷ behind) options here
   goes_joined whole is =
       let has = kind.named.has in
-      let digits = kind.digits in
+      let begins = kind.begins in
       let value_row = row_behind the_name value here first_new_here in
       let after = with_values (id_of the_name) (row_with the_name []).reading CommandLine (value ∷ []) (without (id_of the_name) here) in
       let end = behind_it after None refl value_row in
       let met = subst (λ (v : Text). walked (rules_of_command command) [] (at rows pending) (word_of the_name ++ 61 ∷ v)
-      ≡ at (with_values (id_of the_name) (row_with the_name []).reading CommandLine (v ∷ []) (without (id_of the_name) here)) None) (sym digits.is)
-      (met_joined command the_name has (48 + digits.digit) digits.more rows pending) in
-      let passes = subst (λ (v : Text). turn_passes (shape_of_command command) [] (at rows pending) (word_of the_name ++ 61 ∷ v) ≡ true) (sym digits.is)
-      (joined_passes command the_name has (48 + digits.digit) digits.more rows pending so first_new_here) in
+      ≡ at (with_values (id_of the_name) (row_with the_name []).reading CommandLine (v ∷ []) (without (id_of the_name) here)) None) (sym begins.is)
+      (met_joined command the_name has begins.first begins.more rows pending) in
+      let passes = subst (λ (v : Text). turn_passes (shape_of_command command) [] (at rows pending) (word_of the_name ++ 61 ∷ v) ≡ true) (sym begins.is)
+      (joined_passes command the_name has begins.first begins.more rows pending so first_new_here) in
       let first = goes_step command (at rows pending) (at after None) (word_of the_name ++ 61 ∷ value) behind (opened.option ∷ opened.more) here passes met end in
       subst (λ (w : Text). Goes command (at rows pending) (w ∷ behind) options here) (sym (is ∙ ap (λ (w : Text). w ++ 61 ∷ value) kind.named.named))
       (subst (λ (l : List Given). Goes command (at rows pending) ((word_of the_name ++ 61 ∷ value) ∷ behind) l here) (sym opened.all) first)

@@ -1,17 +1,20 @@
 -- Which words are a command, and what they ask for: the first is a command's name, and the rest are its options, in any order and each at most once.
--- An option is `--name` and its value in the next word, or `--name=value` in one. A value is 1 to 20 decimal digits, with a number in its range.
+-- An option is `--name` and its value in the next word, or `--name=value` in one. A value is 1 to 20 decimal digits, with a number in its range; that of
+-- `--job` is the text of a UUID (RFC 9562).
 use Rattle.std.specs.Prelude.{ℕ, ◌≤◌, IfSome, ◌==◌, ◌&&◌, Bool, true, false, if◌then◌else◌, nat_lt, List, [], ◌∷◌, length, Option, Some, None, option_and_then, option_map, unwrap_or, bytes_eq, codes}
 use Rattle.std.specs.List.{list_all, position_or_len, before_first, after_first}
 use Rattle.std.specs.Str.Parse.{digits_value}
+use Rattle.std.specs.Int.{from_be_bytes, w128}
+use Rattle.uuid.specs.Text.{parsed}
 use Rattle.fts_tables.specs.Names.{is_digit}
 use Rattle.fts_tables.specs.declared.limits.TheConstants.{MAX_LANES}
 use Rattle.fts_tables.specs.SettingsData.{is_within, are_apart}
 use Rattle.fts_words.specs.declared.asked.Asked.{Asked}
 use Rattle.fts_words.specs.declared.asked.Asked.TheVariants as asks
 use Rattle.fts_words.specs.declared.asked.Command.{Command}
-use Rattle.fts_words.specs.declared.asked.Command.TheVariants.{Session, Show, Load, Serve}
+use Rattle.fts_words.specs.declared.asked.Command.TheVariants.{Session, Show, Load, Serve, Submit, Query, Delete, Follow}
 use Rattle.fts_words.specs.declared.options.Given.{Given}
-use Rattle.fts_words.specs.declared.options.Given.TheVariants.{Port, Lanes, Connections, Number}
+use Rattle.fts_words.specs.declared.options.Given.TheVariants.{Port, Lanes, Connections, Number, Tries, Job}
 use Rattle.fts_words.specs.declared.options.Numbers.{Numbers}
 
 -- the command of a name
@@ -20,7 +23,11 @@ command_named name =
     if bytes_eq name (codes "session") then Some Session else
     if bytes_eq name (codes "show") then Some Show else
     if bytes_eq name (codes "load") then Some Load else
-    if bytes_eq name (codes "serve") then Some Serve else None
+    if bytes_eq name (codes "serve") then Some Serve else
+    if bytes_eq name (codes "submit") then Some Submit else
+    if bytes_eq name (codes "query") then Some Query else
+    if bytes_eq name (codes "delete") then Some Delete else
+    if bytes_eq name (codes "follow") then Some Follow else None
 
 -- the command that is asked for
 abbrev pub command_of : Asked → Command
@@ -28,6 +35,10 @@ command_of asks.Session = Session
 command_of asks.Show = Show
 command_of (asks.Load number) = Load
 command_of (asks.Serve port lanes connections) = Serve
+command_of (asks.Submit port tries) = Submit
+command_of (asks.Query port job tries) = Query
+command_of asks.Delete = Delete
+command_of (asks.Follow port tries) = Follow
 
 -- whether it is to serve that is asked for
 abbrev pub IsToServe : Option Asked → Type 0
@@ -36,13 +47,25 @@ IsToServe (Some asks.Session) = ⊥
 IsToServe (Some asks.Show) = ⊥
 IsToServe (Some (asks.Load number)) = ⊥
 IsToServe (Some (asks.Serve port lanes connections)) = Unit {0}
+IsToServe (Some (asks.Submit port tries)) = ⊥
+IsToServe (Some (asks.Query port job tries)) = ⊥
+IsToServe (Some asks.Delete) = ⊥
+IsToServe (Some (asks.Follow port tries)) = ⊥
 
--- the lanes and connections that are asked for are in their ranges
+-- so many tries are 1 to 10
+abbrev pub AreTries : ℕ → Type 0
+AreTries tries = (1 ≤ tries) × (tries ≤ 10)
+
+-- the lanes, connections and tries that are asked for are in their ranges
 abbrev pub IsInRange : Asked → Type 0
 IsInRange asks.Session = Unit {0}
 IsInRange asks.Show = Unit {0}
 IsInRange (asks.Load number) = Unit {0}
 IsInRange (asks.Serve port lanes connections) = (1 ≤ lanes) × ((lanes ≤ MAX_LANES) × IfSome connections (λ most. 1 ≤ most))
+IsInRange (asks.Submit port tries) = AreTries tries
+IsInRange (asks.Query port job tries) = AreTries tries
+IsInRange asks.Delete = Unit {0}
+IsInRange (asks.Follow port tries) = AreTries tries
 
 -- whether a byte is an equals sign
 abbrev pub is_equals : ℕ → Bool
@@ -60,6 +83,12 @@ number_of value = if is_within 1 20 (length value) && list_all is_digit value th
 abbrev pub within : ℕ → ℕ → (ℕ → Given) → ℕ → Option Given
 within low high given number = if is_within low high number then Some (given number) else None
 
+-- the option of a client by its name, with a number in its range
+abbrev pub given_to_client : List ℕ → ℕ → Option Given
+given_to_client name number =
+    if bytes_eq name (codes "--port") then within 1 65535 Port number else
+    if bytes_eq name (codes "--tries") then within 1 10 Tries number else None
+
 -- the option of a command by its name, with a number in its range
 abbrev pub given_by : Command → List ℕ → ℕ → Option Given
 given_by Session name number = None
@@ -69,10 +98,29 @@ given_by Serve name number =
     if bytes_eq name (codes "--port") then within 1 65535 Port number else
     if bytes_eq name (codes "--lanes") then within 1 MAX_LANES Lanes number else
     if bytes_eq name (codes "--connections") then within 1 1000000 Connections number else None
+given_by Submit name number = given_to_client name number
+given_by Query name number = given_to_client name number
+given_by Delete name number = None
+given_by Follow name number = given_to_client name number
+
+-- whether a name is that of the option which names a job
+abbrev pub names_job : Command → List ℕ → Bool
+names_job Session name = false
+names_job Show name = false
+names_job Load name = false
+names_job Serve name = false
+names_job Submit name = false
+names_job Query name = bytes_eq name (codes "--job")
+names_job Delete name = false
+names_job Follow name = false
+
+-- the job whose id a value is the text of
+abbrev pub job_named : List ℕ → Option Given
+job_named value = option_map (λ id. Job (from_be_bytes w128 id)) (parsed value)
 
 -- the option of a command by its name and its value
 abbrev pub option_of : Command → List ℕ → List ℕ → Option Given
-option_of command name value = option_and_then (given_by command name) (number_of value)
+option_of command name value = if names_job command name then job_named value else option_and_then (given_by command name) (number_of value)
 
 -- an option before others
 abbrev pub before_others : Option (List Given) → Given → Option (List Given)
@@ -93,6 +141,8 @@ is_same_option (Port one) (Port other) = true
 is_same_option (Lanes one) (Lanes other) = true
 is_same_option (Connections one) (Connections other) = true
 is_same_option (Number one) (Number other) = true
+is_same_option (Tries one) (Tries other) = true
+is_same_option (Job one) (Job other) = true
 is_same_option one other = false
 
 -- the options, where none stands twice
@@ -116,6 +166,14 @@ abbrev pub number_given : Given → Option ℕ
 number_given (Number number) = Some number
 number_given other = None
 
+abbrev pub tries_of : Given → Option ℕ
+tries_of (Tries number) = Some number
+tries_of other = None
+
+abbrev pub job_of : Given → Option ℕ
+job_of (Job id) = Some id
+job_of other = None
+
 -- the first of options that has such a number
 abbrev pub first_of : (Given → Option ℕ) → List Given → Option ℕ
 first_of part [] = None
@@ -123,15 +181,26 @@ first_of part (option ∷ options) = unwrap_or (option_map Some (part option)) (
 
 -- the numbers of options
 abbrev pub numbers_of : List Given → Numbers
-numbers_of options =
-    record { port = first_of port_of options; lanes = first_of lanes_of options; connections = first_of connections_of options; number = first_of number_given options }
+numbers_of options = record {
+  port = first_of port_of options;
+  lanes = first_of lanes_of options;
+  connections = first_of connections_of options;
+  number = first_of number_given options;
+  tries = first_of tries_of options;
+  job = first_of job_of options;
+}
 
--- what a command asks for with these numbers: a port and a number have to be there where they are the command's; there are 4 lanes where none are named
+-- what a command asks for with these numbers: a port, a number and a job have to be there where they are the command's; there are 4 lanes where none are
+-- named, and 3 tries
 abbrev pub asked_with : Command → Numbers → Option Asked
 asked_with Session numbers = Some asks.Session
 asked_with Show numbers = Some asks.Show
 asked_with Load numbers = option_map asks.Load numbers.number
 asked_with Serve numbers = option_map (λ port. asks.Serve port (unwrap_or numbers.lanes 4) numbers.connections) numbers.port
+asked_with Submit numbers = option_map (λ port. asks.Submit port (unwrap_or numbers.tries 3)) numbers.port
+asked_with Query numbers = option_and_then (λ port. option_map (λ job. asks.Query port job (unwrap_or numbers.tries 3)) numbers.job) numbers.port
+asked_with Delete numbers = Some asks.Delete
+asked_with Follow numbers = option_map (λ port. asks.Follow port (unwrap_or numbers.tries 3)) numbers.port
 
 -- what a command's words ask for
 abbrev pub asked_of : Command → List (List ℕ) → Option Asked

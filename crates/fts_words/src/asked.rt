@@ -19,6 +19,24 @@ pub enum Asked {
         lanes: u32,
         connections: Option<u32>,
     },
+    /// The submission of the input's document to the service of this port, in 1 to 10 tries.
+    Submit {
+        port: u16,
+        tries: u32,
+    },
+    /// What the service of this port says of a job, in 1 to 10 tries.
+    Query {
+        port: u16,
+        job: u128,
+        tries: u32,
+    },
+    /// The deletions that the input's document names, and those that wait.
+    Delete,
+    /// The entries of the service of this port, each in 1 to 10 tries.
+    Follow {
+        port: u16,
+        tries: u32,
+    },
 }
 
 /// A command's name.
@@ -28,6 +46,10 @@ pub enum Command {
     Show,
     Load,
     Serve,
+    Submit,
+    Query,
+    Delete,
+    Follow,
 }
 
 impl Command {
@@ -43,6 +65,14 @@ impl Command {
             Some(Command::Load)
         } else if name == "serve" {
             Some(Command::Serve)
+        } else if name == "submit" {
+            Some(Command::Submit)
+        } else if name == "query" {
+            Some(Command::Query)
+        } else if name == "delete" {
+            Some(Command::Delete)
+        } else if name == "follow" {
+            Some(Command::Follow)
         } else {
             None
         }

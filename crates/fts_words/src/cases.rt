@@ -1,6 +1,9 @@
 //! Rows of the tests: lists of words, each in one text with single spaces between them, and what they ask for.
 use crate::Asked;
 
+/// The id 00000000-0000-4000-8000-000000000001.
+const ONE: u128 = 0x4000_8000_0000_0000_0001;
+
 /// What the words of a run ask for; none where they are not accepted.
 pub(crate) const WORDS: &[(&str, Option<Asked>)] = &[
     ("session", Some(Asked::Session)),
@@ -15,6 +18,34 @@ pub(crate) const WORDS: &[(&str, Option<Asked>)] = &[
             connections: None,
         }),
     ),
+    (
+        "submit --port 8080",
+        Some(Asked::Submit {
+            port: 8080,
+            tries: 3,
+        }),
+    ),
+    (
+        "query --port 8080 --job 00000000-0000-4000-8000-000000000001",
+        Some(Asked::Query {
+            port: 8080,
+            job: ONE,
+            tries: 3,
+        }),
+    ),
+    ("delete", Some(Asked::Delete)),
+    (
+        "follow --port 8080",
+        Some(Asked::Follow {
+            port: 8080,
+            tries: 3,
+        }),
+    ),
+    ("submit", None),
+    ("follow", None),
+    ("delete --port 8080", None),
+    ("query --port 8080", None),
+    ("query --port 8080 --job 1", None),
     ("", None),
     ("Session", None),
     ("sessions", None),
@@ -28,7 +59,7 @@ pub(crate) const WORDS: &[(&str, Option<Asked>)] = &[
     ("help", None),
 ];
 
-/// What a command's options ask for, whether it is built or not.
+/// What a command's options ask for.
 pub(crate) const OPTIONS: &[(&str, Option<Asked>)] = &[
     ("load --number 7", Some(Asked::Load { number: 7 })),
     ("load --number=007", Some(Asked::Load { number: 7 })),
@@ -154,4 +185,100 @@ pub(crate) const OPTIONS: &[(&str, Option<Asked>)] = &[
     ("serve --port --lanes=2", None),
     ("serve --port 1 --help", None),
     ("serve --port 1 --", None),
+    ("serve --port 1 --tries 3", None),
+    (
+        "submit --port=1 --tries=1",
+        Some(Asked::Submit { port: 1, tries: 1 }),
+    ),
+    (
+        "submit --tries 10 --port 65535",
+        Some(Asked::Submit {
+            port: 65_535,
+            tries: 10,
+        }),
+    ),
+    ("submit --tries 10", None),
+    ("submit --port 1 --tries 0", None),
+    ("submit --port 1 --tries 11", None),
+    ("submit --port 1 --tries", None),
+    ("submit --port 1 --tries 1 --tries 1", None),
+    (
+        "submit --port 1 --job 00000000-0000-4000-8000-000000000001",
+        None,
+    ),
+    ("submit --port 1 --lanes 1", None),
+    ("submit --port 1 job.json", None),
+    // The four forms of a UUID's text, and digits of either case.
+    (
+        "query --port 1 --job=00000000-0000-4000-8000-000000000001 --tries 2",
+        Some(Asked::Query {
+            port: 1,
+            job: ONE,
+            tries: 2,
+        }),
+    ),
+    (
+        "query --job 00000000000040008000000000000001 --tries=2 --port=1",
+        Some(Asked::Query {
+            port: 1,
+            job: ONE,
+            tries: 2,
+        }),
+    ),
+    (
+        "query --tries 2 --job {00000000-0000-4000-8000-000000000001} --port 1",
+        Some(Asked::Query {
+            port: 1,
+            job: ONE,
+            tries: 2,
+        }),
+    ),
+    (
+        "query --port 1 --job urn:uuid:00000000-0000-4000-8000-000000000001",
+        Some(Asked::Query {
+            port: 1,
+            job: ONE,
+            tries: 3,
+        }),
+    ),
+    (
+        "query --port 1 --job fFfFffff-ffff-ffff-ffff-ffffffffffff",
+        Some(Asked::Query {
+            port: 1,
+            job: 0xffff_ffff_ffff_ffff_ffff_ffff_ffff_ffff,
+            tries: 3,
+        }),
+    ),
+    // No digit of sixteen; a hyphen first; 35 digits and hyphens; nothing; twice; no port; none of this command.
+    (
+        "query --port 1 --job 0000000g-0000-4000-8000-000000000001",
+        None,
+    ),
+    (
+        "query --port 1 --job -0000000-0000-4000-8000-000000000001",
+        None,
+    ),
+    (
+        "query --port 1 --job 00000000-0000-4000-8000-00000000001",
+        None,
+    ),
+    ("query --port 1 --job=", None),
+    (
+        "query --job 00000000000040008000000000000001 --port 1 --job 00000000000040008000000000000001",
+        None,
+    ),
+    ("query --job 00000000000040008000000000000001", None),
+    (
+        "query --port 1 --job 00000000000040008000000000000001 --lanes 1",
+        None,
+    ),
+    ("delete", Some(Asked::Delete)),
+    ("delete --tries 1", None),
+    ("delete 1", None),
+    (
+        "follow --port=1 --tries 4",
+        Some(Asked::Follow { port: 1, tries: 4 }),
+    ),
+    ("follow --tries 4", None),
+    ("follow --port 1 --tries 11", None),
 ];

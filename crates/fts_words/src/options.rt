@@ -1,19 +1,26 @@
 //! One option of a command, and the options that were given so far, each at most once (`specs/Words.antt`).
-//! A value is read as 1 to 20 decimal digits; a number that no `u64` holds is in no range.
-ghost use Rattle.std.specs.Prelude.{◌≡◌, List, [], ◌∷◌, ◌++◌, Option, Some, None, if◌then◌else◌, ◌&&◌, nat_le, length, IfSome};
+//! A value is read as 1 to 20 decimal digits; a number that no `u64` holds is in no range. That of `--job` is read as the text of a UUID.
+ghost use Rattle.std.specs.Prelude.{◌≡◌, List, [], ◌∷◌, ◌++◌, Option, Some, None, if◌then◌else◌, ◌&&◌, nat_le, length, IfSome, option_and_then};
 ghost use Rattle.std.specs.List.{list_all, list_any};
 ghost use Rattle.fts_tables.specs.Names.{is_digit};
-ghost use Rattle.fts_words.specs.Words.{option_of, given_by, number_of, numbers_of, is_same_option, asked_with, command_of};
+ghost use Rattle.fts_words.specs.Words.{option_of, given_by, given_to_client, names_job, job_named, number_of, numbers_of, is_same_option, asked_with, command_of};
 
 use crate::Asked;
 use crate::asked::Command;
 use fts_tables::limits::MAX_LANES;
+use uuid::Uuid;
 
 /// The most decimal digits of a value.
 const MAX_DIGITS: usize = 20;
 
 /// How many lanes there are where none are named.
 const DEFAULT_LANES: u32 = 4;
+
+/// How many tries there are where none are named.
+const DEFAULT_TRIES: u32 = 3;
+
+/// The most tries.
+const MAX_TRIES: u64 = 10;
 
 /// An option that was given, with its number.
 #[derive(Clone, Copy, Debug, PartialEq, Eq)]
@@ -22,21 +29,55 @@ pub enum Given {
     Lanes(u32),
     Connections(u32),
     Number(u64),
+    Tries(u32),
+    Job(u128),
 }
 
 impl Given {
-    /// The option of a command by its name and its value; none where the command hasn't it, or its value isn't a number in its range.
+    /// The option of a command by its name and its value; none where the command hasn't it, or its value isn't a number in its range, or no id.
     pub fn read(command: Command, name: &str, value: &str) -> Option<Given>
         ensures { result ≡ option_of command name.now value.now }
     {
-        let bytes = value.as_bytes();
-        if bytes.is_empty() || bytes.len() > MAX_DIGITS || !are_digits(bytes) {
-            return None;
+        if is_job(command, name) {
+            of_id(value)
+        } else {
+            of_number(command, name, value)
         }
-        match value.parse() {
-            Ok(number) => by_name(command, name, number),
-            Err(_) => None,
-        }
+    }
+}
+
+/// Whether a name is that of the option which names a job.
+fn is_job(command: Command, name: &str) -> bool
+    ensures { result ≡ names_job command name.now }
+{
+    match command {
+        Command::Session | Command::Show | Command::Load | Command::Serve => false,
+        Command::Query => name == "--job",
+        Command::Submit | Command::Delete | Command::Follow => false,
+    }
+}
+
+/// The job whose id a value is the text of.
+fn of_id(value: &str) -> Option<Given>
+    ensures { result ≡ job_named value.now }
+{
+    match Uuid::parse_str(value) {
+        Ok(id) => Some(Given::Job(id.as_u128())),
+        Err(_) => None,
+    }
+}
+
+/// The option of a command by its name, with a value that is a number.
+fn of_number(command: Command, name: &str, value: &str) -> Option<Given>
+    ensures { result ≡ option_and_then (given_by command name.now) (number_of value.now) }
+{
+    let bytes = value.as_bytes();
+    if bytes.is_empty() || bytes.len() > MAX_DIGITS || !are_digits(bytes) {
+        return None;
+    }
+    match value.parse() {
+        Ok(number) => by_name(command, name, number),
+        Err(_) => None,
     }
 }
 
@@ -51,7 +92,8 @@ fn by_name(command: Command, name: &str, number: u64) -> Option<Given>
     ensures { result ≡ given_by command name.now number }
 {
     match command {
-        Command::Session | Command::Show => None,
+        Command::Session | Command::Show | Command::Delete => None,
+        Command::Submit | Command::Query | Command::Follow => of_client(name, number),
         Command::Load => {
             if name == "--number" {
                 Some(Given::Number(number))
@@ -89,6 +131,26 @@ fn of_serve(name: &str, number: u64) -> Option<Given>
     }
 }
 
+fn of_client(name: &str, number: u64) -> Option<Given>
+    ensures { result ≡ given_to_client name.now number }
+{
+    if name == "--port" {
+        if 1 <= number && number <= 65_535 {
+            Some(Given::Port(number as u16))
+        } else {
+            None
+        }
+    } else if name == "--tries" {
+        if 1 <= number && number <= MAX_TRIES {
+            Some(Given::Tries(number as u32))
+        } else {
+            None
+        }
+    } else {
+        None
+    }
+}
+
 /// The numbers of options, each where it was given.
 #[derive(Clone, Copy, Debug, PartialEq, Eq)]
 pub struct Numbers {
@@ -96,6 +158,8 @@ pub struct Numbers {
     pub lanes: Option<u32>,
     pub connections: Option<u32>,
     pub number: Option<u64>,
+    pub tries: Option<u32>,
+    pub job: Option<u128>,
 }
 
 impl Numbers {
@@ -105,6 +169,8 @@ impl Numbers {
         lanes: None,
         connections: None,
         number: None,
+        tries: None,
+        job: None,
     };
 
     /// With one option more; none where it was given already.
@@ -140,6 +206,20 @@ impl Numbers {
                 }),
                 Some(_) => None,
             },
+            Given::Tries(number) => match self.tries {
+                None => Some(Numbers {
+                    tries: Some(number),
+                    ..self
+                }),
+                Some(_) => None,
+            },
+            Given::Job(id) => match self.job {
+                None => Some(Numbers {
+                    job: Some(id),
+                    ..self
+                }),
+                Some(_) => None,
+            },
         }
     }
 
@@ -160,6 +240,29 @@ impl Numbers {
                     port,
                     lanes: self.lanes.unwrap_or(DEFAULT_LANES),
                     connections: self.connections,
+                }),
+                None => None,
+            },
+            Command::Submit => match self.port {
+                Some(port) => Some(Asked::Submit {
+                    port,
+                    tries: self.tries.unwrap_or(DEFAULT_TRIES),
+                }),
+                None => None,
+            },
+            Command::Query => match (self.port, self.job) {
+                (Some(port), Some(job)) => Some(Asked::Query {
+                    port,
+                    job,
+                    tries: self.tries.unwrap_or(DEFAULT_TRIES),
+                }),
+                (Some(_), None) | (None, _) => None,
+            },
+            Command::Delete => Some(Asked::Delete),
+            Command::Follow => match self.port {
+                Some(port) => Some(Asked::Follow {
+                    port,
+                    tries: self.tries.unwrap_or(DEFAULT_TRIES),
                 }),
                 None => None,
             },

@@ -8,5 +8,5 @@ pub returns-in-Done : goal.returns-in-Done
 returns-in-Done g c =
     let head : c.as_bytes.result.now ≡ query_bytes c.args.port c.args.job =
     c.as_bytes.ensures.value ∙ (c.as_str.ensures.value ∙ c.query_head-head.ensures) in
-    repeated_so _ _ _ _ _ _ _ _ _ _ _ _ (append-nil c.as_bytes.result.now ∙ head)
+    repeated_so _ _ _ _ _ _ _ _ _ _ _ _ _ (append-nil c.as_bytes.result.now ∙ head)
     (λ tries ends. found_so c.args.tries tries c.in-Done.job c.in-Done.again ends) c.in-Done.ensures

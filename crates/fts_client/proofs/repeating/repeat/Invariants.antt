@@ -8,6 +8,6 @@ abbrev pub invariant-loop : goal.invariant-loop
 invariant-loop g l = TriedSoFar g.H.Hears.says
     (record { bytes = g.L.Line.Source.left; faults = g.L.Line.Source.faults; reads = g.L.Line.Source.reads; beside = g.L.Line.Source.beside })
     (record { bytes = g.L.Line.Sink.held; faults = g.L.Line.Sink.faults; reads = λ x. 0; beside = g.L.Line.Sink.beside })
-    (concat (map (λ part. part.now) l.request)) l.counter
+    l.port (concat (map (λ part. part.now) l.request)) l.counter
     (g.L.Link.link l.fn.link) (g.L.Link.link l.link) (g.L.Link.faults l.fn.link) (g.L.Link.faults l.link)
     l.fn.room l.room l.end

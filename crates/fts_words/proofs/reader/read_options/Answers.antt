@@ -1,9 +1,12 @@
 -- One word more of a command's options: it is a name, or a value, or both.
-use Rattle.std.proofs.Common.{◌+◌, ◌<◌, Some, None, map, drop, string_bytes, ap, sym, ◌∙◌, arith}
+use Rattle.std.proofs.Common.{◌+◌, ◌<◌, Some, None, map, drop, string_bytes, refl, ap, sym, ◌∙◌, arith}
 use Rattle.fts_words.specs.declared.options.Given.{Given}
-use Rattle.fts_words.proofs.Reading.{Cuts, cut_none, cut_twice, cut_more, reads_waiting, reads_equals, reads_name}
+use Rattle.fts_words.proofs.Reading.{begins, Cuts, cut_none, cut_twice, cut_more, reads_waiting, reads_equals, reads_name}
 use Rattle.fts_words.proofs.reader.read_options.Goals as goal
 use Rattle.fts_words.proofs.reader.read_options.Goals.{in-Some+in_ok-option-in-Some, in-None+in-Some-split_once+in_ok-option-in-Some-split_once}
+
+pub words-init : goal.words-init
+words-init c = begins c.args.command (map string_bytes c.args.words.now) _ refl
 
 pub returns-in_err-option-in-Some-clause-asked : goal.returns-in_err-option-in-Some-clause-asked
 returns-in_err-option-in-Some-clause-asked c =

@@ -7,12 +7,12 @@ use Rattle.std.proofs.lemmas.Bool.{eqb-false}
 use Rattle.std.proofs.lemmas.Bool.Decides.{nat_tests}
 use Rattle.std.proofs.lemmas.Str.Parse.{IsNumeralModel, numerals_by_value, parse_gives}
 use Rattle.fts_tables.specs.Names.{is_digit}
-use Rattle.fts_words.specs.Words.{number_of, within, given_by}
+use Rattle.fts_words.specs.Words.{number_of, within, given_by, given_to_client}
 use Rattle.fts_words.specs.declared.asked.Command.{Command}
-use Rattle.fts_words.specs.declared.asked.Command.TheVariants.{Session, Show, Load, Serve}
+use Rattle.fts_words.specs.declared.asked.Command.TheVariants.{Session, Show, Load, Serve, Submit, Query, Delete, Follow}
 use Rattle.fts_words.specs.declared.options.Given.{Given}
-use Rattle.fts_words.specs.declared.options.Given.TheVariants.{Port, Lanes, Connections, Number}
-use Rattle.fts_words.proofs.options.Given.read.Goals as goal
+use Rattle.fts_words.specs.declared.options.Given.TheVariants.{Port, Lanes, Connections, Number, Tries}
+use Rattle.fts_words.proofs.options.of_number.Goals as goal
 use Rattle.fts_tables.specs.declared.limits.TheConstants.{MAX_LANES}
 
 own : IsNumeralModel (λ (ds : List ℕ). list_all is_digit ds ≡ true) (digits_value 10)
@@ -29,6 +29,11 @@ either : (b : Bool) (one other : Option Given) → one ≡ None → other ≡ No
 either true one other is also = is
 either false one other is also = also
 
+client-in-no-range : (name : List ℕ) (number : ℕ) → 18446744073709551615 < number → given_to_client name number ≡ None
+client-in-no-range name number over =
+    either (bytes_eq name (codes "--port")) (within 1 65535 Port number) _ (above 1 65535 Port number (omega arith))
+    (either (bytes_eq name (codes "--tries")) (within 1 10 Tries number) None (above 1 10 Tries number (omega arith)) refl)
+
 in-no-range : (command : Command) (name : List ℕ) (number : ℕ) → 18446744073709551615 < number → given_by command name number ≡ None
 in-no-range Session name number over = refl
 in-no-range Show name number over = refl
@@ -37,6 +42,10 @@ in-no-range Serve name number over =
     either (bytes_eq name (codes "--port")) (within 1 65535 Port number) _ (above 1 65535 Port number (omega arith))
     (either (bytes_eq name (codes "--lanes")) (within 1 MAX_LANES Lanes number) _ (above 1 MAX_LANES Lanes number (omega arith))
     (either (bytes_eq name (codes "--connections")) (within 1 1000000 Connections number) None (above 1 1000000 Connections number (omega arith)) refl))
+in-no-range Submit name number over = client-in-no-range name number over
+in-no-range Query name number over = client-in-no-range name number over
+in-no-range Delete name number over = refl
+in-no-range Follow name number over = client-in-no-range name number over
 
 pub returns-in-Err : goal.returns-in-Err
 returns-in-Err c =

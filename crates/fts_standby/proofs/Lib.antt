@@ -1,0 +1,13 @@
+pub mod Prefixes
+pub mod Taking
+mod Bodies
+mod AskedTries
+mod GrownJournals
+mod MadeRequests
+mod NextEntries
+mod TakenEntries
+mod FollowedCalls
+mod WrittenOut
+mod Showing
+mod ReachedWorlds
+mod Answered
