@@ -4,7 +4,7 @@ use Rattle.std.specs.Prelude.{◌≡◌, ◌⊎◌, ℕ, List, Option}
 use Rattle.fts_wire.specs.Outside.{Side}
 use Rattle.fts_client.specs.Links.{LinkData}
 use Rattle.fts_submitting.specs.Runs.{IsSubmitRun, IsQueryRun}
-use Rattle.fts_deleting.specs.Runs.{IsDeleteRun}
+use Rattle.fts_deleting.specs.Runs.{IsDeleteRun, around}
 use Rattle.fts_following.specs.Runs.{IsFollowRun}
 use Rattle.fts_tables.specs.SettingsData.{SettingsData, IsSettings}
 use Rattle.fts_top.specs.Runs.{OneThread, OverDisks, AreRead, HasNoSettings}
@@ -112,7 +112,7 @@ module _ {D E L : Type 0} (disks : disk.Ghosts D) (stores : store.Ghosts E) (lin
     pub kept : IsSettings settings
     pub read : AreRead text settings
     pub ran : EndsAs end_of_deletion end (λ errand. OverDisks beyond.deletes left.deletes (λ disk now.
-        IsDeleteRun disks stores settings disk now before.store after.store before.input.left after.input.left before.output after.output errand))
+        IsDeleteRun disks stores settings (around disk before.store before.input.left before.output) (around now after.store after.input.left after.output) errand))
     pub alone : IsDeletionAlone before after beyond left tally
 
   -- what `delete` did: it stopped at its settings, or at its words, or ran

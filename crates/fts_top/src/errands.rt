@@ -5,7 +5,7 @@ ghost use Rattle.std.specs.Prelude.{◌≡◌, ◌≢◌, ◌⊎◌, ◌≤◌, 
 ghost use Rattle.fts_tables.specs.Counts.{Rose};
 ghost use Rattle.fts_tables.specs.SettingsData.{SettingsData, IsSettings};
 ghost use Rattle.fts_submitting.specs.Runs.{IsSubmitRun, IsQueryRun};
-ghost use Rattle.fts_deleting.specs.Runs.{IsDeleteRun};
+ghost use Rattle.fts_deleting.specs.Runs.{IsDeleteRun, around};
 ghost use Rattle.fts_following.specs.Runs.{IsFollowRun};
 ghost use Rattle.fts_top.specs.Ends.{status_of, errand_status};
 ghost use Rattle.fts_top.specs.Errands.{EndsAs, end_of_client, end_of_deletion, end_of_standby, read_side, written_side};
@@ -122,7 +122,7 @@ pub fn delete_places<F: Source, S: Source, K: Sink, D: Disk, E: Store>(
     requires deletes { IsSome deletes.old }
     ensures deletes { (HasNoSettings (F.left settings.old) result.end × ((input.new ≡ input.old) × ((output.new ≡ output.old) × ((deletes.new ≡ deletes.old) × (store.new ≡ store.old)))))
         ⊎ ((read : SettingsData) × (IsSettings read × (AreRead (F.left settings.old) read × EndsAs end_of_deletion result.end (λ errand. OverDisks deletes.old deletes.new (λ own now.
-        IsDeleteRun D.Disk E.Store read own now store.old store.new (S.left input.old) (S.left input.new) (K.held output.old) (K.held output.new) errand))))) }
+        IsDeleteRun D.Disk E.Store read (around own store.old (S.left input.old) (K.held output.old)) (around now store.new (S.left input.new) (K.held output.new)) errand))))) }
     ensures there { IsSome deletes.new }
     ensures tally { result.tally ≡ no_tally }
     ensures disk { result.disk ≡ disk }
@@ -151,7 +151,7 @@ fn delete_under<S: Source, K: Sink, D: Disk, E: Store>(
 ) -> DeleteEnd
     requires deletes { IsSome deletes.old }
     ensures run { OverDisks deletes.old deletes.new (λ own now.
-        IsDeleteRun D.Disk E.Store settings.now own now store.old store.new (S.left input.old) (S.left input.new) (K.held output.old) (K.held output.new) result) }
+        IsDeleteRun D.Disk E.Store settings.now (around own store.old (S.left input.old) (K.held output.old)) (around now store.new (S.left input.new) (K.held output.new)) result) }
     ensures there { IsSome deletes.new }
     ensures failed { status_of (end_of_deletion result) ≡ 4 → OverDisks deletes.old deletes.new (λ own now. Rose (D.faults own) (D.faults now)) }
     ensures input { status_of (end_of_deletion result) ≡ 5 → Rose (S.faults input.old) (S.faults input.new) }
