@@ -1,0 +1,4 @@
+pub mod Ends
+pub mod Notes
+pub mod Opening
+pub mod Runs
