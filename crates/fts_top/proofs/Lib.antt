@@ -2,7 +2,7 @@ mod Started
 mod Loaded
 mod Settled
 mod Endings
-mod Errands
+mod ErrandStatuses
 mod Closing
 mod Chosen
 mod Inputs

@@ -12,8 +12,8 @@ use Rattle.fts_session.specs.declared.ends.LineEnd.TheVariants as line_ends
 use Rattle.fts_submitting.specs.Ends.{client_status}
 use Rattle.fts_deleting.specs.Ends.{delete_status}
 use Rattle.fts_following.specs.Ends.{follow_status}
-use Rattle.fts_top.specs.declared.ends.ErrandEnd.{ErrandEnd}
-use Rattle.fts_top.specs.declared.ends.ErrandEnd.TheVariants.{Client, Deletion, Standby}
+use Rattle.fts_top.specs.declared.errands.ErrandEnd.{ErrandEnd}
+use Rattle.fts_top.specs.declared.errands.ErrandEnd.TheVariants.{Client, Deletion, Standby}
 use Rattle.fts_top.specs.declared.ends.RunEnd.{RunEnd}
 use Rattle.fts_top.specs.declared.ends.RunEnd.TheVariants.{NoMemory, NoCommand, SettingsUnread, SettingsRule, DiskFailed, Damaged, JournalFull, Session, Shown, SourcesUnmade, LineUnwritten, DoorsFailed, Served, Errand}
 

@@ -14,7 +14,7 @@ use Rattle.fts_deleting.specs.declared.ends.DeleteEnd.{DeleteEnd}
 use Rattle.fts_following.specs.declared.ends.FollowRunEnd.{FollowRunEnd}
 use Rattle.fts_top.specs.declared.ends.RunEnd.{RunEnd}
 use Rattle.fts_top.specs.declared.ends.RunEnd.TheVariants.{NoMemory, Errand}
-use Rattle.fts_top.specs.declared.ends.ErrandEnd.TheVariants.{Client, Deletion, Standby}
+use Rattle.fts_top.specs.declared.errands.ErrandEnd.TheVariants.{Client, Deletion, Standby}
 use Rattle.fts_top.specs.declared.tally.Tally.{Tally}
 use Rattle.fts_disk.specs.declared.disk.Disk as disk
 use Rattle.fts_store.specs.declared.store.Store as store
