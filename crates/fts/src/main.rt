@@ -20,6 +20,7 @@ mod sockets;
 mod steps;
 mod tcp_doors;
 mod tcp_line;
+mod tcp_link;
 #[cfg(test)]
 mod tests;
 
