@@ -2,9 +2,10 @@
 """The files of examples/ as they stand, by the program as it was built: each line says what was tried and what came.
 
 acceptance/examples.py PROGRAM: PROGRAM is fts as it was built. It serves folders of its own, with examples/fts.toml, on free ports of 127.0.0.1.
-Wanted: the five documents are accepted one after another and each of their files is FINISHED; submit.sh comes to its end, and where the service
-refuses it shows the message and ends with 1; fts.service is a unit that systemd takes (where systemd-analyze is there), its start's words serve,
-and what they make under its mask nobody else may read. nginx.conf has a script of its own (behind_nginx.py). It needs curl.
+Wanted: the five documents are accepted one after another and each of their files is FINISHED; submit.sh comes to its end, also where it submits by
+the program's own command, and where the service refuses it shows the message and ends with 1; fts.service is a unit that systemd takes (where
+systemd-analyze is there), its start's words serve, and what they make under its mask nobody else may read. nginx.conf has a script of its own
+(behind_nginx.py). It needs curl.
 """
 import configparser
 import grp
@@ -57,17 +58,18 @@ def documents(program):
     service.stop()
 
 
-def submit(url):
-    run = subprocess.run(["sh", EXAMPLES / "submit.sh", url], capture_output=True, text=True, timeout=60)
+def submit(*words):
+    run = subprocess.run(["sh", EXAMPLES / "submit.sh", *words], capture_output=True, text=True, timeout=60)
     return run.returncode, run.stdout.splitlines(), run.stderr
 
 
 def submits(program):
     service = stand(program)
     url = f"http://127.0.0.1:{service.port}"
-    status, lines, error = submit(url)
-    is_wanted = (status, len(lines), error) == (0, 5, "") and lines[1] == "it is FINISHED" and json.loads(lines[2])[0]["file_state"] == "FINISHED"
-    yield f"submit.sh: status {status}, {len(lines)} lines, the second {lines[1:2]}", is_wanted
+    for name, words in (("submit.sh", ()), ("submit.sh by the program's own submit", (os.path.abspath(program),))):
+        status, lines, error = submit(url, *words)
+        is_wanted = (status, len(lines), error) == (0, 5, "") and lines[1] == "it is FINISHED" and json.loads(lines[2])[0]["file_state"] == "FINISHED"
+        yield f"{name}: status {status}, {len(lines)} lines, the second {lines[1:2]}", is_wanted
     service.stop()
     status, lines, error = submit(url)
     yield f"submit.sh where nobody listens: status {status}, {error.splitlines()[-1:]}", status == 1 and not lines and "no answer" in error

@@ -41,8 +41,8 @@ class Service:
         (self.path / "fts.toml").write_text(settings)
         self.start()
 
-    def start(self, prefix=()):
-        self.port = free_port()
+    def start(self, prefix=(), port=None):
+        self.port = port or free_port()
         words = [*prefix, self.program, str(self.path), "serve", "--port", str(self.port), "--lanes", str(self.lanes)]
         self.process = subprocess.Popen(words, stdin=subprocess.DEVNULL, stderr=subprocess.PIPE)
         last = time.monotonic() + LISTENS

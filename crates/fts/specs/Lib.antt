@@ -1,4 +1,5 @@
 pub mod CommandLine
+pub mod Dialing
 pub mod Relief
 pub mod Settings
 pub mod Steps

@@ -40,6 +40,10 @@ is_end count room = if count == 0 then nat_lt 0 room else false
 abbrev pub may_send : Bool → ℕ → ℕ → Bool
 may_send is_at_end read_faults write_faults = if is_at_end then false else if read_faults == 0 then write_faults == 0 else false
 
+-- a line has failed: a read or a write of it has
+abbrev pub has_failed : ℕ → ℕ → Bool
+has_failed read_faults write_faults = nat_lt 0 read_faults || nat_lt 0 write_faults
+
 -- what the events of a listener say: a connection waits (POLLIN), or there is none
 abbrev pub waiting_at : ℤ → Seen
 waiting_at (pos events) = if events == 1 then Waiting else Nothing

@@ -41,7 +41,7 @@ use std::thread::Threads;
 use std::{env, io};
 use tcp_doors::TcpDoors;
 use tcp_line::LineLimits;
-use tcp_link::TcpLink;
+use tcp_link::{LinkLimits, TcpLink};
 
 /// The settings of the stand `-`.
 const STAND_SETTINGS: &str =
@@ -168,6 +168,24 @@ fn lanes_over<'a, A: Doors + Drop>(
     Ok(lanes)
 }
 
+/// A link to services of this machine, for one request or, where a standby follows, for many.
+fn link_for<'a>(rt: &'a HostRuntime, words: &[String]) -> TcpLink<&'a HostRuntime> {
+    let link = TcpLink::new(rt, LinkLimits::of_client());
+    match read_words(words) {
+        Some(Asked::Follow { .. }) => link.for_many(),
+        Some(
+            Asked::Session
+            | Asked::Show
+            | Asked::Load { .. }
+            | Asked::Serve { .. }
+            | Asked::Submit { .. }
+            | Asked::Query { .. }
+            | Asked::Delete,
+        )
+        | None => link,
+    }
+}
+
 /// The disks of a stand: that of the service's journal, and that of the journal of deletions.
 struct Disks<D> {
     journal: D,
@@ -205,7 +223,7 @@ where
         clock: SystemClock::new(rt),
         hands: hands_over(rt, stores)?,
         lanes: lanes_over(rt, doors)?,
-        link: TcpLink::new(rt, rt.alloc(), LineLimits::of_service()),
+        link: link_for(rt, words),
     };
     Ok(run(threads, rt.alloc(), words, &mut outside))
 }

@@ -1,12 +1,17 @@
-//! What no clause says: how the doors and lines of a port meet clients over real sockets, under short limits, or by a clock that is set.
+//! What no clause says: how the doors and lines of a port meet clients over real sockets, and a client's link the services there, under short limits, or
+//! by a clock that is set.
 ghost use Rattle.std.specs.Prelude.{◌<◌, IfOk, IsTrue};
 ghost use Rattle.fts_wire.specs.Response.{has_phrase, has_methods};
 
 use crate::tcp_doors::TcpDoors;
 use crate::tcp_line::{LineLimits, TcpLine};
+use crate::tcp_link::{LinkLimits, TcpLink};
+use fts_client::Link;
 use fts_tables::Items;
 use fts_top::{Doors, DoorsFailed};
-use fts_wire::{Allow, Reply, Room, Sink, SinkFailed, Source, WireFault, write_response};
+use fts_wire::{
+    Allow, Reply, Room, Sink, SinkFailed, Source, SourceFailed, WireFault, write_response,
+};
 use std::io::{Read, Write};
 use std::net::{IpAddr, Ipv4Addr, Shutdown, TcpListener, TcpStream};
 use std::rt::Clock as SystemTimes;
@@ -365,5 +370,64 @@ fn a_client_that_sends_too_much_reads_its_refusal(rt: HostRuntime) -> Result<(),
         answer?.as_slice() == TOO_LARGE,
         "it reads the refusal, byte for byte"
     );
+    Ok(())
+}
+
+/// A link that soon gives up, and rests for a millisecond.
+fn short_link(rt: &HostRuntime) -> TcpLink<&HostRuntime> {
+    TcpLink::new(
+        rt,
+        LinkLimits {
+            line: short_limits(),
+            first_rest: 1,
+            ..LinkLimits::of_client()
+        },
+    )
+}
+
+/// A listener on a free port, and the port.
+fn listening(rt: &HostRuntime) -> io::Result<(TcpListener, u16)> {
+    let listener = TcpListener::bind(rt, (Ipv4Addr::LOCALHOST, 0))?;
+    let port = listener.local_addr()?.port();
+    Ok((listener, port))
+}
+
+#[test]
+fn a_link_meets_who_listens(rt: HostRuntime) -> Result<(), Fail> {
+    let (listener, port) = listening(&rt)?;
+    let mut link = short_link(&rt).for_many();
+    let Ok(mut line) = link.dial(port) else {
+        return Err(Fail::new("somebody listens"));
+    };
+    let (mut service, _) = listener.accept()?;
+    let mut bytes = [0; 8];
+    assert_eq!(rt; line.write(b"ab"), Ok(2), "a request");
+    assert!(rt; !line.is_answered(), "no answer yet");
+    service.write_all(b"cd")?;
+    assert_eq!(rt; line.read(&mut bytes), Ok(2), "an answer");
+    assert!(rt; line.is_answered() && !line.has_failed(), "answered");
+    link.done(line);
+    drop(service);
+    drop(listener);
+    assert!(rt; link.dial(port).is_err(), "nobody listens any more");
+    Ok(())
+}
+
+#[test]
+fn a_silent_service_is_a_failed_line(rt: HostRuntime) -> Result<(), Fail> {
+    let (listener, port) = listening(&rt)?;
+    let mut link = short_link(&rt);
+    let Ok(mut line) = link.dial(port) else {
+        return Err(Fail::new("somebody listens"));
+    };
+    let mut bytes = [0; 8];
+    assert_eq!(rt;
+        line.read(&mut bytes),
+        Err(SourceFailed),
+        "no byte in a second"
+    );
+    assert!(rt; line.has_failed() && !line.is_answered(), "it failed");
+    link.done(line);
+    drop(listener);
     Ok(())
 }

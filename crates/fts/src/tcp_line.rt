@@ -6,12 +6,12 @@
 //! before its first request it has a time of its own. `relief` has how the connection is taken.
 //! Order of an end: where the client may still be sending, the writing side is shut, and what comes is taken in for a while; then it is closed.
 //! Else unread bytes would make the system reset the connection, and the last response could be lost.
-//! Made by `TcpDoors`. It tells nothing of bytes.
+//! Made by `TcpDoors`, and for a client by `TcpLink`. It tells nothing of bytes.
 ghost use Rattle.std.specs.Prelude.{◌≡◌, ◌≤◌, ◌<◌, length, None, true, IfOk, IsErr};
 ghost use Rattle.fts_tables.specs.Counts.{CountsFaults};
 ghost use Rattle.fts_wire.specs.Outside.{Reads, Writes, raised};
 ghost use Rattle.fts.specs.Relief.{MayEnd};
-ghost use Rattle.fts.specs.Steps.{is_end};
+ghost use Rattle.fts.specs.Steps.{has_failed, is_end};
 
 use crate::relief::{Met, Relief, look_at_line};
 use crate::steps::{Seen, drains_on, is_end, may_send, own_time, time_left};
@@ -92,7 +92,9 @@ pub struct TcpLine<R: SystemTimes + Copy> {
 
 impl<R: SystemTimes + Copy> TcpLine<R> {
     /// A line over a new connection. Small pieces are sent at once.
-    pub fn new(rt: R, stream: TcpStream, limits: LineLimits) -> io::Result<TcpLine<R>> {
+    pub fn new(rt: R, stream: TcpStream, limits: LineLimits) -> io::Result<TcpLine<R>>
+        ensures fresh { IfOk result (λ line. (line.read_faults ≡ 0) × (line.write_faults ≡ 0)) }
+    {
         stream.set_nodelay(true)?;
         stream.set_write_timeout(Some(limits.wait))?;
         let since = Instant::now(&rt)?;
@@ -118,6 +120,18 @@ impl<R: SystemTimes + Copy> TcpLine<R> {
             relief.begin();
         }
         self
+    }
+
+    /// Whether a read or a write of it has failed.
+    pub fn has_failed(&self) -> bool
+        ensures { result ≡ has_failed self.now.read_faults self.now.write_faults }
+    {
+        self.read_faults > 0 || self.write_faults > 0
+    }
+
+    /// Whether what was written last was answered: something came behind it, no end of the input, and nothing has failed.
+    pub fn is_answered(&self) -> bool {
+        self.is_asked && !self.is_at_end && !self.has_failed()
     }
 
     /// Waits for the next request of a silent line. `true` where a connection was taken that waited, and this line gives way.
