@@ -187,6 +187,7 @@ fn link_for<'a>(rt: &'a HostRuntime, words: &[String]) -> TcpLink<&'a HostRuntim
 }
 
 /// The disks of a stand: that of the service's journal, and that of the journal of deletions.
+#[derive(Drop)]
 struct Disks<D> {
     journal: D,
     deletes: D,

@@ -187,6 +187,7 @@ pub fn no_link(alloc: Global) -> io::Result<MemoryLink> {
 }
 
 /// The disks of a run: that of its journal, and that of its deletions.
+#[derive(Drop)]
 pub struct Disks<D> {
     pub journal: D,
     pub deletes: D,

@@ -227,7 +227,7 @@ module _ {D E : Type 0} (disks : disk.Ghosts D) (stores : store.Ghosts E)
     answered_all : Answered (AnswersUnlessMemory (disks.state before.disk).told)
     answered_all = record {
       all = line_closed.all;
-      answered = served_unless_memory run.settings.workers begun_at run.ran.session.connection.served run.ran.session.connection.middle run.ran.session.connection.answered stays;
+      answered = served_unless_memory _ run.settings.workers begun_at run.ran.session.connection.served run.ran.session.connection.middle run.ran.session.connection.answered stays;
       last = line_closed.none;
       written = line_closed.written;
     }
@@ -235,7 +235,7 @@ module _ {D E : Type 0} (disks : disk.Ghosts D) (stores : store.Ghosts E)
     fills : run.ran.final.used ≡ used_of run.ran.final.entries
     fills =
         let own = run.starts.own rules.told in
-        let served = served_on run.settings.workers begun_at run.ran.session.connection.served run.ran.session.connection.middle run.ran.session.connection.answered in
+        let served = served_on _ run.settings.workers begun_at run.ran.session.connection.served run.ran.session.connection.middle run.ran.session.connection.answered in
         let rounds = last_rounds_on run.settings.workers run.ran.session.between run.ran.session_end.last run.ran.final run.ran.session.rounds in
         rounds.fills (subst (λ (walk : Walk). walk.used ≡ used_of walk.entries) (sym between_is) (served.fills (own.holds.fills ∙ ap used_of own.listed)))
 
@@ -254,7 +254,7 @@ module _ {D E : Type 0} (disks : disk.Ghosts D) (stores : store.Ghosts E)
 
     by_last : (last : RoundEnd) → LastRounds run.settings.workers last run.ran.session.between run.ran.final → status_of end ≡ round_status last → Finished
     by_last round_ends.Clear rounds status = by_replies status
-        (defined_or_wanting run.settings.workers begun_at run.ran.session.connection.served run.ran.session.connection.middle answered_all.answered)
+        (defined_or_wanting _ run.settings.workers begun_at run.ran.session.connection.served run.ran.session.connection.middle answered_all.answered)
     by_last (round_ends.Busy held) rounds status = absurd (last_not_busy run.settings.workers rounds.0 held run.ran.session.between run.ran.final rounds.1)
     by_last round_ends.DiskFailed rounds status = absurd (not_disk status)
     by_last (round_ends.JournalFull full) rounds status = inr (inr (inl (record {

@@ -83,12 +83,12 @@ answer_on old request reply new answer = record {
       answer.filled ∙ ap (λ n. used_after n added) e ∙ filled_as_listed old.entries added ∙ ap used_of (sym answer.listed);
 }
 
-pub served_on : {own : Bool} (workers : ℕ) (before : Walk) (exchanges : List Exchange) (after : Walk)
+pub served_on : (own : Bool) (workers : ℕ) (before : Walk) (exchanges : List Exchange) (after : Walk)
     → AreServed (AnswersNext own) (FollowedByRound workers) before exchanges after → GoesOn before after
-served_on workers before [] after served = same_on before after served
-served_on workers before (exchange ∷ exchanges) after (answered, (next, (answer, (follows, served)))) =
+served_on own workers before [] after served = same_on before after served
+served_on own workers before (exchange ∷ exchanges) after (answered, (next, (answer, (follows, served)))) =
     goes_further before answered after (answer_on before exchange.request exchange.reply answered answer)
-    (goes_further answered next after (round_on workers answered follows.0 next follows.1) (served_on workers next exchanges after served))
+    (goes_further answered next after (round_on workers answered follows.0 next follows.1) (served_on own workers next exchanges after served))
 
 last_on : (workers busy : ℕ) (old : Walk) (end : RoundEnd) (new : Walk) → AreLastRounds workers busy old end new → GoesOn old new
 last_on workers zero old end new rounds = round_on workers old end new rounds.0
@@ -113,14 +113,14 @@ answered_by old request reply new answer AsDefined is cause stays = inl (answer,
 answered_by old request reply new answer WithoutMemory is cause stays = inr (answer, is)
 answered_by old request reply new answer WithoutDisk is cause stays = absurd (stays cause)
 
-pub served_unless_memory : {own : Bool} (workers : ℕ) (before : Walk) (exchanges : List Exchange) (after : Walk)
+pub served_unless_memory : (own : Bool) (workers : ℕ) (before : Walk) (exchanges : List Exchange) (after : Walk)
     → AreServed (AnswersNext own) (FollowedByRound workers) before exchanges after
     → Stays before.faults after.faults → AreServed (AnswersUnlessMemory own) (FollowedByRound workers) before exchanges after
-served_unless_memory workers before [] after served stays = served
-served_unless_memory workers before (exchange ∷ exchanges) after (answered, (next, (answer, (follows, served)))) stays =
+served_unless_memory own workers before [] after served stays = served
+served_unless_memory own workers before (exchange ∷ exchanges) after (answered, (next, (answer, (follows, served)))) stays =
     let first = answer_on before exchange.request exchange.reply answered answer in
     let second = round_on workers answered follows.0 next follows.1 in
-    let third = served_on workers next exchanges after served in (
+    let third = served_on own workers next exchanges after served in (
       answered,
       (
         next,
@@ -129,7 +129,7 @@ served_unless_memory workers before (exchange ∷ exchanges) after (answered, (n
               (stays_within before.faults before.faults answered.faults after.faults (omega arith) (omega (arith, second.counts, third.counts)) stays),
           (
             follows,
-            served_unless_memory workers next exchanges after served
+            served_unless_memory own workers next exchanges after served
                 (stays_within before.faults next.faults after.faults after.faults (omega (arith, first.counts, second.counts)) (omega arith) stays),
           ),
         ),
@@ -137,13 +137,13 @@ served_unless_memory workers before (exchange ∷ exchanges) after (answered, (n
     )
 
 -- each reply is the machine's, or one of them is that for want of memory
-pub defined_or_wanting : {own : Bool} (workers : ℕ) (before : Walk) (exchanges : List Exchange) (after : Walk) → AreServed (AnswersUnlessMemory own) (FollowedByRound workers) before exchanges after
+pub defined_or_wanting : (own : Bool) (workers : ℕ) (before : Walk) (exchanges : List Exchange) (after : Walk) → AreServed (AnswersUnlessMemory own) (FollowedByRound workers) before exchanges after
     → AreServed (AnswersAsDefined own) (FollowedByRound workers) before exchanges after ⊎ Any (λ (exchange : Exchange). exchange.reply ≡ no_memory) exchanges
-defined_or_wanting {own = own} workers before [] after served = inl served
-defined_or_wanting {own = own} workers before (exchange ∷ exchanges) after (answered, (next, (inr wanting, (follows, served)))) =
+defined_or_wanting own workers before [] after served = inl served
+defined_or_wanting own workers before (exchange ∷ exchanges) after (answered, (next, (inr wanting, (follows, served)))) =
     inr (0, exchange, omega arith, refl, wanting.0.replies ∙ ap (λ (way : Way). (said_so way (said_at before wanting.0.bodies exchange.request wanting.0.now)).reply) wanting.1)
-defined_or_wanting {own = own} workers before (exchange ∷ exchanges) after (answered, (next, (inl defined, (follows, served)))) =
-    more (defined_or_wanting workers next exchanges after served)
+defined_or_wanting own workers before (exchange ∷ exchanges) after (answered, (next, (inl defined, (follows, served)))) =
+    more (defined_or_wanting own workers next exchanges after served)
   where
     more : AreServed (AnswersAsDefined own) (FollowedByRound workers) next exchanges after ⊎ Any (λ (one : Exchange). one.reply ≡ no_memory) exchanges
         → AreServed (AnswersAsDefined own) (FollowedByRound workers) before (exchange ∷ exchanges) after ⊎ Any (λ (one : Exchange). one.reply ≡ no_memory) (exchange ∷ exchanges)

@@ -1,8 +1,10 @@
 -- A keep that was started and served, and one that could not be started.
-use Rattle.std.proofs.Common.{◌≡◌, ◌≤◌, inl, inr, length, ap, ◌∙◌, subst, arith}
+use Rattle.std.proofs.Common.{◌≡◌, ◌==◌, ◌≤◌, inl, inr, length, ap, sym, ◌∙◌, subst, arith}
 use Rattle.fts_tables.specs.SettingsData.{SettingsData, IsSettings}
 use Rattle.fts_top.proofs.Closing.{unstarted_run}
-use Rattle.fts_top.proofs.Endings.{few_workers}
+use Rattle.fts_top.proofs.Endings.{start_status, start_settings, few_workers}
+use Rattle.fts_top.specs.Ends.{status_of, IsServingStatus}
+use Rattle.fts_top.specs.declared.ends.RunEnd.{RunEnd}
 use Rattle.fts_top.proofs.service.serve_under.Goals as goal
 use Rattle.fts_service.specs.Worlds.{world_of}
 use Rattle.fts_tables.specs.declared.limits.TheConstants.{MAX_WORKERS}
@@ -34,3 +36,11 @@ returns-in-Err-clause-run g c = λ text read. inl (unstarted_run (world_of g.D.D
     (g.C.Clock.moments c.now-now.new.self) c.args.disk c.in-Err.disk c.stop-in-Err.result.disk c.args.settings c.now-now.result c.in-Err.fault
     c.stop-in-Err.result.end c.stop-in-Err.result.tally (subst IsSettings c.settings.view_is c.settings.invariant) read c.now-now.ensures c.in-Err.ensures.err
     (c.stop-in-Err.ensures.end ∙ c.of_start.ensures) c.stop-in-Err.ensures.tally c.stop-in-Err.ensures.disk)
+
+pub returns-in-Err-clause-settings : goal.returns-in-Err-clause-settings
+returns-in-Err-clause-settings g c =
+    ap (λ (end : RunEnd). status_of end == 8) (c.stop-in-Err.ensures.end ∙ c.of_start.ensures) ∙ start_settings c.in-Err.fault
+
+pub returns-in-Err-clause-status : goal.returns-in-Err-clause-status
+returns-in-Err-clause-status g c =
+    subst (λ (end : RunEnd). IsServingStatus (status_of end)) (sym (c.stop-in-Err.ensures.end ∙ c.of_start.ensures)) (start_status c.in-Err.fault)
