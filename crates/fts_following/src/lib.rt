@@ -6,6 +6,7 @@
 #![tactic(auto)]
 
 mod ends;
+pub mod laws;
 mod notes;
 mod opening;
 mod running;
