@@ -1,21 +1,19 @@
 -- The exits of asking: too many rows, no memory, a journal that wasn't made ready, and what came of recording.
-use Rattle.std.proofs.Common.{◌≡◌, ◌⊎◌, inl, inr, ⊎_elim, refl, sym, ◌∙◌, ap, subst, ℕ, ◌+◌, ◌≤◌, Bool, true, false, nat_lt, nat_le, if◌then◌else◌, Option, Some, None, IsSome, List, [], ◌∷◌, ◌++◌, length, Result, Ok, Err, arith}
+use Rattle.std.proofs.Common.{◌≡◌, ◌⊎◌, inl, inr, ⊎_elim, refl, sym, ◌∙◌, ap, subst, ℕ, ◌+◌, ◌≤◌, Bool, true, false, nat_lt, if◌then◌else◌, Some, None, List, [], ◌∷◌, ◌++◌, length, Result, Ok, Err, arith}
 use Rattle.std.proofs.lemmas.Bool.{le-leb, ltb-false, ltb-true, false_from_ne_true}
-use Rattle.fts_tables.specs.Counts.{Rose}
 use Rattle.fts_tables.specs.declared.places.Place.{Place}
 use Rattle.fts_disk.specs.Disk.{DiskState, IsTold, IsLawful, LeavesOnly}
-use Rattle.fts_delete.specs.declared.events.Event.{Event}
 use Rattle.fts_delete.specs.declared.events.Event.TheVariants.{Ask}
 use Rattle.fts_delete.specs.declared.rows.DeleteRow.{DeleteRow}
 use Rattle.fts_delete.specs.declared.fault.DeleteFault.{DeleteFault}
 use Rattle.fts_delete.specs.declared.fault.DeleteFault.TheVariants.{Damaged, DiskFailed, JournalFull, RowsFull, Memory}
-use Rattle.fts_delete.specs.Rows.{rows_after, asked_rows, most_rows}
+use Rattle.fts_delete.specs.Rows.{rows_after, most_rows}
 use Rattle.fts_delete.specs.Spelling.{body_of}
 use Rattle.fts_delete.specs.Journals.{DeletesData, StandsFor, with_doubt, IsDeletes, KeepsImages}
-use Rattle.fts_delete.specs.Recording.{has_room, fits, KeepsList, IsImageOf, IsImageWith, ReadyAnswer, Readied, AddAnswer, Added}
-use Rattle.fts_delete.specs.Asked.{rows_with, asked_to, AddsAsk, KeepsAll, AskAnswer, Asked}
+use Rattle.fts_delete.specs.Recording.{fits, KeepsList, IsImageOf, IsImageWith, ReadyAnswer, Readied, AddAnswer, Added}
+use Rattle.fts_delete.specs.Asked.{rows_with, asked_to, KeepsAll, AskAnswer, Asked}
 use Rattle.fts_delete.proofs.Beginnings.{some_is}
-use Rattle.fts_delete.proofs.Moments.{joined, weakened, rose_before, rose_later}
+use Rattle.fts_delete.proofs.Moments.{joined, weakened, rose_later}
 use Rattle.fts_delete.proofs.Images.{images_start}
 use Rattle.fts_delete.proofs.Lists.{none_more}
 use Rattle.fts_delete.proofs.Since.{readied_list, with_images}

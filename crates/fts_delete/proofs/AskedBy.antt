@@ -1,5 +1,5 @@
 -- The answer to a document by its rules: each is broken where those before it are kept, and a document that breaks none asks for its places.
-use Rattle.std.proofs.Common.{◌≡◌, ◌⊎◌, inl, inr, refl, sym, ◌∙◌, ap, Bool, true, false, List, length, Result, Ok, Err, Some, None, nat_lt, ◌==◌}
+use Rattle.std.proofs.Common.{◌≡◌, ◌⊎◌, inl, inr, refl, ◌∙◌, true, false, List, length, Result, Ok, Err, Some, nat_lt, ◌==◌}
 use Rattle.std.specs.List.{list_any, list_all}
 use Rattle.serde_json.specs.Data.{Data}
 use Rattle.fts_tables.specs.SettingsData.{SettingsData}

@@ -1,5 +1,5 @@
 -- The exits of recording an event: no room, a doubt that couldn't be ended, one that was, an append that failed, and one that was done.
-use Rattle.std.proofs.Common.{◌≡◌, ◌⊎◌, refl, ap, sym, ◌∙◌, subst, inl, inr, ⊎_elim, ℕ, ◌+◌, ◌≤◌, ◌<◌, Bool, true, false, leb, List, [], ◌∷◌, ◌++◌, length, Option, Some, None, IsSome, is_some, option_map, option_and_then, Result, Ok, Err, IfErr, OnOk, OnErr, All, arith}
+use Rattle.std.proofs.Common.{◌≡◌, ◌⊎◌, refl, ap, sym, ◌∙◌, subst, inl, inr, ⊎_elim, ℕ, ◌+◌, ◌≤◌, ◌<◌, Bool, true, false, leb, List, [], ◌∷◌, ◌++◌, length, Option, Some, None, IsSome, is_some, Result, Ok, Err, IfErr, OnOk, OnErr, arith}
 use Rattle.std.proofs.lemmas.Bool.{leb-true, le-leb, false_from_ne_true}
 use Rattle.std.proofs.lemmas.List.{length-append}
 use Rattle.std.proofs.lemmas.List.Elements.{All-push}
@@ -13,16 +13,15 @@ use Rattle.fts_journal.specs.declared.fault.JournalFault.TheVariants.{DiskFailed
 use Rattle.fts_delete.specs.Faults.{fault_of}
 use Rattle.fts_delete.specs.declared.events.Event.{Event}
 use Rattle.fts_delete.specs.declared.rows.DeleteRow.{DeleteRow}
-use Rattle.fts_delete.specs.declared.fault.DeleteFault.{DeleteFault}
-use Rattle.fts_delete.specs.declared.fault.DeleteFault.TheVariants.{Damaged, DiskFailed, JournalFull, RowsFull, Memory}
+use Rattle.fts_delete.specs.declared.fault.DeleteFault.TheVariants.{JournalFull}
 use Rattle.fts_delete.specs.Rows.{rows_after}
 use Rattle.fts_delete.specs.Spelling.{IsProper, body_of, bodies_of}
 use Rattle.fts_delete.specs.Journals.{DeletesData, used_of, with_doubt, IsLegal}
-use Rattle.fts_delete.specs.Views.{deletes_of, events_in, read_of, IsHeld, IsTied}
+use Rattle.fts_delete.specs.Views.{deletes_of, events_in, IsHeld, IsTied}
 use Rattle.fts_delete.specs.Recording.{has_room, fits, KeepsList, IsImageOf, IsImageWith, Readied, AddAnswer, Added}
-use Rattle.fts_delete.proofs.Moments.{begun, joined, weakened}
+use Rattle.fts_delete.proofs.Moments.{begun, weakened}
 use Rattle.fts_delete.proofs.Lists.{rows_more, legal_list, proper_list, bodies_more, filled_more, image_of}
-use Rattle.fts_delete.proofs.Tying.{seen_events, seen_doubt, held_image, same_list}
+use Rattle.fts_delete.proofs.Tying.{seen_events, seen_doubt, same_list}
 use Rattle.fts_delete.proofs.Sizes.{body_some}
 
 -- what a settling did, by its clauses

@@ -28,3 +28,4 @@ pub mod JsonLemmas
 pub mod UrlLemmas
 pub mod Left
 pub mod AskedBy
+pub mod SomeAsked

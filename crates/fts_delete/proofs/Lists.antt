@@ -1,14 +1,14 @@
 -- Lists of events: their bodies, what one event more makes of them, and the bytes that it fills.
-use Rattle.std.proofs.Common.{◌≡◌, refl, ap, sym, ◌∙◌, subst, ◌⊎◌, ℕ, ◌+◌, ◌≤◌, inl, inr, Bool, true, false, List, [], ◌∷◌, ◌++◌, length, Option, Some, None, option_map, option_and_then, Result, Ok, Err, All, arith}
+use Rattle.std.proofs.Common.{◌≡◌, refl, ap, sym, ◌∙◌, subst, ◌⊎◌, ℕ, ◌+◌, inl, inr, List, [], ◌∷◌, ◌++◌, length, Option, Some, None, option_map, option_and_then, All, arith}
 use Rattle.std.proofs.lemmas.List.{map-append, length-append}
-use Rattle.std.proofs.lemmas.List.Elements.{All-nil, All-cons, All-head, All-tail, All-push}
+use Rattle.std.proofs.lemmas.List.Elements.{All-nil, All-cons, All-head, All-tail}
 use Rattle.std.specs.List.{flat_map}
 use Rattle.fts_journal.specs.Format.{used_by, header, block, size_bytes, Stands}
 use Rattle.fts_journal.specs.Journal.{IsImageOf as IsJournalImage}
 use Rattle.fts_delete.specs.declared.events.Event.{Event}
 use Rattle.fts_delete.specs.declared.rows.DeleteRow.{DeleteRow}
 use Rattle.fts_delete.specs.Rows.{rows_after, rows_from, AreRowsOf}
-use Rattle.fts_delete.specs.Spelling.{IsProper, body_of, bodies_of, event_in}
+use Rattle.fts_delete.specs.Spelling.{IsProper, body_of, bodies_of}
 use Rattle.fts_delete.specs.Journals.{used_of, with_doubt, IsLegal, StandsFor}
 use Rattle.fts_delete.specs.Views.{ok_of, read_of, events_in}
 use Rattle.fts_delete.proofs.Beginnings.{from-append, beginning_is_legal}

@@ -1,5 +1,5 @@
 -- Reading places one after the other, as a loop does: where one is not read, the whole is not.
-use Rattle.std.proofs.Common.{◌≡◌, ℕ, suc, ◌-◌, ◌+◌, ◌<◌, List, Ok, Err, refl, sym, ap, ◌∙◌, arith}
+use Rattle.std.proofs.Common.{◌≡◌, ℕ, suc, ◌-◌, ◌+◌, ◌<◌, List, Err, refl, sym, ◌∙◌, arith}
 use Rattle.fts_record.specs.Reading.{Read, items_at}
 use Rattle.fts_record.proofs.ListLoop.{with_front}
 use Rattle.fts_delete.specs.declared.reading.Stop.{Stop}

@@ -1,6 +1,5 @@
 -- The exits of a row of a pass: passed over, no memory, a journal that wasn't made ready, and a visit whose event was recorded or not.
-use Rattle.std.proofs.Common.{◌≡◌, ◌⊎◌, inl, inr, refl, sym, ◌∙◌, ap, subst, ℕ, ◌+◌, ◌≤◌, Bool, true, false, if◌then◌else◌, Option, Some, None, List, [], ◌∷◌, ◌++◌, length, slice_get, Result, Ok, Err, arith}
-use Rattle.fts_tables.specs.Counts.{Rose}
+use Rattle.std.proofs.Common.{◌≡◌, ◌⊎◌, inl, inr, refl, sym, ◌∙◌, ap, subst, ℕ, ◌+◌, Bool, true, false, if◌then◌else◌, Option, Some, None, List, [], ◌∷◌, ◌++◌, length, Result, Ok, Err, arith}
 use Rattle.fts_disk.specs.Disk.{DiskState, IsTold}
 use Rattle.fts_store.specs.Calls.{Call}
 use Rattle.fts_store.specs.Store.{StoreState}
@@ -15,8 +14,8 @@ use Rattle.fts_delete.specs.Visits.{saw_none, event_of}
 use Rattle.fts_delete.specs.Looks.{calls_of, with_calls, Visits}
 use Rattle.fts_delete.specs.Spelling.{body_of}
 use Rattle.fts_delete.specs.Journals.{DeletesData, KeepsImages, IsDeletes}
-use Rattle.fts_delete.specs.Recording.{has_room, fits, KeepsList, AddsOne, ReadyAnswer, Readied, AddAnswer, Added}
-use Rattle.fts_delete.specs.Walking.{MissFault, StopFault, RecordAnswer, IsVisited, IsSkipped, PassesBy, PassesAt, PassesRow}
+use Rattle.fts_delete.specs.Recording.{has_room, fits, KeepsList, ReadyAnswer, Readied, AddAnswer, Added}
+use Rattle.fts_delete.specs.Walking.{StopFault, RecordAnswer, PassesBy, PassesAt, PassesRow}
 use Rattle.fts_delete.proofs.Moments.{rose_later}
 use Rattle.fts_delete.proofs.Images.{images_more}
 use Rattle.fts_delete.proofs.Lists.{none_more}
@@ -63,6 +62,7 @@ module _ {D E : Type 0} (state : D → DiskState) (faults : D → ℕ) (files : 
       is = refl;
       keeps = record { rows = refl; count = refl; used = refl; events = refl };
       cause = tt;
+      doubt = λ told. inr refl;
     }));
     told = refl;
     counts = omega arith;
@@ -81,6 +81,15 @@ module _ {D E : Type 0} (state : D → DiskState) (faults : D → ℕ) (files : 
     stop_cause (RowsFull rows) answer = absurd answer
     stop_cause (Damaged offset) answer = absurd answer
 
+    -- what is in doubt then
+    stop_doubt : (fault : DeleteFault) → ReadyAnswer state faults old mid (length (body_of (Gone row.id))) (Err fault) → IsTold (state old.disk)
+        → (mid.doubt ≡ None) ⊎ (mid.doubt ≡ old.doubt)
+    stop_doubt DiskFailed answer told = inr (answer.2 told)
+    stop_doubt (JournalFull used) answer told = inr (ap (λ (d : DeletesData D). d.doubt) answer.2)
+    stop_doubt Memory answer told = absurd answer
+    stop_doubt (RowsFull rows) answer told = absurd answer
+    stop_doubt (Damaged offset) answer told = absurd answer
+
     pub passed_unready : (store : E) (fault : DeleteFault) → Readied state faults old mid (length (body_of (Gone row.id))) (Err fault)
         → PassesRow state faults files failures calls found old mid store store (Err fault)
     passed_unready store fault readied = record {
@@ -90,6 +99,7 @@ module _ {D E : Type 0} (state : D → DiskState) (faults : D → ℕ) (files : 
         is = refl;
         keeps = readied_list state faults old mid (length (body_of (Gone row.id))) (Err fault) readied.answer;
         cause = stop_cause fault readied.answer;
+        doubt = stop_doubt fault readied.answer;
       }));
       told = readied.told;
       counts = readied.counts;
@@ -121,6 +131,7 @@ module _ {D E : Type 0} (state : D → DiskState) (faults : D → ℕ) (files : 
           events = answer.2.events ∙ same.events;
         },
         rose_later (faults old.disk) (faults mid.disk) (faults new.disk) readied.counts answer.0,
+        λ told. answer.1 (readied.told ∙ told),
       )
       answered event (Err Memory) answer = (
         record {
@@ -130,6 +141,7 @@ module _ {D E : Type 0} (state : D → DiskState) (faults : D → ℕ) (files : 
           events = ap (λ (d : DeletesData D). d.events) answer ∙ same.events;
         },
         tt,
+        λ told. inl (ap (λ (d : DeletesData D). d.doubt) answer ∙ readied.answer.2 told),
       )
       answered event (Err (JournalFull used)) answer = absurd answer
       answered event (Err (RowsFull rows)) answer = absurd answer

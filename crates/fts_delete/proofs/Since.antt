@@ -1,13 +1,12 @@
 -- Images since an opening of the list: of a journal that was made ready, and of one event more.
-use Rattle.std.proofs.Common.{◌≡◌, ◌⊎◌, inl, inr, refl, sym, ◌∙◌, ap, subst, ℕ, Option, Some, None, IsSome, List, [], ◌∷◌, ◌++◌, append_assoc, Result, Ok, Err}
-use Rattle.std.proofs.lemmas.List.{append-nil}
+use Rattle.std.proofs.Common.{◌≡◌, inl, inr, sym, ◌∙◌, ap, subst, ℕ, Some, List, [], ◌∷◌, ◌++◌, Result, Ok, Err}
 use Rattle.fts_disk.specs.Disk.{DiskState, IsTold, LeavesOnly}
 use Rattle.fts_delete.specs.declared.events.Event.{Event}
 use Rattle.fts_delete.specs.declared.rows.DeleteRow.{DeleteRow}
 use Rattle.fts_delete.specs.declared.fault.DeleteFault.{DeleteFault}
 use Rattle.fts_delete.specs.declared.fault.DeleteFault.TheVariants.{Damaged, DiskFailed, JournalFull, RowsFull, Memory}
 use Rattle.fts_delete.specs.Rows.{rows_after}
-use Rattle.fts_delete.specs.Journals.{DeletesData, StandsFor, with_doubt, IsLegal, IsImageSince, IsDeletes, KeepsImages}
+use Rattle.fts_delete.specs.Journals.{DeletesData, StandsFor, IsLegal, IsImageSince, IsDeletes, KeepsImages}
 use Rattle.fts_delete.specs.Recording.{KeepsList, IsImageOf, IsImageWith, ReadyAnswer, Readied, AddAnswer, Added}
 use Rattle.fts_delete.proofs.Moments.{weakened}
 use Rattle.fts_delete.proofs.Images.{image_more, image_now}

@@ -6,7 +6,7 @@ use Rattle.std.proofs.lemmas.List.{length-append}
 use Rattle.fts_tables.specs.SettingsData.{is_within}
 use Rattle.fts_tables.specs.Names.{is_endpoint_name, is_path_key}
 use Rattle.fts_tables.specs.declared.places.Place.{Place}
-use Rattle.fts_record.specs.Spelling.{number_bytes, text_bytes, list_bytes}
+use Rattle.fts_record.specs.Spelling.{text_bytes}
 use Rattle.fts_record.specs.Proper.{is_name_text, is_path_text}
 use Rattle.fts_record.proofs.NumberLaws.{within_parts}
 use Rattle.fts_record.proofs.EntryLaws.{name_short, path_short}

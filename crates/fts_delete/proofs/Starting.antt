@@ -1,17 +1,15 @@
 -- How deletions are opened: the journal that was opened, and the fold of its bodies.
-use Rattle.std.proofs.Common.{◌≡◌, ◌≢◌, refl, ap, sym, ◌∙◌, subst, inl, inr, ⊎_elim, ◌⊎◌, ℕ, ◌≤◌, Bool, true, false, List, [], ◌∷◌, ◌++◌, length, Some, None, Ok, Err, arith}
-use Rattle.std.proofs.lemmas.List.{length-append}
-use Rattle.fts_tables.specs.Counts.{Rose}
-use Rattle.fts_disk.specs.Disk.{DiskState, IsTold, IsLawful, LeavesOnly}
-use Rattle.fts_journal.specs.Format.{Stands, front}
+use Rattle.std.proofs.Common.{◌≡◌, ◌≢◌, refl, ap, sym, ◌∙◌, subst, inl, inr, ⊎_elim, ◌⊎◌, ℕ, List, [], ◌∷◌, Some, None, Ok, arith}
+use Rattle.fts_disk.specs.Disk.{DiskState, IsTold, IsLawful}
+use Rattle.fts_journal.specs.Format.{Stands}
 use Rattle.fts_journal.specs.Journal.{JournalData, IsMaking, IsImageOf as IsJournalImage}
 use Rattle.fts_delete.specs.declared.events.Event.{Event}
 use Rattle.fts_delete.specs.declared.rows.DeleteRow.{DeleteRow}
 use Rattle.fts_delete.specs.declared.fault.DeleteFault.{DeleteFault}
 use Rattle.fts_delete.specs.declared.fault.DeleteFault.TheVariants.{Damaged, DiskFailed, JournalFull, RowsFull, Memory}
 use Rattle.fts_delete.specs.Spelling.{bodies_of}
-use Rattle.fts_delete.specs.Journals.{IsDamaged, IsWhole, StandsFor, fault_in}
-use Rattle.fts_delete.specs.Opened.{StandsOrIsEmpty, OpensJournal, OpensNot, NoJournalFault, Makes, IsStill, Opens, IsLeft, OpenFault, OpensNone, Opened}
+use Rattle.fts_delete.specs.Journals.{IsDamaged, StandsFor, fault_in}
+use Rattle.fts_delete.specs.Opened.{StandsOrIsEmpty, OpensJournal, OpensNot, NoJournalFault, Makes, Opens, IsLeft, OpenFault, OpensNone, Opened}
 use Rattle.fts_delete.specs.Folding.{Folds, LeavesJournal, FoldFault}
 use Rattle.fts_delete.specs.Views.{deletes_of, events_in, IsHeld, IsTied}
 use Rattle.fts_delete.proofs.Moments.{joined, weakened, still_still, quiet_still, rose_later}

@@ -1,10 +1,10 @@
 -- The walk of a pass over the rows: where it begins, one row more, where it stops, and where it ends.
-use Rattle.std.proofs.Common.{◌≡◌, inl, inr, refl, sym, ◌∙◌, ap, subst, ℕ, zero, suc, ◌+◌, ◌≤◌, Bool, true, false, if◌then◌else◌, cond, Option, Some, None, List, [], ◌∷◌, ◌++◌, length, take, arith, append_assoc, length-append, Ok, Err}
+use Rattle.std.proofs.Common.{◌≡◌, ◌⊎◌, ⊎_elim, inl, inr, refl, sym, ◌∙◌, ap, subst, ℕ, zero, suc, ◌+◌, ◌≤◌, Bool, true, false, if◌then◌else◌, cond, Option, Some, None, List, [], ◌∷◌, ◌++◌, length, take, arith, append_assoc, length-append, Ok, Err}
 use Rattle.std.specs.Prelude.{slice_get, option_map}
 use Rattle.std.proofs.lemmas.List.{append-nil}
 use Rattle.std.proofs.lemmas.Option.{slice_get-map, slice_get_within}
 use Rattle.fts_tables.specs.declared.places.Place.{Place}
-use Rattle.fts_disk.specs.Disk.{DiskState}
+use Rattle.fts_disk.specs.Disk.{DiskState, IsTold}
 use Rattle.fts_store.specs.Calls.{Call}
 use Rattle.fts_store.specs.Store.{StoreState}
 use Rattle.fts_tables.specs.Counts.{Rose}
@@ -21,9 +21,9 @@ use Rattle.fts_delete.specs.Looks.{calls_of, with_calls, Visits}
 use Rattle.fts_delete.specs.Spelling.{body_of}
 use Rattle.fts_delete.specs.Journals.{DeletesData, used_after, KeepsImages}
 use Rattle.fts_delete.proofs.Images.{images_more}
-use Rattle.fts_delete.specs.Passed.{AreVisits, places_of, pass_calls, with_last, PassFault, Passed}
+use Rattle.fts_delete.specs.Passed.{AreVisits, places_of, pass_calls, with_last, IsPassDoubt, PassFault, Passed}
 use Rattle.fts_delete.specs.Recording.{fits, KeepsList, AddsOne}
-use Rattle.fts_delete.specs.Walking.{MissFault, StopFault, RecordAnswer, IsVisited, IsSkipped, PassesBy, PassesAt, PassesRow, WalkedBy, WalkedTo}
+use Rattle.fts_delete.specs.Walking.{MissFault, StopFault, IsVisited, PassesBy, PassesAt, PassesRow, WalkedBy, WalkedTo}
 use Rattle.fts_delete.proofs.Beginnings.{none_some, some_is}
 use Rattle.fts_delete.proofs.Passing.{none_passed}
 use Rattle.fts_delete.proofs.Growing.{visits_more, none_come, events_more, rows_more, used_more}
@@ -134,6 +134,7 @@ module _ {D E : Type 0} (state : D → DiskState) (faults : D → ℕ) (files : 
       count = omega arith;
       used = ap (used_after old.used) (sym (none_come old.rows));
       listed = λ told. sym (append-nil old.events) ∙ ap (λ l. old.events ++ l) (sym (none_come old.rows));
+      doubt = λ told. inr refl;
       visited = refl;
       called = calls_none (calls store);
       told = refl;
@@ -189,6 +190,7 @@ module _ {D E : Type 0} (state : D → DiskState) (faults : D → ℕ) (files : 
             used = adds.used ∙ ap (λ n. n + 5 + length (body_of event)) walked.by.used ∙ sym (used_more old.used (events_of old.rows done) event) ∙ ap (used_after old.used) (sym events);
             listed = λ is. adds.listed (walked.by.told ∙ is) ∙ ap (λ l. l ++ event ∷ []) (walked.by.listed is) ∙ append_assoc old.events (events_of old.rows done) (event ∷ [])
                 ∙ ap (λ l. old.events ++ l) (sym events);
+            doubt = λ is. inl (adds.no_doubt (walked.by.told ∙ is));
             visited = visited_too old mid store s left row done came next walked.by visited.visited;
             called = called_too old mid store s left row done came next walked.by visited.called;
             told = told ∙ walked.by.told;
@@ -216,14 +218,15 @@ module _ {D E : Type 0} (state : D → DiskState) (faults : D → ℕ) (files : 
     step_by numbered false settled passes = step_other settled passes.0 passes.1.0
 
     -- no event more
-    kept_by : KeepsList state mid new → (last : Option Visit) → AreVisits files failures (places_of old.rows) (with_last walked.done last) store left
+    kept_by : KeepsList state mid new → (last : Option Visit) → (IsTold (state old.disk) → IsPassDoubt old.rows old.doubt new.doubt walked.done last) → AreVisits files failures (places_of old.rows) (with_last walked.done last) store left
         → calls left ≡ with_calls (calls store) (pass_calls (places_of old.rows) (with_last walked.done last))
         → WalkedBy state faults files failures calls old new store left walked.done last
-    kept_by none last visited called = record {
+    kept_by none last doubt visited called = record {
       rows = none.rows ∙ walked.by.rows;
       count = none.count ∙ walked.by.count;
       used = none.used ∙ walked.by.used;
       listed = λ is. none.events ∙ walked.by.listed is;
+      doubt = doubt;
       visited = visited;
       called = called;
       told = told ∙ walked.by.told;
@@ -242,6 +245,7 @@ module _ {D E : Type 0} (state : D → DiskState) (faults : D → ℕ) (files : 
       count = by.count;
       used = by.used;
       listed = by.listed;
+      doubt = by.doubt;
       visited = by.visited;
       called = by.called;
       told = by.told;
@@ -277,14 +281,18 @@ module _ {D E : Type 0} (state : D → DiskState) (faults : D → ℕ) (files : 
     stop_by fault true waits (inl visited) =
         let came : Visit = visited.came in
         let next : slice_get (waiting_of old.rows) (length walked.done) ≡ Some row = next_of old place row walked.done walked.far at waits in
-        let answer : KeepsList state mid new × MissFault faults mid new fault = visited.answer in
+        let answer : KeepsList state mid new × MissFault faults mid new fault × (IsTold (state mid.disk) → (new.doubt ≡ None) ⊎ (new.doubt ≡ Some (event_of row.id came))) = visited.answer in
         passed_by (Some came) fault waits (miss_cause came fault answer.1)
-        (kept_by answer.0 (Some came) (visited_too old mid store s left row walked.done came next walked.by visited.visited)
+        (kept_by answer.0 (Some came)
+        (λ is. ⊎_elim (λ no. inl no) (λ doubted. inr (row, next, doubted)) (answer.2 (walked.by.told ∙ is)))
+        (visited_too old mid store s left row walked.done came next walked.by visited.visited)
         (called_too old mid store s left row walked.done came next walked.by visited.called))
     stop_by fault true waits (inr skipped) =
         let same : skipped.fault ≡ fault = (let e : Err fault ≡ Err skipped.fault = skipped.is in cc) in
         passed_by None fault waits (subst (λ f. PassFault faults old new walked.done None f) same (stop_cause skipped.fault waits skipped.cause))
-        (kept_by skipped.keeps None (subst (λ e. AreVisits files failures (places_of old.rows) walked.done store e) (sym skipped.untouched) walked.by.visited)
+        (kept_by skipped.keeps None
+        (λ is. ⊎_elim (λ no. inl no) (λ same. ⊎_elim (λ no. inl (same ∙ no)) (λ still. inr (same ∙ still)) (walked.by.doubt is)) (skipped.doubt (walked.by.told ∙ is)))
+        (subst (λ e. AreVisits files failures (places_of old.rows) walked.done store e) (sym skipped.untouched) walked.by.visited)
         (ap calls skipped.untouched ∙ walked.by.called))
     stop_by fault false settled passes = let no : Err fault ≡ Ok tt = passes.1.1 in absurd cc
 
@@ -329,6 +337,7 @@ module _ {D E : Type 0} (state : D → DiskState) (faults : D → ℕ) (files : 
     count = walked.by.count;
     used = walked.by.used;
     listed = walked.by.listed;
+    doubt = walked.by.doubt;
     visited = walked.by.visited;
     called = walked.by.called;
     told = walked.by.told;

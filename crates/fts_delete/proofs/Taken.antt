@@ -1,13 +1,12 @@
 -- Rows that are numbered from 1 on: the row of an id stands at the place before it, and an event changes it there.
-use Rattle.std.proofs.Common.{◌≡◌, ◌≢◌, ◌⊎◌, inl, inr, refl, sym, ◌∙◌, ap, subst, ℕ, zero, suc, ◌+◌, ◌-◌, ◌<◌, ◌≤◌, ◌==◌, ◌&&◌, ◌||◌, Bool, true, false, nat_le, if◌then◌else◌, Option, Some, None, is_some, IsSome, List, [], ◌∷◌, ◌++◌, length, map, get_or, set, arith, append_assoc}
+use Rattle.std.proofs.Common.{◌≡◌, refl, sym, ◌∙◌, ap, ℕ, zero, suc, ◌+◌, ◌-◌, ◌<◌, ◌≤◌, ◌==◌, ◌&&◌, ◌||◌, Bool, true, false, nat_le, if◌then◌else◌, Option, Some, None, is_some, IsSome, List, [], ◌∷◌, ◌++◌, length, get_or, set, arith, append_assoc}
 use Rattle.std.specs.Prelude.{slice_get}
 use Rattle.std.specs.List.{list_any}
 use Rattle.std.proofs.lemmas.Bool.{leb-true}
 use Rattle.fts_tables.specs.declared.places.Place.{Place}
-use Rattle.fts_delete.specs.declared.events.Event.TheVariants.{Ask, Gone, Missed}
+use Rattle.fts_delete.specs.declared.events.Event.TheVariants.{Ask}
 use Rattle.fts_delete.specs.declared.rows.DeleteRow.{DeleteRow}
-use Rattle.fts_delete.specs.declared.rows.DeleteState.TheVariants.{Waiting}
-use Rattle.fts_delete.specs.Rows.{asked_row, asked_rows, is_waiting, waits_as, with_row, changed, rows_after, most_rows, gone_row, missed_row}
+use Rattle.fts_delete.specs.Rows.{asked_row, asked_rows, is_waiting, waits_as, with_row, changed, rows_after, most_rows}
 use Rattle.fts_delete.specs.Laws.{AreNumbered, IsCounted, AreCounted, AreFormed}
 use Rattle.fts_delete.proofs.Passing.{not_meant, meant, unchanged, same_above}
 use Rattle.fts_delete.proofs.Forming.{waiting_counted}

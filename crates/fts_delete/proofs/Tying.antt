@@ -1,12 +1,10 @@
 -- Rows tied to their journal: what that says over a disk that tells its contents.
-use Rattle.std.proofs.Common.{◌≡◌, ◌⊎◌, ℕ, refl, ap, sym, ◌∙◌, Bool, true, false, List, [], length, Option, Some, option_map, option_and_then, is_some}
+use Rattle.std.proofs.Common.{◌≡◌, ◌⊎◌, ℕ, refl, ap, ◌∙◌, Bool, true, false, List, [], Option, option_and_then}
 use Rattle.fts_disk.specs.Disk.{DiskState, IsTold}
 use Rattle.fts_journal.specs.Journal.{JournalData}
 use Rattle.fts_delete.specs.declared.events.Event.{Event}
 use Rattle.fts_delete.specs.declared.rows.DeleteRow.{DeleteRow}
-use Rattle.fts_delete.specs.Rows.{AreRowsOf}
-use Rattle.fts_delete.specs.Spelling.{body_of, bodies_of}
-use Rattle.fts_delete.specs.Journals.{DeletesData, HoldsEvents, IsDeletes, StandsFor, with_doubt}
+use Rattle.fts_delete.specs.Journals.{IsDeletes, StandsFor, with_doubt}
 use Rattle.fts_delete.specs.Views.{events_in, read_of, list_if, option_if, deletes_of, IsHeld, IsTied}
 use Rattle.fts_delete.proofs.Lists.{events_again, doubt_again, proper_list, image_of}
 

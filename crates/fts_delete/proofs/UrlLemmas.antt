@@ -5,7 +5,7 @@ use Rattle.fts_joburl.specs.declared.fault.UrlFault.{UrlFault}
 use Rattle.fts_tables.specs.FirstFault.{unless}
 use Rattle.fts_delete.specs.declared.document.DeleteDocFault.{DeleteDocFault}
 use Rattle.fts_delete.specs.declared.document.DeleteDocFault.TheVariants.{BadUrl}
-use Rattle.fts_delete.specs.Documents.{Reads, bad_url, place_read, places_of, fault_or, first_url_fault, url_refused, places_read}
+use Rattle.fts_delete.specs.Documents.{Reads, bad_url, place_read, places_of, first_url_fault, url_refused, places_read}
 
 -- some items before those of a result
 abbrev pub extend : {T : Type 0} → List T → Result (List T) DeleteDocFault → Result (List T) DeleteDocFault

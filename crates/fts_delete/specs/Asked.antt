@@ -1,9 +1,8 @@
 -- Asking for places: all of them in one event, or none.
-use Rattle.std.specs.Prelude.{◌≡◌, ◌⊎◌, ℕ, ◌+◌, ◌≤◌, Bool, false, nat_lt, if◌then◌else◌, Some, None, List, [], ◌∷◌, ◌++◌, length, Result, Ok, Err}
+use Rattle.std.specs.Prelude.{◌≡◌, ◌⊎◌, ℕ, ◌+◌, ◌≤◌, false, nat_lt, if◌then◌else◌, Some, None, List, [], ◌∷◌, ◌++◌, length, Result, Ok, Err}
 use Rattle.fts_tables.specs.Counts.{Rose}
 use Rattle.fts_tables.specs.declared.places.Place.{Place}
 use Rattle.fts_disk.specs.Disk.{DiskState, IsTold, LeavesOnly}
-use Rattle.fts_delete.specs.declared.events.Event.{Event}
 use Rattle.fts_delete.specs.declared.events.Event.TheVariants.{Ask}
 use Rattle.fts_delete.specs.declared.fault.DeleteFault.{DeleteFault}
 use Rattle.fts_delete.specs.declared.fault.DeleteFault.TheVariants.{Damaged, DiskFailed, JournalFull, RowsFull, Memory}

@@ -1,6 +1,6 @@
 -- The document that asks for deletions: an object whose `delete` is a list of 1 to 200 URLs of files on endpoints of the settings.
 -- JSON (RFC 8259) is what `serde_json` reads, a URL what `fts_joburl` reads.
-use Rattle.std.specs.Prelude.{◌≡◌, ◌⊎◌, ℕ, Bool, not, ◌==◌, nat_lt, if◌then◌else◌, Option, Some, None, option_map, option_and_then, is_some, Result, Ok, Err, List, [], ◌∷◌, length, codes}
+use Rattle.std.specs.Prelude.{◌≡◌, ◌⊎◌, ℕ, ◌≤◌, Bool, not, ◌==◌, nat_lt, if◌then◌else◌, Option, Some, None, option_map, option_and_then, is_some, Result, Ok, Err, List, [], ◌∷◌, length, codes}
 use Rattle.std.specs.List.{list_any, list_all, filter_map}
 use Rattle.std.specs.Option.{option_map_or}
 use Rattle.std.specs.Str.{is_utf8}
@@ -127,3 +127,11 @@ rule_of NotText = 5
 rule_of (BadUrl fault) = 6
 rule_of UnknownEndpoint = 7
 rule_of Memory = 0
+
+-- the law: a document that is accepted asks for 1 to so many places
+pub record AsksForSome (places : List Place) : Type 0 where
+  pub some : 1 ≤ length places
+  pub most : length places ≤ most_asked
+
+abbrev pub AskedAreSome : Type 0
+AskedAreSome = (body : List ℕ) (settings : SettingsData) (places : List Place) → deletes_in body settings ≡ Ok places → AsksForSome places

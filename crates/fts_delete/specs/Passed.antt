@@ -1,5 +1,5 @@
 -- A pass over a store and a journal: which visits were made, which events came of them, and what both hold then.
-use Rattle.std.specs.Prelude.{◌≡◌, ℕ, ◌+◌, ◌≤◌, ◌<◌, true, false, Option, Some, None, List, [], ◌∷◌, ◌++◌, map, length, slice_get, Result, Ok, Err}
+use Rattle.std.specs.Prelude.{◌≡◌, ◌⊎◌, ℕ, ◌+◌, ◌≤◌, ◌<◌, true, false, Option, Some, None, List, [], ◌∷◌, ◌++◌, map, length, slice_get, Result, Ok, Err}
 use Rattle.fts_tables.specs.Counts.{Rose}
 use Rattle.fts_tables.specs.Places.{is_same_place}
 use Rattle.fts_tables.specs.declared.places.Place.{Place}
@@ -48,6 +48,12 @@ PassFault faults old new done last Memory = Unit {0}
 PassFault faults old new done last (Damaged offset) = ⊥
 PassFault faults old new done last (RowsFull rows) = ⊥
 
+-- what may be in doubt behind a pass: nothing, what was before, or the event of a visit that was not recorded
+abbrev pub IsPassDoubt : List DeleteRow → Option Event → Option Event → List Visit → Option Visit → Type 0
+IsPassDoubt rows before now done None = (now ≡ None) ⊎ (now ≡ before)
+IsPassDoubt rows before now done (Some came) =
+    (now ≡ None) ⊎ ((row : DeleteRow) × (slice_get (waiting_of rows) (length done) ≡ Some row) × (now ≡ Some (event_of row.id came)))
+
 -- where a pass ended: each row that waited was visited, or why not
 abbrev pub PassEnds : {D : Type 0} → (D → ℕ) → DeletesData D → DeletesData D → List Visit → Option Visit → Result (Unit {0}) DeleteFault → Type 0
 PassEnds faults old new done last (Ok all) = (length done ≡ length (waiting_of old.rows)) × (last ≡ None)
@@ -64,6 +70,7 @@ pub record Passed {D E : Type 0} (state : D → DiskState) (faults : D → ℕ) 
   pub count : new.count ≡ old.count + length done
   pub used : new.used ≡ used_after old.used (events_of old.rows done)
   pub listed : IsTold (state old.disk) → new.events ≡ old.events ++ events_of old.rows done
+  pub doubt : IsTold (state old.disk) → IsPassDoubt old.rows old.doubt new.doubt done last
   pub visited : AreVisits files failures (places_of old.rows) (with_last done last) store left
   pub called : calls left ≡ with_calls (calls store) (pass_calls (places_of old.rows) (with_last done last))
   pub told : (state new.disk).told ≡ (state old.disk).told

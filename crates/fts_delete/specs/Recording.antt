@@ -1,5 +1,5 @@
 -- Recording one event: first room is looked for and a doubt ended, then the event is appended and the rows move on.
-use Rattle.std.specs.Prelude.{◌≡◌, ◌⊎◌, ℕ, ◌+◌, ◌≤◌, ◌<◌, Bool, true, false, nat_le, Some, None, List, [], ◌∷◌, ◌++◌, length, Result, Ok, Err}
+use Rattle.std.specs.Prelude.{◌≡◌, ◌⊎◌, ℕ, ◌+◌, ◌≤◌, Bool, true, false, nat_le, Some, None, List, [], ◌∷◌, ◌++◌, length, Result, Ok, Err}
 use Rattle.fts_tables.specs.Counts.{Rose}
 use Rattle.fts_tables.specs.declared.limits.TheConstants.{JOURNAL_END}
 use Rattle.fts_disk.specs.Disk.{DiskState, IsTold, LeavesOnly}

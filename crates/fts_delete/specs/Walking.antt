@@ -1,5 +1,5 @@
 -- A pass as a walk over the rows: each row that waits is made ready for, visited and recorded before the next one is looked at.
-use Rattle.std.specs.Prelude.{◌≡◌, ◌⊎◌, ℕ, ◌+◌, ◌≤◌, ◌<◌, Bool, true, false, if◌then◌else◌, Option, Some, None, List, [], ◌∷◌, ◌++◌, length, take, Result, Ok, Err}
+use Rattle.std.specs.Prelude.{◌≡◌, ◌⊎◌, ℕ, ◌+◌, ◌≤◌, Bool, true, false, Option, Some, None, List, ◌++◌, length, take, Result, Ok, Err}
 use Rattle.fts_tables.specs.Counts.{Rose}
 use Rattle.fts_disk.specs.Disk.{DiskState, IsTold}
 use Rattle.fts_store.specs.Calls.{Call}
@@ -13,7 +13,7 @@ use Rattle.fts_delete.specs.Rows.{is_waiting}
 use Rattle.fts_delete.specs.Visits.{event_of}
 use Rattle.fts_delete.specs.Passes.{waiting_of, events_of, rows_passed}
 use Rattle.fts_delete.specs.Looks.{calls_of, with_calls, Visits}
-use Rattle.fts_delete.specs.Passed.{AreVisits, places_of, pass_calls, with_last}
+use Rattle.fts_delete.specs.Passed.{AreVisits, places_of, pass_calls, with_last, IsPassDoubt}
 use Rattle.fts_delete.specs.Recording.{fits, KeepsList, AddsOne}
 use Rattle.fts_delete.specs.Journals.{DeletesData, used_after, KeepsImages}
 
@@ -37,6 +37,7 @@ StopFault faults old new row (RowsFull rows) = ⊥
 abbrev pub RecordAnswer : {D : Type 0} → (D → DiskState) → (D → ℕ) → DeletesData D → DeletesData D → Event → Result (Unit {0}) DeleteFault → Type 0
 RecordAnswer state faults old new event (Ok done) = AddsOne state old new event
 RecordAnswer state faults old new event (Err fault) = KeepsList state old new × MissFault faults old new fault
+    × (IsTold (state old.disk) → (new.doubt ≡ None) ⊎ (new.doubt ≡ Some event))
 
 -- a row was visited: the calls of the visit were made, and nothing else
 pub record IsVisited {D E : Type 0} (state : D → DiskState) (faults : D → ℕ) (files : E → StoreState) (failures : E → ℕ) (calls : E → Option (List Call))
@@ -54,6 +55,7 @@ pub record IsSkipped {D E : Type 0} (state : D → DiskState) (faults : D → �
   pub is : result ≡ Err fault
   pub keeps : KeepsList state old new
   pub cause : StopFault faults old new row fault
+  pub doubt : IsTold (state old.disk) → (new.doubt ≡ None) ⊎ (new.doubt ≡ old.doubt)
 
 -- a row of a pass: one that waits is visited, or the pass stops before it; any other is passed over
 abbrev pub PassesBy : {D E : Type 0} → (D → DiskState) → (D → ℕ) → (E → StoreState) → (E → ℕ) → (E → Option (List Call))
@@ -85,6 +87,7 @@ pub record WalkedBy {D E : Type 0} (state : D → DiskState) (faults : D → ℕ
   pub count : new.count ≡ old.count + length done
   pub used : new.used ≡ used_after old.used (events_of old.rows done)
   pub listed : IsTold (state old.disk) → new.events ≡ old.events ++ events_of old.rows done
+  pub doubt : IsTold (state old.disk) → IsPassDoubt old.rows old.doubt new.doubt done last
   pub visited : AreVisits files failures (places_of old.rows) (with_last done last) store left
   pub called : calls left ≡ with_calls (calls store) (pass_calls (places_of old.rows) (with_last done last))
   pub told : (state new.disk).told ≡ (state old.disk).told

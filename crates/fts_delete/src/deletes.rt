@@ -102,6 +102,13 @@ impl<D: Disk> Deletes<D> {
         &self.rows
     }
 
+    /// The rows are the fold of the list, and each image of a told disk stands for the list, or for it with the event in doubt.
+    pub fn standing(&self)
+        ensures { IsDeletes D.state self.now }
+    {
+        let _rows = &self.rows;
+    }
+
     /// The offset of the journal's last gate, in bytes.
     pub fn used(&self) -> u64
         ensures { result ≡ self.now.used }
@@ -111,7 +118,8 @@ impl<D: Disk> Deletes<D> {
 
     /// The disk, given back.
     pub fn close(self) -> D
-        ensures { result ≡ self.disk }
+        ensures disk { result ≡ self.disk }
+        ensures kept { IsDeletes D.state self }
     {
         let Deletes {
             alloc: _,

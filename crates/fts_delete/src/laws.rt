@@ -3,6 +3,7 @@
 ghost use Rattle.std.specs.Prelude.{List, ℕ, ◌≤◌, length};
 ghost use Rattle.fts_tables.specs.declared.limits.TheConstants.{MAX_BODY_BYTES};
 ghost use Rattle.fts_delete.specs.declared.events.Event.{Event};
+ghost use Rattle.fts_delete.specs.Documents.{AskedAreSome};
 ghost use Rattle.fts_delete.specs.Journals.{DamageIsOne};
 ghost use Rattle.fts_delete.specs.Laws.{BeginningIsLegal, RowsMoveOn, LegalRowsAreFormed, PassIsLegal, PassNamesEachOnce};
 ghost use Rattle.fts_delete.specs.Passed.{PassLeavesFiles};
@@ -42,6 +43,11 @@ pub fn a_pass_names_each_once()
 /// Over a store that tells its files a pass leaves no file where it saw none, makes none, and changes none at another place.
 pub fn a_pass_leaves_files<E: Store>()
     ensures { PassLeavesFiles E.state E.faults }
+{}
+
+/// A document that is accepted asks for 1 to `MAX_ASKED` places.
+pub fn a_document_asks_for_some()
+    ensures { AskedAreSome }
 {}
 
 /// An event is read back from its bytes, and bytes that are read as an event are its one spelling.

@@ -1,5 +1,5 @@
 -- The rules one after the other, and the places of a document that breaks none.
-use Rattle.std.proofs.Common.{◌≡◌, ◌≤◌, Some, None, Ok, Err, false, true, inl, inr, refl, sym, ap, subst, ◌∙◌, rules, arith, length, nat_lt, ◌==◌, map}
+use Rattle.std.proofs.Common.{◌≡◌, Ok, Err, false, true, inl, sym, ap, subst, ◌∙◌, rules, arith, length, nat_lt, ◌==◌, map}
 use Rattle.std.proofs.lemmas.Bool.{lt-ltb}
 use Rattle.std.proofs.lemmas.List.{length-map}
 use Rattle.std.specs.List.{list_any, list_all}

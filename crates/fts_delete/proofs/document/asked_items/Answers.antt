@@ -1,5 +1,5 @@
 -- The list that was found, and none.
-use Rattle.std.proofs.Common.{◌≡◌, Some, None, sym, map, refl, ap, ◌∙◌, codes}
+use Rattle.std.proofs.Common.{◌≡◌, Some, sym, map, codes}
 use Rattle.serde_json.specs.Find.{get, as_array}
 use Rattle.serde_json.specs.View.{view, items_view}
 use Rattle.fts_delete.specs.Documents.{asked_items}

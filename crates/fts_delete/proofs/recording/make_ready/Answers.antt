@@ -1,10 +1,10 @@
 -- No room, a doubt that couldn't be ended, and a journal that is ready.
-use Rattle.std.proofs.Common.{◌≡◌, false, true, rules, arith, sym, subst, Err, ap, ◌∙◌}
+use Rattle.std.proofs.Common.{◌≡◌, false, true, rules, arith, sym, subst, Err}
 use Rattle.fts_delete.specs.Faults.{fault_of}
 use Rattle.fts_delete.specs.declared.fault.DeleteFault.TheVariants.{JournalFull}
 use Rattle.fts_delete.specs.Views.{deletes_of}
 use Rattle.fts_delete.specs.Recording.{has_room, Readied}
-use Rattle.fts_delete.proofs.Exits.{Settles, no_room_at, room_at, readied_full, readied_not, readied, unsettled_tied, settled_tied}
+use Rattle.fts_delete.proofs.Exits.{no_room_at, room_at, readied_full, readied_not, readied, unsettled_tied, settled_tied}
 use Rattle.fts_delete.proofs.recording.make_ready.Goals as goal
 
 pub returns-then-used-size-gt-JOURNAL_END-clause-readied : goal.returns-then-used-size-gt-JOURNAL_END-clause-readied

@@ -1,5 +1,5 @@
 -- The row of the event's id is changed at its place.
-use Rattle.std.proofs.Common.{◌≡◌, Some, IsSome, sym, subst, ap, ◌∙◌, rules, arith, ◌-◌, ◌≤◌, get_or}
+use Rattle.std.proofs.Common.{IsSome, sym, subst, ap, ◌∙◌, arith, ◌≤◌}
 use Rattle.fts_delete.specs.declared.rows.DeleteRow.{DeleteRow}
 use Rattle.fts_delete.specs.declared.events.Event.TheVariants.{Gone, Missed}
 use Rattle.fts_delete.specs.Rows.{rows_after, gone_row, missed_row}

@@ -1,5 +1,5 @@
 -- Images since any opening of the list.
-use Rattle.std.proofs.Common.{◌≡◌, subst}
+use Rattle.std.proofs.Common.{subst}
 use Rattle.fts_delete.specs.Journals.{KeepsImages}
 use Rattle.fts_delete.specs.Views.{deletes_of}
 use Rattle.fts_delete.proofs.Tying.{kept_deletes}

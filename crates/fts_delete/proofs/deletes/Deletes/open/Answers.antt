@@ -1,7 +1,7 @@
 -- The exits of opening: no journal, bodies that weren't folded, and the rows of those that were.
 use Rattle.std.proofs.Common.{sym, subst, Err}
 use Rattle.fts_delete.specs.Opened.{Opened}
-use Rattle.fts_delete.proofs.Starting.{unopened, unfolded, opened_tied, opened}
+use Rattle.fts_delete.proofs.Starting.{unopened, unfolded, opened}
 use Rattle.fts_delete.proofs.deletes.Deletes.open.Goals as goal
 
 pub returns-in-Err-clause-err : goal.returns-in-Err-clause-err
