@@ -1,0 +1,5 @@
+pub mod Ends
+pub mod Notes
+pub mod Told
+pub mod Asking
+pub mod Runs
