@@ -5,13 +5,15 @@
     journal_gates.py JOURNAL --cut OUT           writes what stands before the first damage, and a closed gate
     journal_gates.py JOURNAL --close OFFSET OUT  writes all of it, with the gate closed of the entry that has this offset
     journal_gates.py JOURNAL --open OFFSET OUT   writes all of it, with this gate open: one that stands closed before open ones
+    journal_gates.py JOURNAL --deletes ..        the same of a journal of deletions, `fts.deletes`, whose entries are events
 
 Each line of the list is an offset, how many bytes it is to the next line, and what they are. The last lines say how many entries are whole, where
-the last of them ends, and each damage. An entry is whole where each of its fields is; whether it is accepted `fts STAND show` says alone.
+the last of them ends, and each damage. An entry is whole where each of its fields is; whether it is accepted `fts STAND show` says alone, or
+of deletions `fts STAND delete`.
 JOURNAL is only read, and no file that is there is written over. It is read piece by piece, so a great one needs no more memory than a small one.
 An entry is a body that a service reads; whether a service would append it at its place, as no submission behind a journal's first limit, is no
 question here. Python's standard library is enough. The formats are those of
-docs/DEFINITIONS.md, "Journal" and "Entries"; which copy is wanted after which damage stands in docs/OPERATING.md, "What damage looks like".
+docs/DEFINITIONS.md, "Journal", "Entries" and "Deletions"; which copy is wanted after which damage stands in docs/OPERATING.md, "What damage looks like".
 The status is 0 where there is no damage, or OUT is written; 1 where there is damage; 2 where nothing could be read or written.
 """
 import argparse
@@ -36,6 +38,9 @@ NAME = re.compile(rb"(?=.{1,1024}\Z)[a-z][a-z0-9+.-]*://[!-$&-.0-~]+")
 PATH = re.compile(rb"(?=.{1,1024}\Z)(?!\.fts(?:/|\Z))%b(?:/%b)*" % (SEGMENT, SEGMENT))
 LABEL = re.compile(rb".{1,255}", re.DOTALL)
 
+# What an entry begins with: of a journal of transfers who wrote it, and of deletions its kind alone.
+TRANSFERS, DELETIONS = ("u32", "command"), ("event",)
+
 Entry = collections.namedtuple("Entry", "gate end command fault")
 Piece = collections.namedtuple("Piece", "offset length kind")
 
@@ -48,10 +53,10 @@ class Refused(Exception):
 
 
 class Content:
-    """The bytes of a file that a service reads: those below the journal's end. One window of them is kept."""
+    """The bytes of a file that a service reads: those below the journal's end. One window of them is kept. An entry begins with these fields."""
 
-    def __init__(self, file):
-        self.file = file
+    def __init__(self, file, first=TRANSFERS):
+        self.file, self.first = file, first
         self.size = file.seek(0, os.SEEK_END)
         self.start, self.window = 0, b""
 
@@ -164,12 +169,14 @@ COMMANDS = {
     10: ("expire", "u64"),
     11: ("submit with hours", "u64 hours kind strategy option priority retries delay flag files"),
 }
+EVENTS = {1: ("ask", "places"), 2: ("gone", "u32"), 3: ("missed", "u32")}
 OUTCOMES = {0: "u64 digest", 1: "", 2: "", 3: "u64", 4: "digest", 5: "u64", 6: "", 7: ""}
 LISTS = {
     "endpoints": "name limit limit",
     "links": "label name name limit",
     "activities": "label weight",
     "files": "u32 name path name path size option label",
+    "places": "name path",
 }
 FIELDS = {
     "u32": number(0, 2**32 - 1),
@@ -186,6 +193,7 @@ FIELDS = {
     "links": number(0, 1_024),
     "activities": number(0, 64),
     "files": number(1, 200),
+    "places": number(1, 200),
     "name": text(NAME),
     "path": text(PATH),
     "label": text(LABEL),
@@ -193,6 +201,7 @@ FIELDS = {
     "strategy": one_of((0, 1)),
     "flag": one_of((0, 1)),
     "command": one_of(COMMANDS),
+    "event": one_of(EVENTS),
     "outcome": one_of(OUTCOMES),
     "option": option(16),
     "digest": some(16),
@@ -200,25 +209,28 @@ FIELDS = {
 }
 
 
+KINDS = {"command": COMMANDS, "event": EVENTS}
+
+
 def fields_behind(field, value):
-    """The fields that follow because of this one: a command's, an outcome's, those of a list's items."""
-    if field == "command":
-        return COMMANDS[value][1].split()
+    """The fields that follow because of this one: a command's, an event's, an outcome's, those of a list's items."""
+    if field in KINDS:
+        return KINDS[field][value][1].split()
     if field == "outcome":
         return OUTCOMES[value].split()
     return LISTS[field].split() * value if field in LISTS else []
 
 
-def read_entry(body):
-    """The name of its command, and the place of the first field that is not spelled, or None where each is."""
-    command, fields, at = "no command", ["command", "u32"], 0
+def read_entry(body, first):
+    """The name of its command or event, and the place of the first field that is not spelled, or None where each is."""
+    command, fields, at = "no command", list(reversed(first)), 0
     while fields:
         field = fields.pop()
         found = FIELDS[field](body, at)
         if found is None:
             return command, at
         value, at = found
-        command = COMMANDS[value][0] if field == "command" else command
+        command = KINDS[field][value][0] if field in KINDS else command
         fields += reversed(fields_behind(field, value))
     return command, at if at < len(body) else None
 
@@ -244,7 +256,7 @@ def entry_at(content, gate):
     """What the whole body behind this gate is, whether the gate is open or not. A fault is told by its offset in the file."""
     start = gate + FRONT_BYTES
     end = start + int.from_bytes(content.piece(gate + 1, start), "little")
-    command, place = read_entry(content.piece(start, end))
+    command, place = read_entry(content.piece(start, end), content.first)
     return Entry(gate, end, command, None if place is None else start + place)
 
 
@@ -469,6 +481,7 @@ def copy_of(journal, words):
 def read_words():
     words = argparse.ArgumentParser(description=__doc__, formatter_class=argparse.RawDescriptionHelpFormatter)
     words.add_argument("journal", metavar="JOURNAL")
+    words.add_argument("--deletes", action="store_const", const=DELETIONS, default=TRANSFERS)
     copies = words.add_mutually_exclusive_group()
     copies.add_argument("--cut", metavar="OUT")
     copies.add_argument("--close", nargs=2, metavar=("OFFSET", "OUT"))
@@ -481,7 +494,7 @@ def main():
     words = read_words()
     try:
         with open(words.journal, "rb") as file:
-            journal = Journal(Content(file))
+            journal = Journal(Content(file, words.deletes))
             if not (words.cut or words.close or words.open):
                 return 0 if show(journal) else 1
             out, pieces, what = copy_of(journal, words)

@@ -186,14 +186,7 @@ fn link_for<'a>(rt: &'a HostRuntime, words: &[String]) -> TcpLink<&'a HostRuntim
     }
 }
 
-/// The disks of a stand: that of the service's journal, and that of the journal of deletions.
-#[derive(Drop)]
-struct Disks<D> {
-    journal: D,
-    deletes: D,
-}
-
-/// Runs the command over these settings, these disks and these hands, the system's streams and clock, and the ports of the machine.
+/// Runs the command over these settings, the disks of these two journals, these hands, the system's streams and clock, and the ports of the machine.
 fn run_over<
     F: Source + Drop,
     D: Disk + Send + Drop,
@@ -205,7 +198,8 @@ fn run_over<
     threads: &R,
     words: &[String],
     settings: F,
-    disks: Disks<D>,
+    journal: D,
+    deletes: D,
     stores: Vec<E>,
     doors: Vec<A>,
 ) -> Result<Ending, Memory>
@@ -219,8 +213,8 @@ where
         input: StdSource::new(rt.stdin()),
         output: StdSink::new(rt.stdout()),
         notes: StdSink::new(rt.stderr()),
-        disk: Some(disks.journal),
-        deletes: Some(disks.deletes),
+        disk: Some(journal),
+        deletes: Some(deletes),
         clock: SystemClock::new(rt),
         hands: hands_over(rt, stores)?,
         lanes: lanes_over(rt, doors)?,
@@ -270,13 +264,13 @@ fn run_in_memory<R: Threads + Wait + Sync>(
     let alloc = rt.alloc();
     let text = Vec::from_slice(alloc, STAND_SETTINGS.as_bytes())?;
     let settings = MemorySource::new(text, Vec::new(alloc));
-    let disks = Disks {
-        journal: MemoryDisk::new(alloc, Vec::new(alloc)),
-        deletes: MemoryDisk::new(alloc, Vec::new(alloc)),
-    };
+    let journal = MemoryDisk::new(alloc, Vec::new(alloc));
+    let deletes = MemoryDisk::new(alloc, Vec::new(alloc));
     let stores = stand_stores(rt)?;
     let doors = closed_doors(rt)?;
-    run_over(rt, threads, words, settings, disks, stores, doors)
+    run_over(
+        rt, threads, words, settings, journal, deletes, stores, doors,
+    )
 }
 
 /// A store in a folder of files, for what the words ask for: deletions, or copies.
@@ -332,16 +326,16 @@ fn run_in_folder<R: Threads + Wait + Sync>(
     let deletes = format!(in alloc; "{folder}/fts.deletes")?;
     let mut stores = folder_stores(rt, words, folder)?;
     let settings = StdSource::new(OpenedFile::open(rt, settings.as_str()));
-    let mut disks = Disks {
-        journal: disk_for(rt, words, journal.as_str()),
-        deletes: deletes_for(rt, words, deletes.as_str()),
-    };
-    if asks_service(words) && disks.journal.len().is_ok() {
+    let mut journal = disk_for(rt, words, journal.as_str());
+    let deletes = deletes_for(rt, words, deletes.as_str());
+    if asks_service(words) && journal.len().is_ok() {
         sweep_parts(rt, folder)?;
         meet_endpoints(&mut stores)?;
     }
     let doors = closed_doors(rt)?;
-    run_over(rt, threads, words, settings, disks, stores, doors)
+    run_over(
+        rt, threads, words, settings, journal, deletes, stores, doors,
+    )
 }
 
 /// Whether a service is asked for.

@@ -3,9 +3,7 @@
 //! and in `stdin` and `stdout` beside the program.
 use crate::accepting::{Listens, next_line};
 use crate::outside::{OpenedFile, PcgWords, SystemClock};
-use crate::{
-    Disks, STAND_SETTINGS, closed_doors, hands_over, run_in_folder, run_over, stand_stores,
-};
+use crate::{STAND_SETTINGS, closed_doors, hands_over, run_in_folder, run_over, stand_stores};
 use fts_disk::{FileDisk, MemoryDisk};
 use fts_tables::{Clock, Words};
 use fts_wire::StdSource;
@@ -112,10 +110,8 @@ fn status_over<R: Threads + Wait + Sync>(
         threads,
         &words,
         StdSource::new(OpenedFile::of(file)),
-        Disks {
-            journal: MemoryDisk::new(rt.alloc(), Vec::new(rt.alloc())),
-            deletes: MemoryDisk::new(rt.alloc(), Vec::new(rt.alloc())),
-        },
+        MemoryDisk::new(rt.alloc(), Vec::new(rt.alloc())),
+        MemoryDisk::new(rt.alloc(), Vec::new(rt.alloc())),
         stand_stores(rt)?,
         closed_doors(rt)?,
     )?;

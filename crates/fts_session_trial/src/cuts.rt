@@ -4,7 +4,7 @@
 //! The first of them is the example for users, `examples/two-submissions.http` and its reply, byte for byte.
 ghost use Rattle.std.specs.Prelude.{◌≤◌, length};
 
-use crate::stand::{Ended, SETTINGS, beside_deletes, count_row, hands_with, make_given, run_words};
+use crate::stand::{Ended, SETTINGS, count_row, empty_disk, hands_with, make_given, run_words};
 use fts_disk::MemoryDisk;
 use fts_store::MemoryStore;
 use fts_wire::{Source, SourceFailed};
@@ -119,7 +119,8 @@ fn is_answered(alloc: Global, connection: &Connection, cut: usize) -> io::Result
         alloc,
         &["session"],
         make_given(alloc, SETTINGS, input)?,
-        beside_deletes(alloc, MemoryDisk::new(alloc, Vec::new(alloc))),
+        MemoryDisk::new(alloc, Vec::new(alloc)),
+        empty_disk(alloc),
         hands_with(alloc, &["data/f1"], Vec::new(alloc))?,
     )?;
     let ends = ends_of(alloc, &ended)?;

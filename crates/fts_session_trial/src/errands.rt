@@ -5,8 +5,7 @@ ghost use Rattle.std.specs.Prelude.{◌≡◌, false, IfOk};
 ghost use Rattle.fts_client.specs.MemoryLinks.{has_failed};
 
 use crate::stand::{
-    Given, SETTINGS, beside_deletes, count_row, hands_with, make_given, no_memory, run_words,
-    source,
+    Given, SETTINGS, count_row, empty_disk, hands_with, make_given, no_memory, run_words, source,
 };
 use fts_client::MemoryLink;
 use fts_disk::MemoryDisk;
@@ -241,7 +240,7 @@ fn is_wanted(alloc: Global, row: &Row) -> io::Result<bool> {
     };
     let disk = MemoryDisk::new(alloc, Vec::new(alloc));
     let hands = hands_with(alloc, &["data/f1"], Vec::new(alloc))?;
-    let ended = run_words(alloc, row.words, given, beside_deletes(alloc, disk), hands)?;
+    let ended = run_words(alloc, row.words, given, disk, empty_disk(alloc), hands)?;
     Ok(
         ended.ending.status == row.status
             && ended.output.bytes() == row.output.as_bytes()

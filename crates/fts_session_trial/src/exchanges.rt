@@ -1,6 +1,6 @@
 //! Exchanges over a folder: the requests of `NAME.http`, the replies of `NAME.reply.http`, byte for byte, and in `NAME.after` the status of the run
 //! and which file of the grid is then equal to which, or is not there. Each has a new folder with the settings of `fts.toml` and the same sources.
-use crate::stand::{Disks, hands_over, no_memory, session};
+use crate::stand::{hands_over, no_memory, session};
 use fts_disk::{Disk, FileDisk};
 use fts_files::SystemFiles;
 use fts_store::{FolderStore, Store};
@@ -144,7 +144,8 @@ fn stores(rt: &HostRuntime) -> io::Result<Vec<FolderStore<SystemFiles<&HostRunti
 fn answered<D: Disk + Drop, E: Store + Drop>(
     rt: &HostRuntime,
     name: &str,
-    disks: Disks<D>,
+    disk: D,
+    deletes: D,
     stores: Vec<E>,
 ) -> io::Result<(u8, bool)> {
     let alloc = rt.alloc();
@@ -154,7 +155,8 @@ fn answered<D: Disk + Drop, E: Store + Drop>(
         settings.as_slice(),
         MemorySource::new(read_part(rt, name, ".http")?, Vec::new(alloc)),
         MemorySink::new(alloc, Vec::new(alloc)),
-        disks,
+        disk,
+        deletes,
         hands_over(alloc, stores)?,
     )?;
     let reply = read_part(rt, name, ".reply.http")?;
@@ -166,11 +168,9 @@ fn answered<D: Disk + Drop, E: Store + Drop>(
 fn answered_in_folder(rt: &HostRuntime, name: &str) -> io::Result<(u8, bool)> {
     let journal = format!(in rt.alloc(); "{STAND}/fts.journal")?;
     let deletes = format!(in rt.alloc(); "{STAND}/fts.deletes")?;
-    let disks = Disks {
-        journal: FileDisk::open(rt, journal.as_str()),
-        deletes: FileDisk::view(rt, deletes.as_str()),
-    };
-    answered(rt, name, disks, stores(rt)?)
+    let journal = FileDisk::open(rt, journal.as_str());
+    let deletes = FileDisk::view(rt, deletes.as_str());
+    answered(rt, name, journal, deletes, stores(rt)?)
 }
 
 /// Plays an exchange in a folder of its own.

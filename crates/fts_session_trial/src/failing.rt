@@ -3,7 +3,7 @@
 //! What a failed call of the disk leaves in doubt is tried with its gate closed and with it open.
 ghost use Rattle.std.specs.Prelude.{◌≡◌, length, IfOk};
 
-use crate::stand::{SETTINGS, StillHand, beside_deletes, hands_with, no_memory, session};
+use crate::stand::{SETTINGS, StillHand, empty_disk, hands_with, no_memory, session};
 use crate::wanted::{
     ENDS, ENTRIES, Entry, INPUT, INPUT_WITH_RETRY, NOT_MADE, NOT_WRITTEN, NOTHING_READ, READ,
     READS, REPLIES, REPLIES_WITH_RETRY, START, STORE, STORE_CALLS, STORE_WITH_RETRY,
@@ -136,7 +136,8 @@ fn play(
         SETTINGS.as_bytes(),
         source(alloc, input, read)?,
         MemorySink::new(alloc, [write].to_vec(alloc)?),
-        beside_deletes(alloc, MemoryDisk::new(alloc, disk)),
+        MemoryDisk::new(alloc, disk),
+        empty_disk(alloc),
         hands(alloc, store)?,
     )?;
     let left = ended
@@ -150,7 +151,8 @@ fn play(
         SETTINGS.as_bytes(),
         MemorySource::new(Vec::new(alloc), Vec::new(alloc)),
         MemorySink::new(alloc, Vec::new(alloc)),
-        beside_deletes(alloc, MemoryDisk::holding(alloc, left, Vec::new(alloc))),
+        MemoryDisk::holding(alloc, left, Vec::new(alloc)),
+        empty_disk(alloc),
         ended.hands,
     )?;
     let line = line_of(alloc, first, next.ending)?;

@@ -2,8 +2,7 @@
 //! a damaged journal stops the run and stays. The list that a start leaves is written byte for byte, by the format of journals and entries; what `show`
 //! writes stands in `shown.txt`.
 use crate::stand::{
-    Ended, SETTINGS, beside_deletes, count_row, hands_with, make_given, no_memory, run_words,
-    source,
+    Ended, SETTINGS, count_row, empty_disk, hands_with, make_given, no_memory, run_words, source,
 };
 use fts_disk::MemoryDisk;
 use fts_store::{MemoryStore, Store};
@@ -58,17 +57,14 @@ const DAMAGED: &[u8] = b"FTS3JRN1\x01\x08\0\0\0\x03\x03\x80\xe2\xcf\xaa\x06\x01\
 /// A run over a disk and a store in memory.
 type Run = Ended<MemoryDisk, MemoryStore>;
 
-fn empty_disk(alloc: Global) -> MemoryDisk {
-    MemoryDisk::new(alloc, Vec::new(alloc))
-}
-
 /// A run of this command over a disk, with a store that has the file `data/f1`.
 fn run_over(alloc: Global, command: &str, disk: MemoryDisk, input: &[u8]) -> io::Result<Run> {
     run_words(
         alloc,
         &[command],
         make_given(alloc, SETTINGS, source(alloc, input)?)?,
-        beside_deletes(alloc, disk),
+        disk,
+        empty_disk(alloc),
         hands_with(alloc, &["data/f1"], Vec::new(alloc))?,
     )
 }

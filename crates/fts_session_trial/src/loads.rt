@@ -1,7 +1,7 @@
 //! Loads: what is seen where a call of the store or a write of its line fails, and which files a load leaves.
 //! The files of number 7 have the sizes that `acceptance/load.py` gives, a program of its own.
 use crate::stand::{
-    Ended, Given, SETTINGS, beside_deletes, count_row, hands_with, make_given, run_words, source,
+    Ended, Given, SETTINGS, count_row, empty_disk, hands_with, make_given, run_words, source,
 };
 use fts_disk::MemoryDisk;
 use fts_store::{MemoryStore, Store};
@@ -97,7 +97,8 @@ fn load(
         alloc,
         words,
         given,
-        beside_deletes(alloc, MemoryDisk::new(alloc, Vec::new(alloc))),
+        MemoryDisk::new(alloc, Vec::new(alloc)),
+        empty_disk(alloc),
         hands_with(alloc, &[], [call].to_vec(alloc)?)?,
     )
 }

@@ -2,7 +2,7 @@
 //! the line that is noted, or, where that can't be written, a part of it or none.
 use crate::journals::TWO;
 use crate::stand::{
-    Ended, Given, SETTINGS, beside_deletes, count_row, hands_with, make_given, run_words, source,
+    Ended, Given, SETTINGS, count_row, empty_disk, hands_with, make_given, run_words, source,
 };
 use fts_disk::MemoryDisk;
 use fts_store::MemoryStore;
@@ -101,7 +101,8 @@ fn run_under(
         alloc,
         words,
         given,
-        beside_deletes(alloc, MemoryDisk::new(alloc, Vec::new(alloc))),
+        MemoryDisk::new(alloc, Vec::new(alloc)),
+        empty_disk(alloc),
         hands_with(alloc, &["data/f1"], Vec::new(alloc))?,
     )
 }

@@ -186,19 +186,9 @@ pub fn no_link(alloc: Global) -> io::Result<MemoryLink> {
     }
 }
 
-/// The disks of a run: that of its journal, and that of its deletions.
-#[derive(Drop)]
-pub struct Disks<D> {
-    pub journal: D,
-    pub deletes: D,
-}
-
-/// A disk in memory beside an empty one for deletions.
-pub fn beside_deletes(alloc: Global, journal: MemoryDisk) -> Disks<MemoryDisk> {
-    Disks {
-        journal,
-        deletes: MemoryDisk::new(alloc, Vec::new(alloc)),
-    }
+/// An empty disk in memory, of which no call fails.
+pub fn empty_disk(alloc: Global) -> MemoryDisk {
+    MemoryDisk::new(alloc, Vec::new(alloc))
 }
 
 /// The words of a command line.
@@ -215,7 +205,8 @@ pub fn run_words<S: Source + Drop, D: Disk + Drop, E: Store + Drop>(
     alloc: Global,
     words: &[&str],
     given: Given<S>,
-    disks: Disks<D>,
+    disk: D,
+    deletes: D,
     hands: Vec<StillHand<E>>,
 ) -> io::Result<Ended<D, E>>
     requires { length hands.items ≡ 16 }
@@ -234,8 +225,8 @@ pub fn run_words<S: Source + Drop, D: Disk + Drop, E: Store + Drop>(
         input,
         output,
         notes,
-        disk: Some(disks.journal),
-        deletes: Some(disks.deletes),
+        disk: Some(disk),
+        deletes: Some(deletes),
         clock: clock(alloc)?,
         hands,
         lanes: lanes(alloc, clocks(alloc)?)?,
@@ -273,7 +264,8 @@ pub fn session<D: Disk + Drop, E: Store + Drop>(
     settings: &[u8],
     input: MemorySource,
     output: MemorySink,
-    disks: Disks<D>,
+    disk: D,
+    deletes: D,
     hands: Vec<StillHand<E>>,
 ) -> io::Result<Ended<D, E>>
     requires { length hands.items ≡ 16 }
@@ -286,5 +278,5 @@ pub fn session<D: Disk + Drop, E: Store + Drop>(
         notes: MemorySink::new(alloc, Vec::new(alloc)),
         link: no_link(alloc)?,
     };
-    run_words(alloc, &["session"], given, disks, hands)
+    run_words(alloc, &["session"], given, disk, deletes, hands)
 }

@@ -3,7 +3,7 @@
 //! entry has four calls: its body with a closed gate, a sync, its open gate, a sync. Only behind the third may it be there or not.
 //! A file that was moved and not reported is tried again by the next run, as its second attempt, which finds the destination.
 use crate::failing::hands;
-use crate::stand::{NOW, SETTINGS, beside_deletes, no_memory, session};
+use crate::stand::{NOW, SETTINGS, empty_disk, no_memory, session};
 use fts_disk::MemoryDisk;
 use fts_journal::Journal;
 use fts_keep::Keep;
@@ -135,7 +135,8 @@ fn disk_behind(alloc: Global, input: &str) -> io::Result<MemoryDisk> {
         SETTINGS.as_bytes(),
         MemorySource::new(input.as_bytes().to_vec(alloc)?, Vec::new(alloc)),
         MemorySink::new(alloc, Vec::new(alloc)),
-        beside_deletes(alloc, MemoryDisk::new(alloc, Vec::new(alloc))),
+        MemoryDisk::new(alloc, Vec::new(alloc)),
+        empty_disk(alloc),
         hands(alloc, Vec::new(alloc))?,
     )?;
     Ok(ended.disk)
@@ -187,7 +188,8 @@ fn ends_so(alloc: Global, input: &str, wanted: &str) -> io::Result<bool> {
         SETTINGS.as_bytes(),
         MemorySource::new(input.as_bytes().to_vec(alloc)?, Vec::new(alloc)),
         MemorySink::new(alloc, Vec::new(alloc)),
-        beside_deletes(alloc, MemoryDisk::new(alloc, Vec::new(alloc))),
+        MemoryDisk::new(alloc, Vec::new(alloc)),
+        empty_disk(alloc),
         hands(alloc, Vec::new(alloc))?,
     )?;
     // The report is the last entry, so the file was moved before its first call.
@@ -198,7 +200,8 @@ fn ends_so(alloc: Global, input: &str, wanted: &str) -> io::Result<bool> {
         SETTINGS.as_bytes(),
         MemorySource::new(LOOKS.as_bytes().to_vec(alloc)?, Vec::new(alloc)),
         MemorySink::new(alloc, Vec::new(alloc)),
-        beside_deletes(alloc, MemoryDisk::holding(alloc, left, Vec::new(alloc))),
+        MemoryDisk::holding(alloc, left, Vec::new(alloc)),
+        empty_disk(alloc),
         ended.hands,
     )?;
     Ok(next.ending.status == 0 && next.output.bytes().ends_with(wanted.as_bytes()))
