@@ -6,5 +6,5 @@ use Rattle.fts_submitting.proofs.querying.run_query.Goals as goal
 
 pub returns-clause-link : goal.returns-clause-link
 returns-clause-link g c = λ sixteen.
-    query_sixteen _ _ _ _ c.query-end.ensures.tries _ _ _ _ c.query-end.ensures.tried c.args.tries c.query-end.result c.tell-whole.result c.query-end.ensures.ends
+    query_sixteen _ _ _ _ c.query-end.ensures.tries _ _ _ _ c.query-end.ensures.tried _ c.query-end.result c.tell-whole.result c.query-end.ensures.ends
     (ap client_status (sym c.end_of_query.ensures) ∙ sixteen)

@@ -19,5 +19,5 @@ returns-clause-run g c = inr (record {
 
 pub returns-clause-link : goal.returns-clause-link
 returns-clause-link g c = λ sixteen.
-    submission_sixteen _ _ _ _ c.submit-end.ensures.tries _ _ _ _ c.submit-end.ensures.tried c.args.tries c.submit-end.result c.tell-whole.result c.submit-end.ensures.ends
+    submission_sixteen _ _ _ _ c.submit-end.ensures.tries _ _ _ _ c.submit-end.ensures.tried _ c.submit-end.result c.tell-whole.result c.submit-end.ensures.ends
     (ap client_status (sym c.end_of_submission.ensures) ∙ sixteen)
