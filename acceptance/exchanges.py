@@ -3,8 +3,8 @@
 
 acceptance/exchanges.py PROGRAM: PROGRAM is fts as it was built. For each NAME.http the replies are compared with NAME.reply.http, and with NAME.after the
 status of the process and the files of the grid: `DEST = SOURCE` for two that are equal, `DEST = nothing` for one that is not there. The moments are
-the machine's own: each submit_time, and each not_before but 0, is taken for the one that is written. crates/fts_session_trial plays the same files
-with a clock that stands still.
+the machine's own: each submit_time, each not_before but 0, and the moment within an entry of the journal that is shown, is taken for the one that
+is written. crates/fts_session_trial plays the same files with a clock that stands still.
 """
 import pathlib
 import re
@@ -21,6 +21,12 @@ SOURCES = {
     "https:,,b.example/kept": b"other",
 }
 MOMENT = re.compile(rb'("submit_time":|"not_before":)\d{10}')
+# In an entry of writer 0 it stands behind the byte of the command: five bytes, of which all but the last have their highest bit.
+ENTRY_MOMENT = re.compile(rb'("body":"00[0-9a-f]{2})(?:[89a-f][0-9a-f]){4}[0-7][0-9a-f]')
+
+
+def without_moments(replies):
+    return ENTRY_MOMENT.sub(rb"\1", MOMENT.sub(rb"\1", replies))
 
 
 def make_stand(stand):
@@ -46,7 +52,7 @@ def play(program, name):
         status, *lines = (EXCHANGES / f"{name}.after").read_text().splitlines()
         wanted = (EXCHANGES / f"{name}.reply.http").read_bytes()
         wrong = []
-        if MOMENT.sub(rb"\1", run.stdout) != MOMENT.sub(rb"\1", wanted) or len(run.stdout) != len(wanted):
+        if without_moments(run.stdout) != without_moments(wanted) or len(run.stdout) != len(wanted):
             wrong.append("replies")
         if status != f"status {run.returncode}":
             wrong.append(f"status {run.returncode}")
