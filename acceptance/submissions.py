@@ -5,8 +5,9 @@ otherwise than the service does. Each line says what was tried and what came.
 acceptance/submissions.py PROGRAM [long] [SEED]: PROGRAM is fts as it was built. 200 documents with ids of their own are submitted by `PROGRAM - submit`
 to a service over a folder of its own, which is killed (SIGKILL) and started again on its port 20 times while commands run. Wanted is that each command
 ends with status 0 and one id, and that in the end each document has one job, with that id: by its files' destination, and by the id that docs/API.md
-makes of the VO's name and the document's `sid`. How many jobs stood in the journal of a killed service whose command had no answer yet is told
-too; where there was none, nothing of this was tried, and the status is 1. The moments are of a generator with the seed.
+makes of the VO's name and the document's `sid`. How many jobs stood in the journal of a killed service whose command had no answer is told too;
+where there was none, nothing of this was tried, and the status is 1. Each sync of the service lasts 10 ms longer (bench/slow_syncs.c, by cc), so that
+kills meet appends. The moments are of a generator with the seed.
 
 The servers take one connection at a time on a port of their own and answer by a row, as in "From the command line" of docs/API.md. Wanted are status
 and note, and that no more is taken of what a server sends than one response may have, with little memory. `long` adds servers that let a command wait.
@@ -31,8 +32,11 @@ import uuid
 from serving import A, B, SETTINGS, Service, wrong_in
 
 KILLS, EACH, TRIES = 20, 10, 10
-# seconds in which the commands of a round begin and the kill comes, and in which the next start does
-AROUND, UNTIL_START = 0.15, 1.5
+# seconds in which the commands of a round begin, and the kill comes; which those have to end that were answered; in which the next start comes
+BEGIN, KILL, ANSWERED, UNTIL_START = 0.15, 0.35, 0.5, 1.5
+# microseconds that a sync lasts longer
+SYNC = 10_000
+SLOW_SYNCS = pathlib.Path(__file__).resolve().parent.parent / "bench" / "slow_syncs.c"
 # seconds that one command may take
 COMMAND = 150
 # what a client may take of one response, and what sockets may hold besides, in bytes; its most memory in KiB
@@ -78,15 +82,16 @@ def made_unanswered(service, submissions):
     return sum(1 for it in submissions if it.ended is None and it.sid in dests)
 
 
-def kill_around(service, source, number):
+def kill_around(service, source, number, prefix):
     """A round: commands begin, the service is killed among them and started again. The commands, and how many of them had made their jobs unanswered."""
-    begins = [source.uniform(0, AROUND) for _ in range(EACH)]
+    begins = [source.uniform(0, BEGIN) for _ in range(EACH)]
     submissions = [Submission(service.program, service.port, f"s{number}-{place}", begin) for place, begin in enumerate(begins)]
-    time.sleep(source.uniform(0, AROUND))
+    time.sleep(source.uniform(0, KILL))
     service.stop(signal.SIGKILL)
+    time.sleep(ANSWERED)
     unanswered = made_unanswered(service, submissions)
     time.sleep(source.uniform(0, UNTIL_START))
-    service.start(port=service.port)
+    service.start(prefix, service.port)
     for it in submissions:
         it.join()
     return submissions, unanswered
@@ -107,11 +112,19 @@ def id_of(sid, vo="demo"):
     return str(uuid.uuid5(uuid.uuid5(BASE, vo), sid))
 
 
+def slow_syncs(service):
+    """What stands before a service's words so that its syncs last longer."""
+    library = service.path / "slow_syncs.so"
+    subprocess.run(["cc", "-O2", "-shared", "-fPIC", "-o", library, SLOW_SYNCS], check=True)
+    return "env", f"LD_PRELOAD={library}", f"SLOW_SYNC_US={SYNC}"
+
+
 def acts_once(program, seed):
     source, service = random.Random(seed), Service(program)
+    prefix = slow_syncs(service)
     service.stop(signal.SIGKILL)
-    service.start(port=service.port)
-    rounds = [kill_around(service, source, number) for number in range(KILLS)]
+    service.start(prefix, service.port)
+    rounds = [kill_around(service, source, number, prefix) for number in range(KILLS)]
     submissions = [it for those, _ in rounds for it in those]
     unanswered = sum(count for _, count in rounds)
     done = sum(1 for it in submissions if it.ended == (0, id_of(it.sid) + "\n", ""))
