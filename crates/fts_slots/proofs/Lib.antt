@@ -1,3 +1,4 @@
 mod LinkCounts
+mod ListedLimits
 mod NamedPlaces
 pub mod Tallied

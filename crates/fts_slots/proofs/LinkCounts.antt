@@ -35,7 +35,7 @@ count_by-remove test (first ∷ items) (suc place) item at =
     omega (arith, count_by-cons test first items, count_by-cons test first (remove items place), count_by-remove test items place item at)
 
 -- the first place of a list is its head's, or one behind it
-position-cons : {Item : Type 0} (test : Item → Bool) (item : Item) (items : List Item)
+pub position-cons : {Item : Type 0} (test : Item → Bool) (item : Item) (items : List Item)
     → position test (item ∷ items) ≡ cond (test item) (Some 0) (option_map suc (position test items))
 position-cons test item items = by_test (test item)
   where

@@ -11,12 +11,12 @@ use Rattle.fts_tables.specs.declared.settings.Endpoint.{Endpoint}
 use Rattle.fts_slots.specs.SlotsData.{name_at}
 
 -- a text is equal to itself
-bytes_eq-refl : (text : List ℕ) → bytes_eq text text ≡ true
+pub bytes_eq-refl : (text : List ℕ) → bytes_eq text text ≡ true
 bytes_eq-refl [] = refl
 bytes_eq-refl (byte ∷ text) = ap (λ answer. answer && bytes_eq text text) (eq-eqb byte byte refl) ∙ bytes_eq-refl text
 
 -- an item that stands in a list passes where any does
-any_at : {Item : Type 0} (test : Item → Bool) (items : List Item) (place : ℕ) (item : Item) → slice_get items place ≡ Some item → test item ≡ true
+pub any_at : {Item : Type 0} (test : Item → Bool) (items : List Item) (place : ℕ) (item : Item) → slice_get items place ≡ Some item → test item ≡ true
     → list_any test items ≡ true
 any_at test [] place item at passes = cc
 any_at test (first ∷ items) zero item at passes =

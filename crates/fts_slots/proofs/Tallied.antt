@@ -37,7 +37,7 @@ index-same : (one other : LinkAt) → is_same_link one other ≡ true → index_
 index-same one other is = ap index_of (same_link one other is)
 
 -- links with low destinations that have one index are one
-index-apart : (one other : LinkAt) → one.dest < 256 → other.dest < 256 → is_same_link one other ≡ false → index_of one ≢ index_of other
+pub index-apart : (one other : LinkAt) → one.dest < 256 → other.dest < 256 → is_same_link one other ≡ false → index_of one ≢ index_of other
 index-apart one other low low_other is same =
     let source : one.source ≡ other.source = omega arith in
     let dest : one.dest ≡ other.dest = omega arith in

@@ -1,3 +1,4 @@
 pub mod SlotsData
 pub mod Tallies
+pub mod LinkLimits
 pub mod Slots

@@ -41,7 +41,7 @@ pub struct Counts {
 }
 
 /// The place of a link's counter.
-fn index_of(link: LinkAt) -> usize
+pub fn index_of(link: LinkAt) -> usize
     ensures index { result ≡ index_of link }
 {
     usize::from(link.source) * MAX_ENDPOINTS + usize::from(link.dest)

@@ -8,6 +8,7 @@
 
 mod counts;
 mod limits;
+mod link_limits;
 mod slots;
 
 pub use limits::{endpoint_at, limits_by_place_are_by_name, link_limit};

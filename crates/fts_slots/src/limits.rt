@@ -26,10 +26,9 @@ ghost use Rattle.fts_slots.specs.SlotsData.{
   name_at,
   outbound_limit_at,
   inbound_limit_at,
-  link_limit_at,
 };
 
-use fts_tables::{Endpoint, LinkAt, LinkRule, Settings};
+use fts_tables::{Endpoint, LinkRule, Settings};
 
 /// The first place of a name among endpoints.
 fn first_of_name(endpoints: &[Endpoint], name: &str) -> Option<usize>
@@ -48,16 +47,6 @@ pub fn place_of_endpoint(endpoints: &[Endpoint], name: &str) -> Option<usize>
     ensures none { (result ≡ None) ↔ IsFalse (is_listed endpoints.now name.now) }
 {
     first_of_name(endpoints, name)
-}
-
-/// The name of the endpoint at a place, and the empty text past the end.
-fn name_at(settings: &Settings, place: u16) -> &str
-    ensures name { result.now ≡ name_at settings.now place }
-{
-    match settings.endpoints.as_slice().get(usize::from(place)) {
-        Some(endpoint) => endpoint.name.as_str(),
-        None => "",
-    }
 }
 
 /// The endpoint of a name, where the settings list it.
@@ -108,17 +97,6 @@ fn inbound_of(endpoint: Option<&Endpoint>) -> u32
         Some(endpoint) => endpoint.inbound,
         None => 0,
     }
-}
-
-/// How many files may be ACTIVE on a link.
-pub fn link_limit_of(settings: &Settings, link: LinkAt) -> u32
-    ensures limit { result ≡ link_limit_at settings.now link }
-{
-    link_limit(
-        settings,
-        name_at(settings, link.source),
-        name_at(settings, link.dest),
-    )
 }
 
 /// How many files may come from the endpoint at a place.

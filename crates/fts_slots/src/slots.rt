@@ -1,5 +1,6 @@
 //! The list of links held, with the limits that it keeps.
-//! Counters beside the list hold what is taken of each link and at each end (`AreTallied`), so `held`, `inbound`, `outbound` and `free` walk none of it.
+//! Counters beside the list hold what is taken of each link and at each end (`AreTallied`), so `held`, `inbound`, `outbound` and `free` walk none of it;
+//! the limits of links stand beside the counters (`AreLimits`), so `free` walks over no listed link either.
 //! Order of a call: the list and the counters change together. `give` looks for the link's first place in the list, four bytes a link held.
 //! `take` writes into room that `new` made: as many links as the outbound limits add up to, which no list within the limits passes.
 ghost use Rattle.std.specs.Prelude.{◌≡◌, ◌<◌, ◌+◌, ◌↔◌, [], ◌∷◌, ◌++◌, Bool, length, count_by, if◌then◌else◌, IsTrue, IsFalse, IfOk, None};
@@ -11,17 +12,18 @@ ghost use Rattle.fts_slots.specs.SlotsData.{
   IsInside,
   is_free,
   place_of_name,
+  link_limit_at,
   held_of,
   outbound_of,
   inbound_of,
   without_link,
 };
 
-use crate::counts::{Counts, place_of_link};
+use crate::counts::{Counts, index_of, place_of_link};
 use crate::limits::{
-    count_endpoints, inbound_limit_of, link_limit_of, outbound_limit_of, place_of_endpoint,
-    whole_outbound,
+    count_endpoints, inbound_limit_of, outbound_limit_of, place_of_endpoint, whole_outbound,
 };
+use crate::link_limits::link_limits;
 use fts_tables::{EndpointName, LinkAt, Memory, Settings};
 use std::alloc::Global;
 use std::marker::Model;
@@ -31,6 +33,7 @@ pub struct Slots {
     settings: Settings,
     links: Vec<LinkAt>,
     counts: Counts,
+    limits: Vec<u32>,
 }
 
 impl Drop for Slots {
@@ -39,6 +42,7 @@ impl Drop for Slots {
             settings: _,
             links: _,
             counts: _,
+            limits: _,
         } = self;
     }
 }
@@ -62,10 +66,12 @@ impl Slots {
     {
         let links = Vec::with_capacity(alloc, whole_outbound(settings))?;
         let counts = Counts::new(alloc, count_endpoints(settings))?;
+        let limits = link_limits(alloc, settings)?;
         Ok(Slots {
             settings: settings.copy(alloc)?,
             links,
             counts,
+            limits,
         })
     }
 
@@ -93,9 +99,17 @@ impl Slots {
         requires inside { IsInside self.now.settings link }
         ensures answer { result ≡ is_free self.now link }
     {
-        self.held(link) < link_limit_of(&self.settings, link)
+        self.held(link) < self.limit(link)
             && self.outbound(link.source) < outbound_limit_of(&self.settings, link.source)
             && self.inbound(link.dest) < inbound_limit_of(&self.settings, link.dest)
+    }
+
+    /// How many files may be ACTIVE on a link.
+    fn limit(&self, link: LinkAt) -> u32
+        requires inside { IsInside self.now.settings link }
+        ensures limit { result ≡ link_limit_at self.now.settings link }
+    {
+        self.limits[index_of(link)]
     }
 
     /// Takes a slot of a free link, in room that is there.

@@ -17,6 +17,7 @@ invariant_of-self c =
       tallied = subst (λ links. AreTallied (length c.self.inside.settings.endpoints) links c.lower.new.self) (sym c.remove.ensures.items)
           (c.lower.ensures.tallied (length c.self.inside.settings.endpoints) c.self.inside.links.items c.in-Some.place
           (found.at ∙ ap (λ link. Some link) (sym (same_link c.args.link found.item found.passes))) c.self.invariant.tallied);
+      limits = c.self.invariant.limits;
       room = omega (arith, c.self.invariant.room, c.remove.ensures.capacity);
     }
 

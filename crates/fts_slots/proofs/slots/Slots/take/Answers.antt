@@ -29,6 +29,7 @@ invariant_of-self c =
       tallied = subst (λ links. AreTallied (length c.self.inside.settings.endpoints) links c.raise.new.self) (sym c.push_reserved.ensures.items)
           (c.raise.ensures.tallied (length c.self.inside.settings.endpoints) c.self.inside.links.items
           (omega (arith, few_links slots c.self.invariant.settings c.self.invariant.within)) c.self.invariant.tallied);
+      limits = c.self.invariant.limits;
       room = omega (arith, c.self.invariant.room, c.push_reserved.ensures.capacity);
     }
 
