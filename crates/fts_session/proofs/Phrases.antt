@@ -4,7 +4,7 @@ use Rattle.std.specs.Prelude.{IsTrue}
 use Rattle.fts_wire.specs.Response.{has_phrase, has_methods}
 use Rattle.fts_wire.specs.Faults.{status_of}
 use Rattle.fts_wire.specs.declared.fault.WireFault.{WireFault}
-use Rattle.fts_wire.specs.declared.fault.WireFault.TheVariants.{BadHead, HeadTooLarge, BadLength, Chunked, BodyTooLarge, EndsInside, SourceFailed}
+use Rattle.fts_wire.specs.declared.fault.WireFault.TheVariants.{BadHead, HeadTooLarge, BadLength, Chunked, BodyTooLarge, ForeignOrigin, EndsInside, SourceFailed}
 use Rattle.fts_wire.specs.declared.response.Reply.{Reply}
 use Rattle.fts_routes.specs.Refusals.{no_memory, refusal_of, IsOrNoMemory}
 
@@ -24,6 +24,7 @@ sent_fault HeadTooLarge message rule status e = let n : 431 ≡ status = cc in s
 sent_fault BadLength message rule status e = let n : 400 ≡ status = cc in subst (λ (s : ℕ). CanBeSent (refusal_of message rule s)) n (record { phrase = refl; methods = refl })
 sent_fault Chunked message rule status e = let n : 501 ≡ status = cc in subst (λ (s : ℕ). CanBeSent (refusal_of message rule s)) n (record { phrase = refl; methods = refl })
 sent_fault BodyTooLarge message rule status e = let n : 413 ≡ status = cc in subst (λ (s : ℕ). CanBeSent (refusal_of message rule s)) n (record { phrase = refl; methods = refl })
+sent_fault ForeignOrigin message rule status e = let n : 403 ≡ status = cc in subst (λ (s : ℕ). CanBeSent (refusal_of message rule s)) n (record { phrase = refl; methods = refl })
 sent_fault EndsInside message rule status e = absurd cc
 sent_fault SourceFailed message rule status e = absurd cc
 

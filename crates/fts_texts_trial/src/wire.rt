@@ -115,7 +115,7 @@ fn is_read_so(rt: &HostRuntime, input: &[u8], want: &str) -> Result<bool, Fail> 
 type InputRow = (&'static str, &'static str, &'static str);
 
 /// Requests, and ends within one.
-const REQUESTS: [InputRow; 14] = [
+const REQUESTS: [InputRow; 15] = [
     ("the empty input", "", "end"),
     ("empty lines alone", "\r\n\n\r", "end"),
     ("an empty line and a letter", "\r\nG", "inside"),
@@ -128,6 +128,11 @@ const REQUESTS: [InputRow; 14] = [
         "two bodies, and an empty line between",
         "POST /jobs HTTP/1.1\r\nContent-Length: 1\r\n\r\n[\r\nPOST /jobs HTTP/1.1\r\nContent-Length: 02\r\n\r\n{}",
         "POST /jobs [;POST /jobs {};end",
+    ),
+    (
+        "a field whose name ends in the word of another",
+        "GET / HTTP/1.1\r\nX-Origin: http://a.example\r\n\r\n",
+        "GET / ;end",
     ),
     (
         "a length between other fields",
@@ -229,11 +234,26 @@ fn heads_outside_the_grammar_are_refused(rt: HostRuntime) -> Result<(), Fail> {
 }
 
 /// Fields of a request with the body `x`.
-const FIELDS: [InputRow; 13] = [
+const FIELDS: [InputRow; 16] = [
     (
         "chunks, and a length that is no number",
         "Content-Length: x\r\nTransfer-Encoding: chunked",
         "chunked",
+    ),
+    (
+        "an origin, as a browser sends for a page",
+        "Content-Length: 1\r\nOrigin: http://a.example",
+        "foreign origin",
+    ),
+    (
+        "an origin of no site, its name in other case",
+        "oRIGIN: null\r\nContent-Length: 1",
+        "foreign origin",
+    ),
+    (
+        "an origin behind a fault of the framing",
+        "Origin: null\r\nContent-Length: x",
+        "bad length",
     ),
     (
         "a length twice",
@@ -508,6 +528,11 @@ fn responses_have_the_bytes_of_the_standard(rt: HostRuntime) -> Result<(), Fail>
             "a reply to HEAD",
             response(&rt, 200, Allow::None, true, false)?,
             "HTTP/1.1 200 OK\r\nContent-Type: application/json\r\nContent-Length: 0\r\n\r\n",
+        ),
+        (
+            "a refusal of an origin",
+            response(&rt, 403, Allow::None, false, true)?,
+            "HTTP/1.1 403 Forbidden\r\nContent-Type: application/json\r\nContent-Length: 2\r\nConnection: close\r\n\r\n{}",
         ),
         (
             "the last reply",

@@ -74,6 +74,7 @@ refused_next bytes left room wire_faults.HeadTooLarge status has found = found
 refused_next bytes left room wire_faults.BadLength status has found = found
 refused_next bytes left room wire_faults.Chunked status has found = found
 refused_next bytes left room wire_faults.BodyTooLarge status has found = found
+refused_next bytes left room wire_faults.ForeignOrigin status has found = found
 refused_next bytes left room wire_faults.EndsInside status has found = absurd cc
 refused_next bytes left room wire_faults.SourceFailed status has found = absurd cc
 

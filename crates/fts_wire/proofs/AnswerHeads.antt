@@ -59,13 +59,13 @@ head_parts status n allow close = head_shape (codes "HTTP/1.1 ") (decimal status
 front_long : (status : ℕ) → has_phrase status ≡ true → length (front status) ≡ 63 + length (phrase_of status)
 unfolding digits
 front_long status is = by_statuses (λ one. length (front one) ≡ 63 + length (phrase_of one)) status
-    (200 ∷ 400 ∷ 404 ∷ 405 ∷ 409 ∷ 413 ∷ 431 ∷ 500 ∷ 501 ∷ 503 ∷ 507 ∷ [])
-    (refl, (refl, (refl, (refl, (refl, (refl, (refl, (refl, (refl, (refl, (refl, tt))))))))))) is
+    (200 ∷ 400 ∷ 403 ∷ 404 ∷ 405 ∷ 409 ∷ 413 ∷ 431 ∷ 500 ∷ 501 ∷ 503 ∷ 507 ∷ [])
+    (refl, (refl, (refl, (refl, (refl, (refl, (refl, (refl, (refl, (refl, (refl, (refl, tt)))))))))))) is
 
 phrase_long : (status : ℕ) → has_phrase status ≡ true → nat_le (length (phrase_of status)) 40 ≡ true
 phrase_long status is = by_statuses (λ one. nat_le (length (phrase_of one)) 40 ≡ true) status
-    (200 ∷ 400 ∷ 404 ∷ 405 ∷ 409 ∷ 413 ∷ 431 ∷ 500 ∷ 501 ∷ 503 ∷ 507 ∷ [])
-    (refl, (refl, (refl, (refl, (refl, (refl, (refl, (refl, (refl, (refl, (refl, tt))))))))))) is
+    (200 ∷ 400 ∷ 403 ∷ 404 ∷ 405 ∷ 409 ∷ 413 ∷ 431 ∷ 500 ∷ 501 ∷ 503 ∷ 507 ∷ [])
+    (refl, (refl, (refl, (refl, (refl, (refl, (refl, (refl, (refl, (refl, (refl, (refl, tt)))))))))))) is
 
 lines_long : (status : ℕ) (allow : Allow) (close : Bool) → nat_le (length (lines status allow close)) 100 ≡ true
 lines_long status allow close = by_allow (status == 405)
@@ -361,8 +361,8 @@ sees_unnamed bytes status n look other long sees =
     sees_so bytes (IsNoneHeaded bytes status n NoAllow) (IsNoneOf bytes status) look (none_unnamed bytes status n other long) sees
 
 -- bytes that begin a response of none of the statuses begin none
-pub none_at_all : (bytes : List ℕ) → AllByRecursion (IsNoneOf bytes) (200 ∷ 400 ∷ 404 ∷ 405 ∷ 409 ∷ 413 ∷ 431 ∷ 500 ∷ 501 ∷ 503 ∷ 507 ∷ []) → BeginsResponse bytes → ⊥
+pub none_at_all : (bytes : List ℕ) → AllByRecursion (IsNoneOf bytes) (200 ∷ 400 ∷ 403 ∷ 404 ∷ 405 ∷ 409 ∷ 413 ∷ 431 ∷ 500 ∷ 501 ∷ 503 ∷ 507 ∷ []) → BeginsResponse bytes → ⊥
 none_at_all bytes each begins =
     let whole = begins.whole in
-    by_statuses (IsNoneOf bytes) begins.answer.status (200 ∷ 400 ∷ 404 ∷ 405 ∷ 409 ∷ 413 ∷ 431 ∷ 500 ∷ 501 ∷ 503 ∷ 507 ∷ []) each whole.phrase
+    by_statuses (IsNoneOf bytes) begins.answer.status (200 ∷ 400 ∷ 403 ∷ 404 ∷ 405 ∷ 409 ∷ 413 ∷ 431 ∷ 500 ∷ 501 ∷ 503 ∷ 507 ∷ []) each whole.phrase
     whole.allow whole.close whole.methods begins.answer.body begins.behind whole.few whole.spelled

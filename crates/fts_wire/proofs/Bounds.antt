@@ -12,9 +12,9 @@ use Rattle.httparse.specs.Pieces.{is_newline}
 use Rattle.httparse.specs.Spans.{name_and_value}
 use Rattle.fts_wire.specs.Head.{lines_of, head_lines, head_of}
 use Rattle.fts_wire.specs.Faults.{status_of}
-use Rattle.fts_wire.specs.Fields.{NameValue, is_length, length_of, body_length, values_of, is_chunked, says_close}
+use Rattle.fts_wire.specs.Fields.{NameValue, is_length, length_of, body_length, values_of, is_chunked, names_origin, says_close}
 use Rattle.fts_wire.specs.RequestData.{HeadData}
-use Rattle.fts_wire.specs.Look.{Sight, Short, Refused, Headed, blanks, sight_body, sight_fields, sight_head, sight_lines, sight_by, sight_in, sight_of}
+use Rattle.fts_wire.specs.Look.{Sight, Short, Refused, Headed, blanks, sight_body, sight_from, sight_fields, sight_head, sight_lines, sight_by, sight_in, sight_of}
 use Rattle.fts_wire.specs.Requests.{next_by, IsShort, is_open, request_size, asks, EndsInside}
 use Rattle.fts_wire.specs.declared.fault.WireFault.{WireFault}
 use Rattle.fts_wire.specs.declared.fault.WireFault.TheVariants.{BadLength, BodyTooLarge, Chunked, HeadTooLarge}
@@ -50,12 +50,20 @@ sight_body_fits : (r : Result ℕ WireFault) (n before size : ℕ) (method targe
 sight_body_fits (Ok body) n before size method target close small within = (within, small)
 sight_body_fits (Err fault) n before size method target close small within = small
 
+-- a sight fits where it is refused for its origin, too
+from_fits : (n : ℕ) (origin : Bool) (sight : Sight) → Fits n sight → Fits n (sight_from origin sight)
+from_fits n true Short fits = tt
+from_fits n true (Refused fault) fits = fits
+from_fits n true (Headed head) fits = refl
+from_fits n false sight fits = fits
+
 fields_fit : (n before size : ℕ) (method target : List ℕ) (minor : ℕ) (fields : List NameValue) → before + size ≤ n
     → Fits n (sight_fields before size method target minor fields)
 fields_fit n before size method target minor fields within =
     let values = values_of (codes "content-length") fields in
-    cond_both (is_chunked fields) (Refused Chunked) (sight_body (body_length values) before size method target (says_close minor fields)) (Fits n) (λ _. refl)
-    (λ _. sight_body_fits (body_length values) n before size method target (says_close minor fields) (body_fits values) within)
+    let sight = sight_body (body_length values) before size method target (says_close minor fields) in
+    cond_both (is_chunked fields) (Refused Chunked) (sight_from (names_origin fields) sight) (Fits n) (λ _. refl)
+    (λ _. from_fits n (names_origin fields) sight (sight_body_fits (body_length values) n before size method target (says_close minor fields) (body_fits values) within))
 
 head_fits : (o : Option RequestHead) (n before size : ℕ) → before + size ≤ n → Fits n (sight_head before size o)
 head_fits None n before size within = refl
@@ -108,13 +116,20 @@ body_not_short : (r : Result ℕ WireFault) (before size : ℕ) (method target :
 body_not_short (Ok body) before size method target close s = s
 body_not_short (Err fault) before size method target close s = s
 
+from_not_short : (origin : Bool) (sight : Sight) → (IsShortSight sight → ⊥) → IsShortSight (sight_from origin sight) → ⊥
+from_not_short true Short long s = long s
+from_not_short true (Refused fault) long s = s
+from_not_short true (Headed head) long s = s
+from_not_short false sight long s = long s
+
 fields_not_short : (before size : ℕ) (method target : List ℕ) (minor : ℕ) (fields : List NameValue)
     → IsShortSight (sight_fields before size method target minor fields) → ⊥
 fields_not_short before size method target minor fields =
     let values = values_of (codes "content-length") fields in
-    cond_both (is_chunked fields) (Refused Chunked) (sight_body (body_length values) before size method target (says_close minor fields))
+    let sight = sight_body (body_length values) before size method target (says_close minor fields) in
+    cond_both (is_chunked fields) (Refused Chunked) (sight_from (names_origin fields) sight)
     (λ s. IsShortSight s → ⊥) (λ _ s. s)
-    (λ _. body_not_short (body_length values) before size method target (says_close minor fields))
+    (λ _. from_not_short (names_origin fields) sight (body_not_short (body_length values) before size method target (says_close minor fields)))
 
 head_not_short : (o : Option RequestHead) (before size : ℕ) → IsShortSight (sight_head before size o) → ⊥
 head_not_short None before size s = s

@@ -86,8 +86,8 @@ all_of status allow close body behind = front status ++ (decimal (length body) +
 status_read : (status : ℕ) → has_phrase status ≡ true → (more : List ℕ) → status_in (front status ++ more) ≡ status + 5328
 unfolding digits
 status_read status is = by_statuses (λ one. (more : List ℕ) → status_in (front one ++ more) ≡ one + 5328) status
-    (200 ∷ 400 ∷ 404 ∷ 405 ∷ 409 ∷ 413 ∷ 431 ∷ 500 ∷ 501 ∷ 503 ∷ 507 ∷ [])
-    (λ more. refl, (λ more. refl, (λ more. refl, (λ more. refl, (λ more. refl, (λ more. refl, (λ more. refl, (λ more. refl, (λ more. refl, (λ more. refl, (λ more. refl, tt))))))))))) is
+    (200 ∷ 400 ∷ 403 ∷ 404 ∷ 405 ∷ 409 ∷ 413 ∷ 431 ∷ 500 ∷ 501 ∷ 503 ∷ 507 ∷ [])
+    (λ more. refl, (λ more. refl, (λ more. refl, (λ more. refl, (λ more. refl, (λ more. refl, (λ more. refl, (λ more. refl, (λ more. refl, (λ more. refl, (λ more. refl, (λ more. refl, tt)))))))))))) is
 
 -- what is behind the first empty line
 abbrev behind_empty : List ℕ → List ℕ

@@ -33,9 +33,17 @@ body_length [] = Ok 0
 body_length (value ∷ []) = length_of value
 body_length (value ∷ second ∷ more) = Err BadLength
 
+-- a field of this name
+abbrev pub has_field : List ℕ → List NameValue → Bool
+has_field name fields = list_any (is_named name) fields
+
 -- a field `Transfer-Encoding`
 abbrev pub is_chunked : List NameValue → Bool
-is_chunked fields = list_any (is_named (codes "transfer-encoding")) fields
+is_chunked fields = has_field (codes "transfer-encoding") fields
+
+-- a field `Origin`, which browsers send for the pages of sites (RFC 6454, section 7)
+abbrev pub names_origin : List NameValue → Bool
+names_origin fields = has_field (codes "origin") fields
 
 abbrev pub is_close : List ℕ → Bool
 is_close value = str_eq_ignore_ascii_case value (codes "close")

@@ -1,15 +1,15 @@
 -- What bytes are the beginning of: less than a head, no request, or a whole head with the length of its body.
 -- CR and LF before a head are passed over, and count to its length (HTTP/1.1, RFC 9112, sections 2 and 6).
-use Rattle.std.specs.Prelude.{◌≡◌, ℕ, ◌+◌, ◌≤◌, Bool, nat_lt, ◌==◌, if◌then◌else◌, List, length, take, drop, map, codes, Option, Some, None, Result, Ok, Err, IsUtf8}
+use Rattle.std.specs.Prelude.{◌≡◌, ℕ, ◌+◌, ◌≤◌, Bool, true, false, nat_lt, ◌==◌, if◌then◌else◌, List, length, take, drop, map, codes, Option, Some, None, Result, Ok, Err, IsUtf8}
 use Rattle.std.specs.List.{concat, prefix_len}
 use Rattle.httparse.specs.Pieces.{is_newline}
 use Rattle.httparse.specs.Grammar.{RequestHead}
 use Rattle.httparse.specs.Spans.{span_bytes, name_and_value, IsWithin}
 use Rattle.fts_wire.specs.Head.{lines_of, head_lines, head_of}
-use Rattle.fts_wire.specs.Fields.{NameValue, is_chunked, values_of, body_length, says_close}
+use Rattle.fts_wire.specs.Fields.{NameValue, is_chunked, names_origin, values_of, body_length, says_close}
 use Rattle.fts_wire.specs.RequestData.{HeadData}
 use Rattle.fts_wire.specs.declared.fault.WireFault.{WireFault}
-use Rattle.fts_wire.specs.declared.fault.WireFault.TheVariants.{BadHead, HeadTooLarge, Chunked}
+use Rattle.fts_wire.specs.declared.fault.WireFault.TheVariants.{BadHead, HeadTooLarge, Chunked, ForeignOrigin}
 use Rattle.fts_wire.specs.declared.look.Head.{Head}
 use Rattle.fts_wire.specs.declared.look.Look.{Look}
 use Rattle.fts_wire.specs.declared.look.Look.TheVariants.{Short as LookShort, Refused as LookRefused, Found}
@@ -30,11 +30,19 @@ sight_body (Err fault) before size method target close = Refused fault
 sight_body (Ok body) before size method target close =
     Headed (record { before = before; size = size; body = body; method = method; target = target; close = close })
 
--- a head with these parts: first its coding, and then its length
+-- a head that is whole in its framing is refused where it names an origin: a page of some site had a browser send it
+abbrev pub sight_from : Bool → Sight → Sight
+sight_from true Short = Short
+sight_from true (Refused fault) = Refused fault
+sight_from true (Headed head) = Refused ForeignOrigin
+sight_from false sight = sight
+
+-- a head with these parts: first its coding, then its length, and then where it comes from
 abbrev pub sight_fields : ℕ → ℕ → List ℕ → List ℕ → ℕ → List NameValue → Sight
 sight_fields before size method target minor fields =
     if is_chunked fields then Refused Chunked
-    else sight_body (body_length (values_of (codes "content-length") fields)) before size method target (says_close minor fields)
+    else sight_from (names_origin fields)
+    (sight_body (body_length (values_of (codes "content-length") fields)) before size method target (says_close minor fields))
 
 -- a head by the grammar, or none
 abbrev pub sight_head : ℕ → ℕ → Option RequestHead → Sight

@@ -4,7 +4,9 @@
 ghost use Rattle.std.specs.Prelude.{◌≡◌, option_map};
 ghost use Rattle.fts_wire.specs.Faults.{status_of, rule_of, message_of};
 
-use crate::statuses::{BAD_REQUEST, HEADER_FIELDS_TOO_LARGE, NOT_IMPLEMENTED, PAYLOAD_TOO_LARGE};
+use crate::statuses::{
+    BAD_REQUEST, FORBIDDEN, HEADER_FIELDS_TOO_LARGE, NOT_IMPLEMENTED, PAYLOAD_TOO_LARGE,
+};
 
 /// Why there is no next request.
 #[derive(Clone, Copy, Debug, PartialEq, Eq)]
@@ -19,6 +21,8 @@ pub enum WireFault {
     Chunked,
     /// The body is longer than 1,048,576 bytes.
     BodyTooLarge,
+    /// There is an `Origin` field: a browser sends the request for a page of some site (RFC 6454, section 7).
+    ForeignOrigin,
     /// The input ended within a request.
     EndsInside,
     /// A read of the source failed. What was read before it is kept.
@@ -35,6 +39,7 @@ impl WireFault {
             WireFault::HeadTooLarge => Some(HEADER_FIELDS_TOO_LARGE),
             WireFault::Chunked => Some(NOT_IMPLEMENTED),
             WireFault::BodyTooLarge => Some(PAYLOAD_TOO_LARGE),
+            WireFault::ForeignOrigin => Some(FORBIDDEN),
             WireFault::EndsInside | WireFault::SourceFailed => None,
         }
     }
@@ -49,6 +54,7 @@ impl WireFault {
             WireFault::BadLength => Some(43),
             WireFault::Chunked => Some(44),
             WireFault::BodyTooLarge => Some(45),
+            WireFault::ForeignOrigin => Some(48),
             WireFault::EndsInside | WireFault::SourceFailed => None,
         }
     }
@@ -63,6 +69,7 @@ impl WireFault {
             WireFault::BadLength => Some("bad length"),
             WireFault::Chunked => Some("chunked"),
             WireFault::BodyTooLarge => Some("body too large"),
+            WireFault::ForeignOrigin => Some("foreign origin"),
             WireFault::EndsInside | WireFault::SourceFailed => None,
         }
     }

@@ -1,9 +1,9 @@
-//! What a server reads of a head's fields: a coding, the length of the body, and whether the connection ends.
+//! What a server reads of a head's fields: a coding, an origin, the length of the body, and whether the connection ends.
 //! Names of fields are compared without case, and so is the word `close`.
 //! Called by `look`. Format: RFC 9112, sections 6 and 9.6.
 ghost use Rattle.std.specs.Prelude.{◌≡◌, length, map, All, codes};
 ghost use Rattle.httparse.specs.Spans.{header_bytes, IsHeaderWithin};
-ghost use Rattle.fts_wire.specs.Fields.{is_chunked, values_of, body_length, length_of, says_close, is_named, is_close};
+ghost use Rattle.fts_wire.specs.Fields.{has_field, is_chunked, names_origin, values_of, body_length, length_of, says_close, is_named, is_close};
 
 use crate::WireFault;
 use fts_tables::limits::MAX_CONTENT_BYTES;
@@ -12,17 +12,33 @@ use httparse::spans::{HeaderSpan, Span};
 /// At most this many digits of a length.
 const MAX_LENGTH_DIGITS: usize = 19;
 
+/// Whether there is a field of this name.
+fn has_field(head: &[u8], headers: &[HeaderSpan], name: &[u8]) -> bool
+    requires within { All (IsHeaderWithin (length head.now)) headers.now }
+    ensures { result ≡ has_field name.now (map (header_bytes head.now) headers.now) }
+{
+    for header in headers {
+        if is_named(head, *header, name) {
+            return true;
+        }
+    }
+    false
+}
+
 /// Whether there is a field `Transfer-Encoding`.
 pub fn has_coding(head: &[u8], headers: &[HeaderSpan]) -> bool
     requires within { All (IsHeaderWithin (length head.now)) headers.now }
     ensures { result ≡ is_chunked (map (header_bytes head.now) headers.now) }
 {
-    for header in headers {
-        if is_named(head, *header, b"transfer-encoding") {
-            return true;
-        }
-    }
-    false
+    has_field(head, headers, b"transfer-encoding")
+}
+
+/// Whether there is a field `Origin`.
+pub fn has_origin(head: &[u8], headers: &[HeaderSpan]) -> bool
+    requires within { All (IsHeaderWithin (length head.now)) headers.now }
+    ensures { result ≡ names_origin (map (header_bytes head.now) headers.now) }
+{
+    has_field(head, headers, b"origin")
 }
 
 /// Whether the connection ends: by a field `Connection`, or in version 1.0.

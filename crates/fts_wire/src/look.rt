@@ -1,6 +1,6 @@
 //! What bytes are the beginning of: less than a head, no request, or a whole head with the length of its body.
 //! A look reads the bytes at hand alone and takes none away, so it can be repeated when more have come. It takes no memory.
-//! Order of a look: the end of the head, its grammar, its coding, and then its length.
+//! Order of a look: the end of the head, its grammar, its coding, its length, and then its origin.
 //! Called by `request`. Format: HTTP/1.1 (RFC 9112, sections 2 to 6), and the grammar of `httparse`.
 ghost use Rattle.std.specs.Prelude.{◌≡◌, length, map, All, IsUtf8};
 ghost use Rattle.httparse.specs.Spans.{header_bytes, span_bytes, IsHeaderWithin, IsWithin};
@@ -10,7 +10,7 @@ ghost use Rattle.fts_wire.specs.Look.{sight_head, sight_fields, Sees, SeesIn};
 ghost use Rattle.fts_wire.specs.Parsed.{IsParsed, BeginsHead};
 
 use crate::WireFault;
-use crate::fields::{ends_connection, has_coding, read_body_length};
+use crate::fields::{ends_connection, has_coding, has_origin, read_body_length};
 use crate::lines::{count_blanks, find_head_end};
 use fts_tables::limits::{MAX_HEAD_BYTES, MAX_HEADER_LINES};
 use httparse::Status;
@@ -109,6 +109,7 @@ fn look_at_fields(own: &[u8], before: usize, spans: RequestSpans, headers: &[Hea
     }
     match read_body_length(own, headers) {
         Err(fault) => Look::Refused(fault),
+        Ok(_) if has_origin(own, headers) => Look::Refused(WireFault::ForeignOrigin),
         Ok(body) => Look::Found(Head {
             before,
             size: own.len(),

@@ -145,6 +145,7 @@ pub fn phrase(status: u16) -> &'static str
     match status {
         statuses::OK => "OK",
         statuses::BAD_REQUEST => "Bad Request",
+        statuses::FORBIDDEN => "Forbidden",
         statuses::NOT_FOUND => "Not Found",
         statuses::METHOD_NOT_ALLOWED => "Method Not Allowed",
         statuses::CONFLICT => "Conflict",

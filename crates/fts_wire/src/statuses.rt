@@ -5,6 +5,8 @@ pub const OK: u16 = 200;
 
 pub const BAD_REQUEST: u16 = 400;
 
+pub const FORBIDDEN: u16 = 403;
+
 pub const NOT_FOUND: u16 = 404;
 
 pub const METHOD_NOT_ALLOWED: u16 = 405;
@@ -24,9 +26,10 @@ pub const SERVICE_UNAVAILABLE: u16 = 503;
 pub const INSUFFICIENT_STORAGE: u16 = 507;
 
 /// All of them.
-pub const ALL: [u16; 11] = [
+pub const ALL: [u16; 12] = [
     OK,
     BAD_REQUEST,
+    FORBIDDEN,
     NOT_FOUND,
     METHOD_NOT_ALLOWED,
     CONFLICT,

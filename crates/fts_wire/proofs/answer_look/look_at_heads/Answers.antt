@@ -12,8 +12,8 @@ loop-status-init c = none_at_all c.args.bytes.now
 pub loop-status-preserved : goal.loop-status-preserved
 loop-status-preserved c =
     let bytes = c.args.bytes.now in
-    let statuses : List ℕ = 200 ∷ 400 ∷ 404 ∷ 405 ∷ 409 ∷ 413 ∷ 431 ∷ 500 ∷ 501 ∷ 503 ∷ 507 ∷ [] in
+    let statuses : List ℕ = 200 ∷ 400 ∷ 403 ∷ 404 ∷ 405 ∷ 409 ∷ 413 ∷ 431 ∷ 500 ∷ 501 ∷ 503 ∷ 507 ∷ [] in
     let at = c.loop-status.status-index in
-    let less : at < 11 = omega (arith, c.loop-status-test.true) in
+    let less : at < 12 = omega (arith, c.loop-status-test.true) in
     λ rest. c.loop-status.invariant
     (subst (λ (left : List ℕ). AllByRecursion (IsNoneOf bytes) left) (sym (drop_more statuses at 0 less)) (c.in-Refused.ensures, rest))
