@@ -236,9 +236,9 @@ module _ {E : Type 0} (stores : store.Ghosts E) where
         (turns_turned machine old.pass.opening old.pass.number may.told more old new refl refl (legal_of old.pass new.pass grown may.legal) may.fits turns)
 
     -- a worker
-    pub worker_keeps : (old new : StationData E) → WorkerDone stores old new → MayKeep old.pass new.pass old.held
+    pub worker_keeps : (closes : Bool) (old new : StationData E) → WorkerDone stores closes old new → MayKeep old.pass new.pass old.held
         → KeepsLedger old.pass new.pass new.held
-    worker_keeps old new done may =
+    worker_keeps closes old new done may =
         let between = done.between in
         let opening = old.pass.opening in
         let writer = old.pass.number in

@@ -338,9 +338,9 @@ module _ {E : Type 0} (stores : store.Ghosts E) (machine : Machine) (orders : Or
       (follows_by old new grown well.followed, well.fresh)
 
   -- a worker
-  pub worker_follows : (old new : StationData E) (done : WorkerDone stores old new) → MayKeep old.pass new.pass old.held
-      → KeepsItsFiles new.pass → FollowsOwn stores old new × AreFresh stores done.more old done.between
-  worker_follows old new done may free =
+  pub worker_follows : (closes : Bool) (old new : StationData E) (done : WorkerDone stores closes old new) → MayKeep old.pass new.pass old.held
+      → KeepsItsFiles new.pass → FollowsOwn stores old new × AreFresh stores done.more old done.between × ((file : ℕ) → done.last ≢ turn_ends.Stale file)
+  worker_follows closes old new done may free =
       let between = done.between in
       let opening = old.pass.opening in
       let writer = old.pass.number in
@@ -361,6 +361,7 @@ module _ {E : Type 0} (stores : store.Ghosts E) (machine : Machine) (orders : Or
             (followed_on stores opening writer (items_of old.pass.seen) (items_of between.pass.seen) (items_of new.pass.seen) old.held between.held new.held
             old.hand.store between.hand.store new.hand.store first.followed ends.followed),
         first.fresh,
+        ends.fresh,
       )
 
 -- the copies that a pass's reports stand for in all turns are those that stand for what it added, where it took no turn before or behind that

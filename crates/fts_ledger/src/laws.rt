@@ -36,7 +36,7 @@ pub fn turns_keep_the_ledger<E: Store>()
         → KeepsLedger old.pass new.pass new.held }
     ensures turns { (more : ℕ) (old new : StationData E) → AreTurns E.Store more old new → MayKeep old.pass new.pass old.held
         → KeepsLedger old.pass new.pass new.held }
-    ensures worker { (old new : StationData E) → WorkerDone E.Store old new → MayKeep old.pass new.pass old.held
+    ensures worker { (closes : Bool) (old new : StationData E) → WorkerDone E.Store closes old new → MayKeep old.pass new.pass old.held
         → KeepsLedger old.pass new.pass new.held }
 {
     tables_are_well_formed();
@@ -99,8 +99,8 @@ pub fn undisturbed_stores_follow<E: Store>()
         → KeepsItsFiles new.pass → FollowsOwn E.Store old new × ((file : ℕ) → end ≢ Stale file) }
     ensures turns { (more : ℕ) (old new : StationData E) → AreTurns E.Store more old new → MayKeep old.pass new.pass old.held
         → KeepsItsFiles new.pass → FollowsOwn E.Store old new × AreFresh E.Store more old new }
-    ensures worker { (old new : StationData E) (done : WorkerDone E.Store old new) → MayKeep old.pass new.pass old.held
-        → KeepsItsFiles new.pass → FollowsOwn E.Store old new × AreFresh E.Store done.more old done.between }
+    ensures worker { (closes : Bool) (old new : StationData E) (done : WorkerDone E.Store closes old new) → MayKeep old.pass new.pass old.held
+        → KeepsItsFiles new.pass → FollowsOwn E.Store old new × AreFresh E.Store done.more old done.between × ((file : ℕ) → done.last ≢ Stale file) }
     ensures copies { (old : PassView Entry) (since later : List (LoggedTurn Entry)) → NoneOf old.number (items_of old.seen) → NoneOf old.number (items_of later)
         → copies_from (λ writer. writer == old.number) (tables_of old.opening) (items_of ((old.seen ++ since) ++ later))
         ≡ copies_from (λ writer. writer == old.number) (tables_of (seen_list old)) (items_of since) }

@@ -1,5 +1,5 @@
 -- Lanes at their booths and workers at their stations, before and behind their threads.
-use Rattle.std.specs.Prelude.{ℕ, ◌≤◌, Option, IfSome}
+use Rattle.std.specs.Prelude.{ℕ, ◌≤◌, Bool, Option, IfSome}
 use Rattle.fts_tables.specs.declared.commands.Entry.{Entry}
 use Rattle.fts_turnstile.specs.Passes.{TurnstileView, IsOf, IsSame}
 use Rattle.fts_shop.specs.Turns.{IsReady}
@@ -26,6 +26,6 @@ IsBoothServed sides all_doors clocks connections old new =
 abbrev pub IsStationReady : {D E C W : Type 0} → TurnstileView Entry → Station D E C W → Type 0
 IsStationReady lock station = IsOf lock station.pass × IsReady station.bench.held
 
--- a station whose worker has ended
-abbrev pub IsStationWorked : {D E C W : Type 0} → store.Ghosts E → clock.Ghosts C → words.Ghosts W → Station D E C W → Station D E C W → Type 0
-IsStationWorked stores clocks draws old new = WorkerDone stores (station_data clocks draws old) (station_data clocks draws new)
+-- a station whose worker has ended, at a gate that may be closed or not
+abbrev pub IsStationWorked : {D E C W : Type 0} → store.Ghosts E → clock.Ghosts C → words.Ghosts W → Bool → Station D E C W → Station D E C W → Type 0
+IsStationWorked stores clocks draws closes old new = WorkerDone stores closes (station_data clocks draws old) (station_data clocks draws new)

@@ -15,12 +15,13 @@ are_doors_failed (Some NoMore) = false
 are_doors_failed (Some (Enough lines)) = false
 are_doors_failed (Some DoorsFailed) = true
 
--- how bad an end is: a disk that failed most of all, then a full journal, then want of memory
+-- how bad an end is: a disk that failed most of all, then a full journal, then want of memory, then a stop
 abbrev pub severity_of : WorkerEnd → ℕ
 severity_of worker_ends.Drained = 0
-severity_of worker_ends.Memory = 1
-severity_of (worker_ends.JournalFull used) = 2
-severity_of worker_ends.DiskFailed = 3
+severity_of worker_ends.Stopped = 1
+severity_of worker_ends.Memory = 2
+severity_of (worker_ends.JournalFull used) = 3
+severity_of worker_ends.DiskFailed = 4
 
 -- the worse of two ends; of two that are alike the first
 abbrev pub worse_of : WorkerEnd → WorkerEnd → WorkerEnd

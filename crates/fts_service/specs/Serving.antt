@@ -25,7 +25,7 @@ pub record RanTogether {D A E C W L : Type 0} (world : World D A E C W L)
   pub booths : List (Booth D A C L)
   pub stations : List (Station D E C W)
   pub served : Each (IsBoothServed world.sides world.doors world.clocks connections) (booths_of lanes rooms (passes_given (record first { given = 0 }) first.given)) booths
-  pub worked : Each (IsStationWorked world.stores world.clocks world.words)
+  pub worked : Each (IsStationWorked world.stores world.clocks world.words world.closes)
       (stations_of hands benches (drop (length rooms) (passes_given (record first { given = 0 }) first.given))) stations
   pub idle : All (λ bench. bench.held ≡ []) benches
   pub lanes_are : lanes_now ≡ map (λ booth. booth.lane) booths ++ drop (length rooms) lanes

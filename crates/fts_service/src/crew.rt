@@ -24,7 +24,7 @@ use fts_store::Store;
 use fts_tables::{Clock, Words};
 use fts_turnstile::{Pass, Turnstile};
 use fts_wire::Room;
-use fts_workers::{Bench, Hand};
+use fts_workers::{Bench, Gate, Hand};
 use std::alloc::Global;
 use std::sync::Wait;
 use std::thread::Threads;
@@ -50,10 +50,11 @@ fn serve_lists<
     E: Store + Send,
     C: Clock + Send,
     W: Words + Send,
+    G: Gate + Sync,
     R: Threads + Wait + Sync,
 >(
     rt: &R,
-    hall: &Hall<'_, D>,
+    hall: &Hall<'_, D, G>,
     booths: &mut Vec<Booth<D, A, C>>,
     stations: &mut Vec<Station<D, E, C, W>>,
 )
@@ -62,7 +63,7 @@ where
     requires booths { All (IsBoothReady hall.now.shop.now hall.now.connections) booths.old.items }
     requires stations { All (IsStationReady hall.now.shop.now) stations.old.items }
     ensures booths { Each (IsBoothServed (sides_of A.Line.Source A.Line.Sink) A.Doors C.Clock hall.now.connections) booths.old.items booths.new.items }
-    ensures stations { Each (IsStationWorked E.Store C.Clock W.Words) stations.old.items stations.new.items }
+    ensures stations { Each (IsStationWorked E.Store C.Clock W.Words (G.closes hall.now.gate.now)) stations.old.items stations.new.items }
 {
     serve_all(rt, hall, booths.as_mut_slice(), stations.as_mut_slice());
 }
@@ -127,13 +128,15 @@ fn leave_seats<D: Disk, A: Doors, E: Store, C: Clock, W: Words>(
     cycle(hands, hands_before);
 }
 
-/// Serves a shop behind its lock, with so many of the lanes as there are rooms and so many of the hands as there are benches.
+/// Serves a shop behind its lock, with so many of the lanes as there are rooms and so many of the hands as there are benches. Workers stop where the gate
+/// is closed.
 pub fn serve_seated<
     D: Disk + Send,
     A: Doors + Send,
     E: Store + Send,
     C: Clock + Send,
     W: Words + Send,
+    G: Gate + Sync,
     R: Threads + Wait + Sync,
 >(
     rt: &R,
@@ -145,6 +148,7 @@ pub fn serve_seated<
     lanes: &mut Vec<Lane<A, C>>,
     hands: &mut Vec<Hand<E, C, W>>,
     connections: Option<u32>,
+    gate: &G,
 ) -> Served<D>
 where
     A::Line: Send,
@@ -158,7 +162,7 @@ where
     requires room { (length seats.rooms.items ≤ vec_capacity seats.booths) × (length seats.benches.items ≤ vec_capacity seats.stations) }
     requires idle { All (λ bench. bench.held ≡ []) seats.benches.items }
     requires some { IfSome connections (λ most. 1 ≤ most) }
-    ensures ran { RanTogether (world_of D.Disk E.Store A.Doors A.Line.Source A.Line.Sink C.Clock W.Words) first connections lanes.old.items lanes.new.items hands.old.items hands.new.items
+    ensures ran { RanTogether (world_of D.Disk E.Store A.Doors A.Line.Source A.Line.Sink C.Clock W.Words (G.closes gate.now)) first connections lanes.old.items lanes.new.items hands.old.items hands.new.items
         seats.rooms.items seats.benches.items result.shop result.end }
     ensures many { (length lanes.new.items ≡ length lanes.old.items) × (length hands.new.items ≡ length hands.old.items) }
 {
@@ -167,12 +171,14 @@ where
         shop: &lock,
         alloc,
         connections,
+        gate,
     };
     serve_lists(rt, &hall, &mut seated.booths, &mut seated.stations);
     let Hall {
         shop: _,
         alloc: _,
         connections: _,
+        gate: _,
     } = hall;
     let end = served(&seated.booths, &seated.stations);
     leave_seats(seated, lanes, hands, &mut passes);

@@ -15,22 +15,24 @@ use fts_shop::{Shop, Station, Work, beside, spread, worker};
 use fts_store::Store;
 use fts_tables::{Clock, Words};
 use fts_turnstile::Turnstile;
-use fts_workers::NoGate;
+use fts_workers::{Gate, NoGate};
 use std::alloc::Global;
 use std::sync::Wait;
 use std::thread::Threads;
 
-/// What all lanes and workers of a run share: the lock, where memory comes from, and how many lines a lane serves at most, which is at least 1.
-pub struct Hall<'a, D: Disk> {
+/// What all lanes and workers of a run share: the lock, where memory comes from, how many lines a lane serves at most, which is at least 1, and the gate
+/// before copies.
+pub struct Hall<'a, D: Disk, G> {
     pub shop: &'a Turnstile<Shop<D>>,
     pub alloc: Global,
     pub connections: Option<u32>,
+    pub gate: &'a G,
 }
 
 /// The work of a lane at its booth.
 struct AtBooths;
 
-impl<'a, D: Disk, A: Doors, C: Clock> Work<Hall<'a, D>, Booth<D, A, C>> for AtBooths {
+impl<'a, D: Disk, A: Doors, C: Clock, G> Work<Hall<'a, D, G>, Booth<D, A, C>> for AtBooths {
     ghost use Rattle.fts_service.specs.Lanes.{sides_of};
     ghost use Rattle.fts_service.specs.Halls.{IsBoothServed, IsBoothReady};
 
@@ -38,7 +40,7 @@ impl<'a, D: Disk, A: Doors, C: Clock> Work<Hall<'a, D>, Booth<D, A, C>> for AtBo
 
     ghost done = { λ hall old new. IsBoothServed (sides_of A.Line.Source A.Line.Sink) A.Doors C.Clock hall.connections old new };
 
-    fn work<R: Wait>(rt: &R, shared: &Hall<'a, D>, job: &mut Booth<D, A, C>) {
+    fn work<R: Wait>(rt: &R, shared: &Hall<'a, D, G>, job: &mut Booth<D, A, C>) {
         serve_lane(rt, shared.alloc, shared.shop, job, shared.connections);
     }
 }
@@ -46,16 +48,16 @@ impl<'a, D: Disk, A: Doors, C: Clock> Work<Hall<'a, D>, Booth<D, A, C>> for AtBo
 /// The work of a worker at its station.
 struct AtStations;
 
-impl<'a, D: Disk, E: Store, C: Clock, W: Words> Work<Hall<'a, D>, Station<D, E, C, W>>
+impl<'a, D: Disk, E: Store, C: Clock, W: Words, G: Gate> Work<Hall<'a, D, G>, Station<D, E, C, W>>
     for AtStations {
     ghost use Rattle.fts_service.specs.Halls.{IsStationWorked, IsStationReady};
 
     ghost ready = { λ hall station. IsStationReady hall.shop.now station };
 
-    ghost done = { λ hall old new. IsStationWorked E.Store C.Clock W.Words old new };
+    ghost done = { λ hall old new. IsStationWorked E.Store C.Clock W.Words (G.closes hall.gate.now) old new };
 
-    fn work<R: Wait>(rt: &R, shared: &Hall<'a, D>, job: &mut Station<D, E, C, W>) {
-        worker(rt, shared.shop, job, &NoGate);
+    fn work<R: Wait>(rt: &R, shared: &Hall<'a, D, G>, job: &mut Station<D, E, C, W>) {
+        worker(rt, shared.shop, job, shared.gate);
     }
 }
 
@@ -67,16 +69,22 @@ pub fn serve_all<
     E: Store + Send,
     C: Clock + Send,
     W: Words + Send,
+    G: Gate + Sync,
     R: Threads + Wait + Sync,
->(rt: &R, hall: &Hall<'_, D>, booths: &mut [Booth<D, A, C>], stations: &mut [Station<D, E, C, W>])
+>(
+    rt: &R,
+    hall: &Hall<'_, D, G>,
+    booths: &mut [Booth<D, A, C>],
+    stations: &mut [Station<D, E, C, W>],
+)
 where
     A::Line: Send,
     requires booths { All (IsBoothReady hall.now.shop.now hall.now.connections) booths.old }
     requires stations { All (IsStationReady hall.now.shop.now) stations.old }
     ensures booths { Each (IsBoothServed (sides_of A.Line.Source A.Line.Sink) A.Doors C.Clock hall.now.connections) booths.old booths.new }
-    ensures stations { Each (IsStationWorked E.Store C.Clock W.Words) stations.old stations.new }
+    ensures stations { Each (IsStationWorked E.Store C.Clock W.Words (G.closes hall.now.gate.now)) stations.old stations.new }
 {
-    beside::<AtStations, AtBooths, Hall<'_, D>, Station<D, E, C, W>, Booth<D, A, C>, R>(
+    beside::<AtStations, AtBooths, Hall<'_, D, G>, Station<D, E, C, W>, Booth<D, A, C>, R>(
         rt, hall, stations, booths,
     );
 }
@@ -98,11 +106,13 @@ where
         shop,
         alloc,
         connections,
+        gate: &NoGate,
     };
-    spread::<AtBooths, Hall<'_, D>, Booth<D, A, C>, R>(rt, &hall, booths);
+    spread::<AtBooths, Hall<'_, D, NoGate>, Booth<D, A, C>, R>(rt, &hall, booths);
     let Hall {
         shop: _,
         alloc: _,
         connections: _,
+        gate: _,
     } = hall;
 }

@@ -26,9 +26,10 @@ fn severity(end: WorkerEnd) -> u8
 {
     match end {
         WorkerEnd::Drained => 0,
-        WorkerEnd::Memory => 1,
-        WorkerEnd::JournalFull { used: _ } => 2,
-        WorkerEnd::DiskFailed => 3,
+        WorkerEnd::Stopped => 1,
+        WorkerEnd::Memory => 2,
+        WorkerEnd::JournalFull { used: _ } => 3,
+        WorkerEnd::DiskFailed => 4,
     }
 }
 

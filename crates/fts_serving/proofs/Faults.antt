@@ -204,6 +204,7 @@ module _ {E : Type 0} (stores : store.Ghosts E) where
 -- the fault by which a worker ended, by its last turn
 abbrev pub worker_fault : WorkerEnd → Option KeepFault
 worker_fault worker_ends.Drained = None
+worker_fault worker_ends.Stopped = None
 worker_fault worker_ends.Memory = None
 worker_fault worker_ends.DiskFailed = Some DiskFailed
 worker_fault (worker_ends.JournalFull used) = Some (JournalFull used)
@@ -232,6 +233,17 @@ last_fault (turn_ends.Memory lanes) end fault is by =
   where
     none_some : (fault : KeepFault) → ◌≡◌ {A = Option KeepFault} None (Some fault) → ⊥
     none_some fault is = absurd cc
+
+-- the same, however the worker ended behind it
+pub fault_behind : {closes : Bool} {last : Turn} {held : List Held} {ended : Option WorkerEnd} (end : WorkerEnd) (fault : KeepFault)
+    → EndsBehind closes last held ended → ended ≡ Some end → worker_fault end ≡ Some fault → fault_of last ≡ Some fault
+fault_behind {last = last} end fault (inl by_turn) is by = last_fault last end fault (sym by_turn ∙ is) by
+fault_behind end fault (inr stopped) is by =
+    let same : worker_ends.Stopped ≡ end = cc in
+    absurd (none_some (ap worker_fault same ∙ by))
+  where
+    none_some : ◌≡◌ {A = Option KeepFault} None (Some fault) → ⊥
+    none_some is = absurd cc
 
 -- what didn't fit was accepted by the machine
 unfit : (fit : Bool) (used full : ℕ) (found : Tables × Answer)

@@ -28,9 +28,10 @@ use Rattle.fts_shop.specs.Looked.{items_on}
 use Rattle.fts_workers.proofs.Accepted.{legal_front}
 use Rattle.fts_shop.specs.Shops.{IsToldList, ShopData, faults_shown, lanes_shown, writer_of}
 use Rattle.fts_shop.specs.Turns.{hand_data}
-use Rattle.fts_shop.specs.Workers.{StationData, WorkerDone, station_data, worker_end_of}
+use Rattle.fts_shop.specs.Workers.{StationData, WorkerDone, station_data}
+use Rattle.fts_shop.specs.declared.ends.Turn.TheVariants.{Stale}
 use Rattle.fts_shop.specs.declared.ends.WorkerEnd.{WorkerEnd}
-use Rattle.fts_shop.specs.declared.ends.WorkerEnd.TheVariants.{Drained, DiskFailed as DiskFailedEnd, JournalFull as JournalFullEnd, Memory as MemoryEnd}
+use Rattle.fts_shop.specs.declared.ends.WorkerEnd.TheVariants.{Drained, Stopped, DiskFailed as DiskFailedEnd, JournalFull as JournalFullEnd, Memory as MemoryEnd}
 use Rattle.fts_shop.specs.declared.station.Station.{Station}
 use Rattle.fts_service.specs.Halls.{IsBoothServed, IsStationWorked}
 use Rattle.fts_service.specs.Seats.{booths_of, stations_of}
@@ -47,15 +48,15 @@ use Rattle.fts_service.specs.declared.lane.Lane.{Lane}
 use Rattle.fts_ledger.specs.Claims.{IsOut, IsOwn, last_claim}
 use Rattle.fts_ledger.specs.Ledger.{AreFresh, FollowsOwn, KeepsItsFiles, KeepsLedger, MayKeep}
 use Rattle.fts_ledger.specs.Reports.{AddsAsked, AddsWork, HasNoRestart, IsUndisturbed, ReportsOwn}
-use Rattle.fts_serving.specs.Ends.{AreDrained, IsOpenedBy, KeepTheLedger, KeepsOwn, LeavesNothing}
+use Rattle.fts_serving.specs.Ends.{AreAtRest, AreDrained, IsOpenedBy, KeepTheLedger, KeepsOwn, LeavesNothing}
 use Rattle.fts_serving.proofs.Last.{HasLast, given_last, last_of, last_or_behind, last_there, none_above, none_among, none_last, not_behind, within}
 use Rattle.fts_serving.proofs.Open.{LaneTurns, Rules, has_turn, none_open, open_all, open_behind, open_lanes, own_turn, there_behind}
 use Rattle.fts_serving.proofs.Own.{asked_none, named_back, none_items}
-use Rattle.fts_serving.proofs.Seats.{At, Seat, booths_given, drop_given, each_idle, each_weaker, each_with, giver_from, seat_at, seats, seen_behind, stations_given}
+use Rattle.fts_serving.proofs.Seats.{At, Seat, all_weaker, booths_given, drop_given, each_idle, each_weaker, each_with, giver_from, seat_at, seats, seen_behind, stations_given}
 use Rattle.fts_serving.specs.Finishes.{NoneRises, RecordPasses}
 use Rattle.fts_serving.proofs.Finishing.{doors_rose, ended_by, failed_doors, none_rises_at, rose_before, some_end}
-use Rattle.fts_serving.proofs.Faults.{Failed, full_by, last_fault, turn_fails, worker_fault}
-use Rattle.fts_serving.proofs.Stations.{FindsNone, between_same, drained_finds_none}
+use Rattle.fts_serving.proofs.Faults.{Failed, full_by, fault_behind, turn_fails, worker_fault}
+use Rattle.fts_serving.proofs.Stations.{FindsNone, between_same, drained_finds_none, stopped_holds}
 use Rattle.fts_serving.proofs.Whole.{Laws, OfWorker, keeps, may, of_lane, of_worker, seen}
 use Rattle.fts_store.specs.declared.store.Store as store
 use Rattle.fts_service.specs.Worlds.{World}
@@ -85,9 +86,9 @@ pub record ListLaws : Type 0 where
 pub record StoreLaws {E : Type 0} (stores : store.Ghosts E) : Type 0 where
   pub own : Laws stores
   pub before : (pass : PassView Entry) (later : List (LoggedTurn Entry)) → IsUndisturbed pass.number pass.opening (items_of (pass.seen ++ later)) → KeepsItsFiles pass
-  pub follow : (old new : StationData E) (done : WorkerDone stores old new) → MayKeep old.pass new.pass old.held
+  pub follow : (closes : Bool) (old new : StationData E) (done : WorkerDone stores closes old new) → MayKeep old.pass new.pass old.held
       → KeepsItsFiles new.pass
-      → FollowsOwn stores old new × AreFresh stores done.more old done.between
+      → FollowsOwn stores old new × AreFresh stores done.more old done.between × ((file : ℕ) → done.last ≢ Stale file)
 
 -- what adds nothing works and asks for nothing
 work_none : (writer : ℕ) (entries : List Entry) → NoneOf writer entries → AddsWork writer entries
@@ -154,13 +155,13 @@ module _ {D A E C W L : Type 0} (world : World D A E C W L)
 
   -- a worker's work, from an empty bench
   abbrev Worked : Station D E C W → Station D E C W → Type 0
-  Worked old new = IsStationWorked world.stores world.clocks world.words old new × (old.bench.held ≡ [])
+  Worked old new = IsStationWorked world.stores world.clocks world.words world.closes old new × (old.bench.held ≡ [])
 
   abbrev passes_behind : List (PassView Entry)
   passes_behind = drop (length serves.rooms) (passes_given (giver_from first 0) first.given)
 
   worked : Each Worked (stations_of hands serves.benches passes_behind) serves.ran.stations
-  worked = each_idle (IsStationWorked world.stores world.clocks world.words) hands serves.benches passes_behind serves.ran.stations
+  worked = each_idle (IsStationWorked world.stores world.clocks world.words world.closes) hands serves.benches passes_behind serves.ran.stations
       serves.ran.worked serves.ran.idle
 
   stations_are : map (λ (station : Station D E C W). station.pass) (stations_of hands serves.benches passes_behind)
@@ -283,24 +284,21 @@ module _ {D A E C W L : Type 0} (world : World D A E C W L)
 
   -- each worker's own
   keeps_own : (old new : Station D E C W) → Seat (λ (station : Station D E C W). station.pass) Worked turns first old new
-      → KeepsOwn world.stores (station_data world.clocks world.words old) (station_data world.clocks world.words new)
+      → KeepsOwn world.stores world.closes (station_data world.clocks world.words old) (station_data world.clocks world.words new)
   keeps_own old new seat =
       let is = numbered (suc seat.given) seat.given old.pass refl seat.pass in
       let done = seat.holds.0 in
       let files : KeepsItsFiles new.pass = laws.before new.pass seat.since.0
       (subst (λ t. IsUndisturbed new.pass.number new.pass.opening (items_of t)) seat.since.1
       (subst (λ o. IsUndisturbed new.pass.number o items) (sym (done.same.1 ∙ is.1.0 ∙ opening_is)) (undisturbed new.pass.number))) in
-      let follows = laws.follow (station_data world.clocks world.words old) (station_data world.clocks world.words new) done
+      let follows = laws.follow world.closes (station_data world.clocks world.words old) (station_data world.clocks world.words new) done
       (station_may old new seat.given seat.pass seat.since seat.holds) files in
       record {
         done = done;
         follows = follows.0;
         fresh = follows.1;
-        last = λ file stale. not_ended new.end (ap worker_end_of stale) done.end_is done.ended;
+        last = follows.2;
       }
-    where
-      not_ended : (ended : Option WorkerEnd) {of : Option WorkerEnd} → of ≡ None → ended ≡ of → IsSome ended → ⊥
-      not_ended ended none is there = absurd (let e = is ∙ none in cc)
 
   -- all seats of workers
   pub station_seats : Each (Seat (λ (station : Station D E C W). station.pass) Worked turns first) (stations_of hands serves.benches passes_behind) serves.ran.stations
@@ -315,7 +313,7 @@ module _ {D A E C W L : Type 0} (world : World D A E C W L)
       let done = seat.holds.0 in
       let between = between_same world.stores (station_data world.clocks world.words old) (station_data world.clocks world.words new) is.1.1.1 done in
       let fails = turn_fails world.stores done.between.pass new.pass done.between.hand (hand_data world.clocks world.words new.hand) done.between.held done.last
-      new.bench.held fault (λ none. told (sym is.1.0 ∙ sym between.1 ∙ none)) done.ends (last_fault done.last ended fault (sym done.end_is ∙ end_is) by) in
+      new.bench.held fault (λ none. told (sym is.1.0 ∙ sym between.1 ∙ none)) done.ends (fault_behind ended fault done.end_is end_is by) in
       let shows : new.pass.opening_shows ≡ first.opening_shows = done.same.2 ∙ is.1.1.0 in
       let opens : new.pass.opening ≡ first.opening = done.same.1 ∙ is.1.0 in
       record {
@@ -333,56 +331,53 @@ module _ {D A E C W L : Type 0} (world : World D A E C W L)
             (fails.tries.full used (fails.is ∙ ap (λ (f : KeepFault). Err f) full));
       }
 
-  pub stations : Each (λ old new. KeepsOwn world.stores (station_data world.clocks world.words old) (station_data world.clocks world.words new))
+  pub stations : Each (λ old new. KeepsOwn world.stores world.closes (station_data world.clocks world.words old) (station_data world.clocks world.words new))
       (stations_of hands serves.benches passes_behind) serves.ran.stations
   stations = each_weaker (Seat (λ (station : Station D E C W). station.pass) Worked turns first)
-      (λ old new. KeepsOwn world.stores (station_data world.clocks world.words old) (station_data world.clocks world.words new)) keeps_own
+      (λ old new. KeepsOwn world.stores world.closes (station_data world.clocks world.words old) (station_data world.clocks world.words new)) keeps_own
       (stations_of hands serves.benches passes_behind) serves.ran.stations
       station_seats
 
-  -- where all ended drained
-  module _ (drained : AreDrained world serves) where
+  -- where all ended drained, or were stopped
+  module _ (rested : AreAtRest world serves) where
     -- work that ended so
-    abbrev Drains : Station D E C W → Station D E C W → Type 0
-    Drains old new = Worked old new × (new.end ≡ Some Drained)
+    abbrev Rests : Station D E C W → Station D E C W → Type 0
+    Rests old new = Worked old new × ((new.end ≡ Some Drained) ⊎ (new.end ≡ Some Stopped))
 
-    drains : Each Drains (stations_of hands serves.benches passes_behind) serves.ran.stations
-    drains = each_with Worked (λ (station : Station D E C W). station.end ≡ Some Drained) (stations_of hands serves.benches passes_behind) serves.ran.stations
-        worked drained
+    rests : Each Rests (stations_of hands serves.benches passes_behind) serves.ran.stations
+    rests = each_with Worked (λ (station : Station D E C W). (station.end ≡ Some Drained) ⊎ (station.end ≡ Some Stopped))
+        (stations_of hands serves.benches passes_behind) serves.ran.stations worked rested
 
-    -- a drained worker by its number: what its last turn found, where that stands, and that it holds nothing
-    record Found (n : ℕ) : Type 0 where
+    -- a worker at rest by its number: where its pass stands, and that it holds nothing
+    record Rested (n : ℕ) : Type 0 where
       pass : PassView Entry
-      number : pass.number ≡ n
       opening : pass.opening ≡ first.opening
-      shows : pass.opening_shows ≡ first.opening_shows
-      finds : FindsNone pass
       later : List (LoggedTurn Entry)
       is : turns ≡ pass.seen ++ later
       none : NoneBy (n ∷ []) later
       whole : (file : ℕ) → IsOut file (pass.opening ++ items_of pass.seen) → IsOwn n (last_claim file pass.opening (items_of pass.seen)) → ⊥
 
-    found : (n : ℕ) → lanes < n → n ≤ lanes + workers → Found n
-    found n low high =
-        let at = station_at Drains drains n low high in
+    rested_at : (n : ℕ) → lanes < n → n ≤ lanes + workers → Rested n
+    rested_at n low high =
+        let at = station_at Rests rests n low high in
         let is = numbered n at.seat.given at.old.pass at.is at.seat.pass in
         let done = at.seat.holds.0.0 in
         let old = station_data world.clocks world.words at.old in
         let new = station_data world.clocks world.words at.new in
-        let ends = drained_finds_none world.stores old new (λ none. told (sym is.1.0 ∙ none)) is.1.1.1 done at.seat.holds.1 in
+        let holds : at.new.bench.held ≡ [] = ⊎_elim
+            (λ drained. (drained_finds_none world.stores old new (λ none. told (sym is.1.0 ∙ none)) is.1.1.1 done drained).1)
+            (λ stopped. (stopped_holds world.stores old new done stopped).0)
+            at.seat.holds.1 in
         let kept = station_keeps at.old at.new at.seat.given at.seat.pass at.seat.since at.seat.holds.0 in
         let number : at.new.pass.number ≡ n = done.same.3 ∙ is.0 in
         record {
           pass = at.new.pass;
-          number = number;
           opening = done.same.1 ∙ is.1.0;
-          shows = done.same.2 ∙ is.1.1.0;
-          finds = ends.0;
           later = at.seat.since.0;
           is = at.seat.since.1;
           none = subst (λ m. NoneBy (m ∷ []) at.seat.since.0) number at.seat.since.2;
           whole = λ file out own.
-              subst (λ (held : List Held). Among file (map (λ (one : Held). one.file) held)) ends.1
+              subst (λ (held : List Held). Among file (map (λ (one : Held). one.file) held)) holds
               (kept.held_is_out.whole file out (subst (λ m. IsOwn m (last_claim file at.new.pass.opening (items_of at.new.pass.seen))) (sym number) own));
         }
 
@@ -399,7 +394,7 @@ module _ {D A E C W L : Type 0} (world : World D A E C W L)
 
         worker : (writer : ℕ) → lanes < writer → writer ≤ lanes + workers → IsOwn writer (last_claim file keep.entries items) → ⊥
         worker writer low high own =
-            let at = found writer low high in
+            let at = rested_at writer low high in
             let all : items ≡ items_of at.pass.seen ++ items_of at.later = ap items_of at.is ∙ items_on at.pass.seen at.later in
             let none = none_items writer at.later at.none (named_back at.pass.seen at.later (subst (AllNamed writer_of) at.is named)) in
             let before = lists.before writer file keep.entries (items_of at.pass.seen) (items_of at.later) none
@@ -418,6 +413,50 @@ module _ {D A E C W L : Type 0} (world : World D A E C W L)
             (λ above. lists.asked writer file keep.entries items (asked_none writer items (none_of_above writer above)) own)
             (within writer (lanes + workers)))
             (within writer lanes)
+
+    pub none_out : out_of_list (keep.entries ++ items) ≡ []
+    none_out = none_among (out_of_list (keep.entries ++ items)) not_out
+
+  -- where all ended drained
+  module _ (drained : AreDrained world serves) where
+    -- work that ended so
+    abbrev Drains : Station D E C W → Station D E C W → Type 0
+    Drains old new = Worked old new × (new.end ≡ Some Drained)
+
+    drains : Each Drains (stations_of hands serves.benches passes_behind) serves.ran.stations
+    drains = each_with Worked (λ (station : Station D E C W). station.end ≡ Some Drained) (stations_of hands serves.benches passes_behind) serves.ran.stations
+        worked drained
+
+    -- a drained worker by its number: what its last turn found, and where that stands
+    record Found (n : ℕ) : Type 0 where
+      pass : PassView Entry
+      number : pass.number ≡ n
+      opening : pass.opening ≡ first.opening
+      shows : pass.opening_shows ≡ first.opening_shows
+      finds : FindsNone pass
+      later : List (LoggedTurn Entry)
+      is : turns ≡ pass.seen ++ later
+      none : NoneBy (n ∷ []) later
+
+    found : (n : ℕ) → lanes < n → n ≤ lanes + workers → Found n
+    found n low high =
+        let at = station_at Drains drains n low high in
+        let is = numbered n at.seat.given at.old.pass at.is at.seat.pass in
+        let done = at.seat.holds.0.0 in
+        let old = station_data world.clocks world.words at.old in
+        let new = station_data world.clocks world.words at.new in
+        let ends = drained_finds_none world.stores old new (λ none. told (sym is.1.0 ∙ none)) is.1.1.1 done at.seat.holds.1 in
+        let number : at.new.pass.number ≡ n = done.same.3 ∙ is.0 in
+        record {
+          pass = at.new.pass;
+          number = number;
+          opening = done.same.1 ∙ is.1.0;
+          shows = done.same.2 ∙ is.1.1.0;
+          finds = ends.0;
+          later = at.seat.since.0;
+          is = at.seat.since.1;
+          none = subst (λ m. NoneBy (m ∷ []) at.seat.since.0) number at.seat.since.2;
+        }
 
     -- the rules by which lanes are shown
     rules : Rules lanes (lanes + workers) first.opening_shows turns
@@ -504,7 +543,8 @@ module _ {D A E C W L : Type 0} (world : World D A E C W L)
         by (turn ∷ all) is = let last = last_of turn all in by_last (record { before = last.before; turn = last.turn; is = is ∙ last.is })
 
     pub nothing_left : LeavesNothing (keep.entries ++ items)
-    nothing_left = record { none_out = none_among (out_of_list (keep.entries ++ items)) not_out; none_waits = none_waits }
+    nothing_left = record { none_out = none_out (all_weaker (λ (station : Station D E C W). station.end ≡ Some Drained)
+          (λ (station : Station D E C W). (station.end ≡ Some Drained) ⊎ (station.end ≡ Some Stopped)) (λ station is. inl is) serves.ran.stations drained); none_waits = none_waits }
 
   pub ledger : KeepTheLedger world serves
   ledger = record {
@@ -513,6 +553,7 @@ module _ {D A E C W L : Type 0} (world : World D A E C W L)
     own = own;
     undisturbed = undisturbed;
     stations = stations;
+    none_out = none_out;
     nothing_left = nothing_left;
   }
 
@@ -540,6 +581,9 @@ module _ {D A E C W L : Type 0} (world : World D A E C W L)
     unlike_disk : DiskFailedEnd ≢ Drained
     unlike_disk is = absurd cc
 
+    unlike_stop : Stopped ≢ Drained
+    unlike_stop is = absurd cc
+
     unlike_full : (used : ℕ) → JournalFullEnd used ≢ Drained
     unlike_full used is = absurd cc
 
@@ -547,6 +591,13 @@ module _ {D A E C W L : Type 0} (world : World D A E C W L)
     no_disk worst =
         let at = failed_by DiskFailedEnd DiskFailed unlike_disk refl worst in
         none_rises_at first.opening_shows at.before at.turn at.later (subst (NoneRises first.opening_shows) at.is none_rises) (at.cause refl)
+
+    -- a worker that was stopped had a gate that may be closed
+    gate_closes : worst_of worker_ends ≡ Stopped → world.closes ≡ true
+    gate_closes worst =
+        let ended = ended_by (Seat (λ (station : Station D E C W). station.pass) Worked turns first) Stopped (stations_of hands serves.benches passes_behind)
+        serves.ran.stations station_seats (some_end Stopped worker_ends unlike_stop worst) in
+        (stopped_holds world.stores (station_data world.clocks world.words ended.old) (station_data world.clocks world.words ended.new) ended.holds.holds.0 ended.ended).1
 
     record_passes : (used : ℕ) → worst_of worker_ends ≡ JournalFullEnd used → RecordPasses (keep.entries ++ items)
     record_passes used worst =
@@ -567,15 +618,18 @@ module _ {D A E C W L : Type 0} (world : World D A E C W L)
           passes = full.1;
         }
 
-    pub ends_well : (status_of end ≡ 0) ⊎ ((status_of end ≡ 1) ⊎ ((status_of end ≡ 11) × RecordPasses (keep.entries ++ items)))
+    pub ends_well : (status_of end ≡ 0) ⊎ ((status_of end ≡ 1) ⊎ (((status_of end ≡ 11) × RecordPasses (keep.entries ++ items))
+        ⊎ ((status_of end ≡ 23) × (world.closes ≡ true))))
     ends_well = ⊎_elim
         (λ failed. absurd (no_doors failed.0))
         (λ ended. by (worst_of worker_ends) refl ended.1)
         (failed_doors lane_ends worker_ends end (serves.ended ∙ ap end_when_served serves.ran.ended))
       where
         by : (worst : WorkerEnd) → worst_of worker_ends ≡ worst → end ≡ Served (worst_of worker_ends)
-            → (status_of end ≡ 0) ⊎ ((status_of end ≡ 1) ⊎ ((status_of end ≡ 11) × RecordPasses (keep.entries ++ items)))
+            → (status_of end ≡ 0) ⊎ ((status_of end ≡ 1) ⊎ (((status_of end ≡ 11) × RecordPasses (keep.entries ++ items))
+            ⊎ ((status_of end ≡ 23) × (world.closes ≡ true))))
+        by Stopped is ended = inr (inr (inr (ap status_of (ended ∙ ap Served is), gate_closes is)))
         by Drained is ended = inl (ap status_of (ended ∙ ap Served is))
         by MemoryEnd is ended = inr (inl (ap status_of (ended ∙ ap Served is)))
         by DiskFailedEnd is ended = absurd (no_disk is)
-        by (JournalFullEnd used) is ended = inr (inr (ap status_of (ended ∙ ap Served is), record_passes used is))
+        by (JournalFullEnd used) is ended = inr (inr (inl (ap status_of (ended ∙ ap Served is), record_passes used is)))

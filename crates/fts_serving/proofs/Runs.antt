@@ -1,13 +1,13 @@
 -- A run that serves, from its start to its closed shop.
 use Rattle.std.proofs.Common.{◌≡◌, ◌≢◌, refl, sym, ap, ◌∙◌, subst, inl, inr, ⊎_elim, ℕ, zero, suc, ◌+◌, ◌<◌, ◌≤◌, Bool, true, false, cond, List, [], ◌∷◌, ◌++◌, length, map, All, Option, Some, None, Result, Err, arith, append-nil}
 use Rattle.std.proofs.lemmas.Bool.{leb-true, ltb-false, ltb-true}
-use Rattle.std.specs.Prelude.{◌⊎◌, ◌&&◌, nat_le, nat_lt, unwrap_or, IfSome, IsOk, IsSome, IsTrue}
+use Rattle.std.specs.Prelude.{◌⊎◌, ◌==◌, ◌&&◌, nat_le, nat_lt, unwrap_or, IfSome, IsOk, IsSome, IsTrue}
 use Rattle.std.specs.List.{AllByRecursion, list_any}
 use Rattle.std.proofs.lemmas.List.Elements.{All-cons, All-nil}
 use Rattle.fts_tables.specs.Coming.{Coming}
 use Rattle.fts_tables.specs.SettingsData.{SettingsData, has_worker_range}
 use Rattle.fts_tables.specs.Tables.{empty_tables}
-use Rattle.fts_tables.specs.History.{IsLegal}
+use Rattle.fts_tables.specs.History.{IsLegal, out_of_list}
 use Rattle.fts_tables.specs.declared.commands.Entry.{Entry}
 use Rattle.fts_disk.specs.Disk.{IsTold}
 use Rattle.fts_turnstile.specs.History.{items_of}
@@ -37,7 +37,7 @@ use Rattle.fts_service.specs.declared.lane.LaneStop.{LaneStop}
 use Rattle.fts_top.specs.declared.tally.Tally.{Tally}
 use Rattle.fts_service.specs.declared.together.ServedEnd.{ServedEnd}
 use Rattle.fts_service.specs.declared.together.ServedEnd.TheVariants as served_ends
-use Rattle.fts_serving.specs.Ends.{KeepTheLedger, KeptWhereServed, LeavesDisk, LeavesNothing, stations_before}
+use Rattle.fts_serving.specs.Ends.{KeepTheLedger, KeptWhereServed, LeavesDisk, LeavesNoneOut, LeavesNothing, stations_before}
 use Rattle.fts_serving.specs.Finishes.{BreaksNoRule, EndsWell, Finishes}
 use Rattle.fts_serving.proofs.Ledger.{ListLaws, StoreLaws, ends_well, ledger}
 use Rattle.fts_disk.specs.declared.disk.Disk as disk
@@ -62,6 +62,7 @@ undoubted entries (Some entry) legal = legal_front empty_tables entries (entry �
 -- the worst of ends is drained only where all are
 not_less : (end : WorkerEnd) → severity_of end ≡ 0 → end ≡ worker_ends.Drained
 not_less worker_ends.Drained is = refl
+not_less worker_ends.Stopped is = absurd cc
 not_less worker_ends.Memory is = absurd cc
 not_less (worker_ends.JournalFull used) is = absurd cc
 not_less worker_ends.DiskFailed is = absurd cc
@@ -92,10 +93,67 @@ drained_all worst (station ∷ stations) is ended =
     one None there least = absurd cc
     one (Some end) there least = ap Some (not_less end least)
 
+-- the worst of ends is a stop only where all are at rest
+abbrev pub IsAtRest : Option WorkerEnd → Type 0
+IsAtRest end = (end ≡ Some worker_ends.Drained) ⊎ (end ≡ Some worker_ends.Stopped)
+
+least_rests : (end : WorkerEnd) → severity_of end ≤ 1 → IsAtRest (Some end)
+least_rests worker_ends.Drained least = inl refl
+least_rests worker_ends.Stopped least = inr refl
+least_rests worker_ends.Memory least = absurd (omega (arith, least))
+least_rests (worker_ends.JournalFull used) least = absurd (omega (arith, least))
+least_rests worker_ends.DiskFailed least = absurd (omega (arith, least))
+
+worse_upto : (one other : WorkerEnd) (most : ℕ) → severity_of (worse_of one other) ≤ most → (severity_of one ≤ most) × (severity_of other ≤ most)
+worse_upto one other most is = by (nat_lt (severity_of one) (severity_of other)) refl is
+  where
+    by : (less : Bool) → nat_lt (severity_of one) (severity_of other) ≡ less → severity_of (cond less other one) ≤ most
+        → (severity_of one ≤ most) × (severity_of other ≤ most)
+    by true at upto = (omega (arith, ltb-true (severity_of one) (severity_of other) at, upto), upto)
+    by false at upto = (upto, omega (arith, ltb-false (severity_of one) (severity_of other) at, upto))
+
+worst_upto : (worst : WorkerEnd) (ends : List (Option WorkerEnd)) (most : ℕ) → severity_of (worst_from worst ends) ≤ most → severity_of worst ≤ most
+worst_upto worst [] most is = is
+worst_upto worst (end ∷ ends) most is =
+    (worse_upto worst (unwrap_or end worker_ends.Drained) most (worst_upto (worse_of worst (unwrap_or end worker_ends.Drained)) ends most is)).0
+
+rest_all : {D E C W : Type 0} (worst : WorkerEnd) (stations : List (Station D E C W)) → severity_of (worst_from worst (map (λ (s : Station D E C W). s.end) stations)) ≤ 1
+    → AllByRecursion (λ (s : Station D E C W). IsSome s.end) stations → All (λ (s : Station D E C W). IsAtRest s.end) stations
+rest_all worst [] is ended = All-nil (λ s. IsAtRest s.end)
+rest_all worst (station ∷ stations) is ended =
+    All-cons (λ s. IsAtRest s.end) station stations
+    (one station.end ended.0
+    (worse_upto worst (unwrap_or station.end worker_ends.Drained) 1
+    (worst_upto (worse_of worst (unwrap_or station.end worker_ends.Drained)) (map (λ s. s.end) stations) 1 is)).1)
+    (rest_all (worse_of worst (unwrap_or station.end worker_ends.Drained)) stations is ended.1)
+  where
+    one : (end : Option WorkerEnd) → IsSome end → severity_of (unwrap_or end worker_ends.Drained) ≤ 1 → IsAtRest end
+    one None there least = absurd cc
+    one (Some end) there least = least_rests end least
+
+-- a served end with status 23 is that of workers of which the worst was stopped
+served_stopped : (served : ServedEnd) → status_of (end_when_served served) ≡ 23 → served ≡ served_ends.Worked worker_ends.Stopped
+served_stopped served_ends.DoorsFailed is = absurd cc
+served_stopped (served_ends.Worked worker_ends.Drained) is = absurd cc
+served_stopped (served_ends.Worked worker_ends.Stopped) is = refl
+served_stopped (served_ends.Worked worker_ends.Memory) is = absurd cc
+served_stopped (served_ends.Worked worker_ends.DiskFailed) is = absurd cc
+served_stopped (served_ends.Worked (worker_ends.JournalFull used)) is = absurd cc
+
+stopped_worst : (stops : List (Option LaneStop)) (ends : List (Option WorkerEnd)) → served_end stops ends ≡ served_ends.Worked worker_ends.Stopped
+    → severity_of (worst_of ends) ≤ 1
+stopped_worst stops ends is = by (list_any are_doors_failed stops) is
+  where
+    by : (failed : Bool) → cond failed served_ends.DoorsFailed (served_ends.Worked (worst_of ends)) ≡ served_ends.Worked worker_ends.Stopped
+        → severity_of (worst_of ends) ≤ 1
+    by true is = absurd cc
+    by false is = let same : worst_of ends ≡ worker_ends.Stopped = cc in omega (arith, ap severity_of same)
+
 -- a served end with status 0 is that of workers that are all drained
 served_zero : (served : ServedEnd) → status_of (end_when_served served) ≡ 0 → served ≡ served_ends.Worked worker_ends.Drained
 served_zero served_ends.DoorsFailed is = absurd cc
 served_zero (served_ends.Worked worker_ends.Drained) is = refl
+served_zero (served_ends.Worked worker_ends.Stopped) is = absurd cc
 served_zero (served_ends.Worked worker_ends.Memory) is = absurd cc
 served_zero (served_ends.Worked worker_ends.DiskFailed) is = absurd cc
 served_zero (served_ends.Worked (worker_ends.JournalFull used)) is = absurd cc
@@ -109,43 +167,51 @@ worked_worst stops ends is = by (list_any are_doors_failed stops) is
     by true is = absurd cc
     by false is = let same : worst_of ends ≡ worker_ends.Drained = cc in ap severity_of same
 
--- a stop has another status
-no_lane_status : {A C L : Type 0} (all_doors : doors.Ghosts A L) (before opened : List (Lane A C L)) (end : RunEnd) → WhyNoLane all_doors before opened end → status_of end ≡ 0 → ⊥
-no_lane_status all_doors before opened run_ends.NoMemory why is = absurd cc
-no_lane_status all_doors before opened run_ends.DoorsFailed why is = absurd cc
-no_lane_status all_doors before opened run_ends.NoCommand why is = absurd why
-no_lane_status all_doors before opened run_ends.SettingsUnread why is = absurd why
-no_lane_status all_doors before opened (run_ends.SettingsRule rule) why is = absurd why
-no_lane_status all_doors before opened run_ends.DiskFailed why is = absurd why
-no_lane_status all_doors before opened (run_ends.Damaged offset) why is = absurd why
-no_lane_status all_doors before opened (run_ends.JournalFull used) why is = absurd why
-no_lane_status all_doors before opened (run_ends.Session end) why is = absurd why
-no_lane_status all_doors before opened (run_ends.Shown whole) why is = absurd why
-no_lane_status all_doors before opened run_ends.SourcesUnmade why is = absurd why
-no_lane_status all_doors before opened run_ends.LineUnwritten why is = absurd why
-no_lane_status all_doors before opened (run_ends.Served end) why is = absurd why
-no_lane_status all_doors before opened (run_ends.Errand end) why is = absurd why
+-- a status of a run whose lanes did not begin
+abbrev pub is_early : ℕ → Bool
+is_early status = list_any (λ early. early == status) (1 ∷ 2 ∷ 3 ∷ 4 ∷ 7 ∷ 8 ∷ 9 ∷ 11 ∷ [])
 
-rule_status : (rule : _) → status_of (run_ends.SettingsRule rule) ≡ 0 → ⊥
-rule_status rule is = absurd cc
+no_lane_status : {A C L : Type 0} (all_doors : doors.Ghosts A L) (before opened : List (Lane A C L)) (end : RunEnd) → WhyNoLane all_doors before opened end
+    → is_early (status_of end) ≡ true
+no_lane_status all_doors before opened run_ends.NoMemory why = refl
+no_lane_status all_doors before opened run_ends.DoorsFailed why = refl
+no_lane_status all_doors before opened run_ends.NoCommand why = absurd why
+no_lane_status all_doors before opened run_ends.SettingsUnread why = absurd why
+no_lane_status all_doors before opened (run_ends.SettingsRule rule) why = absurd why
+no_lane_status all_doors before opened run_ends.DiskFailed why = absurd why
+no_lane_status all_doors before opened (run_ends.Damaged offset) why = absurd why
+no_lane_status all_doors before opened (run_ends.JournalFull used) why = absurd why
+no_lane_status all_doors before opened (run_ends.Session end) why = absurd why
+no_lane_status all_doors before opened (run_ends.Shown whole) why = absurd why
+no_lane_status all_doors before opened run_ends.SourcesUnmade why = absurd why
+no_lane_status all_doors before opened run_ends.LineUnwritten why = absurd why
+no_lane_status all_doors before opened (run_ends.Served end) why = absurd why
+no_lane_status all_doors before opened (run_ends.Errand end) why = absurd why
 
 module _ {D : Type 0} (disks : disk.Ghosts D) where
   stop_status : (text : Option (List ℕ)) (moments later : Option Coming) (disk left : D) (end : RunEnd) → IsStop disks text moments later disk left end
-      → status_of end ≡ 0 → ⊥
-  stop_status text moments later disk left run_ends.NoMemory stop is = absurd cc
-  stop_status text moments later disk left run_ends.DoorsFailed stop is = absurd stop
-  stop_status text moments later disk left run_ends.NoCommand stop is = absurd cc
-  stop_status text moments later disk left run_ends.SettingsUnread stop is = absurd cc
-  stop_status text moments later disk left (run_ends.SettingsRule rule) stop is = absurd cc
-  stop_status text moments later disk left run_ends.DiskFailed stop is = absurd cc
-  stop_status text moments later disk left (run_ends.Damaged offset) stop is = absurd cc
-  stop_status text moments later disk left (run_ends.JournalFull used) stop is = absurd cc
-  stop_status text moments later disk left (run_ends.Session end) stop is = absurd stop
-  stop_status text moments later disk left (run_ends.Shown whole) stop is = absurd stop
-  stop_status text moments later disk left run_ends.SourcesUnmade stop is = absurd stop
-  stop_status text moments later disk left run_ends.LineUnwritten stop is = absurd stop
-  stop_status text moments later disk left (run_ends.Served end) stop is = absurd stop
-  stop_status text moments later disk left (run_ends.Errand end) stop is = absurd stop
+      → is_early (status_of end) ≡ true
+  stop_status text moments later disk left run_ends.NoMemory stop = refl
+  stop_status text moments later disk left run_ends.NoCommand stop = refl
+  stop_status text moments later disk left run_ends.SettingsUnread stop = refl
+  stop_status text moments later disk left (run_ends.SettingsRule rule) stop = refl
+  stop_status text moments later disk left run_ends.DiskFailed stop = refl
+  stop_status text moments later disk left (run_ends.Damaged offset) stop = refl
+  stop_status text moments later disk left (run_ends.JournalFull used) stop = refl
+  stop_status text moments later disk left run_ends.DoorsFailed stop = absurd stop
+  stop_status text moments later disk left (run_ends.Session end) stop = absurd stop
+  stop_status text moments later disk left (run_ends.Shown whole) stop = absurd stop
+  stop_status text moments later disk left run_ends.SourcesUnmade stop = absurd stop
+  stop_status text moments later disk left run_ends.LineUnwritten stop = absurd stop
+  stop_status text moments later disk left (run_ends.Served end) stop = absurd stop
+  stop_status text moments later disk left (run_ends.Errand end) stop = absurd stop
+
+-- neither of these is that of a run that ended well, or was stopped
+late_zero : (status : ℕ) → is_early status ≡ true → status ≡ 0 → ⊥
+late_zero status early is = absurd (let clash : false ≡ true = ap is_early (sym is) ∙ early in cc)
+
+late_stop : (status : ℕ) → is_early status ≡ true → status ≡ 23 → ⊥
+late_stop status early is = absurd (let clash : false ≡ true = ap is_early (sym is) ∙ early in cc)
 
 -- settings have a worker at least, and no more than a run has hands
 both_true : (one other : Bool) → (one && other) ≡ true → (one ≡ true) × (other ≡ true)
@@ -166,7 +232,7 @@ restarted_some (entry ∷ opening) now settings is = absurd cc
 module _ {D A E C W L : Type 0} (world : World D A E C W L)
     (lists : ListLaws) (laws : StoreLaws world.stores) where
   -- of a run of workers, each one's end
-  ended_all : (olds news : List (Station D E C W)) → Each (IsStationWorked world.stores world.clocks world.words) olds news
+  ended_all : (olds news : List (Station D E C W)) → Each (IsStationWorked world.stores world.clocks world.words world.closes) olds news
       → AllByRecursion (λ (s : Station D E C W). IsSome s.end) news
   ended_all [] [] each = tt
   ended_all [] (new ∷ news) each = absurd each
@@ -215,7 +281,7 @@ module _ {D A E C W L : Type 0} (world : World D A E C W L)
       where
         by : Closes world lanes runs.settings.workers connections
             runs.keep before.lanes before.hands after.lanes after.hands runs.serves.closed end runs.serves.added → LeavesDisk world.disks after.disk
-        by (inl unserved) = absurd (no_lane_status world.doors before.lanes after.lanes end unserved.0.why zero_is)
+        by (inl unserved) = absurd (late_zero (status_of end) (no_lane_status world.doors before.lanes after.lanes end unserved.0.why) zero_is)
         by (inr served) =
             let serves = served.0 in
             let worst = worked_worst (map (λ (booth : Booth D A C L). booth.end) serves.ran.booths) (map (λ (station : Station D E C W). station.end) serves.ran.stations) (sym serves.ran.ended ∙ served_zero serves.served (ap status_of (sym serves.ended) ∙ zero_is)) in
@@ -224,7 +290,25 @@ module _ {D A E C W L : Type 0} (world : World D A E C W L)
               keep = runs.serves.closed.keep;
               disk_is = runs.serves.left_is;
               holds = behind.holds;
-              nothing = subst LeavesNothing (sym (behind.listed ∙ ap (λ l. runs.keep.entries ++ l) served.1)) ((ledger_of serves served.1).nothing_left drained);
+              is_so = subst LeavesNothing (sym (behind.listed ∙ ap (λ l. runs.keep.entries ++ l) served.1)) ((ledger_of serves served.1).nothing_left drained);
+            }
+
+    pub leaves_none_out : status_of end ≡ 23 → LeavesNoneOut world.disks after.disk
+    leaves_none_out stop_is = by runs.serves.closes
+      where
+        by : Closes world lanes runs.settings.workers connections
+            runs.keep before.lanes before.hands after.lanes after.hands runs.serves.closed end runs.serves.added → LeavesNoneOut world.disks after.disk
+        by (inl unserved) = absurd (late_stop (status_of end) (no_lane_status world.doors before.lanes after.lanes end unserved.0.why) stop_is)
+        by (inr served) =
+            let serves = served.0 in
+            let worst = stopped_worst (map (λ (booth : Booth D A C L). booth.end) serves.ran.booths) (map (λ (station : Station D E C W). station.end) serves.ran.stations)
+            (sym serves.ran.ended ∙ served_stopped serves.served (ap status_of (sym serves.ended) ∙ stop_is)) in
+            let rest = rest_all worker_ends.Drained serves.ran.stations worst (ended_all (stations_before world serves) serves.ran.stations serves.ran.worked) in
+            record {
+              keep = runs.serves.closed.keep;
+              disk_is = runs.serves.left_is;
+              holds = behind.holds;
+              is_so = subst (λ entries. out_of_list entries ≡ []) (sym (behind.listed ∙ ap (λ l. runs.keep.entries ++ l) served.1)) ((ledger_of serves served.1).none_out rest);
             }
 
   -- what comes of a run that nothing was in the way of
@@ -313,5 +397,13 @@ module _ {D A E C W L : Type 0} (world : World D A E C W L)
       → IsServingRun world lanes connections end tally text before after
       → status_of end ≡ 0 → IsTold (world.disks.state before.disk) → length before.lanes ≡ MAX_LANES → lanes ≤ MAX_LANES → length before.hands ≡ MAX_WORKERS → LeavesDisk world.disks after.disk
   run_leaves_disk {text = text} {before = before} {after = after} {end = end} (inl stops) zero_is told lanes_eight few hands_sixteen =
-      absurd (stop_status world.disks text before.moments after.moments before.disk after.disk end stops.stop zero_is)
+      absurd (late_zero (status_of end) (stop_status world.disks text before.moments after.moments before.disk after.disk end stops.stop) zero_is)
   run_leaves_disk (inr runs) zero_is told lanes_eight few hands_sixteen = leaves_disk runs told lanes_eight few hands_sixteen zero_is
+
+  pub run_leaves_none_out : {lanes : ℕ} {connections : Option ℕ} {text : Option (List ℕ)} {before after : ManyThreads D A E C W L} {end : RunEnd} {tally : Tally}
+      → IsServingRun world lanes connections end tally text before after
+      → status_of end ≡ 23 → IsTold (world.disks.state before.disk) → length before.lanes ≡ MAX_LANES → lanes ≤ MAX_LANES → length before.hands ≡ MAX_WORKERS
+      → LeavesNoneOut world.disks after.disk
+  run_leaves_none_out {text = text} {before = before} {after = after} {end = end} (inl stops) stop_is told lanes_eight few hands_sixteen =
+      absurd (late_stop (status_of end) (stop_status world.disks text before.moments after.moments before.disk after.disk end stops.stop) stop_is)
+  run_leaves_none_out (inr runs) stop_is told lanes_eight few hands_sixteen = leaves_none_out runs told lanes_eight few hands_sixteen stop_is

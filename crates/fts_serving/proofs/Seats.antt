@@ -1,6 +1,6 @@
 -- The pass of each number, among those that pass 0 gave to lanes and workers in turn.
 use Rattle.std.proofs.Common.{◌≡◌, ◌⊎◌, refl, ap, ◌∙◌, inl, inr, ⊎_elim, ℕ, zero, suc, ◌+◌, ◌<◌, ◌≤◌, List, [], ◌∷◌, ◌++◌, length, map, drop, All, arith}
-use Rattle.std.proofs.lemmas.List.Elements.{All-head, All-tail}
+use Rattle.std.proofs.lemmas.List.Elements.{All-cons, All-head, All-nil, All-tail}
 use Rattle.fts_tables.specs.declared.commands.Entry.{Entry}
 use Rattle.fts_turnstile.specs.declared.turn.LoggedTurn.{LoggedTurn}
 use Rattle.fts_turnstile.specs.History.{OnlyOthersSince}
@@ -128,6 +128,12 @@ each_with R Q [] [] each all = tt
 each_with R Q [] (new ∷ news) each all = absurd each
 each_with R Q (old ∷ olds) [] each all = absurd each
 each_with R Q (old ∷ olds) (new ∷ news) each all = ((each.0, All-head Q new news all), each_with R Q olds news each.1 (All-tail Q new news all))
+
+-- what holds of all, in a weaker form
+pub all_weaker : {S : Type 0} (Q P : S → Type 0) → ((item : S) → Q item → P item) → (items : List S) → All Q items → All P items
+all_weaker Q P weaker [] all = All-nil P
+all_weaker Q P weaker (item ∷ items) all =
+    All-cons P item items (weaker item (All-head Q item items all)) (all_weaker Q P weaker items (All-tail Q item items all))
 
 -- the benches of stations are those that they were given
 pub each_idle : {D E C W : Type 0} (R : Station D E C W → Station D E C W → Type 0) (hands : List (Hand E C W)) (benches : List BenchData)

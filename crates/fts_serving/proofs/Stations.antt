@@ -27,7 +27,7 @@ use Rattle.fts_shop.specs.Looked.{items_on, same_on}
 use Rattle.fts_shop.specs.Looking.{LeaveLanes}
 use Rattle.fts_shop.specs.Shops.{IsToldList, StepInTurn, TriedInTurn, added_by, lanes_shown, point, step_answer}
 use Rattle.fts_shop.specs.Turns.{Copies, GoesOn, HandData, IsTurn, ReportsHeld, end_by_report, end_by_state, idle_end}
-use Rattle.fts_shop.specs.Workers.{AreTurns, StationData, WorkerDone, worker_end_of}
+use Rattle.fts_shop.specs.Workers.{AreTurns, EndsBehind, StationData, WorkerDone, worker_end_of}
 use Rattle.fts_shop.specs.declared.ends.Turn.{Turn}
 use Rattle.fts_shop.specs.declared.ends.Turn.TheVariants as turn_ends
 use Rattle.fts_shop.specs.declared.ends.WorkerEnd.TheVariants as worker_ends
@@ -114,13 +114,13 @@ module _ {E : Type 0} (stores : store.Ghosts E) where
       turns.2.1.1
 
   -- a worker has left the lanes as they were, in all that its pass has seen
-  pub worker_leaves : (old new : StationData E) → old.pass.seen ≡ [] → WorkerDone stores old new → Leaves old.pass new.pass
+  pub worker_leaves : {closes : Bool} (old new : StationData E) → old.pass.seen ≡ [] → WorkerDone stores closes old new → Leaves old.pass new.pass
   worker_leaves old new unseen done =
       turn_leaves_lanes old.pass done.between.pass new.pass done.between.hand new.hand done.between.held done.last new.held
       (turns_leave old.pass done.more old done.between (begun old.pass unseen) done.turns) done.ends
 
   -- its pass is the same before its last turn
-  pub between_same : (old new : StationData E) → old.pass.seen ≡ [] → (done : WorkerDone stores old new)
+  pub between_same : {closes : Bool} (old new : StationData E) → old.pass.seen ≡ [] → (done : WorkerDone stores closes old new)
       → IsSame old.pass done.between.pass
   between_same old new unseen done = (turns_leave old.pass done.more old done.between (begun old.pass unseen) done.turns).same
 
@@ -157,6 +157,33 @@ drained_end (turn_ends.JournalFull used zero) is = absurd cc
 drained_end (turn_ends.JournalFull used (suc more)) is = absurd cc
 drained_end (turn_ends.Memory zero) is = absurd cc
 drained_end (turn_ends.Memory (suc more)) is = absurd cc
+
+-- no turn stops a worker
+never_stopped : (end : Turn) → worker_end_of end ≡ Some worker_ends.Stopped → ⊥
+never_stopped turn_ends.Idle is = absurd cc
+never_stopped turn_ends.Stopping is = absurd cc
+never_stopped (turn_ends.Done file) is = absurd cc
+never_stopped (turn_ends.Failed file) is = absurd cc
+never_stopped (turn_ends.Retried file) is = absurd cc
+never_stopped (turn_ends.Cancelled file) is = absurd cc
+never_stopped (turn_ends.Stale file) is = absurd cc
+never_stopped (turn_ends.DiskFailed zero) is = absurd cc
+never_stopped (turn_ends.DiskFailed (suc more)) is = absurd cc
+never_stopped (turn_ends.JournalFull used zero) is = absurd cc
+never_stopped (turn_ends.JournalFull used (suc more)) is = absurd cc
+never_stopped (turn_ends.Memory zero) is = absurd cc
+never_stopped (turn_ends.Memory (suc more)) is = absurd cc
+
+-- a worker that ended drained did so by its last turn, and one that was stopped by none
+drained_behind : {closes : Bool} {last : Turn} {held : List Held} {end : Option WorkerEnd} → EndsBehind closes last held end → end ≡ Some worker_ends.Drained
+    → last ≡ turn_ends.Stopping
+drained_behind {last = last} (inl by_turn) is = drained_end last (sym by_turn ∙ is)
+drained_behind (inr stopped) is = absurd (let same = sym stopped.end_is ∙ is in cc)
+
+stopped_behind : {closes : Bool} {last : Turn} {held : List Held} {end : Option WorkerEnd} → EndsBehind closes last held end → end ≡ Some worker_ends.Stopped
+    → (held ≡ []) × (closes ≡ true)
+stopped_behind {last = last} (inl by_turn) is = absurd (never_stopped last (sym by_turn ∙ is))
+stopped_behind (inr stopped) is = (stopped.nothing, stopped.cause)
 
 -- no report ends a turn so
 state_ends : (file : ℕ) (left : FileState) → end_by_state file left ≡ turn_ends.Stopping → ⊥
@@ -261,11 +288,16 @@ module _ {E : Type 0} (stores : store.Ghosts E) where
   turn_none old new hand after (held ∷ others) left told turn = absurd (held_ends old new hand.moments after.moments (held ∷ others) left turn.reported)
 
   -- a worker that ended drained found none in its last turn, and holds nothing
-  pub drained_finds_none : (old new : StationData E) → IsToldList old.pass → old.pass.seen ≡ [] → (done : WorkerDone stores old new)
+  pub drained_finds_none : {closes : Bool} (old new : StationData E) → IsToldList old.pass → old.pass.seen ≡ [] → (done : WorkerDone stores closes old new)
       → new.end ≡ Some worker_ends.Drained → FindsNone new.pass × (new.held ≡ [])
   drained_finds_none old new told unseen done is =
       let was = turns_leave stores old.pass done.more old done.between (begun old.pass unseen) done.turns in
       turn_none done.between.pass new.pass done.between.hand new.hand done.between.held new.held
       (λ none. told (sym was.same.1 ∙ none))
       (subst (λ e. IsTurn stores done.between.pass new.pass done.between.hand new.hand done.between.held e new.held)
-      (drained_end done.last (sym done.end_is ∙ is)) done.ends)
+      (drained_behind done.end_is is) done.ends)
+
+  -- a worker that was stopped holds nothing
+  pub stopped_holds : {closes : Bool} (old new : StationData E) (done : WorkerDone stores closes old new) → new.end ≡ Some worker_ends.Stopped
+      → (new.held ≡ []) × (closes ≡ true)
+  stopped_holds old new done is = stopped_behind done.end_is is

@@ -69,7 +69,7 @@ of_lane sides all_doors clocks connections turns old new told unseen named since
 -- the laws of `fts_ledger` that are cited here
 pub record Laws {E : Type 0} (stores : store.Ghosts E) : Type 0 where
   pub begins : (pass : PassView Entry) → NoneOf pass.number (items_of pass.seen) → FitsPass pass []
-  pub worker : (old new : StationData E) → WorkerDone stores old new → MayKeep old.pass new.pass old.held
+  pub worker : (closes : Bool) (old new : StationData E) → WorkerDone stores closes old new → MayKeep old.pass new.pass old.held
       → KeepsLedger old.pass new.pass new.held
   pub legal : (pass : PassView Entry) (later : List (LoggedTurn Entry)) → IsLegal (pass.opening ++ items_of (pass.seen ++ later)) → IsLegal (seen_list pass)
   pub own : (old new : PassView Entry) (held : List Held) (later : List (LoggedTurn Entry)) → KeepsLedger old new held
@@ -80,7 +80,7 @@ pub record Laws {E : Type 0} (stores : store.Ghosts E) : Type 0 where
 
 module _ {E : Type 0} (stores : store.Ghosts E) (laws : Laws stores)
     (turns : List (LoggedTurn Entry)) (old new : StationData E) (told : IsToldList old.pass) (unseen : old.pass.seen ≡ []) (empty : old.held ≡ [])
-    (legal : IsLegal (old.pass.opening ++ items_of turns)) (done : WorkerDone stores old new)
+    (legal : IsLegal (old.pass.opening ++ items_of turns)) {closes : Bool} (done : WorkerDone stores closes old new)
     (since : OnlyOthersSince (new.pass.number ∷ []) new.pass.seen turns) where
   pub seen : Sees turns old.pass new.pass
   seen = sees turns old.pass new.pass done.same since
@@ -99,7 +99,7 @@ module _ {E : Type 0} (stores : store.Ghosts E) (laws : Laws stores)
   }
 
   pub keeps : KeepsLedger old.pass new.pass new.held
-  keeps = laws.worker old new done may
+  keeps = laws.worker closes old new done may
 
   none_later : AllNamed writer_of turns → NoneOf old.pass.number (items_of seen.later)
   none_later named = none_items old.pass.number seen.later seen.none (named_back new.pass.seen seen.later (subst (AllNamed writer_of) seen.is named))

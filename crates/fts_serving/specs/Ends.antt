@@ -1,6 +1,6 @@
 -- What lanes and workers leave together over a list that is told: who adds what, that nobody takes a file from a worker, what each station's store
--- follows from, and that nothing is left to do where all workers ended drained.
-use Rattle.std.specs.Prelude.{◌≡◌, ◌≢◌, ◌⊎◌, ℕ, ◌≤◌, ◌<◌, List, [], ◌∷◌, ◌++◌, length, drop, All, Option, Some}
+-- follows from, that no file is out where no worker ended by a fault, and that nothing is left to do where all ended drained.
+use Rattle.std.specs.Prelude.{◌≡◌, ◌≢◌, ◌⊎◌, ℕ, ◌≤◌, ◌<◌, Bool, List, [], ◌∷◌, ◌++◌, length, drop, All, Option, Some}
 use Rattle.std.proofs.Common.{inl, inr}
 use Rattle.fts_tables.specs.SettingsData.{SettingsData, IsSettings}
 use Rattle.fts_tables.specs.Limits.{eligible_rows}
@@ -15,7 +15,7 @@ use Rattle.fts_shop.specs.Many.{Each}
 use Rattle.fts_shop.specs.Shops.{ShopData}
 use Rattle.fts_shop.specs.Workers.{StationData, WorkerDone, station_data}
 use Rattle.fts_shop.specs.declared.ends.Turn.TheVariants.{Stale}
-use Rattle.fts_shop.specs.declared.ends.WorkerEnd.TheVariants.{Drained}
+use Rattle.fts_shop.specs.declared.ends.WorkerEnd.TheVariants.{Drained, Stopped}
 use Rattle.fts_shop.specs.declared.station.Station.{Station}
 use Rattle.fts_ledger.specs.Ledger.{AreFresh, FollowsOwn}
 use Rattle.fts_ledger.specs.Reports.{AddsAsked, AddsWork, IsUndisturbed, ReportsOwn}
@@ -40,9 +40,9 @@ pub record IsOpenedBy (entries : List Entry) (settings : SettingsData) : Type 0 
   pub kept : IsSettings settings
 
 module _ {E : Type 0} (stores : store.Ghosts E) where
-  -- a worker's turns at a station: none was stale, and the store follows from the reports that the pass added
-  pub record KeepsOwn (old new : StationData E) : Type 0 where
-    pub done : WorkerDone stores old new
+  -- a worker's turns at a station: none was stale, and the store follows from the reports that the pass added; `closes` says whether its gate may be closed
+  pub record KeepsOwn (closes : Bool) (old new : StationData E) : Type 0 where
+    pub done : WorkerDone stores closes old new
     pub follows : FollowsOwn stores old new
     pub fresh : AreFresh stores done.more old done.between
     pub last : (file : ℕ) → done.last ≢ Stale file
@@ -67,6 +67,11 @@ module _ {D A E C W L : Type 0} (world : World D A E C W L)
       before hands after hands_now closed end → Type 0
   AreDrained serves = All (λ (station : Station D E C W). station.end ≡ Some Drained) serves.ran.stations
 
+  -- each worker ended so, or was stopped with nothing in its hands
+  abbrev pub AreAtRest : ClosesServed world lanes workers connections keep
+      before hands after hands_now closed end → Type 0
+  AreAtRest serves = All (λ (station : Station D E C W). (station.end ≡ Some Drained) ⊎ (station.end ≡ Some Stopped)) serves.ran.stations
+
   -- lanes and workers kept the ledger
   pub record KeepTheLedger (serves : ClosesServed world lanes workers connections keep
       before hands after hands_now closed end) : Type 0 where
@@ -76,9 +81,11 @@ module _ {D A E C W L : Type 0} (world : World D A E C W L)
     -- each report is of a file whose last claim before it is the writer's own, so nobody takes a file from a writer that claimed it
     pub own : (writer : ℕ) → ReportsOwn writer keep.entries [] (entries_added serves)
     pub undisturbed : (writer : ℕ) → IsUndisturbed writer keep.entries (entries_added serves)
-    pub stations : Each (λ old new. KeepsOwn world.stores (station_data world.clocks world.words old) (station_data world.clocks world.words new))
+    pub stations : Each (λ old new. KeepsOwn world.stores world.closes (station_data world.clocks world.words old) (station_data world.clocks world.words new))
         (stations_before serves) serves.ran.stations
-    -- where all workers ended drained, nothing is left to do
+    -- where all workers ended drained or stopped, no file is out
+    pub none_out : AreAtRest serves → out_of_list (keep.entries ++ entries_added serves) ≡ []
+    -- where all ended drained, nothing is left to do
     pub nothing_left : AreDrained serves → LeavesNothing (keep.entries ++ entries_added serves)
 
   -- so they did in a run that closed its shop, where its lanes began
@@ -87,9 +94,17 @@ module _ {D A E C W L : Type 0} (world : World D A E C W L)
   KeptWhereServed (inl unserved) = Unit {0}
   KeptWhereServed (inr served) = KeepTheLedger served.0
 
--- a disk was left with a list of its own, behind which nothing is left to do
-pub record LeavesDisk {D : Type 0} (disks : disk.Ghosts D) (disk : D) : Type 0 where
+-- a disk was left with a list of its own, which is so
+pub record LeavesList {D : Type 0} (disks : disk.Ghosts D) (IsSo : List Entry → Type 0) (disk : D) : Type 0 where
   pub keep : KeepData D
   pub disk_is : disk ≡ keep.disk
   pub holds : HoldsList (disks.state keep.disk) keep.entries keep.doubt keep.tables keep.commands keep.used keep.in_doubt
-  pub nothing : LeavesNothing keep.entries
+  pub is_so : IsSo keep.entries
+
+-- a disk was left with a list of its own, behind which nothing is left to do
+abbrev pub LeavesDisk : {D : Type 0} → disk.Ghosts D → D → Type 0
+LeavesDisk disks disk = LeavesList disks LeavesNothing disk
+
+-- a disk was left with a list of its own, behind which no file is out
+abbrev pub LeavesNoneOut : {D : Type 0} → disk.Ghosts D → D → Type 0
+LeavesNoneOut disks disk = LeavesList disks (λ entries. out_of_list entries ≡ []) disk

@@ -1,7 +1,8 @@
 -- When a run that serves comes to its end. What it is given is told and breaks no rule, no doors fail, and no turn shows a failure of the disk: then it
--- ends with status 0, and two things are left to stop it: want of memory, which is free, and a record that passes the journal's limit.
+-- ends with status 0, and three things are left to stop it: want of memory, which is free, a record that passes the journal's limit, and a gate that is
+-- closed.
 -- And which lines each lane has served by its end.
-use Rattle.std.specs.Prelude.{◌≡◌, ◌≢◌, ◌⊎◌, ℕ, false, List, [], ◌∷◌, ◌++◌, length, Option, Some, IfSome, IsOk}
+use Rattle.std.specs.Prelude.{◌≡◌, ◌≢◌, ◌⊎◌, ℕ, true, false, List, [], ◌∷◌, ◌++◌, length, Option, Some, IfSome, IsOk}
 use Rattle.std.proofs.Common.{inl, inr}
 use Rattle.fts_tables.specs.Counts.{Rose}
 use Rattle.fts_tables.specs.Step.{step}
@@ -79,8 +80,8 @@ module _ {D A E C W L : Type 0} (world : World D A E C W L) where
   EndsWell {keep = keep} {end = end} (inl unserved) = status_of end ≡ 1
   EndsWell {keep = keep} {end = end} (inr served) =
       NoneRises served.0.first.opening_shows served.0.ran.history.turns
-      → (status_of end ≡ 0) ⊎ ((status_of end ≡ 1) ⊎ ((status_of end ≡ 11) × RecordPasses (keep.entries
-      ++ entries_added world served.0)))
+      → (status_of end ≡ 0) ⊎ ((status_of end ≡ 1) ⊎ (((status_of end ≡ 11) × RecordPasses (keep.entries
+      ++ entries_added world served.0)) ⊎ ((status_of end ≡ 23) × (world.closes ≡ true))))
 
   -- how a run did that was to serve, where nothing was in its way
   abbrev pub Finishes : {lanes : ℕ} {connections : Option ℕ} {end : RunEnd} {tally : Tally} {text : Option (List ℕ)} {before after : ManyThreads D A E C W L}

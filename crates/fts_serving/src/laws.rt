@@ -1,6 +1,6 @@
 //! The laws over lanes and workers that ran over one told list, as `fts_top` says what they did.
 //! A law is a function without parameters that does nothing: its clauses speak of every run. Who reads what `run` says of a run that serves calls it.
-ghost use Rattle.std.specs.Prelude.{◌≡◌, ◌≢◌, ◌⊎◌, ◌≤◌, ℕ, List, ◌++◌, length, Option};
+ghost use Rattle.std.specs.Prelude.{◌≡◌, ◌≢◌, ◌⊎◌, ◌≤◌, ℕ, Bool, List, ◌++◌, length, Option};
 ghost use Rattle.fts_tables.specs.SettingsData.{SettingsData};
 ghost use Rattle.fts_tables.specs.History.{IsLegal};
 ghost use Rattle.fts_tables.specs.declared.limits.TheConstants.{MAX_LANES, MAX_WORKERS};
@@ -15,7 +15,7 @@ ghost use Rattle.fts_top.specs.Serves.{ClosesServed, IsServingRun, ManyThreads, 
 ghost use Rattle.fts_top.specs.declared.ends.RunEnd.{RunEnd};
 ghost use Rattle.fts_service.specs.declared.lane.Lane.{Lane};
 ghost use Rattle.fts_top.specs.declared.tally.Tally.{Tally};
-ghost use Rattle.fts_serving.specs.Ends.{IsOpenedBy, KeepTheLedger, KeptWhereServed, LeavesDisk, entries_added};
+ghost use Rattle.fts_serving.specs.Ends.{IsOpenedBy, KeepTheLedger, KeptWhereServed, LeavesDisk, LeavesNoneOut, entries_added};
 ghost use Rattle.fts_serving.specs.Finishes.{BreaksNoRule, DoorsRose, EachLane, Finishes, LinesAre};
 ghost use Rattle.fts_service.specs.Worlds.{world_of};
 
@@ -31,14 +31,15 @@ use fts_top::Doors;
 
 /// Lanes and workers that ran over a told list, which is legal, keep the ledger: lanes add clients' commands alone and workers claims and reports;
 /// each report is of a file whose last claim is the writer's own, so nobody takes a file from a worker; each station's store follows from the reports
-/// of its pass, and no turn is stale. Where all workers ended drained, no file is out and no row may be claimed at the last moment.
+/// of its pass, and no turn is stale. Where all workers ended drained or stopped, no file is out; where all ended drained, no row may be claimed at the last
+/// moment either. `closes` says whether the gate before copies may be closed.
 pub fn lanes_and_workers_keep_the_ledger<D: Disk, E: Store, C: Clock, W: Words, A: Doors>()
-    ensures ledger { (lanes workers : ℕ) (connections : Option ℕ) (settings : SettingsData) (keep : KeepData D) (before : List (Lane A C A.Line))
+    ensures ledger { (closes : Bool) (lanes workers : ℕ) (connections : Option ℕ) (settings : SettingsData) (keep : KeepData D) (before : List (Lane A C A.Line))
         (hands : List (Hand E C W)) (after : List (Lane A C A.Line)) (hands_now : List (Hand E C W)) (closed : ShopData D) (end : RunEnd)
-        → (serves : ClosesServed (world_of D.Disk E.Store A.Doors A.Line.Source A.Line.Sink C.Clock W.Words) lanes workers connections keep before hands after hands_now closed end)
-        → IsOpenedBy keep.entries settings → IsLegal (keep.entries ++ entries_added (world_of D.Disk E.Store A.Doors A.Line.Source A.Line.Sink C.Clock W.Words) serves)
+        → (serves : ClosesServed (world_of D.Disk E.Store A.Doors A.Line.Source A.Line.Sink C.Clock W.Words closes) lanes workers connections keep before hands after hands_now closed end)
+        → IsOpenedBy keep.entries settings → IsLegal (keep.entries ++ entries_added (world_of D.Disk E.Store A.Doors A.Line.Source A.Line.Sink C.Clock W.Words closes) serves)
         → lanes ≤ length before → workers ≤ length hands → 1 ≤ workers
-        → KeepTheLedger (world_of D.Disk E.Store A.Doors A.Line.Source A.Line.Sink C.Clock W.Words) serves }
+        → KeepTheLedger (world_of D.Disk E.Store A.Doors A.Line.Source A.Line.Sink C.Clock W.Words closes) serves }
 {
     turns_keep_the_ledger::<E>();
     own_reports_disturb_nobody();
@@ -49,16 +50,20 @@ pub fn lanes_and_workers_keep_the_ledger<D: Disk, E: Store, C: Clock, W: Words, 
 }
 
 /// A run that serves over a told disk keeps the ledger where its lanes began (`ledger`). Where it ended with status 0, its disk has a list of its own
-/// behind which no file is out, and no row may be claimed at the last moment (`ends`). There are `MAX_LANES` lanes, of which it uses some, and `MAX_WORKERS` hands.
+/// behind which no file is out, and no row may be claimed at the last moment (`ends`); with status 23 a list behind which no file is out (`stops`). There are `MAX_LANES` lanes, of which it uses some, and `MAX_WORKERS` hands.
 pub fn runs_that_serve_leave_nothing<D: Disk, E: Store, C: Clock, W: Words, A: Doors>()
-    ensures ledger { (lanes : ℕ) (connections : Option ℕ) (text : Option (List ℕ)) (before after : ManyThreads D A E C W A.Line) (end : RunEnd) (tally : Tally)
-        → (runs : RunsServing (world_of D.Disk E.Store A.Doors A.Line.Source A.Line.Sink C.Clock W.Words) lanes connections text before after end tally)
+    ensures ledger { (closes : Bool) (lanes : ℕ) (connections : Option ℕ) (text : Option (List ℕ)) (before after : ManyThreads D A E C W A.Line) (end : RunEnd) (tally : Tally)
+        → (runs : RunsServing (world_of D.Disk E.Store A.Doors A.Line.Source A.Line.Sink C.Clock W.Words closes) lanes connections text before after end tally)
         → IsTold (D.state before.disk) → length before.lanes ≡ MAX_LANES → lanes ≤ MAX_LANES → length before.hands ≡ MAX_WORKERS
-        → KeptWhereServed (world_of D.Disk E.Store A.Doors A.Line.Source A.Line.Sink C.Clock W.Words) runs.serves.closes }
-    ensures ends { (lanes : ℕ) (connections : Option ℕ) (text : Option (List ℕ)) (before after : ManyThreads D A E C W A.Line) (end : RunEnd) (tally : Tally)
-        → IsServingRun (world_of D.Disk E.Store A.Doors A.Line.Source A.Line.Sink C.Clock W.Words) lanes connections end tally text before after
+        → KeptWhereServed (world_of D.Disk E.Store A.Doors A.Line.Source A.Line.Sink C.Clock W.Words closes) runs.serves.closes }
+    ensures ends { (closes : Bool) (lanes : ℕ) (connections : Option ℕ) (text : Option (List ℕ)) (before after : ManyThreads D A E C W A.Line) (end : RunEnd) (tally : Tally)
+        → IsServingRun (world_of D.Disk E.Store A.Doors A.Line.Source A.Line.Sink C.Clock W.Words closes) lanes connections end tally text before after
         → status_of end ≡ 0 → IsTold (D.state before.disk) → length before.lanes ≡ MAX_LANES → lanes ≤ MAX_LANES → length before.hands ≡ MAX_WORKERS
         → LeavesDisk D.Disk after.disk }
+    ensures stops { (closes : Bool) (lanes : ℕ) (connections : Option ℕ) (text : Option (List ℕ)) (before after : ManyThreads D A E C W A.Line) (end : RunEnd) (tally : Tally)
+        → IsServingRun (world_of D.Disk E.Store A.Doors A.Line.Source A.Line.Sink C.Clock W.Words closes) lanes connections end tally text before after
+        → status_of end ≡ 23 → IsTold (D.state before.disk) → length before.lanes ≡ MAX_LANES → lanes ≤ MAX_LANES → length before.hands ≡ MAX_WORKERS
+        → LeavesNoneOut D.Disk after.disk }
 {
     turns_keep_the_ledger::<E>();
     own_reports_disturb_nobody();
@@ -69,14 +74,14 @@ pub fn runs_that_serve_leave_nothing<D: Disk, E: Store, C: Clock, W: Words, A: D
 }
 
 /// A run that serves comes to its end: where what it is given is told and breaks no rule, no doors fail, the disk counts no failure at its start and
-/// none is shown in any turn, it ends with status 0; or memory was wanting, with status 1; or a record passes the journal's limit, with status 11. That
-/// the words are accepted and the settings could be read is what its status says, which is neither 2 nor 8.
+/// none is shown in any turn, it ends with status 0; or memory was wanting, with status 1; or a record passes the journal's limit, with status 11; or the
+/// gate may be closed, and it was, with status 23. That the words are accepted and the settings could be read is what its status says, which is neither 2 nor 8.
 pub fn runs_that_serve_come_to_their_end<D: Disk, E: Store, C: Clock, W: Words, A: Doors>()
-    ensures ends { (lanes : ℕ) (connections : Option ℕ) (text : Option (List ℕ)) (before after : ManyThreads D A E C W A.Line) (end : RunEnd) (tally : Tally)
+    ensures ends { (closes : Bool) (lanes : ℕ) (connections : Option ℕ) (text : Option (List ℕ)) (before after : ManyThreads D A E C W A.Line) (end : RunEnd) (tally : Tally)
         → BreaksNoRule text (D.state before.disk) → Stays (D.faults before.disk) (D.faults after.disk) → (SomeRose A.Doors before.lanes after.lanes → ⊥)
         → length before.lanes ≡ MAX_LANES → lanes ≤ MAX_LANES → length before.hands ≡ MAX_WORKERS → status_of end ≢ 2 → status_of end ≢ 8
-        → (ran : IsServingRun (world_of D.Disk E.Store A.Doors A.Line.Source A.Line.Sink C.Clock W.Words) lanes connections end tally text before after)
-        → Finishes (world_of D.Disk E.Store A.Doors A.Line.Source A.Line.Sink C.Clock W.Words) ran }
+        → (ran : IsServingRun (world_of D.Disk E.Store A.Doors A.Line.Source A.Line.Sink C.Clock W.Words closes) lanes connections end tally text before after)
+        → Finishes (world_of D.Disk E.Store A.Doors A.Line.Source A.Line.Sink C.Clock W.Words closes) ran }
 {
     turns_keep_the_ledger::<E>();
     own_reports_disturb_nobody();
@@ -89,16 +94,16 @@ pub fn runs_that_serve_come_to_their_end<D: Disk, E: Store, C: Clock, W: Words, 
 /// Of each used lane whose doors' count didn't rise the lines are accounted for: its doors gave them in order and have them back, and none is to come, or
 /// they are as many as it may serve (`each`). So they are of every used lane, where the status is not 9 (`all`).
 pub fn lines_of_lanes_are_accounted_for<D: Disk, E: Store, C: Clock, W: Words, A: Doors>()
-    ensures each { (lanes workers : ℕ) (connections : Option ℕ) (keep : KeepData D) (before : List (Lane A C A.Line))
+    ensures each { (closes : Bool) (lanes workers : ℕ) (connections : Option ℕ) (keep : KeepData D) (before : List (Lane A C A.Line))
         (hands : List (Hand E C W)) (after : List (Lane A C A.Line)) (hands_now : List (Hand E C W)) (closed : ShopData D) (end : RunEnd)
-        → (serves : ClosesServed (world_of D.Disk E.Store A.Doors A.Line.Source A.Line.Sink C.Clock W.Words) lanes workers connections keep before hands after hands_now closed end)
-        → EachLane (world_of D.Disk E.Store A.Doors A.Line.Source A.Line.Sink C.Clock W.Words)
-        (λ old new. DoorsRose (world_of D.Disk E.Store A.Doors A.Line.Source A.Line.Sink C.Clock W.Words) old new
-        ⊎ LinesAre (world_of D.Disk E.Store A.Doors A.Line.Source A.Line.Sink C.Clock W.Words) connections old new) serves }
-    ensures all { (lanes workers : ℕ) (connections : Option ℕ) (keep : KeepData D) (before : List (Lane A C A.Line))
+        → (serves : ClosesServed (world_of D.Disk E.Store A.Doors A.Line.Source A.Line.Sink C.Clock W.Words closes) lanes workers connections keep before hands after hands_now closed end)
+        → EachLane (world_of D.Disk E.Store A.Doors A.Line.Source A.Line.Sink C.Clock W.Words closes)
+        (λ old new. DoorsRose (world_of D.Disk E.Store A.Doors A.Line.Source A.Line.Sink C.Clock W.Words closes) old new
+        ⊎ LinesAre (world_of D.Disk E.Store A.Doors A.Line.Source A.Line.Sink C.Clock W.Words closes) connections old new) serves }
+    ensures all { (closes : Bool) (lanes workers : ℕ) (connections : Option ℕ) (keep : KeepData D) (before : List (Lane A C A.Line))
         (hands : List (Hand E C W)) (after : List (Lane A C A.Line)) (hands_now : List (Hand E C W)) (closed : ShopData D) (end : RunEnd)
-        → (serves : ClosesServed (world_of D.Disk E.Store A.Doors A.Line.Source A.Line.Sink C.Clock W.Words) lanes workers connections keep before hands after hands_now closed end)
+        → (serves : ClosesServed (world_of D.Disk E.Store A.Doors A.Line.Source A.Line.Sink C.Clock W.Words closes) lanes workers connections keep before hands after hands_now closed end)
         → status_of end ≢ 9
-        → EachLane (world_of D.Disk E.Store A.Doors A.Line.Source A.Line.Sink C.Clock W.Words)
-        (LinesAre (world_of D.Disk E.Store A.Doors A.Line.Source A.Line.Sink C.Clock W.Words) connections) serves }
+        → EachLane (world_of D.Disk E.Store A.Doors A.Line.Source A.Line.Sink C.Clock W.Words closes)
+        (LinesAre (world_of D.Disk E.Store A.Doors A.Line.Source A.Line.Sink C.Clock W.Words closes) connections) serves }
 {}

@@ -1,5 +1,6 @@
--- What a worker does at its station: turns, until one says that no lane is left and nothing is eligible, or ends by a fault with no lane left.
-use Rattle.std.specs.Prelude.{◌≡◌, ℕ, zero, suc, Bool, true, false, List, Option, Some, None, IsSome}
+-- What a worker does at its station: turns, until one says that no lane is left and nothing is eligible, or ends by a fault with no lane left, or until it
+-- is stopped with nothing in its hands.
+use Rattle.std.specs.Prelude.{◌≡◌, ◌⊎◌, ℕ, zero, suc, Bool, true, false, List, [], Option, Some, None, IsSome}
 use Rattle.fts_tables.specs.declared.commands.Entry.{Entry}
 use Rattle.fts_turnstile.specs.Passes.{PassView, IsSame}
 use Rattle.fts_workers.specs.declared.held.Held.{Held}
@@ -49,6 +50,17 @@ worker_end_of (turn_ends.DiskFailed lanes) = end_without_lanes lanes worker_ends
 worker_end_of (turn_ends.JournalFull used lanes) = end_without_lanes lanes (worker_ends.JournalFull used)
 worker_end_of (turn_ends.Memory lanes) = end_without_lanes lanes worker_ends.Memory
 
+-- a worker was stopped behind a turn that it would go on from, with nothing held, at a gate that may be closed
+pub record IsStopped (closes : Bool) (last : Turn) (held : List Held) (end : Option WorkerEnd) : Type 0 where
+  pub cause : closes ≡ true
+  pub goes_on : worker_end_of last ≡ None
+  pub nothing : held ≡ []
+  pub end_is : end ≡ Some worker_ends.Stopped
+
+-- how a worker ends behind its last turn: as that turn has it, or stopped
+abbrev pub EndsBehind : Bool → Turn → List Held → Option WorkerEnd → Type 0
+EndsBehind closes last held end = (end ≡ worker_end_of last) ⊎ IsStopped closes last held end
+
 -- whether nothing was eligible, or a fault was met
 abbrev pub is_restful : Turn → Bool
 is_restful turn_ends.Idle = true
@@ -72,14 +84,14 @@ module _ {E : Type 0} (stores : store.Ghosts E) where
   AreTurns zero old new = (old.hand ≡ new.hand) × (old.held ≡ new.held) × (old.pass ≡ new.pass)
   AreTurns (suc more) old new = (next : StationData E) × (end : Turn) × (TakesOne old next end × ((worker_end_of end ≡ None) × AreTurns more next new))
 
-  -- a worker that has ended: turns, and one more, after which it ended so
-  pub record WorkerDone (old new : StationData E) : Type 0 where
+  -- a worker that has ended: turns, and one more, behind which it ended so; `closes` says whether its gate may be closed
+  pub record WorkerDone (closes : Bool) (old new : StationData E) : Type 0 where
     pub more : ℕ
     pub between : StationData E
     pub turns : AreTurns more old between
     pub last : Turn
     pub ends : TakesOne between new last
-    pub end_is : new.end ≡ worker_end_of last
+    pub end_is : EndsBehind closes last new.held new.end
     pub ended : IsSome new.end
     -- what stays, and what a bench holds between two turns
     pub same : IsSame old.pass new.pass

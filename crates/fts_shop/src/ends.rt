@@ -34,11 +34,13 @@ pub enum Turn {
     Memory { lanes: u32 },
 }
 
-/// How a worker ended. In each case no lane was left.
+/// How a worker ended. In each case but `Stopped` no lane was left.
 #[derive(Clone, Copy, Debug, PartialEq, Eq)]
 pub enum WorkerEnd {
     /// No row was eligible.
     Drained,
+    /// The gate was closed behind a turn, and nothing was held. Rows may still wait.
+    Stopped,
     /// A call of the disk failed.
     DiskFailed,
     /// An entry and the gate behind it didn't fit the journal behind this offset, in bytes.

@@ -1,6 +1,8 @@
-//! A worker: it takes turns at its station until nothing is left to do, or until it fails with no lane left. And many workers at once.
+//! A worker: it takes turns at its station until nothing is left to do, until its gate is closed, or until it fails with no lane left. And many workers
+//! at once.
 //! Keeps: the pass is of the lock, and what a bench holds between two turns (`IsReady`).
-//! Order: a turn, then a rest where nothing was eligible or a fault was met. `run_workers` returns once each worker has ended.
+//! Order: a turn, then a rest where nothing was eligible or a fault was met, then a look at the gate, where nothing is held. `run_workers` returns once
+//! each worker has ended.
 //! Called by the service, with a station for each hand.
 ghost use Rattle.std.specs.Prelude.{◌≡◌, All};
 ghost use Rattle.fts_turnstile.specs.Passes.{IsOf};
@@ -67,7 +69,7 @@ fn rests_after(turn: Turn) -> bool
 }
 
 /// Takes turns at a station until one says that nothing is left to do, or fails, with no lane left; rests after a turn that found nothing or failed.
-/// `end` says then how it ended. It waits, and owes no return.
+/// Where it holds nothing behind a turn and the gate is closed, it stops, and claims no more. `end` says then how it ended. It waits, and owes no return.
 pub fn worker<D: Disk, E: Store, C: Clock, W: Words, G: Gate, R: Wait>(
     rt: &R,
     shop: &Turnstile<Shop<D>>,
@@ -76,7 +78,7 @@ pub fn worker<D: Disk, E: Store, C: Clock, W: Words, G: Gate, R: Wait>(
 )
     requires own { IsOf shop.now station.old.pass }
     requires ready { IsReady station.old.bench.held }
-    ensures { WorkerDone E.Store (station_data C.Clock W.Words station.old) (station_data C.Clock W.Words station.new) }
+    ensures { WorkerDone E.Store (G.closes gate.now) (station_data C.Clock W.Words station.old) (station_data C.Clock W.Words station.new) }
 {
     for _ in rt.forever() {
         let end = turn(
@@ -93,6 +95,10 @@ pub fn worker<D: Disk, E: Store, C: Clock, W: Words, G: Gate, R: Wait>(
         }
         if rests_after(end) {
             station.hand.clock.rest();
+        }
+        if station.bench.held().is_empty() && gate.is_closed() {
+            station.end = Some(WorkerEnd::Stopped);
+            return;
         }
     }
     unreachable!()
@@ -115,7 +121,7 @@ impl<'a, D: Disk, E: Store, C: Clock, W: Words, G: Gate> Work<Floor<'a, D, G>, S
 
     ghost ready = { λ floor station. IsOf floor.shop.now station.pass × IsReady station.bench.held };
 
-    ghost done = { λ floor old new. WorkerDone E.Store (station_data C.Clock W.Words old) (station_data C.Clock W.Words new) };
+    ghost done = { λ floor old new. WorkerDone E.Store (G.closes floor.gate.now) (station_data C.Clock W.Words old) (station_data C.Clock W.Words new) };
 
     fn work<R: Wait>(rt: &R, shared: &Floor<'a, D, G>, job: &mut Station<D, E, C, W>) {
         worker(rt, shared.shop, job, shared.gate);
@@ -132,7 +138,7 @@ pub fn run_workers<
     R: Threads + Wait + Sync,
 >(rt: &R, shop: &Turnstile<Shop<D>>, stations: &mut [Station<D, E, C, W>], gate: &G)
     requires { All (λ station. IsOf shop.now station.pass × IsReady station.bench.held) stations.old }
-    ensures { Each (λ old new. WorkerDone E.Store (station_data C.Clock W.Words old) (station_data C.Clock W.Words new))
+    ensures { Each (λ old new. WorkerDone E.Store (G.closes gate.now) (station_data C.Clock W.Words old) (station_data C.Clock W.Words new))
         stations.old stations.new }
 {
     let floor = Floor { shop, gate };

@@ -33,6 +33,7 @@ start_settings (faults_of_keep.Rule refusal) = refl
 -- lanes and workers that ended
 worker_ended : (end : WorkerEnd) → IsServingStatus (worker_status end) × ((worker_status end == 8) ≡ false)
 worker_ended worker_ends.Drained = (refl, refl)
+worker_ended worker_ends.Stopped = (refl, refl)
 worker_ended worker_ends.Memory = (refl, refl)
 worker_ended worker_ends.DiskFailed = (refl, refl)
 worker_ended (worker_ends.JournalFull used) = (refl, refl)

@@ -41,6 +41,7 @@ session_status end = unwrap_or (line_status end.line) (round_status end.last)
 -- the status of workers whose worst end this is
 abbrev pub worker_status : WorkerEnd → ℕ
 worker_status worker_ends.Drained = 0
+worker_status worker_ends.Stopped = 23
 worker_status worker_ends.Memory = 1
 worker_status worker_ends.DiskFailed = 4
 worker_status (worker_ends.JournalFull used) = 11

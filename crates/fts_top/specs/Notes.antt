@@ -41,6 +41,7 @@ session_note_of line_ends.Many last = codes "fts: too many requests\n"
 -- the line of workers whose worst end this is
 abbrev pub worker_note_of : WorkerEnd → List ℕ
 worker_note_of worker_ends.Drained = []
+worker_note_of worker_ends.Stopped = codes "fts: stopped\n"
 worker_note_of worker_ends.Memory = codes "fts: no memory\n"
 worker_note_of worker_ends.DiskFailed = codes "fts: disk failed\n"
 worker_note_of (worker_ends.JournalFull used) = note_with (codes "fts: journal full at ") used

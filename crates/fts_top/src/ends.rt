@@ -89,6 +89,7 @@ fn worker_end_status(end: WorkerEnd) -> u8
 {
     match end {
         WorkerEnd::Drained => 0,
+        WorkerEnd::Stopped => 23,
         WorkerEnd::Memory => 1,
         WorkerEnd::DiskFailed => 4,
         WorkerEnd::JournalFull { used: _ } => 11,

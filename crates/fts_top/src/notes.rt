@@ -80,6 +80,7 @@ fn send_worker_note<N: Sink>(notes: &mut N, end: WorkerEnd) -> Result<(), SinkFa
 {
     match end {
         WorkerEnd::Drained => send_all(notes, "".as_bytes()),
+        WorkerEnd::Stopped => send_all(notes, "fts: stopped\n".as_bytes()),
         WorkerEnd::Memory => send_all(notes, "fts: no memory\n".as_bytes()),
         WorkerEnd::DiskFailed => send_all(notes, "fts: disk failed\n".as_bytes()),
         WorkerEnd::JournalFull { used } => send_number(notes, "fts: journal full at ", used),

@@ -36,7 +36,7 @@ use fts_tables::{Clock, Memory, Settings, Words};
 use fts_turnstile::items_that_name;
 use fts_wire::Source;
 use fts_words::{Asked, take_words};
-use fts_workers::Hand;
+use fts_workers::{Gate, Hand};
 use std::alloc::Global;
 use std::sync::Wait;
 use std::thread::Threads;
@@ -119,6 +119,7 @@ fn serve_locked<
     E: Store + Send,
     C: Clock + Send,
     W: Words + Send,
+    G: Gate + Sync,
     R: Threads + Wait + Sync,
 >(
     rt: &R,
@@ -128,6 +129,7 @@ fn serve_locked<
     seats: Seats<D, A, E, C, W>,
     lanes: &mut Vec<Lane<A, C>>,
     hands: &mut Vec<Hand<E, C, W>>,
+    gate: &G,
 ) -> (Shop<D>, RunEnd)
 where
     A::Line: Send,
@@ -142,7 +144,7 @@ where
     requires idle { All (λ bench. bench.held ≡ []) seats.benches.items }
     requires some { IfSome order.connections (λ most. 1 ≤ most) }
     ensures closes { (keep : KeepData D) → IsLocked D.Disk (shop_of keep order.lanes) (order.lanes + length seats.benches.items)
-        locked.lock locked.first locked.passes.items → (added : List Entry) × Closes (world_of D.Disk E.Store A.Doors A.Line.Source A.Line.Sink C.Clock W.Words)
+        locked.lock locked.first locked.passes.items → (added : List Entry) × Closes (world_of D.Disk E.Store A.Doors A.Line.Source A.Line.Sink C.Clock W.Words (G.closes gate.now))
         order.lanes (length seats.benches.items) order.connections keep lanes.old.items hands.old.items lanes.new.items hands.new.items result.0 result.1 added }
     ensures status { IsServingStatus (status_of result.1) × ((status_of result.1 == 8) ≡ false) }
     ensures lanes { length lanes.new.items ≡ length lanes.old.items }
@@ -167,6 +169,7 @@ where
                 lanes,
                 hands,
                 order.connections,
+                gate,
             );
             (shop, RunEnd::of_served(end))
         }
@@ -184,6 +187,7 @@ fn serve_keep<
     E: Store + Send,
     C: Clock + Send,
     W: Words + Send,
+    G: Gate + Sync,
     R: Threads + Wait + Sync,
 >(
     rt: &R,
@@ -193,6 +197,7 @@ fn serve_keep<
     seats: Seats<D, A, E, C, W>,
     lanes: &mut Vec<Lane<A, C>>,
     hands: &mut Vec<Hand<E, C, W>>,
+    gate: &G,
 ) -> Done<D>
 where
     A::Line: Send,
@@ -203,7 +208,7 @@ where
     requires room { (length seats.rooms.items ≤ vec_capacity seats.booths) × (length seats.benches.items ≤ vec_capacity seats.stations) }
     requires idle { All (λ bench. bench.held ≡ []) seats.benches.items }
     requires some { IfSome order.connections (λ most. 1 ≤ most) }
-    ensures serves { ServesShop (world_of D.Disk E.Store A.Doors A.Line.Source A.Line.Sink C.Clock W.Words)
+    ensures serves { ServesShop (world_of D.Disk E.Store A.Doors A.Line.Source A.Line.Sink C.Clock W.Words (G.closes gate.now))
         order.lanes (length seats.benches.items) order.connections keep lanes.old.items hands.old.items lanes.new.items hands.new.items
         result.disk result.end result.tally }
     ensures status { IsServingStatus (status_of result.end) × ((status_of result.end == 8) ≡ false) }
@@ -216,7 +221,7 @@ where
     let passes = order.lanes + seats.benches.len() as u32;
     match lock_shop(alloc, Shop::new(keep, order.lanes), passes) {
         Ok(locked) => {
-            let (shop, end) = serve_locked(rt, alloc, order, locked, seats, lanes, hands);
+            let (shop, end) = serve_locked(rt, alloc, order, locked, seats, lanes, hands, gate);
             close_shop(shop, attempts, end)
         }
         Err(shop) => {
@@ -233,6 +238,7 @@ fn serve_under<
     E: Store + Send,
     C: Clock + Send,
     W: Words + Send,
+    G: Gate + Sync,
     R: Threads + Wait + Sync,
 >(
     rt: &R,
@@ -243,13 +249,14 @@ fn serve_under<
     clock: &mut C,
     lanes: &mut Vec<Lane<A, C>>,
     hands: &mut Vec<Hand<E, C, W>>,
+    gate: &G,
 ) -> Done<D>
 where
     A::Line: Send,
     requires order { (1 ≤ order.lanes) × (order.lanes ≤ MAX_LANES) × IfSome order.connections (λ most. 1 ≤ most) }
     requires lanes { length lanes.old.items ≡ 8 }
     requires hands { length hands.old.items ≡ 16 }
-    ensures run { (text : Option (List ℕ)) → AreRead text settings → IsServingRun (world_of D.Disk E.Store A.Doors A.Line.Source A.Line.Sink C.Clock W.Words)
+    ensures run { (text : Option (List ℕ)) → AreRead text settings → IsServingRun (world_of D.Disk E.Store A.Doors A.Line.Source A.Line.Sink C.Clock W.Words (G.closes gate.now))
         order.lanes order.connections result.end result.tally text (many_threads disk lanes.old.items hands.old.items (C.moments clock.old))
         (many_threads result.disk lanes.new.items hands.new.items (C.moments clock.new)) }
     ensures settings { (status_of result.end == 8) ≡ false }
@@ -262,7 +269,7 @@ where
     };
     let now = clock.now();
     match Keep::start(alloc, disk, settings, now) {
-        Ok(keep) => serve_keep(rt, alloc, order, keep, seats, lanes, hands),
+        Ok(keep) => serve_keep(rt, alloc, order, keep, seats, lanes, hands, gate),
         Err((fault, disk)) => {
             drop_seats(seats);
             stop(RunEnd::of_start(fault), disk)
@@ -278,6 +285,7 @@ fn serve<
     E: Store + Send,
     C: Clock + Send,
     W: Words + Send,
+    G: Gate + Sync,
     R: Threads + Wait + Sync,
 >(
     rt: &R,
@@ -288,13 +296,14 @@ fn serve<
     clock: &mut C,
     lanes: &mut Vec<Lane<A, C>>,
     hands: &mut Vec<Hand<E, C, W>>,
+    gate: &G,
 ) -> Done<D>
 where
     A::Line: Send,
     requires order { (1 ≤ order.lanes) × (order.lanes ≤ MAX_LANES) × IfSome order.connections (λ most. 1 ≤ most) }
     requires lanes { length lanes.old.items ≡ 8 }
     requires hands { length hands.old.items ≡ 16 }
-    ensures run { IsServingRun (world_of D.Disk E.Store A.Doors A.Line.Source A.Line.Sink C.Clock W.Words)
+    ensures run { IsServingRun (world_of D.Disk E.Store A.Doors A.Line.Source A.Line.Sink C.Clock W.Words (G.closes gate.now))
         order.lanes order.connections result.end result.tally (F.left settings.old) (many_threads disk lanes.old.items hands.old.items (C.moments clock.old))
         (many_threads result.disk lanes.new.items hands.new.items (C.moments clock.new)) }
     ensures settings { status_of result.end ≡ 8 → Rose (F.faults settings.old) (F.faults settings.new) }
@@ -303,7 +312,9 @@ where
     ensures hands { length hands.new.items ≡ 16 }
 {
     match load_settings(alloc, settings) {
-        Ok(settings) => serve_under(rt, alloc, order, settings, disk, clock, lanes, hands),
+        Ok(settings) => {
+            serve_under(rt, alloc, order, settings, disk, clock, lanes, hands, gate)
+        }
         Err(end) => stop(end, disk),
     }
 }
@@ -316,6 +327,7 @@ pub fn serve_as_asked<
     E: Store + Send,
     C: Clock + Send,
     W: Words + Send,
+    G: Gate + Sync,
     R: Threads + Wait + Sync,
 >(
     rt: &R,
@@ -326,13 +338,14 @@ pub fn serve_as_asked<
     clock: &mut C,
     lanes: &mut Vec<Lane<A, C>>,
     hands: &mut Vec<Hand<E, C, W>>,
+    gate: &G,
 ) -> Done<D>
 where
     A::Line: Send,
     requires asked { IsToServe (asked_in (map string_bytes words.now)) }
     requires lanes { length lanes.old.items ≡ 8 }
     requires hands { length hands.old.items ≡ 16 }
-    ensures run { DoesOrServes (asked_in (map string_bytes words.now)) ⊥ (λ lanes_asked connections. IsServingRun (world_of D.Disk E.Store A.Doors A.Line.Source A.Line.Sink C.Clock W.Words)
+    ensures run { DoesOrServes (asked_in (map string_bytes words.now)) ⊥ (λ lanes_asked connections. IsServingRun (world_of D.Disk E.Store A.Doors A.Line.Source A.Line.Sink C.Clock W.Words (G.closes gate.now))
         lanes_asked connections result.end result.tally (F.left settings.old) (many_threads disk lanes.old.items hands.old.items (C.moments clock.old))
         (many_threads result.disk lanes.new.items hands.new.items (C.moments clock.new))) }
     ensures settings { status_of result.end ≡ 8 → Rose (F.faults settings.old) (F.faults settings.new) }
@@ -356,7 +369,9 @@ where
                 lanes: count,
                 connections,
             };
-            serve(rt, alloc, order, settings, disk, clock, lanes, hands)
+            serve(
+                rt, alloc, order, settings, disk, clock, lanes, hands, gate,
+            )
         }
         Some(
             Asked::Session

@@ -36,16 +36,16 @@ use fts_store::Store;
 use fts_tables::{Clock, Memory, Settings, Words};
 use fts_wire::{Room, Sink, Source};
 use fts_words::{Asked, read_words, take_words};
-use fts_workers::{Bench, Hand};
+use fts_workers::{Bench, Gate, Hand};
 use std::alloc::Global;
 use std::sync::Wait;
 use std::thread::Threads;
 
 /// What a run meets: the text of its settings, its input, its output, where it notes how it ended, the disk of its journal, the disk of the
 /// deletions, the clock, hands, of which one thread uses the first one's store and words, lanes, of which only a run that serves uses any, and the
-/// link to a service, which clients and standbys use.
+/// link to a service, which clients and standbys use, and the gate before the copies of a run that serves: closed, it stops the workers.
 #[derive(Drop)]
-pub struct Outside<F, S, K, N, D, E: Store, C: Clock, W: Words, A: Doors, L> {
+pub struct Outside<F, S, K, N, D, E: Store, C: Clock, W: Words, A: Doors, L, G> {
     pub settings: F,
     pub input: S,
     pub output: K,
@@ -56,6 +56,7 @@ pub struct Outside<F, S, K, N, D, E: Store, C: Clock, W: Words, A: Doors, L> {
     pub hands: Vec<Hand<E, C, W>>,
     pub lanes: Vec<Lane<A, C>>,
     pub link: L,
+    pub gate: G,
 }
 
 /// Does all that the program does for these words, and gives its exit status:
@@ -65,8 +66,8 @@ pub struct Outside<F, S, K, N, D, E: Store, C: Clock, W: Words, A: Doors, L> {
 /// 7 where the journal is damaged, or is shown and has no byte, 8 where the settings could not be read, 9 where the doors of a lane failed,
 /// 10 where the input ended inside a request, 11 where the Restart or an entry of the last round or of a worker's last turn doesn't fit the journal,
 /// 12 where what came was refused, 13 where a call of the store failed while the files of a load were made, 14 after as many requests as a
-/// connection may have. There are `MAX_WORKERS` hands and `MAX_LANES` lanes; the disk is there before and after, and the hands and the lanes are in their order.
-/// It waits only where it serves.
+/// connection may have, 23 where the gate was closed and no worker ended worse. There are `MAX_WORKERS` hands and `MAX_LANES` lanes; the disk is there
+/// before and after, and the hands and the lanes are in their order. It waits only where it serves.
 pub fn run<
     F: Source,
     S: Source,
@@ -78,12 +79,13 @@ pub fn run<
     W: Words + Send,
     A: Doors + Send,
     L: Link,
+    G: Gate + Sync,
     R: Threads + Wait + Sync,
 >(
     rt: &R,
     alloc: Global,
     words: &[String],
-    outside: &mut Outside<F, S, K, N, D, E, C, W, A, L>,
+    outside: &mut Outside<F, S, K, N, D, E, C, W, A, L, G>,
 ) -> Ending
 where
     A::Line: Send,
@@ -103,7 +105,7 @@ where
         (one_thread_at S.Source K.Sink C.Clock W.Words disk hand.store outside.old.input outside.old.output outside.old.clock hand.words)
         (one_thread_at S.Source K.Sink C.Clock W.Words left now.store outside.new.input outside.new.output outside.new.clock now.words)
         (beyond_at L.Link outside.old.link outside.old.deletes) (beyond_at L.Link outside.new.link outside.new.deletes)) × (outside.new.lanes ≡ outside.old.lanes))
-        (λ lanes connections. IsServingRun (world_of D.Disk E.Store A.Doors A.Line.Source A.Line.Sink C.Clock W.Words) lanes connections end result.tally (F.left outside.old.settings)
+        (λ lanes connections. IsServingRun (world_of D.Disk E.Store A.Doors A.Line.Source A.Line.Sink C.Clock W.Words (G.closes outside.old.gate)) lanes connections end result.tally (F.left outside.old.settings)
         (many_threads disk outside.old.lanes.items outside.old.hands.items (C.moments outside.old.clock))
         (many_threads left outside.new.lanes.items outside.new.hands.items (C.moments outside.new.clock))
         × (outside.new.input ≡ outside.old.input) × (outside.new.output ≡ outside.old.output) × (outside.new.deletes ≡ outside.old.deletes) × (outside.new.link ≡ outside.old.link)))
@@ -147,12 +149,13 @@ fn run_serving<
     W: Words + Send,
     A: Doors + Send,
     L: Link,
+    G: Gate + Sync,
     R: Threads + Wait + Sync,
 >(
     rt: &R,
     alloc: Global,
     words: &[String],
-    outside: &mut Outside<F, S, K, N, D, E, C, W, A, L>,
+    outside: &mut Outside<F, S, K, N, D, E, C, W, A, L, G>,
 ) -> Ending
 where
     A::Line: Send,
@@ -163,7 +166,7 @@ where
     requires lanes { length outside.old.lanes.items ≡ MAX_LANES }
     ensures run { (end : RunEnd) × ((result.status ≡ status_of end)
         × (OverDisks outside.old.disk outside.new.disk (λ disk left. DoesOrServes (asked_in (map string_bytes words.now)) ⊥
-        (λ lanes connections. IsServingRun (world_of D.Disk E.Store A.Doors A.Line.Source A.Line.Sink C.Clock W.Words) lanes connections end result.tally (F.left outside.old.settings)
+        (λ lanes connections. IsServingRun (world_of D.Disk E.Store A.Doors A.Line.Source A.Line.Sink C.Clock W.Words (G.closes outside.old.gate)) lanes connections end result.tally (F.left outside.old.settings)
         (many_threads disk outside.old.lanes.items outside.old.hands.items (C.moments outside.old.clock))
         (many_threads left outside.new.lanes.items outside.new.hands.items (C.moments outside.new.clock))))
         × IsNoted (N.held outside.old.notes) (N.held outside.new.notes) (N.faults outside.old.notes) (N.faults outside.new.notes) (note_of end))) }
@@ -187,6 +190,7 @@ where
         &mut outside.clock,
         &mut outside.lanes,
         &mut outside.hands,
+        &outside.gate,
     );
     let Done { end, tally, disk } = done;
     match outside.disk.replace(disk) {
@@ -213,10 +217,11 @@ pub fn run_alone<
     W: Words,
     A: Doors,
     L: Link,
+    G,
 >(
     alloc: Global,
     words: &[String],
-    outside: &mut Outside<F, S, K, N, D, E, C, W, A, L>,
+    outside: &mut Outside<F, S, K, N, D, E, C, W, A, L, G>,
 ) -> Option<Ending>
     requires disk { IsSome outside.old.disk }
     requires deletes { IsSome outside.old.deletes }

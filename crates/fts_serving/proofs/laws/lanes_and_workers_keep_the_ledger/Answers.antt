@@ -32,7 +32,7 @@ returns g c =
       follow = c.undisturbed_stores_follow.ensures.worker;
     } in
     record {
-      ledger = λ lanes workers connections settings keep before hands after hands_now closed end serves opened legal lanes_there hands_there some.
-          ledger (world_of g.D.Disk g.E.Store g.A.Doors g.A.Line.Source g.A.Line.Sink g.C.Clock g.W.Words) lists laws serves settings opened legal
+      ledger = λ closes lanes workers connections settings keep before hands after hands_now closed end serves opened legal lanes_there hands_there some.
+          ledger (world_of g.D.Disk g.E.Store g.A.Doors g.A.Line.Source g.A.Line.Sink g.C.Clock g.W.Words closes) lists laws serves settings opened legal
           (omega (arith, lanes_there, opened_length g.A.Doors lanes before serves.opened serves.opens)) hands_there some;
     }

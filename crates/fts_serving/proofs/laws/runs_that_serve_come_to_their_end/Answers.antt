@@ -31,7 +31,7 @@ returns g c =
       follow = c.undisturbed_stores_follow.ensures.worker;
     } in
     record {
-      ends = λ lanes connections text before after end tally rules disk_stays doors_stay lanes_eight few hands_sixteen not_command not_unread.
-          finishes (world_of g.D.Disk g.E.Store g.A.Doors g.A.Line.Source g.A.Line.Sink g.C.Clock g.W.Words) lists laws lanes connections text before after end tally rules disk_stays doors_stay lanes_eight few
+      ends = λ closes lanes connections text before after end tally rules disk_stays doors_stay lanes_eight few hands_sixteen not_command not_unread.
+          finishes (world_of g.D.Disk g.E.Store g.A.Doors g.A.Line.Source g.A.Line.Sink g.C.Clock g.W.Words closes) lists laws lanes connections text before after end tally rules disk_stays doors_stay lanes_eight few
           hands_sixteen not_command not_unread;
     }

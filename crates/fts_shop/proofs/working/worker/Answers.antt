@@ -1,5 +1,5 @@
 -- A turn more, after which the worker goes on, or ends.
-use Rattle.std.proofs.Common.{◌∙◌, refl, sym, ap, suc, Option}
+use Rattle.std.proofs.Common.{◌∙◌, inl, inr, refl, sym, ap, suc, Option}
 use Rattle.fts_tables.specs.Coming.{Coming}
 use Rattle.fts_shop.specs.Turns.{HandData}
 use Rattle.fts_shop.specs.Looked.{same_on}
@@ -16,7 +16,7 @@ returns-in-Some-end_after g c =
       turns = inv.turns.1;
       last = c.turn-end.result;
       ends = c.turn-end.ensures.turn;
-      end_is = c.in-Some-end_after.ensures;
+      end_is = inl c.in-Some-end_after.ensures;
       ended = refl;
       same = same_on c.args.station.now.pass c.loop.station.pass c.turn-end.new.pass inv.same c.turn-end.ensures.same;
       ready = c.turn-end.ensures.ready;

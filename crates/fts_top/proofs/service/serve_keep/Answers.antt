@@ -44,7 +44,7 @@ returns-in-Ok-clause-serves g c =
 pub returns-in-Err-clause-serves : goal.returns-in-Err-clause-serves
 returns-in-Err-clause-serves g c =
     let closed = c.in-Err.shop in
-    let closes = closes_unserved (world_of g.D.Disk g.E.Store g.A.Doors g.A.Line.Source g.A.Line.Sink g.C.Clock g.W.Words) c.args.order.lanes (length c.args.seats.benches.items) c.args.order.connections c.args.keep c.args.lanes.now.items c.args.lanes.now.items
+    let closes = closes_unserved (world_of g.D.Disk g.E.Store g.A.Doors g.A.Line.Source g.A.Line.Sink g.C.Clock g.W.Words (g.G.Gate.closes c.args.gate.now)) c.args.order.lanes (length c.args.seats.benches.items) c.args.order.connections c.args.keep c.args.lanes.now.items c.args.lanes.now.items
     c.args.hands.now.items c.args.hands.now.items closed c.close_shop-in-Err.result.end
     (subst (λ shop. IsUntouched g.D.Disk shop closed) c.new.ensures c.in-Err.ensures.back)
     (opened_none g.A.Doors c.args.order.lanes c.args.lanes.now.items) refl

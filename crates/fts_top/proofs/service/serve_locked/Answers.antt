@@ -12,7 +12,7 @@ pub returns-in-Ok-clause-closes : goal.returns-in-Ok-clause-closes
 returns-in-Ok-clause-closes g c = λ keep locked.
     let opened = opened_back g.A.Doors c.args.order.lanes c.args.lanes.now.len c.as_mut_slice.result.now c.args.lanes.now.items c.open_doors.new.lanes
     c.open_doors.ensures.opened c.as_mut_slice.ensures.value c.args.lanes.now.ok.0 in
-    closes_served (world_of g.D.Disk g.E.Store g.A.Doors g.A.Line.Source g.A.Line.Sink g.C.Clock g.W.Words)
+    closes_served (world_of g.D.Disk g.E.Store g.A.Doors g.A.Line.Source g.A.Line.Sink g.C.Clock g.W.Words (g.G.Gate.closes c.args.gate.now))
     c.args.order.lanes (length c.args.seats.benches.items) c.args.order.connections keep c.args.lanes.now.items _ c.args.hands.now.items _ c.serve_seated-shop.result.shop
     c.of_served.result c.args.locked.lock c.args.locked.first c.args.locked.passes.items locked _ opened c.args.seats.rooms.items c.args.seats.benches.items c.requires.rooms refl
     c.serve_seated-shop.result.end c.serve_seated-shop.ensures.ran c.of_served.ensures c.items_that_name.ensures
@@ -24,7 +24,7 @@ returns-in-Ok-clause-status g c =
 
 pub returns-in-Err-clause-closes : goal.returns-in-Err-clause-closes
 returns-in-Err-clause-closes g c = λ keep locked.
-    closes_unserved (world_of g.D.Disk g.E.Store g.A.Doors g.A.Line.Source g.A.Line.Sink g.C.Clock g.W.Words)
+    closes_unserved (world_of g.D.Disk g.E.Store g.A.Doors g.A.Line.Source g.A.Line.Sink g.C.Clock g.W.Words (g.G.Gate.closes c.args.gate.now))
     c.args.order.lanes (length c.args.seats.benches.items) c.args.order.connections keep c.args.lanes.now.items _ c.args.hands.now.items _ c.unlock.result _
     (record {
       listed = c.unlock.ensures.list ∙ ap (λ first. first.opening) locked.first_is ∙ locked.opening;

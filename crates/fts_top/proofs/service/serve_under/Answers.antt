@@ -32,7 +32,7 @@ returns-in-Ok-start-clause-run g c = λ text read.
     })
 
 pub returns-in-Err-clause-run : goal.returns-in-Err-clause-run
-returns-in-Err-clause-run g c = λ text read. inl (unstarted_run (world_of g.D.Disk g.E.Store g.A.Doors g.A.Line.Source g.A.Line.Sink g.C.Clock g.W.Words) text c.args.lanes.now.items c.args.hands.now.items (g.C.Clock.moments c.args.clock.now)
+returns-in-Err-clause-run g c = λ text read. inl (unstarted_run (world_of g.D.Disk g.E.Store g.A.Doors g.A.Line.Source g.A.Line.Sink g.C.Clock g.W.Words (g.G.Gate.closes c.args.gate.now)) text c.args.lanes.now.items c.args.hands.now.items (g.C.Clock.moments c.args.clock.now)
     (g.C.Clock.moments c.now-now.new.self) c.args.disk c.in-Err.disk c.stop-in-Err.result.disk c.args.settings c.now-now.result c.in-Err.fault
     c.stop-in-Err.result.end c.stop-in-Err.result.tally (subst IsSettings c.settings.view_is c.settings.invariant) read c.now-now.ensures c.in-Err.ensures.err
     (c.stop-in-Err.ensures.end ∙ c.of_start.ensures) c.stop-in-Err.ensures.tally c.stop-in-Err.ensures.disk)
