@@ -8,7 +8,7 @@ use fts_store::{MemoryStore, StoredFile};
 use fts_tables::{EndpointName, Items, ListClock, ListWords, Memory, PathKey, Place};
 use fts_top::{Doors, Ending, Lane, Outside, run};
 use fts_wire::{MemorySink, MemorySource};
-use fts_workers::Hand;
+use fts_workers::{Hand, NoGate};
 use std::alloc::Global;
 use std::io;
 use std::sync::Wait;
@@ -141,6 +141,7 @@ where
         hands: hands(alloc)?,
         lanes: lanes(alloc, doors)?,
         link: no_link(alloc)?,
+        gate: NoGate,
     };
     let ending = run(threads, alloc, owned.as_slice(), &mut outside);
     let Outside {
@@ -154,6 +155,7 @@ where
         hands: _,
         lanes,
         link: _,
+        gate: _,
     } = outside;
     match disk {
         Some(disk) => Ok(Left {

@@ -10,7 +10,7 @@ use fts_store::MemoryStore;
 use fts_tables::{Clock, ListWords, Memory};
 use fts_top::{Outside, run_alone};
 use fts_wire::{MemorySink, Sink, SinkFailed, Source, SourceFailed};
-use fts_workers::Hand;
+use fts_workers::{Hand, NoGate};
 use std::alloc::Global;
 use std::cell::Cell;
 use std::{fs, io};
@@ -173,6 +173,7 @@ fn is_in_order(rt: &HostRuntime) -> io::Result<bool> {
         hands: noting_hands(alloc, &reads_seen)?,
         lanes: lanes(alloc, noting_clocks(alloc, &reads_seen)?)?,
         link: no_link(alloc)?,
+        gate: NoGate,
     };
     let words = owned(alloc, &["session"])?;
     let Some(ending) = run_alone(alloc, words.as_slice(), &mut outside) else {

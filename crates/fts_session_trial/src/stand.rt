@@ -9,7 +9,7 @@ use fts_store::{MemoryStore, Store, StoredFile};
 use fts_tables::{Clock, EndpointName, Items, ListClock, ListWords, Memory, PathKey, Place};
 use fts_top::{Ending, Lane, MemoryDoors, Outside, run_alone};
 use fts_wire::{MemorySink, MemorySource, Source};
-use fts_workers::Hand;
+use fts_workers::{Hand, NoGate};
 use std::alloc::Global;
 use std::io;
 
@@ -231,6 +231,7 @@ pub fn run_words<S: Source + Drop, D: Disk + Drop, E: Store + Drop>(
         hands,
         lanes: lanes(alloc, clocks(alloc)?)?,
         link,
+        gate: NoGate,
     };
     let ended = run_alone(alloc, words.as_slice(), &mut outside);
     let Outside {
@@ -244,6 +245,7 @@ pub fn run_words<S: Source + Drop, D: Disk + Drop, E: Store + Drop>(
         hands,
         lanes: _,
         link: _,
+        gate: _,
     } = outside;
     match (ended, disk) {
         (Some(ending), Some(disk)) => Ok(Ended {

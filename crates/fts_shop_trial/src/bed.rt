@@ -19,6 +19,10 @@ use std::alloc::Global;
 const SETTINGS: &str =
     "vo = \"demo\"\nworkers = 4\ndefault_max_active = 4\n[[storage]]\nurl = \"https://a.example\"\n[[storage]]\nurl = \"https://b.example\"\n";
 
+/// A document of two files.
+pub const TWO_FILES: &str =
+    "{\"files\":[{\"sources\":[\"https://a.example/f1\"],\"destinations\":[\"https://b.example/f1\"]},{\"sources\":[\"https://a.example/f2\"],\"destinations\":[\"https://b.example/f2\"]}]}";
+
 /// A keep with a job of these files, submitted at moment 0.
 pub fn keep(alloc: Global, document: &str) -> Result<Keep<MemoryDisk>, Memory> {
     let Ok(settings) = read_settings(alloc, SETTINGS.as_bytes()) else {

@@ -58,11 +58,40 @@ pub struct BothBegin {
 }
 
 impl Gate for BothBegin {
+    ghost use Rattle.std.specs.Prelude.{false};
+
+    ghost closes = { λ _. false };
+
     fn begun(&self, _file: u32) {
         self.begun.raise();
         if !self.begun.wait_for(2) {
             self.late.raise();
         }
+    }
+
+    fn is_closed(&self) -> bool {
+        false
+    }
+}
+
+/// A gate that is closed once so many copies have begun.
+#[derive(Drop)]
+pub struct ClosesBehind {
+    pub begun: Raised,
+    pub most: u64,
+}
+
+impl Gate for ClosesBehind {
+    ghost use Rattle.std.specs.Prelude.{true};
+
+    ghost closes = { λ _. true };
+
+    fn begun(&self, _file: u32) {
+        self.begun.raise();
+    }
+
+    fn is_closed(&self) -> bool {
+        self.begun.count() >= self.most
     }
 }
 

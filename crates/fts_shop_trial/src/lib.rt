@@ -1,7 +1,7 @@
 //! Threads to their end: two copies that run at once, a cancellation that stops a copy, and passes of a lock that count side by side.
 //! What no clause says is that threads get on, and that each call succeeds with ample memory. Waiting is limited by looks, not by time.
-//! `tests` has the workers of `fts_shop`, over the shop and the stations of `bed` and with what holds a copy in `holding`, and `overdue` a turn of one
-//! about the moment from which a file is overdue; `turnstile` the lock of `fts_turnstile`, and `passes` those of `fts_passes`.
+//! `tests` has the workers of `fts_shop`, over the shop and the stations of `bed` and with what holds a copy in `holding`, `overdue` a turn of one
+//! about the moment from which a file is overdue, and `stopping` workers whose gate is closed; `turnstile` the lock of `fts_turnstile`, and `passes` those of `fts_passes`.
 #![tactic(auto)]
 
 #[cfg(test)]
@@ -12,6 +12,8 @@ mod holding;
 mod overdue;
 #[cfg(test)]
 mod passes;
+#[cfg(test)]
+mod stopping;
 #[cfg(test)]
 mod tests;
 #[cfg(test)]

@@ -3,7 +3,7 @@ ghost use Rattle.std.specs.Prelude.{◌≡◌};
 ghost use Rattle.fts_turnstile.specs.Passes.{IsOf};
 ghost use Rattle.fts_shop.specs.Turns.{IsReady};
 
-use crate::bed::{keep, rows_in, station, store};
+use crate::bed::{TWO_FILES, keep, rows_in, station, store};
 use crate::holding::{BothBegin, Flags, HeldStore, Raised};
 use fts_disk::MemoryDisk;
 use fts_shop::{Shop, Station, WorkerEnd, run_workers, try_command, worker};
@@ -15,9 +15,6 @@ use std::alloc::Global;
 use std::sync::Wait;
 use std::test::Fail;
 use std::thread::{Threads, join_mut};
-
-const TWO_FILES: &str =
-    "{\"files\":[{\"sources\":[\"https://a.example/f1\"],\"destinations\":[\"https://b.example/f1\"]},{\"sources\":[\"https://a.example/f2\"],\"destinations\":[\"https://b.example/f2\"]}]}";
 
 const ONE_FILE: &str =
     "{\"files\":[{\"sources\":[\"https://a.example/f1\"],\"destinations\":[\"https://b.example/f1\"]}]}";

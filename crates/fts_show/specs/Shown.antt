@@ -24,10 +24,6 @@ words_of_job id state kind priority = line_of (codes "job" ∷ id ∷ job_state_
 abbrev pub line_of_job : JobRow → JobState → List ℕ
 line_of_job job state = words_of_job (id_text job.id) state job.kind job.priority
 
--- the beginning of a file's line: its id, its index and its state
-abbrev pub start_of_file : ℕ → ℕ → FileState → List ℕ
-start_of_file id index state = codes "file " ++ (decimal id ++ (codes " " ++ (decimal index ++ (codes " " ++ (file_state_text state ++ codes " ")))))
-
 -- the line of a file: its id, its index, its state, and where it comes from and goes to
 abbrev pub file_line : FileRow → List ℕ
 file_line row = line_of (codes "file" ∷ decimal row.id ∷ decimal row.index ∷ file_state_text row.state ∷ surl_text row.source ∷ surl_text row.dest ∷ [])

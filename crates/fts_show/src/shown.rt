@@ -1,20 +1,23 @@
 //! The text of tables: for each job in order of number one line, and behind it one for each of its rows (`specs/Shown.antt`).
-//! It takes no memory: each line is sent by its parts.
+//! It takes no memory: the parts of a line are put together in a room of a fixed size, and sent in one piece.
 //! Called by `looks`.
-ghost use Rattle.std.specs.Prelude.{◌≡◌, ◌++◌, Some};
-ghost use Rattle.std.specs.List.{flat_map};
+ghost use Rattle.std.specs.Prelude.{◌≡◌, Some, map, IfSome};
+ghost use Rattle.std.specs.List.{concat, flat_map};
 ghost use Rattle.fts_tables.specs.Counts.{CountsFaults};
 ghost use Rattle.fts_tables.specs.Tables.{job_at};
 ghost use Rattle.fts_wire.specs.Response.{Sends};
-ghost use Rattle.fts_routes.specs.Objects.{surl_text};
-ghost use Rattle.fts_show.specs.Shown.{shown_text, lines_of, line_of_job, file_line, start_of_file};
+ghost use Rattle.fts_show.specs.Shown.{shown_text, lines_of, line_of_job, file_line};
 
 use fts_desk::Desk;
 use fts_routes::{file_state_text, job_state_text, kind_text};
-use fts_tables::{FileRow, FileState, JobRow, JobState, Place};
-use fts_wire::{Sink, SinkFailed, send_parts};
+use arrayvec::ArrayVec;
+use fts_tables::{FileRow, JobRow, JobState};
+use fts_wire::{Sink, SinkFailed, send_all, send_parts};
 use itoa::Buffer;
 use uuid::Uuid;
+
+/// Room for a line, in bytes. Two endpoints and two paths of `MAX_NAME_BYTES` each, with their words, have fewer.
+const LINE_BYTES: usize = 8_192;
 
 /// Sends the text of a desk's tables. Where a write fails, a part of it was sent.
 pub fn send_tables<K: Sink>(output: &mut K, desk: &Desk) -> Result<(), SinkFailed>
@@ -59,7 +62,7 @@ fn send_job_line<K: Sink>(output: &mut K, job: &JobRow, state: JobState) -> Resu
     let id = id.encode_lower(&mut room);
     let mut digits = Buffer::new();
     let priority = digits.format(job.priority);
-    send_parts(
+    send_line(
         output,
         &[
             "job".as_bytes(),
@@ -95,59 +98,52 @@ fn send_file_line<K: Sink>(output: &mut K, row: &FileRow) -> Result<(), SinkFail
     ensures sent { Sends (K.held output.old) (K.held output.new) (file_line row.now) result }
     ensures cause { CountsFaults (K.faults output.old) (K.faults output.new) result }
 {
-    match send_file_start(output, row.id, row.index, row.state) {
-        Ok(()) => {}
-        Err(fault) => return Err(fault),
-    }
-    match send_place(output, &row.source, " ") {
-        Ok(()) => {}
-        Err(fault) => return Err(fault),
-    }
-    send_place(output, &row.dest, "\n")
-}
-
-/// Sends the beginning of a file's line, up to its places.
-fn send_file_start<K: Sink>(
-    output: &mut K,
-    id: u32,
-    index: u32,
-    state: FileState,
-) -> Result<(), SinkFailed>
-    ensures sent { Sends (K.held output.old) (K.held output.new) (start_of_file id index state) result }
-    ensures cause { CountsFaults (K.faults output.old) (K.faults output.new) result }
-{
     let (mut first, mut second) = (Buffer::new(), Buffer::new());
-    let id = first.format(id);
-    let index = second.format(index);
-    send_parts(
+    let id = first.format(row.id);
+    let index = second.format(row.index);
+    send_line(
         output,
         &[
-            "file".as_bytes(),
-            " ".as_bytes(),
+            "file ".as_bytes(),
             id.as_bytes(),
             " ".as_bytes(),
             index.as_bytes(),
             " ".as_bytes(),
-            file_state_text(state).as_bytes(),
+            file_state_text(row.state).as_bytes(),
             " ".as_bytes(),
+            row.source.endpoint.as_str().as_bytes(),
+            "/".as_bytes(),
+            row.source.path.as_str().as_bytes(),
+            " ".as_bytes(),
+            row.dest.endpoint.as_str().as_bytes(),
+            "/".as_bytes(),
+            row.dest.path.as_str().as_bytes(),
+            "\n".as_bytes(),
         ],
     )
 }
 
-/// Sends a place, and what stands behind it.
-fn send_place<K: Sink>(output: &mut K, place: &Place, end: &str) -> Result<(), SinkFailed>
-    ensures sent { Sends (K.held output.old) (K.held output.new) (surl_text place.now ++ end.now) result }
+/// The parts of a line, put together; none where they don't fit the room for a line.
+fn joined(parts: &[&[u8]]) -> Option<ArrayVec<u8, LINE_BYTES>>
+    ensures line { IfSome result (λ line. line.items ≡ concat (map (λ part. part.now) parts.now)) }
+{
+    let mut line = ArrayVec::new();
+    'parts: for part in parts {
+        match line.try_extend_from_slice(part) {
+            Ok(()) => {}
+            Err(_) => return None,
+        }
+    }
+    Some(line)
+}
+
+/// Sends the parts of a line: in one piece where they fit the room for one, and else one behind the other. Where a write fails, a part of them was sent.
+fn send_line<K: Sink>(output: &mut K, parts: &[&[u8]]) -> Result<(), SinkFailed>
+    ensures sent { Sends (K.held output.old) (K.held output.new) (concat (map (λ part. part.now) parts.now)) result }
     ensures cause { CountsFaults (K.faults output.old) (K.faults output.new) result }
 {
-    let endpoint = place.endpoint.as_str();
-    let path = place.path.as_str();
-    send_parts(
-        output,
-        &[
-            endpoint.as_bytes(),
-            "/".as_bytes(),
-            path.as_bytes(),
-            end.as_bytes(),
-        ],
-    )
+    match joined(parts) {
+        Some(line) => send_all(output, line.as_slice()),
+        None => send_parts(output, parts),
+    }
 }

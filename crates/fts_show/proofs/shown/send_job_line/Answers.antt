@@ -10,8 +10,8 @@ use Rattle.fts_show.proofs.shown.send_job_line.Goals as goal
 pub returns-clause-sent : goal.returns-clause-sent
 returns-clause-sent g c =
     let same : c.encode_lower-id.result.now ≡ id_text c.args.job.now.id = c.encode_lower-id.ensures.text ∙ ap (hyphenated_text lower) (c.hyphenated-id.ensures ∙ c.from_u128.ensures) in
-    let sent : Sends (g.K.Sink.held c.args.output.now) (g.K.Sink.held c.send_parts.new.sink)
-    (words_of_job c.encode_lower-id.result.now c.args.state c.args.job.now.kind c.args.job.now.priority) c.send_parts.result
+    let sent : Sends (g.K.Sink.held c.args.output.now) (g.K.Sink.held c.send_line.new.output)
+    (words_of_job c.encode_lower-id.result.now c.args.state c.args.job.now.kind c.args.job.now.priority) c.send_line.result
     = first_of (search rules, grind (arith, common_steps)) in
-    subst (λ (id : List ℕ). Sends (g.K.Sink.held c.args.output.now) (g.K.Sink.held c.send_parts.new.sink)
-    (words_of_job id c.args.state c.args.job.now.kind c.args.job.now.priority) c.send_parts.result) same sent
+    subst (λ (id : List ℕ). Sends (g.K.Sink.held c.args.output.now) (g.K.Sink.held c.send_line.new.output)
+    (words_of_job id c.args.state c.args.job.now.kind c.args.job.now.priority) c.send_line.result) same sent
