@@ -13,35 +13,21 @@ ghost use Rattle.fts_store.specs.Folder.{is_deleting};
 ghost use Rattle.fts_words.specs.Words.{asked_in};
 ghost use Rattle.fts.specs.CommandLine.{stand_of, words_of, asks_service, exit_status_of, LooksAtMost, DeletesNothing};
 
-mod accepting;
-mod outside;
-mod relief;
-#[cfg(test)]
-mod sockets;
-mod steps;
-mod tcp_doors;
-mod tcp_line;
-mod tcp_link;
-#[cfg(test)]
-mod tests;
-
+use fts_devices::{
+    LinkLimits, OpenedFile, SystemClock, TcpLink, closed_doors, hands_over, lanes_over,
+};
 use fts_disk::{Disk, FileDisk, MemoryDisk, SystemDisk};
 use fts_files::{FileSystem, SystemFiles};
 use fts_store::{FolderStore, MemoryStore, Store, StoredFile};
-use fts_tables::limits::{MAX_LANES, MAX_WORKERS};
-use fts_tables::{Clock, EndpointName, Items, Memory, PathKey, Place};
-use fts_top::{Doors, Ending, Lane, Outside, run};
+use fts_tables::limits::MAX_WORKERS;
+use fts_tables::{EndpointName, Items, Memory, PathKey, Place};
+use fts_top::{Doors, Ending, Outside, run};
 use fts_wire::{MemorySource, Source, StdSink, StdSource};
 use fts_words::{Asked, read_words};
-use fts_workers::Hand;
-use outside::{OpenedFile, PcgWords, SystemClock};
 use std::process::ExitCode;
 use std::sync::Wait;
 use std::thread::Threads;
 use std::{env, io};
-use tcp_doors::TcpDoors;
-use tcp_line::LineLimits;
-use tcp_link::{LinkLimits, TcpLink};
 
 /// The settings of the stand `-`.
 const STAND_SETTINGS: &str =
@@ -49,9 +35,6 @@ const STAND_SETTINGS: &str =
 
 /// How many hands a run has.
 const HANDS: usize = MAX_WORKERS as usize;
-
-/// How many lanes a run has.
-const LANES: usize = MAX_LANES as usize;
 
 /// The words of the command line, with the program's name first; none where one of them is no UTF-8.
 fn command_line(rt: &HostRuntime) -> Result<Vec<String>, Memory> {
@@ -102,72 +85,6 @@ fn exit_status(ended: Result<Ending, Memory>) -> u8
 /// A store in a folder of the machine.
 type GridStore<'a> = FolderStore<SystemFiles<&'a HostRuntime>>;
 
-/// What one thread of the program has in hand.
-type RealHand<'a, E> = Hand<E, SystemClock<&'a HostRuntime>, PcgWords>;
-
-/// The hands over these stores, each with the system's clock, and with words of the start's moment on the stream of its place.
-fn hands_over<'a, E: Store + Drop>(
-    rt: &'a HostRuntime,
-    stores: Vec<E>,
-) -> Result<Vec<RealHand<'a, E>>, Memory>
-    ensures { IfOk result (λ hands. length hands.items ≡ length stores.items) }
-{
-    let moment = SystemClock::new(rt).now();
-    let mut hands = Vec::new(rt.alloc());
-    let mut place = 0;
-    for store in stores {
-        let hand = Hand {
-            store,
-            clock: SystemClock::new(rt),
-            words: PcgWords::new(moment, place),
-        };
-        if hands.push(hand).is_err() {
-            return Err(Memory);
-        }
-        place = u64::saturating_add(place, 1);
-    }
-    Ok(hands)
-}
-
-/// Doors for each lane, which don't listen yet.
-fn closed_doors(rt: &HostRuntime) -> Result<Vec<TcpDoors<&HostRuntime>>, Memory>
-    ensures { IfOk result (λ doors. length doors.items ≡ MAX_LANES) }
-{
-    let mut doors = Vec::new(rt.alloc());
-    for _ in 0..LANES {
-        if doors
-            .push(TcpDoors::new(rt, rt.alloc(), LineLimits::of_service()))
-            .is_err()
-        {
-            return Err(Memory);
-        }
-    }
-    Ok(doors)
-}
-
-/// A lane with the system's clock.
-type RealLane<'a, A> = Lane<A, SystemClock<&'a HostRuntime>>;
-
-/// The lanes at these doors, each with the system's clock.
-fn lanes_over<'a, A: Doors + Drop>(
-    rt: &'a HostRuntime,
-    doors: Vec<A>,
-) -> Result<Vec<RealLane<'a, A>>, Memory>
-    ensures { IfOk result (λ lanes. length lanes.items ≡ length doors.items) }
-{
-    let mut lanes = Vec::new(rt.alloc());
-    for doors in doors {
-        let lane = Lane {
-            doors,
-            clock: SystemClock::new(rt),
-        };
-        if lanes.push(lane).is_err() {
-            return Err(Memory);
-        }
-    }
-    Ok(lanes)
-}
-
 /// A link to services of this machine, for one request or, where a standby follows, for many.
 fn link_for<'a>(rt: &'a HostRuntime, words: &[String]) -> TcpLink<&'a HostRuntime> {
     let link = TcpLink::new(rt, LinkLimits::of_client());
@@ -208,6 +125,7 @@ where
     requires hands { length stores.items ≡ MAX_WORKERS }
     requires lanes { length doors.items ≡ MAX_LANES }
 {
+    let alloc = rt.alloc();
     let mut outside = Outside {
         settings,
         input: StdSource::new(rt.stdin()),
@@ -216,11 +134,11 @@ where
         disk: Some(journal),
         deletes: Some(deletes),
         clock: SystemClock::new(rt),
-        hands: hands_over(rt, stores)?,
-        lanes: lanes_over(rt, doors)?,
+        hands: hands_over(rt, alloc, stores)?,
+        lanes: lanes_over(rt, alloc, doors)?,
         link: link_for(rt, words),
     };
-    Ok(run(threads, rt.alloc(), words, &mut outside))
+    Ok(run(threads, alloc, words, &mut outside))
 }
 
 /// A store in memory that holds `abc` at `https://a.example/data/f1`.
@@ -267,7 +185,7 @@ fn run_in_memory<R: Threads + Wait + Sync>(
     let journal = MemoryDisk::new(alloc, Vec::new(alloc));
     let deletes = MemoryDisk::new(alloc, Vec::new(alloc));
     let stores = stand_stores(rt)?;
-    let doors = closed_doors(rt)?;
+    let doors = closed_doors(rt, alloc)?;
     run_over(
         rt, threads, words, settings, journal, deletes, stores, doors,
     )
@@ -332,7 +250,7 @@ fn run_in_folder<R: Threads + Wait + Sync>(
         sweep_parts(rt, folder)?;
         meet_endpoints(&mut stores)?;
     }
-    let doors = closed_doors(rt)?;
+    let doors = closed_doors(rt, alloc)?;
     run_over(
         rt, threads, words, settings, journal, deletes, stores, doors,
     )

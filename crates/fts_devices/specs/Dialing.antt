@@ -3,7 +3,7 @@ use Rattle.std.specs.Prelude.{◌≡◌, ℕ, ◌*◌, ◌==◌, if◌then◌els
 use Rattle.std.specs.Net.Addr.{ipv4_octets}
 use Rattle.std.specs.declared.net.ip_addr.IpAddr.{IpAddr}
 use Rattle.std.specs.declared.net.ip_addr.IpAddr.TheVariants.{V4, V6}
-use Rattle.fts.specs.Steps.{loopback}
+use Rattle.fts_devices.specs.Steps.{loopback}
 
 -- this machine's own address, on which a service listens
 abbrev pub IsOwn : IpAddr → Type 0

@@ -7,11 +7,12 @@
 //! Order of an end: where the client may still be sending, the writing side is shut, and what comes is taken in for a while; then it is closed.
 //! Else unread bytes would make the system reset the connection, and the last response could be lost.
 //! Made by `TcpDoors`, and for a client by `TcpLink`. It tells nothing of bytes.
-ghost use Rattle.std.specs.Prelude.{◌≡◌, ◌≤◌, ◌<◌, length, None, true, IfOk, IsErr};
+ghost use Rattle.std.specs.Prelude.{◌≡◌, ◌≤◌, ◌<◌, length, None, true, false, IfOk, IsErr};
 ghost use Rattle.fts_tables.specs.Counts.{CountsFaults};
 ghost use Rattle.fts_wire.specs.Outside.{Reads, Writes, raised};
-ghost use Rattle.fts.specs.Relief.{MayEnd};
-ghost use Rattle.fts.specs.Steps.{has_failed, is_end};
+ghost use Rattle.fts_devices.specs.Relief.{MayEnd};
+ghost use Rattle.fts_devices.specs.Limits.{IsOfService};
+ghost use Rattle.fts_devices.specs.Steps.{has_failed, is_answered, is_end};
 
 use crate::relief::{Met, Relief, look_at_line};
 use crate::steps::{Seen, drains_on, is_end, may_send, own_time, time_left};
@@ -58,7 +59,9 @@ const DRAIN_PIECE_BYTES: usize = 8_192;
 
 impl LineLimits {
     /// The limits of the service.
-    pub fn of_service() -> LineLimits {
+    pub fn of_service() -> LineLimits
+        ensures { IsOfService result }
+    {
         LineLimits {
             wait: Duration::from_secs(WAIT_SECONDS),
             request: Duration::from_secs(REQUEST_SECONDS),
@@ -91,9 +94,12 @@ pub struct TcpLine<R: SystemTimes + Copy> {
 }
 
 impl<R: SystemTimes + Copy> TcpLine<R> {
-    /// A line over a new connection. Small pieces are sent at once.
+    /// A line over a new connection, from which nothing was read and to which nothing was written. Small pieces are sent at once.
+    /// An error of the system where the connection can't be set up, or the time can't be had.
     pub fn new(rt: R, stream: TcpStream, limits: LineLimits) -> io::Result<TcpLine<R>>
         ensures fresh { IfOk result (λ line. (line.read_faults ≡ 0) × (line.write_faults ≡ 0)) }
+        ensures new { IfOk result (λ line. (line.limits ≡ limits) × (line.has_answered ≡ false) × (line.is_asked ≡ false) × (line.relief ≡ None)
+            × (line.is_at_end ≡ false) × (line.reads ≡ 0)) }
     {
         stream.set_nodelay(true)?;
         stream.set_write_timeout(Some(limits.wait))?;
@@ -114,7 +120,7 @@ impl<R: SystemTimes + Copy> TcpLine<R> {
     }
 
     /// The same line, which gives way to connections that wait at this relief's listener.
-    pub fn relieved_by(mut self, relief: Option<Relief>) -> TcpLine<R> {
+    pub(crate) fn relieved_by(mut self, relief: Option<Relief>) -> TcpLine<R> {
         self.relief = relief;
         if let Some(relief) = &mut self.relief {
             relief.begin();
@@ -130,7 +136,9 @@ impl<R: SystemTimes + Copy> TcpLine<R> {
     }
 
     /// Whether what was written last was answered: something came behind it, no end of the input, and nothing has failed.
-    pub fn is_answered(&self) -> bool {
+    pub fn is_answered(&self) -> bool
+        ensures { result ≡ is_answered self.now.is_asked self.now.is_at_end self.now.read_faults self.now.write_faults }
+    {
         self.is_asked && !self.is_at_end && !self.has_failed()
     }
 
@@ -219,7 +227,7 @@ impl<R: SystemTimes + Copy> TcpLine<R> {
     }
 
     /// Ends the connection, and hands its relief back. A client that may still be sending can read its last response to the end.
-    pub fn end(mut self) -> Option<Relief> {
+    pub(crate) fn end(mut self) -> Option<Relief> {
         if may_send(self.is_at_end, self.read_faults, self.write_faults) {
             // Whatever comes of it, the line is closed, and nobody is left to be told.
             let _drained = self.drain();

@@ -2,10 +2,10 @@
 use Rattle.std.specs.Prelude.{◌≡◌, ℕ, zero, ◌+◌, ◌<◌, ◌≤◌, ◌==◌, ◌||◌, nat_lt, Bool, true, false, if◌then◌else◌, ℤ, pos, negsuc, ◌/◌, min, List, [], ◌∷◌, Option, Some, None, Result, Ok, Err}
 use Rattle.std.specs.Duration.{as_nanos}
 use Rattle.std.specs.declared.time.Duration.{Duration}
-use Rattle.fts.specs.declared.steps.Seen.{Seen}
-use Rattle.fts.specs.declared.steps.Seen.TheVariants.{Line, Waiting, Nothing}
-use Rattle.fts.specs.declared.steps.Untaken.{Untaken}
-use Rattle.fts.specs.declared.steps.Untaken.TheVariants.{Gone, NotYet, NoListener}
+use Rattle.fts_devices.specs.declared.steps.Seen.{Seen}
+use Rattle.fts_devices.specs.declared.steps.Seen.TheVariants.{Line, Waiting, Nothing}
+use Rattle.fts_devices.specs.declared.steps.Untaken.{Untaken}
+use Rattle.fts_devices.specs.declared.steps.Untaken.TheVariants.{Gone, NotYet, NoListener}
 
 -- the connection is gone: it was aborted, another lane took it, or a signal came first (ECONNABORTED, EAGAIN, EINTR)
 abbrev pub is_gone : ℕ → Bool
@@ -43,6 +43,11 @@ may_send is_at_end read_faults write_faults = if is_at_end then false else if re
 -- a line has failed: a read or a write of it has
 abbrev pub has_failed : ℕ → ℕ → Bool
 has_failed read_faults write_faults = nat_lt 0 read_faults || nat_lt 0 write_faults
+
+-- what was written last was answered: something came behind it, the input hasn't ended, and nothing has failed
+abbrev pub is_answered : Bool → Bool → ℕ → ℕ → Bool
+is_answered is_asked is_at_end read_faults write_faults =
+    if is_asked then if is_at_end then false else if has_failed read_faults write_faults then false else true else false
 
 -- what the events of a listener say: a connection waits (POLLIN), or there is none
 abbrev pub waiting_at : ℤ → Seen

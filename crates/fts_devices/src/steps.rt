@@ -4,7 +4,7 @@
 ghost use Rattle.std.specs.Prelude.{◌≡◌, pos};
 ghost use Rattle.std.specs.Duration.{as_nanos};
 ghost use Rattle.std.specs.Net.Addr.{ipv4_octets};
-ghost use Rattle.fts.specs.Steps.{IsLeft, IsOwnTime, drains_on, is_end, loopback, may_send, poll_millis, seen_by, untaken_by};
+ghost use Rattle.fts_devices.specs.Steps.{IsLeft, IsOwnTime, drains_on, is_end, loopback, may_send, poll_millis, seen_by, untaken_by};
 
 use libc::net::POLLIN;
 use std::io::{self, ErrorKind};

@@ -3,12 +3,10 @@
 ghost use Rattle.std.specs.Prelude.{◌<◌, IfOk, IsTrue};
 ghost use Rattle.fts_wire.specs.Response.{has_phrase, has_methods};
 
-use crate::tcp_doors::TcpDoors;
-use crate::tcp_line::{LineLimits, TcpLine};
-use crate::tcp_link::{LinkLimits, TcpLink};
 use fts_client::Link;
+use fts_devices::{LineLimits, LinkLimits, TcpDoors, TcpLine, TcpLink};
+use fts_service::{Doors, DoorsFailed};
 use fts_tables::Items;
-use fts_top::{Doors, DoorsFailed};
 use fts_wire::{
     Allow, Reply, Room, Sink, SinkFailed, Source, SourceFailed, WireFault, write_response,
 };
@@ -62,7 +60,7 @@ fn load_next(rt: &HostRuntime, doors: &mut Opened<'_>) -> Result<Result<bool, Wi
     let mut room = Room::new(rt.alloc())?;
     let mut line = next_line(doors)?;
     let loaded = room.load(&mut line);
-    line.end();
+    doors.done(line);
     Ok(loaded)
 }
 
@@ -96,7 +94,7 @@ fn a_client_that_sends_a_byte_and_waits_is_let_go(rt: HostRuntime) -> Result<(),
     let piece = vec![in rt.alloc(); 0; 16_777_216]?;
     let written = line.write(piece.as_slice());
     assert!(rt; written == Err(SinkFailed), "it reads nothing");
-    line.end();
+    doors.done(line);
     silent.shutdown(Shutdown::Both)?;
     Ok(())
 }
@@ -166,7 +164,7 @@ fn pour(
     let mut line = next_line(doors)?;
     let written = line.write(piece.as_slice());
     is_given_up.store(true, Ordering::SeqCst);
-    line.end();
+    doors.done(line);
     Ok(written)
 }
 

@@ -4,14 +4,14 @@
 //! Each line gets the doors' relief: while it is silent between two requests its lane takes the connection that waits, which then is the next one.
 //! Doors that wait for a connection sleep in the system. They never say that no more connections come, and tell nothing of lines. What follows of an
 //! error of an accept is in `accepting`, and which address is listened on in `steps`.
-ghost use Rattle.std.specs.Prelude.{◌≡◌, ◌↔◌, IfOk, IsOk, IsSome};
+ghost use Rattle.std.specs.Prelude.{◌≡◌, ◌↔◌, None, IfOk, IsOk, IsSome};
 ghost use Rattle.fts_tables.specs.Counts.{CountsFaults};
 
 use crate::accepting::{Listens, next_line};
 use crate::relief::{Relief, wait_at};
 use crate::steps::address;
 use crate::tcp_line::{LineLimits, TcpLine};
-use fts_top::{Doors, DoorsFailed};
+use fts_service::{Doors, DoorsFailed};
 use std::alloc::Global;
 use std::io::ErrorKind;
 use std::net::{Net, SocketAddr, TcpListener, TcpStream};
@@ -71,7 +71,11 @@ impl<'a, R: SystemTimes + Copy> Listening<'a, R> {
 }
 
 impl<'a, R: SystemTimes + Copy> Listens for Listening<'a, R> {
+    ghost use Rattle.std.specs.Prelude.{None};
+
     type Line = TcpLine<R>;
+
+    ghost answers = { λ _. None };
 
     fn take(&mut self) -> Result<TcpLine<R>, u32> {
         match self.stream() {
@@ -87,7 +91,9 @@ impl<'a, R: SystemTimes + Copy> Listens for Listening<'a, R> {
 
 impl<R: Net<Listener = TcpListener, Stream = TcpStream> + SystemTimes + Copy> TcpDoors<R> {
     /// Doors that don't listen yet, whose lines have these limits.
-    pub fn new(rt: R, alloc: Global, limits: LineLimits) -> TcpDoors<R> {
+    pub fn new(rt: R, alloc: Global, limits: LineLimits) -> TcpDoors<R>
+        ensures { result ≡ record { rt = rt; alloc = alloc; limits = limits; listener = None; relief = None; out = 0; faults = 0 } }
+    {
         TcpDoors {
             rt,
             alloc,
@@ -99,7 +105,7 @@ impl<R: Net<Listener = TcpListener, Stream = TcpStream> + SystemTimes + Copy> Tc
         }
     }
 
-    /// The address and the port that they listen on.
+    /// The address and the port that they listen on, as the system says; none where they don't listen, or where it can't say.
     pub fn place(&self) -> Option<SocketAddr> {
         self.listener.as_ref()?.local_addr().ok()
     }

@@ -8,7 +8,7 @@ ghost use Rattle.rand_core.specs.Steps.{u64_via_u32};
 ghost use Rattle.rand_pcg.specs.Lcg.{increment_of, started};
 ghost use Rattle.rand_pcg.specs.Pcg.{multiplier_64, pcg32};
 ghost use Rattle.fts_tables.specs.Coming.{Gives};
-ghost use Rattle.fts.specs.Settings.{left_of};
+ghost use Rattle.fts_devices.specs.Settings.{left_of};
 
 use fts_tables::{Clock, Words};
 use rand_core::utils::next_u64_via_u32;
@@ -30,7 +30,9 @@ pub struct SystemClock<R: SystemTimes> {
 
 impl<R: SystemTimes> SystemClock<R> {
     /// The clock of the system.
-    pub fn new(rt: R) -> SystemClock<R> {
+    pub fn new(rt: R) -> SystemClock<R>
+        ensures { result.rt ≡ rt }
+    {
         SystemClock { rt }
     }
 }
@@ -93,7 +95,7 @@ pub struct OpenedFile<F: Read> {
 }
 
 impl OpenedFile<File> {
-    /// The file at a path.
+    /// The file at a path, opened for reading; none where it can't be, and then each read of it fails.
     pub fn open<R: Files<File = File>>(rt: &R, path: &str) -> OpenedFile<File> {
         OpenedFile::of(File::open(rt, path).ok())
     }
@@ -109,7 +111,7 @@ impl<F: Read> OpenedFile<F> {
 }
 
 impl<F: Read> Read for OpenedFile<F> {
-    ghost use Rattle.fts.specs.Settings.{left_of};
+    ghost use Rattle.fts_devices.specs.Settings.{left_of};
 
     ghost remaining = { λ opened. left_of F.remaining opened.file };
 

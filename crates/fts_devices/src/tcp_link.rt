@@ -5,9 +5,10 @@
 //! started again meanwhile is met (`rest_behind`); then it connects, on this machine alone.
 //! A line that comes back is closed at once: its answer was read whole, or nobody wants it. It tells nothing of lines.
 //! Called by the commands of a client.
-ghost use Rattle.std.specs.Prelude.{◌≡◌, IfSome};
+ghost use Rattle.std.specs.Prelude.{◌≡◌, None, true, false, IfSome};
 ghost use Rattle.std.specs.Net.Socket.{socket_ip, socket_port};
-ghost use Rattle.fts.specs.Dialing.{IsOwn, rest_behind};
+ghost use Rattle.fts_devices.specs.Dialing.{IsOwn, rest_behind};
+ghost use Rattle.fts_devices.specs.Limits.{IsOfClient};
 
 use crate::steps::address;
 use crate::tcp_line::{LineLimits, TcpLine};
@@ -41,7 +42,9 @@ const LONGEST_REST_MILLIS: u64 = 10_000;
 
 impl LinkLimits {
     /// The limits of a client. Its lines wait as long as those of a service do: 10 s for one read or write, and 60 s for a whole response.
-    pub fn of_client() -> LinkLimits {
+    pub fn of_client() -> LinkLimits
+        ensures { IsOfClient result }
+    {
         LinkLimits {
             connect: Duration::from_secs(CONNECT_SECONDS),
             line: LineLimits::of_service(),
@@ -87,7 +90,9 @@ pub struct TcpLink<R: Net<Stream = TcpStream> + SystemTimes + Copy> {
 
 impl<R: Net<Stream = TcpStream> + SystemTimes + Copy> TcpLink<R> {
     /// A link for the tries of one request, which was not dialed yet.
-    pub fn new(rt: R, limits: LinkLimits) -> TcpLink<R> {
+    pub fn new(rt: R, limits: LinkLimits) -> TcpLink<R>
+        ensures { result ≡ record { rt = rt; limits = limits; rest = 0; is_for_many = false; port = None; dials = 0; out = 0; faults = 0 } }
+    {
         TcpLink {
             rt,
             limits,
@@ -101,7 +106,9 @@ impl<R: Net<Stream = TcpStream> + SystemTimes + Copy> TcpLink<R> {
     }
 
     /// The same link for many requests, one after another: behind a line that was answered there is no rest.
-    pub fn for_many(mut self) -> TcpLink<R> {
+    pub fn for_many(mut self) -> TcpLink<R>
+        ensures { result ≡ record self { is_for_many = true } }
+    {
         self.is_for_many = true;
         self
     }

@@ -1,0 +1,31 @@
+-- Each answer is one more of those that are taken.
+use Rattle.std.proofs.Common.{◌≡◌, refl, sym, ap, ◌∙◌, subst, ℕ, suc, Option, Some, None, List, Result, Ok, Err, ◌+◌, ◌-◌, arith}
+use Rattle.fts_devices.specs.Accepting.{GivesLine}
+use Rattle.fts_devices.specs.declared.steps.Untaken.TheVariants.{Gone, NotYet, NoListener}
+use Rattle.fts_devices.proofs.Answering.{by_line, by_end, by_refusal}
+use Rattle.fts_devices.proofs.accepting.next_line.Goals.{in-Gone, in-NotYet}
+use Rattle.fts_devices.proofs.accepting.next_line.Goals as goal
+
+pub returns-in-Ok : goal.returns-in-Ok
+returns-in-Ok g c = record {
+  line = c.loop.invariant.line (g.L.Listens.answers c.take.new.self) (Some c.in-Ok.line)
+      (subst (λ (n : ℕ). GivesLine n (g.L.Listens.answers c.loop.listener) (g.L.Listens.answers c.take.new.self) (Some c.in-Ok.line)) (omega (arith, c.loop-test.true))
+          (by_line (18446744073709551615 - (c.loop.counter + 1)) (g.L.Listens.answers c.loop.listener) (g.L.Listens.answers c.take.new.self) c.in-Ok.line c.in-Ok.ensures.answer));
+}
+
+pub returns-in-NoListener : goal.returns-in-NoListener
+returns-in-NoListener g c = record {
+  line = c.loop.invariant.line (g.L.Listens.answers c.take.new.self) None
+      (subst (λ (n : ℕ). GivesLine n (g.L.Listens.answers c.loop.listener) (g.L.Listens.answers c.take.new.self) None) (omega (arith, c.loop-test.true))
+          (by_end (18446744073709551615 - (c.loop.counter + 1)) (g.L.Listens.answers c.loop.listener) (g.L.Listens.answers c.take.new.self) c.in-Err.errno
+              c.in-NoListener.ensures c.in-Err.ensures.answer));
+}
+
+pub loop-preserved : goal.loop-preserved
+loop-preserved g c = record {
+  line = λ left line then. c.loop.invariant.line left line
+      (subst (λ (n : ℕ). GivesLine n (g.L.Listens.answers c.loop.listener) left line) (omega (arith, c.loop-test.true)) (elim c.match-untaken_by.branch [
+        in-Gone w ↦ ?
+      | in-NotYet w ↦ ?
+      ]));
+}
