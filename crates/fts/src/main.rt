@@ -1,7 +1,7 @@
 //! The program `fts STAND COMMAND`: it makes the real outside, calls `run`, and ends with its status.
 //! The stand `-` has its settings, its journals and its stores in memory. Any other one is a folder with `fts.toml`, `fts.journal`, which a service or
-//! a standby makes where it is absent and locks against others, `fts.deletes`, the same for deletions, and `grid`, in which files are copied. For
-//! other commands, and for words that are none, a journal is only looked at. Where a word is no UTF-8, `run` gets an empty list
+//! a standby makes where it is absent and locks against others, `fts.deletes`, the same for deletions, `grid`, in which files are copied, and `fts.stop`, which
+//! stops a run that serves, and which a start takes away. For other commands, and for words that are none, a journal is only looked at. Where a word is no UTF-8, `run` gets an empty list
 //! of words, which is no command, over the stand `-`.
 //! Which word is the stand stands in `specs/CommandLine.antt`.
 #![tactic(auto)]
@@ -14,7 +14,7 @@ ghost use Rattle.fts_words.specs.Words.{asked_in};
 ghost use Rattle.fts.specs.CommandLine.{stand_of, words_of, asks_service, exit_status_of, LooksAtMost, DeletesNothing};
 
 use fts_devices::{
-    LinkLimits, OpenedFile, SystemClock, TcpLink, closed_doors, hands_over, lanes_over,
+    LinkLimits, OpenedFile, StopFile, SystemClock, TcpLink, closed_doors, hands_over, lanes_over,
 };
 use fts_disk::{Disk, FileDisk, MemoryDisk, SystemDisk};
 use fts_files::{FileSystem, SystemFiles};
@@ -24,6 +24,7 @@ use fts_tables::{EndpointName, Items, Memory, PathKey, Place};
 use fts_top::{Doors, Ending, Outside, run};
 use fts_wire::{MemorySource, Source, StdSink, StdSource};
 use fts_words::{Asked, read_words};
+use fts_workers::{Gate, NoGate};
 use std::process::ExitCode;
 use std::sync::Wait;
 use std::thread::Threads;
@@ -103,12 +104,14 @@ fn link_for<'a>(rt: &'a HostRuntime, words: &[String]) -> TcpLink<&'a HostRuntim
     }
 }
 
-/// Runs the command over these settings, the disks of these two journals, these hands, the system's streams and clock, and the ports of the machine.
+/// Runs the command over these settings, the disks of these two journals, these hands, this gate, the system's streams and clock, and the ports of the
+/// machine.
 fn run_over<
     F: Source + Drop,
     D: Disk + Send + Drop,
     E: Store + Send + Drop,
     A: Doors + Send + Drop,
+    G: Gate + Sync + Drop,
     R: Threads + Wait + Sync,
 >(
     rt: &HostRuntime,
@@ -119,6 +122,7 @@ fn run_over<
     deletes: D,
     stores: Vec<E>,
     doors: Vec<A>,
+    gate: G,
 ) -> Result<Ending, Memory>
 where
     A::Line: Send,
@@ -137,6 +141,7 @@ where
         hands: hands_over(rt, alloc, stores)?,
         lanes: lanes_over(rt, alloc, doors)?,
         link: link_for(rt, words),
+        gate,
     };
     Ok(run(threads, alloc, words, &mut outside))
 }
@@ -185,9 +190,9 @@ fn run_in_memory<R: Threads + Wait + Sync>(
     let journal = MemoryDisk::new(alloc, Vec::new(alloc));
     let deletes = MemoryDisk::new(alloc, Vec::new(alloc));
     let stores = stand_stores(rt)?;
-    let doors = closed_doors(rt, alloc)?;
+    let doors = closed_doors(rt, alloc, StopFile::none())?;
     run_over(
-        rt, threads, words, settings, journal, deletes, stores, doors,
+        rt, threads, words, settings, journal, deletes, stores, doors, NoGate,
     )
 }
 
@@ -242,17 +247,20 @@ fn run_in_folder<R: Threads + Wait + Sync>(
     let settings = format!(in alloc; "{folder}/fts.toml")?;
     let journal = format!(in alloc; "{folder}/fts.journal")?;
     let deletes = format!(in alloc; "{folder}/fts.deletes")?;
+    let stop = format!(in alloc; "{folder}/fts.stop")?;
+    let stop = StopFile::at(rt, stop.as_str());
     let mut stores = folder_stores(rt, words, folder)?;
     let settings = StdSource::new(OpenedFile::open(rt, settings.as_str()));
     let mut journal = disk_for(rt, words, journal.as_str());
     let deletes = deletes_for(rt, words, deletes.as_str());
     if asks_service(words) && journal.len().is_ok() {
+        stop.clear();
         sweep_parts(rt, folder)?;
         meet_endpoints(&mut stores)?;
     }
-    let doors = closed_doors(rt, alloc)?;
+    let doors = closed_doors(rt, alloc, stop)?;
     run_over(
-        rt, threads, words, settings, journal, deletes, stores, doors,
+        rt, threads, words, settings, journal, deletes, stores, doors, stop,
     )
 }
 

@@ -33,7 +33,7 @@ module _ {L : Type 0} where
   by_end most (Some (Ok first ∷ others)) left errno is gives = absurd (subst IsLine (sym gives.0) zero)
   by_end most (Some (Err first ∷ others)) left errno is gives =
       subst (λ (u : Untaken). FollowsRefusal u ((◌≡◌ {A = Option L} None None) × (left ≡ Some others)) (GivesFirstOf most others left None))
-          (is ∙ ap untaken_by (ap (errno_or errno) gives.0)) (refl, gives.1)
+      (is ∙ ap untaken_by (ap (errno_or errno) gives.0)) (refl, gives.1)
 
   -- another refusal, behind which the rest follows
   pub by_refusal : (most : ℕ) (told between left : Option (List (Result L ℕ))) (line : Option L) (errno : ℕ) (untaken : Untaken)
@@ -44,6 +44,6 @@ module _ {L : Type 0} where
   by_refusal most (Some (Ok first ∷ others)) between left line errno untaken goes_on is gives then = absurd (subst IsLine (sym gives.0) zero)
   by_refusal most (Some (Err first ∷ others)) between left line errno untaken goes_on is gives then =
       subst (λ (u : Untaken). FollowsRefusal u ((line ≡ None) × (left ≡ Some others)) (GivesFirstOf most others left line))
-          (is ∙ ap untaken_by (ap (errno_or errno) gives.0))
-          (goes_on ((line ≡ None) × (left ≡ Some others)) (GivesFirstOf most others left line)
-              (subst (λ (b : Option (List (Result L ℕ))). GivesLine most b left line) gives.1 then))
+      (is ∙ ap untaken_by (ap (errno_or errno) gives.0))
+      (goes_on ((line ≡ None) × (left ≡ Some others)) (GivesFirstOf most others left line)
+      (subst (λ (b : Option (List (Result L ℕ))). GivesLine most b left line) gives.1 then))

@@ -7,6 +7,7 @@ ghost use Rattle.fts_tables.specs.declared.limits.TheConstants.{MAX_LANES};
 ghost use Rattle.fts_devices.specs.Lanes.{IsClosed};
 
 use crate::outside::SystemClock;
+use crate::stop::StopFile;
 use crate::tcp_doors::TcpDoors;
 use crate::tcp_line::LineLimits;
 use fts_service::{Doors, Lane};
@@ -22,18 +23,19 @@ const LANES: usize = MAX_LANES as usize;
 /// A lane with the system's clock.
 pub type SystemLane<A, R> = Lane<A, SystemClock<R>>;
 
-/// Doors for each lane of a service, `MAX_LANES` of them, which don't listen yet. An error where memory is wanting.
-pub fn closed_doors<R: Net<Listener = TcpListener, Stream = TcpStream> + SystemTimes + Copy>(
+/// Doors for each lane of a service, `MAX_LANES` of them, which don't listen yet, and give no line any more once this stop file stands. An error where memory is wanting.
+pub fn closed_doors<'a, R: Net<Listener = TcpListener, Stream = TcpStream> + SystemTimes + Copy>(
     rt: R,
     alloc: Global,
-) -> Result<Vec<TcpDoors<R>>, Memory>
+    stop: StopFile<'a>,
+) -> Result<Vec<TcpDoors<'a, R>>, Memory>
     ensures count { IfOk result (λ doors. length doors.items ≡ MAX_LANES) }
     ensures closed { IfOk result (λ doors. All IsClosed doors.items) }
 {
     let mut doors = Vec::new(alloc);
     for _ in 0..LANES {
         if doors
-            .push(TcpDoors::new(rt, alloc, LineLimits::of_service()))
+            .push(TcpDoors::new(rt, alloc, LineLimits::of_service(), stop))
             .is_err()
         {
             return Err(Memory);

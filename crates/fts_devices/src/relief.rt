@@ -2,12 +2,14 @@
 //! Keeps: a line gives way only where an end of its input is clean (`is_between`): what came of it is whole requests, each of them answered. A lane takes
 //! the connection before its line is ended, so as many lines give way as connections are taken, whoever races for them.
 //! Order of giving way: a connection waits; another lane that is free has `PAUSE_MILLIS` to take it, and the line's client to go on; then it is taken.
-//! A client that went on has one request more: where a connection waits behind that too, no pause is made.
+//! A client that went on while the connection still waited has one request more: where one waits behind that too, no pause is made.
+//! Where the service is to stop, a line gives way as soon as its input could end.
 //! Called by `TcpLine`. `TcpDoors` hands it from line to line, and takes the connection out.
 ghost use Rattle.std.specs.Prelude.{◌≡◌, true};
 ghost use Rattle.fts_wire.specs.Requests.{next_of, Closed};
 
 use crate::steps::{Seen, poll_millis, seen_by};
+use crate::stop::StopFile;
 use fts_tables::Memory;
 use fts_wire::{Room, Source, SourceFailed};
 use libc::net::{POLLIN, poll};
@@ -19,6 +21,9 @@ use std::time::Duration;
 
 /// How long a free lane has to take a connection, and a client to go on, before a line gives way, in milliseconds.
 const PAUSE_MILLIS: u64 = 5;
+
+/// How long is looked at most before it is asked again whether the service is to stop.
+pub const GLANCE: Duration = Duration::from_millis(500);
 
 /// In the place of a handle, where none is looked at.
 const NO_HANDLE: RawFd = -1;
@@ -36,25 +41,32 @@ pub enum Met {
 
 /// What a lane has for its silent line.
 #[derive(Drop)]
-pub struct Relief {
+pub struct Relief<'a> {
     listener: TcpListener,
     /// Where what comes of the line is framed, as the lane frames it.
     room: Room,
     /// The connection that was taken, and is served next.
     next: Option<TcpStream>,
-    /// Whether the client went on while a connection waited, the last time that it did.
+    /// Whether the client went on while a connection waited still, the last time that it did.
     has_gone_on: bool,
+    /// What says that the service is to stop.
+    stop: StopFile<'a>,
 }
 
-impl Relief {
+impl<'a> Relief<'a> {
     /// Relief at this listener, in which nobody waits.
-    pub fn new(alloc: Global, listener: TcpListener) -> Result<Relief, Memory> {
+    pub fn new(
+        alloc: Global,
+        listener: TcpListener,
+        stop: StopFile<'a>,
+    ) -> Result<Relief<'a>, Memory> {
         let room = Room::new(alloc)?;
         Ok(Relief {
             listener,
             room,
             next: None,
             has_gone_on: false,
+            stop,
         })
     }
 
@@ -85,6 +97,11 @@ impl Relief {
         self.room.load(&mut Ended { reads: 0 }) == Ok(false)
     }
 
+    /// Whether the service is to stop.
+    pub fn is_stopped(&self) -> bool {
+        self.stop.stands()
+    }
+
     /// Waits so long at most until the line has something, or a connection waits.
     pub fn look(&mut self, line: RawFd, wait: Duration) -> Seen {
         let seen = look_at(line, self.listener.as_raw_fd(), wait);
@@ -100,7 +117,7 @@ impl Relief {
     {
         let pause = Duration::from_millis(PAUSE_MILLIS);
         if !self.has_gone_on && look_at_line(line, pause) == Seen::Line {
-            self.has_gone_on = true;
+            self.has_gone_on = waits_at(&self.listener);
             return Met::GoesOn;
         }
         self.has_gone_on = false;
@@ -124,9 +141,14 @@ pub fn look_at_line(line: RawFd, wait: Duration) -> Seen {
     look_at(line, NO_HANDLE, wait)
 }
 
-/// Waits until a connection waits at this listener; `false` where the system can't.
-pub fn wait_at(listener: &TcpListener) -> bool {
-    poll(&mut [asking(listener.as_raw_fd())], -1) >= 0
+/// Waits so long at most until a connection waits at this listener.
+pub fn look_at_listener(listener: &TcpListener, wait: Duration) -> Seen {
+    look_at(NO_HANDLE, listener.as_raw_fd(), wait)
+}
+
+/// Whether a connection waits at this listener now.
+fn waits_at(listener: &TcpListener) -> bool {
+    poll(&mut [asking(listener.as_raw_fd())], 0) > 0
 }
 
 /// What is asked of the system about a handle: whether there is something to be read, or a connection.

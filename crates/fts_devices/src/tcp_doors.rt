@@ -2,18 +2,19 @@
 //! Keeps: a connection that is gone before it is taken, or can't be set up, is passed over, and want of descriptors or of memory is waited out, so
 //! that no client ends a lane. Only a listener that can't be had or isn't one makes a call fail, and each such failure is counted.
 //! Each line gets the doors' relief: while it is silent between two requests its lane takes the connection that waits, which then is the next one.
-//! Doors that wait for a connection sleep in the system. They never say that no more connections come, and tell nothing of lines. What follows of an
+//! Doors that wait for a connection sleep in the system, and look every half second whether the service is to stop: then no more connections come, and
+//! what had come is closed. They tell nothing of lines. What follows of an
 //! error of an accept is in `accepting`, and which address is listened on in `steps`.
 ghost use Rattle.std.specs.Prelude.{◌≡◌, ◌↔◌, None, IfOk, IsOk, IsSome};
 ghost use Rattle.fts_tables.specs.Counts.{CountsFaults};
 
 use crate::accepting::{Listens, next_line};
-use crate::relief::{Relief, wait_at};
-use crate::steps::address;
+use crate::relief::{GLANCE, Relief, look_at_listener};
+use crate::steps::{Seen, address};
+use crate::stop::StopFile;
 use crate::tcp_line::{LineLimits, TcpLine};
 use fts_service::{Doors, DoorsFailed};
 use std::alloc::Global;
-use std::io::ErrorKind;
 use std::net::{Net, SocketAddr, TcpListener, TcpStream};
 use std::rt::Clock as SystemTimes;
 use std::time::Duration;
@@ -24,19 +25,27 @@ const REST_MILLIS: u64 = 100;
 
 /// Doors of a port.
 #[derive(Drop)]
-pub struct TcpDoors<R: Net<Listener = TcpListener, Stream = TcpStream> + SystemTimes + Copy> {
+pub struct TcpDoors<'a, R: Net<Listener = TcpListener, Stream = TcpStream> + SystemTimes + Copy> {
     rt: R,
     alloc: Global,
     limits: LineLimits,
     listener: Option<TcpListener>,
     /// That of the next line; the line that is out has it.
-    relief: Option<Relief>,
+    relief: Option<Relief<'a>>,
+    /// What says that the service is to stop.
+    stop: StopFile<'a>,
     out: u64,
     faults: u64,
 }
 
 /// What is answered of a connection that was taken and can't be set up: it is gone (ECONNABORTED).
 const ABORTED: u32 = 103;
+
+/// What is answered where none came in a glance: the next one may be there (EAGAIN).
+const NONE_YET: u32 = 11;
+
+/// What is answered where the service is to stop: there is no listener any more (EBADF).
+const CLOSED: u32 = 9;
 
 /// The system's number of a refused accept, and 0 where it gave none.
 fn errno_of(error: &io::Error) -> u32 {
@@ -48,40 +57,44 @@ fn errno_of(error: &io::Error) -> u32 {
 
 /// A listener, with what its lines are made of.
 #[derive(Drop)]
-struct Listening<'a, R: SystemTimes + Copy> {
+struct Listening<'l, 'a, R: SystemTimes + Copy> {
     rt: R,
     limits: LineLimits,
-    listener: &'a TcpListener,
+    listener: &'l TcpListener,
     /// The connection that was taken while a line gave way.
     taken: Option<TcpStream>,
+    stop: StopFile<'a>,
 }
 
-impl<'a, R: SystemTimes + Copy> Listening<'a, R> {
-    /// The connection that was taken, or the next one.
-    fn stream(&mut self) -> io::Result<TcpStream> {
+impl<R: SystemTimes + Copy> Listening<'_, '_, R> {
+    /// The connection that was taken, or the next one; else the system's number of a refusal.
+    fn stream(&mut self) -> Result<TcpStream, u32> {
+        if self.stop.stands() {
+            return Err(CLOSED);
+        }
         if let Some(stream) = self.taken.take() {
             return Ok(stream);
         }
-        if !wait_at(self.listener) {
-            return Err(io::Error::from(ErrorKind::Other));
+        match look_at_listener(self.listener, GLANCE) {
+            Seen::Nothing => Err(NONE_YET),
+            Seen::Line | Seen::Waiting => match self.listener.accept() {
+                Ok((stream, _)) => Ok(stream),
+                Err(error) => Err(errno_of(&error)),
+            },
         }
-        let (stream, _) = self.listener.accept()?;
-        Ok(stream)
     }
 }
 
-impl<'a, R: SystemTimes + Copy> Listens for Listening<'a, R> {
+impl<'a, R: SystemTimes + Copy> Listens for Listening<'_, 'a, R> {
     ghost use Rattle.std.specs.Prelude.{None};
 
-    type Line = TcpLine<R>;
+    type Line = TcpLine<'a, R>;
 
     ghost answers = { λ _. None };
 
-    fn take(&mut self) -> Result<TcpLine<R>, u32> {
-        match self.stream() {
-            Ok(stream) => TcpLine::new(self.rt, stream, self.limits).map_err(|_| ABORTED),
-            Err(error) => Err(errno_of(&error)),
-        }
+    fn take(&mut self) -> Result<TcpLine<'a, R>, u32> {
+        let stream = self.stream()?;
+        TcpLine::new(self.rt, stream, self.limits).map_err(|_| ABORTED)
     }
 
     fn rest(&mut self) {
@@ -89,10 +102,10 @@ impl<'a, R: SystemTimes + Copy> Listens for Listening<'a, R> {
     }
 }
 
-impl<R: Net<Listener = TcpListener, Stream = TcpStream> + SystemTimes + Copy> TcpDoors<R> {
-    /// Doors that don't listen yet, whose lines have these limits.
-    pub fn new(rt: R, alloc: Global, limits: LineLimits) -> TcpDoors<R>
-        ensures { result ≡ record { rt = rt; alloc = alloc; limits = limits; listener = None; relief = None; out = 0; faults = 0 } }
+impl<'a, R: Net<Listener = TcpListener, Stream = TcpStream> + SystemTimes + Copy> TcpDoors<'a, R> {
+    /// Doors that don't listen yet, whose lines have these limits. They give no line any more once this stop file stands.
+    pub fn new(rt: R, alloc: Global, limits: LineLimits, stop: StopFile<'a>) -> TcpDoors<'a, R>
+        ensures { result ≡ record { rt = rt; alloc = alloc; limits = limits; listener = None; relief = None; stop = stop; out = 0; faults = 0 } }
     {
         TcpDoors {
             rt,
@@ -100,6 +113,7 @@ impl<R: Net<Listener = TcpListener, Stream = TcpStream> + SystemTimes + Copy> Tc
             limits,
             listener: None,
             relief: None,
+            stop,
             out: 0,
             faults: 0,
         }
@@ -117,7 +131,7 @@ impl<R: Net<Listener = TcpListener, Stream = TcpStream> + SystemTimes + Copy> Tc
         let listener = listener?;
         listener.set_nonblocking(true).ok()?;
         let other = listener.try_clone().ok()?;
-        self.relief = Some(Relief::new(self.alloc, other).ok()?);
+        self.relief = Some(Relief::new(self.alloc, other, self.stop).ok()?);
         Some(listener)
     }
 
@@ -141,7 +155,7 @@ impl<R: Net<Listener = TcpListener, Stream = TcpStream> + SystemTimes + Copy> Tc
     }
 
     /// Waits for a connection, if none was taken already.
-    fn accept(&mut self) -> Option<TcpLine<R>>
+    fn accept(&mut self) -> Option<TcpLine<'a, R>>
         ensures same { (self.new.out ≡ self.old.out) × (self.new.faults ≡ self.old.faults) × (self.new.listener ≡ self.old.listener) }
     {
         let listener = self.listener.as_ref()?;
@@ -154,17 +168,18 @@ impl<R: Net<Listener = TcpListener, Stream = TcpStream> + SystemTimes + Copy> Tc
             limits: self.limits,
             listener,
             taken,
+            stop: self.stop,
         })?;
         Some(line.relieved_by(self.relief.take()))
     }
 }
 
-impl<R: Net<Listener = TcpListener, Stream = TcpStream> + SystemTimes + Copy> Doors
-    for TcpDoors<R> {
+impl<'a, R: Net<Listener = TcpListener, Stream = TcpStream> + SystemTimes + Copy> Doors
+    for TcpDoors<'a, R> {
     ghost use Rattle.std.specs.Prelude.{None, is_some};
     ghost use Rattle.std.proofs.Common.{rules};
 
-    type Line = TcpLine<R>;
+    type Line = TcpLine<'a, R>;
 
     ghost doors = { λ d. record { coming = None; back = None; out = d.out } };
 
@@ -180,7 +195,7 @@ impl<R: Net<Listener = TcpListener, Stream = TcpStream> + SystemTimes + Copy> Do
         self.take(listener)
     }
 
-    fn share(&mut self, first: &TcpDoors<R>) -> Result<(), DoorsFailed> {
+    fn share(&mut self, first: &TcpDoors<'a, R>) -> Result<(), DoorsFailed> {
         let listener = match &first.listener {
             Some(listener) => listener.try_clone().ok(),
             None => None,
@@ -189,16 +204,19 @@ impl<R: Net<Listener = TcpListener, Stream = TcpStream> + SystemTimes + Copy> Do
         self.take(listener)
     }
 
-    fn next(&mut self) -> Result<Option<TcpLine<R>>, DoorsFailed> {
+    fn next(&mut self) -> Result<Option<TcpLine<'a, R>>, DoorsFailed> {
         if let (Some(line), Some(out)) = (self.accept(), self.out.checked_add(1)) {
             self.out = out;
             return Ok(Some(line));
+        }
+        if self.stop.stands() {
+            return Ok(None);
         }
         self.faults = self.faults.saturating_add(1);
         Err(DoorsFailed)
     }
 
-    fn done(&mut self, line: TcpLine<R>) {
+    fn done(&mut self, line: TcpLine<'a, R>) {
         self.out -= 1;
         self.relief = line.end();
     }

@@ -14,7 +14,7 @@ ghost use Rattle.fts_devices.specs.Relief.{MayEnd};
 ghost use Rattle.fts_devices.specs.Limits.{IsOfService};
 ghost use Rattle.fts_devices.specs.Steps.{has_failed, is_answered, is_end};
 
-use crate::relief::{Met, Relief, look_at_line};
+use crate::relief::{GLANCE, Met, Relief, look_at_line};
 use crate::steps::{Seen, drains_on, is_end, may_send, own_time, time_left};
 use fts_wire::{Sink, SinkFailed, Source, SourceFailed};
 use std::io;
@@ -74,7 +74,7 @@ impl LineLimits {
 
 /// One connection of a client.
 #[derive(Drop)]
-pub struct TcpLine<R: SystemTimes + Copy> {
+pub struct TcpLine<'a, R: SystemTimes + Copy> {
     rt: R,
     stream: TcpStream,
     limits: LineLimits,
@@ -85,7 +85,7 @@ pub struct TcpLine<R: SystemTimes + Copy> {
     /// Whether a byte came since then.
     is_asked: bool,
     /// Who waits at the listener; a line without relief never gives way.
-    relief: Option<Relief>,
+    relief: Option<Relief<'a>>,
     /// Whether its input has ended.
     is_at_end: bool,
     reads: u64,
@@ -93,10 +93,10 @@ pub struct TcpLine<R: SystemTimes + Copy> {
     write_faults: u64,
 }
 
-impl<R: SystemTimes + Copy> TcpLine<R> {
+impl<'a, R: SystemTimes + Copy> TcpLine<'a, R> {
     /// A line over a new connection, from which nothing was read and to which nothing was written. Small pieces are sent at once.
     /// An error of the system where the connection can't be set up, or the time can't be had.
-    pub fn new(rt: R, stream: TcpStream, limits: LineLimits) -> io::Result<TcpLine<R>>
+    pub fn new(rt: R, stream: TcpStream, limits: LineLimits) -> io::Result<TcpLine<'a, R>>
         ensures fresh { IfOk result (λ line. (line.read_faults ≡ 0) × (line.write_faults ≡ 0)) }
         ensures new { IfOk result (λ line. (line.limits ≡ limits) × (line.has_answered ≡ false) × (line.is_asked ≡ false) × (line.relief ≡ None)
             × (line.is_at_end ≡ false) × (line.reads ≡ 0)) }
@@ -120,7 +120,7 @@ impl<R: SystemTimes + Copy> TcpLine<R> {
     }
 
     /// The same line, which gives way to connections that wait at this relief's listener.
-    pub(crate) fn relieved_by(mut self, relief: Option<Relief>) -> TcpLine<R> {
+    pub(crate) fn relieved_by(mut self, relief: Option<Relief<'a>>) -> TcpLine<'a, R> {
         self.relief = relief;
         if let Some(relief) = &mut self.relief {
             relief.begin();
@@ -142,7 +142,7 @@ impl<R: SystemTimes + Copy> TcpLine<R> {
         self.is_asked && !self.is_at_end && !self.has_failed()
     }
 
-    /// Waits for the next request of a silent line. `true` where a connection was taken that waited, and this line gives way.
+    /// Waits for the next request of a silent line. `true` where a connection was taken that waited, or the service is to stop, and this line gives way.
     fn gives_way(&mut self) -> io::Result<bool>
         ensures same { (self.new.reads ≡ self.old.reads) × (self.new.read_faults ≡ self.old.read_faults) × (self.new.write_faults ≡ self.old.write_faults) }
         ensures since { self.new.since ≡ self.old.since }
@@ -154,6 +154,9 @@ impl<R: SystemTimes + Copy> TcpLine<R> {
         if self.is_asked || !relief.is_between() {
             return Ok(false);
         }
+        if relief.is_stopped() {
+            return Ok(true);
+        }
         let (line, limits) = (self.stream.as_raw_fd(), self.limits);
         let start = Instant::now(&self.rt)?;
         for _ in 0..u64::MAX {
@@ -162,12 +165,14 @@ impl<R: SystemTimes + Copy> TcpLine<R> {
                 limits.request,
                 self.since.elapsed(&self.rt)?,
             )?);
+            let glance = left.min(GLANCE);
             let seen = match own_time(self.has_answered, limits.own, silent) {
-                Some(own) => look_at_line(line, left.min(own)),
-                None => relief.look(line, left),
+                Some(own) => look_at_line(line, glance.min(own)),
+                None => relief.look(line, glance),
             };
             match seen {
                 Seen::Line => return Ok(false),
+                Seen::Nothing if relief.is_stopped() => return Ok(true),
                 Seen::Nothing => {}
                 Seen::Waiting => match relief.meet(line) {
                     Met::GoesOn => return Ok(false),
@@ -227,7 +232,7 @@ impl<R: SystemTimes + Copy> TcpLine<R> {
     }
 
     /// Ends the connection, and hands its relief back. A client that may still be sending can read its last response to the end.
-    pub(crate) fn end(mut self) -> Option<Relief> {
+    pub(crate) fn end(mut self) -> Option<Relief<'a>> {
         if may_send(self.is_at_end, self.read_faults, self.write_faults) {
             // Whatever comes of it, the line is closed, and nobody is left to be told.
             let _drained = self.drain();
@@ -300,7 +305,7 @@ fn write_once(stream: &mut TcpStream, bytes: &[u8]) -> io::Result<usize>
     Err(io::Error::from(ErrorKind::Interrupted))
 }
 
-impl<R: SystemTimes + Copy> Source for TcpLine<R> {
+impl<R: SystemTimes + Copy> Source for TcpLine<'_, R> {
     ghost use Rattle.std.specs.Prelude.{None};
 
     ghost left = { λ _. None };
@@ -330,7 +335,7 @@ impl<R: SystemTimes + Copy> Source for TcpLine<R> {
     }
 }
 
-impl<R: SystemTimes + Copy> Sink for TcpLine<R> {
+impl<R: SystemTimes + Copy> Sink for TcpLine<'_, R> {
     ghost use Rattle.std.specs.Prelude.{None};
 
     ghost held = { λ _. None };

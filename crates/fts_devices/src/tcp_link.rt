@@ -124,7 +124,7 @@ impl<R: Net<Stream = TcpStream> + SystemTimes + Copy> TcpLink<R> {
     }
 
     /// A line to a port of this machine, where somebody listens there.
-    fn connect(&self, port: u16) -> Option<TcpLine<R>>
+    fn connect(&self, port: u16) -> Option<TcpLine<'static, R>>
         ensures fresh { IfSome result (λ line. (line.read_faults ≡ 0) × (line.write_faults ≡ 0)) }
     {
         let stream = TcpStream::connect_timeout(&self.rt, &place(port), self.limits.connect).ok()?;
@@ -136,7 +136,7 @@ impl<R: Net<Stream = TcpStream> + SystemTimes + Copy> Link for TcpLink<R> {
     ghost use Rattle.std.specs.Prelude.{None};
     ghost use Rattle.std.proofs.Common.{rules};
 
-    type Line = TcpLine<R>;
+    type Line = TcpLine<'static, R>;
 
     ghost link = { λ l. record { coming = None; back = None; out = l.out; dials = l.dials; port = l.port } };
 
@@ -144,7 +144,7 @@ impl<R: Net<Stream = TcpStream> + SystemTimes + Copy> Link for TcpLink<R> {
 
     ghost line = { Prim.search rules };
 
-    fn dial(&mut self, port: u16) -> Result<TcpLine<R>, LinkFailed> {
+    fn dial(&mut self, port: u16) -> Result<TcpLine<'static, R>, LinkFailed> {
         self.rest();
         self.dials = self.dials.saturating_add(1);
         self.port = Some(port);
@@ -156,7 +156,7 @@ impl<R: Net<Stream = TcpStream> + SystemTimes + Copy> Link for TcpLink<R> {
         Err(LinkFailed)
     }
 
-    fn done(&mut self, line: TcpLine<R>) {
+    fn done(&mut self, line: TcpLine<'static, R>) {
         self.out -= 1;
         if line.has_failed() {
             self.faults = self.faults.saturating_add(1);

@@ -365,9 +365,9 @@ module _ {D A E C W L : Type 0} (world : World D A E C W L)
         let old = station_data world.clocks world.words at.old in
         let new = station_data world.clocks world.words at.new in
         let holds : at.new.bench.held ≡ [] = ⊎_elim
-            (λ drained. (drained_finds_none world.stores old new (λ none. told (sym is.1.0 ∙ none)) is.1.1.1 done drained).1)
-            (λ stopped. (stopped_holds world.stores old new done stopped).0)
-            at.seat.holds.1 in
+        (λ drained. (drained_finds_none world.stores old new (λ none. told (sym is.1.0 ∙ none)) is.1.1.1 done drained).1)
+        (λ stopped. (stopped_holds world.stores old new done stopped).0)
+        at.seat.holds.1 in
         let kept = station_keeps at.old at.new at.seat.given at.seat.pass at.seat.since at.seat.holds.0 in
         let number : at.new.pass.number ≡ n = done.same.3 ∙ is.0 in
         record {
@@ -543,8 +543,11 @@ module _ {D A E C W L : Type 0} (world : World D A E C W L)
         by (turn ∷ all) is = let last = last_of turn all in by_last (record { before = last.before; turn = last.turn; is = is ∙ last.is })
 
     pub nothing_left : LeavesNothing (keep.entries ++ items)
-    nothing_left = record { none_out = none_out (all_weaker (λ (station : Station D E C W). station.end ≡ Some Drained)
-          (λ (station : Station D E C W). (station.end ≡ Some Drained) ⊎ (station.end ≡ Some Stopped)) (λ station is. inl is) serves.ran.stations drained); none_waits = none_waits }
+    nothing_left = record {
+      none_out = none_out (all_weaker (λ (station : Station D E C W). station.end ≡ Some Drained)
+          (λ (station : Station D E C W). (station.end ≡ Some Drained) ⊎ (station.end ≡ Some Stopped)) (λ station is. inl is) serves.ran.stations drained);
+      none_waits = none_waits;
+    }
 
   pub ledger : KeepTheLedger world serves
   ledger = record {

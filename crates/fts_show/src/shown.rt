@@ -8,9 +8,9 @@ ghost use Rattle.fts_tables.specs.Tables.{job_at};
 ghost use Rattle.fts_wire.specs.Response.{Sends};
 ghost use Rattle.fts_show.specs.Shown.{shown_text, lines_of, line_of_job, file_line};
 
+use arrayvec::ArrayVec;
 use fts_desk::Desk;
 use fts_routes::{file_state_text, job_state_text, kind_text};
-use arrayvec::ArrayVec;
 use fts_tables::{FileRow, JobRow, JobState};
 use fts_wire::{Sink, SinkFailed, send_all, send_parts};
 use itoa::Buffer;

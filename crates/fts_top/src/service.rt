@@ -312,9 +312,7 @@ where
     ensures hands { length hands.new.items ≡ 16 }
 {
     match load_settings(alloc, settings) {
-        Ok(settings) => {
-            serve_under(rt, alloc, order, settings, disk, clock, lanes, hands, gate)
-        }
+        Ok(settings) => { serve_under(rt, alloc, order, settings, disk, clock, lanes, hands, gate) }
         Err(end) => stop(end, disk),
     }
 }
@@ -369,9 +367,7 @@ where
                 lanes: count,
                 connections,
             };
-            serve(
-                rt, alloc, order, settings, disk, clock, lanes, hands, gate,
-            )
+            serve(rt, alloc, order, settings, disk, clock, lanes, hands, gate)
         }
         Some(
             Asked::Session
