@@ -22,8 +22,8 @@ use std::time::Duration;
 /// How long a free lane has to take a connection, and a client to go on, before a line gives way, in milliseconds.
 const PAUSE_MILLIS: u64 = 5;
 
-/// How long is looked at most before it is asked again whether the service is to stop.
-pub const GLANCE: Duration = Duration::from_millis(500);
+/// How long a look takes at most before it is asked again whether the service is to stop, in milliseconds.
+const GLANCE_MILLIS: u64 = 500;
 
 /// In the place of a handle, where none is looked at.
 const NO_HANDLE: RawFd = -1;
@@ -134,6 +134,11 @@ impl<'a> Relief<'a> {
     pub fn take_next(&mut self) -> Option<TcpStream> {
         self.next.take()
     }
+}
+
+/// How long a look takes at most before it is asked again whether the service is to stop.
+pub fn glance() -> Duration {
+    Duration::from_millis(GLANCE_MILLIS)
 }
 
 /// Waits so long at most until the line has something.

@@ -9,7 +9,7 @@ ghost use Rattle.std.specs.Prelude.{◌≡◌, ◌↔◌, None, IfOk, IsOk, IsSo
 ghost use Rattle.fts_tables.specs.Counts.{CountsFaults};
 
 use crate::accepting::{Listens, next_line};
-use crate::relief::{GLANCE, Relief, look_at_listener};
+use crate::relief::{Relief, glance, look_at_listener};
 use crate::steps::{Seen, address};
 use crate::stop::StopFile;
 use crate::tcp_line::{LineLimits, TcpLine};
@@ -75,7 +75,7 @@ impl<R: SystemTimes + Copy> Listening<'_, '_, R> {
         if let Some(stream) = self.taken.take() {
             return Ok(stream);
         }
-        match look_at_listener(self.listener, GLANCE) {
+        match look_at_listener(self.listener, glance()) {
             Seen::Nothing => Err(NONE_YET),
             Seen::Line | Seen::Waiting => match self.listener.accept() {
                 Ok((stream, _)) => Ok(stream),

@@ -14,7 +14,7 @@ ghost use Rattle.fts_devices.specs.Relief.{MayEnd};
 ghost use Rattle.fts_devices.specs.Limits.{IsOfService};
 ghost use Rattle.fts_devices.specs.Steps.{has_failed, is_answered, is_end};
 
-use crate::relief::{GLANCE, Met, Relief, look_at_line};
+use crate::relief::{Met, Relief, glance, look_at_line};
 use crate::steps::{Seen, drains_on, is_end, may_send, own_time, time_left};
 use fts_wire::{Sink, SinkFailed, Source, SourceFailed};
 use std::io;
@@ -165,10 +165,10 @@ impl<'a, R: SystemTimes + Copy> TcpLine<'a, R> {
                 limits.request,
                 self.since.elapsed(&self.rt)?,
             )?);
-            let glance = left.min(GLANCE);
+            let left = left.min(glance());
             let seen = match own_time(self.has_answered, limits.own, silent) {
-                Some(own) => look_at_line(line, glance.min(own)),
-                None => relief.look(line, glance),
+                Some(own) => look_at_line(line, left.min(own)),
+                None => relief.look(line, left),
             };
             match seen {
                 Seen::Line => return Ok(false),

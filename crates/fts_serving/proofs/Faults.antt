@@ -22,7 +22,7 @@ use Rattle.fts_workers.specs.Rounds.{applied_over}
 use Rattle.fts_workers.specs.declared.held.Held.{Held}
 use Rattle.fts_shop.specs.Shops.{CameTo, HasFault, IsToldList, StepInTurn, TriedInTurn, added_by, added_by_claim, faults_shown, point, step_answer}
 use Rattle.fts_shop.specs.Turns.{GoesOn, HandData, IsTurn, ReportsHeld, end_by_claim, end_by_report, end_by_state, idle_end}
-use Rattle.fts_shop.specs.Workers.{end_without_lanes, worker_end_of}
+use Rattle.fts_shop.specs.Workers.{EndsBehind, end_without_lanes, stopped_instead, worker_end_of}
 use Rattle.fts_shop.specs.declared.ends.Turn.{Turn}
 use Rattle.fts_shop.specs.declared.ends.Turn.TheVariants as turn_ends
 use Rattle.fts_shop.specs.declared.ends.WorkerEnd.{WorkerEnd}
@@ -238,12 +238,19 @@ last_fault (turn_ends.Memory lanes) end fault is by =
 pub fault_behind : {closes : Bool} {last : Turn} {held : List Held} {ended : Option WorkerEnd} (end : WorkerEnd) (fault : KeepFault)
     → EndsBehind closes last held ended → ended ≡ Some end → worker_fault end ≡ Some fault → fault_of last ≡ Some fault
 fault_behind {last = last} end fault (inl by_turn) is by = last_fault last end fault (sym by_turn ∙ is) by
-fault_behind end fault (inr stopped) is by =
-    let same : worker_ends.Stopped ≡ end = cc in
-    absurd (none_some (ap worker_fault same ∙ by))
+fault_behind {last = last} end fault (inr stopped) is by =
+    last_fault last end fault (would_be (worker_end_of last) (sym stopped.2 ∙ is)) by
   where
-    none_some : ◌≡◌ {A = Option KeepFault} None (Some fault) → ⊥
-    none_some is = absurd cc
+    not_stopped : worker_ends.Stopped ≡ end → ⊥
+    not_stopped same = absurd (let none = ap worker_fault same ∙ by in cc)
+
+    would_be : (would : Option WorkerEnd) → stopped_instead would ≡ Some end → would ≡ Some end
+    would_be None at = absurd (not_stopped cc)
+    would_be (Some worker_ends.Drained) at = absurd (not_stopped cc)
+    would_be (Some worker_ends.Stopped) at = absurd (not_stopped cc)
+    would_be (Some worker_ends.DiskFailed) at = at
+    would_be (Some (worker_ends.JournalFull used)) at = at
+    would_be (Some worker_ends.Memory) at = at
 
 -- what didn't fit was accepted by the machine
 unfit : (fit : Bool) (used full : ℕ) (found : Tables × Answer)

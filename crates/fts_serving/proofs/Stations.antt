@@ -27,7 +27,7 @@ use Rattle.fts_shop.specs.Looked.{items_on, same_on}
 use Rattle.fts_shop.specs.Looking.{LeaveLanes}
 use Rattle.fts_shop.specs.Shops.{IsToldList, StepInTurn, TriedInTurn, added_by, lanes_shown, point, step_answer}
 use Rattle.fts_shop.specs.Turns.{Copies, GoesOn, HandData, IsTurn, ReportsHeld, end_by_report, end_by_state, idle_end}
-use Rattle.fts_shop.specs.Workers.{AreTurns, EndsBehind, StationData, WorkerDone, worker_end_of}
+use Rattle.fts_shop.specs.Workers.{AreTurns, EndsBehind, StationData, WorkerDone, stopped_instead, worker_end_of}
 use Rattle.fts_shop.specs.declared.ends.Turn.{Turn}
 use Rattle.fts_shop.specs.declared.ends.Turn.TheVariants as turn_ends
 use Rattle.fts_shop.specs.declared.ends.WorkerEnd.TheVariants as worker_ends
@@ -174,16 +174,25 @@ never_stopped (turn_ends.JournalFull used (suc more)) is = absurd cc
 never_stopped (turn_ends.Memory zero) is = absurd cc
 never_stopped (turn_ends.Memory (suc more)) is = absurd cc
 
+-- at a closed gate no worker drains
+never_drained : (would : Option WorkerEnd) → stopped_instead would ≡ Some worker_ends.Drained → ⊥
+never_drained None is = absurd cc
+never_drained (Some worker_ends.Drained) is = absurd cc
+never_drained (Some worker_ends.Stopped) is = absurd cc
+never_drained (Some worker_ends.DiskFailed) is = absurd cc
+never_drained (Some (worker_ends.JournalFull used)) is = absurd cc
+never_drained (Some worker_ends.Memory) is = absurd cc
+
 -- a worker that ended drained did so by its last turn, and one that was stopped by none
 drained_behind : {closes : Bool} {last : Turn} {held : List Held} {end : Option WorkerEnd} → EndsBehind closes last held end → end ≡ Some worker_ends.Drained
     → last ≡ turn_ends.Stopping
 drained_behind {last = last} (inl by_turn) is = drained_end last (sym by_turn ∙ is)
-drained_behind (inr stopped) is = absurd (let same = sym stopped.end_is ∙ is in cc)
+drained_behind {last = last} (inr stopped) is = absurd (never_drained (worker_end_of last) (sym stopped.2 ∙ is))
 
 stopped_behind : {closes : Bool} {last : Turn} {held : List Held} {end : Option WorkerEnd} → EndsBehind closes last held end → end ≡ Some worker_ends.Stopped
     → (held ≡ []) × (closes ≡ true)
 stopped_behind {last = last} (inl by_turn) is = absurd (never_stopped last (sym by_turn ∙ is))
-stopped_behind (inr stopped) is = (stopped.nothing, stopped.cause)
+stopped_behind (inr stopped) is = (stopped.1, stopped.0)
 
 -- no report ends a turn so
 state_ends : (file : ℕ) (left : FileState) → end_by_state file left ≡ turn_ends.Stopping → ⊥

@@ -50,16 +50,22 @@ worker_end_of (turn_ends.DiskFailed lanes) = end_without_lanes lanes worker_ends
 worker_end_of (turn_ends.JournalFull used lanes) = end_without_lanes lanes (worker_ends.JournalFull used)
 worker_end_of (turn_ends.Memory lanes) = end_without_lanes lanes worker_ends.Memory
 
--- a worker was stopped behind a turn that it would go on from, with nothing held, at a gate that may be closed
-pub record IsStopped (closes : Bool) (last : Turn) (held : List Held) (end : Option WorkerEnd) : Type 0 where
-  pub cause : closes ≡ true
-  pub goes_on : worker_end_of last ≡ None
-  pub nothing : held ≡ []
-  pub end_is : end ≡ Some worker_ends.Stopped
+-- how a worker ends at a closed gate that would go on, or end so: a fault goes before a stop
+abbrev pub stopped_instead : Option WorkerEnd → Option WorkerEnd
+stopped_instead None = Some worker_ends.Stopped
+stopped_instead (Some worker_ends.Drained) = Some worker_ends.Stopped
+stopped_instead (Some worker_ends.Stopped) = Some worker_ends.Stopped
+stopped_instead (Some worker_ends.DiskFailed) = Some worker_ends.DiskFailed
+stopped_instead (Some (worker_ends.JournalFull used)) = Some (worker_ends.JournalFull used)
+stopped_instead (Some worker_ends.Memory) = Some worker_ends.Memory
 
--- how a worker ends behind its last turn: as that turn has it, or stopped
+-- how a worker ends that would go on, or end so: as that has it, or, with nothing held, at a closed gate
+abbrev pub IsEndAt : Bool → List Held → Option WorkerEnd → Option WorkerEnd → Type 0
+IsEndAt closes held would end = (end ≡ would) ⊎ ((closes ≡ true) × (held ≡ []) × (end ≡ stopped_instead would))
+
+-- how a worker ends behind its last turn
 abbrev pub EndsBehind : Bool → Turn → List Held → Option WorkerEnd → Type 0
-EndsBehind closes last held end = (end ≡ worker_end_of last) ⊎ IsStopped closes last held end
+EndsBehind closes last held end = IsEndAt closes held (worker_end_of last) end
 
 -- whether nothing was eligible, or a fault was met
 abbrev pub is_restful : Turn → Bool

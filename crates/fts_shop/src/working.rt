@@ -8,7 +8,7 @@ ghost use Rattle.std.specs.Prelude.{◌≡◌, All};
 ghost use Rattle.fts_turnstile.specs.Passes.{IsOf};
 ghost use Rattle.fts_shop.specs.Turns.{IsReady};
 ghost use Rattle.fts_shop.specs.Many.{Each};
-ghost use Rattle.fts_shop.specs.Workers.{WorkerDone, end_without_lanes, is_restful, station_data, worker_end_of};
+ghost use Rattle.fts_shop.specs.Workers.{WorkerDone, IsEndAt, end_without_lanes, is_restful, station_data, stopped_instead, worker_end_of};
 
 use crate::ends::{Turn, WorkerEnd};
 use crate::many::{Work, spread};
@@ -19,7 +19,7 @@ use fts_disk::Disk;
 use fts_store::Store;
 use fts_tables::{Clock, Words};
 use fts_turnstile::Turnstile;
-use fts_workers::Gate;
+use fts_workers::{Bench, Gate};
 use std::sync::Wait;
 use std::thread::Threads;
 
@@ -68,8 +68,28 @@ fn rests_after(turn: Turn) -> bool
     }
 }
 
+// How a worker ends at a closed gate that would go on, or end so.
+fn stopped_instead(end: Option<WorkerEnd>) -> Option<WorkerEnd>
+    ensures { result ≡ stopped_instead end }
+{
+    match end {
+        None | Some(WorkerEnd::Drained | WorkerEnd::Stopped) => Some(WorkerEnd::Stopped),
+        Some(WorkerEnd::DiskFailed | WorkerEnd::JournalFull { used: _ } | WorkerEnd::Memory) => end,
+    }
+}
+
+// How a worker ends that would go on, or end so: where it holds nothing, the gate is looked at.
+fn end_at<G: Gate>(gate: &G, bench: &Bench, end: Option<WorkerEnd>) -> Option<WorkerEnd>
+    ensures { IsEndAt (G.closes gate.now) bench.now.held end result }
+{
+    if bench.held().is_empty() && gate.is_closed() {
+        return stopped_instead(end);
+    }
+    end
+}
+
 /// Takes turns at a station until one says that nothing is left to do, or fails, with no lane left; rests after a turn that found nothing or failed.
-/// Where it holds nothing behind a turn and the gate is closed, it stops, and claims no more. `end` says then how it ended. It waits, and owes no return.
+/// Where it holds nothing behind a turn and the gate is closed, it stops, and claims no more; a fault goes before that. `end` says then how it ended. It waits, and owes no return.
 pub fn worker<D: Disk, E: Store, C: Clock, W: Words, G: Gate, R: Wait>(
     rt: &R,
     shop: &Turnstile<Shop<D>>,
@@ -90,14 +110,14 @@ pub fn worker<D: Disk, E: Store, C: Clock, W: Words, G: Gate, R: Wait>(
             gate,
         );
         if let Some(end) = end_after(end) {
-            station.end = Some(end);
+            station.end = end_at(gate, &station.bench, Some(end));
             return;
         }
         if rests_after(end) {
             station.hand.clock.rest();
         }
-        if station.bench.held().is_empty() && gate.is_closed() {
-            station.end = Some(WorkerEnd::Stopped);
+        if let Some(end) = end_at(gate, &station.bench, None) {
+            station.end = Some(end);
             return;
         }
     }
