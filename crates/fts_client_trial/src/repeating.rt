@@ -6,8 +6,8 @@ use crate::answers::{
     CREATED, CUT, DISK_FAILED, DOCUMENT, DUPLICATE, JOB, NEVER, NO_DIAL, NO_MEMORY, NOT_FOUND,
     NOT_JSON, PORT, QUERY, REQUEST, link, link_of_one,
 };
-use fts_client::{Link, MemoryLink, QueryEnd, SubmitEnd, query, submit};
-use fts_wire::{AnswerRoom, MemoryLine, MemorySink, MemorySource, Sink};
+use fts_client::{Link, MemoryLink, QueryEnd, SubmitEnd, Tried, query, submit, try_once};
+use fts_wire::{AnswerFault, AnswerRoom, MemoryLine, MemorySink, MemorySource, Sink};
 use std::alloc::Global;
 use std::test::Fail;
 
@@ -192,68 +192,110 @@ fn a_submission_ends_by_its_answers(rt: HostRuntime) -> Result<(), Fail> {
     Ok(())
 }
 
-/// A row: a sentence, and an answer that is none.
-type HostileRow = (&'static str, &'static str);
+/// A row: a sentence, an answer that is none, and its fault.
+type HostileRow = (&'static str, &'static str, AnswerFault);
 
-const HOSTILE: [HostileRow; 11] = [
+const HOSTILE: [HostileRow; 13] = [
     (
         "no length",
-        "HTTP/1.1 200 OK\r\nContent-Type: application/json\r\n\r\n{}",
+        "HTTP/1.1 200 OK\r\nContent-Type: application/json\r\nConnection: close\r\n\r\n{\"job_id\":\"8b35c5cc-fec2-5479-8778-9cbe6f137978\"}",
+        AnswerFault::BadResponse,
     ),
     (
         "a length past the limit",
-        "HTTP/1.1 200 OK\r\nContent-Type: application/json\r\nContent-Length: 8389633\r\n\r\n{}",
+        "HTTP/1.1 200 OK\r\nContent-Type: application/json\r\nContent-Length: 8389633\r\n\r\n{\"job_id\":\"8b35c5cc-fec2-5479-8778-9cbe6f137978\"}",
+        AnswerFault::BadResponse,
     ),
     (
         "a length of twenty digits",
         "HTTP/1.1 200 OK\r\nContent-Type: application/json\r\nContent-Length: 18446744073709551616\r\n\r\n{}",
+        AnswerFault::BadResponse,
     ),
     (
         "a body that ends early",
         "HTTP/1.1 200 OK\r\nContent-Type: application/json\r\nContent-Length: 49\r\n\r\n{\"job_id\":\"8b35c5cc",
+        AnswerFault::EndsInside,
     ),
+    (
+        "a body whose last byte is wanting",
+        "HTTP/1.1 200 OK\r\nContent-Type: application/json\r\nContent-Length: 50\r\n\r\n{\"job_id\":\"8b35c5cc-fec2-5479-8778-9cbe6f137978\"}",
+        AnswerFault::EndsInside,
+    ),
+    ("no byte at all", "", AnswerFault::EndsInside),
     (
         "two lengths",
         "HTTP/1.1 200 OK\r\nContent-Type: application/json\r\nContent-Length: 49\r\nContent-Length: 49\r\n\r\n{\"job_id\":\"8b35c5cc-fec2-5479-8778-9cbe6f137978\"}",
+        AnswerFault::BadResponse,
     ),
     (
         "another version",
         "HTTP/1.0 200 OK\r\nContent-Type: application/json\r\nContent-Length: 49\r\n\r\n{\"job_id\":\"8b35c5cc-fec2-5479-8778-9cbe6f137978\"}",
+        AnswerFault::BadResponse,
     ),
     (
         "another status",
         "HTTP/1.1 201 Created\r\nContent-Type: application/json\r\nContent-Length: 49\r\n\r\n{\"job_id\":\"8b35c5cc-fec2-5479-8778-9cbe6f137978\"}",
+        AnswerFault::BadResponse,
     ),
     (
         "a length with a zero before it",
         "HTTP/1.1 200 OK\r\nContent-Type: application/json\r\nContent-Length: 049\r\n\r\n{\"job_id\":\"8b35c5cc-fec2-5479-8778-9cbe6f137978\"}",
+        AnswerFault::BadResponse,
     ),
     (
         "chunks",
         "HTTP/1.1 200 OK\r\nTransfer-Encoding: chunked\r\n\r\n31\r\n{\"job_id\":\"8b35c5cc-fec2-5479-8778-9cbe6f137978\"}\r\n0\r\n\r\n",
+        AnswerFault::BadResponse,
     ),
     (
         "line feeds alone",
         "HTTP/1.1 200 OK\nContent-Type: application/json\nContent-Length: 2\n\n{}",
+        AnswerFault::BadResponse,
     ),
-    ("zero bytes", "\0\0\0\0"),
+    ("zero bytes", "\0\0\0\0", AnswerFault::BadResponse),
 ];
 
 #[test]
 fn a_hostile_answer_is_none(rt: HostRuntime) -> Result<(), Fail> {
-    for (case, answer) in HOSTILE {
-        let mut link = link_of_one(rt.alloc(), answer, NEVER, NEVER)?;
+    for (case, answer, _) in HOSTILE {
         let mut room = AnswerRoom::new(rt.alloc())?;
-        let end = submit(
-            rt.alloc(),
-            &mut link,
-            PORT,
-            DOCUMENT.as_bytes(),
-            1,
-            &mut room,
-        );
+        let mut link = link_of_one(rt.alloc(), answer, NEVER, NEVER)?;
+        let document = DOCUMENT.as_bytes();
+        let end = submit(rt.alloc(), &mut link, PORT, document, 1, &mut room);
         assert!(rt; end == SubmitEnd::NoAnswer, "{case}");
         assert!(rt; room.body().is_empty(), "{case}: the room");
+        let mut link = link_of_one(rt.alloc(), answer, NEVER, NEVER)?;
+        let end = query(rt.alloc(), &mut link, PORT, JOB, 1, &mut room);
+        assert!(rt; end == QueryEnd::NoAnswer, "{case}: a query");
+        assert!(rt; room.body().is_empty(), "{case}: the room of a query");
+    }
+    Ok(())
+}
+
+/// What one try finds on a line that answers this, with so many spaces behind it, where its read of this number fails.
+fn tried_on(alloc: Global, answer: &str, spaces: usize, read: u64) -> Result<Tried, Fail> {
+    let mut bytes = answer.as_bytes().to_vec(alloc)?;
+    for _ in 0..spaces {
+        bytes.push(b' ')?;
+    }
+    let source = MemorySource::new(bytes, vec![in alloc; read]?);
+    let sink = MemorySink::new(alloc, vec![in alloc; NEVER]?);
+    let lines = vec![in alloc; MemoryLine::new(source, sink)]?;
+    let Ok(mut link) = MemoryLink::new(alloc, lines, vec![in alloc; NO_DIAL]?) else {
+        return Err(Fail::new("no link"));
+    };
+    let mut room = AnswerRoom::new(alloc)?;
+    Ok(try_once(&mut link, PORT, &[REQUEST.as_bytes()], &mut room))
+}
+
+#[test]
+fn a_hostile_answer_is_read_no_further_than_its_fault(rt: HostRuntime) -> Result<(), Fail> {
+    for (case, answer, fault) in HOSTILE {
+        // A piece has 65,536 bytes, and the first one shows that there is no response; an end inside one is found by the second read.
+        let is_bad = fault == AnswerFault::BadResponse;
+        let (spaces, read) = if is_bad { (70_000, 2) } else { (0, 3) };
+        let tried = tried_on(rt.alloc(), answer, spaces, read)?;
+        assert!(rt; tried == Tried::Sent(Err(fault)), "{case}");
     }
     Ok(())
 }
@@ -272,31 +314,21 @@ fn bytes_behind_an_answer_are_left_alone(rt: HostRuntime) -> Result<(), Fail> {
         &mut room,
     );
     assert_eq!(rt; end, DONE, "the first answer counts");
+    let tried = tried_on(rt.alloc(), CREATED, 70_000, 2)?;
+    assert!(rt; tried == Tried::Sent(Ok(200)), "no second piece is read");
     Ok(())
 }
 
 #[test]
 fn a_status_line_without_an_end_is_refused_at_once(rt: HostRuntime) -> Result<(), Fail> {
-    let mut answer = "HTTP/1.1 200 ".as_bytes().to_vec(rt.alloc())?;
-    for _ in 0..16_384 {
-        answer.push(b'O')?;
+    // 16 KiB, and more than a piece, of a phrase that doesn't end.
+    for spaces in [16_384 - 15, 200_000] {
+        let tried = tried_on(rt.alloc(), "HTTP/1.1 200 OK", spaces, 2)?;
+        assert!(rt;
+            tried == Tried::Sent(Err(AnswerFault::BadResponse)),
+            "no answer"
+        );
     }
-    let source = MemorySource::new(answer, vec![in rt.alloc(); NEVER]?);
-    let sink = MemorySink::new(rt.alloc(), vec![in rt.alloc(); NEVER]?);
-    let lines = vec![in rt.alloc(); MemoryLine::new(source, sink)]?;
-    let Ok(mut link) = MemoryLink::new(rt.alloc(), lines, vec![in rt.alloc(); NO_DIAL]?) else {
-        return Err(Fail::new("no link"));
-    };
-    let mut room = AnswerRoom::new(rt.alloc())?;
-    let end = submit(
-        rt.alloc(),
-        &mut link,
-        PORT,
-        DOCUMENT.as_bytes(),
-        1,
-        &mut room,
-    );
-    assert_eq!(rt; end, SubmitEnd::NoAnswer, "no answer");
     Ok(())
 }
 
