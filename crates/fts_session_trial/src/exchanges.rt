@@ -41,6 +41,7 @@ const EXCHANGES: [&str; 30] = [
     "long-length",
     "chunked",
     "body-too-large",
+    "foreign-origin",
     "deep-document",
 ];
 
