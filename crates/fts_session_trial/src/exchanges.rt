@@ -11,7 +11,7 @@ use std::{fs, io};
 /// The folder that an exchange is played in.
 const STAND: &str = "stand";
 
-const EXCHANGES: [&str; 30] = [
+const EXCHANGES: [&str; 31] = [
     "several-files",
     "checksum",
     "wrong-checksum",
