@@ -1,24 +1,25 @@
 -- Links: where a client's lines come from, each for one try, and what each call makes of a link.
-use Rattle.std.specs.Prelude.{◌≡◌, ◌⊎◌, ℕ, ◌+◌, ◌-◌, ◌≤◌, List, [], ◌∷◌, ◌++◌, Option, Some, None, option_map, Result, Ok, Err}
+use Rattle.std.specs.Prelude.{◌≡◌, ◌⊎◌, ℕ, ◌+◌, ◌-◌, ◌≤◌, Bool, true, false, List, [], ◌∷◌, ◌++◌, Option, Some, None, option_map, Result, Ok, Err}
 use Rattle.fts_tables.specs.Counts.{Rose}
 use Rattle.fts_wire.specs.Outside.{raised}
 
 -- what is known of a link: the lines to come and those that came back, where they are told, how many are out, how often it was dialed,
--- and the port that was dialed last, if any was
+-- the port that was dialed last, if any was, and whether that dial gave a line
 pub record LinkData (L : Type 0) : Type 0 where
   pub coming : Option (List L)
   pub back : Option (List L)
   pub out : ℕ
   pub dials : ℕ
   pub port : Option ℕ
+  pub is_given : Bool
 
--- a link that was dialed once more, at this port
+-- a link that was dialed once more, at this port, and gave no line
 abbrev pub dialed : {L : Type 0} → ℕ → LinkData L → LinkData L
-dialed port link = record link { dials = raised link.dials 1; port = Some port }
+dialed port link = record link { dials = raised link.dials 1; port = Some port; is_given = false }
 
 -- a dialed link that gave a line: one more is out, and the lines to come are these
 abbrev pub given_out : {L : Type 0} → ℕ → LinkData L → Option (List L) → LinkData L
-given_out port link coming = record link { coming = coming; out = link.out + 1; dials = raised link.dials 1; port = Some port }
+given_out port link coming = record link { coming = coming; out = link.out + 1; dials = raised link.dials 1; port = Some port; is_given = true }
 
 -- the first of the lines to come was given, where they are told
 abbrev pub GivesFirst : {L : Type 0} → ℕ → LinkData L → LinkData L → L → Option (List L) → Type 0
@@ -26,7 +27,8 @@ GivesFirst port old new line None = new ≡ given_out port old None
 GivesFirst port old new line (Some []) = ⊥
 GivesFirst port old new line (Some (first ∷ others)) = (line ≡ first) × (new ≡ given_out port old (Some others))
 
--- what a dial of a port does: it gives the first line to come, or it fails and leaves the lines; it counts, and its port is noted, in both cases
+-- what a dial of a port does: it gives the first line to come, or it fails and leaves the lines; it counts, and its port and whether it gave one
+-- are noted, in both cases
 abbrev pub Dials : {L E : Type 0} → ℕ → LinkData L → LinkData L → Result L E → Type 0
 Dials port old new (Ok line) = GivesFirst port old new line old.coming
 Dials port old new (Err fault) = new ≡ dialed port old

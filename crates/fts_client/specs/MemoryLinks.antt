@@ -16,7 +16,7 @@ pub record MemoryLinkData : Type 0 where
 
 abbrev pub memory_link_data : Inside → MemoryLinkData
 memory_link_data l = record {
-  link = record { coming = Some l.coming.items; back = Some l.back.items; out = l.out; dials = l.dials; port = l.port };
+  link = record { coming = Some l.coming.items; back = Some l.back.items; out = l.out; dials = l.dials; port = l.port; is_given = l.is_given };
   fail = l.fail.items;
   failed = l.failed;
 }

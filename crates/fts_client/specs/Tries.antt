@@ -1,5 +1,5 @@
 -- One try of a client: it dials, writes its one request, reads one response, and hands the line back, whatever came.
-use Rattle.std.specs.Prelude.{◌≡◌, ℕ, ◌≤◌, List, [], ◌∷◌, Option, Some, Result, Ok, Err}
+use Rattle.std.specs.Prelude.{◌≡◌, ℕ, ◌≤◌, Bool, true, false, List, [], ◌∷◌, Option, Some, Result, Ok, Err}
 use Rattle.fts_tables.specs.Counts.{Rose}
 use Rattle.fts_wire.specs.Outside.{Side}
 use Rattle.fts_wire.specs.Response.{Sends}
@@ -72,6 +72,17 @@ AreTried {L = L} read written port request old new faults_old faults_new (try �
 abbrev pub port_behind : ℕ → Option ℕ → List Try → Option ℕ
 port_behind port before [] = before
 port_behind port before (try ∷ tries) = Some port
+
+-- whether a try had a line
+abbrev pub has_line : Try → Bool
+has_line NoLine = false
+has_line NotSent = true
+has_line (Sent result) = true
+
+-- whether the last dial gave a line, where tries stand behind the one that did so or not
+abbrev pub given_behind : Bool → List Try → Bool
+given_behind before [] = before
+given_behind before (try ∷ tries) = given_behind (has_line try) tries
 
 -- the responses that tries read, in order
 abbrev pub answers_of : List Try → List AnswerData

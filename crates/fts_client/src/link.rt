@@ -1,6 +1,7 @@
 //! A link: it gives a line for each try, and takes it back.
 //! Keeps: told lines are given in their order, each once, and noted in the order in which they come back (`dials`, `back`); each dial counts,
-//! also one that fails, and the port of the last one is noted; a line that has failed raises the link's count of faults when it comes back, and no other does (`faults`).
+//! also one that fails, and of the last one the port is noted, and whether it gave a line; a line that has failed raises the link's count of
+//! faults when it comes back, and no other does (`faults`).
 //! Called by `submit` and `query`. `MemoryLink` is the fake; the program has the real one.
 ghost use Rattle.std.specs.Prelude.{◌≡◌, ◌<◌, ℕ, IfOk};
 ghost use Rattle.fts_tables.specs.Counts.{CountsFaults};
@@ -18,7 +19,8 @@ pub trait Link {
     /// A line: what one request is written to, and its response is read from.
     type Line: Source + Sink;
 
-    /// The lines to come and those that came back, where they are told, how many are out, how often it was dialed, and the port that was dialed last.
+    /// The lines to come and those that came back, where they are told, how many are out, how often it was dialed, the port
+    /// that was dialed last, and whether that dial gave a line.
     ghost link: { Self → LinkData Self.Line };
 
     /// How often it or a line of it has failed, up to the greatest `u64`.

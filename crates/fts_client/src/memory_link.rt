@@ -26,6 +26,7 @@ pub struct MemoryLink {
     fail: Vec<u32>,
     dials: u64,
     port: Option<u16>,
+    is_given: bool,
     failed: u64,
 }
 
@@ -38,6 +39,7 @@ impl Drop for MemoryLink {
             fail: _,
             dials: _,
             port: _,
+            is_given: _,
             failed: _,
         } = self;
     }
@@ -62,7 +64,7 @@ impl MemoryLink {
     ) -> Result<MemoryLink, (Memory, Vec<MemoryLine>)>
         requires fresh { AreFresh lines.items }
         ensures made { IfOk result (λ made. made ≡ record {
-          link = record { coming = Some lines.items; back = Some []; out = 0; dials = 0; port = None };
+          link = record { coming = Some lines.items; back = Some []; out = 0; dials = 0; port = None; is_given = false };
           fail = fail.items;
           failed = 0;
         }) }
@@ -79,6 +81,7 @@ impl MemoryLink {
             fail,
             dials: 0,
             port: None,
+            is_given: false,
             failed: 0,
         })
     }
@@ -131,9 +134,11 @@ impl Link for MemoryLink {
         if !self.is_listed() {
             if let Some(line) = self.coming.pop_front() {
                 self.out += 1;
+                self.is_given = true;
                 return Ok(line);
             }
         }
+        self.is_given = false;
         self.failed = self.failed.saturating_add(1);
         Err(LinkFailed)
     }

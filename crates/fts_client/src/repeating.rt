@@ -37,6 +37,7 @@ pub fn repeat<L: Link, H: Hears>(
             return end;
         }
     }
+    // All are used up.
     end
 }
 

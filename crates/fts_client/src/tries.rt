@@ -6,7 +6,7 @@ ghost use Rattle.std.specs.Prelude.{◌≡◌, ℕ, List, ◌∷◌, [], map, le
 ghost use Rattle.std.specs.List.{concat};
 ghost use Rattle.fts_wire.specs.Outside.{Side, raised};
 ghost use Rattle.fts_client.specs.Links.{LinkData};
-ghost use Rattle.fts_client.specs.Tries.{Try, IsTried, AreTried, port_behind, try_of};
+ghost use Rattle.fts_client.specs.Tries.{Try, IsTried, AreTried, port_behind, given_behind, try_of};
 ghost use Rattle.fts_client.specs.Ends.{room_behind};
 
 use crate::link::{Link, LinkFailed};
@@ -44,7 +44,8 @@ pub fn try_once<L: Link>(link: &mut L, port: u16, request: &[&[u8]], room: &mut 
     tried
 }
 
-/// Tries are as many dials, up to the end of the count, and leave as many lines out as there were; the port that was dialed last is theirs.
+/// Tries are as many dials, up to the end of the count, and leave as many lines out as there were; the port that was dialed last is theirs,
+/// and the link notes whether the last of them had a line.
 pub fn each_try_is_a_dial<L>()
     ensures dials { (read written : Side L) (port : ℕ) (request : List ℕ) (old new : LinkData L) (faults_old faults_new : ℕ) (tries : List Try)
         → AreTried read written port request old new faults_old faults_new tries → new.dials ≡ raised old.dials (length tries) }
@@ -52,4 +53,6 @@ pub fn each_try_is_a_dial<L>()
         → AreTried read written port request old new faults_old faults_new tries → new.out ≡ old.out }
     ensures port { (read written : Side L) (port : ℕ) (request : List ℕ) (old new : LinkData L) (faults_old faults_new : ℕ) (tries : List Try)
         → AreTried read written port request old new faults_old faults_new tries → new.port ≡ port_behind port old.port tries }
+    ensures given { (read written : Side L) (port : ℕ) (request : List ℕ) (old new : LinkData L) (faults_old faults_new : ℕ) (tries : List Try)
+        → AreTried read written port request old new faults_old faults_new tries → new.is_given ≡ given_behind old.is_given tries }
 {}

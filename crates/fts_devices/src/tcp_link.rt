@@ -83,6 +83,8 @@ pub struct TcpLink<R: Net<Stream = TcpStream> + SystemTimes + Copy> {
     /// Whether a line that was answered begins the rests anew.
     is_for_many: bool,
     port: Option<u16>,
+    /// Whether the last dial gave a line.
+    is_given: bool,
     dials: u64,
     out: u64,
     faults: u64,
@@ -99,6 +101,7 @@ impl<R: Net<Stream = TcpStream> + SystemTimes + Copy> TcpLink<R> {
             rest: 0,
             is_for_many: false,
             port: None,
+            is_given: false,
             dials: 0,
             out: 0,
             faults: 0,
@@ -138,7 +141,7 @@ impl<R: Net<Stream = TcpStream> + SystemTimes + Copy> Link for TcpLink<R> {
 
     type Line = TcpLine<'static, R>;
 
-    ghost link = { λ l. record { coming = None; back = None; out = l.out; dials = l.dials; port = l.port } };
+    ghost link = { λ l. record { coming = None; back = None; out = l.out; dials = l.dials; port = l.port; is_given = l.is_given } };
 
     ghost faults = { λ l. l.faults };
 
@@ -150,8 +153,10 @@ impl<R: Net<Stream = TcpStream> + SystemTimes + Copy> Link for TcpLink<R> {
         self.port = Some(port);
         if let (Some(line), Some(out)) = (self.connect(port), self.out.checked_add(1)) {
             self.out = out;
+            self.is_given = true;
             return Ok(line);
         }
+        self.is_given = false;
         self.faults = self.faults.saturating_add(1);
         Err(LinkFailed)
     }
