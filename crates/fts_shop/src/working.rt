@@ -4,7 +4,7 @@
 //! Order: a turn, then a rest where nothing was eligible or a fault was met, then a look at the gate, where nothing is held. `run_workers` returns once
 //! each worker has ended.
 //! Called by the service, with a station for each hand.
-ghost use Rattle.std.specs.Prelude.{◌≡◌, All};
+ghost use Rattle.std.specs.Prelude.{◌≡◌, true, [], Some, All};
 ghost use Rattle.fts_turnstile.specs.Passes.{IsOf};
 ghost use Rattle.fts_shop.specs.Turns.{IsReady};
 ghost use Rattle.fts_shop.specs.Many.{Each};
@@ -68,24 +68,42 @@ fn rests_after(turn: Turn) -> bool
     }
 }
 
-// How a worker ends at a closed gate that would go on, or end so.
-fn stopped_instead(end: Option<WorkerEnd>) -> Option<WorkerEnd>
-    ensures { result ≡ stopped_instead end }
+// Whether a worker is to stop: it holds nothing, and the gate is closed.
+fn is_stopped<G: Gate>(gate: &G, bench: &Bench) -> bool
+    ensures closes { result ≡ true → G.closes gate.now ≡ true }
+    ensures nothing { result ≡ true → bench.now.held ≡ [] }
+{
+    bench.held().is_empty() && gate.is_closed()
+}
+
+// How a worker ends at a closed gate that would end so: a fault goes before the stop.
+fn stopped_instead(end: WorkerEnd) -> WorkerEnd
+    ensures { Some result ≡ stopped_instead (Some end) }
 {
     match end {
-        None | Some(WorkerEnd::Drained | WorkerEnd::Stopped) => Some(WorkerEnd::Stopped),
-        Some(WorkerEnd::DiskFailed | WorkerEnd::JournalFull { used: _ } | WorkerEnd::Memory) => end,
+        WorkerEnd::Drained | WorkerEnd::Stopped => WorkerEnd::Stopped,
+        WorkerEnd::DiskFailed | WorkerEnd::JournalFull { used: _ } | WorkerEnd::Memory => end,
     }
 }
 
-// How a worker ends that would go on, or end so: where it holds nothing, the gate is looked at.
-fn end_at<G: Gate>(gate: &G, bench: &Bench, end: Option<WorkerEnd>) -> Option<WorkerEnd>
-    ensures { IsEndAt (G.closes gate.now) bench.now.held end result }
+// How a worker ends that would end so: by that, or, where it is to stop, stopped.
+fn end_at<G: Gate>(gate: &G, bench: &Bench, end: WorkerEnd) -> WorkerEnd
+    ensures { IsEndAt (G.closes gate.now) bench.now.held (Some end) (Some result) }
 {
-    if bench.held().is_empty() && gate.is_closed() {
-        return stopped_instead(end);
+    if is_stopped(gate, bench) {
+        stopped_instead(end)
+    } else {
+        end
     }
-    end
+}
+
+// Rests behind a turn that found nothing or met a fault.
+fn rest_behind<C: Clock>(clock: &mut C, turn: Turn)
+    ensures { C.moments clock.new ≡ C.moments clock.old }
+{
+    if rests_after(turn) {
+        clock.rest();
+    }
 }
 
 /// Takes turns at a station until one says that nothing is left to do, or fails, with no lane left; rests after a turn that found nothing or failed.
@@ -110,14 +128,12 @@ pub fn worker<D: Disk, E: Store, C: Clock, W: Words, G: Gate, R: Wait>(
             gate,
         );
         if let Some(end) = end_after(end) {
-            station.end = end_at(gate, &station.bench, Some(end));
+            station.end = Some(end_at(gate, &station.bench, end));
             return;
         }
-        if rests_after(end) {
-            station.hand.clock.rest();
-        }
-        if let Some(end) = end_at(gate, &station.bench, None) {
-            station.end = Some(end);
+        rest_behind(&mut station.hand.clock, end);
+        if is_stopped(gate, &station.bench) {
+            station.end = Some(WorkerEnd::Stopped);
             return;
         }
     }
