@@ -17,6 +17,7 @@ pub type SystemHand<E, R> = Hand<E, SystemClock<R>, PcgWords>;
 
 /// The hands over these stores, in their order, each with the system's clock, and with words of the start's moment on the stream of its place, from 0.
 /// An error where memory is wanting.
+#[tactic(auto, using(crate::proofs::Streams::on_streams_more))]
 pub fn hands_over<E: Store + Drop, R: SystemTimes + Copy>(
     rt: R,
     alloc: Global,

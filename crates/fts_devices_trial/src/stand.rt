@@ -82,7 +82,9 @@ pub fn run_in_folder<R: Threads + Wait + Sync>(
     let mut stores = Vec::new(alloc);
     for _ in 0..HANDS {
         let grid = format!(in alloc; "{folder}/grid")?;
-        stores.push(FolderStore::new(rt, alloc, grid))?;
+        if stores.push(FolderStore::new(rt, alloc, grid)).is_err() {
+            return Err(Fail::new("no memory"));
+        }
     }
     run_over(
         rt,

@@ -6,13 +6,9 @@
 #![tactic(auto)]
 
 mod asked;
-#[cfg(test)]
-mod cases;
 mod options;
 mod parser;
 mod reader;
-#[cfg(test)]
-mod tests;
 
 pub use asked::Asked;
 pub use parser::take_words;

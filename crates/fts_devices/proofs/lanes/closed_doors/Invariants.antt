@@ -4,7 +4,7 @@ use Rattle.fts_devices.specs.Lanes.{IsClosed}
 use Rattle.fts_devices.proofs.lanes.closed_doors.Given as goal
 
 abbrev pub invariant-loop : goal.invariant-loop
-invariant-loop l = record {
+invariant-loop g l = record {
   count : length l.doors.items ≡ l.counter;
   closed : All IsClosed l.doors.items;
 }

@@ -1,10 +1,7 @@
-//! What no clause says: that the definition means what the rows say, and that `clap` takes a list of every shape that is accepted, with the same
+//! Of `fts_words`: that the definition means what the rows of `words_cases` say, and that `clap` takes a list of every shape that is accepted, with the same
 //! values.
-use crate::asked::{Asked, Command};
-use crate::cases::{OPTIONS, WORDS};
-use crate::parser::by_clap;
-use crate::reader::read_options;
-use crate::take_words;
+use crate::words_cases::{OPTIONS, WORDS};
+use fts_words::{Asked, read_words, take_words};
 use std::alloc::Global;
 use std::test::Fail;
 
@@ -28,16 +25,9 @@ fn words_ask_for_what_their_row_says(rt: HostRuntime) -> Result<(), Fail> {
     Ok(())
 }
 
-/// Whether a command's name and its options ask for this, and `clap` takes them where they are accepted, with the same values.
+/// Whether words ask for this, and `clap` takes them where they are accepted, with the same values.
 fn are_read(alloc: Global, words: &[String], asked: Option<Asked>) -> bool {
-    let [name, options @ ..] = words else {
-        return false;
-    };
-    let Some(command) = Command::named(name.as_str()) else {
-        return false;
-    };
-    read_options(command, options) == asked
-        && (asked.is_none() || by_clap(alloc, words) == Ok(asked))
+    read_words(words) == asked && take_words(alloc, words) == Ok(asked)
 }
 
 #[test]

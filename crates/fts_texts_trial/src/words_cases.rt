@@ -1,11 +1,11 @@
 //! Rows of the tests: lists of words, each in one text with single spaces between them, and what they ask for.
-use crate::Asked;
+use fts_words::Asked;
 
 /// The id 00000000-0000-4000-8000-000000000001.
 const ONE: u128 = 0x4000_8000_0000_0000_0001;
 
 /// What the words of a run ask for; none where they are not accepted.
-pub(crate) const WORDS: &[(&str, Option<Asked>)] = &[
+pub const WORDS: &[(&str, Option<Asked>)] = &[
     ("session", Some(Asked::Session)),
     ("show", Some(Asked::Show)),
     ("load --number 7", Some(Asked::Load { number: 7 })),
@@ -60,7 +60,7 @@ pub(crate) const WORDS: &[(&str, Option<Asked>)] = &[
 ];
 
 /// What a command's options ask for.
-pub(crate) const OPTIONS: &[(&str, Option<Asked>)] = &[
+pub const OPTIONS: &[(&str, Option<Asked>)] = &[
     ("load --number 7", Some(Asked::Load { number: 7 })),
     ("load --number=007", Some(Asked::Load { number: 7 })),
     (
