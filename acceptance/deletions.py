@@ -17,6 +17,7 @@ import json
 import os
 import pathlib
 import random
+import resource
 import shutil
 import signal
 import statistics
@@ -311,6 +312,12 @@ def took(work):
     return time.monotonic() - begun
 
 
+def processor_time():
+    """The seconds of processor time of all programs that were run and have ended."""
+    spent = resource.getrusage(resource.RUSAGE_CHILDREN)
+    return spent.ru_utime + spent.ru_stime
+
+
 def removed_by_script(folder, names):
     """The same removals, each with two syncs of the folder, and two writes of a body with a sync each, as they are recorded."""
     with open(folder / "journal", "ab", buffering=0) as journal:
@@ -364,10 +371,12 @@ def settles(program, over, count):
         alone = Passes(program)
         times.append((over.took(names), alone.took(names)))
         over.wrong += alone.wrong
+    spent = processor_time()
     idle = statistics.median(over.took() for _ in range(SETTLED_ROUNDS))
+    spent = (processor_time() - spent) / SETTLED_ROUNDS
     both = [statistics.median(it) for it in zip(*times)]
     told = f"{count} files over {first} settled rows and more: {both[0]:.2f} s; in a new folder: {both[1]:.2f} s (medians of {SETTLED_ROUNDS}, in turn); "
-    yield told + f"a run with nothing to do over these rows: {idle:.3f} s", not over.wrong
+    yield told + f"a run with nothing to do over these rows: {idle:.3f} s, {spent:.3f} s of it processor time", not over.wrong
     if shutil.which("strace"):
         calls = over.calls(names), Passes(program).calls(names)
         yield f"their calls on the grid's files, as strace sees them: {calls[0]}; in a new folder: {calls[1]}", calls[0] == calls[1] > 0
@@ -380,13 +389,15 @@ def measures(program, count):
         over.stand.put(name)
         other.put(name)
     os.sync()
-    own, script = [], []
+    own, script, spent = [], [], processor_time()
     for place in range(0, count, ASKED_AT_ONCE):
         asked = names[place : place + ASKED_AT_ONCE]
         own.append(took(lambda: over.delete(asked)))
         script.append(took(lambda: removed_by_script(other.own, asked)))
-    told = f"{count} files in runs of {ASKED_AT_ONCE}: {sum(own):.2f} s; the same removals and syncs by a script, in turn: {sum(script):.2f} s; "
-    told += f"ratio {sum(own) / sum(script):.2f}; the first run {own[0]:.2f} s, the last {own[-1]:.2f} s"
+    spent = processor_time() - spent
+    told = f"{count} files in runs of {ASKED_AT_ONCE}: {sum(own):.2f} s, {spent:.2f} s of it processor time; "
+    told += f"the same removals and syncs by a script, in turn: {sum(script):.2f} s; ratio {sum(own) / sum(script):.2f}; "
+    told += f"the first run {own[0]:.2f} s, the last {own[-1]:.2f} s"
     yield told, not over.wrong and not [it for it in over.stand.left() if "/f" in it]
     yield from settles(program, over, ASKED_AT_ONCE)
 
