@@ -2,7 +2,9 @@
 """Deletions over real folders, by the program as it was built: what `fts STAND delete` removes, records and tells.
 
 acceptance/deletions.py PROGRAM [FILES]: PROGRAM is fts as it was built. Each line says what was tried and what came. FILES are removed in runs of 200
-(2000 where none is named), and the time is told beside that of the same removals with the same syncs by this script alone.
+(2000 where none is named), each of them in turn with the same removals and the same syncs by this script alone, and both times are told; then 200 files
+over these settled rows beside 200 in a new folder, in turn, by their time and by the calls on the grid's files.
+acceptance/deletions.py PROGRAM time FILES..: these times alone, for each number.
 acceptance/deletions.py PROGRAM cut [RUNS]: as root. The grid is a file system in an image, and the journal lies elsewhere. A run is killed in the
 middle, and the image is copied as it then is, without what the system has not written to it: no file that the journal calls gone may be there. RUNS
 are 5 where none is named. An unlinked file that nobody synced has to be there in each image: else nothing was tried.
@@ -15,7 +17,10 @@ import json
 import os
 import pathlib
 import random
+import resource
+import shutil
 import signal
+import statistics
 import subprocess
 import sys
 import tempfile
@@ -26,7 +31,7 @@ from grid import BIG, Stand
 from serving import A, B, SETTINGS, wrong_in
 
 SCRIPT = pathlib.Path(__file__).resolve().parent.parent / "examples" / "journal_gates.py"
-SOME_FILES, ASKED_AT_ONCE, RUNS = 2000, 200, 5
+SOME_FILES, ASKED_AT_ONCE, RUNS, SETTLED_ROUNDS = 2000, 200, 5, 5
 # files of a run that is killed, and the latest moment of that in seconds
 CUT_FILES, CUT_SECONDS = 150, 0.4
 HEADER_BYTES = 8
@@ -307,9 +312,15 @@ def took(work):
     return time.monotonic() - begun
 
 
+def processor_time():
+    """The seconds of processor time of all programs that were run and have ended."""
+    spent = resource.getrusage(resource.RUSAGE_CHILDREN)
+    return spent.ru_utime + spent.ru_stime
+
+
 def removed_by_script(folder, names):
     """The same removals, each with two syncs of the folder, and two writes of a body with a sync each, as they are recorded."""
-    with open(folder / "journal", "wb", buffering=0) as journal:
+    with open(folder / "journal", "ab", buffering=0) as journal:
         for name in names:
             place = folder / name
             place.unlink()
@@ -322,28 +333,73 @@ def removed_by_script(folder, names):
                 os.fdatasync(journal.fileno())
 
 
+class Passes:
+    """A stand whose runs have to leave no row that isn't FINISHED; `rows` is how many there are."""
+
+    def __init__(self, program):
+        self.stand, self.rows, self.wrong = Folder(program), 0, []
+
+    def delete(self, names):
+        status, told, _ = self.stand.delete(document(names) if names else b"")
+        self.rows += len(names)
+        if status or told != ["FINISHED"] * self.rows:
+            self.wrong.append((status, len(told)))
+
+    def took(self, names=()):
+        """The seconds of a run for so many files, which are put before."""
+        for name in names:
+            self.stand.put(name)
+        os.sync()
+        return took(lambda: self.delete(names))
+
+    def calls(self, names):
+        """How many calls on the files of its grid a run for so many files makes, as strace sees them. The run isn't timed."""
+        for name in names:
+            self.stand.put(name)
+        self.rows += len(names)
+        with tempfile.NamedTemporaryFile("r") as output:
+            words = ["strace", "-f", "-y", "-o", output.name, "-e", "trace=%file,%desc", *self.stand.words()]
+            subprocess.run(words, input=document(names), stdout=subprocess.DEVNULL, check=True)
+            return sum("/grid" in line for line in output)
+
+
+def settles(program, over, count):
+    """Runs of so many files over settled rows and in a new folder, in turn."""
+    names = [f"again/f{number}" for number in range(count)]
+    first, times = over.rows, []
+    for _ in range(SETTLED_ROUNDS):
+        alone = Passes(program)
+        times.append((over.took(names), alone.took(names)))
+        over.wrong += alone.wrong
+    spent = processor_time()
+    idle = statistics.median(over.took() for _ in range(SETTLED_ROUNDS))
+    spent = (processor_time() - spent) / SETTLED_ROUNDS
+    both = [statistics.median(it) for it in zip(*times)]
+    told = f"{count} files over {first} settled rows and more: {both[0]:.2f} s; in a new folder: {both[1]:.2f} s (medians of {SETTLED_ROUNDS}, in turn); "
+    yield told + f"a run with nothing to do over these rows: {idle:.3f} s, {spent:.3f} s of it processor time", not over.wrong
+    if shutil.which("strace"):
+        calls = over.calls(names), Passes(program).calls(names)
+        yield f"their calls on the grid's files, as strace sees them: {calls[0]}; in a new folder: {calls[1]}", calls[0] == calls[1] > 0
+
+
 def measures(program, count):
-    stand, other = Folder(program), Folder(program)
+    over, other = Passes(program), Folder(program)
     names = [f"d{number // 1000}/f{number}" for number in range(count)]
     for name in names:
-        stand.put(name)
+        over.stand.put(name)
         other.put(name)
     os.sync()
-    wrong = []
-
-    def runs():
-        for place in range(0, count, ASKED_AT_ONCE):
-            status, told, _ = stand.delete(document(names[place : place + ASKED_AT_ONCE]))
-            wrong.extend(it for it in told if it != "FINISHED")
-            if status or len(told) != min(count, place + ASKED_AT_ONCE):
-                wrong.append(status)
-
-    own = took(runs)
-    script = took(lambda: removed_by_script(other.own, names))
-    idle = took(stand.delete)
-    told = f"{count} files in runs of {ASKED_AT_ONCE}: {own:.2f} s; the same removals and syncs by a script: {script:.2f} s; ratio {own / script:.2f}; "
-    told += f"a run with nothing to do over these rows: {idle:.3f} s"
-    yield told, not wrong and not [it for it in stand.left() if "/f" in it]
+    own, script, spent = [], [], processor_time()
+    for place in range(0, count, ASKED_AT_ONCE):
+        asked = names[place : place + ASKED_AT_ONCE]
+        own.append(took(lambda: over.delete(asked)))
+        script.append(took(lambda: removed_by_script(other.own, asked)))
+    spent = processor_time() - spent
+    told = f"{count} files in runs of {ASKED_AT_ONCE}: {sum(own):.2f} s, {spent:.2f} s of it processor time; "
+    told += f"the same removals and syncs by a script, in turn: {sum(script):.2f} s; ratio {sum(own) / sum(script):.2f}; "
+    told += f"the first run {own[0]:.2f} s, the last {own[-1]:.2f} s"
+    yield told, not over.wrong and not [it for it in over.stand.left() if "/f" in it]
+    yield from settles(program, over, ASKED_AT_ONCE)
 
 
 class Image:
@@ -408,6 +464,8 @@ def main(words):
     program, chance = str(pathlib.Path(words[0]).resolve()), random.Random(1)
     if words[1:2] == ["cut"]:
         wrong = wrong_in(cuts(program, chance, int(words[2]) if words[2:] else RUNS))
+    elif words[1:2] == ["time"]:
+        wrong = sum(wrong_in(measures(program, int(count))) for count in words[2:])
     else:
         wrong = sum(wrong_in(tried(program)) for tried in (removes, misses, keeps, refuses, damages))
         wrong += sum(wrong_in(tried(program, chance)) for tried in (goes_on, beside_a_service))
