@@ -2,10 +2,12 @@
 """The files of examples/ as they stand, by the program as it was built: each line says what was tried and what came.
 
 acceptance/examples.py PROGRAM: PROGRAM is fts as it was built. It serves folders of its own, with examples/fts.toml, on free ports of 127.0.0.1.
-Wanted: the five documents are accepted one after another and each of their files is FINISHED; submit.sh comes to its end, also where it submits by
-the program's own command, and where the service refuses it shows the message and ends with 1; fts.service is a unit that systemd takes (where
-systemd-analyze is there), its start's words serve, and what they make under its mask nobody else may read. nginx.conf has a script of its own
-(behind_nginx.py). It needs curl.
+Wanted: two-submissions.http is answered by its reply, byte for byte; the five documents are accepted one after another and each of their files is
+FINISHED; submit.sh comes to its end, also where it submits by the program's own command, and where the service refuses it shows the message and ends
+with 1; progress.py shows a job until it is settled, and the same job when it is asked again; fts.service and fts-follow.service are units that systemd
+takes (where systemd-analyze is there), their start's words serve and follow, and what they make under its mask nobody else may read; follow.sh follows
+while a service is started anew, and ends where another one has its port; the last line of journal_gates.py says where the last entry ends. nginx.conf
+and the copies of journal_gates.py have scripts of their own (behind_nginx.py, gates.py). It needs curl.
 """
 import configparser
 import grp
@@ -13,6 +15,7 @@ import json
 import os
 import pathlib
 import pwd
+import re
 import shutil
 import signal
 import stat
@@ -85,31 +88,117 @@ def refused(program):
     service.stop()
 
 
-def unit():
+def session(program):
+    asked, wanted = (EXAMPLES / f"two-submissions.{kind}" for kind in ("http", "reply.http"))
+    run = subprocess.run([program, "-", "session"], input=asked.read_bytes(), capture_output=True, timeout=60)
+    is_same = run.stdout == wanted.read_bytes()
+    yield f"two-submissions.http: status {run.returncode}, its reply {is_same}", (run.returncode, is_same) == (0, True)
+
+
+def shows_progress(program):
+    service = stand(program)
+    pairs = [f"https://{end}.example/{name}" for name in ("data/f1", "data/f2") for end in ("a", "b")]
+    words = [sys.executable, EXAMPLES / "progress.py", "--url", f"http://127.0.0.1:{service.port}", "mine-1", *pairs]
+    runs = [subprocess.run(words, capture_output=True, text=True, timeout=60) for _ in range(2)]
+    # a bar is drawn over the one before it: as a text each is a line
+    ids, ends = zip(*((run.stdout.split()[0], run.stdout.rstrip().splitlines()[-1].strip()) for run in runs))
+    bar = f"[{'#' * 40}] 2/2 2 FINISHED"
+    is_wanted = (ids[0], ends, [run.returncode for run in runs]) == (ids[1], (bar, bar), [0, 0])
+    yield f"progress.py, and again with its sid: {ends[0]}, the same job {ids[0] == ids[1]}", is_wanted
+    service.stop()
+
+
+def tells_the_end(program):
+    service = stand(program)
+    service.settle(service.ask("POST", "/jobs", (EXAMPLES / "one-file.json").read_bytes())[1]["job_id"])
+    service.stop()
+    journal = service.path / "fts.journal"
+    run = subprocess.run([sys.executable, EXAMPLES / "journal_gates.py", journal], capture_output=True, text=True, timeout=60)
+    said = run.stdout.splitlines()[-1]
+    used = len(journal.read_bytes().rstrip(b"\0"))
+    end = re.fullmatch(r"4 whole entries .*, the last ends at (\d+)", said)
+    yield f"journal_gates.py: {run.returncode}, {said}", run.returncode == 0 and end is not None and int(end[1]) == used
+
+
+class Loop:
+    """follow.sh, and what it prints."""
+
+    def __init__(self, program, folder, port):
+        words = ["sh", EXAMPLES / "follow.sh", folder, str(port), "0.1"]
+        own = {**os.environ, "FTS": os.path.abspath(program)}
+        self.process = subprocess.Popen(words, stdout=subprocess.PIPE, stderr=subprocess.DEVNULL, env=own, start_new_session=True)
+
+    def line(self):
+        return self.process.stdout.readline().decode().strip()
+
+    def end(self):
+        """Its status, where it ends by itself."""
+        try:
+            return self.process.wait(30)
+        except subprocess.TimeoutExpired:
+            return None
+
+    def kill(self):
+        if self.process.poll() is None:
+            os.killpg(self.process.pid, signal.SIGKILL)
+            self.process.wait()
+
+
+def follows(program):
+    service, other, standby = stand(program), stand(program), tempfile.TemporaryDirectory()
+    shutil.copy(EXAMPLES / "fts.toml", standby.name)
+    loop = Loop(program, standby.name, service.port)
+    try:
+        yield from follows_by(loop, program, service, other, standby.name)
+    finally:
+        loop.kill()
+        other.stop()
+
+
+def follows_by(loop, program, service, other, standby):
+    """A loop while a primary is started anew, and while another service takes its port."""
+    lines = [loop.line()]
+    service.settle(service.ask("POST", "/jobs", (EXAMPLES / "one-file.json").read_bytes())[1]["job_id"])
+    while lines[-1] not in ("", "caught up at 4"):
+        lines.append(loop.line())
+    service.stop()
+    service.start(port=service.port)
+    lines.append(loop.line())
+    yield f"follow.sh: {lines}", (lines[0], lines[-2:]) == ("caught up at 1", ["caught up at 4", "caught up at 5"])
+    shown = [subprocess.run([program, it, "show"], capture_output=True).stdout for it in (service.path, standby)]
+    yield f"the standby has the primary's jobs: {shown[0] == shown[1]}, {len(shown[0].splitlines())} lines", shown[0] == shown[1] != b""
+    service.stop()
+    other.stop()
+    other.start(port=service.port)
+    status = loop.end()
+    yield f"where another service has the port: it ends with status {status}", status == 22
+
+
+def unit(name):
     parser = configparser.ConfigParser(strict=False, delimiters=("=",), interpolation=None)
     parser.optionxform = str
-    parser.read(EXAMPLES / "fts.service")
+    parser.read(EXAMPLES / f"{name}.service")
     return parser["Service"]
 
 
-def verified(program):
-    """What systemd-analyze says of the unit, with the program and a user of this machine in the places of its own."""
+def verified(program, name):
+    """What systemd-analyze says of a unit, with the program and a user of this machine in the places of its own."""
     if not shutil.which("systemd-analyze"):
         return "systemd-analyze isn't there"
-    text = (EXAMPLES / "fts.service").read_text()
+    text = (EXAMPLES / f"{name}.service").read_text()
     user, group = pwd.getpwuid(os.getuid()).pw_name, grp.getgrgid(os.getgid()).gr_name
     for old, new in (("/usr/local/bin/fts ", f"{os.path.realpath(program)} "), ("User=fts", f"User={user}"), ("Group=fts", f"Group={group}")):
         assert text.count(old) == 1, old
         text = text.replace(old, new)
     with tempfile.TemporaryDirectory() as folder:
-        place = pathlib.Path(folder) / "fts.service"
+        place = pathlib.Path(folder) / f"{name}.service"
         place.write_text(text)
         run = subprocess.run(["systemd-analyze", "verify", place], capture_output=True, text=True)
     return [run.returncode, *(line for line in (run.stdout + run.stderr).splitlines() if "fts" in line)]
 
 
 def serves_as_the_unit(program):
-    said, port = unit(), free_port()
+    said, port = unit("fts"), free_port()
     words = said["ExecStart"].replace("8080", str(port)).split()
     old = os.umask(int(said["UMask"], 8))
     try:
@@ -124,15 +213,30 @@ def serves_as_the_unit(program):
     yield f"under the unit's mask {said['UMask']}: {status}, {states}, what others may do with {len(places)} files and folders: {sorted(modes)}", (
         (states, modes, words[2]) == (["FINISHED"], {"------"}, "serve")
     )
-    said = verified(program)
+    said = verified(program, "fts")
     yield f"systemd-analyze of the unit: {said}", said in ("systemd-analyze isn't there", [0])
+
+
+def follows_as_the_unit(program):
+    said, service = unit("fts-follow"), stand(program)
+    folder = tempfile.TemporaryDirectory()
+    words = said["ExecStart"].replace("8081", str(service.port)).replace("/var/lib/fts", folder.name).split()
+    run = subprocess.run([program, *words[1:]], capture_output=True, text=True, umask=int(said["UMask"], 8), timeout=60)
+    modes = {stat.filemode(place.stat().st_mode)[4:] for place in pathlib.Path(folder.name).iterdir()}
+    service.stop()
+    yield f"the words of the standby's unit: {run.returncode}, {run.stdout!r}, what others may do: {sorted(modes)}", (
+        (run.returncode, run.stdout, run.stderr, modes) == (0, "caught up at 1\n", "", {"------"})
+    )
+    said = verified(program, "fts-follow")
+    yield f"systemd-analyze of it: {said}", said in ("systemd-analyze isn't there", [0])
 
 
 def main(words):
     if len(words) != 1:
         sys.exit(__doc__)
     signal.signal(signal.SIGINT, signal.default_int_handler)
-    wrong = sum(wrong_in(tried(words[0])) for tried in (documents, submits, refused, serves_as_the_unit))
+    tries = (session, documents, submits, refused, shows_progress, tells_the_end, serves_as_the_unit, follows_as_the_unit, follows)
+    wrong = sum(wrong_in(tried(words[0])) for tried in tries)
     print(f"otherwise than wanted {wrong}")
     return 1 if wrong else 0
 

@@ -177,8 +177,13 @@ def main(words):
         folder = pathlib.Path(place)
         subprocess.run([TOP / "packaging/deb", words[0], folder / "fts.deb"], check=True)
         machine = make_root(folder / "root", words[1] if len(words) == 2 else None)
-        tries = (lambda it: installs(it, folder / "fts.deb"), shows_manual, serves, follows, removes)
-        wrong = sum(wrong_in(tried(machine)) for tried in tries)
+        # what dpkg runs looks there
+        subprocess.run(["mount", "-t", "proc", "proc", machine.root / "proc"], check=True)
+        try:
+            tries = (lambda it: installs(it, folder / "fts.deb"), shows_manual, serves, follows, removes)
+            wrong = sum(wrong_in(tried(machine)) for tried in tries)
+        finally:
+            subprocess.run(["umount", machine.root / "proc"], check=True)
     print(f"otherwise than wanted {wrong}")
     return 1 if wrong else 0
 
