@@ -37,10 +37,12 @@ Axis = collections.namedtuple("Axis", "low high is_log start end")
 
 
 def figures(kind):
-    """The rows of the latest file of a kind, and its date."""
+    """The rows of the latest file of a kind, and its date with the remark in its first line, where one stands there."""
     place = max((TOP / "bench" / "runs").glob(f"*-{kind}.csv"))
-    with open(place, newline="") as file:
-        return list(csv.DictReader(file)), place.name.removesuffix(f"-{kind}.csv")
+    date, text = place.name.removesuffix(f"-{kind}.csv"), place.read_text().splitlines()
+    if text[0].startswith("#"):
+        date = f"{date}, {text.pop(0)[1:].strip()}"
+    return list(csv.DictReader(text)), date
 
 
 def middles(rows, key, value):
@@ -123,7 +125,8 @@ def claims():
 
 def gets():
     rows, date = figures("gets")
-    series = [Series(name, middles(rows, "connections", column)) for name, column in (("fts, 8 lanes", "service"), ("nginx, a file", "nginx"))]
+    named = (("fts, 8 lanes", "service"), ("nginx, a file", "nginx"))
+    series = [Series(name, middles(rows, "connections", column)) for name, column in named if column in rows[0]]
     return lines("GETs of one job", f"requests a second, {date}", "connections that are kept", series)
 
 
