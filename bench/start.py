@@ -5,7 +5,7 @@ Usage: start.py PROGRAM [JOBS]
 
 PROGRAM is `crates/fts/out/fts`. JOBS is 1 to 1,000, of 200 files each; 1,000 is the default, whose journal of 200,000 rows is about half of what submissions may fill.
 Two folders are made below the system's one for temporary files. In the first this script writes the journal itself, by the format in
-docs/DEFINITIONS.md: a Restart, and for each job its submission and its cancellation. In the second the program makes it, from one connection with
+docs/FORMATS.md: a Restart, and for each job its submission and its cancellation. In the second the program makes it, from one connection with
 the same submissions and cancellations; a file of each job may be under way when its job is cancelled, and finds no source. Nothing is copied in
 either. It prints the seconds, the processor's seconds and the greatest resident size of the start, which has no input, and of the session, the size
 in MiB, and how many lines `show` writes of each folder. Run it with nothing else running.
