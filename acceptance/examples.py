@@ -6,8 +6,9 @@ Wanted: two-submissions.http is answered by its reply, byte for byte; the five d
 FINISHED; submit.sh comes to its end, also where it submits by the program's own command, and where the service refuses it shows the message and ends
 with 1; progress.py shows a job until it is settled, and the same job when it is asked again; fts.service and fts-follow.service are units that systemd
 takes (where systemd-analyze is there), their start's words serve and follow, and what they make under its mask nobody else may read; follow.sh follows
-while a service is started anew, and ends where another one has its port; the last line of journal_gates.py says where the last entry ends. nginx.conf
-and the copies of journal_gates.py have scripts of their own (behind_nginx.py, gates.py). It needs curl.
+while a service is started anew, and ends where another one has its port; the last line of journal_gates.py says where the last entry ends; and the
+commands in README.md, "A first run", and the submission in docs/API.md print what stands there. nginx.conf and the copies of journal_gates.py have
+scripts of their own (behind_nginx.py, gates.py). It needs curl and bash.
 """
 import configparser
 import grp
@@ -26,10 +27,48 @@ import time
 
 from serving import Service, free_port, wrong_in
 
-EXAMPLES = pathlib.Path(__file__).resolve().parent.parent / "examples"
+TOP = pathlib.Path(__file__).resolve().parent.parent
+EXAMPLES = TOP / "examples"
+# a command of a document, with the lines that go on with it
+COMMAND = re.compile(r"^\$ (.*\n(?:    .*\n)*)", re.M)
 DOCUMENTS = ("one-file", "several-files", "with-checksum", "replicas", "multihop")
 SETTLED = ("FINISHED", "FINISHEDDIRTY", "FAILED", "CANCELED")
 SOURCES = {"data/f1": b"abc", "data/f2": b"defg", "copies/f1": b"abc"}
+
+
+def commands_of(place, heading):
+    """The commands in a section of a document, and what stands below all of them."""
+    section = place.read_text().split(f"\n## {heading}\n")[1].split("\n## ")[0]
+    blocks = "".join(block for block in re.findall(r"```\n(.*?)```", section, re.S) if COMMAND.match(block))
+    return COMMAND.findall(blocks), COMMAND.sub("", blocks)
+
+
+def without_moments(text):
+    return re.sub(r'"submit_time":\d+', '"submit_time":N', text)
+
+
+def first_run(program):
+    commands, wanted = commands_of(TOP / "README.md", "A first run")
+    port = free_port()
+    waits = f"until (: < /dev/tcp/127.0.0.1/{port}) 2> /dev/null; do sleep 0.1; done\n"
+    # a reader waits until a service listens, and for a moment behind each request
+    script = "".join(text + (waits if text.endswith("&\n") else "sleep 1\n" if text.startswith("curl") else "") for text in commands)
+    script = script.replace("crates/fts/out/fts", os.path.abspath(program)).replace("8080", str(port))
+    with tempfile.TemporaryDirectory() as folder:
+        os.symlink(EXAMPLES, pathlib.Path(folder) / "examples")
+        run = subprocess.run(["bash", "-c", script + "\nkill %1 2> /dev/null; wait"], cwd=folder, capture_output=True, text=True, timeout=60)
+    # what a terminal shows begins each command on a line of its own
+    same = [re.sub(r"\s+", "", without_moments(text)) for text in (run.stdout, wanted)]
+    yield f"README.md, the first run: {len(commands)} commands print what stands there: {same[0] == same[1]}", same[0] == same[1] != ""
+
+
+def submits_as_documented(program):
+    commands, wanted = commands_of(TOP / "docs" / "API.md", "From the command line")
+    service = stand(program)
+    script = commands[0].replace("fts - ", f"{os.path.abspath(program)} - ").replace("8080", str(service.port))
+    run = subprocess.run(["bash", "-c", script], capture_output=True, text=True, timeout=60)
+    service.stop()
+    yield f"docs/API.md, the submission: {run.returncode}, {run.stdout.strip()}", (run.returncode, run.stdout) == (0, wanted)
 
 
 def stand(program, folder=None, **more):
@@ -235,8 +274,9 @@ def main(words):
     if len(words) != 1:
         sys.exit(__doc__)
     signal.signal(signal.SIGINT, signal.default_int_handler)
-    tries = (session, documents, submits, refused, shows_progress, tells_the_end, serves_as_the_unit, follows_as_the_unit, follows)
-    wrong = sum(wrong_in(tried(words[0])) for tried in tries)
+    services = (first_run, submits_as_documented, session, documents, submits, refused, shows_progress, tells_the_end, serves_as_the_unit)
+    standbys = (follows_as_the_unit, follows)
+    wrong = sum(wrong_in(tried(words[0])) for tried in services + standbys)
     print(f"otherwise than wanted {wrong}")
     return 1 if wrong else 0
 

@@ -16,7 +16,8 @@ printf abc > "stand/grid/https:,,a.example/data/f1"
 printf 'vo = "demo"\nworkers = 2\n[[storage]]\nurl = "https://a.example"\n[[storage]]\nurl = "https://b.example"\n' > stand/fts.toml
 "$program" stand serve --port 18080 --lanes 8 &
 head -c 168 /dev/zero | tr '\0' x > site/job
-printf 'worker_processes 4;\ndaemon off;\nerror_log stderr crit;\npid nginx.pid;\nevents {}\nhttp { access_log off; keepalive_requests 1000000; server { listen 127.0.0.1:18082; root %s/site; } }\n' "$work" > nginx.conf
+printf 'worker_processes 4;\ndaemon off;\nerror_log stderr crit;\npid nginx.pid;\nevents {}\n' > nginx.conf
+printf 'http { access_log off; keepalive_requests 1000000; server { listen 127.0.0.1:18082; root %s/site; } }\n' "$work" >> nginx.conf
 nginx -p "$work" -c nginx.conf &
 
 wait_for() {
