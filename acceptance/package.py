@@ -2,7 +2,7 @@
 """The Debian package that packaging/deb makes, installed into a folder of its own: each line says what was tried and what came.
 
 acceptance/package.py PROGRAM [BASE]: as root. PROGRAM is fts as it was built. BASE is a Debian that debootstrap made, which is copied; where none is
-named debootstrap makes one, over the network. Wanted: dpkg installs the package; user and folder are there, and the folder is the user's alone;
+named debootstrap makes one, over the network. Wanted: apt-get installs the package; user and folder are there, and the folder is the user's alone;
 systemd takes both units; the words of each unit run as their user, under its mask, in the folder: one service copies what one submission asks for,
 and a standby has its entries; what they make nobody else may read; the manual page is shown without a warning; and behind the removal the folder is
 as it was. No systemd has to run. Status 1 where a line is otherwise.
@@ -65,8 +65,8 @@ def last_of(ran):
 
 def installs(machine, package):
     shutil.copy(package, machine.root / "tmp" / "fts.deb")
-    ran = machine.run("dpkg", "--install", "/tmp/fts.deb")
-    yield f"dpkg --install: {ran.returncode}, {last_of(ran) if ran.returncode else ''}", ran.returncode == 0
+    ran = machine.run("apt-get", "install", "--yes", "/tmp/fts.deb")
+    yield f"apt-get install: {ran.returncode}, {last_of(ran) if ran.returncode else ''}", ran.returncode == 0
     ran = machine.run("stat", "--format", "%U %G %a", f"/{STAND}")
     yield f"{STAND}: {ran.stdout.strip()}", ran.stdout.strip() == "fts fts 700"
     ran = machine.run("dpkg", "--verify", "fts")
