@@ -129,7 +129,7 @@ def ninth(program):
 
 
 def keeps(program):
-    """One kept connection over four lanes, beside many that come and go: a free lane is to take them. Not so today: docs/OPERATING.md has the numbers."""
+    """One kept connection over four lanes, beside many that come and go: a free lane is to take them. Not so today: bench/runs has the numbers."""
     service, closings = Service(program, lanes=4), 0
     kept = Polite(service)
     for _ in range(500):

@@ -8,7 +8,7 @@ acceptance/deletions.py PROGRAM time FILES..: these times alone, for each number
 acceptance/deletions.py PROGRAM cut [RUNS]: as root. The grid is a file system in an image, and the journal lies elsewhere. A run is killed in the
 middle, and the image is copied as it then is, without what the system has not written to it: no file that the journal calls gone may be there. RUNS
 are 5 where none is named. An unlinked file that nobody synced has to be there in each image: else nothing was tried.
-What is wanted stands in "Deletions" of docs/OPERATING.md. Status 1 where a line is otherwise.
+What is wanted stands in "Deletions" of docs/API.md. Status 1 where a line is otherwise.
 """
 import contextlib
 import importlib.util

@@ -3,7 +3,7 @@
 
 acceptance/gates.py PROGRAM: PROGRAM is fts as it was built. Three sessions make a journal behind entries of an old moment, so that a file is overdue;
 each kind of entry stands in it, and behind each session `show` says which jobs there are. That journal is damaged, each time in one way. Wanted:
-`show` ends with 7 at the offset that the damage has by docs/DEFINITIONS.md, or with 0 where the bytes are a journal all the same. The script says
+`show` ends with 7 at the offset that the damage has by docs/FORMATS.md, or with 0 where the bytes are a journal all the same. The script says
 where the last whole entry ends, and whether there is damage. The copy that it writes by docs/OPERATING.md, and another one by --close alone, are
 opened by `show`, with the jobs of all entries before the damage, and by sessions, which go on with them. No file that was there is changed. Then each
 byte of the journal is changed, one a run, and the script has to name the offset of status 7. A line a kind; what is otherwise is said below it, and

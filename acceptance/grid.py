@@ -3,7 +3,7 @@
 
 acceptance/grid.py PROGRAM [SEED]: PROGRAM is fts as it was built. Contents are of a generator with this seed. A kind is a service, or two, over a folder
 of its own. Where something is to happen in the middle of a copy the service is stopped (SIGSTOP) and goes on behind it. Wanted are the states and
-files beside each kind in `KINDS`, which are those of "The grid folder" of docs/OPERATING.md. Status 1 where one is otherwise. Needs Linux: it looks
+files beside each kind in `KINDS`, which are those of docs/OPERATING.md. Status 1 where one is otherwise. Needs Linux: it looks
 into /proc.
 """
 import fcntl

@@ -4,7 +4,7 @@
 acceptance/mounts.py PROGRAM: PROGRAM is fts as it was built. Root only, since it mounts. The folder of an endpoint is a file system of its own, which is
 mounted when the service starts. Behind a copy, which one worker makes, it is unmounted, then another one is mounted there, then it is itself again; and
 at the end the other one, over which the service is started anew. Each of these is met by as many copies as are needed for each worker to meet it.
-What is wanted stands in "The grid folder" of docs/OPERATING.md. Status 1 where a line is otherwise.
+What is wanted stands in "Start" of docs/OPERATING.md. Status 1 where a line is otherwise.
 """
 import contextlib
 import pathlib

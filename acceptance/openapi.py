@@ -2,7 +2,8 @@
 """The exchanges of crates/fts_session_trial/data by docs/openapi.yaml: each request and reply stands there, and each body is what its schema says.
 
 acceptance/openapi.py needs PyYAML and jsonschema. A reply that no operation lists is looked for among the responses that every request can get: NoRoute,
-NoMethod, and the faults of the framing. A document that was accepted has to fit its schema.
+NoMethod, and the faults of the framing. A document that was accepted has to fit its schema, and one that was refused not to, but by the rules that no
+schema tells: of URLs and of hops that are joined.
 """
 import json
 import pathlib
@@ -16,6 +17,7 @@ TOP = pathlib.Path(__file__).resolve().parent.parent
 API = yaml.safe_load((TOP / "docs" / "openapi.yaml").read_text())
 EXCHANGES = TOP / "crates" / "fts_session_trial" / "data"
 HEAD = re.compile(rb"(.*?)\r\n((?:[^\r]+\r\n)*)\r\n", re.S)
+UNTOLD = (8, 9, 10, 23)
 EVERYWHERE = {30: "NoRoute", 33: "NoMethod", 41: "BadRequest", 42: "HeadTooLarge", 43: "BadRequest", 44: "Chunked", 45: "BodyTooLarge"}
 
 
@@ -61,10 +63,23 @@ def fault_of(request, reply):
     content = resolved(response).get("content")
     if content and not is_valid(json.loads(body), content["application/json"]["schema"]):
         return "the reply is none of the schema"
-    if status == "200" and request[1]:
-        document = resolved(operation["requestBody"])["content"]["application/json"]["schema"]
-        if not is_valid(json.loads(request[1]), document):
-            return "the accepted document is none of the schema"
+    return document_fault_of(operation, request, status, body)
+
+
+def document_fault_of(operation, request, status, body):
+    """What is otherwise of a document and its schema: it is one exactly where it was accepted."""
+    if not request[1] or status not in ("200", "400") or operation is None or "requestBody" not in operation:
+        return None
+    try:
+        document = json.loads(request[1])
+    except ValueError:
+        return None
+    fits = is_valid(document, resolved(operation["requestBody"])["content"]["application/json"]["schema"])
+    if status == "200" and not fits:
+        return "the accepted document is none of the schema"
+    rule = json.loads(body)["rule"] if status == "400" else None
+    if status == "400" and fits and rule not in UNTOLD:
+        return f"a document that breaks rule {rule} is one of the schema"
     return None
 
 

@@ -2,7 +2,7 @@
 """A service over real sockets, by the program as it was built: what clients and an operator meet. Each line says what was tried and what came.
 
 acceptance/serving.py PROGRAM [BROKEN]: PROGRAM is fts as it was built. It serves folders of its own on free ports of 127.0.0.1. BROKEN is how many
-connections break off one after another, each behind another byte (10000 where none is named). What is wanted stands in "Serving" of
+connections break off one after another, each behind another byte (10000 where none is named). What is wanted stands in "Limits" of
 docs/OPERATING.md; its times are given room here for a machine that is busy. A line that is otherwise says so, and then the status is 1.
 """
 import http.client

@@ -3,7 +3,7 @@
 
 acceptance/showing.py PROGRAM [SECONDS]: PROGRAM is fts as it was built; shows go on for SECONDS (8 where none is named). Needs Linux: each show is
 stopped soon after it began to read, until the journal's file is a MiB longer, as a busy machine may do it to a process. What `show` writes stands
-in docs/OPERATING.md. A line that is otherwise says so, and then the status is 1.
+in "Watch" of docs/OPERATING.md. A line that is otherwise says so, and then the status is 1.
 """
 import http.client
 import json

@@ -13,7 +13,7 @@ of deletions `fts STAND delete`.
 JOURNAL is only read, and no file that is there is written over. It is read piece by piece, so a great one needs no more memory than a small one.
 An entry is a body that a service reads; whether a service would append it at its place, as no submission behind a journal's first limit, is no
 question here. Python's standard library is enough. The formats are those of
-docs/DEFINITIONS.md, "Journal", "Entries" and "Deletions"; which copy is wanted after which damage stands in docs/OPERATING.md, "What damage looks like".
+docs/FORMATS.md, "Journal", "Entries" and "Deletions"; which copy is wanted after which damage stands in docs/OPERATING.md, "When it is damaged".
 The status is 0 where there is no damage, or OUT is written; 1 where there is damage; 2 where nothing could be read or written.
 """
 import argparse
