@@ -24,7 +24,8 @@ pub const DOCUMENT: &str =
 
 pub const REQUEST: &str =
     "POST /jobs HTTP/1.1\r\nHost: 127.0.0.1:8080\r\nContent-Length: 146\r\nConnection: close\r\n\r\n\
-     {\"files\":[{\"sources\":[\"https://a.example/data/f1\"],\"destinations\":[\"https://b.example/f1\"]}],\"params\":{\"id_generator\":\"deterministic\",\"sid\":\"f1\"}}";
+     {\"files\":[{\"sources\":[\"https://a.example/data/f1\"],\"destinations\":[\"https://b.example/f1\"]}],\
+     \"params\":{\"id_generator\":\"deterministic\",\"sid\":\"f1\"}}";
 
 pub const QUERY: &str =
     "GET /jobs/8b35c5cc-fec2-5479-8778-9cbe6f137978 HTTP/1.1\r\nHost: 127.0.0.1:8080\r\nConnection: close\r\n\r\n";
