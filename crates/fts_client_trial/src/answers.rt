@@ -23,7 +23,9 @@ pub const DOCUMENT: &str =
     "{\"files\":[{\"sources\":[\"https://a.example/data/f1\"],\"destinations\":[\"https://b.example/f1\"]}],\"params\":{\"id_generator\":\"deterministic\",\"sid\":\"f1\"}}";
 
 pub const REQUEST: &str =
-    "POST /jobs HTTP/1.1\r\nHost: 127.0.0.1:8080\r\nContent-Length: 146\r\nConnection: close\r\n\r\n{\"files\":[{\"sources\":[\"https://a.example/data/f1\"],\"destinations\":[\"https://b.example/f1\"]}],\"params\":{\"id_generator\":\"deterministic\",\"sid\":\"f1\"}}";
+    "POST /jobs HTTP/1.1\r\nHost: 127.0.0.1:8080\r\nContent-Length: 146\r\nConnection: close\r\n\r\n\
+     {\"files\":[{\"sources\":[\"https://a.example/data/f1\"],\"destinations\":[\"https://b.example/f1\"]}],\
+     \"params\":{\"id_generator\":\"deterministic\",\"sid\":\"f1\"}}";
 
 pub const QUERY: &str =
     "GET /jobs/8b35c5cc-fec2-5479-8778-9cbe6f137978 HTTP/1.1\r\nHost: 127.0.0.1:8080\r\nConnection: close\r\n\r\n";
@@ -32,7 +34,8 @@ pub const CREATED: &str =
     "HTTP/1.1 200 OK\r\nContent-Type: application/json\r\nContent-Length: 49\r\nConnection: close\r\n\r\n{\"job_id\":\"8b35c5cc-fec2-5479-8778-9cbe6f137978\"}";
 
 pub const DUPLICATE: &str =
-    "HTTP/1.1 409 Conflict\r\nContent-Type: application/json\r\nContent-Length: 94\r\nConnection: close\r\n\r\n{\"job_id\":\"8b35c5cc-fec2-5479-8778-9cbe6f137978\",\"message\":\"duplicate\",\"rule\":34,\"status\":409}";
+    "HTTP/1.1 409 Conflict\r\nContent-Type: application/json\r\nContent-Length: 94\r\nConnection: close\r\n\r\n\
+     {\"job_id\":\"8b35c5cc-fec2-5479-8778-9cbe6f137978\",\"message\":\"duplicate\",\"rule\":34,\"status\":409}";
 
 pub const NOT_FOUND: &str =
     "HTTP/1.1 404 Not Found\r\nContent-Type: application/json\r\nContent-Length: 43\r\nConnection: close\r\n\r\n{\"message\":\"no job\",\"rule\":31,\"status\":404}";

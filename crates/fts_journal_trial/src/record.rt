@@ -6,6 +6,7 @@ ghost use Rattle.fts_record.specs.Proper.{has_priority};
 use fts_record::{ReadFault, read_entry, write_entry};
 use fts_tables::{Command, Endpoint, Entry, Memory, NewFile, NewJob, Outcome, Settings};
 use std::alloc::{AllocError, Global};
+use std::process::Abort;
 use std::test::Fail;
 
 const CANCEL: &[u8] = b"\x03\x03\x80\xe2\xcf\xaa\x06\x01";
@@ -207,191 +208,211 @@ fn are_fronts_broken(alloc: Global, bytes: &[u8]) -> bool {
     true
 }
 
+/// A row: a sentence, and an entry.
+type EntryRow = (&'static str, &'static [u8]);
+
+const ENTRIES: [EntryRow; 9] = [
+    ("a cancellation", CANCEL),
+    ("a claim", CLAIM),
+    ("a report", REPORT),
+    ("a restart", RESTART),
+    ("a submission", SUBMIT),
+    ("a submission with hours in the queue", LIMITED_SUBMIT),
+    ("a ban", BAN),
+    ("the end of a ban", UNBAN),
+    ("an expiry", EXPIRE),
+];
+
+/// Whether an entry that is read is written as it was, and each front of it is a broken one.
+fn is_written_so(alloc: Global, bytes: &[u8]) -> Result<bool, ReadFault> {
+    let written = again(alloc, bytes)?;
+    Ok(written.as_slice() == bytes && are_fronts_broken(alloc, bytes))
+}
+
 #[test]
 fn worked_entries_are_written_byte_by_byte(rt: HostRuntime) -> Result<(), Fail> {
-    for (case, bytes) in [
-        ("a cancellation", CANCEL),
-        ("a claim", CLAIM),
-        ("a report", REPORT),
-        ("a restart", RESTART),
-        ("a submission", SUBMIT),
-        ("a submission with hours in the queue", LIMITED_SUBMIT),
-        ("a ban", BAN),
-        ("the end of a ban", UNBAN),
-        ("an expiry", EXPIRE),
-    ] {
-        let is_written = again(rt.alloc(), bytes)?.as_slice() == bytes;
-        let are_whole = are_fronts_broken(rt.alloc(), bytes);
-        assert!(rt; is_written && are_whole, "{case}");
+    for row in &ENTRIES {
+        let is_so = is_written_so(rt.alloc(), row.1)?;
+        assert!(rt; is_so, "{}", row.0);
     }
     Ok(())
 }
 
-/// Whether an entry of which one byte is another is broken at this place.
-fn breaks_at(
-    alloc: Global,
-    bytes: &[u8],
-    changed: usize,
-    byte: u8,
-    want: usize,
-) -> Result<bool, AllocError> {
-    let mut broken = Vec::from_slice(alloc, bytes)?;
-    if let Some(slot) = broken.get_mut(changed) {
-        *slot = byte;
+/// A row: a sentence, an entry, the place of a byte, what it becomes, and the place at which the entry is broken then.
+type BreakRow = (&'static str, &'static [u8], usize, u8, usize);
+
+/// Whether a row's entry is broken at its place.
+fn breaks_at(alloc: Global, row: &BreakRow) -> Result<bool, AllocError> {
+    let mut broken = Vec::from_slice(alloc, row.1)?;
+    if let Some(slot) = broken.get_mut(row.2) {
+        *slot = row.3;
     }
-    Ok(place(alloc, &broken) == Some(want))
+    Ok(place(alloc, &broken) == Some(row.4))
 }
+
+/// Each row's entry is broken at its place.
+fn are_broken(rt: &impl Abort, alloc: Global, rows: &[BreakRow]) -> Result<(), AllocError> {
+    for row in rows {
+        let is_broken = breaks_at(alloc, row)?;
+        assert!(rt; is_broken, "{}", row.0);
+    }
+    Ok(())
+}
+
+const JOB_HEADS: [BreakRow; 5] = [
+    ("a command byte past the last", SUBMIT, 1, 0x0c, 1),
+    ("a moment with a needless byte", SUBMIT, 6, 0x00, 2),
+    ("a kind past the last", SUBMIT, 7, 0x03, 7),
+    ("a strategy past the last", SUBMIT, 8, 0x02, 8),
+    ("an id behind the flag 02", SUBMIT, 9, 0x02, 9),
+];
 
 #[test]
 fn a_broken_head_of_a_job_is_named_by_its_place(rt: HostRuntime) -> Result<(), Fail> {
-    for (case, changed, byte, want) in [
-        ("a command byte past the last", 1, 0x0c, 1),
-        ("a moment with a needless byte", 6, 0x00, 2),
-        ("a kind past the last", 7, 0x03, 7),
-        ("a strategy past the last", 8, 0x02, 8),
-        ("an id behind the flag 02", 9, 0x02, 9),
-    ] {
-        let is_broken = breaks_at(rt.alloc(), SUBMIT, changed, byte, want)?;
-        assert!(rt; is_broken, "{case}");
-    }
+    are_broken(&rt, rt.alloc(), &JOB_HEADS)?;
     Ok(())
 }
+
+const JOB_NUMBERS: [BreakRow; 5] = [
+    ("a priority past its range", SUBMIT, 26, 0x06, 26),
+    ("a retry past its range", SUBMIT, 27, 0x0b, 27),
+    ("a delay with a needless byte", SUBMIT, 29, 0x00, 28),
+    ("a flag 02", SUBMIT, 30, 0x02, 30),
+    ("no file", SUBMIT, 31, 0x00, 31),
+];
 
 #[test]
 fn a_broken_number_of_a_job_is_named_by_its_place(rt: HostRuntime) -> Result<(), Fail> {
-    for (case, changed, byte, want) in [
-        ("a priority past its range", 26, 0x06, 26),
-        ("a retry past its range", 27, 0x0b, 27),
-        ("a delay with a needless byte", 29, 0x00, 28),
-        ("a flag 02", 30, 0x02, 30),
-        ("no file", 31, 0x00, 31),
-    ] {
-        let is_broken = breaks_at(rt.alloc(), SUBMIT, changed, byte, want)?;
-        assert!(rt; is_broken, "{case}");
-    }
+    are_broken(&rt, rt.alloc(), &JOB_NUMBERS)?;
     Ok(())
 }
+
+const FILE_PLACES: [BreakRow; 5] = [
+    ("a first file with index 1", SUBMIT, 32, 0x01, 7),
+    ("a name that is no UTF-8", SUBMIT, 34, 0xff, 33),
+    ("a name in capitals", SUBMIT, 34, 0x41, 33),
+    ("a path that is a slash", SUBMIT, 40, 0x2f, 39),
+    ("a file copied onto itself", SUBMIT, 48, 0x73, 7),
+];
 
 #[test]
 fn a_broken_place_of_a_file_is_named_by_its_place(rt: HostRuntime) -> Result<(), Fail> {
-    for (case, changed, byte, want) in [
-        ("a first file with index 1", 32, 0x01, 7),
-        ("a name that is no UTF-8", 34, 0xff, 33),
-        ("a name in capitals", 34, 0x41, 33),
-        ("a path that is a slash", 40, 0x2f, 39),
-        ("a file copied onto itself", 48, 0x73, 7),
-    ] {
-        let is_broken = breaks_at(rt.alloc(), SUBMIT, changed, byte, want)?;
-        assert!(rt; is_broken, "{case}");
-    }
+    are_broken(&rt, rt.alloc(), &FILE_PLACES)?;
     Ok(())
 }
+
+const FILE_ENDS: [BreakRow; 4] = [
+    ("a size with a needless byte", SUBMIT, 50, 0x00, 49),
+    ("a digest behind the flag 02", SUBMIT, 51, 0x02, 51),
+    ("an activity past the end", SUBMIT, 68, 0x08, 68),
+    ("a byte behind the last field", SUBMIT, 68, 0x06, 75),
+];
 
 #[test]
 fn a_broken_end_of_a_file_is_named_by_its_place(rt: HostRuntime) -> Result<(), Fail> {
-    for (case, changed, byte, want) in [
-        ("a size with a needless byte", 50, 0x00, 49),
-        ("a digest behind the flag 02", 51, 0x02, 51),
-        ("an activity past the end", 68, 0x08, 68),
-        ("a byte behind the last field", 68, 0x06, 75),
-    ] {
-        let is_broken = breaks_at(rt.alloc(), SUBMIT, changed, byte, want)?;
-        assert!(rt; is_broken, "{case}");
-    }
+    are_broken(&rt, rt.alloc(), &FILE_ENDS)?;
     Ok(())
 }
+
+const SETTINGS_HEADS: [BreakRow; 6] = [
+    ("an empty VO", RESTART, 7, 0x00, 7),
+    ("17 workers", RESTART, 12, 0x11, 12),
+    ("no default limit", RESTART, 13, 0x00, 13),
+    ("no endpoint", RESTART, 14, 0x00, 14),
+    ("no inbound limit", RESTART, 21, 0x00, 21),
+    ("an empty label", RESTART, 24, 0x00, 24),
+];
 
 #[test]
 fn a_broken_head_of_settings_is_named_by_its_place(rt: HostRuntime) -> Result<(), Fail> {
-    for (case, changed, byte, want) in [
-        ("an empty VO", 7, 0x00, 7),
-        ("17 workers", 12, 0x11, 12),
-        ("no default limit", 13, 0x00, 13),
-        ("no endpoint", 14, 0x00, 14),
-        ("no inbound limit", 21, 0x00, 21),
-        ("an empty label", 24, 0x00, 24),
-    ] {
-        let is_broken = breaks_at(rt.alloc(), RESTART, changed, byte, want)?;
-        assert!(rt; is_broken, "{case}");
-    }
+    are_broken(&rt, rt.alloc(), &SETTINGS_HEADS)?;
     Ok(())
 }
+
+const LINKS_AND_ACTIVITIES: [BreakRow; 5] = [
+    ("a link from an unknown endpoint", RESTART, 31, 0x62, 7),
+    ("a link without a limit", RESTART, 38, 0x00, 38),
+    ("65 activities", RESTART, 39, 0x41, 39),
+    ("no default activity", RESTART, 41, 0x44, 7),
+    ("no weight", RESTART, 48, 0x00, 48),
+];
 
 #[test]
 fn a_broken_link_or_activity_is_named_by_its_place(rt: HostRuntime) -> Result<(), Fail> {
-    for (case, changed, byte, want) in [
-        ("a link from an unknown endpoint", 31, 0x62, 7),
-        ("a link without a limit", 38, 0x00, 38),
-        ("65 activities", 39, 0x41, 39),
-        ("no default activity", 41, 0x44, 7),
-        ("no weight", 48, 0x00, 48),
-    ] {
-        let is_broken = breaks_at(rt.alloc(), RESTART, changed, byte, want)?;
-        assert!(rt; is_broken, "{case}");
-    }
+    are_broken(&rt, rt.alloc(), &LINKS_AND_ACTIVITIES)?;
     Ok(())
 }
+
+const OUTCOMES: [BreakRow; 1] = [("an outcome past the last", REPORT, 9, 0x08, 9)];
 
 #[test]
 fn a_broken_outcome_is_named_by_its_place(rt: HostRuntime) -> Result<(), Fail> {
-    let is_broken = breaks_at(rt.alloc(), REPORT, 9, 0x08, 9)?;
-    assert!(rt; is_broken, "an outcome past the last");
+    are_broken(&rt, rt.alloc(), &OUTCOMES)?;
     Ok(())
 }
+
+const BANS: [BreakRow; 6] = [
+    ("a name past the end", BAN, 7, 0x13, 7),
+    ("a name in capitals", BAN, 8, 0x48, 7),
+    ("a flag 02", BAN, 25, 0x02, 25),
+    ("an empty name", UNBAN, 7, 0x00, 7),
+    ("a byte behind the name", UNBAN, 7, 0x10, 24),
+    ("no hours", LIMITED_SUBMIT, 7, 0x00, 7),
+];
 
 #[test]
 fn a_broken_ban_is_named_by_its_place(rt: HostRuntime) -> Result<(), Fail> {
-    for (case, bytes, changed, byte, want) in [
-        ("a name past the end", BAN, 7, 0x13, 7),
-        ("a name in capitals", BAN, 8, 0x48, 7),
-        ("a flag 02", BAN, 25, 0x02, 25),
-        ("an empty name", UNBAN, 7, 0x00, 7),
-        ("a byte behind the name", UNBAN, 7, 0x10, 24),
-        ("no hours", LIMITED_SUBMIT, 7, 0x00, 7),
-    ] {
-        let is_broken = breaks_at(rt.alloc(), bytes, changed, byte, want)?;
-        assert!(rt; is_broken, "{case}");
-    }
+    are_broken(&rt, rt.alloc(), &BANS)?;
     Ok(())
 }
 
-#[test]
-fn too_few_or_many_bytes_are_no_entry(rt: HostRuntime) {
-    for (case, bytes, want) in [
-        ("the empty list", b"".as_slice(), 0),
-        (
-            "a byte behind the entry",
-            b"\x03\x03\x80\xe2\xcf\xaa\x06\x01\x00",
-            8,
-        ),
-        ("half a word", b"\x00\x06\x00\x45\x00\x00\x00", 3),
-        ("half a digest", b"\x00\x07\x00\x01\x01\x04\x90\x01", 6),
-    ] {
-        assert!(rt; place(rt.alloc(), bytes) == Some(want), "{case}");
+/// A row: a sentence, bytes, and the place at which they are no entry.
+type PlaceRow = (&'static str, &'static [u8], usize);
+
+/// Each row's bytes are no entry at their place.
+fn are_no_entries(rt: &impl Abort, alloc: Global, rows: &[PlaceRow]) {
+    for row in rows {
+        assert!(rt; place(alloc, row.1) == Some(row.2), "{}", row.0);
     }
 }
 
+const LENGTHS: [PlaceRow; 4] = [
+    ("the empty list", b"", 0),
+    (
+        "a byte behind the entry",
+        b"\x03\x03\x80\xe2\xcf\xaa\x06\x01\x00",
+        8,
+    ),
+    ("half a word", b"\x00\x06\x00\x45\x00\x00\x00", 3),
+    ("half a digest", b"\x00\x07\x00\x01\x01\x04\x90\x01", 6),
+];
+
+#[test]
+fn too_few_or_many_bytes_are_no_entry(rt: HostRuntime) {
+    are_no_entries(&rt, rt.alloc(), &LENGTHS);
+}
+
+const NUMBERS: [PlaceRow; 3] = [
+    (
+        "a moment that ends in 00",
+        b"\x03\x03\x80\xe2\xcf\xaa\x86\x00\x01",
+        2,
+    ),
+    (
+        "a writer of 33 bits",
+        b"\x80\x80\x80\x80\x10\x03\x00\x01",
+        0,
+    ),
+    (
+        "a moment of 65 bits",
+        b"\x00\x03\x80\x80\x80\x80\x80\x80\x80\x80\x80\x02\x01",
+        2,
+    ),
+];
+
 #[test]
 fn other_numbers_are_no_entry(rt: HostRuntime) {
-    for (case, bytes, want) in [
-        (
-            "a moment that ends in 00",
-            b"\x03\x03\x80\xe2\xcf\xaa\x86\x00\x01".as_slice(),
-            2,
-        ),
-        (
-            "a writer of 33 bits",
-            b"\x80\x80\x80\x80\x10\x03\x00\x01",
-            0,
-        ),
-        (
-            "a moment of 65 bits",
-            b"\x00\x03\x80\x80\x80\x80\x80\x80\x80\x80\x80\x02\x01",
-            2,
-        ),
-    ] {
-        assert!(rt; place(rt.alloc(), bytes) == Some(want), "{case}");
-    }
+    are_no_entries(&rt, rt.alloc(), &NUMBERS);
 }
 
 /// The next number of a generator, of as many digits as it happens.
@@ -469,15 +490,21 @@ fn comes_back(alloc: Global, entry: &Entry) -> Result<bool, Fail>
     Ok(again(alloc, &out)?.as_slice() == out.as_slice())
 }
 
+/// The same of the next entry of the generator.
+fn next_comes_back(alloc: Global, state: &mut u64) -> Result<bool, Fail> {
+    let entry = Entry {
+        writer: small(state),
+        command: command(state),
+    };
+    comes_back(alloc, &entry)
+}
+
 #[test]
 fn generated_entries_come_back(rt: HostRuntime) -> Result<(), Fail> {
     let mut state = 2026;
     for number in 0..300 {
-        let entry = Entry {
-            writer: small(&mut state),
-            command: command(&mut state),
-        };
-        assert!(rt; comes_back(rt.alloc(), &entry)?, "entry {number}");
+        let is_back = next_comes_back(rt.alloc(), &mut state)?;
+        assert!(rt; is_back, "entry {number}");
     }
     Ok(())
 }

@@ -1,6 +1,6 @@
 //! The errands as whole runs: a client's submissions and queries and a standby over lines in memory, and deletions over a store in memory.
-//! A row is a sentence, the words, the input, what the lines answer in order, the dial that fails, and the status, the output and the note that are wanted. Texts and
-//! statuses are those of `docs/API.md`; the id is that of another program.
+//! A row is a sentence, the words, the input, what the lines answer in order, the dial that fails, and the status, the output and the note that are
+//! wanted. Texts and statuses are those of `docs/API.md`; the id is that of another program.
 ghost use Rattle.std.specs.Prelude.{◌≡◌, false, IfOk};
 ghost use Rattle.fts_client.specs.MemoryLinks.{has_failed};
 
@@ -27,7 +27,8 @@ const ANONYMOUS: &str =
 const CUT: &str = "HTTP/1.1 200 OK\r\nCon";
 
 const DUPLICATE: &str =
-    "HTTP/1.1 409 Conflict\r\nContent-Type: application/json\r\nContent-Length: 94\r\nConnection: close\r\n\r\n{\"job_id\":\"8b35c5cc-fec2-5479-8778-9cbe6f137978\",\"message\":\"duplicate\",\"rule\":34,\"status\":409}";
+    "HTTP/1.1 409 Conflict\r\nContent-Type: application/json\r\nContent-Length: 94\r\nConnection: close\r\n\r\n\
+     {\"job_id\":\"8b35c5cc-fec2-5479-8778-9cbe6f137978\",\"message\":\"duplicate\",\"rule\":34,\"status\":409}";
 
 const NO_JOB: &str =
     "HTTP/1.1 404 Not Found\r\nContent-Type: application/json\r\nContent-Length: 43\r\nConnection: close\r\n\r\n{\"message\":\"no job\",\"rule\":31,\"status\":404}";

@@ -220,17 +220,21 @@ const FOREIGN: [AnswerRow; 18] = [
     ("a request", "GET /jobs HTTP/1.1\r\n\r\n", "bad"),
 ];
 
+/// Whether a row's input is read as it says.
+fn is_row_read_so(rt: &HostRuntime, room: &mut AnswerRoom, row: &AnswerRow) -> Result<bool, Fail> {
+    is_read_so(rt, room, row.1.as_bytes(), row.2)
+}
+
 #[test]
 fn responses_are_read_however_they_are_cut(rt: HostRuntime) -> Result<(), Fail> {
     let mut room = AnswerRoom::new(rt.alloc())?;
-    for (case, input, want) in WRITTEN {
-        let is_so = is_read_so(&rt, &mut room, input.as_bytes(), want)?;
-        assert!(rt; is_so, "{case}");
+    for row in &WRITTEN {
+        let is_so = is_row_read_so(&rt, &mut room, row)?;
+        assert!(rt; is_so, "{}", row.0);
     }
-    for (case, input, want) in FOREIGN {
-        let is_so = is_read_so(&rt, &mut room, input.as_bytes(), want)?;
-        assert!(rt; is_so, "{case}");
-        assert!(rt; room.body().is_empty(), "{case}: the room is empty");
+    for row in &FOREIGN {
+        let is_so = is_row_read_so(&rt, &mut room, row)?;
+        assert!(rt; is_so && room.body().is_empty(), "{}", row.0);
     }
     Ok(())
 }
@@ -243,119 +247,168 @@ fn with_bytes(rt: &HostRuntime, front: &[u8], byte: u8, count: usize) -> Result<
     Ok(bytes)
 }
 
-/// The front of a response with this length.
-fn front_of(rt: &HostRuntime, length: &str) -> Result<Vec<u8>, Fail> {
-    let mut front = Vec::new(rt.alloc());
-    front.extend_from_slice(
-        b"HTTP/1.1 200 OK\r\nContent-Type: application/json\r\nContent-Length: ",
-    )?;
-    front.extend_from_slice(length.as_bytes())?;
-    Ok(front)
+/// A source of these bytes, whose read of this number fails.
+fn source_of(rt: &HostRuntime, bytes: Vec<u8>, fail: u64) -> Result<MemorySource, Fail> {
+    Ok(MemorySource::new(bytes, vec![in rt.alloc(); fail; 1]?))
+}
+
+/// The status of the next response.
+fn status_of<S: Source>(room: &mut AnswerRoom, source: &mut S) -> Result<u16, AnswerFault> {
+    let answered = next_response(room, source)?;
+    Ok(answered.status)
+}
+
+/// A row: a sentence, a front, the byte that stands behind it, and how often.
+type BoundRow = (&'static str, &'static str, u8, usize);
+
+const BOUNDS: [BoundRow; 4] = [
+    ("a status line of 16 KiB", "HTTP/1.1 200 ", b'O', 16_384),
+    ("zero bytes", "", 0, 200_000),
+    (
+        "a length of many digits",
+        "HTTP/1.1 200 OK\r\nContent-Type: application/json\r\nContent-Length: 1",
+        b'1',
+        200_000,
+    ),
+    (
+        "a length past the limit",
+        "HTTP/1.1 200 OK\r\nContent-Type: application/json\r\nContent-Length: 8389633\r\n\r\n",
+        b'a',
+        200_000,
+    ),
+];
+
+/// Whether a row's bytes are refused by their first read. The second read fails, so there is none.
+fn is_refused_at_once(
+    rt: &HostRuntime,
+    room: &mut AnswerRoom,
+    row: &BoundRow,
+) -> Result<bool, Fail> {
+    let input = with_bytes(rt, row.1.as_bytes(), row.2, row.3)?;
+    let mut source = source_of(rt, input, 2)?;
+    Ok(status_of(room, &mut source) == Err(AnswerFault::BadResponse))
 }
 
 #[test]
 fn a_line_is_not_read_without_bound(rt: HostRuntime) -> Result<(), Fail> {
     let mut room = AnswerRoom::new(rt.alloc())?;
-    for (case, front, byte, count) in [
-        (
-            "a status line of 16 KiB",
-            Vec::from_slice(rt.alloc(), b"HTTP/1.1 200 ")?,
-            b'O',
-            16_384,
-        ),
-        ("zero bytes", Vec::new(rt.alloc()), 0, 200_000),
-        (
-            "a length of many digits",
-            front_of(&rt, "1")?,
-            b'1',
-            200_000,
-        ),
-        (
-            "a length past the limit",
-            front_of(&rt, "8389633\r\n\r\n")?,
-            b'a',
-            200_000,
-        ),
-    ] {
-        // The second read fails, so there is none.
-        let input = with_bytes(&rt, front.as_slice(), byte, count)?;
-        let mut source = MemorySource::new(input, vec![in rt.alloc(); 2; 1]?);
-        let note = note_of(&rt, &mut room, &mut source)?;
-        assert!(rt; note.as_slice() == b"bad".as_slice(), "{case}");
+    for row in &BOUNDS {
+        let is_refused = is_refused_at_once(&rt, &mut room, row)?;
+        assert!(rt; is_refused, "{}", row.0);
     }
     Ok(())
+}
+
+/// A row: a sentence, how many bytes stand behind the front, the read that fails, what is read, and how many bytes the room holds then.
+type BodyRow = (&'static str, usize, u64, Result<u16, AnswerFault>, usize);
+
+// It takes 129 reads of 65,536 bytes, and one more to find the end.
+const BODIES: [BodyRow; 2] = [
+    (
+        "the greatest body, and bytes behind it",
+        8_500_000,
+        130,
+        Ok(200),
+        8_389_632,
+    ),
+    (
+        "a byte is wanted",
+        8_389_631,
+        131,
+        Err(AnswerFault::EndsInside),
+        0,
+    ),
+];
+
+/// The front of a response with the greatest body.
+const GREATEST: &[u8] =
+    b"HTTP/1.1 200 OK\r\nContent-Type: application/json\r\nContent-Length: 8389632\r\n\r\n";
+
+/// Whether a large body is read as a row says.
+fn is_body_read_so(rt: &HostRuntime, room: &mut AnswerRoom, row: &BodyRow) -> Result<bool, Fail> {
+    let input = with_bytes(rt, GREATEST, b'a', row.1)?;
+    let mut source = source_of(rt, input, row.2)?;
+    Ok(status_of(room, &mut source) == row.3 && room.body().len() == row.4)
 }
 
 #[test]
 fn a_body_has_a_greatest_length(rt: HostRuntime) -> Result<(), Fail> {
     let mut room = AnswerRoom::new(rt.alloc())?;
-    let front = front_of(&rt, "8389632\r\n\r\n")?;
-    for (case, count, fail, want) in [
-        (
-            "the greatest body, and bytes behind it",
-            8_500_000,
-            130,
-            Ok(200),
-        ),
-        (
-            "a byte is wanted",
-            8_389_631,
-            131,
-            Err(AnswerFault::EndsInside),
-        ),
-    ] {
-        // It takes 129 reads of 65,536 bytes, and one more to find the end.
-        let input = with_bytes(&rt, front.as_slice(), b'a', count)?;
-        let mut source = MemorySource::new(input, vec![in rt.alloc(); fail; 1]?);
-        let got = next_response(&mut room, &mut source).map(|answered| answered.status);
-        assert!(rt; got == want, "{case}");
-        let held = if want.is_ok() { 8_389_632 } else { 0 };
-        assert!(rt; room.body().len() == held, "{case}: the room");
+    for row in &BODIES {
+        let is_so = is_body_read_so(&rt, &mut room, row)?;
+        assert!(rt; is_so, "{}", row.0);
     }
     Ok(())
+}
+
+const WHOLE: &str =
+    "HTTP/1.1 200 OK\r\nContent-Type: application/json\r\nContent-Length: 2\r\n\r\n{}";
+
+/// That response, and another behind it.
+const TWO_RESPONSES: &str =
+    "HTTP/1.1 200 OK\r\nContent-Type: application/json\r\nContent-Length: 2\r\n\r\n{}\
+     HTTP/1.1 404 Not Found\r\nContent-Type: application/json\r\nContent-Length: 2\r\n\r\n[]";
+
+/// What is read of these two, one behind the other, on a line that is cut between them.
+const THREE_READINGS: [&str; 3] = ["200 {}", "404 []", "inside"];
+
+/// Whether a source gives these readings one behind the other.
+fn gives_readings(
+    rt: &HostRuntime,
+    room: &mut AnswerRoom,
+    source: &mut CutSource,
+) -> Result<bool, Fail> {
+    for want in &THREE_READINGS {
+        if note_of(rt, room, source)?.as_slice() != want.as_bytes() {
+            return Ok(false);
+        }
+    }
+    Ok(true)
 }
 
 #[test]
 fn a_second_response_stays_on_the_line(rt: HostRuntime) -> Result<(), Fail> {
     let mut room = AnswerRoom::new(rt.alloc())?;
-    let first = "HTTP/1.1 200 OK\r\nContent-Type: application/json\r\nContent-Length: 2\r\n\r\n{}";
-    let mut input = Vec::from_slice(rt.alloc(), first.as_bytes())?;
-    input.extend_from_slice(
-        b"HTTP/1.1 404 Not Found\r\nContent-Type: application/json\r\nContent-Length: 2\r\n\r\n[]",
-    )?;
-    let mut source = CutSource::new(&rt, input.as_slice(), first.len())?;
-    for want in ["200 {}", "404 []", "inside"] {
-        let note = note_of(&rt, &mut room, &mut source)?;
-        assert!(rt; note.as_slice() == want.as_bytes(), "{want}");
-    }
+    let mut source = CutSource::new(&rt, TWO_RESPONSES.as_bytes(), WHOLE.len())?;
+    let are_given = gives_readings(&rt, &mut room, &mut source)?;
+    assert!(rt; are_given, "the first, the second, and the end");
     Ok(())
+}
+
+const SHORT: &str =
+    "HTTP/1.1 200 OK\r\nContent-Type: application/json\r\nContent-Length: 3\r\n\r\n{}";
+
+/// A row: a sentence, what a line gives, the read that fails, what is read, and whether the room is empty then.
+type FailRow = (&'static str, &'static str, u64, &'static str, bool);
+
+const FAILS: [FailRow; 5] = [
+    ("no read fails", WHOLE, 9, "200 {}", false),
+    ("the first read fails", WHOLE, 1, "failed", true),
+    (
+        "the second read fails, and is not needed",
+        WHOLE,
+        2,
+        "200 {}",
+        false,
+    ),
+    ("the second read fails", SHORT, 2, "failed", true),
+    ("the input ends", SHORT, 9, "inside", true),
+];
+
+/// Whether a line whose read fails is read as a row says.
+fn is_fail_told(rt: &HostRuntime, room: &mut AnswerRoom, row: &FailRow) -> Result<bool, Fail> {
+    let bytes = Vec::from_slice(rt.alloc(), row.1.as_bytes())?;
+    let mut source = source_of(rt, bytes, row.2)?;
+    let note = note_of(rt, room, &mut source)?;
+    Ok(note.as_slice() == row.3.as_bytes() && room.body().is_empty() == row.4)
 }
 
 #[test]
 fn a_read_that_fails_is_told(rt: HostRuntime) -> Result<(), Fail> {
     let mut room = AnswerRoom::new(rt.alloc())?;
-    let whole = "HTTP/1.1 200 OK\r\nContent-Type: application/json\r\nContent-Length: 2\r\n\r\n{}";
-    let short = "HTTP/1.1 200 OK\r\nContent-Type: application/json\r\nContent-Length: 3\r\n\r\n{}";
-    for (case, input, fail, want) in [
-        ("no read fails", whole, 9, "200 {}"),
-        ("the first read fails", whole, 1, "failed"),
-        (
-            "the second read fails, and is not needed",
-            whole,
-            2,
-            "200 {}",
-        ),
-        ("the second read fails", short, 2, "failed"),
-        ("the input ends", short, 9, "inside"),
-    ] {
-        let bytes = Vec::from_slice(rt.alloc(), input.as_bytes())?;
-        let mut source = MemorySource::new(bytes, vec![in rt.alloc(); fail; 1]?);
-        let note = note_of(&rt, &mut room, &mut source)?;
-        assert!(rt; note.as_slice() == want.as_bytes(), "{case}");
-        assert!(rt;
-            room.body().is_empty() == !want.starts_with("200"),
-            "{case}: the room"
-        );
+    for row in &FAILS {
+        let is_told = is_fail_told(&rt, &mut room, row)?;
+        assert!(rt; is_told, "{}", row.0);
     }
     Ok(())
 }

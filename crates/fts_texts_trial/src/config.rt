@@ -66,23 +66,26 @@ fn shown(alloc: Global, settings: &Settings) -> Result<String, AllocError> {
     Ok(shown)
 }
 
+/// Whether a text gives these settings.
+fn gives(alloc: Global, text: &str, want: &str) -> Result<bool, Fail> {
+    let settings = read_settings(alloc, text.as_bytes())?;
+    let line = shown(alloc, &settings)?;
+    Ok(line.as_str() == want)
+}
+
 #[test]
 fn a_stand_s_text_gives_its_settings(rt: HostRuntime) -> Result<(), Fail> {
     let text =
         "vo = \"demo\"\nworkers = 2\n[[storage]]\nurl = \"https://a.example\"\n[[storage]]\nurl = \"https://b.example\"\n";
-    let settings = read_settings(rt.alloc(), text.as_bytes())?;
-    let line = shown(rt.alloc(), &settings)?;
     let want = "demo 2 2, https://a.example 20 20, https://b.example 20 20, default 1,";
-    assert!(rt; line.as_str() == want, "a stand's settings");
+    assert!(rt; gives(rt.alloc(), text, want)?, "a stand's settings");
     Ok(())
 }
 
 #[test]
 fn what_a_text_leaves_out_has_its_default(rt: HostRuntime) -> Result<(), Fail> {
-    let settings = read_settings(rt.alloc(), START.as_bytes())?;
-    let line = shown(rt.alloc(), &settings)?;
     let want = "v 4 2, x://a 20 20, x://b 20 20, default 1,";
-    assert!(rt; line.as_str() == want, "settings by default");
+    assert!(rt; gives(rt.alloc(), START, want)?, "settings by default");
     Ok(())
 }
 
@@ -120,11 +123,9 @@ weight = 9
 
 #[test]
 fn the_example_gives_its_settings(rt: HostRuntime) -> Result<(), Fail> {
-    let settings = read_settings(rt.alloc(), EXAMPLE.as_bytes())?;
-    let line = shown(rt.alloc(), &settings)?;
     let want =
         "demo 8 5, https://a.example 10 40, https://b.example 20 20, root://c.example:1094 20 20, a-to-b https://a.example https://b.example 20, default 1, production 9,";
-    assert!(rt; line.as_str() == want, "the example's settings");
+    assert!(rt; gives(rt.alloc(), EXAMPLE, want)?, "the example's settings");
     Ok(())
 }
 
@@ -355,17 +356,20 @@ fn a_needed_key_of_a_link_or_activity_is_there(rt: HostRuntime) -> Result<(), Fa
     Ok(())
 }
 
+/// A sentence, and the end of a text that breaks no rule.
+const READ: [(&str, &str); 2] = [
+    ("a key that nobody knows", "other = 1\nworkers = 16"),
+    (
+        "a link and the way back",
+        "link = [{ source = \"x://a\", destination = \"x://b\", max_active = 1 }, { source = \"x://b\", destination = \"x://a\", max_active = 2 }]",
+    ),
+];
+
 #[test]
 fn what_breaks_no_rule(rt: HostRuntime) -> Result<(), Fail> {
-    for (case, text) in [
-        ("a key that nobody knows", "other = 1\nworkers = 16"),
-        (
-            "a link and the way back",
-            "link = [{ source = \"x://a\", destination = \"x://b\", max_active = 1 }, { source = \"x://b\", destination = \"x://a\", max_active = 2 }]",
-        ),
-    ] {
-        let is_read = fault_of(rt.alloc(), START, text)?.is_none();
-        assert!(rt; is_read, "{case}");
+    for row in &READ {
+        let is_read = fault_of(rt.alloc(), START, row.1)?.is_none();
+        assert!(rt; is_read, "{}", row.0);
     }
     Ok(())
 }
@@ -520,31 +524,36 @@ fn crowded(alloc: Global, more: &str, count: usize) -> Result<Option<SettingsFau
 const BAD_NAME: &str =
     "link = [{ source = \"x://a\", destination = \"x://b\", max_active = 1, symbolicname = \"\" }]";
 
+/// A row: a sentence, what stands before the activities, how many there are, and the fault.
+type CrowdRow = (&'static str, &'static str, usize, SettingsFault);
+
+const CROWDS: [CrowdRow; 4] = [
+    (
+        "no worker, and too many activities",
+        "workers = 0",
+        65,
+        SettingsFault::WorkerRange,
+    ),
+    (
+        "too many, and an empty name",
+        BAD_NAME,
+        65,
+        SettingsFault::TooMany,
+    ),
+    (
+        "an empty name, and an activity twice",
+        BAD_NAME,
+        2,
+        SettingsFault::BadLabel,
+    ),
+    ("an activity twice", "", 2, SettingsFault::TwiceWeight),
+];
+
 #[test]
 fn too_many_stands_between_its_neighbours(rt: HostRuntime) -> Result<(), Fail> {
-    for (case, more, count, want) in [
-        (
-            "no worker, and too many activities",
-            "workers = 0",
-            65,
-            SettingsFault::WorkerRange,
-        ),
-        (
-            "too many, and an empty name",
-            BAD_NAME,
-            65,
-            SettingsFault::TooMany,
-        ),
-        (
-            "an empty name, and an activity twice",
-            BAD_NAME,
-            2,
-            SettingsFault::BadLabel,
-        ),
-        ("an activity twice", "", 2, SettingsFault::TwiceWeight),
-    ] {
-        let is_so = crowded(rt.alloc(), more, count)? == Some(want);
-        assert!(rt; is_so, "{case}");
+    for row in &CROWDS {
+        let is_so = crowded(rt.alloc(), row.1, row.2)? == Some(row.3);
+        assert!(rt; is_so, "{}", row.0);
     }
     Ok(())
 }

@@ -1,7 +1,6 @@
 //! Of `fts_wire`: a reader and a writer whose calls a signal interrupts are called again, and one that fails is not.
 use fts_wire::{Sink, SinkFailed, Source, SourceFailed, StdSink, StdSource};
 use std::io::{self, Read, Write};
-use std::test::Fail;
 
 /// A reader and a writer whose first calls are refused, and whose later ones take or give one byte.
 #[derive(Drop)]
@@ -44,21 +43,43 @@ impl Write for Refuses {
     }
 }
 
-#[test]
-fn an_interrupted_call_is_made_again(rt: HostRuntime) -> Result<(), Fail> {
-    for (case, times, kind, is_done) in [
-        ("no refusal", 0, io::ErrorKind::Other, true),
-        ("a signal", 1, io::ErrorKind::Interrupted, true),
-        ("some signals", 20, io::ErrorKind::Interrupted, true),
-        ("a failure", 1, io::ErrorKind::Other, false),
-    ] {
-        let mut into = [0; 4];
-        let read = StdSource::new(Refuses { times, kind }).read(&mut into);
-        let want = if is_done { Ok(1) } else { Err(SourceFailed) };
-        assert!(rt; read == want && (into[0] == 7) == is_done, "{case}: read");
-        let written = StdSink::new(Refuses { times, kind }).write(&[1, 2, 3]);
-        let want = if is_done { Ok(1) } else { Err(SinkFailed) };
-        assert!(rt; written == want, "{case}: written");
+/// A row: a sentence, how many calls are refused and why, and whether one is done then.
+type RefusalRow = (&'static str, u32, io::ErrorKind, bool);
+
+const REFUSALS: [RefusalRow; 4] = [
+    ("no refusal", 0, io::ErrorKind::Other, true),
+    ("a signal", 1, io::ErrorKind::Interrupted, true),
+    ("some signals", 20, io::ErrorKind::Interrupted, true),
+    ("a failure", 1, io::ErrorKind::Other, false),
+];
+
+/// The reader and writer of a row.
+fn refuses_as(row: &RefusalRow) -> Refuses {
+    Refuses {
+        times: row.1,
+        kind: row.2,
     }
-    Ok(())
+}
+
+/// Whether a byte is read, or none, as a row says.
+fn is_read_so(row: &RefusalRow) -> bool {
+    let mut into = [0; 4];
+    let read = StdSource::new(refuses_as(row)).read(&mut into);
+    let want = if row.3 { Ok(1) } else { Err(SourceFailed) };
+    read == want && (into[0] == 7) == row.3
+}
+
+/// The same of a byte that is written.
+fn is_written_so(row: &RefusalRow) -> bool {
+    let written = StdSink::new(refuses_as(row)).write(&[1, 2, 3]);
+    let want = if row.3 { Ok(1) } else { Err(SinkFailed) };
+    written == want
+}
+
+#[test]
+fn an_interrupted_call_is_made_again(rt: HostRuntime) {
+    for row in &REFUSALS {
+        assert!(rt; is_read_so(row), "{}: read", row.0);
+        assert!(rt; is_written_so(row), "{}: written", row.0);
+    }
 }

@@ -273,7 +273,7 @@ fn rule_of_many(alloc: Global, file: &str, count: usize) -> Result<u32, Memory> 
 #[test]
 fn so_many_files_are_allowed(rt: HostRuntime) -> Result<(), Fail> {
     let file = "{\"sources\":[\"https://a.example/f\"],\"destinations\":[\"https://b.example/f\"]}";
-    for (case, file, count, rule) in [
+    for &(case, file, count, rule) in &[
         ("200 files", file, 200, 0),
         ("201 files", file, 201, 4),
         ("201 files that are no objects", "3", 201, 4),
@@ -311,7 +311,7 @@ fn rules_of_length(alloc: Global, length: usize) -> Result<(u32, u32), Memory> {
 
 #[test]
 fn so_many_bytes_are_allowed(rt: HostRuntime) -> Result<(), Fail> {
-    for (case, length, rules) in [("255 bytes", 255, (0, 0)), ("256 bytes", 256, (15, 24))] {
+    for &(case, length, rules) in &[("255 bytes", 255, (0, 0)), ("256 bytes", 256, (15, 24))] {
         let are_so = rules_of_length(rt.alloc(), length)? == rules;
         assert!(rt; are_so, "{case}");
     }
@@ -328,7 +328,7 @@ fn deep_lists_are_no_json(rt: HostRuntime) -> Result<(), Fail> {
 
 #[test]
 fn the_examples_are_the_jobs_that_they_say(rt: HostRuntime) -> Result<(), Fail> {
-    for (case, body, want) in EXAMPLES {
+    for &(case, body, want) in &EXAMPLES {
         let found = summary(rt.alloc(), body)?;
         assert!(rt; found.as_str() == want, "{case}");
     }
@@ -372,7 +372,7 @@ fn priority(alloc: Global, body: &str) -> (u32, u32, &'static str) {
 
 #[test]
 fn a_priority_is_read(rt: HostRuntime) {
-    for (case, body, want) in PRIORITIES {
+    for &(case, body, want) in &PRIORITIES {
         let is_read = priority(rt.alloc(), body) == want;
         assert!(rt; is_read, "{case}");
     }
@@ -387,7 +387,7 @@ fn hours(alloc: Global, given: &str) -> Result<u32, Fail> {
 
 #[test]
 fn hours_in_the_queue_are_read(rt: HostRuntime) -> Result<(), Fail> {
-    for (case, given, want) in HOURS {
+    for &(case, given, want) in &HOURS {
         let is_read = hours(rt.alloc(), given)? == want;
         assert!(rt; is_read, "{case}");
     }
@@ -404,7 +404,7 @@ fn is_ban(alloc: Global, body: &str, asked: (&str, bool), refused: (u32, &str)) 
 
 #[test]
 fn a_ban_is_read(rt: HostRuntime) {
-    for (case, body, asked, refused) in BANS {
+    for &(case, body, asked, refused) in &BANS {
         let is_read = is_ban(rt.alloc(), body, asked, refused);
         assert!(rt; is_read, "{case}");
     }
@@ -420,7 +420,7 @@ fn is_storage(alloc: Global, text: &str, want: &str) -> Result<bool, Memory> {
 
 #[test]
 fn a_storage_is_read(rt: HostRuntime) -> Result<(), Fail> {
-    for (case, text, want) in [
+    for &(case, text, want) in &[
         ("a storage", "https://b.example", "https://b.example"),
         ("with a slash", "https://b.example/", "https://b.example"),
         ("with a path", "https://b.example/f", ""),

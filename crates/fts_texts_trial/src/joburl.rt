@@ -129,12 +129,17 @@ const FILES: [FileRow; 17] = [
     ),
 ];
 
+/// Whether a row's text names its file.
+fn is_file(alloc: Global, row: &FileRow) -> Result<bool, UrlFault> {
+    let surl = read_surl(alloc, row.1)?;
+    Ok(surl.endpoint.as_str() == row.2 && surl.path.as_str() == row.3)
+}
+
 #[test]
 fn urls_of_files_are_read(rt: HostRuntime) -> Result<(), Fail> {
-    for (case, text, endpoint, path) in FILES {
-        let surl = read_surl(rt.alloc(), text)?;
-        let is_read = surl.endpoint.as_str() == endpoint && surl.path.as_str() == path;
-        assert!(rt; is_read, "{case}");
+    for row in &FILES {
+        let is_read = is_file(rt.alloc(), row)?;
+        assert!(rt; is_read, "{}", row.0);
     }
     Ok(())
 }
@@ -193,84 +198,114 @@ const FAULTS: [FaultRow; 33] = [
 
 #[test]
 fn other_texts_have_their_first_fault(rt: HostRuntime) -> Result<(), Fail> {
-    for (case, text, number) in FAULTS {
-        let is_so = number_of_surl(read_surl(rt.alloc(), text)) == number;
-        assert!(rt; is_so, "{case}");
+    for row in &FAULTS {
+        let is_so = number_of_surl(read_surl(rt.alloc(), row.1)) == row.2;
+        assert!(rt; is_so, "{}", row.0);
     }
     Ok(())
+}
+
+/// A row: a sentence, the front of a text, how many bytes more it has, and the number of its first fault, 0 where there is none.
+type LengthRow = (&'static str, &'static str, usize, u32);
+
+const LENGTHS: [LengthRow; 5] = [
+    ("1,024 bytes", "https://a.example/", 1_006, 0),
+    ("a byte more", "https://a.example/", 1_007, 8),
+    (
+        "1,024 once it is read",
+        "https://a.example:443/../",
+        1_006,
+        0,
+    ),
+    ("1,024 in our folder", "https://a.example/.fts/", 1_001, 9),
+    (
+        "a byte more in our folder",
+        "https://a.example/.fts/",
+        1_002,
+        8,
+    ),
+];
+
+/// Whether a row's text has its fault, or none.
+fn is_length_so(alloc: Global, row: &LengthRow) -> Result<bool, AllocError> {
+    let text = lengthened(alloc, row.1, row.2)?;
+    Ok(number_of_surl(read_surl(alloc, text.as_str())) == row.3)
 }
 
 #[test]
 fn a_url_has_at_most_1024_bytes(rt: HostRuntime) -> Result<(), Fail> {
-    for (case, front, more, number) in [
-        ("1,024 bytes", "https://a.example/", 1_006, 0),
-        ("a byte more", "https://a.example/", 1_007, 8),
-        (
-            "1,024 once it is read",
-            "https://a.example:443/../",
-            1_006,
-            0,
-        ),
-        ("1,024 in our folder", "https://a.example/.fts/", 1_001, 9),
-        (
-            "a byte more in our folder",
-            "https://a.example/.fts/",
-            1_002,
-            8,
-        ),
-    ] {
-        let text = lengthened(rt.alloc(), front, more)?;
-        let is_so = number_of_surl(read_surl(rt.alloc(), &text)) == number;
-        assert!(rt; is_so, "{case}");
+    for row in &LENGTHS {
+        let is_so = is_length_so(rt.alloc(), row)?;
+        assert!(rt; is_so, "{}", row.0);
     }
     Ok(())
+}
+
+/// A row: a sentence, a text, and the endpoint that it names.
+type EndpointRow = (&'static str, &'static str, &'static str);
+
+const ENDPOINTS: [EndpointRow; 4] = [
+    ("a name", "https://a.example", "https://a.example"),
+    (
+        "upper case, and the scheme's own port",
+        "HTTPS://A.EXAMPLE:443",
+        "https://a.example",
+    ),
+    (
+        "slashes and dots behind it",
+        "https://a.example/.//..",
+        "https://a.example",
+    ),
+    ("a port", "root://a.example:1094", "root://a.example:1094"),
+];
+
+/// Whether a row's text names its endpoint.
+fn is_endpoint(alloc: Global, row: &EndpointRow) -> Result<bool, UrlFault> {
+    let endpoint = read_endpoint(alloc, row.1)?;
+    Ok(endpoint.as_str() == row.2)
 }
 
 #[test]
 fn urls_of_endpoints_are_read(rt: HostRuntime) -> Result<(), Fail> {
-    for (case, text, want) in [
-        ("a name", "https://a.example", "https://a.example"),
-        (
-            "upper case, and the scheme's own port",
-            "HTTPS://A.EXAMPLE:443",
-            "https://a.example",
-        ),
-        (
-            "slashes and dots behind it",
-            "https://a.example/.//..",
-            "https://a.example",
-        ),
-        ("a port", "root://a.example:1094", "root://a.example:1094"),
-    ] {
-        let endpoint = read_endpoint(rt.alloc(), text)?;
-        assert!(rt; endpoint.as_str() == want, "{case}");
+    for row in &ENDPOINTS {
+        let is_read = is_endpoint(rt.alloc(), row)?;
+        assert!(rt; is_read, "{}", row.0);
     }
     Ok(())
 }
 
-#[test]
-fn an_endpoint_has_no_path(rt: HostRuntime) -> Result<(), Fail> {
-    for (case, text, want) in [
-        ("a path", "https://a.example/b", UrlFault::HasPath),
-        ("our folder", "https://a.example/.fts", UrlFault::HasPath),
-        (
-            "a path and an empty query",
-            "https://a.example/b?",
-            UrlFault::HasQuery,
-        ),
-        (
-            "a percent sign alone",
-            "https://a.example/%",
-            UrlFault::HasEscape,
-        ),
-        ("a scheme alone", "file:", UrlFault::NoHost),
-        ("no scheme", "a.example", UrlFault::NotUrl),
-    ] {
-        let is_so = match read_endpoint(rt.alloc(), text) {
-            Ok(_) => false,
-            Err(fault) => fault == want,
-        };
-        assert!(rt; is_so, "{case}");
+/// A row: a sentence, a text that names no endpoint, and its fault.
+type OtherRow = (&'static str, &'static str, UrlFault);
+
+const OTHERS: [OtherRow; 6] = [
+    ("a path", "https://a.example/b", UrlFault::HasPath),
+    ("our folder", "https://a.example/.fts", UrlFault::HasPath),
+    (
+        "a path and an empty query",
+        "https://a.example/b?",
+        UrlFault::HasQuery,
+    ),
+    (
+        "a percent sign alone",
+        "https://a.example/%",
+        UrlFault::HasEscape,
+    ),
+    ("a scheme alone", "file:", UrlFault::NoHost),
+    ("no scheme", "a.example", UrlFault::NotUrl),
+];
+
+/// Whether a row's text names no endpoint, by its fault.
+fn is_other(alloc: Global, row: &OtherRow) -> bool {
+    match read_endpoint(alloc, row.1) {
+        Ok(_) => false,
+        Err(fault) => fault == row.2,
     }
-    Ok(())
+}
+
+#[test]
+fn an_endpoint_has_no_path(rt: HostRuntime) {
+    for row in &OTHERS {
+        let is_so = is_other(rt.alloc(), row);
+        assert!(rt; is_so, "{}", row.0);
+    }
 }

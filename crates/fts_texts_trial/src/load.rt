@@ -4,15 +4,18 @@ use fts_store::{MemoryStore, Store, StoreFailed};
 use fts_tables::{Items, PlaceRef};
 use fts_wire::{Sink, Source};
 use md5::{Digest, Md5};
-use std::alloc::Global;
+use std::alloc::{AllocError, Global};
 use std::test::Fail;
 
 const SOURCE: &str = "https://a.example";
 
 const DEST: &str = "https://b.example";
 
-/// Files of number 7: size, first byte, and MD5 in hexadecimal digits.
-const FILES: [(&str, u64, u8, u128); 3] = [
+/// A path, and the file's size, first byte, and MD5 in hexadecimal digits.
+type FileRow = (&'static str, u64, u8, u128);
+
+/// Files of number 7.
+const FILES: [FileRow; 3] = [
     (
         "load/s1",
         2506,
@@ -51,28 +54,30 @@ fn digest(bytes: &[u8]) -> u128 {
     u128::from_be_bytes(hasher.finalize())
 }
 
+/// Whether a file of a row is there, and has its bytes.
+fn is_drawn(store: &mut MemoryStore, row: &FileRow) -> bool {
+    let mut into = [0; 4096];
+    let size = row.1 as usize;
+    store.size(at(row.0)) == Ok(Some(row.1))
+        && store.read_at(at(row.0), 0, &mut into) == Ok(size)
+        && into[0] == row.2
+        && digest(&into[..size.min(4096)]) == row.3
+}
+
 #[test]
-fn the_files_are_those_of_the_number(rt: HostRuntime) -> Result<(), Fail> {
+fn the_files_are_those_of_the_number(rt: HostRuntime) {
     let alloc = rt.alloc();
     let mut store = store(alloc, Vec::new(alloc));
     let made = make_sources(&mut store, SOURCE, 7);
     assert!(rt; made.is_ok(), "the files are made");
-    let mut into = [0; 4096];
-    for (path, size, first, wanted) in FILES {
-        let is_there = store.size(at(path)) == Ok(Some(size));
-        let read = store.read_at(at(path), 0, &mut into);
-        assert!(rt;
-            is_there && read == Ok(size as usize),
-            "{path} and its size"
-        );
-        let is_drawn = into[0] == first && digest(&into[..size as usize]) == wanted;
-        assert!(rt; is_drawn, "{path} and its bytes");
+    for row in &FILES {
+        let is_so = is_drawn(&mut store, row);
+        assert!(rt; is_so, "{} and its bytes", row.0);
     }
     let before = store.size(at("load/s0"));
     assert!(rt; before == Ok(None), "no file before the first");
     let behind = store.size(at("load/s2001"));
     assert!(rt; behind == Ok(None), "no file behind the last");
-    Ok(())
 }
 
 /// Whether the first three files have so many bytes; None stands for no file.
@@ -83,73 +88,103 @@ fn are_sizes(store: &mut MemoryStore, sizes: [Option<u64>; 3]) -> bool {
         && store.size(at("load/s3")) == Ok(third)
 }
 
+/// A row: a sentence, which call fails, and how many bytes the first three files have then.
+type FailRow = (&'static str, u32, [Option<u64>; 3]);
+
+const FAILS: [FailRow; 4] = [
+    ("the first call", 1, [None, None, None]),
+    ("the second call", 2, [Some(0), None, None]),
+    ("the third call", 3, [Some(2506), None, None]),
+    ("the sixth call", 6, [Some(2506), Some(1056), Some(0)]),
+];
+
+/// Whether the making ends by a row's call, and leaves its files.
+fn ends_at(alloc: Global, row: &FailRow) -> Result<bool, AllocError> {
+    let mut store = store(alloc, [row.1].to_vec(alloc)?);
+    let has_failed = make_sources(&mut store, SOURCE, 7) == Err(StoreFailed);
+    Ok(has_failed && are_sizes(&mut store, row.2))
+}
+
 #[test]
 fn a_failed_call_ends_the_making(rt: HostRuntime) -> Result<(), Fail> {
-    let alloc = rt.alloc();
-    // Which call fails, and how many bytes the first three files have then.
-    for (case, call, sizes) in [
-        ("the first call", 1, [None, None, None]),
-        ("the second call", 2, [Some(0), None, None]),
-        ("the third call", 3, [Some(2506), None, None]),
-        ("the sixth call", 6, [Some(2506), Some(1056), Some(0)]),
-    ] {
-        let mut store = store(alloc, [call].to_vec(alloc)?);
-        let has_failed = make_sources(&mut store, SOURCE, 7) == Err(StoreFailed);
-        assert!(rt; has_failed && are_sizes(&mut store, sizes), "{case}");
+    for row in &FAILS {
+        let is_so = ends_at(rt.alloc(), row)?;
+        assert!(rt; is_so, "{}", row.0);
     }
     Ok(())
+}
+
+/// A row: a sentence, where a request begins and ends, and its MD5.
+type RequestRow = (&'static str, usize, usize, u128);
+
+const REQUESTS: [RequestRow; 3] = [
+    (
+        "the first request",
+        0,
+        8981,
+        0x08a8_c3aa_116b_c703_bba9_fa24_e1df_370d,
+    ),
+    (
+        "the last request",
+        176_329,
+        185_726,
+        0x25f7_2c8d_6803_baab_9e65_063d_5c70_c971,
+    ),
+    (
+        "all requests",
+        0,
+        185_726,
+        0xfe5a_04eb_8fbe_6ac3_957a_f31e_1870_7415,
+    ),
+];
+
+/// Whether the bytes of a row's request have its digest.
+fn has_digest(bytes: &[u8], row: &RequestRow) -> bool {
+    match bytes.get(row.1..row.2) {
+        Some(request) => digest(request) == row.3,
+        None => false,
+    }
 }
 
 #[test]
 fn the_requests_are_those_of_the_endpoints(rt: HostRuntime) -> Result<(), Fail> {
-    let alloc = rt.alloc();
-    let bytes = make_requests(alloc, SOURCE, DEST)?;
+    let bytes = make_requests(rt.alloc(), SOURCE, DEST)?;
     assert!(rt; bytes.len() == 185_726, "as many bytes as the program gave");
     let start =
         "POST /jobs HTTP/1.1\r\nContent-Length: 8936\r\n\r\n{\"files\":[{\"destinations\":[\"https://b.example/load/d1\"],";
     assert!(rt; bytes.starts_with(start.as_bytes()), "the start");
-    for (case, from, to, wanted) in [
-        (
-            "the first request",
-            0,
-            8981,
-            0x08a8_c3aa_116b_c703_bba9_fa24_e1df_370d,
-        ),
-        (
-            "the last request",
-            176_329,
-            185_726,
-            0x25f7_2c8d_6803_baab_9e65_063d_5c70_c971,
-        ),
-        (
-            "all requests",
-            0,
-            185_726,
-            0xfe5a_04eb_8fbe_6ac3_957a_f31e_1870_7415,
-        ),
-    ] {
-        let is_so = digest(&bytes[from..to]) == wanted;
-        assert!(rt; is_so, "{case}");
+    for row in &REQUESTS {
+        let is_so = has_digest(bytes.as_slice(), row);
+        assert!(rt; is_so, "{}", row.0);
     }
     Ok(())
 }
 
+/// A row: a sentence, and the bytes that are read into three and written.
+type PieceRow = (&'static str, &'static str);
+
+const PIECES: [PieceRow; 4] = [
+    ("as many as fit", "abc"),
+    ("the rest", "de"),
+    ("the end", ""),
+    ("the end again", ""),
+];
+
+/// Whether these bytes are the next ones of the input, and are taken.
+fn are_next(input: &mut LoadInput, sink: &mut DroppingSink, bytes: &str) -> bool {
+    let mut into = [0; 3];
+    input.read(&mut into) == Ok(bytes.len())
+        && into.starts_with(bytes.as_bytes())
+        && sink.write(bytes.as_bytes()) == Ok(bytes.len())
+}
+
 #[test]
 fn the_input_gives_its_bytes_once_and_the_sink_counts_them(rt: HostRuntime) -> Result<(), Fail> {
-    let alloc = rt.alloc();
-    let mut input = LoadInput::new(b"abcde".to_vec(alloc)?);
+    let mut input = LoadInput::new(b"abcde".to_vec(rt.alloc())?);
     let mut sink = DroppingSink::new();
-    let mut into = [0; 3];
-    for (case, count, bytes) in [
-        ("as many as fit", 3, "abc"),
-        ("the rest", 2, "de"),
-        ("the end", 0, ""),
-        ("the end again", 0, ""),
-    ] {
-        assert!(rt; input.read(&mut into) == Ok(count), "{case}: how many");
-        let are_so = &into[..count] == bytes.as_bytes();
-        let are_taken = sink.write(bytes.as_bytes()) == Ok(count);
-        assert!(rt; are_so && are_taken, "{case}");
+    for row in &PIECES {
+        let are_so = are_next(&mut input, &mut sink, row.1);
+        assert!(rt; are_so, "{}", row.0);
     }
     assert!(rt; sink.count() == 5, "all bytes are counted");
     Ok(())

@@ -54,6 +54,23 @@ fn note_request(request: Request, notes: &mut Vec<u8>) -> Result<(), Fail> {
     Ok(())
 }
 
+/// A source of these bytes, whose read of this number fails.
+fn source_of(rt: &HostRuntime, bytes: &[u8], fail: u64) -> Result<MemorySource, Fail> {
+    let bytes = Vec::from_slice(rt.alloc(), bytes)?;
+    Ok(MemorySource::new(bytes, vec![in rt.alloc(); fail; 1]?))
+}
+
+/// Notes what stands in a source.
+fn note_all(room: &mut Room, source: &mut MemorySource, notes: &mut Vec<u8>) -> Result<Said, Fail> {
+    let mut said = Said::More;
+    for _ in 0..9 {
+        if said == Said::More {
+            said = note_next(room, source, notes)?;
+        }
+    }
+    Ok(said)
+}
+
 /// Reads a part of the input, from a source that fails behind it unless it is the last one, and notes what stands in it.
 fn note_part(
     rt: &HostRuntime,
@@ -64,51 +81,58 @@ fn note_part(
 ) -> Result<Said, Fail> {
     let failing = if part.is_empty() { 1 } else { 2 };
     let fail = if is_last { 9 } else { failing };
-    let part = Vec::from_slice(rt.alloc(), part)?;
-    let mut source = MemorySource::new(part, vec![in rt.alloc(); fail; 1]?);
-    let mut said = Said::More;
-    for _ in 0..9 {
-        if said == Said::More {
-            said = note_next(room, &mut source, notes)?;
-        }
-    }
-    Ok(said)
+    let mut source = source_of(rt, part, fail)?;
+    note_all(room, &mut source, notes)
 }
 
 /// Reads the input in parts, each from a source of its own, and notes what stands in them.
-fn note_parts(rt: &HostRuntime, parts: &[&[u8]]) -> Result<Vec<u8>, Fail> {
-    let mut room = Room::new(rt.alloc())?;
-    let mut notes = Vec::new(rt.alloc());
+fn note_parts(
+    rt: &HostRuntime,
+    room: &mut Room,
+    parts: &[&[u8]],
+    notes: &mut Vec<u8>,
+) -> Result<(), Fail> {
     let mut said = Said::Failed;
     for part in parts {
         if said != Said::Ended {
-            said = note_part(rt, &mut room, part, false, &mut notes)?;
+            said = note_part(rt, room, part, false, notes)?;
         }
     }
     if said != Said::Ended {
-        note_part(rt, &mut room, &[], true, &mut notes)?;
+        note_part(rt, room, &[], true, notes)?;
     }
-    Ok(notes)
+    Ok(())
+}
+
+/// Whether the input gives these notes as it is read in these parts.
+fn are_parts_read_so(rt: &HostRuntime, parts: &[&[u8]], want: &str) -> Result<bool, Fail> {
+    let mut room = Room::new(rt.alloc())?;
+    let mut notes = Vec::new(rt.alloc());
+    note_parts(rt, &mut room, parts, &mut notes)?;
+    Ok(notes.as_slice() == want.as_bytes())
+}
+
+/// Whether the input gives these notes as it is read byte by byte.
+fn is_read_by_bytes(rt: &HostRuntime, input: &[u8], want: &str) -> Result<bool, Fail> {
+    let mut single = Vec::new(rt.alloc());
+    for byte in input.chunks(1) {
+        single.push(byte)?;
+    }
+    are_parts_read_so(rt, single.as_slice(), want)
 }
 
 /// Whether the input gives these notes as it is cut in two at each place, and as it is read byte by byte.
 /// Input of more than 1,000 bytes is not read byte by byte.
 fn is_read_so(rt: &HostRuntime, input: &[u8], want: &str) -> Result<bool, Fail> {
     for cut in 0..=input.len() {
-        let notes = note_parts(rt, &[&input[..cut], &input[cut..]])?;
-        if notes.as_slice() != want.as_bytes() {
+        if !are_parts_read_so(rt, &[&input[..cut], &input[cut..]], want)? {
             return Ok(false);
         }
     }
     if input.len() > 1000 {
         return Ok(true);
     }
-    let mut single = Vec::new(rt.alloc());
-    for byte in input.chunks(1) {
-        single.push(byte)?;
-    }
-    let notes = note_parts(rt, single.as_slice())?;
-    Ok(notes.as_slice() == want.as_bytes())
+    is_read_by_bytes(rt, input, want)
 }
 
 /// A row: a sentence, what is read, and the notes of it.
@@ -173,11 +197,16 @@ const REQUESTS: [InputRow; 15] = [
     ("zero bytes, and no end", "\0\n\0", "inside"),
 ];
 
+/// Whether a row's input is read as it says.
+fn is_row_read_so(rt: &HostRuntime, row: &InputRow) -> Result<bool, Fail> {
+    is_read_so(rt, row.1.as_bytes(), row.2)
+}
+
 #[test]
 fn requests_are_the_same_however_they_are_cut(rt: HostRuntime) -> Result<(), Fail> {
-    for (case, input, want) in REQUESTS {
-        let is_so = is_read_so(&rt, input.as_bytes(), want)?;
-        assert!(rt; is_so, "{case}");
+    for row in &REQUESTS {
+        let is_so = is_row_read_so(&rt, row)?;
+        assert!(rt; is_so, "{}", row.0);
     }
     Ok(())
 }
@@ -223,9 +252,9 @@ const REFUSED: [HeadRow; 17] = [
 
 #[test]
 fn heads_outside_the_grammar_are_refused(rt: HostRuntime) -> Result<(), Fail> {
-    for (case, input) in REFUSED {
-        let is_refused = is_read_so(&rt, input.as_bytes(), "bad head")?;
-        assert!(rt; is_refused, "{case}");
+    for row in &REFUSED {
+        let is_refused = is_read_so(&rt, row.1.as_bytes(), "bad head")?;
+        assert!(rt; is_refused, "{}", row.0);
     }
     let no_text = b"GET /\xff HTTP/1.1\r\n\r\n";
     let is_refused = is_read_so(&rt, no_text, "bad head")?;
@@ -309,12 +338,17 @@ const FIELDS: [InputRow; 16] = [
     ),
 ];
 
+/// Whether a request with a row's fields is read as it says.
+fn is_field_read_so(rt: &HostRuntime, row: &InputRow) -> Result<bool, Fail> {
+    let input = repeated(rt, "POST / HTTP/1.1\r\n", row.1, 1, "\r\n\r\nx")?;
+    is_read_so(rt, input.as_slice(), row.2)
+}
+
 #[test]
 fn fields_say_the_length_and_the_end(rt: HostRuntime) -> Result<(), Fail> {
-    for (case, fields, want) in FIELDS {
-        let input = repeated(&rt, "POST / HTTP/1.1\r\n", fields, 1, "\r\n\r\nx")?;
-        let is_so = is_read_so(&rt, input.as_slice(), want)?;
-        assert!(rt; is_so, "{case}");
+    for row in &FIELDS {
+        let is_so = is_field_read_so(&rt, row)?;
+        assert!(rt; is_so, "{}", row.0);
     }
     let old = b"GET / HTTP/1.0\r\nConnection: keep-alive\r\n\r\n";
     let ends = is_read_so(&rt, old, "GET / .end")?;
@@ -359,9 +393,9 @@ const CLIENTS: [InputRow; 5] = [
 
 #[test]
 fn heads_of_clients_are_read(rt: HostRuntime) -> Result<(), Fail> {
-    for (case, input, want) in CLIENTS {
-        let is_so = is_read_so(&rt, input.as_bytes(), want)?;
-        assert!(rt; is_so, "{case}");
+    for row in &CLIENTS {
+        let is_so = is_row_read_so(&rt, row)?;
+        assert!(rt; is_so, "{}", row.0);
     }
     Ok(())
 }
@@ -476,12 +510,17 @@ const SIZES: [SizeRow; 10] = [
     ),
 ];
 
+/// Whether the head of a row is read as it says.
+fn is_size_read_so(rt: &HostRuntime, row: &SizeRow) -> Result<bool, Fail> {
+    let input = repeated(rt, row.1, row.2, row.3, row.4)?;
+    is_read_so(rt, input.as_slice(), row.5)
+}
+
 #[test]
 fn heads_have_a_greatest_size(rt: HostRuntime) -> Result<(), Fail> {
-    for (case, front, text, count, back, want) in SIZES {
-        let input = repeated(&rt, front, text, count, back)?;
-        let is_so = is_read_so(&rt, input.as_slice(), want)?;
-        assert!(rt; is_so, "{case}");
+    for row in &SIZES {
+        let is_so = is_size_read_so(&rt, row)?;
+        assert!(rt; is_so, "{}", row.0);
     }
     Ok(())
 }
@@ -498,60 +537,44 @@ fn reply_of(rt: &HostRuntime, status: u16, allow: Allow, body: &[u8]) -> Result<
     })
 }
 
-/// The bytes of the response of this status to a body of `{}`.
-fn response(
+/// Whether the response of this status to a body of `{}` has these bytes.
+fn is_response(
     rt: &HostRuntime,
     status: u16,
     allow: Allow,
     head_only: bool,
     close: bool,
-) -> Result<Vec<u8>, Fail>
+    want: &str,
+) -> Result<bool, Fail>
     requires phrase { IsTrue (has_phrase status) }
     requires methods { IsTrue (has_methods status allow) }
 {
     let reply = reply_of(rt, status, allow, b"{}")?;
     let mut sink = MemorySink::new(rt.alloc(), Vec::new(rt.alloc()));
     let sent = write_response(&mut sink, head_only, close, &reply);
-    let bytes = if sent.is_ok() { sink.bytes() } else { &[] };
-    Ok(Vec::from_slice(rt.alloc(), bytes)?)
+    Ok(sent.is_ok() && sink.bytes() == want.as_bytes())
 }
 
 #[test]
 fn responses_have_the_bytes_of_the_standard(rt: HostRuntime) -> Result<(), Fail> {
-    for (case, got, want) in [
-        (
-            "a reply",
-            response(&rt, 200, Allow::None, false, false)?,
-            "HTTP/1.1 200 OK\r\nContent-Type: application/json\r\nContent-Length: 2\r\n\r\n{}",
-        ),
-        (
-            "a reply to HEAD",
-            response(&rt, 200, Allow::None, true, false)?,
-            "HTTP/1.1 200 OK\r\nContent-Type: application/json\r\nContent-Length: 0\r\n\r\n",
-        ),
-        (
-            "a refusal of an origin",
-            response(&rt, 403, Allow::None, false, true)?,
-            "HTTP/1.1 403 Forbidden\r\nContent-Type: application/json\r\nContent-Length: 2\r\nConnection: close\r\n\r\n{}",
-        ),
-        (
-            "the last reply",
-            response(&rt, 501, Allow::None, false, true)?,
-            "HTTP/1.1 501 Not Implemented\r\nContent-Type: application/json\r\nContent-Length: 2\r\nConnection: close\r\n\r\n{}",
-        ),
-        (
-            "a refusal of a method",
-            response(&rt, 405, Allow::Jobs, false, true)?,
-            "HTTP/1.1 405 Method Not Allowed\r\nContent-Type: application/json\r\nContent-Length: 2\r\nAllow: GET, POST, PUT\r\nConnection: close\r\n\r\n{}",
-        ),
-        (
-            "methods at another status",
-            response(&rt, 507, Allow::Job, false, false)?,
-            "HTTP/1.1 507 Insufficient Storage\r\nContent-Type: application/json\r\nContent-Length: 2\r\n\r\n{}",
-        ),
-    ] {
-        assert!(rt; got.as_slice() == want.as_bytes(), "{case}");
-    }
+    let want = "HTTP/1.1 200 OK\r\nContent-Type: application/json\r\nContent-Length: 2\r\n\r\n{}";
+    let is_so = is_response(&rt, 200, Allow::None, false, false, want)?;
+    assert!(rt; is_so, "a reply");
+    let want = "HTTP/1.1 200 OK\r\nContent-Type: application/json\r\nContent-Length: 0\r\n\r\n";
+    let is_so = is_response(&rt, 200, Allow::None, true, false, want)?;
+    assert!(rt; is_so, "a reply to HEAD");
+    let want =
+        "HTTP/1.1 501 Not Implemented\r\nContent-Type: application/json\r\nContent-Length: 2\r\nConnection: close\r\n\r\n{}";
+    let is_so = is_response(&rt, 501, Allow::None, false, true, want)?;
+    assert!(rt; is_so, "the last reply");
+    let want =
+        "HTTP/1.1 405 Method Not Allowed\r\nContent-Type: application/json\r\nContent-Length: 2\r\nAllow: GET, POST, PUT\r\nConnection: close\r\n\r\n{}";
+    let is_so = is_response(&rt, 405, Allow::Jobs, false, true, want)?;
+    assert!(rt; is_so, "a refusal of a method");
+    let want =
+        "HTTP/1.1 507 Insufficient Storage\r\nContent-Type: application/json\r\nContent-Length: 2\r\n\r\n{}";
+    let is_so = is_response(&rt, 507, Allow::Job, false, false, want)?;
+    assert!(rt; is_so, "methods at another status");
     Ok(())
 }
 
@@ -579,42 +602,69 @@ impl Sink for PieceLengths {
     }
 }
 
+/// A row: a sentence, how many bytes a body has, whether it is left out, and how long the pieces are.
+type PieceRow = (&'static str, usize, bool, &'static [usize]);
+
+// A head of 200 with a length of four digits has 73 bytes, and one digit more is one byte more.
+const PIECES: [PieceRow; 6] = [
+    ("no body", 0, false, &[70]),
+    ("a short one", 4023, false, &[4096]),
+    ("a byte more", 4024, false, &[4097]),
+    ("the greatest that is one piece", 65_462, false, &[65_536]),
+    ("more than one piece", 65_463, false, &[4096, 61_441]),
+    ("a large one without its body", 65_463, true, &[70]),
+];
+
+/// Whether a response goes out in the pieces of a row.
+fn is_sent_in(rt: &HostRuntime, row: &PieceRow) -> Result<bool, Fail> {
+    let body = vec![in rt.alloc(); b' '; row.1]?;
+    let reply = reply_of(rt, 200, Allow::None, body.as_slice())?;
+    let mut sink = PieceLengths {
+        lengths: Vec::new(rt.alloc()),
+    };
+    let is_sent = write_response(&mut sink, row.2, false, &reply).is_ok();
+    Ok(is_sent && sink.lengths.as_slice() == row.3)
+}
+
 #[test]
 fn a_response_goes_out_in_few_pieces(rt: HostRuntime) -> Result<(), Fail> {
-    // A head of 200 with a length of four digits has 73 bytes, and one digit more is one byte more.
-    for (case, body, head_only, want) in [
-        ("no body", 0, false, &[70][..]),
-        ("a short one", 4023, false, &[4096]),
-        ("a byte more", 4024, false, &[4097]),
-        ("the greatest that is one piece", 65_462, false, &[65_536]),
-        ("more than one piece", 65_463, false, &[4096, 61_441]),
-        ("a large one without its body", 65_463, true, &[70]),
-    ] {
-        let body = vec![in rt.alloc(); b' '; body]?;
-        let reply = reply_of(&rt, 200, Allow::None, body.as_slice())?;
-        let mut sink = PieceLengths {
-            lengths: Vec::new(rt.alloc()),
-        };
-        let is_sent = write_response(&mut sink, head_only, false, &reply).is_ok();
-        assert!(rt; is_sent && sink.lengths.as_slice() == want, "{case}");
+    for row in &PIECES {
+        let is_so = is_sent_in(&rt, row)?;
+        assert!(rt; is_so, "{}", row.0);
     }
     Ok(())
 }
 
+/// A row: a sentence, the write that fails, whether the response is whole, and how many of its bytes are written.
+type WriteRow = (&'static str, u64, bool, usize);
+
+const WRITES: [WriteRow; 3] = [
+    ("the first write", 1, false, 0),
+    ("the second write", 2, false, 4096),
+    ("no write", 3, true, 70_074),
+];
+
+/// A line whose write of this number fails.
+fn line_of(rt: &HostRuntime, fail: u64) -> Result<MemoryLine, Fail> {
+    let fails = vec![in rt.alloc(); fail; 1]?;
+    let source = MemorySource::new(Vec::new(rt.alloc()), Vec::new(rt.alloc()));
+    Ok(MemoryLine::new(source, MemorySink::new(rt.alloc(), fails)))
+}
+
+/// Whether a large response is written as a row says.
+fn is_written_so(rt: &HostRuntime, row: &WriteRow) -> Result<bool, Fail> {
+    let mut line = line_of(rt, row.1)?;
+    let body = vec![in rt.alloc(); b' '; 70_000]?;
+    let reply = reply_of(rt, 200, Allow::None, body.as_slice())?;
+    let is_sent = write_response(&mut line, false, false, &reply).is_ok();
+    Ok(is_sent == row.2 && line.bytes().len() == row.3)
+}
+
 #[test]
 fn each_write_of_a_line_fails_in_turn(rt: HostRuntime) -> Result<(), Fail> {
-    for (case, fail, is_whole, want) in [
-        ("the first write", 1, false, 0),
-        ("the second write", 2, false, 4096),
-        ("no write", 3, true, 70_074),
-    ] {
-        let source = MemorySource::new(Vec::new(rt.alloc()), Vec::new(rt.alloc()));
-        let sink = MemorySink::new(rt.alloc(), vec![in rt.alloc(); fail; 1]?);
-        let mut line = MemoryLine::new(source, sink);
-        let body = vec![in rt.alloc(); b' '; 70_000]?;
-        let reply = reply_of(&rt, 200, Allow::None, body.as_slice())?;
-        let is_sent = write_response(&mut line, false, false, &reply).is_ok();
-        assert!(rt; is_sent == is_whole && line.bytes().len() == want, "{case}");
+    for row in &WRITES {
+        let is_so = is_written_so(&rt, row)?;
+        assert!(rt; is_so, "{}", row.0);
     }
     Ok(())
 }
@@ -685,40 +735,60 @@ fn a_reader_and_a_writer_that_fail_are_heard(rt: HostRuntime) -> Result<(), Fail
     Ok(())
 }
 
+/// A row: a sentence, how many bytes a source has, the limit, the read that fails, and how many bytes are read.
+type EndRow = (&'static str, usize, usize, u64, Result<usize, ReadAllFault>);
+
+const ENDS: [EndRow; 8] = [
+    ("none", 0, 0, 9, Ok(0)),
+    ("fewer than the limit", 3, 4, 9, Ok(3)),
+    ("as many as the limit", 3, 3, 9, Ok(3)),
+    ("one more", 3, 2, 9, Err(ReadAllFault::TooLong)),
+    ("more than a piece", 70_000, 70_000, 9, Ok(70_000)),
+    (
+        "one more than a piece",
+        65_537,
+        65_536,
+        9,
+        Err(ReadAllFault::TooLong),
+    ),
+    (
+        "the first read fails",
+        3,
+        3,
+        1,
+        Err(ReadAllFault::SourceFailed),
+    ),
+    (
+        "the read of the end fails",
+        3,
+        3,
+        2,
+        Err(ReadAllFault::SourceFailed),
+    ),
+];
+
+/// How many bytes of a source are read.
+fn count_of(
+    rt: &HostRuntime,
+    source: &mut MemorySource,
+    limit: usize,
+) -> Result<usize, ReadAllFault> {
+    let bytes = read_all(rt.alloc(), source, limit)?;
+    Ok(bytes.len())
+}
+
+/// Whether a source is read to its end as a row says.
+fn is_end_read_so(rt: &HostRuntime, row: &EndRow) -> Result<bool, Fail> {
+    let bytes = vec![in rt.alloc(); b'a'; row.1]?;
+    let mut source = MemorySource::new(bytes, vec![in rt.alloc(); row.3; 1]?);
+    Ok(count_of(rt, &mut source, row.2) == row.4)
+}
+
 #[test]
 fn a_source_is_read_to_its_end(rt: HostRuntime) -> Result<(), Fail> {
-    for (case, count, limit, fail, want) in [
-        ("none", 0, 0, 9, Ok(0)),
-        ("fewer than the limit", 3, 4, 9, Ok(3)),
-        ("as many as the limit", 3, 3, 9, Ok(3)),
-        ("one more", 3, 2, 9, Err(ReadAllFault::TooLong)),
-        ("more than a piece", 70_000, 70_000, 9, Ok(70_000)),
-        (
-            "one more than a piece",
-            65_537,
-            65_536,
-            9,
-            Err(ReadAllFault::TooLong),
-        ),
-        (
-            "the first read fails",
-            3,
-            3,
-            1,
-            Err(ReadAllFault::SourceFailed),
-        ),
-        (
-            "the read of the end fails",
-            3,
-            3,
-            2,
-            Err(ReadAllFault::SourceFailed),
-        ),
-    ] {
-        let bytes = vec![in rt.alloc(); b'a'; count]?;
-        let mut source = MemorySource::new(bytes, vec![in rt.alloc(); fail; 1]?);
-        let got = read_all(rt.alloc(), &mut source, limit).map(|bytes| bytes.len());
-        assert!(rt; got == want, "{case}");
+    for row in &ENDS {
+        let is_so = is_end_read_so(&rt, row)?;
+        assert!(rt; is_so, "{}", row.0);
     }
     Ok(())
 }
