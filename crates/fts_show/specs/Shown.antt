@@ -7,6 +7,7 @@ use Rattle.fts_tables.specs.declared.rows.FileState.{FileState}
 use Rattle.fts_tables.specs.declared.rows.JobKind.{JobKind}
 use Rattle.fts_tables.specs.declared.rows.JobRow.{JobRow}
 use Rattle.fts_tables.specs.declared.rows.JobState.{JobState}
+use Rattle.fts_tables.specs.declared.places.Place.{Place}
 use Rattle.fts_routes.specs.Json.{id_text}
 use Rattle.fts_routes.specs.Objects.{job_state_text, file_state_text, kind_text, state_in, surl_text}
 
@@ -24,9 +25,13 @@ words_of_job id state kind priority = line_of (codes "job" ∷ id ∷ job_state_
 abbrev pub line_of_job : JobRow → JobState → List ℕ
 line_of_job job state = words_of_job (id_text job.id) state job.kind job.priority
 
--- the line of a file: its id, its index, its state, and where it comes from and goes to
+-- the line of a file by the words of its id, its index and its state, and where it comes from and goes to
+abbrev pub file_words : List ℕ → List ℕ → List ℕ → Place → Place → List ℕ
+file_words id index state source dest = line_of (codes "file" ∷ id ∷ index ∷ state ∷ surl_text source ∷ surl_text dest ∷ [])
+
+-- the line of a file
 abbrev pub file_line : FileRow → List ℕ
-file_line row = line_of (codes "file" ∷ decimal row.id ∷ decimal row.index ∷ file_state_text row.state ∷ surl_text row.source ∷ surl_text row.dest ∷ [])
+file_line row = file_words (decimal row.id) (decimal row.index) (file_state_text row.state) row.source row.dest
 
 -- the lines of a job, whose state is that by its rows, and of its files
 abbrev pub lines_of : Tables → JobRow → List ℕ

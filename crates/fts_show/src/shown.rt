@@ -6,12 +6,12 @@ ghost use Rattle.std.specs.List.{concat, flat_map};
 ghost use Rattle.fts_tables.specs.Counts.{CountsFaults};
 ghost use Rattle.fts_tables.specs.Tables.{job_at};
 ghost use Rattle.fts_wire.specs.Response.{Sends};
-ghost use Rattle.fts_show.specs.Shown.{shown_text, lines_of, line_of_job, file_line};
+ghost use Rattle.fts_show.specs.Shown.{shown_text, lines_of, line_of_job, file_line, file_words};
 
 use arrayvec::ArrayVec;
 use fts_desk::Desk;
 use fts_routes::{file_state_text, job_state_text, kind_text};
-use fts_tables::{FileRow, JobRow, JobState};
+use fts_tables::{FileRow, JobRow, JobState, Place};
 use fts_wire::{Sink, SinkFailed, send_all, send_parts};
 use itoa::Buffer;
 use uuid::Uuid;
@@ -101,6 +101,22 @@ fn send_file_line<K: Sink>(output: &mut K, row: &FileRow) -> Result<(), SinkFail
     let (mut first, mut second) = (Buffer::new(), Buffer::new());
     let id = first.format(row.id);
     let index = second.format(row.index);
+    let state = file_state_text(row.state);
+    send_file_words(output, id, index, state, &row.source, &row.dest)
+}
+
+/// Sends the line of a file, by the words of its id, its index and its state.
+fn send_file_words<K: Sink>(
+    output: &mut K,
+    id: &str,
+    index: &str,
+    state: &str,
+    source: &Place,
+    dest: &Place,
+) -> Result<(), SinkFailed>
+    ensures sent { Sends (K.held output.old) (K.held output.new) (file_words id.now index.now state.now source.now dest.now) result }
+    ensures cause { CountsFaults (K.faults output.old) (K.faults output.new) result }
+{
     send_line(
         output,
         &[
@@ -109,15 +125,15 @@ fn send_file_line<K: Sink>(output: &mut K, row: &FileRow) -> Result<(), SinkFail
             " ".as_bytes(),
             index.as_bytes(),
             " ".as_bytes(),
-            file_state_text(row.state).as_bytes(),
+            state.as_bytes(),
             " ".as_bytes(),
-            row.source.endpoint.as_str().as_bytes(),
+            source.endpoint.as_str().as_bytes(),
             "/".as_bytes(),
-            row.source.path.as_str().as_bytes(),
+            source.path.as_str().as_bytes(),
             " ".as_bytes(),
-            row.dest.endpoint.as_str().as_bytes(),
+            dest.endpoint.as_str().as_bytes(),
             "/".as_bytes(),
-            row.dest.path.as_str().as_bytes(),
+            dest.path.as_str().as_bytes(),
             "\n".as_bytes(),
         ],
     )
