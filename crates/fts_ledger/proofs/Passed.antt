@@ -1,5 +1,5 @@
 -- Turns of a pass, as the shop says them, make of its reports and its bench what entries behind entries do.
-use Rattle.std.proofs.Common.{◌≡◌, ◌≢◌, refl, sym, ap, ◌∙◌, subst, ℕ, zero, suc, true, List, [], ◌∷◌, ◌++◌, Option, Result, Ok, Err, append-nil, append_assoc}
+use Rattle.std.proofs.Common.{◌≡◌, Bool, ◌≢◌, refl, sym, ap, ◌∙◌, subst, ℕ, zero, suc, true, List, [], ◌∷◌, ◌++◌, Option, Result, Ok, Err, append-nil, append_assoc}
 use Rattle.std.proofs.lemmas.List.{append_cancel_left}
 use Rattle.fts_tables.specs.Coming.{Coming}
 use Rattle.fts_tables.specs.History.{IsLegal, tables_of}

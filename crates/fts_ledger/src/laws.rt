@@ -1,7 +1,7 @@
 //! The laws over a worker's turns, of any list that its pass has then seen: it is told, and legal.
 //! A law is a function without parameters that does nothing: its clauses speak of every station. Who runs workers calls it.
 //! Each clause begins with a bench that fits its pass (`FitsPass`), as an empty one does before its pass has added anything (`begins`).
-ghost use Rattle.std.specs.Prelude.{◌≡◌, ◌≢◌, ◌⊎◌, ℕ, ◌==◌, List, [], ◌∷◌, ◌++◌, Some};
+ghost use Rattle.std.specs.Prelude.{◌≡◌, ◌≢◌, ◌⊎◌, ℕ, ◌==◌, List, [], ◌∷◌, ◌++◌, Some, Bool};
 ghost use Rattle.fts_tables.specs.SettingsData.{SettingsData};
 ghost use Rattle.fts_tables.specs.History.{IsLegal, out_of_list, tables_of};
 ghost use Rattle.fts_tables.specs.declared.commands.Entry.{Entry};

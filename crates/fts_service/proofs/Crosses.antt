@@ -14,5 +14,5 @@ pub booth-send : (D A C L : RattleType) (ghosts : disk.Ghosts D.Denot) → IsSen
     → IsSend (Booth.the_row D A C L ghosts)
 booth-send D A C L ghosts disk-send doors-send clock-send line-send = search (crosses, shop-send, pass.the_send, sendable) depth 60 fits 20000
 
-pub hall-sync : (lifetime : NamedLft) (D : RattleType) (ghosts : disk.Ghosts D.Denot) → IsSend D → IsSync (Hall.the_row lifetime D ghosts)
-hall-sync lifetime D ghosts disk-send = search (crosses, shop-send, turnstile.the_sync, sendable) depth 60 fits 20000
+pub hall-sync : (lifetime : NamedLft) (D G : RattleType) (ghosts : disk.Ghosts D.Denot) → IsSend D → IsSync G → IsSync (Hall.the_row lifetime D G ghosts)
+hall-sync lifetime D G ghosts disk-send gate-sync = search (crosses, shop-send, turnstile.the_sync, sendable) depth 60 fits 20000
