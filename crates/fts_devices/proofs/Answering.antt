@@ -6,15 +6,15 @@ use Rattle.fts_devices.specs.Steps.{untaken_by}
 use Rattle.fts_devices.specs.Accepting.{Answers, FollowsRefusal, GivesFirstOf, GivesLine}
 
 module _ {L : Type 0} where
-  line_or : L → Result L ℕ → L
+  abbrev line_or : L → Result L ℕ → L
   line_or other (Ok line) = line
   line_or other (Err errno) = other
 
-  errno_or : ℕ → Result L ℕ → ℕ
+  abbrev errno_or : ℕ → Result L ℕ → ℕ
   errno_or other (Ok line) = other
   errno_or other (Err errno) = errno
 
-  IsLine : Result L ℕ → Type 0
+  abbrev IsLine : Result L ℕ → Type 0
   IsLine (Ok line) = ℕ
   IsLine (Err errno) = ⊥
 

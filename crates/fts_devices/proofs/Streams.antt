@@ -1,5 +1,7 @@
--- Words of one place more.
-use Rattle.std.proofs.Common.{◌≡◌, ap, ◌∙◌, ℕ, ◌+◌, List, [], ◌∷◌, ◌++◌, map, length, arith}
+-- Words of one place more, and what a push that was not refused leaves.
+use Rattle.std.proofs.Common.{◌≡◌, ap, ◌∙◌, ℕ, ◌+◌, Bool, true, false, List, [], ◌∷◌, ◌++◌, map, length, Result, Ok, Err, arith}
+use Rattle.std.specs.Prelude.{if◌then◌else◌}
+use Rattle.std.specs.Result.{is_ok, is_err}
 use Rattle.rand_pcg.specs.Lcg.{increment_of, started}
 use Rattle.rand_pcg.specs.Pcg.{multiplier_64}
 use Rattle.fts_devices.specs.declared.outside.PcgWords.{PcgWords}
@@ -11,3 +13,9 @@ pub on_streams_more : {X : Type 0} (words : X → PcgWords) (moment place : ℕ)
 on_streams_more words moment place [] x on is = (is ∙ ap (λ n. started 64 multiplier_64 moment (increment_of 64 n)) (omega arith), tt)
 on_streams_more words moment place (first ∷ others) x on is =
     (on.0, on_streams_more words moment (place + 1) others x on.1 (is ∙ ap (λ n. started 64 multiplier_64 moment (increment_of 64 n)) (omega arith)))
+
+-- a push that was not refused put its value behind the others
+pub behind_push : {A B X : Type 0} (pushed : Result A B) (new old : List X) (x : X) → false ≡ is_err pushed
+    → new ≡ (if is_ok pushed then old ++ x ∷ [] else old) → new ≡ old ++ x ∷ []
+behind_push (Ok done) new old x taken is = is
+behind_push (Err failed) new old x taken is = absurd (let e = taken in cc)

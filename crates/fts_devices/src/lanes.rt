@@ -34,14 +34,22 @@ pub fn closed_doors<'a, R: Net<Listener = TcpListener, Stream = TcpStream> + Sys
 {
     let mut doors = Vec::new(alloc);
     for _ in 0..LANES {
-        if doors
-            .push(TcpDoors::new(rt, alloc, LineLimits::of_service(), stop))
-            .is_err()
-        {
+        if doors.push(service_doors(rt, alloc, stop)).is_err() {
             return Err(Memory);
         }
     }
     Ok(doors)
+}
+
+/// Doors that don't listen yet, whose lines have a service's limits.
+fn service_doors<'a, R: Net<Listener = TcpListener, Stream = TcpStream> + SystemTimes + Copy>(
+    rt: R,
+    alloc: Global,
+    stop: StopFile<'a>,
+) -> TcpDoors<'a, R>
+    ensures { IsClosed result }
+{
+    TcpDoors::new(rt, alloc, LineLimits::of_service(), stop)
 }
 
 /// The lanes at these doors, in their order, each with the system's clock. An error where memory is wanting.

@@ -105,7 +105,7 @@ impl<'a, R: SystemTimes + Copy> Listens for Listening<'_, 'a, R> {
 impl<'a, R: Net<Listener = TcpListener, Stream = TcpStream> + SystemTimes + Copy> TcpDoors<'a, R> {
     /// Doors that don't listen yet, whose lines have these limits. They give no line any more once this stop file stands.
     pub fn new(rt: R, alloc: Global, limits: LineLimits, stop: StopFile<'a>) -> TcpDoors<'a, R>
-        ensures { result ≡ record { rt = rt; alloc = alloc; limits = limits; listener = None; relief = None; stop = stop; out = 0; faults = 0 } }
+        ensures { result ≡ record { rt = rt; alloc = alloc; limits = limits; listener = None; relief = None; stop = stop.exit; out = 0; faults = 0 } }
     {
         TcpDoors {
             rt,

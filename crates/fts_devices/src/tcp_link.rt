@@ -93,7 +93,7 @@ pub struct TcpLink<R: Net<Stream = TcpStream> + SystemTimes + Copy> {
 impl<R: Net<Stream = TcpStream> + SystemTimes + Copy> TcpLink<R> {
     /// A link for the tries of one request, which was not dialed yet.
     pub fn new(rt: R, limits: LinkLimits) -> TcpLink<R>
-        ensures { result ≡ record { rt = rt; limits = limits; rest = 0; is_for_many = false; port = None; dials = 0; out = 0; faults = 0 } }
+        ensures { result ≡ record { rt = rt; limits = limits; rest = 0; is_for_many = false; port = None; is_given = false; dials = 0; out = 0; faults = 0 } }
     {
         TcpLink {
             rt,

@@ -9,14 +9,14 @@ use Rattle.fts_devices.proofs.accepting.next_line.Goals as goal
 pub returns-in-Ok : goal.returns-in-Ok
 returns-in-Ok g c = record {
   line = c.loop.invariant.line (g.L.Listens.answers c.take.new.self) (Some c.in-Ok.line)
-      (subst (λ (n : ℕ). GivesLine n (g.L.Listens.answers c.loop.listener) (g.L.Listens.answers c.take.new.self) (Some c.in-Ok.line)) (omega (arith, c.loop-test.true))
+      (subst (λ (n : ℕ). GivesLine n (g.L.Listens.answers c.loop.listener) (g.L.Listens.answers c.take.new.self) (Some c.in-Ok.line)) {x = suc (18446744073709551615 - (c.loop.counter + 1))} (omega (arith, c.loop-test.true))
           (by_line (18446744073709551615 - (c.loop.counter + 1)) (g.L.Listens.answers c.loop.listener) (g.L.Listens.answers c.take.new.self) c.in-Ok.line c.in-Ok.ensures.answer));
 }
 
 pub returns-in-NoListener : goal.returns-in-NoListener
 returns-in-NoListener g c = record {
   line = c.loop.invariant.line (g.L.Listens.answers c.take.new.self) None
-      (subst (λ (n : ℕ). GivesLine n (g.L.Listens.answers c.loop.listener) (g.L.Listens.answers c.take.new.self) None) (omega (arith, c.loop-test.true))
+      (subst (λ (n : ℕ). GivesLine n (g.L.Listens.answers c.loop.listener) (g.L.Listens.answers c.take.new.self) None) {x = suc (18446744073709551615 - (c.loop.counter + 1))} (omega (arith, c.loop-test.true))
           (by_end (18446744073709551615 - (c.loop.counter + 1)) (g.L.Listens.answers c.loop.listener) (g.L.Listens.answers c.take.new.self) c.in-Err.errno
               c.in-NoListener.ensures c.in-Err.ensures.answer));
 }
@@ -24,7 +24,7 @@ returns-in-NoListener g c = record {
 pub loop-preserved : goal.loop-preserved
 loop-preserved g c = record {
   line = λ left line then. c.loop.invariant.line left line
-      (subst (λ (n : ℕ). GivesLine n (g.L.Listens.answers c.loop.listener) left line) (omega (arith, c.loop-test.true)) (elim c.match-untaken_by.branch [
+      (subst (λ (n : ℕ). GivesLine n (g.L.Listens.answers c.loop.listener) left line) {x = suc (18446744073709551615 - (c.loop.counter + 1))} (omega (arith, c.loop-test.true)) (elim c.match-untaken_by.branch [
         in-Gone w ↦ by_refusal (18446744073709551615 - (c.loop.counter + 1)) (g.L.Listens.answers c.loop.listener) (g.L.Listens.answers c.take.new.self) left line
             c.in-Err.errno Gone (λ end next p. p) w.in-Gone.ensures c.in-Err.ensures.answer
             (subst (λ (l : g.row.L.Denot). GivesLine (18446744073709551615 - (c.loop.counter + 1)) (g.L.Listens.answers l) left line) w.listener-is then)
