@@ -1,7 +1,7 @@
 -- Doors more, as a service's are made.
 use Rattle.std.proofs.Common.{◌≡◌, sym, ap, ◌∙◌, subst, ℕ, ◌+◌, List, [], ◌∷◌, ◌++◌, length, All}
 use Rattle.std.proofs.lemmas.List.{length-append}
-use Rattle.std.proofs.lemmas.List.Elements.{All-append}
+use Rattle.std.proofs.lemmas.List.Elements.{All-push}
 use Rattle.fts_devices.specs.Lanes.{IsClosed}
 use Rattle.fts_devices.proofs.Streams.{behind_push}
 use Rattle.fts_devices.proofs.lanes.closed_doors.Goals as goal
@@ -11,5 +11,5 @@ loop-preserved g c =
     let items = behind_push c.push.result c.push.new.self.items c.loop.doors.items c.service_doors.result (c.if-is_err.ensures).value c.push.ensures.items in
     record {
       count = ap length items ∙ length-append c.loop.doors.items (c.service_doors.result ∷ []) ∙ ap (λ (n : ℕ). n + 1) c.loop.invariant.count;
-      closed = subst (All IsClosed) (sym items) (All-append IsClosed c.loop.doors.items (c.service_doors.result ∷ []) c.loop.invariant.closed (c.service_doors.ensures, tt));
+      closed = subst (All IsClosed) (sym items) (All-push IsClosed c.loop.doors.items c.service_doors.result c.loop.invariant.closed c.service_doors.ensures);
     }
