@@ -1,5 +1,5 @@
 -- What follows from the answers that are left follows from all of them.
-use Rattle.std.proofs.Common.{◌≡◌, ◌-◌, List, Option, Result, ℕ}
+use Rattle.std.proofs.Common.{◌-◌}
 use Rattle.fts_devices.specs.Accepting.{GivesLine}
 use Rattle.fts_devices.proofs.accepting.next_line.Given as goal
 

@@ -1,5 +1,5 @@
 -- Doors as `new` makes them, with a service's limits.
-use Rattle.std.proofs.Common.{◌≡◌, sym, ap, subst}
+use Rattle.std.proofs.Common.{sym, ap, subst}
 use Rattle.fts_devices.specs.Limits.{IsOfService}
 use Rattle.fts_devices.proofs.lanes.service_doors.Goals as goal
 
