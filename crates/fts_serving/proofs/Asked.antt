@@ -1,12 +1,10 @@
 -- What a request adds is a client's command.
-use Rattle.std.proofs.Common.{◌≡◌, refl, sym, ap, subst, ℕ, Bool, true, false, cond, List, [], ◌∷◌, ◌++◌, Option, Some, None, Result, Ok, Err}
-use Rattle.std.specs.Prelude.{◌||◌, bytes_eq, codes}
+use Rattle.std.proofs.Common.{ℕ, Bool, true, false, cond, List, [], ◌∷◌, Option, Some, None, Result, Ok, Err}
+use Rattle.std.specs.Prelude.{◌||◌, codes}
 use Rattle.std.specs.Option.{option_map_or}
 use Rattle.serde_json.specs.Data.{Data}
-use Rattle.fts_tables.specs.Tables.{Tables, job_at, rows_of_job}
-use Rattle.fts_tables.specs.JobData.{JobData}
+use Rattle.fts_tables.specs.Tables.{Tables}
 use Rattle.fts_tables.specs.declared.commands.Entry.{Entry}
-use Rattle.fts_tables.specs.declared.commands.Command.{Command}
 use Rattle.fts_tables.specs.declared.rows.JobRow.{JobRow}
 use Rattle.fts_tables.specs.declared.rows.FileRow.{FileRow}
 use Rattle.fts_jobdoc.specs.Documents.{job_of, priority_of}
@@ -17,7 +15,6 @@ use Rattle.fts_jobdoc.specs.declared.ban.BanFault.{BanFault}
 use Rattle.fts_wire.specs.RequestData.{RequestData}
 use Rattle.fts_keep.specs.Applied.{Applies, applied_to, entry_by}
 use Rattle.fts_keep.specs.Keeps.{bodies_of, used_of}
-use Rattle.fts_keep.specs.declared.fault.KeepFault.{KeepFault}
 use Rattle.fts_keep.specs.declared.fault.KeepFault.TheVariants.{Rule, DiskFailed, JournalFull, Damaged, Memory}
 use Rattle.fts_tables.specs.History.{tables_of}
 use Rattle.fts_routes.specs.Objects.{endpoint_object, link_object, settings_in, weight_object}
@@ -25,7 +22,7 @@ use Rattle.fts_routes.specs.Refusals.{no_route}
 use Rattle.fts_routes.specs.Routes.{Route, Jobs, Job, Files, File, Links, Endpoints, Shares, Bans, JournalEntry, route_of, job_named, file_named}
 use Rattle.fts_routes.specs.Queries.{QueryFault, asked_in, storage_asked}
 use Rattle.fts_routes.specs.Replies.{Plan, Replies, Looks, Tries, Way, AsDefined, WithoutMemory, WithoutDisk, if_job, if_file, if_read, if_ban, if_storage, banning, unbanning, plan_on_bans, jobs_plan, submission, has_method, plan_on_jobs, look_at_job, cancellation, prioritization, plan_on_job, look_at_files, plan_on_files, file_cancellation, plan_on_file, look_at_settings, plan_on, plan_of, said_by, said_to, said_over, said_so}
-use Rattle.fts_ledger.specs.Reports.{AddsAsked, IsAsked}
+use Rattle.fts_ledger.specs.Reports.{IsAsked}
 
 -- a plan that tries a client's command, or none
 abbrev PlansAsked : Plan → Type 0

@@ -1,5 +1,5 @@
 -- What a worker's last turn met, where it ended by the disk or by the journal's limit.
-use Rattle.std.proofs.Common.{◌≡◌, ◌≢◌, ◌⊎◌, refl, sym, ap, ◌∙◌, subst, inl, inr, ⊎_elim, ℕ, zero, suc, Bool, true, false, List, [], ◌∷◌, ◌++◌, append-nil, Option, Some, None, Result, Ok, Err}
+use Rattle.std.proofs.Common.{◌≡◌, refl, sym, ap, ◌∙◌, subst, inl, inr, ℕ, zero, suc, Bool, true, false, List, [], ◌∷◌, ◌++◌, append-nil, Option, Some, None, Result, Ok, Err}
 use Rattle.std.specs.Prelude.{IsOk, if◌then◌else◌}
 use Rattle.fts_tables.specs.Coming.{Coming}
 use Rattle.fts_tables.specs.Counts.{Rose}
@@ -235,10 +235,10 @@ last_fault (turn_ends.Memory lanes) end fault is by =
     none_some fault is = absurd cc
 
 -- the same, however the worker ended behind it
-pub fault_behind : {closes : Bool} {last : Turn} {held : List Held} {ended : Option WorkerEnd} (end : WorkerEnd) (fault : KeepFault)
+pub fault_behind : {closes : Bool} {held : List Held} {ended : Option WorkerEnd} (last : Turn) (end : WorkerEnd) (fault : KeepFault)
     → EndsBehind closes last held ended → ended ≡ Some end → worker_fault end ≡ Some fault → fault_of last ≡ Some fault
-fault_behind {last = last} end fault (inl by_turn) is by = last_fault last end fault (sym by_turn ∙ is) by
-fault_behind {last = last} end fault (inr stopped) is by =
+fault_behind last end fault (inl by_turn) is by = last_fault last end fault (sym by_turn ∙ is) by
+fault_behind last end fault (inr stopped) is by =
     last_fault last end fault (would_be (worker_end_of last) (sym stopped.2 ∙ is)) by
   where
     not_stopped : worker_ends.Stopped ≡ end → ⊥

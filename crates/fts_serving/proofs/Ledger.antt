@@ -1,6 +1,6 @@
 -- Of lanes and workers that ran over a told list: what each pass added, by its number, and what follows for all of them.
-use Rattle.std.proofs.Common.{◌≡◌, ◌≢◌, refl, sym, ap, ◌∙◌, subst, inl, inr, ⊎_elim, ℕ, zero, suc, ◌+◌, ◌<◌, ◌≤◌, true, false, List, [], ◌∷◌, ◌++◌, length, map, drop, Option, Some, None, Err, append-nil, append_assoc, arith}
-use Rattle.std.specs.Prelude.{◌⊎◌, max, IsSome}
+use Rattle.std.proofs.Common.{◌≡◌, ◌≢◌, refl, sym, ap, ◌∙◌, subst, inl, inr, ⊎_elim, ℕ, zero, suc, ◌+◌, ◌<◌, ◌≤◌, Bool, true, false, List, [], ◌∷◌, ◌++◌, length, map, drop, Option, Some, Err, append-nil, append_assoc, arith}
+use Rattle.std.specs.Prelude.{◌⊎◌, max}
 use Rattle.fts_tables.specs.SettingsData.{SettingsData, IsSettings}
 use Rattle.fts_tables.specs.Tables.{Tables, empty_tables}
 use Rattle.fts_tables.specs.Limits.{eligible_rows}
@@ -57,7 +57,7 @@ use Rattle.fts_serving.specs.Finishes.{NoneRises, RecordPasses}
 use Rattle.fts_serving.proofs.Finishing.{doors_rose, ended_by, failed_doors, none_rises_at, rose_before, some_end}
 use Rattle.fts_serving.proofs.Faults.{Failed, full_by, fault_behind, turn_fails, worker_fault}
 use Rattle.fts_serving.proofs.Stations.{FindsNone, between_same, drained_finds_none, stopped_holds}
-use Rattle.fts_serving.proofs.Whole.{Laws, OfWorker, keeps, may, of_lane, of_worker, seen}
+use Rattle.fts_serving.proofs.Whole.{Laws, OfWorker, keeps, may, of_lane, of_worker}
 use Rattle.fts_store.specs.declared.store.Store as store
 use Rattle.fts_service.specs.Worlds.{World}
 
@@ -313,7 +313,7 @@ module _ {D A E C W L : Type 0} (world : World D A E C W L)
       let done = seat.holds.0 in
       let between = between_same world.stores (station_data world.clocks world.words old) (station_data world.clocks world.words new) is.1.1.1 done in
       let fails = turn_fails world.stores done.between.pass new.pass done.between.hand (hand_data world.clocks world.words new.hand) done.between.held done.last
-      new.bench.held fault (λ none. told (sym is.1.0 ∙ sym between.1 ∙ none)) done.ends (fault_behind ended fault done.end_is end_is by) in
+      new.bench.held fault (λ none. told (sym is.1.0 ∙ sym between.1 ∙ none)) done.ends (fault_behind done.last ended fault done.end_is end_is by) in
       let shows : new.pass.opening_shows ≡ first.opening_shows = done.same.2 ∙ is.1.1.0 in
       let opens : new.pass.opening ≡ first.opening = done.same.1 ∙ is.1.0 in
       record {

@@ -1,5 +1,5 @@
 -- The lines of the lanes of a run, by the booths at which they ran.
-use Rattle.std.proofs.Common.{◌≡◌, ◌≢◌, ◌⊎◌, ap, ◌∙◌, ⊎_elim, ℕ, List, map, Option}
+use Rattle.std.proofs.Common.{◌≢◌, ◌⊎◌, ap, ◌∙◌, ⊎_elim, ℕ, List, map, Option}
 use Rattle.fts_passes.specs.Crews.{passes_given}
 use Rattle.fts_keep.specs.Keeps.{KeepData}
 use Rattle.fts_workers.specs.declared.hand.Hand.{Hand}

@@ -1,13 +1,13 @@
 -- One turn more of a pass: what it adds, and how it leaves the lanes, behind turns of others.
-use Rattle.std.proofs.Common.{◌≡◌, ◌⊎◌, ◌≢◌, refl, sym, ap, ◌∙◌, subst, inl, inr, ℕ, ◌-◌, List, [], ◌∷◌, ◌++◌, append-nil, append_assoc}
+use Rattle.std.proofs.Common.{◌≡◌, ◌⊎◌, ◌≢◌, refl, sym, ap, ◌∙◌, subst, inl, inr, ℕ, List, [], ◌∷◌, ◌++◌}
 use Rattle.fts_tables.specs.declared.commands.Entry.{Entry}
 use Rattle.fts_turnstile.specs.declared.turn.LoggedTurn.{LoggedTurn}
 use Rattle.fts_turnstile.specs.History.{AllName, AllNamed, NoneBy, items_of, shown_after}
-use Rattle.fts_turnstile.specs.Passes.{PassView, IsSame, numbers_of}
+use Rattle.fts_turnstile.specs.Passes.{PassView}
 use Rattle.fts_shop.specs.Looking.{LeaveLanes, NoneOf}
 use Rattle.fts_shop.specs.Looked.{items_on}
-use Rattle.fts_shop.specs.Shops.{KeepsLanes, LaneEnds, TakesTurn, lanes_in, lanes_shown, shown_before, writer_of}
-use Rattle.fts_ledger.specs.Reports.{AddsAsked, IsAsked}
+use Rattle.fts_shop.specs.Shops.{KeepsLanes, TakesTurn, writer_of}
+use Rattle.fts_ledger.specs.Reports.{AddsAsked}
 use Rattle.fts_serving.proofs.Asked.{AllAsked}
 
 -- what is shown behind turns behind turns

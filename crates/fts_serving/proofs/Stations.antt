@@ -1,5 +1,5 @@
 -- How a worker's turns leave the lanes, and what its last turn found, where it ended drained.
-use Rattle.std.proofs.Common.{◌≡◌, ◌≢◌, refl, sym, ap, ◌∙◌, subst, inl, inr, ℕ, zero, suc, Bool, true, false, List, [], ◌∷◌, ◌++◌, append-nil, append_assoc, Option, Some, None, Result, Ok, Err}
+use Rattle.std.proofs.Common.{◌≡◌, refl, sym, ap, ◌∙◌, subst, inl, inr, ℕ, zero, suc, Bool, true, false, List, [], ◌∷◌, ◌++◌, append-nil, append_assoc, Option, Some, None, Result, Ok, Err}
 use Rattle.fts_tables.specs.Coming.{Coming}
 use Rattle.fts_tables.specs.Step.{step}
 use Rattle.fts_tables.specs.History.{tables_of}
@@ -190,10 +190,10 @@ drained_behind : {closes : Bool} {last : Turn} {held : List Held} {end : Option 
 drained_behind {last = last} (inl by_turn) is = drained_end last (sym by_turn ∙ is)
 drained_behind {last = last} (inr stopped) is = absurd (never_drained (worker_end_of last) (sym stopped.2 ∙ is))
 
-stopped_behind : {closes : Bool} {last : Turn} {held : List Held} {end : Option WorkerEnd} → EndsBehind closes last held end → end ≡ Some worker_ends.Stopped
+stopped_behind : {closes : Bool} {held : List Held} {end : Option WorkerEnd} (last : Turn) → EndsBehind closes last held end → end ≡ Some worker_ends.Stopped
     → (held ≡ []) × (closes ≡ true)
-stopped_behind {last = last} (inl by_turn) is = absurd (never_stopped last (sym by_turn ∙ is))
-stopped_behind (inr stopped) is = (stopped.1, stopped.0)
+stopped_behind last (inl by_turn) is = absurd (never_stopped last (sym by_turn ∙ is))
+stopped_behind last (inr stopped) is = (stopped.1, stopped.0)
 
 -- no report ends a turn so
 state_ends : (file : ℕ) (left : FileState) → end_by_state file left ≡ turn_ends.Stopping → ⊥
@@ -310,4 +310,4 @@ module _ {E : Type 0} (stores : store.Ghosts E) where
   -- a worker that was stopped holds nothing
   pub stopped_holds : {closes : Bool} (old new : StationData E) (done : WorkerDone stores closes old new) → new.end ≡ Some worker_ends.Stopped
       → (new.held ≡ []) × (closes ≡ true)
-  stopped_holds old new done is = stopped_behind done.end_is is
+  stopped_holds old new done is = stopped_behind done.last done.end_is is

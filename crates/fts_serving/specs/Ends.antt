@@ -1,6 +1,6 @@
 -- What lanes and workers leave together over a list that is told: who adds what, that nobody takes a file from a worker, what each station's store
 -- follows from, that no file is out where no worker ended by a fault, and that nothing is left to do where all ended drained.
-use Rattle.std.specs.Prelude.{◌≡◌, ◌≢◌, ◌⊎◌, ℕ, ◌≤◌, ◌<◌, Bool, List, [], ◌∷◌, ◌++◌, length, drop, All, Option, Some}
+use Rattle.std.specs.Prelude.{◌≡◌, ◌≢◌, ◌⊎◌, ℕ, ◌≤◌, ◌<◌, Bool, List, [], ◌++◌, length, drop, All, Option, Some}
 use Rattle.std.proofs.Common.{inl, inr}
 use Rattle.fts_tables.specs.SettingsData.{SettingsData, IsSettings}
 use Rattle.fts_tables.specs.Limits.{eligible_rows}

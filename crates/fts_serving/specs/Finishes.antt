@@ -2,7 +2,7 @@
 -- ends with status 0, and three things are left to stop it: want of memory, which is free, a record that passes the journal's limit, and a gate that is
 -- closed.
 -- And which lines each lane has served by its end.
-use Rattle.std.specs.Prelude.{◌≡◌, ◌≢◌, ◌⊎◌, ℕ, true, false, List, [], ◌∷◌, ◌++◌, length, Option, Some, IfSome, IsOk}
+use Rattle.std.specs.Prelude.{◌≡◌, ◌⊎◌, ℕ, true, false, List, [], ◌∷◌, ◌++◌, length, Option, Some, IfSome, IsOk}
 use Rattle.std.proofs.Common.{inl, inr}
 use Rattle.fts_tables.specs.Counts.{Rose}
 use Rattle.fts_tables.specs.Step.{step}
