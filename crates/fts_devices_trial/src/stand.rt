@@ -1,7 +1,7 @@
 //! A run over the real devices: the system's streams and clock, hands, doors and a link, as the program makes them; its settings, disks and stores are
 //! handed in, or those of a folder.
 use fts_devices::{
-    LinkLimits, OpenedFile, SystemClock, TcpLink, closed_doors, hands_over, lanes_over,
+    LinkLimits, OpenedFile, StopFile, SystemClock, TcpLink, closed_doors, hands_over, lanes_over,
 };
 use fts_disk::{Disk, FileDisk};
 use fts_store::{FolderStore, MemoryStore, Store};
@@ -62,8 +62,9 @@ pub fn run_over<
         deletes: Some(deletes),
         clock: SystemClock::new(rt),
         hands: hands_over(rt, alloc, stores)?,
-        lanes: lanes_over(rt, alloc, closed_doors(rt, alloc)?)?,
+        lanes: lanes_over(rt, alloc, closed_doors(rt, alloc, StopFile::none())?)?,
         link: TcpLink::new(rt, LinkLimits::of_client()),
+        gate: StopFile::none(),
     };
     Ok(run(threads, alloc, words, &mut outside))
 }
