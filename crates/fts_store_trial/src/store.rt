@@ -1,6 +1,5 @@
 //! Stores: calls with ample memory, which calls fail and which appends lose a byte, and real folders.
 //! What a store answers is asked in its order; a row's questions stand in one condition.
-use fts_files::SystemFiles;
 use fts_store::{FolderStore, MemoryStore, Store, StoreFailed, StoredFile};
 use fts_tables::{EndpointName, Items, Memory, PathKey, Place, PlaceRef};
 use std::alloc::Global;
@@ -107,17 +106,12 @@ fn are_rounds_done(store: &mut MemoryStore, rounds: u32) -> bool {
     true
 }
 
-/// Whether so many looks and four rounds behind them are done.
-fn are_done_behind(alloc: Global, looks: u32) -> Result<bool, Memory> {
-    let mut store = holding(alloc, &[], &[])?;
-    Ok(are_looks_done(&mut store, looks) && are_rounds_done(&mut store, 4))
-}
-
 // Behind 0 to 4 looks, so that each call has each number up to 20 once.
 #[test]
 fn calls_that_no_number_lists_are_done(rt: HostRuntime) -> Result<(), Fail> {
-    for looks in 0..5 {
-        let are_done = are_done_behind(rt.alloc(), looks)?;
+    for looks in [0, 1, 2, 3, 4] {
+        let mut store = holding(rt.alloc(), &[], &[])?;
+        let are_done = are_looks_done(&mut store, looks) && are_rounds_done(&mut store, 4);
         assert!(rt; are_done, "four rounds behind {looks} looks");
     }
     Ok(())
@@ -139,51 +133,27 @@ fn is_moved<E: Store>(store: &mut E, path: &str, bytes: &[u8; 4]) -> bool {
         && store.size(at(PART)) == Ok(None)
 }
 
-type Folders<'a> = FolderStore<SystemFiles<&'a HostRuntime>>;
-
-/// A store over a folder.
-fn store_at<'a>(rt: &'a HostRuntime, root: &str) -> Result<Folders<'a>, Fail> {
-    let alloc = rt.alloc();
-    let root = String::from_str(alloc, root)?;
-    Ok(FolderStore::new(rt, alloc, root))
-}
-
-/// Takes a folder away, with all that is in it.
-fn clear(rt: &HostRuntime, root: &str) {
-    let _old = fs::remove_dir_all(rt, root);
-}
-
-/// Whether a real file holds these bytes.
-fn holds(rt: &HostRuntime, path: &str, want: &str) -> bool {
-    match fs::read(rt, path) {
-        Ok(bytes) => bytes.as_slice() == want.as_bytes(),
-        Err(_) => false,
-    }
-}
-
-/// A row: a sentence, a path, and the bytes that are moved to it.
-type MoveRow = (&'static str, &'static str, &'static [u8; 4]);
-
-const MOVES: [MoveRow; 3] = [
-    ("folders are made", "a/b/c", b"abcd"),
-    ("it is replaced", "a/b/c", b"efgh"),
-    ("in the endpoint's own folder", "d", b"ijkl"),
-];
-
 #[test]
 fn a_folder_keeps_what_is_moved_into_it(rt: HostRuntime) -> Result<(), Fail> {
+    let alloc = rt.alloc();
     let root = "grid-of-a-move";
-    clear(&rt, root);
-    let mut store = store_at(&rt, root)?;
-    for row in &MOVES {
-        let is_so = is_moved(&mut store, row.1, row.2);
-        assert!(rt; is_so, "{}", row.0);
+    let _old = fs::remove_dir_all(&rt, root);
+    let mut store = FolderStore::new(rt, alloc, String::from_str(alloc, root)?);
+    for (case, path, bytes) in [
+        ("folders are made", "a/b/c", b"abcd"),
+        ("it is replaced", "a/b/c", b"efgh"),
+        ("in the endpoint's own folder", "d", b"ijkl"),
+    ] {
+        assert!(rt; is_moved(&mut store, path, bytes), "{case}");
     }
-    let is_held = holds(&rt, "grid-of-a-move/https:,,b.example:8443/a/b/c", "efgh");
-    assert!(rt; is_held, "the second one is held");
+    let held = fs::read(&rt, "grid-of-a-move/https:,,b.example:8443/a/b/c")?;
+    assert!(rt;
+        held.as_slice() == b"efgh".as_slice(),
+        "the second one is held"
+    );
     let is_removed = store.remove(at("d")).is_ok() && store.size(at("d")) == Ok(None);
     assert!(rt; is_removed, "a file is removed");
-    clear(&rt, root);
+    fs::remove_dir_all(&rt, root)?;
     Ok(())
 }
 
@@ -210,47 +180,38 @@ fn moves_and_extends_nothing<E: Store>(store: &mut E) -> bool {
         && store.append(at("a/file"), b"x") == Err(StoreFailed)
 }
 
-/// A row: a sentence, a path that is no file of the folder, its size, and what its removal comes to.
-type NoFileRow = (
-    &'static str,
-    &'static str,
-    Result<Option<u64>, StoreFailed>,
-    Result<(), StoreFailed>,
-);
-
-const NO_FILES: [NoFileRow; 5] = [
-    ("a folder is there", "a", Err(StoreFailed), Err(StoreFailed)),
-    ("a part of the path is a file", "a/file/b", Ok(None), Ok(())),
-    (
-        "a name that is too long",
-        LONG,
-        Err(StoreFailed),
-        Err(StoreFailed),
-    ),
-    (
-        "a path that leaves the folder",
-        "../x",
-        Err(StoreFailed),
-        Err(StoreFailed),
-    ),
-    ("an empty part", "a//b", Err(StoreFailed), Err(StoreFailed)),
-];
-
 #[test]
 fn a_folder_refuses_what_is_no_file_of_its_own(rt: HostRuntime) -> Result<(), Fail> {
+    let alloc = rt.alloc();
     let root = "grid-of-a-refusal";
-    clear(&rt, root);
-    let mut store = store_at(&rt, root)?;
+    let _old = fs::remove_dir_all(&rt, root);
+    let mut store = FolderStore::new(rt, alloc, String::from_str(alloc, root)?);
     assert!(rt; store.create(at("a/file")).is_ok(), "a file is made");
-    for row in &NO_FILES {
-        let is_no_file = store.size(at(row.1)) == row.2 && is_refused(&mut store, row.1, row.3);
-        assert!(rt; is_no_file, "{}", row.0);
+    for (case, path, size, removed) in [
+        ("a folder is there", "a", Err(StoreFailed), Err(StoreFailed)),
+        ("a part of the path is a file", "a/file/b", Ok(None), Ok(())),
+        (
+            "a name that is too long",
+            LONG,
+            Err(StoreFailed),
+            Err(StoreFailed),
+        ),
+        (
+            "a path that leaves the folder",
+            "../x",
+            Err(StoreFailed),
+            Err(StoreFailed),
+        ),
+        ("an empty part", "a//b", Err(StoreFailed), Err(StoreFailed)),
+    ] {
+        let is_no_file = store.size(at(path)) == size && is_refused(&mut store, path, removed);
+        assert!(rt; is_no_file, "{case}");
     }
     let is_absent = store.size(at("b")) == Ok(None) && store.size(at("a/file")) == Ok(Some(0));
     assert!(rt; is_absent, "no such name");
     let is_no_part = moves_and_extends_nothing(&mut store);
     assert!(rt; is_no_part, "what isn't being written");
-    clear(&rt, root);
+    fs::remove_dir_all(&rt, root)?;
     Ok(())
 }
 
@@ -276,58 +237,39 @@ fn is_part_made<E: Store>(store: &mut E, found: Option<u64>) -> bool {
         && store.append(at(PART), b"abcd").is_ok()
 }
 
-/// A row: a sentence, what is put at the destination behind the look that finds nothing there, what a move answers, and what is there then.
-type PartRow = (
-    &'static str,
-    &'static str,
-    Result<(), StoreFailed>,
-    &'static str,
-);
-
-const PARTS: [PartRow; 2] = [
-    ("nothing was there, and nothing is", "", Ok(()), "abcd"),
-    (
-        "nothing was there, and a file is now",
-        "other",
-        Err(StoreFailed),
-        "other",
-    ),
-];
-
-/// Puts a file at the destination, and none where its text is empty.
-fn is_put_there(rt: &HostRuntime, there: &str) -> bool {
-    there.is_empty() || fs::write(rt, HELD, there).is_ok()
-}
-
-/// Whether a part is moved, or not, as a row says.
-fn is_moved_so<E: Store>(rt: &HostRuntime, store: &mut E, row: &PartRow) -> bool {
-    let _old = fs::remove_file(rt, HELD);
-    is_part_made(store, None)
-        && is_put_there(rt, row.1)
-        && store.rename(at(PART), at("d")) == row.2
-        && holds(rt, HELD, row.3)
-}
-
-/// Whether a part replaces a file that was seen.
-fn is_replaced<E: Store>(store: &mut E) -> bool {
-    is_part_made(store, Some(5))
-        && store.rename(at(PART), at("d")).is_ok()
-        && store.size(at("d")) == Ok(Some(4))
-}
-
 #[test]
 fn a_part_is_made_anew_and_replaces_what_was_looked_at_alone(rt: HostRuntime) -> Result<(), Fail> {
+    let alloc = rt.alloc();
     let root = "grid-of-a-part";
     link_a_part(&rt, root)?;
-    let mut store = store_at(&rt, root)?;
-    for row in &PARTS {
-        let is_so = is_moved_so(&rt, &mut store, row);
-        assert!(rt; is_so, "{}", row.0);
+    let mut store = FolderStore::new(rt, alloc, String::from_str(alloc, root)?);
+    for (case, there, want, bytes) in [
+        ("nothing was there, and nothing is", "", Ok(()), "abcd"),
+        (
+            "nothing was there, and a file is now",
+            "other",
+            Err(StoreFailed),
+            "other",
+        ),
+    ] {
+        let _old = fs::remove_file(&rt, HELD);
+        let is_made = is_part_made(&mut store, None);
+        if !there.is_empty() {
+            fs::write(&rt, HELD, there)?;
+        }
+        let is_moved = store.rename(at(PART), at("d")) == want;
+        let is_held = fs::read(&rt, HELD)?.as_slice() == bytes.as_bytes();
+        assert!(rt; is_made && is_moved && is_held, "{case}");
     }
-    let is_kept = holds(&rt, "grid-of-a-part/outside", "kept");
-    assert!(rt; is_kept, "the link's target is kept");
-    let is_replaced = is_replaced(&mut store);
+    let outside = fs::read(&rt, "grid-of-a-part/outside")?;
+    assert!(rt;
+        outside.as_slice() == b"kept".as_slice(),
+        "the link's target is kept"
+    );
+    let is_replaced = is_part_made(&mut store, Some(5))
+        && store.rename(at(PART), at("d")).is_ok()
+        && store.size(at("d")) == Ok(Some(4));
     assert!(rt; is_replaced, "a file that was seen is replaced");
-    clear(&rt, root);
+    fs::remove_dir_all(&rt, root)?;
     Ok(())
 }
