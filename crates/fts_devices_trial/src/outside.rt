@@ -1,7 +1,7 @@
 //! What no clause says of the clock, of words and of settings: that the clock gives the time, goes on and rests, that words are the generator's and each
 //! hand's its own, and that settings are read to their end or not at all.
 use crate::stand::{memory_stores, run_over};
-use fts_devices::{OpenedFile, PcgWords, SystemClock, hands_over};
+use fts_devices::{OpenedFile, PcgWords, StopFile, SystemClock, closed_doors, hands_over};
 use fts_disk::MemoryDisk;
 use fts_tables::{Clock, Words};
 use fts_wire::StdSource;
@@ -108,6 +108,7 @@ fn status_over<R: Threads + Wait + Sync>(
         MemoryDisk::new(alloc, Vec::new(alloc)),
         MemoryDisk::new(alloc, Vec::new(alloc)),
         memory_stores(alloc)?,
+        closed_doors(rt, alloc, StopFile::none())?,
     )?;
     Ok(ended.status)
 }

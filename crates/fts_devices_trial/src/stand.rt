@@ -4,11 +4,13 @@ use fts_devices::{
     LinkLimits, OpenedFile, StopFile, SystemClock, TcpLink, closed_doors, hands_over, lanes_over,
 };
 use fts_disk::{Disk, FileDisk};
+use fts_service::Doors;
 use fts_store::{FolderStore, MemoryStore, Store};
-use fts_tables::limits::MAX_WORKERS;
+use fts_tables::limits::{MAX_LANES, MAX_WORKERS};
 use fts_tables::{Items, Memory};
 use fts_top::{Ending, Outside, run};
 use fts_wire::{Source, StdSink, StdSource};
+use fts_workers::NoGate;
 use std::alloc::Global;
 use std::sync::Wait;
 use std::test::Fail;
@@ -20,6 +22,9 @@ pub const SETTINGS: &str =
 
 /// How many hands a run has.
 const HANDS: usize = MAX_WORKERS as usize;
+
+/// How many doors a run has.
+const LANES: usize = MAX_LANES as usize;
 
 /// An empty store in memory for each hand.
 pub fn memory_stores(alloc: Global) -> Result<Vec<MemoryStore>, Memory> {
@@ -34,11 +39,12 @@ pub fn memory_stores(alloc: Global) -> Result<Vec<MemoryStore>, Memory> {
     Ok(stores)
 }
 
-/// Runs a command over these settings, the disks of these two journals and these stores, one for each hand.
+/// Runs a command over these settings, the disks of these two journals, these stores, one for each hand, and these doors, one for each lane.
 pub fn run_over<
     F: Source + Drop,
     D: Disk + Send + Drop,
     E: Store + Send + Drop,
+    A: Doors + Send + Drop,
     R: Threads + Wait + Sync,
 >(
     rt: &HostRuntime,
@@ -48,10 +54,14 @@ pub fn run_over<
     journal: D,
     deletes: D,
     stores: Vec<E>,
-) -> Result<Ending, Fail> {
+    doors: Vec<A>,
+) -> Result<Ending, Fail>
+where
+    A::Line: Send,
+{
     let alloc = rt.alloc();
-    if stores.len() != HANDS {
-        return Err(Fail::new("not a store for each hand"));
+    if stores.len() != HANDS || doors.len() != LANES {
+        return Err(Fail::new("not a store for each hand, or not doors for each lane"));
     }
     let mut outside = Outside {
         settings,
@@ -62,9 +72,9 @@ pub fn run_over<
         deletes: Some(deletes),
         clock: SystemClock::new(rt),
         hands: hands_over(rt, alloc, stores)?,
-        lanes: lanes_over(rt, alloc, closed_doors(rt, alloc, StopFile::none())?)?,
+        lanes: lanes_over(rt, alloc, doors)?,
         link: TcpLink::new(rt, LinkLimits::of_client()),
-        gate: StopFile::none(),
+        gate: NoGate,
     };
     Ok(run(threads, alloc, words, &mut outside))
 }
@@ -95,5 +105,6 @@ pub fn run_in_folder<R: Threads + Wait + Sync>(
         FileDisk::open(rt, journal.as_str()),
         FileDisk::view(rt, deletes.as_str()),
         stores,
+        closed_doors(rt, alloc, StopFile::none())?,
     )
 }
