@@ -1,4 +1,4 @@
-//! The measurement of the desk: how long claims, reports, cancellations and submissions take. Called by `main`.
+//! The measurement of the desk: how long claims, reports, cancellations and submissions take.
 mod commands;
 mod submissions;
 mod waiting;

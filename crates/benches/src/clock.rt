@@ -1,5 +1,4 @@
 //! Times of measurements, in seconds. A clock that fails shows no number, and then none is printed: nothing else hangs on it.
-//! Called by each measurement.
 use std::io;
 use std::time::{Clock, Duration};
 

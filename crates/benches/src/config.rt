@@ -1,4 +1,4 @@
-//! The measurement of hostile settings texts: each is read eight times, and the shortest time counts. Called by `main`.
+//! The measurement of hostile settings texts: each is read eight times, and the shortest time counts.
 mod texts;
 
 use crate::clock;

@@ -2,7 +2,6 @@
 //! `copy ROOT SET COUNT FOLDERS` copies `SET/f0` up to `SET/f(COUNT - 1)` of `https://a.example` below ROOT to `https://b.example`, each by way of its
 //! part, and prints how many were verified. Where FOLDERS is more than 1, file n lies in `SET/dM`, M being n modulo FOLDERS.
 //! What is at a destination is replaced; with a fifth word, `keep`, it is kept, and its file isn't copied. With fewer than four words it does nothing.
-//! Called by `main`.
 use fts_copy::{CopyRoom, CountingWatch, copy_verified};
 use fts_store::{FolderStore, Store};
 use fts_tables::{

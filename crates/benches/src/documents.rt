@@ -1,4 +1,4 @@
-//! The measurement of job documents: one is read some times, and the same with one of double the files, in one go. Called by `main`.
+//! The measurement of job documents: one is read some times, and the same with one of double the files, in one go.
 mod texts;
 
 use crate::clock;

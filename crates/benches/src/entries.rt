@@ -1,5 +1,4 @@
 //! Entries of the measurements. They are spelled as bytes and read back, so that nothing here has to prove that they keep their types' rules.
-//! Called by the measurements of claims, of the keep and of the record.
 ghost use Rattle.std.specs.Prelude.{IfOk, IsTrue};
 ghost use Rattle.fts_record.specs.Proper.{has_priority};
 

@@ -1,5 +1,4 @@
 //! The files that measurements make and look at, each call of the system's in a function of its own.
-//! Called by the measurements of the journal and of the keep.
 use fts_disk::{FileDisk, SystemDisk};
 use std::fs::{self, File, OpenOptions};
 use std::io;

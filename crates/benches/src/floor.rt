@@ -1,7 +1,6 @@
 //! The floor of what is appended to a journal: the same calls on a plain file, two positioned writes and two fdatasyncs each, in the same run.
 //! It has no lock, no check, no copy and no zeros ahead, so its file grows each time.
 //! Both sides write to files in the folder where it runs, and take turns in batches, so that the device's moods fall on both.
-//! Called by the measurements of the journal and of the keep, which print by the same line.
 use crate::clock;
 use std::fs::File;
 use std::io;

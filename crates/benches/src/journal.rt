@@ -1,6 +1,5 @@
 //! The measurement of the journal's appends beside the floor of the same calls: `journal 500` makes 500 appends of each.
 //! `journal append PATH COUNT` and `journal list PATH` make a journal of numbered bodies and print those of one, for `acceptance/failing-disk.sh`.
-//! Called by `main`.
 use crate::clock;
 use crate::files::{self, FLOOR_PATH, JOURNAL_PATH};
 use crate::floor::{self, AROUND_BYTES, BATCH, Times};

@@ -1,6 +1,5 @@
 //! The measurements of the keep: commands that it accepts on a real file beside the same writes and syncs alone (`keep apply 1000`), and a start over
 //! a journal of many jobs beside reading the same entries (`keep start 100000`, and `keep file PATH` over a journal that is there).
-//! Called by `main`.
 mod accepting;
 mod starting;
 

@@ -1,5 +1,4 @@
 //! The measurement of spelling: one entry, a submission of one file, read and written many times over.
-//! Called by `main`.
 ghost use Rattle.std.specs.Prelude.{IsTrue};
 ghost use Rattle.fts_record.specs.Proper.{has_priority};
 

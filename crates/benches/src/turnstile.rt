@@ -1,4 +1,4 @@
-//! The measurement of the turnstile beside std's `Mutex`, each time of both locks in the same run. Called by `main`.
+//! The measurement of the turnstile beside std's `Mutex`, each time of both locks in the same run.
 //! Threads are started within each, so the first turns of one are taken while others start.
 ghost use Rattle.std.specs.Prelude.{◌≡◌, ◌<◌, IfOk};
 ghost use Rattle.fts_turnstile.specs.Passes.{IsOf, first_pass};

@@ -1,7 +1,6 @@
 //! What a response says to whoever repeats a request: the end that it would be, were its try the last.
 //! To a submission, 200 and 409 name the job in their object, under `job_id`, in any form of a UUID (RFC 9562); to a query, 200 shows it.
 //! 500 and 503 say that the service can't serve now, and every other status refuses. `specs/Hearing.antt` and `Ends.antt` are the definitions.
-//! Called by the loop of tries.
 ghost use Rattle.std.specs.Prelude.{◌≡◌, ◌⊎◌, Ok, IfOk, codes, option_map, option_and_then};
 ghost use Rattle.serde_json.specs.Find.{get, as_str};
 ghost use Rattle.serde_json.specs.View.{view};

@@ -1,7 +1,7 @@
 //! A client that repeats: it submits a document, or asks for a job, in a number of tries, each over a line of its own, until it is answered.
 //! Keeps: each try writes one and the same request, whole before it reads, and hands its line back (`try_once`); the last try decides how a call
 //! ends (`submit`, `query`); and a document with an own id makes one job, however often it is sent and whatever fails (`worlds`).
-//! Called by the commands `submit` and `query`, and by a standby. Which link is real, and what the service replies, are not known here.
+//! Which link is real, and what the service replies, are not known here.
 #![tactic(auto)]
 
 mod ends;

@@ -2,7 +2,7 @@
 //! Keeps: told lines are given in their order, each once, and noted in the order in which they come back (`dials`, `back`); each dial counts,
 //! also one that fails, and of the last one the port is noted, and whether it gave a line; a line that has failed raises the link's count of
 //! faults when it comes back, and no other does (`faults`).
-//! Called by `submit` and `query`. `MemoryLink` is the fake; the program has the real one.
+//! `MemoryLink` is the fake; the program has the real one.
 ghost use Rattle.std.specs.Prelude.{◌≡◌, ◌<◌, ℕ, IfOk};
 ghost use Rattle.fts_tables.specs.Counts.{CountsFaults};
 ghost use Rattle.fts_wire.specs.Outside.{IsLine};

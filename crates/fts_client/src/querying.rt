@@ -1,5 +1,4 @@
 //! A query by tries: one request in each, until the job is shown or the client is refused, or the tries are used up.
-//! Called by the command `query`.
 ghost use Rattle.std.specs.Prelude.{◌≤◌};
 ghost use Rattle.fts_client.specs.Ends.{Queried};
 

@@ -1,6 +1,5 @@
 //! The loop of tries: each with one and the same request, until a response ends them or they are used up. The last try decides.
 //! Keeps: fewer tries than are allowed are made only where a response ended them, or memory ran out (`repeat`: `Repeated`, `IsEnd`).
-//! Called by `submit` and `query`.
 ghost use Rattle.std.specs.Prelude.{◌≡◌, ◌≤◌, map};
 ghost use Rattle.std.specs.List.{concat};
 ghost use Rattle.fts_client.specs.Tries.{try_of};

@@ -1,5 +1,5 @@
 //! The heads of the two requests that a client writes, in a room of their own: they take no memory. `specs/RequestBytes.antt` has their bytes.
-//! Each says close, since a line is for one try (HTTP/1.1, RFC 9112, sections 3.2 and 9.6). Called by `submit` and `query`.
+//! Each says close, since a line is for one try (HTTP/1.1, RFC 9112, sections 3.2 and 9.6).
 ghost use Rattle.std.specs.Prelude.{◌≡◌, ◌≤◌, length};
 ghost use Rattle.fts_client.specs.RequestBytes.{submission_head, id_text, query_bytes};
 

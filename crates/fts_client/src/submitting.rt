@@ -1,5 +1,5 @@
 //! A submission by tries: one request in each, until the client is told of its job or is refused, or the tries are used up.
-//! Called by the command `submit`. The document is to have an own id (`read_sid` of fts_jobdoc), so that tries make one job: `worlds.rt` says why.
+//! The document is to have an own id (`read_sid` of fts_jobdoc), so that tries make one job: `worlds.rt` says why.
 ghost use Rattle.std.specs.Prelude.{◌≤◌};
 ghost use Rattle.fts_client.specs.Ends.{Submitted};
 

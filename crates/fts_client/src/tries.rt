@@ -1,7 +1,6 @@
 //! One try of a client: it dials a port, writes its request whole, reads one response, and hands the line back, whatever came.
 //! Keeps: nothing is read before the whole request is written, and the line comes back in any case (`try_once`, clause `tried`: `IsTried`).
 //! Nothing here knows what a request asks for, or what a response says.
-//! Called by the loop of tries.
 ghost use Rattle.std.specs.Prelude.{◌≡◌, ℕ, List, ◌∷◌, [], map, length};
 ghost use Rattle.std.specs.List.{concat};
 ghost use Rattle.fts_wire.specs.Outside.{Side, raised};

@@ -1,6 +1,6 @@
 //! Lists of which no two have one key, told in time that grows as their bytes do and not as their square: the keys go into an ordered set.
 //! A storage's key is its name. A link's is the names of its source and destination with a blank between, which no name has.
-//! The set, where it is made, then says which names are listed (`HoldsKeys`). Called by `rules` for storages and links; of activities there are few.
+//! The set, where it is made, then says which names are listed (`HoldsKeys`).
 ghost use Rattle.std.specs.Prelude.{◌≡◌, ℕ, List, Bool, true, string_bytes, MatchResult};
 ghost use Rattle.fts_tables.specs.Names.{is_endpoint_name};
 ghost use Rattle.fts_config.specs.Distinct.{endpoint_key, pair_key, HoldsKeys};

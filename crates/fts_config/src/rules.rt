@@ -1,7 +1,7 @@
 //! The rules of the values of a draft, each by one function, whose result is the rule's definition in `specs/Rules.antt`.
 //! `check_values` has them in the order in which they are answered; a draft that passes keeps the rules of `Settings`.
 //! What a rule asks is decided by `fts_tables::rules`, but for the names of storages and the pairs of links: these rules come before
-//! that of counts, so a hostile text may list tens of thousands, and ordered sets (`distinct`) tell them apart. Called by `settings`.
+//! that of counts, so a hostile text may list tens of thousands, and ordered sets (`distinct`) tell them apart.
 ghost use Rattle.std.specs.Prelude.{◌≡◌, ◌⊎◌, ◌&&◌, None, Some, MatchResult};
 ghost use Rattle.std.specs.List.{list_all};
 ghost use Rattle.std.specs.BTreeSet.{contains_text};

@@ -1,6 +1,5 @@
 //! The settings' text, whole: its length, the document, the keys, the URLs, and then the rules of the values.
 //! That is the order in which rules are answered: 13, then 1 to 12, 14 and 15 (`specs/Settings.antt`).
-//! Called by fts_top, once, before it reads a request, and by fts_machine_trial.
 ghost use Rattle.std.specs.Prelude.{◌≡◌, ◌⊎◌};
 ghost use Rattle.fts_config.specs.Settings.{settings_of};
 

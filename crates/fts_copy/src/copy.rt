@@ -1,6 +1,6 @@
 //! The copy of one file, in this order: look at the source and the destination, write the part, read it back, put it in its place.
 //! Each step answers what the next one needs, or how the copy ends. What each end leaves is `IsCopy` of `specs/Copy.antt`.
-//! Called by fts_workers alone, outside every turn. It takes no memory.
+//! It takes no memory.
 ghost use Rattle.std.specs.Prelude.{◌≡◌, ◌≤◌, ℕ, if◌then◌else◌, Bool, Option, Some, IsSome, IfSome, List, length, bytes_eq};
 ghost use Rattle.fts_tables.specs.Counts.{Rose};
 ghost use Rattle.fts_store.specs.Store.{IsTold, Stays};

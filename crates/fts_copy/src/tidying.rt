@@ -1,6 +1,5 @@
 //! What is done behind a copy: one that ended otherwise than verified may leave its part, with all bytes that were written, and a store may keep
 //! it open. So the part is removed, by one call of the store, which lets it go. What that leaves is `IsTidied` of `specs/Tidying.antt`.
-//! Called by fts_workers behind each copy, outside every turn.
 ghost use Rattle.std.specs.Prelude.{◌≡◌, false, IsSome, IfSome};
 ghost use Rattle.fts_copy.specs.Tidying.{IsTidied, leaves_part};
 

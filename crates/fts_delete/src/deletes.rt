@@ -1,6 +1,5 @@
 //! Deletions on a disk: a list of events, and the rows that it makes.
 //! Keeps: the rows are the fold of the list, and every image of a told disk stands for the list, or for it with the event in doubt (`IsTied`).
-//! Called by the layer that runs the command; it knows of no transfer.
 ghost use Rattle.std.specs.Prelude.{◌≡◌, ◌≤◌, length, IfOk, IfErr, Ok, Err};
 
 use crate::DeleteFault;

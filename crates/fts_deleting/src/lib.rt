@@ -2,7 +2,6 @@
 //! Keeps: the journal's list goes on by one asking at most, and then by one event for each row that waited, in order of id; with status 0 all of it,
 //! and the rows written are its fold. With another status it is a beginning of such a list (`run_delete`; `specs/Runs.antt`).
 //! Order: the journal is opened before the input is read, the document is read before anything is asked, and rows are written behind the pass.
-//! Called by the program's top, with the settings read.
 #![tactic(auto)]
 
 mod asking;

@@ -1,6 +1,5 @@
 //! Claim: a worker takes a file to copy. `find_claim` says which row that is, or that the machine refuses, and copies its destination; `claim`
 //! makes it ACTIVE. Idle is the only refusal. `claim` takes no memory and can't fail.
-//! Called by the desk: `find_claim` as it prepares a Claim, `claim` as it commits it, with the tables unchanged between the two.
 ghost use Rattle.std.specs.Prelude.{
   ◌≡◌,
   ◌+◌,

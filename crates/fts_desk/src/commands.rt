@@ -1,6 +1,5 @@
 //! Each command by its own module: `decide` checks it and makes its room, `make_step` does it once it was decided.
 //! `decide` leaves the tables as they are. What it decides holds while they stay so.
-//! Called by the desk alone, which keeps the decided command between the two.
 ghost use Rattle.std.specs.Prelude.{◌≡◌, ℕ, Bool, Ok, Some, IfOk, length};
 ghost use Rattle.fts_tables.specs.SettingsData.{SettingsData};
 ghost use Rattle.fts_tables.specs.Tables.{AreNumberedFrom, AreWellFormed};

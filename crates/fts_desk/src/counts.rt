@@ -1,7 +1,6 @@
 //! What stands beside the rows as counts of them: how many rows wait or run on each link, and from when each waiting file is overdue.
 //! Keeps: they are those of the rows (`AreCountsOf`). A row whose state changes counts anew right behind the change (`recount`), by what it counted for
 //! before it (`counted`); the new rows of a submission come in once they all stand (`count_new`).
-//! Called by each command that changes the state of a row, and by the submission.
 ghost use Rattle.std.specs.Prelude.{◌≡◌, ◌+◌, ◌&&◌, ◌<◌, Bool, if◌then◌else◌, length, map, count_by};
 ghost use Rattle.fts_tables.specs.Tables.{AreNumberedFrom};
 ghost use Rattle.fts_index.specs.Links.{Link};

@@ -2,7 +2,6 @@
 //! Keeps: tables of the machine's form, with no limit passed and each list within its bounds, and for the command that was prepared
 //! all that committing it needs (`IsDesk`).
 //! Order: `prepare` refuses a command or makes room for it and keeps a copy; `commit` takes the copy and makes the machine's step.
-//! Called by `fts_top`, which commits what it prepared; a caller that keeps a journal writes the command between the two.
 ghost use Rattle.std.specs.Prelude.{◌≡◌, ◌↔◌, ◌+◌, ◌<◌, ◌≤◌, [], length, None, Some, IsSome, IfSome, OnOk, OnErr, Ok, option_map};
 ghost use Rattle.fts_tables.specs.Tables.{empty_tables, number_of_id, rows_of_job, job_at, row_at};
 ghost use Rattle.fts_tables.specs.Laws.{IsStanding};

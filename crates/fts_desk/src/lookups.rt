@@ -1,6 +1,5 @@
 //! Jobs and rows by their numbers, and the rows of a job. A number is a place plus 1, so a look-up is one index and no search.
 //! That each answer is the machine's own (`job_at`, `row_at`, `rows_of_job`) rests on the form of the tables (`AreWellFormed`).
-//! Called by the module of each command that names a job or a file.
 ghost use Rattle.std.specs.Prelude.{◌≡◌, ◌<◌, ◌+◌, ℕ, length, slice_get, Some, IfSome, option_map, option_and_then};
 ghost use Rattle.fts_tables.specs.Tables.{Tables, AreNumberedFrom, AreWellFormed, job_at, row_at, rows_of_job};
 ghost use Rattle.fts_tables.specs.declared.rows.JobRow.{JobRow};

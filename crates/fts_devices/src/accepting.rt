@@ -1,7 +1,6 @@
 //! The next connection of a listener, whatever became of those before it.
 //! Keeps: one that is gone is passed over, and where none can be taken for now it rests and asks again, so that no client and no want of descriptors
 //! ends a lane. Only an answer that there is no listener does (`next_line`, clause `line`). What an answer means, `steps` decides.
-//! Called by `TcpDoors`; tests hand it scripts of answers.
 ghost use Rattle.std.specs.Prelude.{◌≡◌, ℕ, List, Option, Result};
 ghost use Rattle.fts_devices.specs.Accepting.{Answers, GivesLine};
 

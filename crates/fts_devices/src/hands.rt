@@ -1,7 +1,6 @@
 //! Hands: what each thread of a run works with, over the system's clock.
 //! Keeps: there is a hand for each store, in their order, and each has words of the start's moment on the stream of its place, so that no two hands
 //! draw the same (`hands_over`, clauses `stores` and `words`).
-//! Called by the program, before a run.
 ghost use Rattle.std.specs.Prelude.{◌≡◌, ℕ, length, map, IfOk};
 ghost use Rattle.fts_devices.specs.Hands.{AreOnStreams};
 

@@ -1,7 +1,6 @@
 //! Lanes: doors, each with the system's clock.
 //! Keeps: there is a lane for each of the doors, in their order (`lanes_over`, clause `doors`); doors that were just made have no listener, and no line
 //! of theirs is out (`closed_doors`).
-//! Called by the program, before a run.
 ghost use Rattle.std.specs.Prelude.{◌≡◌, length, map, All, IfOk};
 ghost use Rattle.fts_tables.specs.declared.limits.TheConstants.{MAX_LANES};
 ghost use Rattle.fts_devices.specs.Lanes.{IsClosed};

@@ -2,7 +2,7 @@
 //! their lines, a client's link to such a port, the file that stops a service, and the hands and lanes that are made of them.
 //! Keeps: each device counts its failures at the call that answers them, and tells nothing of contents. What doors and lines decide by an answer of the
 //! system is one function each, with an equation over the system's own numbers (`specs/Steps.antt`); the loops over sockets carry it out.
-//! Files, folders, disks and streams are not here: they are `fts_files`', `fts_store`'s, `fts_disk`'s and `fts_wire`'s. Called by the program.
+//! Files, folders, disks and streams are not here: they are `fts_files`', `fts_store`'s, `fts_disk`'s and `fts_wire`'s.
 #![tactic(auto)]
 
 mod accepting;

@@ -1,6 +1,5 @@
 //! What doors and lines decide by what the system answered. The socket loops carry it out and decide nothing else.
 //! Keeps: each is one function of its answer, with an equation over the system's own numbers (`specs/Steps.antt`).
-//! Called by `TcpDoors` and `TcpLine`.
 ghost use Rattle.std.specs.Prelude.{◌≡◌, pos};
 ghost use Rattle.std.specs.Duration.{as_nanos};
 ghost use Rattle.std.specs.Net.Addr.{ipv4_octets};

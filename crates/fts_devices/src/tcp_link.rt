@@ -4,7 +4,6 @@
 //! Order of a dial: before each but the first the link rests, for 1 s, then twice as long each time, and 10 s at most, so that a service which is
 //! started again meanwhile is met (`rest_behind`); then it connects, on this machine alone.
 //! A line that comes back is closed at once: its answer was read whole, or nobody wants it. It tells nothing of lines.
-//! Called by the commands of a client.
 ghost use Rattle.std.specs.Prelude.{◌≡◌, None, true, false, IfSome};
 ghost use Rattle.std.specs.Net.Socket.{socket_ip, socket_port};
 ghost use Rattle.fts_devices.specs.Dialing.{IsOwn, rest_behind};

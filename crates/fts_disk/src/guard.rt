@@ -4,7 +4,7 @@
 //! four have gone beyond the place that failed.
 //! Zeros ahead: before a write that would pass the end of what is ready, zeros are written there and synced, so that the syncs of later
 //! writes have no length and no extent to make stable. The first bytes of an empty file get none.
-//! Each call makes exactly the calls of its script (`script`), over every file system. Called by `file.rt`.
+//! Each call makes exactly the calls of its script (`script`), over every file system.
 ghost use Rattle.std.specs.Prelude.{◌≡◌, ◌+◌, ◌-◌, ◌/◌, ◌^◌, ◌≤◌, ◌==◌, ℕ, List, length, replicate};
 ghost use Rattle.fts_files.specs.Script.{Script, LeadsTo, either, fails};
 ghost use Rattle.fts_disk.specs.Guard.{restores, ready_end, needs_zeros, readies, zeros_on, reads_back, after_read_back, confirms, writes_there, reads_full, guarded_write, guarded_sync, write_place, place_of, doubted};

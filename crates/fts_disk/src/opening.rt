@@ -3,7 +3,7 @@
 //! folder would have to be synced; a plain file, locked, synced, its pages dropped, and then the folder of its name is synced, at each
 //! opening, since a service that made the file may have been ended before it did so.
 //! For looking (`open_to_look`): looked at before the opening, since that of a pipe waits for its writer, and at what was opened; no lock.
-//! Each makes exactly the calls of its script, over every file system. Called by `file.rt` and `service.rt`.
+//! Each makes exactly the calls of its script, over every file system.
 ghost use Rattle.std.specs.Prelude.{◌≡◌, ℕ, if◌then◌else◌};
 ghost use Rattle.fts_files.specs.Script.{Script, LeadsTo, either, fails, value_of};
 ghost use Rattle.fts_files.specs.Reading.{if_plain};

@@ -1,7 +1,7 @@
 //! The file of a service: guarded, and where its name says.
 //! Keeps: nothing is written to a file, and no sync of it is answered Ok, once its name is another file's or it is shorter than at its last sync
 //! (`script` of each call): what was moved, replaced or cut meanwhile fails, in place of an Ok for what nobody will find again.
-//! Each call makes exactly the calls of its script, over every file system. Called by `file.rt`.
+//! Each call makes exactly the calls of its script, over every file system.
 ghost use Rattle.std.specs.Prelude.{◌≡◌, ◌≤◌, nat_le, length};
 
 use crate::DiskFailed;

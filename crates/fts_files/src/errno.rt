@@ -1,6 +1,6 @@
 //! Why the system refused a call, by its own number (errno of POSIX, as Linux numbers it).
 //! What each number means for a file is decided here and nowhere else, by equations over literals (`specs/Errno.antt`): one that no function
-//! names is a failure, and never an absence. Called by the steps of reading, writing, making and moving.
+//! names is a failure, and never an absence.
 ghost use Rattle.std.specs.Prelude.{◌≡◌};
 ghost use Rattle.fts_files.specs.Errno.{are_too_many, is_interrupted, is_missing, is_taken, lacks_links};
 

@@ -1,8 +1,7 @@
 //! The calls of the system on files and folders. Each is one call of POSIX, and decides nothing: a refusal is the system's own number.
 //! Keeps: a file system that tells its calls lists them in order, each with what was asked and what was answered (`calls`), and a call adds
 //! itself alone to the list; one that tells none never does. A read or a write deals with no more bytes than it was asked for (`within`).
-//! Nothing is said of what a file holds: that is for who writes it and reads it. Called by the steps of this crate, and by a store or a disk
-//! that has steps of its own.
+//! Nothing is said of what a file holds: that is for who writes it and reads it.
 ghost use Rattle.std.specs.Prelude.{◌≡◌, ◌≤◌, ℕ, Option, List, length, IfOk};
 ghost use Rattle.fts_files.specs.Calls.{Call, Done, Open, Look, LookAtName, LookAtOpen, ReadAt, WriteAt, SyncData, SyncAll, Link, Rename, Unlink, MakeFolder, Forget, Lock, SetMode, Names, Rest, with_call, opened_of, saw_of, read_of, gave_of, counted_of, done_of};
 

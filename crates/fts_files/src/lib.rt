@@ -2,7 +2,6 @@
 //! with its answer. What is made of these calls stands above, and is proved over every file system; the real one is thin and tells none.
 //! A script says which calls a function makes, by the answer to each, and its end: `LeadsTo` for who goes on behind it.
 //! `OpenPart` writes a part and moves it to its destination; `moved` says of it what a move that succeeded has done.
-//! Called by fts_store and fts_disk, which know where files lie and count what failed.
 #![tactic(auto)]
 
 mod errno;

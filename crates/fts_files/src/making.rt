@@ -1,8 +1,7 @@
 //! How a part is made, so that no other run writes it; and how a file, or a part that a run left, is removed.
 //! Keeps: a part that was made is new, locked by its handle, and its name still its own (`makes_part`). What has the name loses it first; a
 //! plain file only once it is locked here: a run that still writes it holds its lock, and the making fails.
-//! Order: made where nothing is, locked, looked at by the handle, and the look at the name compared. Called by `OpenPart`, and
-//! `remove` and `remove_stale` by a store.
+//! Order: made where nothing is, locked, looked at by the handle, and the look at the name compared.
 ghost use Rattle.std.specs.Prelude.{◌≡◌, ℕ};
 ghost use Rattle.fts_files.specs.Script.{Script, LeadsTo, either, fails};
 ghost use Rattle.fts_files.specs.Making.{holds, by_kind, clears_plain, clears, removes_stale, removes_part, makes_part, removes};

@@ -3,7 +3,7 @@
 //! from the lowest up. Without leave to replace, the name is made by a link, and a failure behind it takes it back (`moves`).
 //! The part's own name goes before the folders are synced: a failure there leaves the next try a free destination, and a file that was told
 //! as done has no second name. A name that is taken back isn't synced away: a crash may leave it, and it is then the whole file.
-//! Called by `OpenPart`. The list of folders is the caller's: those whose names a crash must leave.
+//! The list of folders is the caller's: those whose names a crash must leave.
 ghost use Rattle.std.specs.Prelude.{◌≡◌, ℕ, Option, map, string_bytes, IsErr};
 ghost use Rattle.fts_files.specs.Calls.{saw_of, done_of};
 ghost use Rattle.fts_files.specs.Script.{Script, LeadsTo, Plays, either, fails, done_end, value_of};

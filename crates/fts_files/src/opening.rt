@@ -1,6 +1,6 @@
 //! How a file is opened where too many are open: that says nothing of the file, so it is waited out.
 //! Keeps: any other answer is the answer at once, and behind a hundred rests the last refusal is (`opens_when_free`).
-//! Called by the steps that open a source, a part, or a folder that is to be synced. A journal is opened without it.
+//! A journal is opened without it.
 ghost use Rattle.std.specs.Prelude.{◌≡◌};
 ghost use Rattle.fts_files.specs.Calls.{Answer, opened_of};
 ghost use Rattle.fts_files.specs.Script.{Script, LeadsTo};

@@ -1,7 +1,7 @@
 //! A part that is open: it is made, bytes are put behind it, and it is moved to its destination.
 //! Keeps: its handle is the one that was locked, and its end is that of the bytes that were put (`end`); what a failed append has left there
 //! is written over by the next one. What a move that succeeded has done is said without a script by `moved`.
-//! Order: `make`, `append` piece by piece, `read_some` to read it back, `put_in_place`. Called by fts_store for each file that it is told to make.
+//! Order: `make`, `append` piece by piece, `read_some` to read it back, `put_in_place`.
 use crate::making::make_part;
 use crate::moving::put_in_place;
 use crate::reading::read_some;

@@ -1,5 +1,5 @@
 //! How far a file goes. An offset and a length are looked at together before anything is read or written there, so that no place behind
-//! them is too great for a number (`fits_file`). The system's own bound is twice this one. Called by reading and writing, and by a disk before it makes room.
+//! them is too great for a number (`fits_file`). The system's own bound is twice this one.
 ghost use Rattle.std.specs.Prelude.{◌≡◌};
 ghost use Rattle.fts_files.specs.Reach.{fits_file};
 

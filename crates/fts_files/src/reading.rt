@@ -1,7 +1,7 @@
 //! How a file is looked at, opened and read: what isn't there, what isn't a plain file, and what the system refuses are three things.
 //! Keeps: nothing is taken for absent or for its end but by the answer that says so (`size_seen`, `reads_once`, `reads_whole`); an
 //! interrupted read is made again. A pipe isn't opened, since its opening waits: what has the name is looked at before, and by its handle
-//! behind. Called by who looks for a file or reads one; `read_some` gives what one read gives, `read_whole` goes on to the end.
+//! behind.
 ghost use Rattle.std.specs.Prelude.{◌≡◌, ◌+◌, ◌-◌, ◌^◌, ◌≤◌, ℕ, Option, List, [], length, take, drop, IfOk};
 ghost use Rattle.fts_files.specs.Calls.{saw_of};
 ghost use Rattle.fts_files.specs.Script.{Script, LeadsTo, either, fails, value_of};

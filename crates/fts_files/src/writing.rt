@@ -1,6 +1,6 @@
 //! Bytes that are put into a file, and compared with it: a short call goes on behind, and an interrupted one is made again.
 //! Keeps: all bytes are dealt with where a function answers Ok, and a call that takes none, gives others or is refused is its failure
-//! (`writes_whole`, `matches_whole`). Called by a part, and by who writes at offsets of its own.
+//! (`writes_whole`, `matches_whole`).
 ghost use Rattle.std.specs.Prelude.{◌≡◌, ◌+◌, ◌^◌, ◌<◌, ◌≤◌, ℕ, min, length, drop, IfOk, IsOk};
 ghost use Rattle.fts_files.specs.Calls.{ReadAt, WriteAt, counted_of, read_of};
 ghost use Rattle.fts_files.specs.Script.{Script, Does, LeadsTo, either, fails, value_of, with_value};

@@ -2,7 +2,6 @@
 //! Keeps: with status 0 the line is written whole, and with another status a part of it at most; each end of following has its own status and note
 //! (`run_follow`; `specs/Runs.antt`). It reads no settings.
 //! Order: memory for answers, the journal, following, the line.
-//! Called by the program's top, which loops as often as it is told to.
 #![tactic(auto)]
 
 mod ends;

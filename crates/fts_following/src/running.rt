@@ -1,6 +1,5 @@
 //! A run of `follow` over given devices.
 //! Keeps: nothing is asked for before the journal is open; where it was not opened, link and output are untouched (`run_follow`: `IsFollowRun`).
-//! Called by the program's top.
 ghost use Rattle.std.specs.Prelude.{◌≡◌, ◌≤◌};
 ghost use Rattle.fts_tables.specs.Counts.{CountsFaults, Rose};
 ghost use Rattle.fts_wire.specs.Response.{Sends};

@@ -1,7 +1,7 @@
 //! A chunk of the order of ids: few ids with their places, in memory of a size that is settled when the chunk is made.
 //! The ids lie side by side, apart from the places, so that a search by halves reads them alone.
 //! Contracts see the ids with their places. Kept in its type (`IsChunk`): each id has a place, and there is memory for `CHUNK_ROOM` of both,
-//! so that an insertion takes none. Called by the order alone (`order.rt`).
+//! so that an insertion takes none.
 ghost use Rattle.std.specs.Prelude.{◌≡◌, ◌<◌, ◌≤◌, [], length, take, drop, insert, IfOk, IfErr};
 ghost use Rattle.fts_index.specs.IdOrder.{AreRising, IsGapFor, IsInOrderAt, place_in_order};
 ghost use Rattle.fts_index.specs.PlaceLists.{first_id};

@@ -1,7 +1,7 @@
 //! What the machine counts and looks up by walking its tables, kept beside them: the number of an id, the load of a link, and the first waiting file
 //! that becomes overdue.
 //! Contracts see a `JobIds` as the list of ids, a `Loads` as the list of links and a `Dues` as that of moments; each answer is the definition's over it.
-//! Called by the desk, which keeps all three in step with its tables. Nothing here knows of states, limits or commands.
+//! Nothing here knows of states, limits or commands.
 #![tactic(auto)]
 
 mod chunk;

@@ -2,7 +2,7 @@
 //! Contracts see the chunks, whose ids one after the other are the order. Kept in its type (`AreInChunks`): no chunk is full, so that each
 //! has memory for one id more, and none but the first is empty. A chunk that gets full is split in halves, into a spare one that waited.
 //! A search goes over the ids that the chunks begin at, and then over those of one chunk: it reads nothing but chunks.
-//! Order: `make_room` before `insert`, which takes no memory. Called by `JobIds` alone.
+//! Order: `make_room` before `insert`, which takes no memory.
 ghost use Rattle.std.specs.Prelude.{◌≡◌, ◌<◌, ◌≤◌, ◌+◌, [], length, take, drop, insert, slice_set, IfOk, IfErr, OnOk, IsTrue, false, vec_capacity};
 ghost use Rattle.fts_index.specs.IdOrder.{AreRising, IsPlaceOf};
 ghost use Rattle.fts_index.specs.declared.chunk.TheConstants.{CHUNK_HALF};

@@ -1,7 +1,6 @@
 //! The ban of a storage that a body asks for, or the least rule that the body breaks: 1 and 2 as of every document, 27 on the storage, 28 on
 //! what becomes of the files that wait there. `specs/Bans.antt` is the whole definition.
 //! Whether the settings list the storage is not asked here. `read_storage` reads a storage's name alone, for the end of a ban.
-//! Called by fts_routes.
 ghost use Rattle.std.specs.Prelude.{◌≡◌, ◌⊎◌, IfOk};
 ghost use Rattle.serde_json.specs.View.{view};
 ghost use Rattle.fts_jobdoc.specs.Bans.{storage_named, storage_in, has_bad_status, cancels, ban_in, ban_of, ban_rule_of, ban_message_of};

@@ -1,7 +1,6 @@
 //! The URLs of a document's files: each is read once, and is then a place on an endpoint.
 //! `read_all_ends` refuses the first broken one, in order of files, a file's sources before its destination. Then come the tests on places:
 //! known endpoints, no file onto itself, and the chain of a multihop job, whose places are compared as places and not as texts.
-//! Called by `job` and `rules`.
 ghost use Rattle.std.specs.Prelude.{◌≡◌, ◌++◌, ◌∷◌, [], map, OnOk, IfErr};
 ghost use Rattle.std.specs.List.{list_any, list_all, filter_map};
 ghost use Rattle.serde_json.specs.Find.{as_str};

@@ -1,6 +1,5 @@
 //! The tests on each file of a document, in the order of the rules, and what each of a file's fields stands for where the rules hold.
 //! A test `has_..` answers its definition in `specs/Fields.antt` for one file; `some_has_..` asks it of all files, in one walk.
-//! Called by `rules`, and by `job` for the values.
 ghost use Rattle.std.specs.Prelude.{◌≡◌, map};
 ghost use Rattle.std.specs.List.{list_any};
 ghost use Rattle.serde_json.specs.View.{view};

@@ -1,7 +1,6 @@
 //! A body as a new job, or the least rule that it breaks; and the priority that another body asks for.
 //! Rules first, job after: JSON, shape, URLs, places, files, parameters, kind; then the job is built, field by field, from what the rules keep.
 //! So each rule of a `NewJob` follows from rules that were asked (`proofs/JobRules.antt`). `specs/Documents.antt` is the whole definition.
-//! Called by fts_routes.
 //! Reading takes no more time than the document is long, but for a comparison of each place with each endpoint.
 ghost use Rattle.std.specs.Prelude.{◌≡◌, ◌⊎◌, ◌≤◌, ◌++◌, length, map, option_map, false, None, OnOk, IfOk};
 ghost use Rattle.serde_json.specs.View.{view};

@@ -2,7 +2,7 @@
 //! asks for; and the id that a client's own id stands for. JSON (RFC 8259) is what `serde_json` reads, a URL what `fts_joburl` reads.
 //! Each answer is one function of the body and the settings: `job_of`, `priority_of` (`specs/Documents.antt`), `ban_of` (`specs/Bans.antt`),
 //! `sid_of` (`specs/Sids.antt`), `sid_id` (`specs/Ids.antt`).
-//! Called by fts_routes, for the bodies of its requests, by clients, and by trials. Nothing here knows of HTTP, or of the rows that a job becomes.
+//! Nothing here knows of HTTP, or of the rows that a job becomes.
 #![tactic(auto)]
 
 mod ban;

@@ -1,5 +1,5 @@
 //! The tests on a job's parameters, in the order of the rules, and what each parameter stands for where the rules hold.
-//! Each answers its definition in `specs/Fields.antt`. A parameter that is absent has its default. Called by `rules`, and by `job` for the values.
+//! Each answers its definition in `specs/Fields.antt`. A parameter that is absent has its default.
 ghost use Rattle.std.specs.Prelude.{◌≡◌, false, option_map, codes};
 ghost use Rattle.std.specs.Option.{option_map_or};
 ghost use Rattle.serde_json.specs.View.{view};

@@ -1,6 +1,6 @@
 //! The rules in the order of the table, from rule 2 on: the first that is broken is the answer, since each is asked only after the lesser ones.
 //! A group of rules is one function, a line a rule, whose result is the first fault of its list in `specs/Documents.antt`.
-//! URLs are read between the shape and what is behind it, as rule 8. Called by `job`.
+//! URLs are read between the shape and what is behind it, as rule 8.
 ghost use Rattle.std.specs.Prelude.{◌≡◌, map, option_map};
 ghost use Rattle.serde_json.specs.View.{view};
 ghost use Rattle.fts_tables.specs.FirstFault.{fault_if, first_fault, unless};

@@ -1,7 +1,6 @@
 //! The client's own id that a document has, for a client that will send it: its job then has one id, however often the document comes.
 //! No settings are asked for, and of the rules only 1, 2, 16 and 24. A document whose job would get its id from the service breaks rule 24 too.
 //! So what passes here may still be refused by `read_job`. `specs/Sids.antt` is the whole definition.
-//! Called by clients that repeat a submission.
 ghost use Rattle.std.specs.Prelude.{◌≡◌, ◌⊎◌, Err};
 ghost use Rattle.serde_json.specs.View.{view};
 ghost use Rattle.fts_jobdoc.specs.Checks.{Gives};

@@ -1,5 +1,5 @@
 //! The faults of a parsed URL: one function for each, and the first of them in their order.
-//! Each answers the test of its name in `specs/Urls.antt`, and the first that is broken is the answer (`first_fault`). Called by `read`.
+//! Each answers the test of its name in `specs/Urls.antt`, and the first that is broken is the answer (`first_fault`).
 ghost use Rattle.std.specs.Prelude.{◌≡◌, ◌==◌, map};
 ghost use Rattle.std.specs.List.{list_all, list_any};
 ghost use Rattle.fts_tables.specs.Names.{is_plain_byte, is_name_byte};

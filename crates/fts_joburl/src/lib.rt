@@ -1,7 +1,6 @@
 //! URLs of files and of endpoints: which texts are one, and the fault of each other text.
 //! `read_surl` reads a file's URL, `read_endpoint` an endpoint's; what a URL is, the URL Standard says, as the crate `url` has it.
 //! Each answer is one function of the text: `surl_of`, `endpoint_of` (`specs/Urls.antt`).
-//! Called by fts_config and fts_jobdoc.
 #![tactic(auto)]
 
 mod checks;

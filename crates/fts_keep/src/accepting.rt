@@ -1,7 +1,7 @@
 //! One entry: checked, journaled, and only then done.
 //! Order: the checks, which write nothing (`check`); `settle`, which ends an old doubt; `append`, which is stable at its `Ok`; `commit`, which
 //! can't fail. So what is refused was never written, and what was written is done.
-//! Keeps: the tables are the fold of the journal's list (`IsTied`). Called by `Keep::apply`, and by `Keep::start` for its Restart.
+//! Keeps: the tables are the fold of the journal's list (`IsTied`).
 ghost use Rattle.std.specs.Prelude.{◌≤◌, IsTrue};
 ghost use Rattle.fts_record.specs.Proper.{has_priority};
 ghost use Rattle.fts_keep.specs.Views.{keep_of, IsTied};

@@ -1,6 +1,6 @@
 //! What is checked before anything is written: the machine's refusals, memory, and the limit of the journal that the command has.
 //! Order: the desk prepares the command, the entry is spelled, and its bytes are held against what is left of the journal.
-//! Nothing has changed then but what the desk has room for. Called by `accept`.
+//! Nothing has changed then but what the desk has room for.
 ghost use Rattle.std.specs.Prelude.{◌≡◌, ◌<◌, ◌≤◌, length, Some, IfOk, OnOk, IsTrue};
 ghost use Rattle.fts_tables.specs.declared.limits.TheConstants.{JOURNAL_END, MAX_BODY_BYTES};
 ghost use Rattle.fts_record.specs.Spelling.{spelled};

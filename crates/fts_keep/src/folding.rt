@@ -1,7 +1,6 @@
 //! The fold of a journal's bodies: each is read as an entry and done by the desk, in order.
 //! Keeps: the tables are those of the entries so far, and the first fault of all bodies is one of those that are to come (`HasFolded`).
 //! Where a body is no entry the fault is at the first field that isn't spelled; where its entry is refused, at its gate.
-//! Called by `Keep::start` and `Keep::view`.
 ghost use Rattle.std.specs.Prelude.{◌≡◌, ◌≤◌, ◌+◌, ◌<◌, ◌^◌, length, IfOk, IfErr, OnOk};
 ghost use Rattle.fts_keep.specs.Folding.{Takes, LeavesJournal, Folds, FoldFault};
 

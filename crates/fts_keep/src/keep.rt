@@ -1,7 +1,7 @@
 //! The keep: a list of entries on a disk, and the desk that the list makes.
 //! Keeps: the tables are the fold of the list, and every image of a told disk stands for the list, or for it with the entry in doubt (`IsKept`).
 //! Order: a start opens the journal, folds its entries and has a Restart accepted; each command after it is checked, journaled and then done.
-//! Called by the layers that answer requests and copy files. It knows neither.
+//! It knows neither.
 ghost use Rattle.std.specs.Prelude.{◌≡◌, IsSome, IfOk, IfErr, IsTrue, Ok, Err, true, List};
 ghost use Rattle.fts_tables.specs.Settling.{settles};
 ghost use Rattle.fts_tables.specs.declared.commands.Entry.{Entry};

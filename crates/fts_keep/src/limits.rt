@@ -1,7 +1,6 @@
 //! How far into the journal each command may go.
 //! Keeps: what can come again and again without end, and no accepted file needs, stops at a first limit; so what settles accepted files has room up
 //! to the journal's end (`the_end_strands_nobody`).
-//! Called by `check`.
 ghost use Rattle.std.specs.Prelude.{◌≡◌};
 ghost use Rattle.fts_tables.specs.Settling.{journal_limit};
 

@@ -1,5 +1,4 @@
 //! How a journal is opened: one is made on an empty disk, and any other content is loaded.
-//! Called by `Keep::start` alone; a look never makes a journal.
 ghost use Rattle.std.specs.Prelude.{IfOk, IfErr, MatchResult};
 ghost use Rattle.fts_keep.specs.Opening.{OpensJournal, OpensNot, Makes};
 

@@ -1,7 +1,6 @@
 //! Attempts of all rows, added up: the number of claims that were ever accepted. They rise by one at each accepted claim, and by nothing at
 //! any other command; so over a legal list they rise by the number of its claims, whoever made them and on whatever thread.
 //! `count_attempts` is a sum over rows at hand, and `claims_raise_attempts` a law: a function that does nothing, whose clauses speak of every list.
-//! Called by fts_top at the start and at the end of a run that serves, over the rows that its desk holds.
 ghost use Rattle.std.specs.Prelude.{◌≡◌, ◌+◌, ◌≤◌, List, ◌++◌, length, if◌then◌else◌};
 ghost use Rattle.fts_tables.specs.Tables.{Tables, AreWellFormed};
 ghost use Rattle.fts_tables.specs.Step.{step};

@@ -1,7 +1,7 @@
 //! Submissions under an id that the client gave. A legal list has one at most, whatever restarts and other commands stand between; and the jobs
 //! with such an id are those that were submitted under it. So who sends a document twice makes one job of it.
 //! The id is made of the VO's name, which is that of the last restart: `the_vo_is_the_last_restarts` reads it off the entries alone.
-//! A law is a function without parameters that does nothing: its clauses speak of every list. Called by fts_client, and above it.
+//! A law is a function without parameters that does nothing: its clauses speak of every list.
 ghost use Rattle.std.specs.Prelude.{◌≡◌, ℕ, ◌+◌, ◌≤◌, false, List, ◌++◌, option_map};
 ghost use Rattle.fts_tables.specs.History.{IsLegal, tables_of};
 ghost use Rattle.fts_tables.specs.declared.commands.Entry.{Entry};

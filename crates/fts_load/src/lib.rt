@@ -2,7 +2,6 @@
 //! Anyone can make it again from the number, so that whole runs can be measured and compared.
 //! Keeps: the files and the requests are those of `specs/Sources.antt` and `specs/Requests.antt`, byte by byte; making files is by two calls of the
 //! store each, in their order (`specs/Made.antt`).
-//! Called by fts_top, for the command `load`.
 #![tactic(auto)]
 
 mod input;

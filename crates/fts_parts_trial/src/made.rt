@@ -1,6 +1,5 @@
 //! What the tests of several parts are made of: names, places, rows and settings with one endpoint, `https://a.example`, written by hand.
 //! Every error is answered as want of memory. A clause says of each what the rules of the types above it ask for.
-//! Called by the tests of `choice`, `index`, `slots`, `states` and `tables`.
 ghost use Rattle.std.specs.Prelude.{◌≡◌, ◌∷◌, [], ◌++◌, codes, IfOk, OnOk};
 
 use fts_tables::{

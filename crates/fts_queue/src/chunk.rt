@@ -1,5 +1,4 @@
 //! A chunk: a few files that stand next to each other in the order, in one node of the tree. It is searched from the front.
-//! Called by the tree alone; contracts see the list of its files.
 ghost use Rattle.std.specs.Prelude.{
   ◌≡◌,
   ◌<◌,

@@ -1,4 +1,4 @@
-//! The rooms of queues, in their order: how many files each may hold. Called by `Waiting::make_room`, which alone changes them.
+//! The rooms of queues, in their order: how many files each may hold.
 ghost use Rattle.std.specs.Prelude.{
   ◌≡◌,
   ◌≤◌,

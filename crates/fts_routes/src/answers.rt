@@ -2,7 +2,7 @@
 //! Order of checks: the route, its method, the job, the file, the document's or the query's rules; so far nothing changes (`plan`). Then the
 //! command is tried, with the reply at hand that shows what it leaves (`try_command`).
 //! A look at an entry of the journal reads it then, and changes nothing (`look_at_entry`).
-//! Called by fts_top. A reply of 503 stands only where the disk's count of faults rose in the call, one of 500 where there was no memory.
+//! A reply of 503 stands only where the disk's count of faults rose in the call, one of 500 where there was no memory.
 ghost use Rattle.std.specs.Prelude.{◌≡◌, ℕ, List, [], Some, IfOk, IsTrue};
 ghost use Rattle.serde_json.specs.Data.{Data};
 ghost use Rattle.fts_tables.specs.Tables.{Tables};

@@ -1,7 +1,6 @@
 //! /ban/se: the banned storages, a ban, or the end of one. The reply to a ban says how many files it cancels, counted before it is applied: so no
 //! 500 follows an accepted ban.
 //! Order of checks: the method, then the rules of the document or of the query.
-//! Called by `plan`.
 ghost use Rattle.std.specs.Prelude.{◌≡◌, ℕ, Some, IfOk, IsSome, option_map, option_and_then};
 ghost use Rattle.std.specs.Option.{option_copied};
 ghost use Rattle.std.specs.Cow.{cow_str_bytes};

@@ -1,7 +1,6 @@
 //! Commands, each with the reply that shows what it leaves, made before the command is applied: so no 500 follows an accepted command.
 //! What a cancellation or a priority leaves of a job follows from its rows before it (`specs/Changes.antt`); where the machine finds nothing
 //! to change, the same reply shows the object as it is (`IsReady`).
-//! Called by `answers`.
 ghost use Rattle.std.specs.Prelude.{◌≡◌, Some, IfOk, IsSome, IsTrue};
 ghost use Rattle.fts_tables.specs.JobData.{is_priority};
 ghost use Rattle.fts_tables.specs.Step.{with_priority};

@@ -1,7 +1,6 @@
 //! How many files a ban cancels, counted over the tables before it: each that waits at the storage, and with it the waiting ones of its job where
 //! that is of replicas or of hops (`specs/Waits.antt` of fts_tables).
 //! The rows of a job stand together, so each job is looked at once, and the walk takes time in proportion to the rows.
-//! Called by `bans`.
 ghost use Rattle.std.specs.Prelude.{◌≡◌, ◌&&◌, ◌||◌};
 ghost use Rattle.std.specs.List.{list_any};
 ghost use Rattle.fts_tables.specs.Tables.{is_pending};

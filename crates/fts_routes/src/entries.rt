@@ -1,7 +1,6 @@
 //! A look at the journal: one entry by its number, as its bytes stand there, with how many entries there are.
 //! It is the only look that calls the disk: one read, wherever the entry stands, and no command. Over a disk that tells its contents the bytes are
 //! the spelling of that entry (`AreShown`); over every disk number and count are exact.
-//! Called by `answers`.
 ghost use Rattle.std.specs.Prelude.{◌≡◌, ◌<◌, Some, IfOk};
 ghost use Rattle.fts_keep.specs.Keeps.{IsKeep};
 ghost use Rattle.fts_keep.specs.Looking.{OnlyLooks};

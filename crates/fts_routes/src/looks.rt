@@ -1,6 +1,5 @@
 //! Looks: what is shown of the tables, which stay as they are.
 //! A job and its files are looked up and not searched for; a list of jobs is walked up to its limit.
-//! Called by `answers`.
 ghost use Rattle.std.specs.Prelude.{◌≡◌, ◌++◌, Some, IfOk, OnOk, IsSome, option_map};
 ghost use Rattle.std.specs.Option.{option_copied, option_to_list};
 ghost use Rattle.std.specs.Cow.{cow_str_bytes};

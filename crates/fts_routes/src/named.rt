@@ -1,6 +1,5 @@
 //! The job and the file that a path names, by the desk's own look-ups.
 //! That what is found by a number has that number rests on the form of the tables (`IsStanding`).
-//! Called by `answers`.
 ghost use Rattle.std.specs.Prelude.{◌≡◌, Some, IfSome, IsSome, option_map};
 ghost use Rattle.fts_tables.specs.Tables.{job_at, row_at};
 ghost use Rattle.fts_routes.specs.Routes.{id_in, job_named, file_named, entry_number};

@@ -1,7 +1,6 @@
 //! Objects of replies, as JSON values (RFC 8259): a job, a file, the settings in force. Each is a definition of `specs/Objects.antt`.
 //! A job and a file are shown with the fields that a command may change given beside the row, so that the reply to a command is made before
 //! the command is done.
-//! Called by `looks` and `changes`.
 ghost use Rattle.std.specs.Prelude.{◌≡◌, refl, IfOk, OnOk, map, false};
 ghost use Rattle.serde_json.specs.Data.{Data, boolean, string, put};
 ghost use Rattle.serde_json.specs.View.{view, members_view};

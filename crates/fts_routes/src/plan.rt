@@ -1,6 +1,5 @@
 //! What a request is planned to come to over the tables: a reply, or a command with the reply that shows what it leaves.
 //! One function for each route, each in the order of checks: the method, the job, the file, the document's or the query's rules.
-//! Called by `answers`, before anything changes.
 ghost use Rattle.std.specs.Prelude.{◌≡◌, Some, IfOk, IsSome};
 ghost use Rattle.fts_tables.specs.Tables.{Tables, job_at};
 ghost use Rattle.fts_jobdoc.specs.Documents.{job_of, priority_of};

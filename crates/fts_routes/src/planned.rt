@@ -1,5 +1,4 @@
 //! What a request is planned to come to: its reply, or a command and the reply for where the machine takes it.
-//! Called by `plan`, `bans`, `changes` and `answers`.
 ghost use Rattle.std.specs.Prelude.{◌≡◌, IfOk};
 ghost use Rattle.fts_routes.specs.Refusals.{no_method};
 ghost use Rattle.fts_routes.specs.declared.planned.Planned.TheVariants.{Replies as PlannedReply};

@@ -1,6 +1,5 @@
 //! The query of a look at the jobs (`application/x-www-form-urlencoded`, URL Standard): of pairs with one name the first counts, others are
 //! passed over. `specs/Queries.antt` says which states and limits are read.
-//! Called by `looks`, which asks for the states before the limit.
 ghost use Rattle.std.specs.Prelude.{◌≡◌, ◌≤◌, [], IfOk, is_ok, option_map, unwrap_or};
 ghost use Rattle.std.specs.Option.{option_copied};
 ghost use Rattle.std.specs.Result.{result_ok};

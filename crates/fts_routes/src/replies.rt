@@ -1,6 +1,5 @@
 //! Replies with their bodies (JSON, RFC 8259, as `serde_json` writes it: compact, keys in byte order). Each refusal has its message, the number
 //! of its rule and its status (`specs/Refusals.antt`). Want of memory is handed to the caller; its reply takes none.
-//! Called by `looks`, `changes` and `answer`; `refusal_reply` by fts_top too.
 ghost use Rattle.std.specs.Prelude.{◌≡◌, IfOk, IfErr, false};
 ghost use Rattle.serde_json.specs.View.{view};
 ghost use Rattle.serde_json.specs.Written.{has_float};

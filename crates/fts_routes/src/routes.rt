@@ -1,6 +1,5 @@
 //! Where a path leads. A path is cut at its slashes; a name is one or more bytes between two of them, and nothing in it is decoded.
 //! `find_route` answers the plain table (`specs/Routes.antt`), one function for each row's first words.
-//! Called by `answers`.
 ghost use Rattle.std.specs.Prelude.{◌≡◌, [], ◌∷◌, false, bytes_eq, option_map};
 ghost use Rattle.fts_tables.specs.Names.{segments};
 ghost use Rattle.fts_routes.specs.Routes.{route_of, route_of_names, route_of_jobs, route_of_job, route_of_files, route_of_config, route_of_ban, route_of_journal};

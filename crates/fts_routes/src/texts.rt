@@ -1,6 +1,5 @@
 //! Texts of replies: states, kinds and reasons in their words, ids as UUIDs in lower case (RFC 9562), digests in lower hexadecimal digits,
 //! places as URLs. Each is a definition of `specs/Objects.antt` or `specs/Json.antt`.
-//! Called by `objects` and `replies`.
 ghost use Rattle.std.specs.Prelude.{◌≡◌, ◌++◌, IfOk, decimal};
 ghost use Rattle.std.specs.String.{string_bytes};
 ghost use Rattle.hex.specs.Hex.{encode_lower};

@@ -3,7 +3,6 @@
 //! pass's number as writer, and the turns stand in the order of the requests (`IsLineServed` of `specs/Lanes.antt`).
 //! Order of a request: it is read, the clock is asked, it is answered in a turn, its response is written. What an earlier line left in the room is
 //! dropped first. Nothing is read behind a request that says close, nor behind the millionth, nor behind a load that found no request.
-//! Called by `serve_lane`, for each line.
 ghost use Rattle.std.specs.Prelude.{◌≡◌, IsTrue};
 ghost use Rattle.fts_tables.specs.Counts.{Rose};
 ghost use Rattle.fts_turnstile.specs.Passes.{IsOf, IsSame};

@@ -1,7 +1,7 @@
 //! Lanes and workers over one shop behind a lock, from their seats to the closed list.
 //! Keeps: lanes and hands come back in their order, and the list is the opening list with the items of all turns (`RanTogether` of `specs/Serving.antt`).
 //! Order: lanes to booths and hands to stations, all threads to their end, back from their seats, the passes taken in, the lock closed.
-//! Called by a run that serves, once memory was taken and the doors are open. It takes no memory, and waits for all of them.
+//! It takes no memory, and waits for all of them.
 ghost use Rattle.std.specs.Prelude.{◌≡◌, ◌+◌, ◌≤◌, [], ◌++◌, length, map, drop, All, IfSome, vec_capacity};
 ghost use Rattle.fts_turnstile.specs.Passes.{IsOf};
 ghost use Rattle.fts_passes.specs.Crews.{IsFirst, passes_given};

@@ -3,7 +3,7 @@
 //! doors there are tell how many lines are out; those that listen or share have a listener; a call fails only where the count of faults rose, and then
 //! leaves what is told.
 //! Order of use: the first doors listen, each other ones share with them; then lines are taken, served and handed back, one by one.
-//! Called by `serve_lane`. `MemoryDoors` is the fake; the program has the real ones.
+//! `MemoryDoors` is the fake; the program has the real ones.
 ghost use Rattle.std.specs.Prelude.{◌≡◌, ◌<◌, ℕ, Bool, IsOk, IsTrue};
 ghost use Rattle.fts_tables.specs.Counts.{CountsFaults};
 ghost use Rattle.fts_wire.specs.Outside.{IsLine};

@@ -1,7 +1,6 @@
 //! Lanes and workers at the same time: each lane at its booth and each worker at its station in a thread of its own, where one can be made.
 //! Keeps: what `serve_lane` says of each booth and `worker` of each station, by its own old value alone. Lists are halved until one is left (`spread`
-//! and `beside` of fts_shop). `serve_all` is called by a run that serves, once everything is made and the doors are open; `run_lanes` by who has
-//! lanes alone.
+//! and `beside` of fts_shop).
 ghost use Rattle.std.specs.Prelude.{◌≤◌, IfSome, All};
 ghost use Rattle.fts_turnstile.specs.Passes.{IsOf};
 ghost use Rattle.fts_shop.specs.Many.{Each};

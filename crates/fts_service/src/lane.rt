@@ -2,7 +2,7 @@
 //! Keeps: each line that was given is served and handed back, in order (`ServesLines` of `specs/Lanes.antt`); no point of a later line lies before
 //! one of an earlier line. A line's fault ends that line alone.
 //! Order of a lane: a line is taken, served and handed back, and so on until there are enough, no more come, or the doors fail; then one turn counts
-//! the lane off. Called by `run_lanes`, and by whoever serves one lane.
+//! the lane off.
 ghost use Rattle.std.specs.Prelude.{◌≡◌, ◌≤◌, IfSome};
 ghost use Rattle.fts_tables.specs.Counts.{Rose};
 ghost use Rattle.fts_turnstile.specs.Passes.{IsOf, IsSame};

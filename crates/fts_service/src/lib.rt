@@ -3,7 +3,7 @@
 //! that its doors give, in order, and hands each back (`serve_lane`); what each lane and each worker did stands in one list of turns
 //! (`serve_seated`, clause `ran`; `specs/Serving.antt`).
 //! Order: memory is taken for lanes and workers, a shop is put behind a lock, doors are opened, lanes and hands take their seats, run to their end,
-//! and go back in their order; then the lock is closed. Called by fts_top for the command `serve`.
+//! and go back in their order; then the lock is closed.
 #![tactic(auto)]
 
 mod connection;

@@ -1,6 +1,6 @@
 //! A shop behind its lock, with a pass for each lane and each worker; and the way back where none of them takes a turn.
 //! Keeps: what comes back, on either way, holds the list that it held and shows the same.
-//! Memory for all passes is taken before the first is made. Called by a run that serves, behind its start.
+//! Memory for all passes is taken before the first is made.
 ghost use Rattle.std.specs.Prelude.{◌≡◌, [], IfOk, IfErr};
 ghost use Rattle.fts_turnstile.specs.Passes.{IsOf};
 ghost use Rattle.fts_passes.specs.Crews.{IsFirst, passes_given};

@@ -1,7 +1,6 @@
 //! What a run that serves makes before its threads start: memory for all lanes and workers, and doors that are open.
 //! Keeps: nothing is taken from the doors, and each of the first lanes has a listener (`open_doors`). Where memory is short, nothing was made; where
 //! doors fail, their count of faults rose.
-//! Called by a run that serves, first of all.
 ghost use Rattle.std.specs.Prelude.{◌≡◌, ◌≤◌, ◌<◌, [], length, vec_capacity, IfOk, IfErr, IsOk, All};
 ghost use Rattle.fts_tables.specs.Counts.{Rose};
 ghost use Rattle.fts_service.specs.Openings.{AreOpened, FirstListen, IsOpened, SomeRose};

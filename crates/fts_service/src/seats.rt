@@ -1,6 +1,6 @@
 //! Lanes and hands are moved to booths and stations before their threads start, and back in their order behind their end.
 //! Keeps: nothing is lost or made on the way; the lanes and the hands that a run doesn't use stay where they are.
-//! Memory is taken before anything is moved: none of these calls takes any. Called by a run that serves.
+//! Memory is taken before anything is moved: none of these calls takes any.
 ghost use Rattle.std.specs.Prelude.{◌≡◌, ◌≢◌, ◌+◌, ◌<◌, ◌≤◌, [], ◌∷◌, ◌++◌, length, map, take, drop, vec_capacity};
 ghost use Rattle.fts_service.specs.Seats.{booths_of, stations_of};
 

@@ -1,5 +1,5 @@
 //! How lanes and workers ended together: doors that failed go before all else, and of several workers' ends the worst one decides.
-//! `served_end` of `specs/Served.antt` says it over all ends. Called by a run that serves, before its booths and stations are left.
+//! `served_end` of `specs/Served.antt` says it over all ends.
 ghost use Rattle.std.specs.Prelude.{◌≡◌, map};
 ghost use Rattle.std.specs.List.{list_any};
 ghost use Rattle.fts_service.specs.Served.{are_doors_failed, severity_of, worse_of, worst_of, served_end};

@@ -3,7 +3,6 @@
 //! Keeps: what is written are the responses of the requests that stand whole in what was read, in their order (`specs/Connections.antt`); a session
 //! is a walk over the list of the keep (`run_session`, clause `session`; `specs/Sessions.antt`).
 //! What a request is answered is fts_routes', what comes next in the bytes is fts_wire's, and a round is fts_workers'.
-//! Called by fts_top for a session and a load; `respond` and `refuse` by fts_service too.
 #![tactic(auto)]
 
 mod ends;

@@ -1,7 +1,6 @@
 //! The responses of a connection: that to a request, and the one that refuses what came for a fault of the framing.
 //! Keeps: the response to a request says close where the request does, and where it is the last that a connection may have (`respond`); what is
 //! refused has a response with the fault's status, or one for want of memory, and it is the last (`refuse`). Neither reads what it is written to.
-//! Called by whoever answers a connection: `run_session` on one thread, `serve_connection` over a pass.
 ghost use Rattle.std.specs.Prelude.{◌≡◌, ◌≤◌, ◌<◌, IsSome, IsTrue};
 ghost use Rattle.fts_tables.specs.Counts.{Rose, CountsFaults};
 ghost use Rattle.fts_wire.specs.Answered.{request_data};

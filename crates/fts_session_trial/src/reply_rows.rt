@@ -6,7 +6,6 @@
 //!     < {"message":"no such method"}     the body of the reply; where this line is left out it may be any
 //! Nothing is escaped, and a target is sent as it stands: it may have blanks, and may have no slash. A body is one line. In place of a row a line may
 //! begin with `#`, a remark. Where what is wanted begins anew, a line `---` stands between two rows.
-//! Called by `replies.rt`.
 use fts_wire::Request;
 
 /// A remark begins so.

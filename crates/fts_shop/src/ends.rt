@@ -1,6 +1,5 @@
 //! How a turn of a worker ends, and how a worker does.
 //! Each end is a function of the keep's answer and of the lanes that were left: `end_by_report`, `end_by_claim` and `worker_end_of` of `specs`.
-//! Called by `turn` and `worker`.
 ghost use Rattle.std.specs.Prelude.{◌≡◌, Err};
 ghost use Rattle.fts_workers.specs.ClaimSteps.{AnswersClaim};
 ghost use Rattle.fts_shop.specs.Shops.{AnswersReport, IsEndState};

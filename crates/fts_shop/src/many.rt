@@ -1,6 +1,6 @@
 //! Work of one kind on each job of a list, and of two kinds on two lists, each in a thread of its own where one can be made.
 //! Keeps: what `done` says of each job, by its own old value alone. A list is halved until one job is left, since a join takes two.
-//! Called by `run_workers`, and by whoever runs lanes beside workers. What a thread does stands behind a small trait, because a closure that
+//! What a thread does stands behind a small trait, because a closure that
 //! captures the lock beside a slice gets no proof in a generic function.
 ghost use Rattle.std.specs.Prelude.{◌<◌, length, All};
 ghost use denote.Param.Send.{IsSync, IsSend};

@@ -1,7 +1,6 @@
 //! The value behind the lock: a keep, and how many lanes are left.
 //! Shows its disk's count of faults and the lanes left; its list is the keep's, whose entries name their writers.
 //! Keeps nothing of its own, since it lends the keep: what a keep's type keeps, the keep does.
-//! Called by workers and lanes in their turns, and by whoever makes and closes the lock.
 ghost use Rattle.std.specs.Prelude.{◌≡◌, ◌-◌};
 
 use fts_disk::Disk;

@@ -2,7 +2,6 @@
 //! Keeps: what is added to the list is of the writer that tries it, and the lanes left stay as they are (`TriesIn`, `StepsIn` of `specs/Within.antt`).
 //! Order of a step: the files that are overdue are cancelled, and then one is claimed, unless that met a fault; `fts_workers` has both as one call.
 //! What a turn finds out comes back as a value, since nothing is known of what it would write elsewhere. So a claim brings the order of its copy.
-//! Called by the turns of a pass: the calls of `turns.rt`, the watch, and whoever answers requests.
 ghost use Rattle.std.specs.Prelude.{◌≡◌, IsTrue, IfSome};
 ghost use Rattle.fts_record.specs.Proper.{has_priority};
 ghost use Rattle.fts_copy.specs.Copy.{StaysInside};

@@ -3,7 +3,7 @@
 //! Keeps: the bench holds one file at most, whose copy has ended (`IsReady`).
 //! Order: the expiry and a claim in one turn of the lock, the gate, the copy with its looks, each in a turn of its own, the removal of its part where
 //! it wasn't verified, and the report in one turn. Both commands of the first turn have one moment, and the claim's word is taken before it.
-//! What a turn is, by its commands, their answers and its end, is `IsTurn` of `specs/Turns.antt`. Called by `worker`, again and again.
+//! What a turn is, by its commands, their answers and its end, is `IsTurn` of `specs/Turns.antt`.
 ghost use Rattle.std.specs.Prelude.{◌≡◌, ◌≢◌, [], Some, Ok, option_map};
 ghost use Rattle.fts_tables.specs.History.{tables_of};
 ghost use Rattle.fts_tables.specs.Tables.{row_at};

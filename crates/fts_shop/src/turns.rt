@@ -1,6 +1,5 @@
 //! Turns of a pass: a command that is tried in one, an expiry and a claim that brings the order of its copy, and the turn in which a lane ends.
 //! Keeps: each adds at most its own commands to the list, with the pass's number as writer, and none but `lane_ends` changes the lanes left.
-//! Called by `turn`, and `lane_ends` by a lane once, as its last turn.
 ghost use Rattle.std.specs.Prelude.{◌≡◌, IsTrue, IfSome};
 ghost use Rattle.fts_tables.specs.History.{tables_of};
 ghost use Rattle.fts_record.specs.Proper.{has_priority};

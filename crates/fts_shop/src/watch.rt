@@ -1,7 +1,6 @@
 //! The watch of a copy that is made outside every turn: each asking is a turn of the pass, in which it looks whether cancel was asked of the file.
 //! Keeps: the pass is of the lock (`own`). What is known of it later is `IsWatched` of `specs/Looking.antt`.
 //! It tells its answers to nobody, since no list of them fits a watch; that no copy ended as stopped says that each was a yes.
-//! Called by the copy of a claimed file.
 ghost use Rattle.std.specs.Prelude.{◌≡◌};
 
 use crate::shop::Shop;

@@ -3,7 +3,6 @@
 //! Keeps: the pass is of the lock, and what a bench holds between two turns (`IsReady`).
 //! Order: a turn, then a rest where nothing was eligible or a fault was met, then a look at the gate, where nothing is held. `run_workers` returns once
 //! each worker has ended.
-//! Called by the service, with a station for each hand.
 ghost use Rattle.std.specs.Prelude.{◌≡◌, true, [], Some, All};
 ghost use Rattle.fts_turnstile.specs.Passes.{IsOf};
 ghost use Rattle.fts_shop.specs.Turns.{IsReady};

@@ -1,6 +1,5 @@
 //! The text of tables, as `show` writes it: a line for each job, and behind it one for each of its files.
 //! Keeps: what is written is the text of the definitions, whole or, where a write failed, a part of it (`send_tables`; `specs/Shown.antt`).
-//! Called by fts_top for the command `show`.
 #![tactic(auto)]
 
 mod shown;

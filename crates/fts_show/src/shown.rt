@@ -1,6 +1,5 @@
 //! The text of tables: for each job in order of number one line, and behind it one for each of its rows (`specs/Shown.antt`).
 //! It takes no memory: the parts of a line are put together in a room of a fixed size, and sent in one piece.
-//! Called by `looks`.
 ghost use Rattle.std.specs.Prelude.{◌≡◌, Some, map, IfSome};
 ghost use Rattle.std.specs.List.{concat, flat_map};
 ghost use Rattle.fts_tables.specs.Counts.{CountsFaults};

@@ -1,7 +1,6 @@
 //! Counters of the links held: one for each link, for what comes from each endpoint and for what goes to it.
 //! Keeps: in an array of counters each stands at its own place, and those of the links of one source stand together (`index_of`).
 //! Each call takes constant time but `new`, which makes all the room. That the counters are the counts of the list is a fact of the list's type (`AreTallied`).
-//! Called by `Slots` alone: `raise` with a slot that is taken, `lower` with one that is given back.
 ghost use Rattle.std.specs.Prelude.{
   ◌≡◌,
   position,

@@ -1,5 +1,4 @@
 //! The limits of links and endpoints: by the names of endpoints, and by their places in the settings. Both ways read one rule or one endpoint.
-//! Called by `Slots`, by places.
 ghost use Rattle.std.specs.Prelude.{
   ◌≡◌,
   ◌<◌,

@@ -1,7 +1,6 @@
 //! The limits of all links in one array, each at the place of its link's counter: so a limit is had without a walk over the listed links.
 //! Keeps: each is the limit by the names of the link's ends (`AreLimits`). Made once, for as long as the settings stand.
 //! Order: the common limit everywhere, then the listed ones from the last to the first, so that of two for one link the first stands.
-//! Called by `Slots::new`.
 ghost use Rattle.std.specs.Prelude.{◌≡◌, ◌*◌, ◌<◌, ◌≤◌, [], ◌∷◌, true, IfOk, length, IsTrue};
 ghost use Rattle.fts_tables.specs.SettingsData.{SettingsData, are_apart, is_same_endpoint};
 ghost use Rattle.fts_slots.specs.SlotsData.{index_of};

@@ -2,7 +2,6 @@
 //! used up. The last one decides.
 //! Keeps: fewer tries than are allowed are made only where the last one gave the entry, said that there is none, or was refused, or where memory ran
 //! out (`ask`: `Asks`). Nothing of an older try is kept.
-//! Called by whoever follows.
 ghost use Rattle.std.specs.Prelude.{◌≡◌, ◌≤◌, IfOk};
 ghost use Rattle.fts_client.specs.Tries.{try_of};
 ghost use Rattle.fts_standby.specs.Hearing.{heard_data};

@@ -2,7 +2,6 @@
 //! Keeps: an entry is appended only where it was given for the number of the count, and nothing is in doubt (`follow`: `Followed`).
 //! Order: an old doubt is ended; where there are entries, the last one is asked for and compared with its own, which is the one look at what is
 //! there; then the entry behind the last one is asked for and appended, until there is none.
-//! Called by the command that follows.
 ghost use Rattle.std.specs.Prelude.{◌≡◌, ◌≤◌, ◌<◌, IsSome, length};
 ghost use Rattle.fts_tables.specs.Counts.{Rose};
 ghost use Rattle.fts_record.specs.Reading.{read_of};

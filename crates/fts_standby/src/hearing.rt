@@ -1,7 +1,7 @@
 //! What an answer says to a standby that asked for an entry: the entry's bytes, that there is none, or neither (`specs/Hearing.antt`).
 //! Keeps: an entry is taken from a 200 alone, whose body is an object of the asked number with the digits of one entry and nothing behind it; that
 //! there is none, only from a 404 by rule 47. Whatever else comes gives no entry.
-//! Called by each try for an entry. It knows nothing of lines.
+//! It knows nothing of lines.
 ghost use Rattle.std.specs.Prelude.{◌≡◌, IfOk, codes, option_map, option_and_then};
 ghost use Rattle.serde_json.specs.Find.{get, as_str};
 ghost use Rattle.serde_json.specs.View.{view};

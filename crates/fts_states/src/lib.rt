@@ -1,7 +1,6 @@
 //! What one command makes of one row, and the state of a job by its rows: for plain jobs, replicas and hops alike.
 //! Each contract is the machine's own definition (`fts_tables/specs/Moves.antt`, `Step.antt`). Nothing here is kept, and no call is refused.
 //! Here a report also says which kind of row begins to wait behind it; which row that is, `fts_choice` says.
-//! Called by the desk, which writes what these calls answer into its rows, and answers a job's state by `job_state`.
 #![tactic(auto)]
 
 mod cancels;

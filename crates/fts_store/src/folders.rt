@@ -1,7 +1,7 @@
 //! The folders of a store: how they are made, and which of them are synced behind a move.
 //! Keeps: an endpoint's own folder that was there when it was first met lies on the device that it lay on then (`meet`).
 //! A folder's name is stable once the folder above it was synced behind it, and that folder's name is stable; the root's own is the last.
-//! Called by `FolderStore`, which makes no endpoint's own folder that was there. Lists of folders go from the lowest up.
+//! Lists of folders go from the lowest up.
 ghost use Rattle.std.specs.Prelude.{◌≡◌, ◌<◌, ℕ, nat_le, Bool, Option, not, length, bytes_eq, IfSome, IfOk, map, option_map, string_bytes};
 ghost use Rattle.std.specs.List.{position, list_any};
 ghost use Rattle.fts_files.specs.Calls.{saw_of};

@@ -1,6 +1,6 @@
 //! The names in a folder, and the paths of what has them.
 //! Keeps: what is found is what the reading of the names gave (`names_told`); where it was refused, that is nothing. A name that is no text is
-//! passed over, since no path is made of it. Called by `sweep` and `meet_all`, which go by these names.
+//! passed over, since no path is made of it.
 ghost use Rattle.std.specs.Prelude.{◌≡◌, ◌==◌, ◌∷◌, ◌++◌, [], filter, map, codes, string_bytes, IfOk, OnOk};
 ghost use Rattle.std.specs.List.{slice_split};
 ghost use Rattle.std.specs.Str.{is_utf8};

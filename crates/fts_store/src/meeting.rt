@@ -1,6 +1,6 @@
 //! What a store in a folder knows of its endpoints as it begins: each folder below its root that is there, and the device that it lies on.
 //! Keeps: the names that are read decide the looks; what is known is exactly what they saw, and nothing is changed (`Meets`). What is no folder, or
-//! can't be looked at, is left to be met at its first use. Where memory is missing it ends early. Called by `FolderStore::meet_all`, once at a start.
+//! can't be looked at, is left to be met at its first use. Where memory is missing it ends early.
 ghost use Rattle.std.specs.Prelude.{◌≡◌, ◌<◌, ◌++◌, if◌then◌else◌, List, filter, map, length, string_bytes, vec_capacity, OnOk, OnErr};
 ghost use Rattle.fts_files.specs.Calls.{Answer, Look, with_call};
 ghost use Rattle.fts_files.specs.Script.{Script, LeadsTo, value_of};

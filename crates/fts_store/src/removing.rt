@@ -3,7 +3,7 @@
 //! (`finds`). A link there is a failed call, so that nothing behind it is told or removed; a file in a folder's place has nothing behind it.
 //! Order: the look, the removal, and the sync of the folder that holds the name. That there is no file is told behind such a sync as well: a
 //! removal that was not synced is none yet. So it fails where the endpoint's own folder isn't there.
-//! Called by `FolderStore` for deletions. A link that is put there between two calls is not seen.
+//! A link that is put there between two calls is not seen.
 ghost use Rattle.std.specs.Prelude.{◌≡◌, ◌∷◌, [], ℕ, Bool, List, Option, map, string_bytes};
 ghost use Rattle.fts_files.specs.Calls.{saw_of};
 ghost use Rattle.fts_files.specs.Moving.{syncs};

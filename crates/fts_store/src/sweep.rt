@@ -1,7 +1,7 @@
 //! Parts that were left: by a copy that ended otherwise than verified, or by a service that was ended.
 //! Keeps: the names that are read decide the calls (`Sweeps`). Each part in the folder of parts of each folder below the root loses its name, where
 //! it is a plain file that no run holds, and nothing else does. What can't be read or taken away is left, and so is all that follows where memory
-//! is missing. Called by `FolderStore::sweep`, once at a start.
+//! is missing.
 ghost use Rattle.std.specs.Prelude.{◌≡◌, if◌then◌else◌, IfOk, drop, filter, map, string_bytes};
 ghost use Rattle.std.specs.List.{list_all};
 ghost use Rattle.fts_files.specs.Making.{removes_stale};

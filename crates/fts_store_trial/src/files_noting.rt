@@ -2,7 +2,6 @@
 //! o is an opening, n a making, l and L a look by a name and at it, h one by a handle, r a read, w a write, d a sync of data, s one of all,
 //! k a lock, f the dropping of pages, + a link, > a rename, - a name taken away, m a folder made, c a change of rights, N the names in a folder,
 //! z a rest, of which none is rested.
-//! Called by `files` alone, whose rows write the letters that they expect.
 use fts_files::{FileSystem, Refused, Seen, SystemFiles, Way};
 use std::fs::{File, Files};
 

@@ -2,7 +2,6 @@
 //! Keeps: with status 0 the command's output is written whole, and with another one a part of it at most; each end of the tries has its own status
 //! and note (`run_submit`, `run_query`; `specs/Runs.antt`). Neither reads settings or a disk.
 //! Order of a submission: the document is read whole, and its own id looked at, before a connection is made; the id is written behind the last try.
-//! Called by the program's top.
 #![tactic(auto)]
 
 mod ends;

@@ -1,5 +1,4 @@
 //! How a command ended, before it is noted: its end, its tally, and the disk that it gives back.
-//! Called by `top` and `looks`.
 ghost use Rattle.std.specs.Prelude.{◌≡◌, ◌≤◌, length, count_by};
 ghost use Rattle.fts_tables.specs.Tables.{is_submitted, is_finished, is_failed, is_canceled};
 ghost use Rattle.fts_top.specs.Tallies.{tally_with, no_tally};

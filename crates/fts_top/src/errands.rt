@@ -1,6 +1,5 @@
 //! The commands that are none of the service's own: a client's `submit` and `query`, `delete`, and a standby's `follow`. What each does stands in a
 //! crate of its own; here it is handed what it needs of the outside, and its end becomes the run's (`specs/Errands.antt`).
-//! Called by `top`.
 ghost use Rattle.std.specs.Prelude.{◌≡◌, ◌≢◌, ◌⊎◌, ◌≤◌, IsSome};
 ghost use Rattle.fts_tables.specs.Counts.{Rose};
 ghost use Rattle.fts_tables.specs.SettingsData.{SettingsData, IsSettings};

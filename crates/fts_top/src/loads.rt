@@ -2,7 +2,6 @@
 //! load's own requests, which submit their copies to the last endpoint (`specs/Loads.antt`). Its responses are dropped.
 //! Keeps: all memory but the keep's is taken before the keep is started, so a load that stops with files unmade has a cause, a call of the store.
 //! The line is written behind the session, and only where that ended well.
-//! Called by `top` for the command `load`.
 ghost use Rattle.std.specs.Prelude.{◌≡◌, ◌≢◌, ◌⊎◌, ℕ, ◌<◌, [], List, length, Option, Some, IfOk};
 ghost use Rattle.fts_tables.specs.Counts.{Rose, CountsFaults};
 ghost use Rattle.fts_tables.specs.SettingsData.{IsSettings};

@@ -1,6 +1,5 @@
 //! A look at the journal: the settings are read, its entries are folded without a Restart, and the text of the tables is written.
 //! Nothing is written to the disk (`specs/Looks.antt`). An empty disk is damaged at offset 0.
-//! Called by `top` for the command `show`.
 ghost use Rattle.std.specs.Prelude.{◌≡◌, ◌≢◌, ◌⊎◌, ℕ, List, Option};
 ghost use Rattle.fts_tables.specs.Counts.{Rose};
 ghost use Rattle.fts_top.specs.Ends.{status_of};

@@ -1,7 +1,7 @@
 //! A run that serves: lanes take connections on a port, and workers copy, at the same time and over one keep.
 //! Order: the words are taken, the settings are read, memory is taken for lanes and workers, a keep is started on the disk, which has a Restart with
 //! the settings accepted, the keep goes behind a lock, the doors are opened, lanes and workers run to their end, and the lock is closed.
-//! Keeps: what each lane and each worker did, over one list (`IsServingRun` of `specs/Serves.antt`). Called by `run`.
+//! Keeps: what each lane and each worker did, over one list (`IsServingRun` of `specs/Serves.antt`).
 ghost use Rattle.std.specs.Prelude.{◌≡◌, ◌≢◌, ◌==◌, false, ◌≤◌, ◌+◌, ◌-◌, [], ℕ, length, map, string_bytes, vec_capacity, List, Option, IfOk, IfSome, All};
 ghost use Rattle.fts_tables.specs.Counts.{Rose};
 ghost use Rattle.fts_tables.specs.declared.limits.TheConstants.{MAX_LANES, MAX_WORKERS};

@@ -1,7 +1,6 @@
 //! Bells: who waits for a turn sleeps on that of its ticket, so the end of a turn wakes the next in line and nobody else.
 //! A bell carries no value and gives no right: who wakes looks at the turn. So no contract speaks of one.
 //! Order: who waits hears its bell before it looks at the turn, and sleeps only if the bell was not rung since; who passes the turn on rings behind that.
-//! Called by `Turnstile` alone.
 use std::array;
 use std::sync::Wait;
 use std::sync::atomic::{AtomicU64, Ordering};

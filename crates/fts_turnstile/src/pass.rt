@@ -1,6 +1,6 @@
 //! One holder's access to a lock: a seat of the lock's table, and its number.
 //! Keeps: between calls a pass has no ticket, no value and nothing in hand, and its number is that of its view (the invariant below).
-//! Called by whoever takes turns. Only `split` makes a pass, and only `join` and `close` take one.
+//! Only `split` makes a pass, and only `join` and `close` take one.
 ghost use Rattle.std.specs.Prelude.{◌≡◌};
 
 use crate::logged::Logged;

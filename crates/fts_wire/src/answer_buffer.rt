@@ -1,6 +1,5 @@
 //! The bytes at hand of a client: read, and not yet known to be a response.
 //! Contracts see them as a list. There is room for the longest response, and for a piece behind what is short of it.
-//! Called by `answers` alone.
 ghost use Rattle.std.specs.Prelude.{◌≡◌, ◌+◌, ◌≤◌, [], length, take, IfOk, OnErr};
 ghost use Rattle.fts_tables.specs.Counts.{CountsFaults};
 ghost use Rattle.fts_wire.specs.Outside.{raised};

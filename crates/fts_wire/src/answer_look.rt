@@ -1,7 +1,6 @@
 //! What bytes are the beginning of to a client: less than a response, none, or a whole one.
 //! Each head that a response may have is made as it is written (`response_head`), and compared with the bytes. A look takes no memory.
 //! Order of a look: the statuses, one after another; for each the length of the body, by the digits that stand in its place, and then its lines.
-//! Called by `answers`.
 ghost use Rattle.std.specs.Prelude.{◌≡◌, ◌≤◌, IsTrue, Some};
 ghost use Rattle.fts_wire.specs.Response.{has_phrase, has_methods, head_of};
 ghost use Rattle.fts_wire.specs.NextAnswers.{BeginsResponse};

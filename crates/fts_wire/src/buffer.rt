@@ -1,7 +1,6 @@
 //! The bytes at hand: read, and not yet taken away.
 //! Contracts see them as a list. They begin at `start`, and move to the front only where there is no room for a piece more,
 //! so a request costs its own bytes, however many are kept behind it.
-//! Called by `request` alone.
 ghost use Rattle.std.specs.Prelude.{◌≡◌, ◌+◌, ◌≤◌, [], length, take, drop, vec_capacity, IfOk, OnErr};
 ghost use Rattle.fts_tables.specs.Counts.{CountsFaults};
 ghost use Rattle.fts_wire.specs.Outside.{raised};

@@ -1,6 +1,6 @@
 //! What a server reads of a head's fields: a coding, an origin, the length of the body, and whether the connection ends.
 //! Names of fields are compared without case, and so is the word `close`.
-//! Called by `look`. Format: RFC 9112, sections 6 and 9.6.
+//! Format: RFC 9112, sections 6 and 9.6.
 ghost use Rattle.std.specs.Prelude.{◌≡◌, length, map, All, codes};
 ghost use Rattle.httparse.specs.Spans.{header_bytes, IsHeaderWithin};
 ghost use Rattle.fts_wire.specs.Fields.{has_field, is_chunked, names_origin, values_of, body_length, length_of, says_close, is_named, is_close};

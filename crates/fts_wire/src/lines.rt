@@ -1,5 +1,5 @@
 //! Where a head ends: the lines of bytes, up to the first empty one.
-//! Called by `look`. Format: a line ends with a line feed, and the empty one has at most a carriage return before it (RFC 9112, section 2.2).
+//! Format: a line ends with a line feed, and the empty one has at most a carriage return before it (RFC 9112, section 2.2).
 ghost use Rattle.std.specs.Prelude.{◌≡◌, ◌≤◌, length};
 ghost use Rattle.fts_wire.specs.Head.{is_empty_line};
 ghost use Rattle.fts_wire.specs.Lines.{IsFirstLine, IsHeadEnd};

@@ -1,7 +1,7 @@
 //! What bytes are the beginning of: less than a head, no request, or a whole head with the length of its body.
 //! A look reads the bytes at hand alone and takes none away, so it can be repeated when more have come. It takes no memory.
 //! Order of a look: the end of the head, its grammar, its coding, its length, and then its origin.
-//! Called by `request`. Format: HTTP/1.1 (RFC 9112, sections 2 to 6), and the grammar of `httparse`.
+//! Format: HTTP/1.1 (RFC 9112, sections 2 to 6), and the grammar of `httparse`.
 ghost use Rattle.std.specs.Prelude.{◌≡◌, length, map, All, IsUtf8};
 ghost use Rattle.httparse.specs.Spans.{header_bytes, span_bytes, IsHeaderWithin, IsWithin};
 ghost use Rattle.fts_tables.specs.declared.limits.TheConstants.{MAX_HEADER_LINES};

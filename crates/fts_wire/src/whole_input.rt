@@ -1,7 +1,6 @@
 //! A source read to its end, up to a limit.
 //! Keeps: the bytes are all that were left, in order; nothing is read beyond the byte that shows that there are too many, and nothing behind the end
 //! (`read_all`).
-//! Called by fts_top, for the settings' text.
 ghost use Rattle.std.specs.Prelude.{◌≡◌, ◌+◌, ◌≤◌, ◌<◌, length, Err, IfOk, IfErr};
 ghost use Rattle.fts_tables.specs.Counts.{Rose, CountsFaults};
 ghost use Rattle.fts_wire.specs.Outside.{Reads, raised};

@@ -2,7 +2,6 @@
 //! A list is a command's name and its options, in any order, each at most once. An option is `--name` and its value in the next word, or
 //! `--name=value` in one.
 //! Order: `read_words` decides, and takes no memory; `take_words` then has `clap` take the accepted list, and goes on with what both read.
-//! Called by `fts_top` for a run, and by the program, which asks what a run will want before it opens a disk.
 #![tactic(auto)]
 
 mod asked;

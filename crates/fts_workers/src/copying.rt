@@ -1,6 +1,6 @@
 //! One copy of a round: the order that a file's row asks for is loaded, and copied to its end; and then its part is removed, where the copy ended
 //! otherwise than verified. Over every store its calls are those of the copy's script and that one behind them, and it isn't called off
-//! (`IsCopied` of `specs/Copies.antt`). Called by the bench, for the first file that it holds, and for an order that it is given.
+//! (`IsCopied` of `specs/Copies.antt`).
 ghost use Rattle.std.specs.Prelude.{◌≡◌, ◌≤◌, false, Some, IsSome, IfSome, option_map};
 ghost use Rattle.fts_tables.specs.Counts.{Rose};
 ghost use Rattle.fts_tables.specs.Tables.{AreWellFormed, job_at, row_at};

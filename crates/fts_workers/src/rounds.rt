@@ -3,7 +3,6 @@
 //! Keeps: the bench holds the files that are out, over whatever list the tables are of (`IsWorkedOver`). An outcome that couldn't be reported stays
 //! on the bench, and the next round reports it without another copy.
 //! Its parts say 'whatever is still done from here was done from the beginning' (`specs/Steps.antt`), so that loops join them.
-//! Called by the session after each request, and until nothing is held.
 ghost use Rattle.std.specs.Prelude.{◌≡◌, ◌+◌, ◌≤◌, ◌<◌, ℕ, [], List, Option, None, length, IsTrue, IfOk, OnOk, Ok};
 ghost use Rattle.fts_tables.specs.Coming.{Coming};
 ghost use Rattle.fts_tables.specs.declared.commands.Entry.{Entry};

@@ -2,7 +2,7 @@
 //! A search goes over the last keys of the chunks, and then over the keys of one. A key more or less moves only keys of one chunk, or of two neighbours.
 //! A chunk that gets full is split in halves. One that has, with a neighbour, less than half of what a chunk holds takes on that neighbour's keys: so
 //! there are never more chunks than `chunks_for`. Nothing here takes or gives back memory.
-//! Called by the set alone. A place of a key is one word, `IsGapFor`: all in front of it stand before the key, and none from there on does.
+//! A place of a key is one word, `IsGapFor`: all in front of it stand before the key, and none from there on does.
 ghost use Rattle.std.specs.Prelude.{
   ◌≡◌,
   ◌<◌,

@@ -1,7 +1,7 @@
 //! A set of keys in their order, which has room for as many as `make_room` was asked for.
 //! Kept in its type (`IsSet`): the keys are sorted, in chunks that are fit; they are no more than the room; and there are chunks for the room, used or
 //! spare, with memory in both lists for all of them. So an insertion finds a spare chunk where it needs one (`spare_left`).
-//! Called by whoever keeps something in order. The keys, one chunk after the other, are what contracts see.
+//! The keys, one chunk after the other, are what contracts see.
 ghost use Rattle.std.specs.Prelude.{
   ◌≡◌,
   ◌<◌,
