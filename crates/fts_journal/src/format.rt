@@ -1,4 +1,4 @@
-//! The bytes of the format that stand for themselves. docs/DEFINITIONS.md, "Journal", has the whole.
+//! The bytes of the format that stand for themselves. docs/FORMATS.md, "Journal", has the whole.
 //! Behind the header stands, for each body, an open gate, the body's length in four bytes with the least first, and the body; then a
 //! gate that isn't open, and after it anything.
 

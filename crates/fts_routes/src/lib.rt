@@ -2,7 +2,7 @@
 //! Each answer is one function of the tables, the journal's bytes used, the writer, the request and the moment: `said` (`specs/Replies.antt`).
 //! Order of checks: the route, its method, the job, the file, the document's or the query's rules, and then what the machine and the journal
 //! refuse. The body of a 200 that comes with a command is made before the command is applied.
-//! Nothing here knows of sockets, or of where a request ends. Format: docs/DEFINITIONS.md, "HTTP".
+//! Nothing here knows of sockets, or of where a request ends. Format: docs/FORMATS.md, "HTTP".
 #![tactic(auto)]
 
 mod answers;

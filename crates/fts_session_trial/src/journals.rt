@@ -51,7 +51,7 @@ const SHOWN: &str = "shown.txt";
 const RESTARTED: &[u8] =
     b"FTS3JRN1\x01\x42\0\0\0\x00\x01\x80\xe2\xcf\xaa\x06\x04demo\x02\x02\x02\x11https://a.example\x14\x14\x11https://b.example\x14\x14\x00\x01\x07default\x01\x00";
 
-/// A journal that begins with a cancellation and not with a Restart, by writer 3, as docs/DEFINITIONS.md spells it.
+/// A journal that begins with a cancellation and not with a Restart, by writer 3, as docs/FORMATS.md spells it.
 const DAMAGED: &[u8] = b"FTS3JRN1\x01\x08\0\0\0\x03\x03\x80\xe2\xcf\xaa\x06\x01\x07";
 
 /// A run over a disk and a store in memory.

@@ -1,5 +1,5 @@
 //! Entries and answers that are written by hand, and links in memory that give those answers.
-//! Writer 3 cancels jobs 1 to 4 at moment 1700000000, and job 9 where another entry is wanted (`docs/DEFINITIONS.md`, "Entries").
+//! Writer 3 cancels jobs 1 to 4 at moment 1700000000, and job 9 where another entry is wanted (`docs/FORMATS.md`, "Entries").
 ghost use Rattle.std.specs.Prelude.{◌≡◌, false, IfOk};
 ghost use Rattle.fts_client.specs.MemoryLinks.{has_failed};
 

@@ -2,7 +2,7 @@
 //! Keeps: a response is what `write_response` writes, with a body of at most 8,389,632 bytes, however it was cut (`load`, clause `answer`);
 //! nothing is read past the piece in which it ends, and nothing is kept of what is no response.
 //! Order of a load: look, and read a piece, until the look is no longer short.
-//! It never looks into a body. Format: docs/DEFINITIONS.md, "HTTP".
+//! It never looks into a body. Format: docs/FORMATS.md, "HTTP".
 ghost use Rattle.std.specs.Prelude.{◌≡◌, ◌≤◌, [], IfOk, ⊤};
 ghost use Rattle.std.specs.Borrow.{sem, follows_so};
 ghost use mathlib.Core.Option.{none};

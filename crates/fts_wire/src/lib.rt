@@ -2,7 +2,7 @@
 //! Keeps: where a request ends does not depend on how its bytes were cut into reads (`Room::load`, clauses `next` and `taken`);
 //! a response is all of its bytes or, after a failed write, a part of them (`write_response`, clause `sent`);
 //! a client reads a response as it was written, and nothing else for one (`AnswerRoom::load`, clause `answer`).
-//! It never looks into a body. Formats: docs/DEFINITIONS.md, "HTTP".
+//! It never looks into a body. Formats: docs/FORMATS.md, "HTTP".
 #![tactic(auto)]
 
 mod answer_buffer;

@@ -2,7 +2,7 @@
 //! Keeps: what is kept followed by what the source has left loses exactly the request (`load`, clause `next`); what was found stands in the bytes
 //! taken alone, and each read of a call is made only while they are less than a request (clause `taken`).
 //! Order of a load: the last request's bytes are given up; then look, and read a piece, until the look is no longer short and its body is there.
-//! Format: docs/DEFINITIONS.md, "HTTP".
+//! Format: docs/FORMATS.md, "HTTP".
 ghost use Rattle.std.specs.Prelude.{◌≡◌, ◌≤◌, [], Err, None, IfOk, IfSome, IsUtf8, List, MatchBool, ℕ, length, true, option_copied, ⊤};
 ghost use Rattle.std.specs.Borrow.{sem, follows_so};
 ghost use mathlib.Core.Option.{none};

@@ -2,7 +2,7 @@
 //! Keeps: what is written is all of the response's bytes or, after a failed write, a part of them (`write_response`, clause `sent`).
 //! Order: the head with as much of the body as makes one piece, and then the rest of the body. A response of up to 65,536 bytes is one piece,
 //! since a head and a body that are written apart keep a client waiting for the second. A short one, as most are, has a room of its own size.
-//! Format: docs/DEFINITIONS.md, "HTTP" (RFC 9112, section 4).
+//! Format: docs/FORMATS.md, "HTTP" (RFC 9112, section 4).
 ghost use Rattle.std.specs.Prelude.{◌≡◌, ◌+◌, ◌≤◌, ◌++◌, length, map, IsTrue};
 ghost use Rattle.std.specs.List.{concat};
 ghost use Rattle.fts_tables.specs.Counts.{CountsFaults};
