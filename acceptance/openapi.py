@@ -18,7 +18,16 @@ API = yaml.safe_load((TOP / "docs" / "openapi.yaml").read_text())
 EXCHANGES = TOP / "crates" / "fts_session_trial" / "data"
 HEAD = re.compile(rb"(.*?)\r\n((?:[^\r]+\r\n)*)\r\n", re.S)
 UNTOLD = (8, 9, 10, 23)
-EVERYWHERE = {30: "NoRoute", 33: "NoMethod", 41: "BadRequest", 42: "HeadTooLarge", 43: "BadRequest", 44: "Chunked", 45: "BodyTooLarge"}
+EVERYWHERE = {
+    30: "NoRoute",
+    33: "NoMethod",
+    41: "BadRequest",
+    42: "HeadTooLarge",
+    43: "BadRequest",
+    44: "Chunked",
+    45: "BodyTooLarge",
+    48: "ForeignOrigin",
+}
 
 
 def messages(content):
