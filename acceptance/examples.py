@@ -5,7 +5,8 @@ acceptance/examples.py PROGRAM: PROGRAM is fts as it was built. It serves folder
 Wanted: two-submissions.http is answered by its reply, byte for byte; the five documents are accepted one after another and each of their files is
 FINISHED; submit.sh comes to its end, also where it submits by the program's own command, and where the service refuses it shows the message and ends
 with 1; progress.py shows a job until it is settled, and the same job when it is asked again; fts.service and fts-follow.service are units that systemd
-takes (where systemd-analyze is there), their start's words serve and follow, and what they make under its mask nobody else may read; follow.sh follows
+takes (where systemd-analyze is there), their start's words serve and follow, what they make under its mask nobody else may read, and the stop of
+fts.service ends a service with status 23; follow.sh follows
 while a service is started anew, and ends where another one has its port; the last line of journal_gates.py says where the last entry ends; and the
 commands in README.md, "A first run", and the submission in docs/API.md print what stands there. nginx.conf and the copies of journal_gates.py have
 scripts of their own (behind_nginx.py, gates.py). It needs curl and bash.
@@ -17,6 +18,7 @@ import os
 import pathlib
 import pwd
 import re
+import shlex
 import shutil
 import signal
 import stat
@@ -236,6 +238,18 @@ def verified(program, name):
     return [run.returncode, *(line for line in (run.stdout + run.stderr).splitlines() if "fts" in line)]
 
 
+def stops_as_the_unit(service, command):
+    """The status of the unit's stop, by the words that systemd makes of it, and that of the service with its line."""
+    words = shlex.split(command.replace("$$", "$").replace("/var/lib/fts", str(service.path)))
+    stop = subprocess.Popen(words, env={**os.environ, "MAINPID": str(service.process.pid)})
+    try:
+        _, note = service.process.communicate(timeout=30)
+    except subprocess.TimeoutExpired:
+        service.process.kill()
+        _, note = service.process.communicate()
+    return stop.wait(30), service.process.returncode, note.decode()
+
+
 def serves_as_the_unit(program):
     said, port = unit("fts"), free_port()
     words = said["ExecStart"].replace("8080", str(port)).split()
@@ -248,10 +262,11 @@ def serves_as_the_unit(program):
     states = service.settle(answer["job_id"])
     places = [service.path / "fts.journal", *(service.path / "grid/https:,,b.example").rglob("*")]
     modes = {stat.filemode(place.stat().st_mode)[4:] for place in places}
-    service.stop()
+    ended = stops_as_the_unit(service, said["ExecStop"])
     yield f"under the unit's mask {said['UMask']}: {status}, {states}, what others may do with {len(places)} files and folders: {sorted(modes)}", (
         (states, modes, words[2]) == (["FINISHED"], {"------"}, "serve")
     )
+    yield f"the unit's stop: {ended[0]}, and the service {ended[1:]}", ended == (0, 23, "fts: stopped\n")
     said = verified(program, "fts")
     yield f"systemd-analyze of the unit: {said}", said in ("systemd-analyze isn't there", [0])
 
