@@ -1,21 +1,24 @@
 -- The order of the rules: what each end of the chain of checks answers, and what a document that passes it keeps.
-use Rattle.std.proofs.Common.{◌≡◌, ◌⊎◌, ◌&&◌, ◌||◌, ◌==◌, inl, inr, false, List, ◌∷◌, ◌++◌, length, map, codes, Option, Some, None, Result, Ok, Err, refl, ap, sym, ◌∙◌}
+use Rattle.std.proofs.Common.{◌≡◌, ◌⊎◌, ◌&&◌, ◌||◌, ◌==◌, inl, inr, false, List, [], ◌∷◌, ◌++◌, length, map, codes, Option, Some, None, Result, Ok, Err, refl, ap, sym, ◌∙◌, subst}
 use Rattle.std.specs.Prelude.{⊤, nat_lt, nat_le}
 use Rattle.std.specs.List.{list_any, flat_map}
 use Rattle.std.specs.Option.{option_or}
 use Rattle.serde_json.specs.Data.{Data}
+use Rattle.serde_json.specs.View.{view}
 use Rattle.fts_tables.specs.SettingsData.{SettingsData, is_label}
-use Rattle.fts_tables.specs.JobData.{IsNewJob, goes_elsewhere}
+use Rattle.fts_tables.specs.JobData.{JobData, IsNewJob, goes_elsewhere}
 use Rattle.fts_joburl.specs.declared.fault.UrlFault.{UrlFault}
 use Rattle.fts_jobdoc.specs.Json.{files_of, param}
 use Rattle.fts_jobdoc.specs.Fields.{has_wrong_sources, has_wrong_destinations, has_bad_filesize, has_bad_activity, has_replicas, has_bad_retry, retry_of, has_bad_delay, delay_of, has_bad_priority, lacks_priority, priority_in, has_bad_queue_time, queue_hours_of, is_verified, is_set}
 use Rattle.fts_tables.specs.FirstFault.{first_fault, unless}
 use Rattle.fts_jobdoc.specs.Checks.{Gives}
 use Rattle.fts_jobdoc.specs.Ends.{ends_of, urls_of, first_url_fault, url_refused, url_rule, has_same_url, breaks_chain, all_ends_read}
-use Rattle.fts_jobdoc.specs.Documents.{shape_rules, ends_rules, files_rules, params_rules, kind_rules, later_rules, all_rules, rules_of, priority_rules, kind_of, new_job, of_value}
+use Rattle.fts_jobdoc.specs.Documents.{shape_rules, ends_rules, files_rules, params_rules, kind_rules, later_rules, early_rules, all_rules, rules_of, priority_rules, kind_of, new_job, job_in, of_value}
+use Rattle.fts_jobdoc.specs.Document.{IsReadFrom}
+use Rattle.fts_jobdoc.specs.declared.document.Document.{Document}
 use Rattle.fts_jobdoc.specs.declared.ends.FileEnds.{FileEnds}
 use Rattle.fts_jobdoc.specs.declared.fault.DocFault.{DocFault}
-use Rattle.fts_jobdoc.specs.declared.fault.DocFault.TheVariants.{NotJson, Memory}
+use Rattle.fts_jobdoc.specs.declared.fault.DocFault.TheVariants.{Memory}
 use Rattle.fts_jobdoc.proofs.FieldRules.{within_or, number_or_none, priority_given}
 use Rattle.fts_jobdoc.proofs.Ruled.{first_fault-append, first_fault-cons, neither, all_kept, unbroken, and_parts}
 use Rattle.fts_jobdoc.proofs.JobRules.{all_fit, all_from, sizes_fit, activities_fit, files_apart}
@@ -46,12 +49,41 @@ by_groups document settings files shape urls later e first second third =
     (first_fault-cons (url_rule files) (later_rules document settings files (map ends_of files)))
     ∙ rw (first, second, third) refl
 
--- the first group refuses
-pub exit_shape : (document : Data) (settings : SettingsData) (files : List Data) (ends : List FileEnds) (fault : DocFault) → files ≡ files_of document
+-- the first fault of the rules before the settings, by that of the shape and that of the URLs
+by_early : (document : Data) (files : List Data) (shape urls : Option DocFault) → files ≡ files_of document
+    → first_fault (shape_rules document files) ≡ shape → url_rule files ≡ urls → first_fault (early_rules document) ≡ option_or shape (option_or urls None)
+unfolding early_rules
+by_early document files shape urls e first second =
+    ap (λ f. first_fault (shape_rules document f ++ url_rule f ∷ [])) (sym e)
+    ∙ first_fault-append (shape_rules document files) (url_rule files ∷ [])
+    ∙ ap (option_or (first_fault (shape_rules document files))) (first_fault-cons (url_rule files) [])
+    ∙ rw (first, second) refl
+
+-- the shape refuses
+pub exit_shape : {T : Type 0} (document : Data) (files : List Data) (value : T) (fault : DocFault) → files ≡ files_of document
     → ◌≡◌ {A = Result ⊤ DocFault} (Err fault) (unless (first_fault (shape_rules document files)) tt)
-    → Gives (Err fault) (unless (first_fault (rules_of document settings)) ends)
-exit_shape document settings files ends fault e shape =
-    inl (rw (by_groups document settings files (Some fault) _ _ e (told _ fault shape) refl refl) refl)
+    → Gives (Err fault) (unless (first_fault (early_rules document)) value)
+exit_shape document files value fault e shape = inl (rw (by_early document files (Some fault) _ e (told _ fault shape) refl) refl)
+
+-- one rule and none behind it
+or_none : (rule : Option DocFault) → option_or rule None ≡ rule
+or_none None = refl
+or_none (Some fault) = refl
+
+-- behind the shape the URLs decide
+pub behind_shape : (document : Data) (files : List Data) (result : Result (List FileEnds) DocFault) → files ≡ files_of document
+    → ◌≡◌ {A = Result ⊤ DocFault} (Ok tt) (unless (first_fault (shape_rules document files)) tt) → Gives result (all_ends_read files)
+    → Gives result (unless (first_fault (early_rules document)) (map ends_of (files_of document)))
+behind_shape document files result e shape urls =
+    rw (by_early document files None (url_rule files) e (kept _ shape) refl, or_none (url_rule files), sym e) urls
+
+-- both were kept
+pub early_kept : (document : Data) → first_fault (early_rules document) ≡ None
+    → (first_fault (shape_rules document (files_of document)) ≡ None) × (url_rule (files_of document) ≡ None)
+early_kept document passed =
+    let groups = neither _ _ (sym (by_early document (files_of document) _ _ refl refl refl) ∙ passed) in
+    let urls = neither _ _ groups.1 in
+    (groups.0, urls.0)
 
 -- what a refusal says of a rule, unless memory ran out
 refused_by : {T : Type 0} (rule : Option DocFault) (value : T) (fault : DocFault) → Gives (Err fault) (unless rule value)
@@ -60,53 +92,73 @@ refused_by None value fault (inl e) = absurd (cc)
 refused_by (Some other) value fault (inl e) = inl (ap Some (cc))
 refused_by rule value fault (inr e) = inr (cc)
 
--- a URL is refused
-pub exit_urls : (document : Data) (settings : SettingsData) (files : List Data) (ends : List FileEnds) (fault : DocFault) → files ≡ files_of document
-    → ◌≡◌ {A = Result ⊤ DocFault} (Ok tt) (unless (first_fault (shape_rules document files)) tt) → Gives (Err fault) (all_ends_read files)
-    → Gives (Err fault) (unless (first_fault (rules_of document settings)) ends)
-exit_urls document settings files ends fault e shape urls =
-    elim (refused_by (url_rule files) (map ends_of files) fault urls) [
-      | inl refused ↦ inl (rw (by_groups document settings files None (Some fault) _ e (kept _ shape) refused refl) refl)
-      | inr memory ↦ inr (ap Err memory)
-    ]
-
 -- what was read of URLs that weren't refused
 pub passed_by : {T : Type 0} (rule : Option DocFault) (value read : T) → Gives (Ok read) (unless rule value) → (rule ≡ None) × (read ≡ value)
 passed_by None value read (inl e) = (refl, cc)
 passed_by (Some other) value read (inl e) = absurd (cc)
 passed_by rule value read (inr e) = absurd (cc)
 
--- a later group refuses
-pub exit_later : (document : Data) (settings : SettingsData) (files : List Data) (ends read lent : List FileEnds) (fault : DocFault)
-    → files ≡ files_of document → ◌≡◌ {A = Result ⊤ DocFault} (Ok tt) (unless (first_fault (shape_rules document files)) tt)
-    → Gives (Ok read) (all_ends_read files) → lent ≡ read
-    → ◌≡◌ {A = Result ⊤ DocFault} (Err fault) (unless (first_fault (later_rules document settings files lent)) tt)
-    → Gives (Err fault) (unless (first_fault (rules_of document settings)) ends)
-exit_later document settings files ends read lent fault e shape urls is later =
-    let passed = passed_by (url_rule files) (map ends_of files) read urls in
-    let refused : first_fault (later_rules document settings files (map ends_of files)) ≡ Some fault =
-    ap (λ xs. first_fault (later_rules document settings files xs)) (sym (is ∙ passed.1)) ∙ told _ fault later in
-    inl (rw (by_groups document settings files None None (Some fault) e (kept _ shape) passed.0 refused) refl)
+-- where no rule before the settings is broken, the others decide
+by_others : (document : Data) (settings : SettingsData) (files : List Data) (ends : List FileEnds) → files ≡ files_of document
+    → ends ≡ map ends_of (files_of document) → first_fault (early_rules document) ≡ None
+    → first_fault (rules_of document settings) ≡ first_fault (later_rules document settings files ends)
+by_others document settings files ends e is early =
+    let passed = early_kept document early in
+    by_groups document settings (files_of document) None None _ refl passed.0 passed.1 refl
+    ∙ ap (λ f. first_fault (later_rules document settings f (map ends_of (files_of document)))) (sym e)
+    ∙ ap (λ xs. first_fault (later_rules document settings files xs)) (sym is)
+
+-- one of the others refuses
+pub exit_later : {T : Type 0} (document : Data) (settings : SettingsData) (files : List Data) (ends : List FileEnds) (value : T) (fault : DocFault)
+    → files ≡ files_of document → ends ≡ map ends_of (files_of document) → first_fault (early_rules document) ≡ None
+    → ◌≡◌ {A = Result ⊤ DocFault} (Err fault) (unless (first_fault (later_rules document settings files ends)) tt)
+    → Gives (Err fault) (unless (first_fault (rules_of document settings)) value)
+exit_later document settings files ends value fault e is early later =
+    inl (rw (by_others document settings files ends e is early ∙ told _ fault later) refl)
 
 -- none refuses
-pub exit_passed : (document : Data) (settings : SettingsData) (files : List Data) (read lent : List FileEnds) → files ≡ files_of document
-    → ◌≡◌ {A = Result ⊤ DocFault} (Ok tt) (unless (first_fault (shape_rules document files)) tt) → Gives (Ok read) (all_ends_read files) → lent ≡ read
-    → ◌≡◌ {A = Result ⊤ DocFault} (Ok tt) (unless (first_fault (later_rules document settings files lent)) tt)
-    → Gives (Ok read) (unless (first_fault (rules_of document settings)) (map ends_of files))
-exit_passed document settings files read lent e shape urls is later =
-    let passed = passed_by (url_rule files) (map ends_of files) read urls in
-    let none : first_fault (later_rules document settings files (map ends_of files)) ≡ None =
-    ap (λ xs. first_fault (later_rules document settings files xs)) (sym (is ∙ passed.1)) ∙ kept _ later in
-    inl (rw (by_groups document settings files None None None e (kept _ shape) passed.0 none) (ap Ok passed.1))
+pub none_broken : (document : Data) (settings : SettingsData) (files : List Data) (ends : List FileEnds)
+    → files ≡ files_of document → ends ≡ map ends_of (files_of document) → first_fault (early_rules document) ≡ None
+    → ◌≡◌ {A = Result ⊤ DocFault} (Ok tt) (unless (first_fault (later_rules document settings files ends)) tt)
+    → first_fault (rules_of document settings) ≡ None
+none_broken document settings files ends e is early later = by_others document settings files ends e is early ∙ kept _ later
 
--- what is refused is refused whatever would have been made
-pub refused_either : {A B : Type 0} (rule : Option DocFault) (a : A) (b : B) (fault : DocFault)
-    → Gives (Err fault) (unless rule a) → Gives (Err fault) (unless rule b)
-refused_either rule a b fault refused =
-    elim (refused_by rule a fault refused) [
-      | inl by_rule ↦ inl (rw by_rule refl)
-      | inr memory ↦ inr (ap Err memory)
-    ]
+-- the first of three faults, where it is one of the first two
+first_of_three : (shape urls later : Option DocFault) (fault : DocFault) → option_or shape (option_or urls None) ≡ Some fault
+    → option_or shape (option_or urls later) ≡ Some fault
+first_of_three (Some other) urls later fault e = e
+first_of_three None (Some other) later fault e = e
+first_of_three None None later fault e = absurd (cc)
+
+-- what refuses before the settings refuses under them
+early_refuses : (document : Data) (settings : SettingsData) (fault : DocFault) → first_fault (early_rules document) ≡ Some fault
+    → first_fault (rules_of document settings) ≡ Some fault
+early_refuses document settings fault early =
+    by_groups document settings (files_of document) _ _ _ refl refl refl refl
+    ∙ first_of_three (first_fault (shape_rules document (files_of document))) (url_rule (files_of document)) _ fault
+    (sym (by_early document (files_of document) _ _ refl refl refl) ∙ early)
+
+-- what is refused before the settings is refused under them
+pub refused_under : (value : Option Data) (settings : SettingsData) (fault : DocFault) → IsReadFrom value (Err fault)
+    → Gives (Err fault) (of_value (λ document. job_in document settings) value)
+unfolding job_in
+refused_under None settings fault (inl e) = inl (ap Err (cc))
+refused_under None settings fault (inr e) = inr (ap Err (cc))
+refused_under (Some document) settings fault (inl early) = inl (rw (early_refuses document settings fault early) refl)
+refused_under (Some document) settings fault (inr memory) = inr (ap Err memory)
+
+-- what a document comes to under settings its body comes to
+pub read_under : (value : Option Data) (settings : SettingsData) (document : Document) (result : Result JobData DocFault)
+    → IsReadFrom value (Ok document) → Gives result (job_in (view document.value) settings)
+    → Gives result (of_value (λ document. job_in document settings) value)
+read_under (Some value) settings document result read job = subst (λ (v : Data). Gives result (job_in v settings)) read.0 job
+read_under None settings document result (inl e) job = absurd (cc)
+read_under None settings document result (inr e) job = absurd (cc)
+
+-- a refusal by these rules, unless memory ran out
+pub refused_early : {T : Type 0} (value : Data) (made : T) (fault : DocFault) → Gives (Err fault) (unless (first_fault (early_rules value)) made)
+    → (first_fault (early_rules value) ≡ Some fault) ⊎ (fault ≡ Memory)
+refused_early value made fault refused = refused_by (first_fault (early_rules value)) made fault refused
 
 -- the first fault behind the URLs, by that of each of the four groups
 pub by_later : (document : Data) (settings : SettingsData) (files : List Data) (ends : List FileEnds)

@@ -1,5 +1,5 @@
 -- Which ban of a storage a document asks for, or the least rule that it breaks. The numbers and messages of its rules.
-use Rattle.std.specs.Prelude.{ℕ, Bool, true, false, not, ◌||◌, List, [], ◌∷◌, Option, Some, None, option_and_then, unwrap_or, is_none, Result, Err, codes}
+use Rattle.std.specs.Prelude.{ℕ, Bool, false, not, ◌||◌, List, [], ◌∷◌, Option, Some, None, option_and_then, unwrap_or, is_none, Result, Err, codes}
 use Rattle.std.specs.Option.{option_map_or}
 use Rattle.std.specs.Result.{result_ok}
 use Rattle.serde_json.specs.Data.{Data}

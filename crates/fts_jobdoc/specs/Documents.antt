@@ -107,6 +107,10 @@ later_rules document settings files ends =
     ++ (params_rules document
     ++ kind_rules document files ends))
 
+-- the rules that are asked of a document before the settings are: those on its shape, and that on its URLs
+unfoldable pub early_rules : Data → List (Option DocFault)
+early_rules document = shape_rules document (files_of document) ++ url_rule (files_of document) ∷ []
+
 -- all rules from rule 2 on, of a document with these files; rule 8 is that on URLs
 abbrev pub all_rules : Data → SettingsData → List Data → List (Option DocFault)
 all_rules document settings files = shape_rules document files ++ url_rule files ∷ later_rules document settings files (map ends_of files)

@@ -6,5 +6,6 @@ pub mod Fields
 pub mod Checks
 pub mod Ends
 pub mod Documents
+pub mod Document
 pub mod Bans
 pub mod Sids

@@ -2,23 +2,25 @@
 //! Rules first, job after: JSON, shape, URLs, places, files, parameters, kind; then the job is built, field by field, from what the rules keep.
 //! So each rule of a `NewJob` follows from rules that were asked (`proofs/JobRules.antt`). `specs/Documents.antt` is the whole definition.
 //! Reading takes no more time than the document is long, but for a comparison of each place with each endpoint.
-ghost use Rattle.std.specs.Prelude.{◌≡◌, ◌⊎◌, ◌≤◌, ◌++◌, length, map, option_map, false, None, OnOk, IfOk};
+ghost use Rattle.std.specs.Prelude.{◌≡◌, ◌⊎◌, ◌≤◌, ◌++◌, ℕ, List, length, map, option_map, false, None, OnOk, IfOk};
 ghost use Rattle.serde_json.specs.View.{view};
 ghost use Rattle.fts_tables.specs.declared.limits.TheConstants.{MAX_FILES};
 ghost use Rattle.fts_jobdoc.specs.Json.{files_of};
 ghost use Rattle.fts_jobdoc.specs.Fields.{has_bad_retry, retry_of, has_bad_priority, priority_in, has_bad_queue_time, queue_hours_of, sid_in};
-ghost use Rattle.fts_tables.specs.FirstFault.{first_fault, unless};
+ghost use Rattle.fts_tables.specs.FirstFault.{first_fault};
 ghost use Rattle.fts_jobdoc.specs.Checks.{Gives};
 ghost use Rattle.fts_jobdoc.specs.Ends.{ends_of};
 ghost use Rattle.fts_jobdoc.specs.Ids.{sid_id};
+ghost use Rattle.fts_jobdoc.specs.Document.{IsDocument, IsReadAs};
 ghost use Rattle.fts_jobdoc.specs.Documents.{job_of, job_in, priority_of, priority_given, rules_of, new_job, new_file, new_files, files_from, kind_of};
 
-use crate::ends::{FileEnds, read_all_ends};
+use crate::document::read_document;
+use crate::ends::FileEnds;
 use crate::files::{activity_of, size_of, some_has_replicas, strategy_of, wanted_digest};
 use crate::json::{list_under, natural_or, param, read_value};
 use crate::params::{is_set, is_verified, read_delay, sid_of};
-use crate::rules::{check_later, check_priority_document, check_shape};
-use crate::{DocFault, sid_id};
+use crate::rules::{check_later, check_priority_document};
+use crate::{DocFault, Document, sid_id};
 use fts_tables::limits::DEFAULT_PRIORITY;
 use fts_tables::{Items, JobKind, Label, Memory, NewFile, NewJob, Place, Settings};
 use serde_json::Value;
@@ -29,10 +31,19 @@ use std::alloc::Global;
 pub fn read_job(alloc: Global, body: &[u8], settings: &Settings) -> Result<NewJob, DocFault>
     ensures { (result ≡ job_of body.now settings.now) ⊎ (result ≡ Err DocFault.Memory) }
 {
-    match read_value(alloc, body)? {
-        Some(document) => job_in(alloc, &document, settings),
-        None => Err(DocFault::NotJson),
-    }
+    job_under(alloc, read_document(alloc, body), settings)
+}
+
+/// The job of a body under the settings in force, by what `read_document` gave of the body: what `read_job` answers.
+pub fn job_under(
+    alloc: Global,
+    document: Result<Document, DocFault>,
+    settings: &Settings,
+) -> Result<NewJob, DocFault>
+    requires { IfOk document IsDocument }
+    ensures { (body : List ℕ) → IsReadAs body document → Gives result (job_of body settings.now) }
+{
+    document?.job(alloc, settings)
 }
 
 /// Reads the body of a change of priority: from `MIN_PRIORITY` to `MAX_PRIORITY`.
@@ -54,30 +65,18 @@ fn priority_given(document: &Value) -> Result<u32, DocFault>
     Ok(priority_value(document))
 }
 
-/// The job of a document, or the least rule that it breaks.
-fn job_in(alloc: Global, document: &Value, settings: &Settings) -> Result<NewJob, DocFault>
-    ensures { Gives result (job_in (view document.now) settings.now) }
-{
-    let files = list_under(document, "files");
-    let ends = check_all(alloc, document, files, settings)?;
-    let job = make_job(alloc, document, settings, files, ends.as_slice())?;
-    Ok(job)
-}
-
-/// Where the files of a document that breaks no rule come from and go to.
-fn check_all(
-    alloc: Global,
-    document: &Value,
-    files: &[Value],
-    settings: &Settings,
-) -> Result<Items<FileEnds>, DocFault>
-    requires { map view files.now ≡ files_of (view document.now) }
-    ensures { Gives result (unless (first_fault (rules_of (view document.now) settings.now)) (map ends_of (map view files.now))) }
-{
-    check_shape(document, files)?;
-    let ends = read_all_ends(alloc, files)?;
-    check_later(document, settings, files, ends.as_slice())?;
-    Ok(ends)
+impl Document {
+    /// The job of the document under these settings. The error is the least rule that is broken, of 9 to 24 and then 29, or `Memory`.
+    fn job(&self, alloc: Global, settings: &Settings) -> Result<NewJob, DocFault>
+        requires { IsDocument self.now }
+        ensures { Gives result (job_in (view self.now.value) settings.now) }
+    {
+        let files = list_under(&self.value, "files");
+        let ends = self.ends.as_slice();
+        check_later(&self.value, settings, files, ends)?;
+        let job = make_job(alloc, &self.value, settings, files, ends)?;
+        Ok(job)
+    }
 }
 
 /// The job of a document that breaks no rule.

@@ -7,6 +7,7 @@
 
 mod ban;
 mod checksum;
+mod document;
 mod ends;
 mod fault;
 mod files;
@@ -18,7 +19,8 @@ mod rules;
 mod sid;
 
 pub use ban::{BanAsk, BanFault, read_ban, read_storage};
+pub use document::{Document, read_document};
 pub use fault::{DocFault, Unoffered};
 pub use ids::sid_id;
-pub use job::{read_job, read_priority};
+pub use job::{job_under, read_job, read_priority};
 pub use sid::read_sid;

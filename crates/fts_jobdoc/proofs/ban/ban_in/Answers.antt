@@ -2,7 +2,7 @@
 use Rattle.std.proofs.Common.{◌≡◌, Some, None, false, true, inl, refl, sym, ◌∙◌, rules}
 use Rattle.serde_json.specs.View.{view}
 use Rattle.fts_jobdoc.specs.Json.{is_object}
-use Rattle.fts_jobdoc.specs.Bans.{storage_in, has_bad_status, cancels, ban_rules, ban_in}
+use Rattle.fts_jobdoc.specs.Bans.{storage_in, has_bad_status, ban_rules, ban_in}
 use Rattle.fts_jobdoc.proofs.ban.ban_in.Goals as goal
 
 pub returns-then-not-is_object : goal.returns-then-not-is_object

@@ -1,7 +1,6 @@
 -- What is found under the key, or not. (The key is too long for the search.)
-use Rattle.std.proofs.Common.{◌≡◌, ap, sym, ◌∙◌}
+use Rattle.std.proofs.Common.{ap, ◌∙◌}
 use Rattle.std.specs.Prelude.{not}
-use Rattle.serde_json.specs.View.{view}
 use Rattle.fts_jobdoc.specs.Json.{is_from_minus_one, fails}
 use Rattle.fts_jobdoc.specs.Fields.{has_bad_queue_time}
 use Rattle.fts_jobdoc.proofs.params.has_bad_queue_time.Goals as goal
