@@ -14,7 +14,8 @@ ghost use Rattle.fts_words.specs.Words.{asked_in};
 ghost use Rattle.fts.specs.CommandLine.{stand_of, words_of, asks_service, exit_status_of, LooksAtMost, DeletesNothing};
 
 use fts_devices::{
-    LinkLimits, OpenedFile, StopFile, SystemClock, TcpLink, closed_doors, hands_over, lanes_over,
+    LinkLimits, OpenedFile, StopFile, SystemClock, TcpLink, can_begin, closed_doors, hands_over,
+    lanes_over,
 };
 use fts_disk::{Disk, FileDisk, MemoryDisk, SystemDisk};
 use fts_files::{FileSystem, SystemFiles};
@@ -22,7 +23,7 @@ use fts_store::{FolderStore, MemoryStore, Store, StoredFile};
 use fts_tables::limits::MAX_WORKERS;
 use fts_tables::{EndpointName, Items, Memory, PathKey, Place};
 use fts_top::{Doors, Ending, Outside, run};
-use fts_wire::{MemorySource, Source, StdSink, StdSource};
+use fts_wire::{MemorySource, Sink, Source, StdSink, StdSource};
 use fts_words::{Asked, read_words};
 use fts_workers::{Gate, NoGate};
 use std::process::ExitCode;
@@ -334,10 +335,33 @@ fn deletes_for<'a>(rt: &'a HostRuntime, words: &[String], path: &str) -> SystemD
     }
 }
 
+/// Whether the threads can be begun that the words ask for: to serve, at most one for each lane and each worker. Without them a service would answer,
+/// and copy nothing.
+fn has_threads<R: Threads + Wait + Sync>(rt: &HostRuntime, threads: &R, words: &[String]) -> bool {
+    match read_words(words) {
+        Some(Asked::Serve { lanes, .. }) => can_begin(threads, rt, lanes.saturating_add(MAX_WORKERS)),
+        Some(
+            Asked::Session
+            | Asked::Show
+            | Asked::Load { .. }
+            | Asked::Submit { .. }
+            | Asked::Query { .. }
+            | Asked::Delete
+            | Asked::Follow { .. },
+        )
+        | None => true,
+    }
+}
+
 /// Makes the outside of the stand that the command line names, and runs the command in it.
 fn run_stand<R: Threads + Wait + Sync>(rt: &HostRuntime, threads: &R) -> Result<Ending, Memory> {
     let line = command_line(rt)?;
     let words = command_words(line.as_slice());
+    if !has_threads(rt, threads, words) {
+        // Where nobody reads it, the status tells it.
+        let _told = StdSink::new(rt.stderr()).write(b"fts: no thread can be made\n");
+        return Err(Memory);
+    }
     match stand(line.as_slice()) {
         "-" => run_in_memory(rt, threads, words),
         folder => run_in_folder(rt, threads, folder, words),

@@ -6,7 +6,7 @@ use Rattle.fts_tables.specs.JobData.{JobData}
 use Rattle.fts_tables.specs.Tables.{Tables, number_of_id, job_at, row_at, rows_of_job}
 use Rattle.fts_tables.specs.Limits.{endpoint_at, is_banned}
 use Rattle.fts_tables.specs.Moves.{is_cancellable, is_settled_job}
-use Rattle.fts_tables.specs.Step.{Outcomes, step, submit_by, cancel_rows, cancel_row, cancel_one, cancel_file, set_priority, ban, unban}
+use Rattle.fts_tables.specs.Step.{Outcomes, step, submit_by, cancel_rows, cancel_one, cancel_file, set_priority, ban}
 use Rattle.fts_tables.specs.declared.limits.TheConstants.{MAX_JOBS, MAX_ROWS}
 use Rattle.fts_tables.specs.declared.rows.FileRow.{FileRow}
 use Rattle.fts_tables.specs.declared.rows.JobRow.{JobRow}

@@ -1,7 +1,6 @@
 -- How many files a ban cancels, by whether the settings list its storage.
-use Rattle.std.proofs.Common.{◌≡◌, ℕ, Bool, true, false, cond, List, [], ◌∷◌, Option, Some, None, Ok, Err, refl, sym, ◌∙◌, ap, max}
+use Rattle.std.proofs.Common.{◌≡◌, ℕ, Bool, true, false, cond, List, [], ◌∷◌, Option, Some, None, Err, refl, max}
 use Rattle.std.specs.Prelude.{if◌then◌else◌, ◌&&◌, ◌||◌, bytes_eq, is_some, find, unwrap_or}
-use Rattle.std.specs.List.{list_any}
 use Rattle.fts_tables.specs.SettingsData.{SettingsData, is_listed}
 use Rattle.fts_tables.specs.Tables.{Tables}
 use Rattle.fts_tables.specs.Limits.{endpoint_at}

@@ -5,6 +5,7 @@ pub mod Queries
 pub mod Routes
 pub mod Found
 pub mod Refusals
+pub mod Bodies
 pub mod Replies
 pub mod Changes
 pub mod Planned

@@ -11,10 +11,12 @@ ghost use Rattle.fts_keep.specs.Keeps.{Grows, KeepsImagesSinceAny};
 ghost use Rattle.fts_wire.specs.Answered.{request_data};
 ghost use Rattle.fts_wire.specs.Response.{has_phrase, has_methods};
 ghost use Rattle.fts_tables.specs.Step.{step};
+ghost use Rattle.fts_routes.specs.Bodies.{IsReadOf};
 ghost use Rattle.fts_routes.specs.Replies.{Answers, DoubtHasCause, Tries, said_to};
 ghost use Rattle.fts_routes.specs.Planned.{Comes, IsAsked, IsOfRequests, is_decided, ShowsOutcome, ShowsUnchanged};
 ghost use Rattle.fts_routes.specs.Replies.{reply_to_refusal, id_of_job, said};
 
+use crate::bodies::ReadBody;
 use crate::entries::look_at_entry;
 use crate::named::job_of_number;
 use crate::plan::plan;
@@ -50,7 +52,29 @@ pub fn answer<D: Disk>(
     ensures decided { (bodies : List (List ℕ))
         → IsTrue (is_decided (said keep.old.tables bodies keep.old.used writer (request_data request.now) now).reply.status) }
 {
-    match plan(alloc, keep.desk(), request, now) {
+    answer_read(alloc, keep, writer, request, ReadBody::Nothing, now)
+}
+
+/// The same, where the request's body may have been read before (`read_body`).
+pub fn answer_read<D: Disk>(
+    alloc: Global,
+    keep: &mut Keep<D>,
+    writer: u32,
+    request: &Request<'_>,
+    read: ReadBody,
+    now: u64,
+) -> Reply
+    requires read { IsReadOf request.now.body.now read }
+    ensures answers { Answers D.state D.faults keep.old keep.new writer (request_data request.now) now result }
+    ensures grows { Grows D.state D.faults writer keep.old keep.new }
+    ensures images { KeepsImagesSinceAny D.state keep.old keep.new }
+    ensures doubt { DoubtHasCause D.state D.faults keep.old keep.new }
+    ensures phrase { IsTrue (has_phrase result.status) }
+    ensures methods { IsTrue (has_methods result.status result.allow) }
+    ensures decided { (bodies : List (List ℕ))
+        → IsTrue (is_decided (said keep.old.tables bodies keep.old.used writer (request_data request.now) now).reply.status) }
+{
+    match plan(alloc, keep.desk(), request, read, now) {
         Ok(Planned::Replies { reply }) => reply,
         Ok(Planned::Looks { number }) => look_at_entry(alloc, keep, number),
         Ok(Planned::Tries { command, reply }) => try_command(alloc, keep, writer, command, reply),

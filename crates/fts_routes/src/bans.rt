@@ -10,6 +10,7 @@ ghost use Rattle.fts_tables.specs.Step.{step};
 ghost use Rattle.fts_tables.specs.declared.commands.Command.TheVariants.{Ban};
 ghost use Rattle.fts_jobdoc.specs.Bans.{ban_of, storage_named};
 ghost use Rattle.fts_wire.specs.Answered.{request_data};
+ghost use Rattle.fts_routes.specs.Bodies.{IsReadOf};
 ghost use Rattle.fts_routes.specs.Objects.{ban_object, settings_in, unban_object};
 ghost use Rattle.fts_routes.specs.Queries.{storage_asked};
 ghost use Rattle.fts_routes.specs.Refusals.{bad_ban, shows};
@@ -17,6 +18,7 @@ ghost use Rattle.fts_routes.specs.Replies.{plan_on_bans, if_ban, if_storage, ban
 ghost use Rattle.fts_routes.specs.Planned.{IsPlanned};
 ghost use Rattle.fts_routes.specs.declared.planned.Planned.TheVariants.{Replies as PlannedReply};
 
+use crate::bodies::{ReadBody, ban_read};
 use crate::counts::count_cancelled;
 use crate::looks::look_at_list;
 use crate::named::settings_of;
@@ -25,7 +27,7 @@ use crate::planned::{Planned, refuse_method};
 use crate::queries::{bytes_of, first_value};
 use crate::replies::{bad_ban, shows};
 use fts_desk::Desk;
-use fts_jobdoc::{BanAsk, BanFault, read_ban, read_storage};
+use fts_jobdoc::{BanAsk, BanFault, read_storage};
 use fts_tables::rules::is_listed;
 use fts_tables::{Command, EndpointName, Memory};
 use fts_wire::{Allow, Reply, Request};
@@ -37,9 +39,11 @@ pub fn plan_on_bans(
     alloc: Global,
     desk: &Desk,
     request: &Request<'_>,
+    read: ReadBody,
     now: u64,
 ) -> Result<Planned, Memory>
     requires settings { IsSome desk.now.tables.settings }
+    requires read { IsReadOf request.now.body.now read }
     ensures { IfOk result (λ planned. IsPlanned desk.now.tables planned (plan_on_bans desk.now.tables now (request_data request.now))) }
 {
     match request.method {
@@ -47,18 +51,25 @@ pub fn plan_on_bans(
             let reply = look_at_list(alloc, desk.banned())?;
             Ok(Planned::Replies { reply })
         }
-        "POST" => plan_by_document(alloc, desk, request.body, now),
+        "POST" => plan_by_document(alloc, desk, request.body, read, now),
         "DELETE" => plan_by_query(alloc, request.query, now),
         _ => refuse_method(alloc, Allow::Job),
     }
 }
 
 /// A ban, by its document.
-fn plan_by_document(alloc: Global, desk: &Desk, body: &[u8], now: u64) -> Result<Planned, Memory>
+fn plan_by_document(
+    alloc: Global,
+    desk: &Desk,
+    body: &[u8],
+    read: ReadBody,
+    now: u64,
+) -> Result<Planned, Memory>
     requires settings { IsSome desk.now.tables.settings }
+    requires read { IsReadOf body.now read }
     ensures { IfOk result (λ planned. IsPlanned desk.now.tables planned (if_ban (ban_of body.now) (banning desk.now.tables now))) }
 {
-    match read_ban(alloc, body) {
+    match ban_read(alloc, body, read) {
         Ok(asked) => plan_ban(alloc, desk, now, asked),
         Err(BanFault::Memory) => Err(Memory),
         Err(fault) => refuse_ban(alloc, fault),

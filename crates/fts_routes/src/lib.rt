@@ -7,6 +7,7 @@
 
 mod answers;
 mod bans;
+mod bodies;
 mod changes;
 mod counts;
 mod entries;
@@ -20,6 +21,7 @@ mod replies;
 mod routes;
 mod texts;
 
-pub use answers::answer;
+pub use answers::{answer, answer_read};
+pub use bodies::{ReadBody, read_body};
 pub use replies::refusal_reply;
 pub use texts::{file_state_text, job_state_text, kind_text};

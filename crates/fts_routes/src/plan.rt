@@ -4,6 +4,7 @@ ghost use Rattle.std.specs.Prelude.{◌≡◌, Some, IfOk, IsSome};
 ghost use Rattle.fts_tables.specs.Tables.{Tables, job_at};
 ghost use Rattle.fts_jobdoc.specs.Documents.{job_of, priority_of};
 ghost use Rattle.fts_wire.specs.Answered.{request_data};
+ghost use Rattle.fts_routes.specs.Bodies.{IsReadOf};
 ghost use Rattle.fts_routes.specs.Objects.{settings_in};
 ghost use Rattle.fts_routes.specs.Routes.{job_named, file_named};
 ghost use Rattle.fts_routes.specs.Found.{route_data};
@@ -14,6 +15,7 @@ ghost use Rattle.fts_routes.specs.Planned.{IsPlanned};
 ghost use Rattle.fts_routes.specs.declared.planned.Planned.TheVariants.{Replies as PlannedReply};
 
 use crate::bans::plan_on_bans;
+use crate::bodies::{ReadBody, job_read, priority_read};
 use crate::changes::{plan_cancellation, plan_file_cancellation, plan_priority, plan_submission};
 use crate::looks::{look_at_job, look_at_jobs, look_at_list};
 use crate::named::{entry_number, file_named, job_named, settings_of};
@@ -22,14 +24,21 @@ use crate::planned::{Planned, refuse_method};
 use crate::replies::{bad_document, no_file, no_job, no_route};
 use crate::routes::{Route, find_route};
 use fts_desk::Desk;
-use fts_jobdoc::{DocFault, read_job, read_priority};
+use fts_jobdoc::DocFault;
 use fts_tables::{JobRow, Memory};
 use fts_wire::{Allow, Request};
 use std::alloc::Global;
 
 /// What a request comes to, before anything changes.
-pub fn plan(alloc: Global, desk: &Desk, request: &Request<'_>, now: u64) -> Result<Planned, Memory>
+pub fn plan(
+    alloc: Global,
+    desk: &Desk,
+    request: &Request<'_>,
+    read: ReadBody,
+    now: u64,
+) -> Result<Planned, Memory>
     requires settings { IsSome desk.now.tables.settings }
+    requires read { IsReadOf request.now.body.now read }
     ensures { IfOk result (λ planned. IsPlanned desk.now.tables planned (plan_of desk.now.tables now (request_data request.now))) }
 {
     match find_route(request.path) {
@@ -37,7 +46,7 @@ pub fn plan(alloc: Global, desk: &Desk, request: &Request<'_>, now: u64) -> Resu
             let reply = no_route(alloc)?;
             Ok(Planned::Replies { reply })
         }
-        Some(route) => plan_on(alloc, desk, request, now, route),
+        Some(route) => plan_on(alloc, desk, request, read, now, route),
     }
 }
 
@@ -46,21 +55,23 @@ fn plan_on(
     alloc: Global,
     desk: &Desk,
     request: &Request<'_>,
+    read: ReadBody,
     now: u64,
     route: Route<'_>,
 ) -> Result<Planned, Memory>
     requires settings { IsSome desk.now.tables.settings }
+    requires read { IsReadOf request.now.body.now read }
     ensures { IfOk result (λ planned. IsPlanned desk.now.tables planned (plan_on desk.now.tables now (request_data request.now) (route_data route.entry))) }
 {
     match route {
-        Route::Jobs => plan_on_jobs(alloc, desk, request, now),
-        Route::Job { id } => plan_on_job(alloc, desk, request, now, id),
+        Route::Jobs => plan_on_jobs(alloc, desk, request, read, now),
+        Route::Job { id } => plan_on_job(alloc, desk, request, read, now, id),
         Route::Files { id } => plan_on_files(alloc, desk, request, id),
         Route::File { id, file } => plan_on_file(alloc, desk, request, now, id, file),
         Route::Links => plan_on_list(alloc, request, settings_of(desk).links.as_slice()),
         Route::Endpoints => { plan_on_list(alloc, request, settings_of(desk).endpoints.as_slice()) }
         Route::Shares => plan_on_list(alloc, request, settings_of(desk).weights.as_slice()),
-        Route::Bans => plan_on_bans(alloc, desk, request, now),
+        Route::Bans => plan_on_bans(alloc, desk, request, read, now),
         Route::JournalEntry { number } => plan_on_entry(alloc, request, number),
     }
 }
@@ -70,9 +81,11 @@ fn plan_on_jobs(
     alloc: Global,
     desk: &Desk,
     request: &Request<'_>,
+    read: ReadBody,
     now: u64,
 ) -> Result<Planned, Memory>
     requires settings { IsSome desk.now.tables.settings }
+    requires read { IsReadOf request.now.body.now read }
     ensures { IfOk result (λ planned. IsPlanned desk.now.tables planned (plan_on_jobs desk.now.tables now (request_data request.now))) }
 {
     match request.method {
@@ -80,18 +93,25 @@ fn plan_on_jobs(
             let reply = look_at_jobs(alloc, desk, request.query)?;
             Ok(Planned::Replies { reply })
         }
-        "POST" | "PUT" => plan_document(alloc, desk, request.body, now),
+        "POST" | "PUT" => plan_document(alloc, desk, request.body, read, now),
         _ => refuse_method(alloc, Allow::Jobs),
     }
 }
 
 /// A submission, by its document.
-fn plan_document(alloc: Global, desk: &Desk, body: &[u8], now: u64) -> Result<Planned, Memory>
+fn plan_document(
+    alloc: Global,
+    desk: &Desk,
+    body: &[u8],
+    read: ReadBody,
+    now: u64,
+) -> Result<Planned, Memory>
     requires settings { IsSome desk.now.tables.settings }
+    requires read { IsReadOf body.now read }
     ensures { IfOk result (λ planned. IsPlanned desk.now.tables planned
         (if_read (job_of body.now (settings_in desk.now.tables)) (submission desk.now.tables now))) }
 {
-    match read_job(alloc, body, settings_of(desk)) {
+    match job_read(alloc, body, read, settings_of(desk)) {
         Ok(job) => plan_submission(alloc, desk, now, job),
         Err(DocFault::Memory) => Err(Memory),
         Err(fault) => refuse_document(alloc, fault),
@@ -103,16 +123,18 @@ fn plan_on_job(
     alloc: Global,
     desk: &Desk,
     request: &Request<'_>,
+    read: ReadBody,
     now: u64,
     id: &str,
 ) -> Result<Planned, Memory>
     requires settings { IsSome desk.now.tables.settings }
+    requires read { IsReadOf request.now.body.now read }
     ensures { IfOk result (λ planned. IsPlanned desk.now.tables planned (plan_on_job desk.now.tables now (request_data request.now) id.now)) }
 {
     match request.method {
         "GET" => plan_look_at_job(alloc, desk, id),
         "DELETE" => plan_delete(alloc, desk, now, id),
-        "POST" => plan_post(alloc, desk, request.body, now, id),
+        "POST" => plan_post(alloc, desk, request.body, read, now, id),
         _ => refuse_method(alloc, Allow::Job),
     }
 }
@@ -143,14 +165,22 @@ fn plan_delete(alloc: Global, desk: &Desk, now: u64, id: &str) -> Result<Planned
 }
 
 /// Another priority for the job that a text names.
-fn plan_post(alloc: Global, desk: &Desk, body: &[u8], now: u64, id: &str) -> Result<Planned, Memory>
+fn plan_post(
+    alloc: Global,
+    desk: &Desk,
+    body: &[u8],
+    read: ReadBody,
+    now: u64,
+    id: &str,
+) -> Result<Planned, Memory>
     requires settings { IsSome desk.now.tables.settings }
+    requires read { IsReadOf body.now read }
     ensures { IfOk result (λ planned. IsPlanned desk.now.tables planned
         (if_job (job_named desk.now.tables id.now) (λ job. if_read (priority_of body.now) (prioritization now job)))) }
 {
     match job_named(desk, id) {
         None => refuse_job(alloc),
-        Some(job) => plan_prioritization(alloc, desk, body, now, &job),
+        Some(job) => plan_prioritization(alloc, desk, body, read, now, &job),
     }
 }
 
@@ -159,14 +189,16 @@ fn plan_prioritization(
     alloc: Global,
     desk: &Desk,
     body: &[u8],
+    read: ReadBody,
     now: u64,
     job: &JobRow,
 ) -> Result<Planned, Memory>
     requires settings { IsSome desk.now.tables.settings }
+    requires read { IsReadOf body.now read }
     requires number { job_at desk.now.tables.jobs job.now.number ≡ Some job.now }
     ensures { IfOk result (λ planned. IsPlanned desk.now.tables planned (if_read (priority_of body.now) (prioritization now job.now))) }
 {
-    match read_priority(alloc, body) {
+    match priority_read(alloc, body, read) {
         Ok(priority) => plan_priority(alloc, desk, now, job, priority),
         Err(DocFault::Memory) => Err(Memory),
         Err(fault) => refuse_document(alloc, fault),

@@ -1,19 +1,20 @@
 //! A connection over a pass of the lock: its requests, one after another, each answered in one turn of the lock.
 //! Keeps, from request to request: what was written are the responses so far, each reply is the machine's over the list before its turn, with the
 //! pass's number as writer, and the turns stand in the order of the requests (`IsLineServed` of `specs/Lanes.antt`).
-//! Order of a request: it is read, the clock is asked, it is answered in a turn, its response is written. What an earlier line left in the room is
+//! Order of a request: it is read, the clock is asked, its document is read, it is answered in a turn, its response is written. What an earlier line left in the room is
 //! dropped first. Nothing is read behind a request that says close, nor behind the millionth, nor behind a load that found no request.
 ghost use Rattle.std.specs.Prelude.{◌≡◌, IsTrue};
 ghost use Rattle.fts_tables.specs.Counts.{Rose};
 ghost use Rattle.fts_turnstile.specs.Passes.{IsOf, IsSame};
 ghost use Rattle.fts_wire.specs.Outside.{IsLine};
 ghost use Rattle.fts_wire.specs.Response.{has_phrase, has_methods};
+ghost use Rattle.fts_routes.specs.Bodies.{IsReadOf};
 ghost use Rattle.fts_session.specs.Connections.{reading_in};
 ghost use Rattle.fts_service.specs.Lanes.{AnsweredInTurn, IsLineServed, standing};
 ghost use Rattle.fts_service.specs.Within.{AnswersIn};
 
 use fts_disk::Disk;
-use fts_routes::answer;
+use fts_routes::{ReadBody, answer_read, read_body};
 use fts_session::{LineEnd, refuse, respond};
 use fts_shop::Shop;
 use fts_tables::Clock;
@@ -68,7 +69,7 @@ pub fn serve_connection<D: Disk, L: Source + Sink, C: Clock, R: Wait>(
     LineEnd::Many
 }
 
-/// Answers the loaded request at a moment, in one turn of the pass, which is the writer of its command.
+/// Answers the loaded request at a moment, in one turn of the pass, which is the writer of its command. Its document is read before the turn.
 fn answer_in_turn<D: Disk, R: Wait>(
     rt: &R,
     alloc: Global,
@@ -83,24 +84,27 @@ fn answer_in_turn<D: Disk, R: Wait>(
     ensures methods { IsTrue (has_methods result.status result.allow) }
 {
     let writer = pass.number();
+    let read = read_body(alloc, &room.request());
     shop.with_turn(
         rt,
         pass,
-        |shop: &mut Shop<D>| answer_in(alloc, shop, writer, room, now),
+        |shop: &mut Shop<D>| answer_in(alloc, shop, writer, room, read, now),
     )
 }
 
-/// Answers the loaded request of a writer within a turn.
+/// Answers the loaded request of a writer within a turn, by what was read of its body before.
 fn answer_in<D: Disk>(
     alloc: Global,
     shop: &mut Shop<D>,
     writer: u32,
     room: &Room,
+    read: ReadBody,
     now: u64,
 ) -> Reply
+    requires { IsReadOf room.now.request.body read }
     ensures { AnswersIn D.Disk writer room.now.request now shop.old shop.new result }
 {
     let keep = shop.keep();
     let _desk = keep.desk();
-    answer(alloc, keep, writer, &room.request(), now)
+    answer_read(alloc, keep, writer, &room.request(), read, now)
 }

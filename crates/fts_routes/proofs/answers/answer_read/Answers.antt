@@ -11,7 +11,7 @@ use Rattle.fts_routes.proofs.Coming.{comes-replied, comes-looked, comes-tried, a
 use Rattle.fts_routes.proofs.ReadEntries.{bodies_read, are_shown, grown_none, doubt_same}
 use Rattle.fts_routes.proofs.Sendable.{sendable, said-to, planned, planned-asked}
 use Rattle.fts_routes.proofs.Still.{still, looked_since}
-use Rattle.fts_routes.proofs.answers.answer.Goals as goal
+use Rattle.fts_routes.proofs.answers.answer_read.Goals as goal
 
 pub try_command-requires : goal.try_command-requires
 try_command-requires g c = record {

@@ -1,5 +1,5 @@
 -- One row more was looked at.
-use Rattle.std.proofs.Common.{◌≡◌, ◌<◌, ◌+◌, true, false, List, length, get_or, take, ap, sym, ◌∙◌, arith}
+use Rattle.std.proofs.Common.{◌≡◌, ◌<◌, ◌+◌, List, length, get_or, take, ap, sym, ◌∙◌, arith}
 use Rattle.std.specs.Prelude.{count_by, if◌then◌else◌}
 use Rattle.fts_tables.specs.Waits.{waits_at}
 use Rattle.fts_tables.specs.declared.rows.FileRow.{FileRow}
