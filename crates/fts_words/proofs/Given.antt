@@ -1,5 +1,5 @@
 -- The numbers of options, with one option more.
-use Rattle.std.proofs.Common.{◌≡◌, ℕ, Bool, if◌then◌else◌, List, [], ◌∷◌, ◌++◌, Option, Some, None, refl, ap, sym, subst, ◌∙◌}
+use Rattle.std.proofs.Common.{◌≡◌, ℕ, Bool, true, if◌then◌else◌, List, [], ◌∷◌, ◌++◌, Option, Some, None, refl, ap, sym, subst, ◌∙◌}
 use Rattle.std.specs.Prelude.{is_some, unwrap_or, option_map}
 use Rattle.std.specs.List.{list_any}
 use Rattle.fts_words.specs.Words.{port_of, lanes_of, connections_of, number_given, tries_of, job_of, first_of, numbers_of, is_same_option}
@@ -79,15 +79,33 @@ any_job number (Number n ∷ before) = any_job number before
 any_job number (Tries n ∷ before) = any_job number before
 any_job number (Job n ∷ before) = refl
 
+-- what comes of a value of which one may be given
+abbrev pub Once : Option ℕ → ℕ → Option ℕ → Type 0
+Once given value result = result ≡ (if is_some given then None else Some value)
+
+-- it is refused where there is one already
+once_refused : (given : Option ℕ) (value : ℕ) → Once given value None → is_some given ≡ true
+once_refused None value is = cc
+once_refused (Some n) value is = refl
+
+-- and it is taken where there is none
+once_free : (given : Option ℕ) (value result : ℕ) → Once given value (Some result) → given ≡ None
+once_free None value result is = refl
+once_free (Some n) value result is = cc
+
+once_taken : (given : Option ℕ) (value result : ℕ) → Once given value (Some result) → result ≡ value
+once_taken None value result is = cc
+once_taken (Some n) value result is = cc
+
 -- what one option more makes of numbers
 abbrev pub Taken : List Given → Given → Option Numbers → Type 0
 Taken before option result = result ≡ (if list_any (is_same_option option) before then None else Some (numbers_of (before ++ option ∷ [])))
 
 -- the option is there already
-there : (before : List Given) (option : Given) (found : Option ℕ) (number : ℕ) → list_any (is_same_option option) before ≡ is_some found → found ≡ Some number
+there : (before : List Given) (option : Given) (found : Option ℕ) → list_any (is_same_option option) before ≡ is_some found → is_some found ≡ true
     → Taken before option None
-there before option found number any is =
-    ap (λ (b : Bool). if b then None else Some (numbers_of (before ++ option ∷ []))) (sym (any ∙ ap (λ (o : Option ℕ). is_some o) is))
+there before option found any is =
+    ap (λ (b : Bool). if b then None else Some (numbers_of (before ++ option ∷ []))) (sym (any ∙ is))
 
 -- it is not, and these are the numbers with it
 fresh : (before : List Given) (option : Given) (found : Option ℕ) (result : Numbers) → list_any (is_same_option option) before ≡ is_some found → found ≡ None
@@ -109,34 +127,42 @@ at_variant : (before : List Given) (option variant : Given) (result : Option Num
 at_variant before option variant result is taken = subst (λ (o : Given). Taken before o result) (sym is) taken
 
 module _ (self : Numbers) (before : List Given) (are : self ≡ numbers_of before) (option : Given) (number : ℕ) where
-  pub port_there : (old : ℕ) → option ≡ Port number → self.port ≡ Some old → Taken before option None
-  port_there old one is = at_variant before option (Port number) None one
-      (there before (Port number) (first_of port_of before) old (any_port number before) (sym (ap (λ (n : Numbers). n.port) are) ∙ is))
+  pub port_there : option ≡ Port number → Once self.port number None → Taken before option None
+  port_there one is = at_variant before option (Port number) None one
+      (there before (Port number) (first_of port_of before) (any_port number before)
+      (sym (ap (λ (n : Numbers). is_some n.port) are) ∙ once_refused self.port number is))
 
-  pub lanes_there : (old : ℕ) → option ≡ Lanes number → self.lanes ≡ Some old → Taken before option None
-  lanes_there old one is = at_variant before option (Lanes number) None one
-      (there before (Lanes number) (first_of lanes_of before) old (any_lanes number before) (sym (ap (λ (n : Numbers). n.lanes) are) ∙ is))
+  pub lanes_there : option ≡ Lanes number → Once self.lanes number None → Taken before option None
+  lanes_there one is = at_variant before option (Lanes number) None one
+      (there before (Lanes number) (first_of lanes_of before) (any_lanes number before)
+      (sym (ap (λ (n : Numbers). is_some n.lanes) are) ∙ once_refused self.lanes number is))
 
-  pub connections_there : (old : ℕ) → option ≡ Connections number → self.connections ≡ Some old → Taken before option None
-  connections_there old one is = at_variant before option (Connections number) None one
-      (there before (Connections number) (first_of connections_of before) old (any_connections number before) (sym (ap (λ (n : Numbers). n.connections) are) ∙ is))
+  pub connections_there : option ≡ Connections number → Once self.connections number None → Taken before option None
+  connections_there one is = at_variant before option (Connections number) None one
+      (there before (Connections number) (first_of connections_of before) (any_connections number before)
+      (sym (ap (λ (n : Numbers). is_some n.connections) are) ∙ once_refused self.connections number is))
 
-  pub number_there : (old : ℕ) → option ≡ Number number → self.number ≡ Some old → Taken before option None
-  number_there old one is = at_variant before option (Number number) None one
-      (there before (Number number) (first_of number_given before) old (any_number number before) (sym (ap (λ (n : Numbers). n.number) are) ∙ is))
+  pub number_there : option ≡ Number number → Once self.number number None → Taken before option None
+  number_there one is = at_variant before option (Number number) None one
+      (there before (Number number) (first_of number_given before) (any_number number before)
+      (sym (ap (λ (n : Numbers). is_some n.number) are) ∙ once_refused self.number number is))
 
-  pub tries_there : (old : ℕ) → option ≡ Tries number → self.tries ≡ Some old → Taken before option None
-  tries_there old one is = at_variant before option (Tries number) None one
-      (there before (Tries number) (first_of tries_of before) old (any_tries number before) (sym (ap (λ (n : Numbers). n.tries) are) ∙ is))
+  pub tries_there : option ≡ Tries number → Once self.tries number None → Taken before option None
+  tries_there one is = at_variant before option (Tries number) None one
+      (there before (Tries number) (first_of tries_of before) (any_tries number before)
+      (sym (ap (λ (n : Numbers). is_some n.tries) are) ∙ once_refused self.tries number is))
 
-  pub job_there : (old : ℕ) → option ≡ Job number → self.job ≡ Some old → Taken before option None
-  job_there old one is = at_variant before option (Job number) None one
-      (there before (Job number) (first_of job_of before) old (any_job number before) (sym (ap (λ (n : Numbers). n.job) are) ∙ is))
+  pub job_there : option ≡ Job number → Once self.job number None → Taken before option None
+  job_there one is = at_variant before option (Job number) None one
+      (there before (Job number) (first_of job_of before) (any_job number before)
+      (sym (ap (λ (n : Numbers). is_some n.job) are) ∙ once_refused self.job number is))
 
-  pub port_fresh : option ≡ Port number → self.port ≡ None → Taken before option (Some (record self { port = Some number }))
-  port_fresh one is =
-      let none : first_of port_of before ≡ None = sym (ap (λ (n : Numbers). n.port) are) ∙ is in
-      at_variant before option (Port number) (Some (record self { port = Some number })) one
+  pub port_fresh : (result : ℕ) → option ≡ Port number → Once self.port number (Some result)
+      → Taken before option (Some (record self { port = Some result }))
+  port_fresh result one is =
+      let none : first_of port_of before ≡ None = sym (ap (λ (n : Numbers). n.port) are) ∙ once_free self.port number result is in
+      ap (λ (n : ℕ). Some (record self { port = Some n })) (once_taken self.port number result is)
+      ∙ at_variant before option (Port number) (Some (record self { port = Some number })) one
       (fresh before (Port number) (first_of port_of before) (record self { port = Some number }) (any_port number before) none
       (same_numbers
       (sym (first_new port_of before (Port number) number none refl))
@@ -146,10 +172,12 @@ module _ (self : Numbers) (before : List Given) (are : self ≡ numbers_of befor
       (ap (λ (n : Numbers). n.tries) are ∙ sym (first_stays tries_of before (Port number) refl))
       (ap (λ (n : Numbers). n.job) are ∙ sym (first_stays job_of before (Port number) refl))))
 
-  pub lanes_fresh : option ≡ Lanes number → self.lanes ≡ None → Taken before option (Some (record self { lanes = Some number }))
-  lanes_fresh one is =
-      let none : first_of lanes_of before ≡ None = sym (ap (λ (n : Numbers). n.lanes) are) ∙ is in
-      at_variant before option (Lanes number) (Some (record self { lanes = Some number })) one
+  pub lanes_fresh : (result : ℕ) → option ≡ Lanes number → Once self.lanes number (Some result)
+      → Taken before option (Some (record self { lanes = Some result }))
+  lanes_fresh result one is =
+      let none : first_of lanes_of before ≡ None = sym (ap (λ (n : Numbers). n.lanes) are) ∙ once_free self.lanes number result is in
+      ap (λ (n : ℕ). Some (record self { lanes = Some n })) (once_taken self.lanes number result is)
+      ∙ at_variant before option (Lanes number) (Some (record self { lanes = Some number })) one
       (fresh before (Lanes number) (first_of lanes_of before) (record self { lanes = Some number }) (any_lanes number before) none
       (same_numbers
       (ap (λ (n : Numbers). n.port) are ∙ sym (first_stays port_of before (Lanes number) refl))
@@ -159,10 +187,12 @@ module _ (self : Numbers) (before : List Given) (are : self ≡ numbers_of befor
       (ap (λ (n : Numbers). n.tries) are ∙ sym (first_stays tries_of before (Lanes number) refl))
       (ap (λ (n : Numbers). n.job) are ∙ sym (first_stays job_of before (Lanes number) refl))))
 
-  pub connections_fresh : option ≡ Connections number → self.connections ≡ None → Taken before option (Some (record self { connections = Some number }))
-  connections_fresh one is =
-      let none : first_of connections_of before ≡ None = sym (ap (λ (n : Numbers). n.connections) are) ∙ is in
-      at_variant before option (Connections number) (Some (record self { connections = Some number })) one
+  pub connections_fresh : (result : ℕ) → option ≡ Connections number → Once self.connections number (Some result)
+      → Taken before option (Some (record self { connections = Some result }))
+  connections_fresh result one is =
+      let none : first_of connections_of before ≡ None = sym (ap (λ (n : Numbers). n.connections) are) ∙ once_free self.connections number result is in
+      ap (λ (n : ℕ). Some (record self { connections = Some n })) (once_taken self.connections number result is)
+      ∙ at_variant before option (Connections number) (Some (record self { connections = Some number })) one
       (fresh before (Connections number) (first_of connections_of before) (record self { connections = Some number }) (any_connections number before) none
       (same_numbers
       (ap (λ (n : Numbers). n.port) are ∙ sym (first_stays port_of before (Connections number) refl))
@@ -172,10 +202,12 @@ module _ (self : Numbers) (before : List Given) (are : self ≡ numbers_of befor
       (ap (λ (n : Numbers). n.tries) are ∙ sym (first_stays tries_of before (Connections number) refl))
       (ap (λ (n : Numbers). n.job) are ∙ sym (first_stays job_of before (Connections number) refl))))
 
-  pub number_fresh : option ≡ Number number → self.number ≡ None → Taken before option (Some (record self { number = Some number }))
-  number_fresh one is =
-      let none : first_of number_given before ≡ None = sym (ap (λ (n : Numbers). n.number) are) ∙ is in
-      at_variant before option (Number number) (Some (record self { number = Some number })) one
+  pub number_fresh : (result : ℕ) → option ≡ Number number → Once self.number number (Some result)
+      → Taken before option (Some (record self { number = Some result }))
+  number_fresh result one is =
+      let none : first_of number_given before ≡ None = sym (ap (λ (n : Numbers). n.number) are) ∙ once_free self.number number result is in
+      ap (λ (n : ℕ). Some (record self { number = Some n })) (once_taken self.number number result is)
+      ∙ at_variant before option (Number number) (Some (record self { number = Some number })) one
       (fresh before (Number number) (first_of number_given before) (record self { number = Some number }) (any_number number before) none
       (same_numbers
       (ap (λ (n : Numbers). n.port) are ∙ sym (first_stays port_of before (Number number) refl))
@@ -185,10 +217,12 @@ module _ (self : Numbers) (before : List Given) (are : self ≡ numbers_of befor
       (ap (λ (n : Numbers). n.tries) are ∙ sym (first_stays tries_of before (Number number) refl))
       (ap (λ (n : Numbers). n.job) are ∙ sym (first_stays job_of before (Number number) refl))))
 
-  pub tries_fresh : option ≡ Tries number → self.tries ≡ None → Taken before option (Some (record self { tries = Some number }))
-  tries_fresh one is =
-      let none : first_of tries_of before ≡ None = sym (ap (λ (n : Numbers). n.tries) are) ∙ is in
-      at_variant before option (Tries number) (Some (record self { tries = Some number })) one
+  pub tries_fresh : (result : ℕ) → option ≡ Tries number → Once self.tries number (Some result)
+      → Taken before option (Some (record self { tries = Some result }))
+  tries_fresh result one is =
+      let none : first_of tries_of before ≡ None = sym (ap (λ (n : Numbers). n.tries) are) ∙ once_free self.tries number result is in
+      ap (λ (n : ℕ). Some (record self { tries = Some n })) (once_taken self.tries number result is)
+      ∙ at_variant before option (Tries number) (Some (record self { tries = Some number })) one
       (fresh before (Tries number) (first_of tries_of before) (record self { tries = Some number }) (any_tries number before) none
       (same_numbers
       (ap (λ (n : Numbers). n.port) are ∙ sym (first_stays port_of before (Tries number) refl))
@@ -198,10 +232,12 @@ module _ (self : Numbers) (before : List Given) (are : self ≡ numbers_of befor
       (sym (first_new tries_of before (Tries number) number none refl))
       (ap (λ (n : Numbers). n.job) are ∙ sym (first_stays job_of before (Tries number) refl))))
 
-  pub job_fresh : option ≡ Job number → self.job ≡ None → Taken before option (Some (record self { job = Some number }))
-  job_fresh one is =
-      let none : first_of job_of before ≡ None = sym (ap (λ (n : Numbers). n.job) are) ∙ is in
-      at_variant before option (Job number) (Some (record self { job = Some number })) one
+  pub job_fresh : (result : ℕ) → option ≡ Job number → Once self.job number (Some result)
+      → Taken before option (Some (record self { job = Some result }))
+  job_fresh result one is =
+      let none : first_of job_of before ≡ None = sym (ap (λ (n : Numbers). n.job) are) ∙ once_free self.job number result is in
+      ap (λ (n : ℕ). Some (record self { job = Some n })) (once_taken self.job number result is)
+      ∙ at_variant before option (Job number) (Some (record self { job = Some number })) one
       (fresh before (Job number) (first_of job_of before) (record self { job = Some number }) (any_job number before) none
       (same_numbers
       (ap (λ (n : Numbers). n.port) are ∙ sym (first_stays port_of before (Job number) refl))

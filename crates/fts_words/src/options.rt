@@ -1,6 +1,6 @@
 //! One option of a command, and the options that were given so far, each at most once (`specs/Words.antt`).
 //! A value is read as 1 to 20 decimal digits; a number that no `u64` holds is in no range. That of `--job` is read as the text of a UUID.
-ghost use Rattle.std.specs.Prelude.{◌≡◌, List, [], ◌∷◌, ◌++◌, Option, Some, None, if◌then◌else◌, ◌&&◌, nat_le, length, IfSome, option_and_then};
+ghost use Rattle.std.specs.Prelude.{◌≡◌, List, [], ◌∷◌, ◌++◌, Option, Some, None, if◌then◌else◌, ◌&&◌, nat_le, length, IfSome, is_some, option_and_then};
 ghost use Rattle.std.specs.List.{list_all, list_any};
 ghost use Rattle.fts_tables.specs.Names.{is_digit};
 ghost use Rattle.fts_words.specs.Words.{option_of, given_by, given_to_client, names_job, job_named, number_of, numbers_of, is_same_option, asked_with, command_of};
@@ -151,6 +151,16 @@ fn of_client(name: &str, number: u64) -> Option<Given>
     }
 }
 
+/// A value, where none was given before.
+fn first<T: Copy>(given: Option<T>, value: T) -> Option<T>
+    ensures { result ≡ (if is_some given then None else Some value) }
+{
+    match given {
+        None => Some(value),
+        Some(_) => None,
+    }
+}
+
 /// The numbers of options, each where it was given.
 #[derive(Clone, Copy, Debug, PartialEq, Eq)]
 pub struct Numbers {
@@ -178,48 +188,30 @@ impl Numbers {
         ensures { (before : List _) → self ≡ numbers_of before → result ≡ (if list_any (is_same_option option) before then None else Some (numbers_of (before ++ option ∷ []))) }
     {
         match option {
-            Given::Port(number) => match self.port {
-                None => Some(Numbers {
-                    port: Some(number),
-                    ..self
-                }),
-                Some(_) => None,
-            },
-            Given::Lanes(number) => match self.lanes {
-                None => Some(Numbers {
-                    lanes: Some(number),
-                    ..self
-                }),
-                Some(_) => None,
-            },
-            Given::Connections(number) => match self.connections {
-                None => Some(Numbers {
-                    connections: Some(number),
-                    ..self
-                }),
-                Some(_) => None,
-            },
-            Given::Number(number) => match self.number {
-                None => Some(Numbers {
-                    number: Some(number),
-                    ..self
-                }),
-                Some(_) => None,
-            },
-            Given::Tries(number) => match self.tries {
-                None => Some(Numbers {
-                    tries: Some(number),
-                    ..self
-                }),
-                Some(_) => None,
-            },
-            Given::Job(id) => match self.job {
-                None => Some(Numbers {
-                    job: Some(id),
-                    ..self
-                }),
-                Some(_) => None,
-            },
+            Given::Port(number) => Some(Numbers {
+                port: Some(first(self.port, number)?),
+                ..self
+            }),
+            Given::Lanes(number) => Some(Numbers {
+                lanes: Some(first(self.lanes, number)?),
+                ..self
+            }),
+            Given::Connections(number) => Some(Numbers {
+                connections: Some(first(self.connections, number)?),
+                ..self
+            }),
+            Given::Number(number) => Some(Numbers {
+                number: Some(first(self.number, number)?),
+                ..self
+            }),
+            Given::Tries(number) => Some(Numbers {
+                tries: Some(first(self.tries, number)?),
+                ..self
+            }),
+            Given::Job(id) => Some(Numbers {
+                job: Some(first(self.job, id)?),
+                ..self
+            }),
         }
     }
 
