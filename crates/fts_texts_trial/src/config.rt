@@ -466,7 +466,8 @@ const TWO_RULES: [RuleRow; 5] = [
     ),
     (
         "a storage twice, and a link twice",
-        "vo = \"v\"\nstorage = [{ url = \"HTTPS://A.EXAMPLE:443\" }, { url = \"https://a.example\" }]\nlink = [{ source = \"x://c\", destination = \"x://c\", max_active = 1 }, { source = \"x://c\", destination = \"x://c\", max_active = 1 }]",
+        "vo = \"v\"\nstorage = [{ url = \"HTTPS://A.EXAMPLE:443\" }, { url = \"https://a.example\" }]\n\
+         link = [{ source = \"x://c\", destination = \"x://c\", max_active = 1 }, { source = \"x://c\", destination = \"x://c\", max_active = 1 }]",
         5,
     ),
 ];

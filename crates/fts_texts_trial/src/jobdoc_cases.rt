@@ -15,20 +15,31 @@ pub const ONE_FILE: &str =
     "{\"files\":[{\"sources\":[\"https://a.example/data/f1\"],\"destinations\":[\"https://b.example/f1\"]}]}";
 
 pub const SEVERAL_FILES: &str =
-    "{\"files\":[{\"sources\":[\"https://a.example/data/f1\"],\"destinations\":[\"https://b.example/f1\"],\"filesize\":3},{\"sources\":[\"https://a.example/data/f2\"],\"destinations\":[\"https://b.example/f2\"],\"activity\":\"production\"}],\"params\":{\"retry\":3,\"retry_delay\":60,\"priority\":5,\"overwrite\":true}}";
+    "{\"files\":[{\"sources\":[\"https://a.example/data/f1\"],\"destinations\":[\"https://b.example/f1\"],\"filesize\":3},\
+     {\"sources\":[\"https://a.example/data/f2\"],\"destinations\":[\"https://b.example/f2\"],\"activity\":\"production\"}],\
+     \"params\":{\"retry\":3,\"retry_delay\":60,\"priority\":5,\"overwrite\":true}}";
 
 pub const WITH_CHECKSUM: &str =
-    "{\"files\":[{\"sources\":[\"https://a.example/data/f1\"],\"destinations\":[\"https://b.example/checked\"],\"checksum\":\"MD5:900150983cd24fb0d6963f7d28e17f72\",\"filesize\":3}],\"params\":{\"verify_checksum\":\"both\"}}";
+    "{\"files\":[{\"sources\":[\"https://a.example/data/f1\"],\"destinations\":[\"https://b.example/checked\"],\
+     \"checksum\":\"MD5:900150983cd24fb0d6963f7d28e17f72\",\"filesize\":3}],\"params\":{\"verify_checksum\":\"both\"}}";
 
 pub const REPLICAS: &str =
     "{\"files\":[{\"sources\":[\"https://a.example/data/f1\",\"https://a.example/copies/f1\"],\"destinations\":[\"https://b.example/nearest\"],\"selection_strategy\":\"orderly\"}]}";
 
 pub const MULTIHOP: &str =
-    "{\"files\":[{\"sources\":[\"https://a.example/data/f1\"],\"destinations\":[\"https://b.example/hop\"]},{\"sources\":[\"https://b.example/hop\"],\"destinations\":[\"https://a.example/back/f1\"]}],\"params\":{\"multihop\":true,\"id_generator\":\"deterministic\",\"sid\":\"f1 there and back\"}}";
+    "{\"files\":[{\"sources\":[\"https://a.example/data/f1\"],\"destinations\":[\"https://b.example/hop\"]},\
+     {\"sources\":[\"https://b.example/hop\"],\"destinations\":[\"https://a.example/back/f1\"]}],\
+     \"params\":{\"multihop\":true,\"id_generator\":\"deterministic\",\"sid\":\"f1 there and back\"}}";
 
 /// As clients of the field send it, with every field that they have.
 pub const ORDINARY: &str =
-    "{\"files\":[{\"sources\":[\"root://a.example:1094//data//f1\"],\"destinations\":[\"https://b.example:443/store/f1\"],\"checksum\":\"ADLER32:0d5e1a2b\",\"filesize\":3,\"metadata\":null,\"activity\":null,\"selection_strategy\":null},{\"sources\":[\"root://a.example:1094//data//f2\"],\"destinations\":[\"https://b.example:443/store/f2\"],\"checksum\":\"ADLER32:0d5e1a2b\",\"filesize\":3,\"metadata\":null,\"activity\":null,\"selection_strategy\":null}],\"params\":{\"verify_checksum\":false,\"reuse\":false,\"spacetoken\":null,\"bring_online\":null,\"copy_pin_lifetime\":-1,\"job_metadata\":null,\"overwrite\":false,\"multihop\":false,\"retry\":-1,\"retry_delay\":0,\"priority\":3,\"max_time_in_queue\":null,\"timeout\":null,\"id_generator\":\"standard\",\"sid\":null}}";
+    "{\"files\":[{\"sources\":[\"root://a.example:1094//data//f1\"],\"destinations\":[\"https://b.example:443/store/f1\"],\
+     \"checksum\":\"ADLER32:0d5e1a2b\",\"filesize\":3,\"metadata\":null,\"activity\":null,\"selection_strategy\":null},\
+     {\"sources\":[\"root://a.example:1094//data//f2\"],\"destinations\":[\"https://b.example:443/store/f2\"],\
+     \"checksum\":\"ADLER32:0d5e1a2b\",\"filesize\":3,\"metadata\":null,\"activity\":null,\"selection_strategy\":null}],\
+     \"params\":{\"verify_checksum\":false,\"reuse\":false,\"spacetoken\":null,\"bring_online\":null,\"copy_pin_lifetime\":-1,\"job_metadata\":null,\
+     \"overwrite\":false,\"multihop\":false,\"retry\":-1,\"retry_delay\":0,\"priority\":3,\"max_time_in_queue\":null,\"timeout\":null,\
+     \"id_generator\":\"standard\",\"sid\":null}}";
 
 /// Bodies that have not the shape of a document.
 pub const BODIES: [BodyCase; 14] = [
@@ -612,37 +623,44 @@ pub const BANS: [BanCase; 20] = [
 pub const KINDS: [BodyCase; 11] = [
     (
         "a broken URL of the second file, and no size of the first",
-        "{\"files\":[{\"sources\":[\"https://a.example/f\"],\"destinations\":[\"https://b.example/f\"],\"filesize\":-1},{\"sources\":[\"f\"],\"destinations\":[\"https://b.example/f\"]}],\"params\":{}}",
+        "{\"files\":[{\"sources\":[\"https://a.example/f\"],\"destinations\":[\"https://b.example/f\"],\"filesize\":-1},\
+         {\"sources\":[\"f\"],\"destinations\":[\"https://b.example/f\"]}],\"params\":{}}",
         8,
         "bad URL 1",
     ),
     (
         "another algorithm of the first file, and no checksum of the second",
-        "{\"files\":[{\"sources\":[\"https://a.example/f\"],\"destinations\":[\"https://b.example/f\"],\"checksum\":\"ADLER32:0d5e1a2b\"},{\"sources\":[\"https://a.example/f\"],\"destinations\":[\"https://b.example/f\"],\"checksum\":\"0\"}],\"params\":{\"verify_checksum\":true}}",
+        "{\"files\":[{\"sources\":[\"https://a.example/f\"],\"destinations\":[\"https://b.example/f\"],\"checksum\":\"ADLER32:0d5e1a2b\"},\
+         {\"sources\":[\"https://a.example/f\"],\"destinations\":[\"https://b.example/f\"],\"checksum\":\"0\"}],\
+         \"params\":{\"verify_checksum\":true}}",
         12,
         "bad checksum",
     ),
     (
         "a number for the parameters, and replicas of one of two files: no rule between is broken without parameters",
-        "{\"files\":[{\"sources\":[\"https://a.example/f\"],\"destinations\":[\"https://b.example/f\"]},{\"sources\":[\"https://a.example/f\",\"https://a.example/g\"],\"destinations\":[\"https://b.example/f\"]}],\"params\":5}",
+        "{\"files\":[{\"sources\":[\"https://a.example/f\"],\"destinations\":[\"https://b.example/f\"]},\
+         {\"sources\":[\"https://a.example/f\",\"https://a.example/g\"],\"destinations\":[\"https://b.example/f\"]}],\"params\":5}",
         16,
         "params is not an object",
     ),
     (
         "replicas of one of two files",
-        "{\"files\":[{\"sources\":[\"https://a.example/f\"],\"destinations\":[\"https://b.example/f\"]},{\"sources\":[\"https://a.example/f\",\"https://a.example/g\"],\"destinations\":[\"https://b.example/f\"]}],\"params\":{}}",
+        "{\"files\":[{\"sources\":[\"https://a.example/f\"],\"destinations\":[\"https://b.example/f\"]},\
+         {\"sources\":[\"https://a.example/f\",\"https://a.example/g\"],\"destinations\":[\"https://b.example/f\"]}],\"params\":{}}",
         22,
         "replicas need one file",
     ),
     (
         "replicas of one of two hops",
-        "{\"files\":[{\"sources\":[\"https://a.example/f\"],\"destinations\":[\"https://b.example/f\"]},{\"sources\":[\"https://a.example/f\",\"https://a.example/g\"],\"destinations\":[\"https://b.example/f\"]}],\"params\":{\"multihop\":true}}",
+        "{\"files\":[{\"sources\":[\"https://a.example/f\"],\"destinations\":[\"https://b.example/f\"]},\
+         {\"sources\":[\"https://a.example/f\",\"https://a.example/g\"],\"destinations\":[\"https://b.example/f\"]}],\"params\":{\"multihop\":true}}",
         22,
         "replicas need one file",
     ),
     (
         "replicas of one of two files, and reuse",
-        "{\"files\":[{\"sources\":[\"https://a.example/f\"],\"destinations\":[\"https://b.example/f\"]},{\"sources\":[\"https://a.example/f\",\"https://a.example/g\"],\"destinations\":[\"https://b.example/f\"]}],\"params\":{\"reuse\":true}}",
+        "{\"files\":[{\"sources\":[\"https://a.example/f\"],\"destinations\":[\"https://b.example/f\"]},\
+         {\"sources\":[\"https://a.example/f\",\"https://a.example/g\"],\"destinations\":[\"https://b.example/f\"]}],\"params\":{\"reuse\":true}}",
         21,
         "not offered: reuse",
     ),
@@ -654,25 +672,29 @@ pub const KINDS: [BodyCase; 11] = [
     ),
     (
         "a chain by two URLs",
-        "{\"files\":[{\"sources\":[\"https://a.example/f\"],\"destinations\":[\"https://b.example/f\"]},{\"sources\":[\"https://b.example:443//f\"],\"destinations\":[\"https://a.example/g\"]}],\"params\":{\"multihop\":true}}",
+        "{\"files\":[{\"sources\":[\"https://a.example/f\"],\"destinations\":[\"https://b.example/f\"]},\
+         {\"sources\":[\"https://b.example:443//f\"],\"destinations\":[\"https://a.example/g\"]}],\"params\":{\"multihop\":true}}",
         0,
         "",
     ),
     (
         "no chain",
-        "{\"files\":[{\"sources\":[\"https://b.example:443//f\"],\"destinations\":[\"https://a.example/g\"]},{\"sources\":[\"https://b.example:443//f\"],\"destinations\":[\"https://a.example/g\"]}],\"params\":{\"multihop\":true}}",
+        "{\"files\":[{\"sources\":[\"https://b.example:443//f\"],\"destinations\":[\"https://a.example/g\"]},\
+         {\"sources\":[\"https://b.example:443//f\"],\"destinations\":[\"https://a.example/g\"]}],\"params\":{\"multihop\":true}}",
         23,
         "bad multihop",
     ),
     (
         "no chain, and no sid",
-        "{\"files\":[{\"sources\":[\"https://b.example:443//f\"],\"destinations\":[\"https://a.example/g\"]},{\"sources\":[\"https://b.example:443//f\"],\"destinations\":[\"https://a.example/g\"]}],\"params\":{\"multihop\":true,\"id_generator\":3}}",
+        "{\"files\":[{\"sources\":[\"https://b.example:443//f\"],\"destinations\":[\"https://a.example/g\"]},\
+         {\"sources\":[\"https://b.example:443//f\"],\"destinations\":[\"https://a.example/g\"]}],\"params\":{\"multihop\":true,\"id_generator\":3}}",
         23,
         "bad multihop",
     ),
     (
         "no chain where none is wanted",
-        "{\"files\":[{\"sources\":[\"https://b.example:443//f\"],\"destinations\":[\"https://a.example/g\"]},{\"sources\":[\"https://b.example:443//f\"],\"destinations\":[\"https://a.example/g\"]}],\"params\":{\"multihop\":\"true\"}}",
+        "{\"files\":[{\"sources\":[\"https://b.example:443//f\"],\"destinations\":[\"https://a.example/g\"]},\
+         {\"sources\":[\"https://b.example:443//f\"],\"destinations\":[\"https://a.example/g\"]}],\"params\":{\"multihop\":\"true\"}}",
         0,
         "",
     ),
