@@ -26,10 +26,16 @@ const THREE: &str =
     "[[storage]]\nurl = \"https://a.example\"\n[[storage]]\nurl = \"https://b.example\"\n[[storage]]\nurl = \"https://c.example\"\ninbound_max_active = 1\n";
 
 const FIVE: &str =
-    "{\"files\":[{\"sources\":[\"https://a.example/f1\"],\"destinations\":[\"https://b.example/f1\"]},{\"sources\":[\"https://a.example/f2\"],\"destinations\":[\"https://b.example/f2\"]},{\"sources\":[\"https://a.example/f3\"],\"destinations\":[\"https://b.example/f3\"]},{\"sources\":[\"https://a.example/f4\"],\"destinations\":[\"https://b.example/f4\"]},{\"sources\":[\"https://a.example/f5\"],\"destinations\":[\"https://b.example/f5\"]}]}";
+    "{\"files\":[{\"sources\":[\"https://a.example/f1\"],\"destinations\":[\"https://b.example/f1\"]},\
+     {\"sources\":[\"https://a.example/f2\"],\"destinations\":[\"https://b.example/f2\"]},\
+     {\"sources\":[\"https://a.example/f3\"],\"destinations\":[\"https://b.example/f3\"]},\
+     {\"sources\":[\"https://a.example/f4\"],\"destinations\":[\"https://b.example/f4\"]},\
+     {\"sources\":[\"https://a.example/f5\"],\"destinations\":[\"https://b.example/f5\"]}]}";
 
 const THREE_FILES: &str =
-    "{\"files\":[{\"sources\":[\"https://a.example/f1\"],\"destinations\":[\"https://b.example/f1\"]},{\"sources\":[\"https://a.example/f2\"],\"destinations\":[\"https://b.example/f2\"]},{\"sources\":[\"https://a.example/f3\"],\"destinations\":[\"https://b.example/f3\"]}]}";
+    "{\"files\":[{\"sources\":[\"https://a.example/f1\"],\"destinations\":[\"https://b.example/f1\"]},\
+     {\"sources\":[\"https://a.example/f2\"],\"destinations\":[\"https://b.example/f2\"]},\
+     {\"sources\":[\"https://a.example/f3\"],\"destinations\":[\"https://b.example/f3\"]}]}";
 
 const INTO_THIRD: &str =
     "{\"files\":[{\"sources\":[\"https://b.example/there\"],\"destinations\":[\"https://c.example/f1\"]},{\"sources\":[\"https://a.example/f2\"],\"destinations\":[\"https://c.example/f2\"]}]}";
@@ -38,13 +44,16 @@ const SOURCES: &str =
     "{\"files\":[{\"sources\":[\"https://a.example/none\",\"https://a.example/f1\",\"https://a.example/f2\"],\"destinations\":[\"https://b.example/f1\"],\"selection_strategy\":\"orderly\"}]}";
 
 const HOPS: &str =
-    "{\"files\":[{\"sources\":[\"https://a.example/f1\"],\"destinations\":[\"https://b.example/f1\"]},{\"sources\":[\"https://b.example/f1\"],\"destinations\":[\"https://b.example/there\"]},{\"sources\":[\"https://b.example/there\"],\"destinations\":[\"https://a.example/g1\"]}],\"params\":{\"multihop\":true}}";
+    "{\"files\":[{\"sources\":[\"https://a.example/f1\"],\"destinations\":[\"https://b.example/f1\"]},\
+     {\"sources\":[\"https://b.example/f1\"],\"destinations\":[\"https://b.example/there\"]},\
+     {\"sources\":[\"https://b.example/there\"],\"destinations\":[\"https://a.example/g1\"]}],\"params\":{\"multihop\":true}}";
 
 const EMPTY: &str =
     "{\"files\":[{\"sources\":[\"https://a.example/empty\"],\"destinations\":[\"https://b.example/f1\"],\"checksum\":\"MD5:d41d8cd98f00b204e9800998ecf8427e\"}],\"params\":{\"verify_checksum\":true}}";
 
 const WRONG: &str =
-    "{\"files\":[{\"sources\":[\"https://a.example/f1\"],\"destinations\":[\"https://b.example/f1\"],\"checksum\":\"MD5:900150983cd24fb0d6963f7d28e17f73\"}],\"params\":{\"verify_checksum\":true,\"retry\":3}}";
+    "{\"files\":[{\"sources\":[\"https://a.example/f1\"],\"destinations\":[\"https://b.example/f1\"],\
+     \"checksum\":\"MD5:900150983cd24fb0d6963f7d28e17f73\"}],\"params\":{\"verify_checksum\":true,\"retry\":3}}";
 
 const RETRIED: &str =
     "{\"files\":[{\"sources\":[\"https://a.example/f1\"],\"destinations\":[\"https://b.example/f1\"]}],\"params\":{\"retry\":1,\"retry_delay\":60}}";
@@ -152,7 +161,9 @@ const ROWS: [Row; 18] = [
         document: RETRIED,
         fail: &[1],
         drop: &[],
-        script: "round 1000 = busy 1\nround 1000 = clear\nstates = SUBMITTED SUBMITTED\nwaits 1 = attempt 1 not before 1060\nreason 1 = store failed\nround 1059 = clear\nround 1060 = busy 1\nround 1060 = clear\nstates = FINISHED FINISHED\nwaits 1 = attempt 2 not before 1060",
+        script: "round 1000 = busy 1\nround 1000 = clear\nstates = SUBMITTED SUBMITTED\nwaits 1 = attempt 1 not before 1060\n\
+                 reason 1 = store failed\nround 1059 = clear\nround 1060 = busy 1\nround 1060 = clear\nstates = FINISHED FINISHED\n\
+                 waits 1 = attempt 2 not before 1060",
     },
     Row {
         case: "a byte that the store lost is found where it is missing",
@@ -192,7 +203,8 @@ const ROWS: [Row; 18] = [
         document: SOURCES_FOR_AN_HOUR,
         fail: &[],
         drop: &[],
-        script: "ban wait = ok\nround 4599 = clear\nstates = SUBMITTED NOT_USED NOT_USED SUBMITTED\nround 4600 = clear\nstates = CANCELED CANCELED CANCELED CANCELED\nreason 1 = expired\nreason 2 = expired\nreason 3 = expired",
+        script: "ban wait = ok\nround 4599 = clear\nstates = SUBMITTED NOT_USED NOT_USED SUBMITTED\nround 4600 = clear\n\
+                 states = CANCELED CANCELED CANCELED CANCELED\nreason 1 = expired\nreason 2 = expired\nreason 3 = expired",
     },
     Row {
         case: "a file whose hour is over is cancelled before it could be claimed",
@@ -222,7 +234,8 @@ const ROWS: [Row; 18] = [
         document: RETRIED_FOR_AN_HOUR,
         fail: &[1],
         drop: &[],
-        script: "round 2000 = busy 1\nround 2000 = clear\nstates = SUBMITTED SUBMITTED\nwaits 1 = attempt 1 not before 5600\nround 4599 = clear\nstates = SUBMITTED SUBMITTED\nround 4600 = clear\nstates = CANCELED CANCELED\nreason 1 = expired",
+        script: "round 2000 = busy 1\nround 2000 = clear\nstates = SUBMITTED SUBMITTED\nwaits 1 = attempt 1 not before 5600\nround 4599 = clear\n\
+                 states = SUBMITTED SUBMITTED\nround 4600 = clear\nstates = CANCELED CANCELED\nreason 1 = expired",
     },
     Row {
         case: "a file without a limit waits at a banned storage, and is copied behind the ban",
