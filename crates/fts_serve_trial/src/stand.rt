@@ -113,6 +113,17 @@ fn no_link(alloc: Global) -> Result<MemoryLink, Memory> {
     }
 }
 
+/// The words of a command line.
+fn owned(alloc: Global, words: &[&str]) -> Result<Vec<String>, Memory> {
+    let mut owned = Vec::new(alloc);
+    for word in words {
+        if owned.push(String::from_str(alloc, word)?).is_err() {
+            return Err(Memory);
+        }
+    }
+    Ok(owned)
+}
+
 /// A run of these words over these eight doors and this disk.
 pub fn run_over<A: Doors + Send + Drop, R: Threads + Wait + Sync>(
     alloc: Global,
@@ -124,12 +135,7 @@ pub fn run_over<A: Doors + Send + Drop, R: Threads + Wait + Sync>(
 where
     A::Line: Send,
 {
-    let mut owned = Vec::new(alloc);
-    for word in words {
-        if owned.push(String::from_str(alloc, word)?).is_err() {
-            return Err(Memory);
-        }
-    }
+    let words = owned(alloc, words)?;
     let mut outside = Outside {
         settings: MemorySource::new(SETTINGS.as_bytes().to_vec(alloc)?, Vec::new(alloc)),
         input: MemorySource::new(Vec::new(alloc), Vec::new(alloc)),
@@ -143,7 +149,7 @@ where
         link: no_link(alloc)?,
         gate: NoGate,
     };
-    let ending = run(threads, alloc, owned.as_slice(), &mut outside);
+    let ending = run(threads, alloc, words.as_slice(), &mut outside);
     let Outside {
         settings: _,
         input: _,
