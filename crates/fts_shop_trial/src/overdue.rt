@@ -99,50 +99,55 @@ const EXPIRED: Stand = Stand {
     attempt: 0,
 };
 
+/// A row: a sentence, a document, the moment, how many lanes are left, how the turn ends, and where it leaves the file.
+type Row = (&'static str, &'static str, u64, u32, Turn, Stand);
+
+const ROWS: [Row; 5] = [
+    (
+        "one second before",
+        ONE_HOUR,
+        3_599,
+        0,
+        Turn::Done { file: 1 },
+        COPIED,
+    ),
+    (
+        "when the hour is over",
+        ONE_HOUR,
+        3_600,
+        0,
+        Turn::Stopping,
+        EXPIRED,
+    ),
+    (
+        "while a lane is left",
+        ONE_HOUR,
+        3_600,
+        1,
+        Turn::Idle,
+        EXPIRED,
+    ),
+    (
+        "long after",
+        ONE_HOUR,
+        1_700_000_000,
+        0,
+        Turn::Stopping,
+        EXPIRED,
+    ),
+    (
+        "without a limit",
+        NO_LIMIT,
+        1_700_000_000,
+        0,
+        Turn::Done { file: 1 },
+        COPIED,
+    ),
+];
+
 #[test]
 fn a_turn_claims_no_overdue_file(rt: HostRuntime) -> Result<(), Fail> {
-    for (case, document, now, lanes, end, stand) in [
-        (
-            "one second before",
-            ONE_HOUR,
-            3_599,
-            0,
-            Turn::Done { file: 1 },
-            COPIED,
-        ),
-        (
-            "when the hour is over",
-            ONE_HOUR,
-            3_600,
-            0,
-            Turn::Stopping,
-            EXPIRED,
-        ),
-        (
-            "while a lane is left",
-            ONE_HOUR,
-            3_600,
-            1,
-            Turn::Idle,
-            EXPIRED,
-        ),
-        (
-            "long after",
-            ONE_HOUR,
-            1_700_000_000,
-            0,
-            Turn::Stopping,
-            EXPIRED,
-        ),
-        (
-            "without a limit",
-            NO_LIMIT,
-            1_700_000_000,
-            0,
-            Turn::Done { file: 1 },
-            COPIED,
-        ),
-    ] {
+    for (case, document, now, lanes, end, stand) in ROWS {
         let seen = turn_at(&rt, rt.alloc(), document, now, lanes)?;
         let wanted = Seen {
             end,
