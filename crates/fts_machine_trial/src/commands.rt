@@ -161,52 +161,42 @@ fn submission_of(alloc: Global, now: u64, plain: &PlainNewJob) -> Result<Option<
 
 /// The desk's command for a plain one. None where its settings or its job break a rule.
 pub fn command_of(alloc: Global, plain: &PlainCommand) -> Result<Option<Command>, Memory> {
-    let command = match plain {
-        PlainCommand::Restart { now, settings } => return restart_of(alloc, *now, settings),
-        PlainCommand::Submit { now, job } => return submission_of(alloc, *now, job),
-        PlainCommand::CancelJob { now, job } => Command::CancelJob {
-            now: *now,
-            job: *job,
-        },
-        PlainCommand::CancelFile { now, job, file } => Command::CancelFile {
-            now: *now,
-            job: *job,
-            file: *file,
-        },
+    let command = match *plain {
+        PlainCommand::Restart { now, ref settings } => return restart_of(alloc, now, settings),
+        PlainCommand::Submit { now, ref job } => return submission_of(alloc, now, job),
+        PlainCommand::CancelJob { now, job } => Command::CancelJob { now, job },
+        PlainCommand::CancelFile { now, job, file } => Command::CancelFile { now, job, file },
         PlainCommand::SetPriority { now, job, priority } => Command::SetPriority {
-            now: *now,
-            job: *job,
-            priority: *priority,
+            now,
+            job,
+            priority,
         },
-        PlainCommand::Claim { now, word } => Command::Claim {
-            now: *now,
-            word: *word,
-        },
+        PlainCommand::Claim { now, word } => Command::Claim { now, word },
         PlainCommand::Report {
             now,
             file,
             attempt,
             outcome,
         } => Command::Report {
-            now: *now,
-            file: *file,
-            attempt: *attempt,
-            outcome: *outcome,
+            now,
+            file,
+            attempt,
+            outcome,
         },
         PlainCommand::Ban {
             now,
             storage,
             cancel,
         } => Command::Ban {
-            now: *now,
-            storage: name_of(alloc, *storage)?,
-            cancel: *cancel,
+            now,
+            storage: name_of(alloc, storage)?,
+            cancel,
         },
         PlainCommand::Unban { now, storage } => Command::Unban {
-            now: *now,
-            storage: name_of(alloc, *storage)?,
+            now,
+            storage: name_of(alloc, storage)?,
         },
-        PlainCommand::Expire { now } => Command::Expire { now: *now },
+        PlainCommand::Expire { now } => Command::Expire { now },
     };
     Ok(Some(command))
 }

@@ -43,16 +43,24 @@ fn document(name: &str) -> &'static str {
             "{\"files\":[{\"sources\":[\"https://a.example/f9\"],\"destinations\":[\"https://b.example/f9\"]}],\"params\":{\"id_generator\":\"deterministic\",\"sid\":\"mine\"}}"
         }
         "five" => {
-            "{\"files\":[{\"sources\":[\"https://a.example/f1\"],\"destinations\":[\"https://b.example/f1\"]},{\"sources\":[\"https://a.example/f2\"],\"destinations\":[\"https://b.example/f2\"]},{\"sources\":[\"https://a.example/f3\"],\"destinations\":[\"https://b.example/f3\"]},{\"sources\":[\"https://a.example/f4\"],\"destinations\":[\"https://b.example/f4\"]},{\"sources\":[\"https://a.example/f5\"],\"destinations\":[\"https://b.example/f5\"]}]}"
+            "{\"files\":[{\"sources\":[\"https://a.example/f1\"],\"destinations\":[\"https://b.example/f1\"]},\
+             {\"sources\":[\"https://a.example/f2\"],\"destinations\":[\"https://b.example/f2\"]},\
+             {\"sources\":[\"https://a.example/f3\"],\"destinations\":[\"https://b.example/f3\"]},\
+             {\"sources\":[\"https://a.example/f4\"],\"destinations\":[\"https://b.example/f4\"]},\
+             {\"sources\":[\"https://a.example/f5\"],\"destinations\":[\"https://b.example/f5\"]}]}"
         }
         "shares" => {
-            "{\"files\":[{\"sources\":[\"https://a.example/f1\"],\"destinations\":[\"https://b.example/f1\"],\"activity\":\"analysis\"},{\"sources\":[\"https://a.example/f2\"],\"destinations\":[\"https://b.example/f2\"],\"activity\":\"production\"},{\"sources\":[\"https://a.example/f3\"],\"destinations\":[\"https://b.example/f3\"]}]}"
+            "{\"files\":[{\"sources\":[\"https://a.example/f1\"],\"destinations\":[\"https://b.example/f1\"],\"activity\":\"analysis\"},\
+             {\"sources\":[\"https://a.example/f2\"],\"destinations\":[\"https://b.example/f2\"],\"activity\":\"production\"},\
+             {\"sources\":[\"https://a.example/f3\"],\"destinations\":[\"https://b.example/f3\"]}]}"
         }
         "to-c" => {
             "{\"files\":[{\"sources\":[\"https://b.example/f1\"],\"destinations\":[\"https://c.example/f1\"]},{\"sources\":[\"https://a.example/f2\"],\"destinations\":[\"https://c.example/f2\"]}]}"
         }
         "hops" => {
-            "{\"files\":[{\"sources\":[\"https://a.example/f\"],\"destinations\":[\"https://b.example/f\"]},{\"sources\":[\"https://b.example/f\"],\"destinations\":[\"https://c.example/f\"]},{\"sources\":[\"https://c.example/f\"],\"destinations\":[\"https://a.example/g\"]}],\"params\":{\"multihop\":true}}"
+            "{\"files\":[{\"sources\":[\"https://a.example/f\"],\"destinations\":[\"https://b.example/f\"]},\
+             {\"sources\":[\"https://b.example/f\"],\"destinations\":[\"https://c.example/f\"]},\
+             {\"sources\":[\"https://c.example/f\"],\"destinations\":[\"https://a.example/g\"]}],\"params\":{\"multihop\":true}}"
         }
         "orderly" => {
             "{\"files\":[{\"sources\":[\"https://a.example/f\",\"https://b.example/f\",\"https://c.example/f\"],\"destinations\":[\"https://b.example/g\"],\"selection_strategy\":\"orderly\"}]}"
@@ -366,7 +374,10 @@ fn play(rt: &impl Abort, alloc: Global, case: &str, script: &str) -> Result<(), 
 const ROWS: [(&str, &str); 10] = [
     (
         "a link carries as many files as its limit",
-        "restart 2 = 0 released\nsubmit five = job 1\nclaim 0 0 = file 1 attempt 1\nclaim 0 0 = file 2 attempt 1\nclaim 0 0 = idle\nheld 0 1 = 2\nstates 1 = ACTIVE ACTIVE SUBMITTED SUBMITTED SUBMITTED ACTIVE\nreport 0 1 1 verified = file 1 FINISHED\nreport 0 2 1 verified = file 2 FINISHED\nclaim 0 0 = file 3 attempt 1\nclaim 0 0 = file 4 attempt 1\nstates 1 = FINISHED FINISHED ACTIVE ACTIVE SUBMITTED ACTIVE",
+        "restart 2 = 0 released\nsubmit five = job 1\nclaim 0 0 = file 1 attempt 1\nclaim 0 0 = file 2 attempt 1\nclaim 0 0 = idle\nheld 0 1 = 2\n\
+         states 1 = ACTIVE ACTIVE SUBMITTED SUBMITTED SUBMITTED ACTIVE\nreport 0 1 1 verified = file 1 FINISHED\n\
+         report 0 2 1 verified = file 2 FINISHED\nclaim 0 0 = file 3 attempt 1\nclaim 0 0 = file 4 attempt 1\n\
+         states 1 = FINISHED FINISHED ACTIVE ACTIVE SUBMITTED ACTIVE",
     ),
     (
         "an endpoint takes as many files as its limit",
@@ -382,27 +393,36 @@ const ROWS: [(&str, &str); 10] = [
     ),
     (
         "a missing source is followed by the next",
-        "restart 2 = 0 released\nsubmit orderly = job 1\nclaim 0 0 = file 1 attempt 1\nreport 0 1 1 missing = file 1 FAILED\nclaim 0 0 = file 2 attempt 1\nreport 0 2 1 verified = file 2 FINISHED\nclaim 0 0 = idle\nstates 1 = FAILED FINISHED NOT_USED FINISHED",
+        "restart 2 = 0 released\nsubmit orderly = job 1\nclaim 0 0 = file 1 attempt 1\nreport 0 1 1 missing = file 1 FAILED\n\
+         claim 0 0 = file 2 attempt 1\nreport 0 2 1 verified = file 2 FINISHED\nclaim 0 0 = idle\nstates 1 = FAILED FINISHED NOT_USED FINISHED",
     ),
     (
         "a failed hop is the last",
-        "restart 2 = 0 released\nsubmit hops = job 1\nclaim 0 0 = file 1 attempt 1\nreport 0 1 1 verified = file 1 FINISHED\nclaim 0 0 = file 2 attempt 1\nreport 0 2 1 exists = file 2 FAILED\nclaim 0 0 = idle\nstates 1 = FINISHED FAILED NOT_USED FAILED",
+        "restart 2 = 0 released\nsubmit hops = job 1\nclaim 0 0 = file 1 attempt 1\nreport 0 1 1 verified = file 1 FINISHED\n\
+         claim 0 0 = file 2 attempt 1\nreport 0 2 1 exists = file 2 FAILED\nclaim 0 0 = idle\nstates 1 = FINISHED FAILED NOT_USED FAILED",
     ),
     (
         "a cancelled copy ends by its report",
-        "restart 1 = 0 released\nsubmit shares = job 1\nclaim 0 0 = file 1 attempt 1\ncancel 1 = job 1 cancelled\nstates 1 = ACTIVE CANCELED CANCELED ACTIVE\nwaits 1 = true 0 0\ncancel 1 = job 1 unchanged\nreport 0 1 1 verified = file 1 CANCELED\nstates 1 = CANCELED CANCELED CANCELED CANCELED\ncancel 1 = job 1 unchanged\npriority 1 5 = job 1 unchanged",
+        "restart 1 = 0 released\nsubmit shares = job 1\nclaim 0 0 = file 1 attempt 1\ncancel 1 = job 1 cancelled\n\
+         states 1 = ACTIVE CANCELED CANCELED ACTIVE\nwaits 1 = true 0 0\ncancel 1 = job 1 unchanged\nreport 0 1 1 verified = file 1 CANCELED\n\
+         states 1 = CANCELED CANCELED CANCELED CANCELED\ncancel 1 = job 1 unchanged\npriority 1 5 = job 1 unchanged",
     ),
     (
         "a failed copy waits for its delay",
-        "restart 2 = 0 released\nsubmit one = job 1\nclaim 1000 0 = file 1 attempt 1\nreport 1000 1 1 failed = file 1 SUBMITTED\nwaits 1 = false 1 1060\nclaim 1059 0 = idle\nclaim 1060 0 = file 1 attempt 2\nreport 1060 1 1 verified = stale ACTIVE 2",
+        "restart 2 = 0 released\nsubmit one = job 1\nclaim 1000 0 = file 1 attempt 1\nreport 1000 1 1 failed = file 1 SUBMITTED\n\
+         waits 1 = false 1 1060\nclaim 1059 0 = idle\nclaim 1060 0 = file 1 attempt 2\nreport 1060 1 1 verified = stale ACTIVE 2",
     ),
     (
         "an id has one job, and a restart releases what was copied",
-        "restart 4 = 0 released\nsubmit named = job 1\nsubmit named = duplicate of 1\nsubmit five = job 2\nclaim 0 0 = file 1 attempt 1\nrestart 1 = 1 released\nheld 0 1 = 0\npriority 2 5 = job 2 set\nclaim 0 0 = file 2 attempt 1\nclaim 0 0 = idle\ncancel-file 2 3 = job 2 cancelled\ncancel-file 2 1 = no file\ncancel 3 = no job\nstates 2 = ACTIVE CANCELED SUBMITTED SUBMITTED SUBMITTED ACTIVE",
+        "restart 4 = 0 released\nsubmit named = job 1\nsubmit named = duplicate of 1\nsubmit five = job 2\nclaim 0 0 = file 1 attempt 1\n\
+         restart 1 = 1 released\nheld 0 1 = 0\npriority 2 5 = job 2 set\nclaim 0 0 = file 2 attempt 1\nclaim 0 0 = idle\n\
+         cancel-file 2 3 = job 2 cancelled\ncancel-file 2 1 = no file\ncancel 3 = no job\n\
+         states 2 = ACTIVE CANCELED SUBMITTED SUBMITTED SUBMITTED ACTIVE",
     ),
     (
         "the source with the least to do comes first, or the first in order",
-        "restart 2 = 0 released\nsubmit one = job 1\nsubmit one = job 2\nsubmit auto = job 3\nstates 3 = NOT_USED SUBMITTED NOT_USED SUBMITTED\nsubmit orderly = job 4\nstates 4 = SUBMITTED NOT_USED NOT_USED SUBMITTED",
+        "restart 2 = 0 released\nsubmit one = job 1\nsubmit one = job 2\nsubmit auto = job 3\nstates 3 = NOT_USED SUBMITTED NOT_USED SUBMITTED\n\
+         submit orderly = job 4\nstates 4 = SUBMITTED NOT_USED NOT_USED SUBMITTED",
     ),
 ];
 
