@@ -213,24 +213,17 @@ pub fn run_words<S: Source + Drop, D: Disk + Drop, E: Store + Drop>(
     ensures { IfOk result (λ ended. length ended.hands.items ≡ 16) }
 {
     let words = owned(alloc, words)?;
-    let Given {
-        settings,
-        input,
-        output,
-        notes,
-        link,
-    } = given;
     let mut outside = Outside {
-        settings,
-        input,
-        output,
-        notes,
+        settings: given.settings,
+        input: given.input,
+        output: given.output,
+        notes: given.notes,
         disk: Some(disk),
         deletes: Some(deletes),
         clock: clock(alloc)?,
         hands,
         lanes: lanes(alloc, clocks(alloc)?)?,
-        link,
+        link: given.link,
         gate: NoGate,
     };
     let ended = run_alone(alloc, words.as_slice(), &mut outside);
