@@ -125,20 +125,14 @@ fn play(
     wanted: &str,
 ) -> io::Result<u32> {
     let alloc = rt.alloc();
-    let Trouble {
-        disk,
-        store,
-        read,
-        write,
-    } = trouble;
     let ended = session(
         alloc,
         SETTINGS.as_bytes(),
-        source(alloc, input, read)?,
-        MemorySink::new(alloc, [write].to_vec(alloc)?),
-        MemoryDisk::new(alloc, disk),
+        source(alloc, input, trouble.read)?,
+        MemorySink::new(alloc, [trouble.write].to_vec(alloc)?),
+        MemoryDisk::new(alloc, trouble.disk),
         empty_disk(alloc),
-        hands(alloc, store)?,
+        hands(alloc, trouble.store)?,
     )?;
     let left = ended
         .disk
