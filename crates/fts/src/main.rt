@@ -339,7 +339,11 @@ fn deletes_for<'a>(rt: &'a HostRuntime, words: &[String], path: &str) -> SystemD
 /// and copy nothing.
 fn has_threads<R: Threads + Wait + Sync>(rt: &HostRuntime, threads: &R, words: &[String]) -> bool {
     match read_words(words) {
-        Some(Asked::Serve { lanes, .. }) => can_begin(threads, rt, lanes.saturating_add(MAX_WORKERS)),
+        Some(Asked::Serve { lanes, .. }) => can_begin(
+            threads,
+            rt,
+            lanes.saturating_add(MAX_WORKERS),
+        ),
         Some(
             Asked::Session
             | Asked::Show

@@ -75,7 +75,8 @@ module _ {D A E C W L : Type 0} (world : World D A E C W L)
   -- lanes and workers kept the ledger
   pub record KeepTheLedger (serves : ClosesServed world lanes workers connections keep
       before hands after hands_now closed end) : Type 0 where
-    -- passes 1 and so on are the lanes', and add clients' commands alone; those behind are the workers', and add claims and reports alone
+    -- passes 1 and so on are the lanes', and add clients' commands alone; those behind are the workers',
+    -- and add claims, reports and expiries alone
     pub asked : (pass : ℕ) → 1 ≤ pass → pass ≤ lanes → AddsAsked pass (entries_added serves)
     pub work : (pass : ℕ) → lanes < pass → AddsWork pass (entries_added serves)
     -- each report is of a file whose last claim before it is the writer's own, so nobody takes a file from a writer that claimed it

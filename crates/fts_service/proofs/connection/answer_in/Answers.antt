@@ -10,20 +10,20 @@ use Rattle.fts_service.proofs.connection.answer_in.Goals as goal
 pub returns : goal.returns
 returns g c =
     let value = c.keep-keep.ensures.value in
-    let grows = c.answer.ensures.grows in
+    let grows = c.answer_read.ensures.grows in
     record {
       kept = subst (λ (k : KeepData g.row.D.Denot). IsKeep g.D.Disk.state k) value c.desk-desk.ensures.kept;
       told = subst (λ (k : KeepData g.row.D.Denot). k.entries ≢ [] → IsTold (g.D.Disk.state k.disk)) value c.desk-desk.ensures.told;
-      answers = subst (λ (k : KeepData g.row.D.Denot). Answers g.D.Disk.state g.D.Disk.faults k c.answer.new.keep c.args.writer
-          c.args.room.now.request c.args.now c.answer.result) value
-          (subst (λ (r : RequestData). Answers g.D.Disk.state g.D.Disk.faults c.keep-keep.result.now c.answer.new.keep c.args.writer
-          r c.args.now c.answer.result) c.request.ensures c.answer.ensures.answers);
+      answers = subst (λ (k : KeepData g.row.D.Denot). Answers g.D.Disk.state g.D.Disk.faults k c.answer_read.new.keep c.args.writer
+          c.args.room.now.request c.args.now c.answer_read.result) value
+          (subst (λ (r : RequestData). Answers g.D.Disk.state g.D.Disk.faults c.keep-keep.result.now c.answer_read.new.keep c.args.writer
+          r c.args.now c.answer_read.result) c.request.ensures c.answer_read.ensures.answers);
       appends = record {
         added = grows.added;
-        appended = subst (λ (k : KeepData g.row.D.Denot). c.answer.new.keep.entries ≡ k.entries ++ grows.added) value grows.appended;
+        appended = subst (λ (k : KeepData g.row.D.Denot). c.answer_read.new.keep.entries ≡ k.entries ++ grows.added) value grows.appended;
         named = all_name c.args.writer grows.added grows.by;
       };
       stay = refl;
-      phrase = c.answer.ensures.phrase;
-      methods = c.answer.ensures.methods;
+      phrase = c.answer_read.ensures.phrase;
+      methods = c.answer_read.ensures.methods;
     }
