@@ -13,3 +13,5 @@ mod outside;
 mod sockets;
 #[cfg(test)]
 mod stand;
+#[cfg(test)]
+mod threads;
