@@ -50,7 +50,8 @@ pub fn lanes_and_workers_keep_the_ledger<D: Disk, E: Store, C: Clock, W: Words, 
 }
 
 /// A run that serves over a told disk keeps the ledger where its lanes began (`ledger`). Where it ended with status 0, its disk has a list of its own
-/// behind which no file is out, and no row may be claimed at the last moment (`ends`); with status 23 a list behind which no file is out (`stops`). There are `MAX_LANES` lanes, of which it uses some, and `MAX_WORKERS` hands.
+/// behind which no file is out, and no row may be claimed at the last moment (`ends`); with status 23 a list behind which no file is out (`stops`).
+/// There are `MAX_LANES` lanes, of which it uses some, and `MAX_WORKERS` hands.
 pub fn runs_that_serve_leave_nothing<D: Disk, E: Store, C: Clock, W: Words, A: Doors>()
     ensures ledger { (closes : Bool) (lanes : ℕ) (connections : Option ℕ) (text : Option (List ℕ)) (before after : ManyThreads D A E C W A.Line) (end : RunEnd) (tally : Tally)
         → (runs : RunsServing (world_of D.Disk E.Store A.Doors A.Line.Source A.Line.Sink C.Clock W.Words closes) lanes connections text before after end tally)
