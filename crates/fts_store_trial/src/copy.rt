@@ -3,6 +3,7 @@
 ghost use Rattle.std.specs.Prelude.{IsSome};
 
 use crate::copy_changing::WritingWatch;
+use crate::deeds::{Act, Deed, Said, do_act, do_all, holds};
 use fts_copy::{CopyRoom, CountingWatch, copy_verified};
 use fts_files::SystemFiles;
 use fts_store::{FolderStore, MemoryStore, Store, StoredFile};
@@ -35,7 +36,7 @@ pub(crate) const AB_PLUS: [u8; 16] =
 pub(crate) const OTHER: [u8; 16] =
     *b"\x90\x01\x50\x98\x3c\xd2\x4f\xb0\xd6\x96\x3f\x7d\x28\xe1\x7f\x73";
 
-fn place(alloc: Global, endpoint: &str, path: &str) -> Result<Place, Memory> {
+pub(crate) fn place(alloc: Global, endpoint: &str, path: &str) -> Result<Place, Memory> {
     let endpoint = EndpointName::read(alloc, endpoint)?;
     let path = PathKey::read(alloc, path)?;
     match (endpoint, path) {
@@ -155,53 +156,66 @@ fn abc_ends(
     Ok(outcome == want && store.size(dest()) == Ok(there))
 }
 
+/// The size and the digest that are wanted, the append that loses a byte, and how the copy ends.
+type End = (&'static str, (u64, Option<[u8; 16]>), u32, Outcome);
+
+const WHOLE: Outcome = Outcome::Verified {
+    size: 3,
+    digest: ABC,
+};
+
+const ENDS: [End; 5] = [
+    ("any size and digest", (0, None), 0, WHOLE),
+    ("the size and the digest", (3, Some(ABC)), 0, WHOLE),
+    (
+        "another size",
+        (4, Some(OTHER)),
+        0,
+        Outcome::SourceSize { seen: 3 },
+    ),
+    (
+        "another digest",
+        (0, Some(OTHER)),
+        1,
+        Outcome::SourceDigest { seen: ABC },
+    ),
+    (
+        "a lost byte",
+        (3, Some(ABC)),
+        1,
+        Outcome::ReadBackDiffers { at: 2 },
+    ),
+];
+
 #[test]
 fn each_end_of_a_copy_of_three_bytes(rt: HostRuntime) -> Result<(), Fail> {
     let mut room = CopyRoom::new(rt.alloc())?;
-    for (case, wants, loses, want) in [
-        ("any size and digest", (0, None), 0, verified(3, ABC)),
-        (
-            "the size and the digest",
-            (3, Some(ABC)),
-            0,
-            verified(3, ABC),
-        ),
-        (
-            "another size",
-            (4, Some(OTHER)),
-            0,
-            Outcome::SourceSize { seen: 3 },
-        ),
-        (
-            "another digest",
-            (0, Some(OTHER)),
-            1,
-            Outcome::SourceDigest { seen: ABC },
-        ),
-        (
-            "a lost byte",
-            (3, Some(ABC)),
-            1,
-            Outcome::ReadBackDiffers { at: 2 },
-        ),
-    ] {
-        let ends_so = abc_ends(rt.alloc(), &mut room, wants, loses, want)?;
+    for (case, wants, loses, want) in &ENDS {
+        let ends_so = abc_ends(rt.alloc(), &mut room, *wants, *loses, *want)?;
         assert!(rt; ends_so, "{case}");
     }
     Ok(())
 }
+
+const EMPTY_AND_WHOLE: Outcome = Outcome::Verified {
+    size: 0,
+    digest: EMPTY,
+};
+
+/// Copies of an empty file: whether the destination may be replaced, how each ends, and how often its watch is asked.
+const EMPTY_COPIES: [(&str, bool, (Outcome, u64)); 3] = [
+    ("an empty file", false, (EMPTY_AND_WHOLE, 1)),
+    ("it is there", false, (Outcome::DestinationExists, 0)),
+    ("it is replaced", true, (EMPTY_AND_WHOLE, 1)),
+];
 
 #[test]
 fn what_is_missing_or_there_ends_a_copy(rt: HostRuntime) -> Result<(), Fail> {
     let alloc = rt.alloc();
     let mut copier = copier_of(alloc, 0, Some(EMPTY))?;
     let mut store = holding(alloc, Vec::new(alloc), 0, 0)?;
-    for (case, overwrite, want) in [
-        ("an empty file", false, (verified(0, EMPTY), 1)),
-        ("it is there", false, (Outcome::DestinationExists, 0)),
-        ("it is replaced", true, (verified(0, EMPTY), 1)),
-    ] {
-        let ends_so = never_stopped(&mut store, &mut copier, overwrite) == want;
+    for (case, overwrite, want) in &EMPTY_COPIES {
+        let ends_so = never_stopped(&mut store, &mut copier, *overwrite) == *want;
         assert!(rt; ends_so, "{case}");
     }
     let none = Items::from_vec(Vec::new(alloc));
@@ -291,34 +305,37 @@ const SIZES: [(&str, usize, [u8; 16], u64); 6] = [
 #[test]
 fn sizes_around_a_piece(rt: HostRuntime) -> Result<(), Fail> {
     let mut copier = copier_of(rt.alloc(), 0, None)?;
-    for (case, size, digest, askings) in SIZES {
-        let want = (verified(size as u64, digest), askings);
-        let ends_so = pattern_ends(rt.alloc(), &mut copier, size, 0, want)?;
+    for (case, size, digest, askings) in &SIZES {
+        let want = (verified(*size as u64, *digest), *askings);
+        let ends_so = pattern_ends(rt.alloc(), &mut copier, *size, 0, want)?;
         assert!(rt; ends_so, "{case}");
     }
     Ok(())
 }
 
+/// Which byte of a size is lost, by which append, where that is found, and how often the watch is asked.
+const LOST_BYTES: [(&str, usize, u32, u64, u64); 7] = [
+    ("the only byte", 1, 1, 0, 2),
+    ("the last of a piece but a byte", 65_535, 1, 65_534, 2),
+    ("the last of a piece", 65_536, 1, 65_535, 2),
+    (
+        "the last but one of a piece and a byte",
+        65_537,
+        1,
+        65_535,
+        3,
+    ),
+    ("the last of a piece and a byte", 65_537, 2, 65_536, 4),
+    ("the last of the first of two pieces", 131_072, 1, 65_535, 3),
+    ("the last of two pieces", 131_072, 2, 131_071, 4),
+];
+
 #[test]
 fn a_lost_byte_of_sizes_around_a_piece(rt: HostRuntime) -> Result<(), Fail> {
     let mut copier = copier_of(rt.alloc(), 0, None)?;
-    for (case, size, loses, at, askings) in [
-        ("the only byte", 1, 1, 0, 2),
-        ("the last of a piece but a byte", 65_535, 1, 65_534, 2),
-        ("the last of a piece", 65_536, 1, 65_535, 2),
-        (
-            "the last but one of a piece and a byte",
-            65_537,
-            1,
-            65_535,
-            3,
-        ),
-        ("the last of a piece and a byte", 65_537, 2, 65_536, 4),
-        ("the last of the first of two pieces", 131_072, 1, 65_535, 3),
-        ("the last of two pieces", 131_072, 2, 131_071, 4),
-    ] {
-        let want = (Outcome::ReadBackDiffers { at }, askings);
-        let ends_so = pattern_ends(rt.alloc(), &mut copier, size, loses, want)?;
+    for (case, size, loses, at, askings) in &LOST_BYTES {
+        let want = (Outcome::ReadBackDiffers { at: *at }, *askings);
+        let ends_so = pattern_ends(rt.alloc(), &mut copier, *size, *loses, want)?;
         assert!(rt; ends_so, "{case} is lost");
     }
     Ok(())
@@ -346,14 +363,6 @@ fn clear<R: Files<File = File> + Alloc>(rt: &R, root: &str) {
     let _old = fs::remove_dir_all(rt, root);
 }
 
-/// Whether a real file holds these bytes. One that can't be read holds none.
-fn holds<R: Files<File = File> + Alloc>(rt: &R, path: &str, want: &str) -> bool {
-    match fs::read(rt, path) {
-        Ok(bytes) => bytes.as_slice() == want.as_bytes(),
-        Err(_) => want.is_empty(),
-    }
-}
-
 const HELD: &str = "grid-of-a-copy/https:,,b.example/store/f1";
 
 type Folders = FolderStore<SystemFiles<HostRuntime>>;
@@ -375,143 +384,181 @@ fn grid_at(rt: HostRuntime, root: &str, wanted: Option<[u8; 16]>) -> Result<Grid
     })
 }
 
+/// The source, and its folder.
+const SOURCE: [Deed; 2] = [
+    (
+        "the source's folder",
+        Act::Folder,
+        "grid-of-a-copy/https:,,a.example/data",
+        "",
+    ),
+    (
+        "the source",
+        Act::File,
+        "grid-of-a-copy/https:,,a.example/data/f1",
+        "abc",
+    ),
+];
+
 /// Whether a copy without a source, the next one with it, and another behind that end as they should.
-fn copies_once<R: Files<File = File> + Alloc>(
-    rt: &R,
-    store: &mut Folders,
-    copier: &mut Copier,
-) -> Result<bool, Fail> {
-    let missing = never_stopped(store, copier, false);
-    fs::create_dir_all(rt, "grid-of-a-copy/https:,,a.example/data")?;
-    fs::write(rt, "grid-of-a-copy/https:,,a.example/data/f1", "abc")?;
-    let first = never_stopped(store, copier, false);
-    let second = never_stopped(store, copier, false);
-    Ok(
-        missing == (Outcome::SourceMissing, 0)
-            && first == (verified(3, ABC), 3)
-            && second == (Outcome::DestinationExists, 0),
-    )
+fn copies_once<R: Files<File = File> + Alloc + Abort>(rt: &R, grid: &mut Grid) -> bool {
+    let missing = never_stopped(&mut grid.store, &mut grid.copier, false);
+    do_all(rt, &SOURCE);
+    let first = never_stopped(&mut grid.store, &mut grid.copier, false);
+    let second = never_stopped(&mut grid.store, &mut grid.copier, false);
+    missing == (Outcome::SourceMissing, 0)
+        && first == (WHOLE, 3)
+        && second == (Outcome::DestinationExists, 0)
 }
 
 /// Whether a copy puts its source in the place of another file.
-fn replaces_a_file<R: Files<File = File> + Alloc>(
-    rt: &R,
-    store: &mut Folders,
-    copier: &mut Copier,
-) -> Result<bool, Fail> {
-    fs::write(rt, HELD, "other")?;
-    let found = never_stopped(store, copier, true);
-    Ok(found == (verified(3, ABC), 3) && holds(rt, HELD, "abc"))
+fn replaces_a_file<R: Files<File = File> + Alloc>(rt: &R, grid: &mut Grid) -> bool {
+    let is_there = do_act(rt, Act::File, HELD, "other") == Said::Done;
+    let found = never_stopped(&mut grid.store, &mut grid.copier, true);
+    is_there && found == (WHOLE, 3) && holds(rt, HELD, "abc")
+}
+
+/// Puts a folder in the place of a file.
+fn is_folder_made<R: Files<File = File> + Alloc>(rt: &R) -> bool {
+    do_act(rt, Act::Unlink, HELD, "") == Said::Done
+        && do_act(rt, Act::Folder, HELD, "") == Said::Done
 }
 
 /// Whether a copy onto a folder fails, and the folder is there still.
-fn spares_a_folder<R: Files<File = File> + Alloc>(
-    rt: &R,
-    store: &mut Folders,
-    copier: &mut Copier,
-) -> Result<bool, Fail> {
-    fs::remove_file(rt, HELD)?;
-    fs::create_dir_all(rt, HELD)?;
-    let found = never_stopped(store, copier, true);
-    Ok(found == (Outcome::StoreFailed, 3) && fs::exists(rt, HELD)?)
+fn spares_a_folder<R: Files<File = File> + Alloc>(rt: &R, grid: &mut Grid) -> bool {
+    let is_made = is_folder_made(rt);
+    let found = never_stopped(&mut grid.store, &mut grid.copier, true);
+    is_made && found == (Outcome::StoreFailed, 3) && do_act(rt, Act::Find, HELD, "") == Said::Done
 }
 
-fn copies_between_folders<R: Files<File = File> + Alloc + Abort>(
-    rt: &R,
-    grid: &mut Grid,
-) -> Result<(), Fail> {
-    let is_copied = copies_once(rt, &mut grid.store, &mut grid.copier)?;
+fn copy_between_folders<R: Files<File = File> + Alloc + Abort>(rt: &R, grid: &mut Grid) {
+    let is_copied = copies_once(rt, grid);
     assert!(rt;
         is_copied,
         "a file is copied once its source is there, and no second time"
     );
-    let is_replaced = replaces_a_file(rt, &mut grid.store, &mut grid.copier)?;
+    let is_replaced = replaces_a_file(rt, grid);
     assert!(rt; is_replaced, "a file is replaced");
-    let is_spared = spares_a_folder(rt, &mut grid.store, &mut grid.copier)?;
+    let is_spared = spares_a_folder(rt, grid);
     assert!(rt; is_spared, "a folder is not");
-    Ok(())
 }
 
 #[test]
 fn a_file_is_copied_between_real_folders(rt: HostRuntime) -> Result<(), Fail> {
-    let root = "grid-of-a-copy";
-    clear(&rt, root);
-    let mut grid = grid_at(rt, root, Some(ABC))?;
-    let ended = copies_between_folders(&rt, &mut grid);
-    clear(&rt, root);
-    ended
+    clear(&rt, "grid-of-a-copy");
+    let mut grid = grid_at(rt, "grid-of-a-copy", Some(ABC))?;
+    copy_between_folders(&rt, &mut grid);
+    clear(&rt, "grid-of-a-copy");
+    Ok(())
 }
 
 const CHANGED_SOURCE: &str = "grid-of-a-change/https:,,a.example/data/f1";
 
 const CHANGED_DEST: &str = "grid-of-a-change/https:,,b.example/store/f1";
 
-fn clear_dest<R: Files<File = File>>(rt: &R) -> Result<(), Fail> {
+/// The source, and no destination.
+fn is_stand_made<R: Files<File = File> + Alloc>(rt: &R) -> bool {
     let _old = fs::remove_file(rt, CHANGED_DEST);
-    fs::write(rt, CHANGED_SOURCE, "abc")?;
-    Ok(())
+    do_act(rt, Act::File, CHANGED_SOURCE, "abc") == Said::Done
 }
 
-/// Whether a copy whose watch writes these bytes into a file, before the first piece is read, ends so and leaves this at the destination.
-fn written_ends<R: Files<File = File> + Alloc>(
-    rt: &R,
-    stand: (&mut Folders, &mut Copier),
-    written: (&str, &str),
-    want: Outcome,
-    there: &str,
-) -> Result<bool, Fail> {
-    clear_dest(rt)?;
-    let (path, bytes) = written;
+/// How a copy ends whose watch writes these bytes into a file, before the first piece is read.
+fn written_end<R: Files<File = File>>(rt: &R, grid: &mut Grid, path: &str, bytes: &str) -> Outcome {
     let mut watch = WritingWatch {
         rt,
         path,
         bytes,
         askings: 0,
     };
-    let (store, copier) = stand;
-    copier.room.load(&copier.row, false);
-    let found = copy_verified(store, &mut copier.room, &mut watch);
-    Ok(found == want && holds(rt, CHANGED_DEST, there))
+    grid.copier.room.load(&grid.copier.row, false);
+    copy_verified(&mut grid.store, &mut grid.copier.room, &mut watch)
 }
 
-fn make_folders(rt: HostRuntime, root: &str) -> Result<(), Fail> {
-    clear(&rt, root);
-    fs::create_dir_all(&rt, "grid-of-a-change/https:,,a.example/data")?;
-    fs::create_dir_all(&rt, "grid-of-a-change/https:,,b.example/store")?;
-    Ok(())
-}
+/// What becomes of a file while it is copied: which file, its bytes, how the copy ends, and what is at the destination; no bytes are no file.
+type Written = (
+    &'static str,
+    &'static str,
+    &'static str,
+    Outcome,
+    &'static str,
+);
 
-fn each_written_ends<R: Files<File = File> + Alloc + Abort>(
-    rt: &R,
-    store: &mut Folders,
-    copier: &mut Copier,
-) -> Result<(), Fail> {
-    let shorter = Outcome::SourceSize { seen: 2 };
-    let longer = Outcome::ReadBackDiffers { at: 3 };
-    for (case, bytes, want, there) in [
-        ("the same bytes", "abc", verified(3, ABC), "abc"),
-        ("a byte less", "ab", shorter, ""),
-        ("a byte more", "abc+", longer, ""),
-        ("another byte", "ab+", verified(3, AB_PLUS), "ab+"),
-    ] {
-        let source = (CHANGED_SOURCE, bytes);
-        let ends_so = written_ends(rt, (store, copier), source, want, there)?;
-        assert!(rt; ends_so, "the source becomes {case}");
+const OTHER_AND_WHOLE: Outcome = Outcome::Verified {
+    size: 3,
+    digest: AB_PLUS,
+};
+
+const WRITTEN: [Written; 5] = [
+    (
+        "the source becomes the same bytes",
+        CHANGED_SOURCE,
+        "abc",
+        WHOLE,
+        "abc",
+    ),
+    (
+        "the source becomes a byte less",
+        CHANGED_SOURCE,
+        "ab",
+        Outcome::SourceSize { seen: 2 },
+        "",
+    ),
+    (
+        "the source becomes a byte more",
+        CHANGED_SOURCE,
+        "abc+",
+        Outcome::ReadBackDiffers { at: 3 },
+        "",
+    ),
+    (
+        "the source becomes another byte",
+        CHANGED_SOURCE,
+        "ab+",
+        OTHER_AND_WHOLE,
+        "ab+",
+    ),
+    (
+        "a destination appears",
+        CHANGED_DEST,
+        "other",
+        Outcome::StoreFailed,
+        "other",
+    ),
+];
+
+/// The folders of both files.
+const CHANGED_FOLDERS: [Deed; 2] = [
+    (
+        "the source's folder",
+        Act::Folder,
+        "grid-of-a-change/https:,,a.example/data",
+        "",
+    ),
+    (
+        "the destination's folder",
+        Act::Folder,
+        "grid-of-a-change/https:,,b.example/store",
+        "",
+    ),
+];
+
+fn end_each_written<R: Files<File = File> + Alloc + Abort>(rt: &R, grid: &mut Grid) {
+    for (case, path, bytes, want, there) in &WRITTEN {
+        let is_made = is_stand_made(rt);
+        let ends_so = written_end(rt, grid, path, bytes) == *want;
+        let is_left = holds(rt, CHANGED_DEST, there);
+        assert!(rt; is_made && ends_so && is_left, "{case}");
     }
-    let dest = (CHANGED_DEST, "other");
-    let is_spared = written_ends(rt, (store, copier), dest, Outcome::StoreFailed, "other")?;
-    assert!(rt; is_spared, "a destination appears");
-    Ok(())
 }
 
 #[test]
 fn a_real_file_that_changes_during_a_copy(rt: HostRuntime) -> Result<(), Fail> {
-    let root = "grid-of-a-change";
-    make_folders(rt, root)?;
-    let mut grid = grid_at(rt, root, None)?;
-    let ended = each_written_ends(&rt, &mut grid.store, &mut grid.copier);
-    clear(&rt, root);
-    ended
+    clear(&rt, "grid-of-a-change");
+    do_all(&rt, &CHANGED_FOLDERS);
+    let mut grid = grid_at(rt, "grid-of-a-change", None)?;
+    end_each_written(&rt, &mut grid);
+    clear(&rt, "grid-of-a-change");
+    Ok(())
 }
 
 /// Cuts a file, makes it as long as it was, writes other bytes into it and makes it longer, so often.

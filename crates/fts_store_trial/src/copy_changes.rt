@@ -108,96 +108,114 @@ fn wrongly_ended(
     wrong_call(alloc, &expected)
 }
 
+/// What the source becomes, before which calls, what is left at the destination, and the digest of that.
+const VERIFIED: [(&str, &str, (usize, usize), &str, [u8; 16]); 7] = [
+    ("written anew at first", "abc", (1, 2), "abc", ABC),
+    ("cut before its size is asked", "ab", (1, 2), "ab", AB),
+    ("cut behind its second reading", "ab", (7, 11), "abc", ABC),
+    (
+        "grown before its size is asked",
+        "abc+",
+        (1, 2),
+        "abc+",
+        ABC_PLUS,
+    ),
+    (
+        "grown behind the look at its end",
+        "abc+",
+        (9, 11),
+        "abc",
+        ABC,
+    ),
+    (
+        "replaced before its first reading",
+        "ab+",
+        (1, 5),
+        "ab+",
+        AB_PLUS,
+    ),
+    (
+        "replaced behind its second reading",
+        "ab+",
+        (7, 11),
+        "abc",
+        ABC,
+    ),
+];
+
 #[test]
 fn a_source_that_changes_during_a_copy_that_is_verified(rt: HostRuntime) -> Result<(), Fail> {
-    for (case, later, calls, held, digest) in [
-        ("written anew at first", "abc", (1, 2), "abc", &ABC),
-        ("cut before its size is asked", "ab", (1, 2), "ab", &AB),
-        ("cut behind its second reading", "ab", (7, 11), "abc", &ABC),
-        (
-            "grown before its size is asked",
-            "abc+",
-            (1, 2),
-            "abc+",
-            &ABC_PLUS,
-        ),
-        (
-            "grown behind the look at its end",
-            "abc+",
-            (9, 11),
-            "abc",
-            &ABC,
-        ),
-        (
-            "replaced before its first reading",
-            "ab+",
-            (1, 5),
-            "ab+",
-            &AB_PLUS,
-        ),
-        (
-            "replaced behind its second reading",
-            "ab+",
-            (7, 11),
-            "abc",
-            &ABC,
-        ),
-    ] {
-        let wrong = wrongly_verified(rt.alloc(), later, calls, held, *digest)?;
+    for (case, later, calls, held, digest) in &VERIFIED {
+        let wrong = wrongly_verified(rt.alloc(), later, *calls, held, *digest)?;
         assert!(rt; wrong == 0, "a source that is {case}, call {wrong}");
     }
     Ok(())
 }
+
+const SHORTER: Outcome = Outcome::SourceSize { seen: 2 };
+
+const DIFFERS: Outcome = Outcome::ReadBackDiffers { at: 2 };
+
+const LONGER: Outcome = Outcome::ReadBackDiffers { at: 3 };
+
+/// What the source becomes, before which calls, the calls that are made, and how the copy ends.
+const ENDED: [(&str, &str, (usize, usize), &str, Outcome); 4] = [
+    (
+        "cut before its first reading",
+        "ab",
+        (2, 5),
+        "SDcssa",
+        SHORTER,
+    ),
+    (
+        "cut before its second reading",
+        "ab",
+        (5, 7),
+        "SDcsassp",
+        DIFFERS,
+    ),
+    (
+        "grown before the look at its end",
+        "abc+",
+        (2, 9),
+        "SDcsaspsp",
+        LONGER,
+    ),
+    (
+        "replaced before its second reading",
+        "ab+",
+        (5, 7),
+        "SDcsasp",
+        DIFFERS,
+    ),
+];
 
 #[test]
 fn a_source_that_changes_during_a_copy_that_is_not(rt: HostRuntime) -> Result<(), Fail> {
-    let size = Outcome::SourceSize { seen: 2 };
-    let differs = Outcome::ReadBackDiffers { at: 2 };
-    let longer = Outcome::ReadBackDiffers { at: 3 };
-    for (case, later, numbers, calls, want) in [
-        ("cut before its first reading", "ab", (2, 5), "SDcssa", size),
-        (
-            "cut before its second reading",
-            "ab",
-            (5, 7),
-            "SDcsassp",
-            differs,
-        ),
-        (
-            "grown before the look at its end",
-            "abc+",
-            (2, 9),
-            "SDcsaspsp",
-            longer,
-        ),
-        (
-            "replaced before its second reading",
-            "ab+",
-            (5, 7),
-            "SDcsasp",
-            differs,
-        ),
-    ] {
-        let wrong = wrongly_ended(rt.alloc(), Some(later.as_bytes()), numbers, calls, want)?;
+    for (case, later, numbers, calls, want) in &ENDED {
+        let wrong = wrongly_ended(rt.alloc(), Some(later.as_bytes()), *numbers, calls, *want)?;
         assert!(rt; wrong == 0, "a source that is {case}, call {wrong}");
     }
     Ok(())
 }
 
+/// Before what the source is gone, which calls those are, the calls that are made, and how the copy ends.
+const GONE: [(&str, (usize, usize), &str, Outcome); 4] = [
+    ("its size is asked", (1, 2), "S", Outcome::SourceMissing),
+    ("its first reading", (2, 5), "SDcs", Outcome::StoreFailed),
+    ("its second reading", (5, 7), "SDcsas", Outcome::StoreFailed),
+    (
+        "the look at its end",
+        (7, 9),
+        "SDcsasps",
+        Outcome::StoreFailed,
+    ),
+];
+
 #[test]
 fn a_source_that_vanishes_during_a_copy(rt: HostRuntime) -> Result<(), Fail> {
-    for (case, numbers, calls, want) in [
-        ("its size is asked", (1, 2), "S", Outcome::SourceMissing),
-        ("its first reading", (2, 5), "SDcs", Outcome::StoreFailed),
-        ("its second reading", (5, 7), "SDcsas", Outcome::StoreFailed),
-        (
-            "the look at its end",
-            (7, 9),
-            "SDcsasps",
-            Outcome::StoreFailed,
-        ),
-    ] {
-        let wrong = wrongly_ended(rt.alloc(), None, numbers, calls, want)?;
+    for (case, numbers, calls, want) in &GONE {
+        let wrong = wrongly_ended(rt.alloc(), None, *numbers, calls, *want)?;
         assert!(rt;
             wrong == 0,
             "a source that is gone before {case}, call {wrong}"
@@ -255,15 +273,17 @@ fn wrong_failure(alloc: Global, yeses: u64, stops_before: usize) -> Result<usize
 }
 
 // Before which of the nine calls the watch is asked; the last stands for never.
+const NOES: [(&str, u64, usize); 4] = [
+    ("the first asking", 0, 3),
+    ("the second asking", 1, 5),
+    ("the third asking", 2, 9),
+    ("no asking", 3, 10),
+];
+
 #[test]
 fn the_earlier_of_a_failure_and_a_no_ends_a_copy(rt: HostRuntime) -> Result<(), Fail> {
-    for (case, yeses, stops_before) in [
-        ("the first asking", 0, 3),
-        ("the second asking", 1, 5),
-        ("the third asking", 2, 9),
-        ("no asking", 3, 10),
-    ] {
-        let wrong = wrong_failure(rt.alloc(), yeses, stops_before)?;
+    for (case, yeses, stops_before) in &NOES {
+        let wrong = wrong_failure(rt.alloc(), *yeses, *stops_before)?;
         assert!(rt; wrong == 0, "a no at {case}, and call {wrong} fails");
     }
     Ok(())

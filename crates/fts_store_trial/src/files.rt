@@ -1,16 +1,19 @@
 //! What no clause says of the system's calls: that each call of the real files is the system's, by the number that it refuses with, and whole
 //! moves over real files, by the letters of their calls. Expected numbers are those of Linux, and the letters are those of the order that
 //! a move promises.
+//! A test is its rows, or one question: a row of data costs next to nothing to prove.
+use crate::deeds::{has_rights, holds};
 use crate::files_noting::NotingFiles;
 use fts_files::{
-    Failed, FileSystem, Kind, OpenPart, Refused, SystemFiles, Way, match_whole, open_plain,
+    Failed, FileSystem, Kind, OpenPart, Refused, Seen, SystemFiles, Way, match_whole, open_plain,
     open_source, read_some, read_whole, remove, size, write_whole,
 };
 use std::alloc::{Alloc, Global};
 use std::fs::{self, File, Files, Permissions};
 use std::io;
 use std::os::fd::AsRawFd;
-use std::os::unix::fs::{MetadataExt, PermissionsExt, symlink};
+use std::os::unix::fs::{PermissionsExt, symlink};
+use std::process::Abort;
 use std::test::Fail;
 
 const FOLDER: &str = "files-of-a-test";
@@ -29,162 +32,256 @@ fn clear<R: Files<File = File> + Alloc>(rt: &R) -> Result<(), Fail> {
     Ok(())
 }
 
-fn is_refused<T: Drop>(answer: Result<T, Refused>, errno: u32) -> bool {
+/// The folder, and in it a file of four bytes.
+fn write_part<R: Files<File = File> + Alloc>(rt: &R) -> Result<(), Fail> {
+    clear(rt)?;
+    fs::write(rt, PART, "abcd")?;
+    Ok(())
+}
+
+/// A call of the system: by a name or two, or on what is opened by a name.
+#[derive(Clone, Copy)]
+enum Asked {
+    Link,
+    Rename,
+    Unlink,
+    MakeFolder,
+    Look,
+    /// What is there is opened to be written.
+    Open,
+    Make,
+    SyncData,
+    SyncAll,
+    Write,
+    Read,
+}
+
+/// The number that a call is refused with; 0 where it is done.
+fn errno_of<T: Drop>(answer: Result<T, Refused>) -> u32 {
     match answer {
-        Ok(_) => false,
-        Err(refused) => refused.errno == errno,
+        Ok(_) => 0,
+        Err(refused) => refused.errno,
     }
 }
 
-fn done<T: Drop>(answer: Result<T, Refused>) -> Result<(), Refused> {
-    match answer {
-        Ok(_) => Ok(()),
-        Err(refused) => Err(refused),
+fn read<F: FileSystem>(files: &mut F, file: &F::Handle) -> u32 {
+    let mut into = [0; 4];
+    errno_of(files.read_at(file, 0, &mut into))
+}
+
+fn ask_open<F: FileSystem>(files: &mut F, file: &F::Handle, asked: Asked) -> u32 {
+    match asked {
+        Asked::SyncData => errno_of(files.sync_data(file)),
+        Asked::SyncAll => errno_of(files.sync_all(file)),
+        Asked::Write => errno_of(files.write_at(file, 0, b"abcd")),
+        Asked::Read => read(files, file),
+        Asked::Link
+        | Asked::Rename
+        | Asked::Unlink
+        | Asked::MakeFolder
+        | Asked::Look
+        | Asked::Open
+        | Asked::Make => 0,
     }
+}
+
+fn open_and_ask<F: FileSystem>(files: &mut F, path: &str, way: Way, asked: Asked) -> u32 {
+    match files.open(path, way) {
+        Ok(file) => ask_open(files, &file, asked),
+        Err(refused) => refused.errno,
+    }
+}
+
+fn ask<F: FileSystem>(files: &mut F, asked: Asked, path: &str, new: &str) -> u32 {
+    match asked {
+        Asked::Link => errno_of(files.link(path, new)),
+        Asked::Rename => errno_of(files.rename(path, new)),
+        Asked::Unlink => errno_of(files.unlink(path)),
+        Asked::MakeFolder => errno_of(files.make_folder(path)),
+        Asked::Look => errno_of(files.look(path)),
+        Asked::Make => open_and_ask(files, path, Way::New, asked),
+        Asked::Open | Asked::Write => open_and_ask(files, path, Way::Write, asked),
+        Asked::SyncData | Asked::SyncAll | Asked::Read => {
+            open_and_ask(files, path, Way::Read, asked)
+        }
+    }
+}
+
+/// What is asked, as a sentence; the call, and its names; the number that is wanted.
+type Question = (&'static str, Asked, &'static str, &'static str, u32);
+
+/// Asks each of these, and wants these numbers.
+fn ask_each<R: Abort, F: FileSystem>(rt: &R, files: &mut F, rows: &[Question]) {
+    for (case, asked, path, new, errno) in rows {
+        let is_so = ask(files, *asked, path, new) == *errno;
+        assert!(rt; is_so, "{case}");
+    }
+}
+
+fn ask_all<R: Files<File = File> + Alloc + Abort>(rt: &R, rows: &[Question]) -> Result<(), Fail> {
+    write_part(rt)?;
+    ask_each(rt, &mut SystemFiles::new(rt), rows);
+    Ok(())
 }
 
 // A sync of what has no data is EINVAL, a write to a full device ENOSPC, a read of a folder EISDIR: a call that did nothing would say Ok.
+const ON_OPEN: [Question; 5] = [
+    ("a sync of data", Asked::SyncData, "/dev/null", "", 22),
+    ("a sync of all", Asked::SyncAll, "/dev/null", "", 22),
+    ("no room", Asked::Write, "/dev/full", "", 28),
+    ("a folder", Asked::Read, FOLDER, "", 21),
+    ("a folder is synced", Asked::SyncAll, FOLDER, "", 0),
+];
+
 #[test]
 fn a_call_on_a_handle_is_the_systems(rt: HostRuntime) -> Result<(), Fail> {
-    clear(&rt)?;
-    let mut files = SystemFiles::new(&rt);
-    let mut into = [0; 4];
-    let (Ok(null), Ok(full), Ok(folder)) = (
-        files.open("/dev/null", Way::Read),
-        files.open("/dev/full", Way::Write),
-        files.open(FOLDER, Way::Read),
-    ) else {
-        assert!(rt; false, "each is opened");
-        return Ok(());
-    };
-    for (case, answer, errno) in [
-        ("a sync of data", files.sync_data(&null), 22),
-        ("a sync of all", files.sync_all(&null), 22),
-        ("no room", done(files.write_at(&full, 0, b"abcd")), 28),
-        ("a folder", done(files.read_at(&folder, 0, &mut into)), 21),
-    ] {
-        assert!(rt; is_refused(answer, errno), "{case}");
-    }
-    assert!(rt; files.sync_all(&folder) == Ok(()), "a folder is synced");
-    Ok(())
+    ask_all(&rt, &ON_OPEN)
 }
+
+const BY_NAME: [Question; 11] = [
+    ("a link over a name", Asked::Link, PART, PART, 17),
+    ("a folder over a name", Asked::MakeFolder, PART, "", 17),
+    (
+        "a folder below no folder",
+        Asked::MakeFolder,
+        BELOW_DEST,
+        "",
+        2,
+    ),
+    ("a name that isn't there", Asked::Unlink, DEST, "", 2),
+    ("what isn't there is renamed", Asked::Rename, DEST, PART, 2),
+    ("a folder's name", Asked::Unlink, FOLDER, "", 21),
+    ("made where it is", Asked::Make, PART, "", 17),
+    ("opened where it isn't", Asked::Open, DEST, "", 2),
+    ("below a file is nothing", Asked::Look, BELOW_PART, "", 20),
+    ("a folder is made", Asked::MakeFolder, DEST, "", 0),
+    ("and is there, as a folder", Asked::Unlink, DEST, "", 21),
+];
 
 #[test]
 fn a_call_by_a_name_is_the_systems(rt: HostRuntime) -> Result<(), Fail> {
-    clear(&rt)?;
-    fs::write(&rt, PART, "abcd")?;
-    let mut files = SystemFiles::new(&rt);
-    for (case, answer, errno) in [
-        ("a link over a name", files.link(PART, PART), 17),
-        ("a folder over a name", files.make_folder(PART), 17),
-        ("a folder below no folder", files.make_folder(BELOW_DEST), 2),
-        ("a name that isn't there", files.unlink(DEST), 2),
-        ("what isn't there is renamed", files.rename(DEST, PART), 2),
-        ("a folder's name", files.unlink(FOLDER), 21),
-        ("made where it is", done(files.open(PART, Way::New)), 17),
-        (
-            "opened where it isn't",
-            done(files.open(DEST, Way::Write)),
-            2,
-        ),
-        ("below a file is nothing", done(files.look(BELOW_PART)), 20),
-    ] {
-        assert!(rt; is_refused(answer, errno), "{case}");
+    ask_all(&rt, &BY_NAME)
+}
+
+/// Whether of two openings the first gets the lock, and the other once the first is closed.
+fn is_lock_of_one<F: FileSystem>(files: &mut F, one: F::Handle, other: F::Handle) -> bool {
+    let is_held = files.lock(&one).is_ok() && errno_of(files.lock(&other)) == 11;
+    drop(one);
+    is_held && files.lock(&other).is_ok()
+}
+
+fn are_opened_and_locked<F: FileSystem>(files: &mut F, path: &str) -> bool {
+    match (files.open(path, Way::Write), files.open(path, Way::Write)) {
+        (Ok(one), Ok(other)) => is_lock_of_one(files, one, other),
+        _ => false,
     }
-    assert!(rt; files.make_folder(DEST) == Ok(()), "a folder is made");
-    assert!(rt; fs::metadata(&rt, DEST)?.is_dir(), "and is there");
-    Ok(())
 }
 
 #[test]
 fn one_opening_holds_a_lock(rt: HostRuntime) -> Result<(), Fail> {
-    clear(&rt)?;
-    fs::write(&rt, PART, "abcd")?;
-    let mut files = SystemFiles::new(&rt);
-    let (Ok(one), Ok(other)) = (files.open(PART, Way::Write), files.open(PART, Way::Write)) else {
-        assert!(rt; false, "it is opened twice");
-        return Ok(());
-    };
-    assert!(rt; files.lock(&one) == Ok(()), "the first gets it");
-    assert!(rt;
-        is_refused(files.lock(&other), 11),
-        "another opening doesn't"
-    );
-    drop(one);
-    assert!(rt;
-        files.lock(&other) == Ok(()),
-        "once the first is closed, it does"
-    );
+    write_part(&rt)?;
+    let is_so = are_opened_and_locked(&mut SystemFiles::new(&rt), PART);
+    assert!(rt; is_so, "another opening gets it once the first is closed");
     Ok(())
+}
+
+/// What a look sees; nothing where it is refused.
+fn seen(answer: Result<Seen, Refused>) -> Option<Seen> {
+    match answer {
+        Ok(seen) => Some(seen),
+        Err(_) => None,
+    }
+}
+
+fn has_kind(seen: Option<Seen>, kind: Kind) -> bool {
+    match seen {
+        Some(seen) => seen.kind == kind,
+        None => false,
+    }
+}
+
+fn has_length(seen: Option<Seen>, len: u64) -> bool {
+    match seen {
+        Some(seen) => seen.len == len,
+        None => false,
+    }
+}
+
+fn are_one_file(one: Option<Seen>, other: Option<Seen>) -> bool {
+    match (one, other) {
+        (Some(one), Some(other)) => one.device == other.device && one.inode == other.inode,
+        _ => false,
+    }
+}
+
+fn are_on_one_device(one: Option<Seen>, other: Option<Seen>) -> bool {
+    match (one, other) {
+        (Some(one), Some(other)) => one.device == other.device,
+        _ => false,
+    }
 }
 
 #[test]
 fn looks_tell_links_files_and_names_apart(rt: HostRuntime) -> Result<(), Fail> {
-    clear(&rt)?;
-    fs::write(&rt, PART, "abcd")?;
+    write_part(&rt)?;
     symlink(&rt, "part", DEST)?;
     let mut files = SystemFiles::new(&rt);
-    let (Ok(through), Ok(name), Ok(part), Ok(folder)) = (
-        files.look(DEST),
-        files.look_at_name(DEST),
-        files.look_at_name(PART),
-        files.look(FOLDER),
-    ) else {
-        assert!(rt; false, "each is looked at");
-        return Ok(());
-    };
-    let is_one_file = through.device == part.device && through.inode == part.inode;
-    for (case, is_so) in [
-        (
-            "through a link a file of four bytes is seen",
-            through.kind == Kind::File && through.len == 4,
-        ),
-        ("it is the file that the other name has", is_one_file),
-        (
-            "at the name a link is seen",
-            name.kind == Kind::Other && name.inode != part.inode,
-        ),
-        (
-            "a folder is seen as one",
-            folder.kind == Kind::Folder && folder.device == part.device,
-        ),
-    ] {
-        assert!(rt; is_so, "{case}");
-    }
+    let through = seen(files.look(DEST));
+    let name = seen(files.look_at_name(DEST));
+    let part = seen(files.look_at_name(PART));
+    let folder = seen(files.look(FOLDER));
+    let is_file = has_kind(through, Kind::File) && has_length(through, 4);
+    assert!(rt; is_file, "through a link a file of four bytes is seen");
+    let is_so = are_one_file(through, part)
+        && has_kind(name, Kind::Other)
+        && are_on_one_device(name, part)
+        && !are_one_file(name, part);
+    assert!(rt;
+        is_so,
+        "it is the file of the other name, and at the name a link is seen"
+    );
+    let is_folder = has_kind(folder, Kind::Folder) && are_on_one_device(folder, part);
+    assert!(rt; is_folder, "a folder is seen as one");
     Ok(())
+}
+
+/// Whether a path is told as no file: its size is a failure, and it isn't opened.
+fn is_no_file<F: FileSystem>(files: &mut F, path: &str) -> bool {
+    size(files, path) == Err(Failed) && open_plain(files, path).is_err()
+}
+
+/// Whether a pipe is told as none, which ends.
+fn is_pipe_no_file<R: Files<File = File> + Alloc<A = Global>>(rt: &R) -> Result<bool, Fail> {
+    let (reader, writer) = io::pipe(rt)?;
+    drop(writer);
+    let path = format!(in rt.alloc(); "/proc/self/fd/{}", reader.as_raw_fd())?;
+    Ok(is_no_file(&mut SystemFiles::new(rt), path.as_str()))
+}
+
+fn is_told_as_absent<R: Files<File = File> + Drop>(rt: R) -> bool {
+    size(&mut SystemFiles::new(rt), PART) == Ok(None)
+}
+
+fn is_told_as_failed<R: Files<File = File> + Drop>(rt: R, alloc: Global) -> bool {
+    let mut files = noting_of(rt, alloc, 1, 5);
+    size(&mut files, PART) == Err(Failed)
+}
+
+fn is_folder_no_file<R: Files<File = File> + Drop>(rt: R) -> bool {
+    is_no_file(&mut SystemFiles::new(rt), FOLDER)
 }
 
 // What is refused isn't there only where the system says so; a pipe is no file, and looking at it ends.
 #[test]
 fn a_failure_is_no_absence(rt: HostRuntime) -> Result<(), Fail> {
     clear(&rt)?;
-    let alloc = rt.alloc();
-    let mut files = SystemFiles::new(&rt);
-    let (reader, writer) = io::pipe(&rt)?;
-    drop(writer);
-    let pipe = format!(in alloc; "/proc/self/fd/{}", reader.as_raw_fd())?;
-    let mut refusing = noting_of(&rt, alloc, 1, 5)?;
-    for (case, answer, want) in [
-        ("nothing has the name", size(&mut files, PART), Ok(None)),
-        ("a folder is no file", size(&mut files, FOLDER), Err(Failed)),
-        (
-            "a pipe is no file",
-            size(&mut files, pipe.as_str()),
-            Err(Failed),
-        ),
-        (
-            "an error of the device is no absence",
-            size(&mut refusing, PART),
-            Err(Failed),
-        ),
-    ] {
-        assert!(rt; answer == want, "{case}");
-    }
+    let is_told = is_told_as_absent(&rt) && is_told_as_failed(&rt, rt.alloc());
     assert!(rt;
-        open_plain(&mut files, pipe.as_str()).is_err(),
-        "a pipe isn't opened"
+        is_told,
+        "nothing has the name; an error of the device is no absence"
     );
-    assert!(rt; open_plain(&mut files, FOLDER).is_err(), "nor is a folder");
+    let is_none = is_folder_no_file(&rt) && is_pipe_no_file(&rt)?;
+    assert!(rt; is_none, "neither a folder nor a pipe is a file");
     Ok(())
 }
 
@@ -193,270 +290,470 @@ fn noting_of<R: Files<File = File> + Drop>(
     alloc: Global,
     refuses_at: usize,
     errno: u32,
-) -> Result<NotingFiles<R>, Fail> {
-    Ok(NotingFiles {
+) -> NotingFiles<R> {
+    NotingFiles {
         files: SystemFiles::new(rt),
         letters: Vec::new(alloc),
         refuses_at,
         refusals: 1,
         errno,
         most: 3,
-    })
+    }
 }
 
-// Seven bytes are read three at a time, into a buffer of so many bytes, and one call may be refused.
+/// Seven bytes that are read three at a time into a buffer of so many bytes, where one call may be refused; how many are read, and by which calls.
+struct ShortRead {
+    case: &'static str,
+    room: usize,
+    refuses_at: usize,
+    errno: u32,
+    want: Result<usize, Failed>,
+    letters: &'static str,
+}
+
+const SHORT_READS: [ShortRead; 5] = [
+    ShortRead {
+        case: "a buffer of five is full",
+        room: 5,
+        refuses_at: 0,
+        errno: 0,
+        want: Ok(5),
+        letters: "lohrr",
+    },
+    ShortRead {
+        case: "one of nine ends with the file",
+        room: 9,
+        refuses_at: 0,
+        errno: 0,
+        want: Ok(7),
+        letters: "lohrrrr",
+    },
+    ShortRead {
+        case: "one of none is full at once",
+        room: 0,
+        refuses_at: 0,
+        errno: 0,
+        want: Ok(0),
+        letters: "loh",
+    },
+    ShortRead {
+        case: "an interrupted read is repeated",
+        room: 5,
+        refuses_at: 5,
+        errno: 4,
+        want: Ok(5),
+        letters: "lohrrr",
+    },
+    ShortRead {
+        case: "an error is no end",
+        room: 5,
+        refuses_at: 5,
+        errno: 5,
+        want: Err(Failed),
+        letters: "lohrr",
+    },
+];
+
+fn read_from<F: FileSystem>(files: &mut F, path: &str, into: &mut [u8]) -> Result<usize, Failed> {
+    match open_plain(files, path) {
+        Ok(file) => read_whole(files, &file, 0, into),
+        Err(Failed) => Err(Failed),
+    }
+}
+
+/// Whether so many bytes are the first of the seven; an error tells none.
+fn is_start(answer: Result<usize, Failed>, into: &[u8]) -> bool {
+    match answer {
+        Ok(count) => match into.get(..count) {
+            Some(read) => b"abcdefg\0\0".starts_with(read),
+            None => false,
+        },
+        Err(Failed) => true,
+    }
+}
+
+fn is_read_so<R: Files<File = File> + Drop>(rt: R, alloc: Global, row: &ShortRead) -> bool {
+    let mut files = noting_of(rt, alloc, row.refuses_at, row.errno);
+    let mut into = [0; 9];
+    let answer = read_from(&mut files, PART, &mut into[..row.room.min(9)]);
+    answer == row.want
+        && files.letters.as_slice() == row.letters.as_bytes()
+        && is_start(answer, &into)
+}
+
 #[test]
 fn a_buffer_is_filled_by_short_reads(rt: HostRuntime) -> Result<(), Fail> {
-    let alloc = rt.alloc();
-    for (case, room, refuses_at, errno, want, letters) in [
-        ("a buffer of five is full", 5, 0, 0, Ok(5), "lohrr"),
-        ("one of nine ends with the file", 9, 0, 0, Ok(7), "lohrrrr"),
-        ("one of none is full at once", 0, 0, 0, Ok(0), "loh"),
-        ("an interrupted read is repeated", 5, 5, 4, Ok(5), "lohrrr"),
-        ("an error is no end", 5, 5, 5, Err(Failed), "lohrr"),
-    ] {
-        clear(&rt)?;
-        fs::write(&rt, PART, "abcdefg")?;
-        let mut files = noting_of(&rt, alloc, refuses_at, errno)?;
-        let mut into = [0; 9];
-        let mut answer = Err(Failed);
-        if let Ok(file) = open_plain(&mut files, PART) {
-            answer = read_whole(&mut files, &file, 0, &mut into[..room.min(9)]);
-        }
-        assert!(rt; answer == want, "{case}");
-        assert!(rt;
-            files.letters.as_slice() == letters.as_bytes(),
-            "{case}: by these calls"
-        );
-        if let Ok(count) = answer {
-            let is_start = b"abcdefg\0\0".starts_with(&into[..count.min(9)]);
-            assert!(rt; is_start, "{case}: with these bytes");
-        }
+    clear(&rt)?;
+    fs::write(&rt, PART, "abcdefg")?;
+    for row in &SHORT_READS {
+        let is_so = is_read_so(&rt, rt.alloc(), row);
+        assert!(rt; is_so, "{}: so many bytes, by these calls", row.case);
     }
     Ok(())
+}
+
+/// Whether bytes are put behind two bytes, then in front of them, and found from the second on.
+fn are_put_and_found<F: FileSystem>(files: &mut F, file: &F::Handle) -> bool {
+    let mut into = [0; 9];
+    write_whole(files, file, 2, b"cdef").is_ok()
+        && write_whole(files, file, 0, b"ab").is_ok()
+        && read_some(files, file, 1, &mut into) == Ok(5)
+        && into.starts_with(b"bcdef")
+        && files.forget(file).is_ok()
+}
+
+/// Whether what was written is found, and neither another byte nor one behind the end; and no file is as long as can be.
+fn are_matched<F: FileSystem>(files: &mut F, file: &F::Handle) -> bool {
+    match_whole(files, file, 2, b"cdef").is_ok()
+        && match_whole(files, file, 2, b"cdeg").is_err()
+        && match_whole(files, file, 2, b"cdefg").is_err()
+        && write_whole(files, file, u64::MAX, b"ab").is_err()
+}
+
+fn are_put_in_a_new_file<F: FileSystem>(files: &mut F, path: &str) -> bool {
+    match files.open(path, Way::New) {
+        Ok(file) => are_put_and_found(files, &file) && are_matched(files, &file),
+        Err(_) => false,
+    }
 }
 
 #[test]
 fn bytes_are_put_and_found_at_an_offset(rt: HostRuntime) -> Result<(), Fail> {
     clear(&rt)?;
-    let mut files = SystemFiles::new(&rt);
-    let mut into = [0; 9];
-    let Ok(file) = files.open(PART, Way::New) else {
-        assert!(rt; false, "it is made");
-        return Ok(());
-    };
-    assert!(rt;
-        write_whole(&mut files, &file, 2, b"cdef") == Ok(()),
-        "behind two bytes"
-    );
-    assert!(rt;
-        write_whole(&mut files, &file, 0, b"ab") == Ok(()),
-        "in front of them"
-    );
-    assert!(rt;
-        read_some(&mut files, &file, 1, &mut into) == Ok(5),
-        "five are there from the second on"
-    );
-    assert!(rt; &into[..5] == b"bcdef".as_slice(), "these five");
-    assert!(rt; files.forget(&file) == Ok(()), "pages are dropped");
-    for (case, offset, bytes, want) in [
-        ("what was written is found", 2, "cdef", Ok(())),
-        ("another byte isn't", 2, "cdeg", Err(Failed)),
-        ("nor is one behind the end", 2, "cdefg", Err(Failed)),
-    ] {
-        assert!(rt;
-            match_whole(&mut files, &file, offset, bytes.as_bytes()) == want,
-            "{case}"
-        );
-    }
-    let beyond = write_whole(&mut files, &file, u64::MAX, b"ab");
-    assert!(rt; beyond == Err(Failed), "no file is so long");
+    let is_so = are_put_in_a_new_file(&mut SystemFiles::new(&rt), PART);
+    assert!(rt; is_so, "behind two bytes, in front of them, and found so");
     Ok(())
+}
+
+/// Whether a file is removed, what isn't there too, and a folder isn't.
+fn are_removed<F: FileSystem>(files: &mut F) -> bool {
+    remove(files, PART).is_ok() && remove(files, PART).is_ok() && remove(files, FOLDER).is_err()
 }
 
 #[test]
 fn what_is_removed_is_gone(rt: HostRuntime) -> Result<(), Fail> {
-    clear(&rt)?;
-    fs::write(&rt, PART, "abcd")?;
-    let mut files = SystemFiles::new(&rt);
-    for (case, path, want) in [
-        ("a file is removed", PART, Ok(())),
-        ("what isn't there is removed", PART, Ok(())),
-        ("a folder isn't", FOLDER, Err(Failed)),
-    ] {
-        assert!(rt; remove(&mut files, path) == want, "{case}");
-    }
+    write_part(&rt)?;
+    let is_so = are_removed(&mut SystemFiles::new(&rt));
+    assert!(rt;
+        is_so,
+        "a file is removed, as is what isn't there, and no folder"
+    );
     assert!(rt; !fs::exists(&rt, PART)?, "the file is gone");
     Ok(())
 }
 
-// A part of `abcdefg` is made, written three bytes at a time, and moved. Gives whether all was done.
-fn is_moved<R: Files<File = File> + Alloc<A = Global>>(
-    rt: &R,
-    files: &mut NotingFiles<&R>,
-    overwrite: bool,
-) -> Result<bool, Fail> {
-    let alloc = rt.alloc();
+/// The folders that a destination lies in, from the lowest up.
+fn folders_of_dest(alloc: Global) -> Result<Vec<String>, Fail> {
     let mut folders = Vec::new(alloc);
     folders.push(String::from_str(alloc, FOLDER)?)?;
     folders.push(String::from_str(alloc, ".")?)?;
-    let Ok(mut part) = OpenPart::make(files, PART) else {
-        return Ok(false);
-    };
-    Ok(
-        part.append(files, b"abcd").is_ok()
-            && part.append(files, b"efg").is_ok()
-            && part
-                .put_in_place(files, PART, DEST, &folders, overwrite)
-                .is_ok(),
-    )
+    Ok(folders)
 }
 
-#[test]
-fn a_move_is_done_by_these_calls(rt: HostRuntime) -> Result<(), Fail> {
-    for (case, refuses_at, errno, overwrite, letters) in [
-        ("no call is refused", 0, 0, false, "nkhLwwwdh+L-osos"),
-        ("a write is interrupted", 5, 4, false, "nkhLwwwwdh+L-osos"),
-        ("no link can be made", 10, 1, false, "nkhLwwwdh+LL>Losos"),
-        ("it may replace", 0, 0, true, "nkhLwwwdhLL>Losos"),
-        (
-            "too many files are open",
-            1,
-            24,
-            false,
-            "nznkhLwwwdh+L-osos",
-        ),
-        ("in the whole system", 1, 23, false, "nznkhLwwwdh+L-osos"),
-        ("or behind the move", 13, 24, false, "nkhLwwwdh+L-ozosos"),
-    ] {
-        clear(&rt)?;
-        let mut files = noting_of(&rt, rt.alloc(), refuses_at, errno)?;
-        assert!(rt; is_moved(&rt, &mut files, overwrite)?, "{case}: it is done");
-        assert!(rt;
-            files.letters.as_slice() == letters.as_bytes(),
-            "{case}: by these calls"
-        );
-        assert!(rt;
-            fs::read_to_string(&rt, DEST)?.as_str() == "abcdefg",
-            "{case}: it is there"
-        );
+// A part of `abcdefg` is made, written three bytes at a time, and moved. Gives whether all was done.
+fn is_moved<F: FileSystem>(files: &mut F, folders: &[String], overwrite: bool) -> bool {
+    match OpenPart::make(files, PART) {
+        Ok(mut part) => {
+            part.append(files, b"abcd").is_ok()
+                && part.append(files, b"efg").is_ok()
+                && part
+                    .put_in_place(files, PART, DEST, folders, overwrite)
+                    .is_ok()
+        }
+        Err(Failed) => false,
+    }
+}
+
+/// A move where a call may be refused: whether it is done, by which calls, and what is at the destination behind it.
+struct Move {
+    case: &'static str,
+    refuses_at: usize,
+    errno: u32,
+    overwrite: bool,
+    is_done: bool,
+    letters: &'static str,
+    held: &'static str,
+}
+
+/// Whether a move is done as a row says.
+fn is_moved_so<R: Files<File = File> + Alloc<A = Global>>(
+    rt: &R,
+    folders: &[String],
+    row: &Move,
+) -> bool {
+    let mut files = noting_of(rt, rt.alloc(), row.refuses_at, row.errno);
+    is_moved(&mut files, folders, row.overwrite) == row.is_done
+        && files.letters.as_slice() == row.letters.as_bytes()
+        && holds(rt, DEST, row.held)
+}
+
+/// What is at the destination before a move, with its rights; nothing where there are no bytes.
+fn write_dest<R: Files<File = File> + Alloc>(rt: &R, bytes: &str) -> Result<(), Fail> {
+    clear(rt)?;
+    if !bytes.is_empty() {
+        fs::write(rt, DEST, bytes)?;
+        fs::set_permissions(rt, DEST, Permissions::from_mode(0o640))?;
     }
     Ok(())
 }
+
+/// Moves a part over these bytes, by each of these rows.
+fn move_all<R: Files<File = File> + Alloc<A = Global> + Abort>(
+    rt: &R,
+    there: &str,
+    rows: &[Move],
+) -> Result<(), Fail> {
+    let folders = folders_of_dest(rt.alloc())?;
+    for row in rows {
+        write_dest(rt, there)?;
+        let is_so = is_moved_so(rt, folders.as_slice(), row);
+        let are_rights_kept = there.is_empty() || has_rights(rt, DEST, 0o640);
+        assert!(rt; is_so && are_rights_kept, "{}: by these calls", row.case);
+    }
+    Ok(())
+}
+
+const DONE: Move = Move {
+    case: "no call is refused",
+    refuses_at: 0,
+    errno: 0,
+    overwrite: false,
+    is_done: true,
+    letters: "nkhLwwwdh+L-osos",
+    held: "abcdefg",
+};
+
+const DONE_MOVES: [Move; 7] = [
+    DONE,
+    Move {
+        case: "a write is interrupted",
+        refuses_at: 5,
+        errno: 4,
+        letters: "nkhLwwwwdh+L-osos",
+        ..DONE
+    },
+    Move {
+        case: "no link can be made",
+        refuses_at: 10,
+        errno: 1,
+        letters: "nkhLwwwdh+LL>Losos",
+        ..DONE
+    },
+    Move {
+        case: "it may replace",
+        overwrite: true,
+        letters: "nkhLwwwdhLL>Losos",
+        ..DONE
+    },
+    Move {
+        case: "too many files are open",
+        refuses_at: 1,
+        errno: 24,
+        letters: "nznkhLwwwdh+L-osos",
+        ..DONE
+    },
+    Move {
+        case: "in the whole system",
+        refuses_at: 1,
+        errno: 23,
+        letters: "nznkhLwwwdh+L-osos",
+        ..DONE
+    },
+    Move {
+        case: "or behind the move",
+        refuses_at: 13,
+        errno: 24,
+        letters: "nkhLwwwdh+L-ozosos",
+        ..DONE
+    },
+];
+
+#[test]
+fn a_move_is_done_by_these_calls(rt: HostRuntime) -> Result<(), Fail> {
+    move_all(&rt, "", &DONE_MOVES)
+}
+
+const REPLACED: Move = Move {
+    overwrite: true,
+    errno: 5,
+    letters: "nkhLwwwdhLcL>Losos",
+    ..DONE
+};
+
+const REPLACING_MOVES: [Move; 3] = [
+    REPLACED,
+    Move {
+        case: "the look is refused",
+        refuses_at: 10,
+        is_done: false,
+        letters: "nkhLwwwdhL",
+        held: "old",
+        ..REPLACED
+    },
+    Move {
+        case: "the rights are refused",
+        refuses_at: 11,
+        is_done: false,
+        letters: "nkhLwwwdhLc",
+        held: "old",
+        ..REPLACED
+    },
+];
 
 // What is replaced leaves its rights: no other call is made, and a refused one is a failure.
 #[test]
 fn what_is_replaced_leaves_its_rights(rt: HostRuntime) -> Result<(), Fail> {
-    for (case, refuses_at, is_done, letters) in [
-        ("no call is refused", 0, true, "nkhLwwwdhLcL>Losos"),
-        ("the look is refused", 10, false, "nkhLwwwdhL"),
-        ("the rights are refused", 11, false, "nkhLwwwdhLc"),
-    ] {
-        clear(&rt)?;
-        fs::write(&rt, DEST, "old")?;
-        fs::set_permissions(&rt, DEST, Permissions::from_mode(0o640))?;
-        let mut files = noting_of(&rt, rt.alloc(), refuses_at, 5)?;
-        assert!(rt; is_moved(&rt, &mut files, true)? == is_done, "{case}");
-        assert!(rt;
-            files.letters.as_slice() == letters.as_bytes(),
-            "{case}: by these calls"
-        );
-        let rights = fs::metadata(&rt, DEST)?.mode() & 0o777;
-        assert!(rt; rights == 0o640, "{case}: it has its rights");
-    }
-    Ok(())
+    move_all(&rt, "old", &REPLACING_MOVES)
+}
+
+const FAILED: Move = Move {
+    case: "a write finds no room",
+    refuses_at: 6,
+    errno: 28,
+    overwrite: false,
+    is_done: false,
+    letters: "nkhLww",
+    held: "",
+};
+
+const FAILED_MOVES: [Move; 6] = [
+    FAILED,
+    Move {
+        case: "the part isn't synced",
+        refuses_at: 8,
+        errno: 5,
+        letters: "nkhLwwwd",
+        ..FAILED
+    },
+    Move {
+        case: "the link fails",
+        refuses_at: 10,
+        errno: 5,
+        letters: "nkhLwwwdh+",
+        ..FAILED
+    },
+    Move {
+        case: "the part keeps its name",
+        refuses_at: 12,
+        errno: 5,
+        letters: "nkhLwwwdh+L--",
+        ..FAILED
+    },
+    Move {
+        case: "a folder isn't synced",
+        refuses_at: 14,
+        errno: 5,
+        letters: "nkhLwwwdh+L-os-",
+        ..FAILED
+    },
+    Move {
+        case: "nor is the one above it",
+        refuses_at: 16,
+        errno: 5,
+        letters: "nkhLwwwdh+L-osos-",
+        ..FAILED
+    },
+];
+
+#[test]
+fn a_move_that_fails_leaves_a_free_name(rt: HostRuntime) -> Result<(), Fail> {
+    move_all(&rt, "", &FAILED_MOVES)
+}
+
+/// Whether a source is opened where so many openings are refused, and by so many calls.
+fn is_opened_so<R: Files<File = File> + Drop>(
+    rt: R,
+    alloc: Global,
+    refusals: usize,
+    want: (bool, usize),
+) -> bool {
+    let mut files = noting_of(rt, alloc, 2, 24);
+    files.refusals = refusals;
+    let is_open = open_source(&mut files, PART).is_ok();
+    is_open == want.0 && files.letters.len() == want.1
 }
 
 // A hundred rests, and no more: then too many files that are open are a failure.
 #[test]
 fn too_many_open_files_are_waited_out_so_long(rt: HostRuntime) -> Result<(), Fail> {
-    for (case, refusals, is_open, calls) in [
-        ("the last opening is done", 100, true, 203),
-        ("nor is the last one", 101, false, 202),
-    ] {
-        clear(&rt)?;
-        fs::write(&rt, PART, "abcd")?;
-        let mut files = noting_of(&rt, rt.alloc(), 2, 24)?;
-        files.refusals = refusals;
-        assert!(rt; open_source(&mut files, PART).is_ok() == is_open, "{case}");
-        assert!(rt; files.letters.len() == calls, "{case}: by so many calls");
-    }
+    write_part(&rt)?;
+    let is_last_done = is_opened_so(&rt, rt.alloc(), 100, (true, 203));
+    assert!(rt; is_last_done, "the last opening is done");
+    let is_given_up = is_opened_so(&rt, rt.alloc(), 101, (false, 202));
+    assert!(rt; is_given_up, "nor is the last one");
     Ok(())
+}
+
+/// Whether a name is among these, each of which has a zero behind it.
+fn has_name(names: &[u8], name: &str) -> bool {
+    for there in names.split(|byte| *byte == 0) {
+        if there == name.as_bytes() {
+            return true;
+        }
+    }
+    false
+}
+
+/// Whether both names are read, and no part of one.
+fn are_names_read<F: FileSystem>(files: &mut F, names: &mut Vec<u8>) -> bool {
+    files.names(FOLDER, names).is_ok()
+        && has_name(names.as_slice(), "part")
+        && has_name(names.as_slice(), "dest")
+        && !has_name(names.as_slice(), "par")
+}
+
+/// Whether a file has no names in it.
+fn are_names_refused<F: FileSystem>(files: &mut F, names: &mut Vec<u8>) -> bool {
+    errno_of(files.names(BELOW_DEST, names)) == 20
+}
+
+fn are_all_names_so<R: Files<File = File> + Drop>(rt: R, alloc: Global) -> bool {
+    let mut files = SystemFiles::new(rt);
+    let mut names = Vec::new(alloc);
+    are_names_read(&mut files, &mut names) && are_names_refused(&mut files, &mut names)
 }
 
 #[test]
 fn the_names_in_a_folder_are_read(rt: HostRuntime) -> Result<(), Fail> {
-    clear(&rt)?;
-    fs::write(&rt, PART, "abcd")?;
+    write_part(&rt)?;
     fs::write(&rt, DEST, "abcd")?;
-    let mut files = SystemFiles::new(&rt);
-    let mut names = Vec::new(rt.alloc());
-    assert!(rt; files.names(FOLDER, &mut names) == Ok(()), "they are read");
-    for (name, want) in [("part", true), ("dest", true), ("par", false)] {
-        let mut found = names.as_slice().split(|byte| *byte == 0);
-        let is_there = found.any(|there| there == name.as_bytes());
-        assert!(rt; is_there == want, "{name} is there: {want}");
-    }
-    let none = files.names(BELOW_DEST, &mut names);
-    assert!(rt; is_refused(none, 20), "a file has no names in it");
+    let are_so = are_all_names_so(&rt, rt.alloc());
+    assert!(rt;
+        are_so,
+        "both are there and no part of one, and a file has none in it"
+    );
     Ok(())
 }
 
-#[test]
-fn a_move_that_fails_leaves_a_free_name(rt: HostRuntime) -> Result<(), Fail> {
-    for (case, refuses_at, errno, letters) in [
-        ("a write finds no room", 6, 28, "nkhLww"),
-        ("the part isn't synced", 8, 5, "nkhLwwwd"),
-        ("the link fails", 10, 5, "nkhLwwwdh+"),
-        ("the part keeps its name", 12, 5, "nkhLwwwdh+L--"),
-        ("a folder isn't synced", 14, 5, "nkhLwwwdh+L-os-"),
-        ("nor is the one above it", 16, 5, "nkhLwwwdh+L-osos-"),
-    ] {
-        clear(&rt)?;
-        let mut files = noting_of(&rt, rt.alloc(), refuses_at, errno)?;
-        assert!(rt; !is_moved(&rt, &mut files, false)?, "{case}: it fails");
-        assert!(rt;
-            files.letters.as_slice() == letters.as_bytes(),
-            "{case}: by these calls"
-        );
-        assert!(rt; !fs::exists(&rt, DEST)?, "{case}: nothing is there");
+fn is_part_made<F: FileSystem>(files: &mut F) -> bool {
+    OpenPart::make(files, PART).is_ok()
+}
+
+/// Whether a part is made and written, and no other while it is held.
+fn is_part_held<F: FileSystem>(files: &mut F) -> bool {
+    match OpenPart::make(files, PART) {
+        Ok(mut part) => part.append(files, b"abcd").is_ok() && !is_part_made(files),
+        Err(Failed) => false,
     }
-    Ok(())
 }
 
 // What another run holds is left to it; what nobody holds loses its name, and is written by nobody.
 #[test]
 fn a_part_is_one_runs_alone(rt: HostRuntime) -> Result<(), Fail> {
     clear(&rt)?;
-    let mut files = SystemFiles::new(&rt);
-    let Ok(mut part) = OpenPart::make(&mut files, PART) else {
-        assert!(rt; false, "it is made");
-        return Ok(());
-    };
-    assert!(rt; part.append(&mut files, b"abcd") == Ok(()), "and written");
+    let is_held = is_part_held(&mut SystemFiles::new(&rt)) && holds(&rt, PART, "abcd");
     assert!(rt;
-        OpenPart::make(&mut files, PART).is_err(),
-        "another isn't made while it is held"
+        is_held,
+        "another isn't made while it is held, and it keeps what it has"
     );
-    assert!(rt;
-        fs::read_to_string(&rt, PART)?.as_str() == "abcd",
-        "it keeps what it has"
-    );
-    drop(part);
-    fs::write(&rt, DEST, "abcd")?;
-    fs::remove_file(&rt, PART)?;
+    fs::rename(&rt, PART, DEST)?;
     symlink(&rt, "dest", PART)?;
+    let is_made = is_part_made(&mut SystemFiles::new(&rt)) && holds(&rt, DEST, "abcd");
     assert!(rt;
-        OpenPart::make(&mut files, PART).is_ok(),
-        "a link is no file of another run"
+        is_made,
+        "a link is no file of another run, and isn't followed"
     );
-    assert!(rt;
-        fs::read_to_string(&rt, DEST)?.as_str() == "abcd",
-        "and isn't followed"
-    );
-    assert!(rt;
-        OpenPart::make(&mut files, PART).is_ok(),
-        "a file that nobody holds loses its name"
-    );
+    let is_made_again = is_part_made(&mut SystemFiles::new(&rt));
+    assert!(rt; is_made_again, "a file that nobody holds loses its name");
     Ok(())
 }

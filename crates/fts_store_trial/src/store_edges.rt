@@ -1,339 +1,541 @@
 //! A store in a folder where something else works on it too: another run over the same grid, a file put in a part's place, a call of the
 //! system that fails, an endpoint's own folder that goes away. What a row wants is what the folder itself then holds.
-use crate::files_noting::NotingFiles;
-use fts_files::SystemFiles;
-use fts_store::{FolderStore, Store, StoreFailed};
-use fts_tables::PlaceRef;
+use crate::deeds::Act::{
+    Create, File, Find, Folder, Holds, Link, Meet, Move, Put, Remove, Rename, Shut, Size, Sweep,
+    Unlink, Write,
+};
+use crate::deeds::Said::{Done, Failed, Nothing};
+use crate::deeds::{Deed, do_all, has_rights, have_rights, holds};
+use crate::grid::Who::{Beside, One, Other};
+use crate::grid::{PART, Row, clear, go_on, is_put, play, refusing, store_of};
+use fts_store::Store;
 use std::alloc::{Alloc, Global};
-use std::fs::{self, File, Files, Permissions};
-use std::os::unix::fs::{MetadataExt, PermissionsExt, symlink};
+use std::fs::{self, Files};
+use std::process::Abort;
 use std::test::Fail;
 
-const PART: &str = ".fts/part-1";
-
-/// A place of the one endpoint.
-fn at(path: &str) -> PlaceRef<'_> {
-    PlaceRef {
-        endpoint: "https://b.example",
-        path,
-    }
-}
-
-/// Whether a real file holds these bytes. One that can't be read holds none.
-fn holds<R: Files<File = File> + Alloc>(rt: &R, path: &str, want: &str) -> bool {
-    match fs::read(rt, path) {
-        Ok(bytes) => bytes.as_slice() == want.as_bytes(),
-        Err(_) => want.is_empty(),
-    }
-}
-
-/// Whether a part of these bytes is made behind a look at the destination, and read back.
-fn is_written<E: Store>(store: &mut E, dest: &str, bytes: &str) -> bool {
-    let mut into = [0; 8];
-    store.size(at(dest)).is_ok()
-        && store.create(at(PART)).is_ok()
-        && store.append(at(PART), bytes.as_bytes()).is_ok()
-        && store.read_at(at(PART), 0, &mut into) == Ok(bytes.len())
-        && into.starts_with(bytes.as_bytes())
-}
-
-/// Whether such a part is made and moved.
-fn is_put<E: Store>(store: &mut E, dest: &str, bytes: &str) -> bool {
-    is_written(store, dest, bytes) && store.rename(at(PART), at(dest)).is_ok()
-}
+const TWO_STORES: [Row; 11] = [
+    ("one writes its part", One, Write, "f1", "one", Done),
+    (
+        "the other doesn't get a part that is held",
+        Other,
+        Create,
+        PART,
+        "",
+        Failed,
+    ),
+    (
+        "nor does it take the name of that part away",
+        Other,
+        Remove,
+        PART,
+        "",
+        Failed,
+    ),
+    (
+        "what it tried changes nothing of the first",
+        One,
+        Rename,
+        PART,
+        "f1",
+        Done,
+    ),
+    ("now it has the name", Other, Put, "f2", "other", Done),
+    (
+        "the first destination holds its own",
+        Beside,
+        Holds,
+        "grid/https:,,b.example:8443/f1",
+        "one",
+        Done,
+    ),
+    (
+        "so does the other",
+        Beside,
+        Holds,
+        "grid/https:,,b.example:8443/f2",
+        "other",
+        Done,
+    ),
+    ("a part is left", One, Write, "f3", "again", Done),
+    ("a look lets it go", One, Size, "f3", "", Nothing),
+    (
+        "a part that nobody holds is made anew",
+        Other,
+        Put,
+        "f3",
+        "taken",
+        Done,
+    ),
+    (
+        "by that one",
+        Beside,
+        Holds,
+        "grid/https:,,b.example:8443/f3",
+        "taken",
+        Done,
+    ),
+];
 
 #[test]
 fn two_stores_over_one_grid_keep_their_parts_apart(rt: HostRuntime) -> Result<(), Fail> {
-    let alloc = rt.alloc();
-    let root = "grid-of-two";
-    let _old = fs::remove_dir_all(&rt, root);
-    let mut one = FolderStore::new(&rt, alloc, String::from_str(alloc, root)?);
-    let mut other = FolderStore::new(&rt, alloc, String::from_str(alloc, root)?);
-    assert!(rt; is_written(&mut one, "f1", "one"), "one writes its part");
-    assert!(rt;
-        other.create(at(PART)) == Err(StoreFailed),
-        "the other doesn't get a part that is held"
-    );
-    assert!(rt;
-        other.remove(at(PART)) == Err(StoreFailed),
-        "nor does it take the name of that part away"
-    );
-    assert!(rt;
-        one.rename(at(PART), at("f1")).is_ok(),
-        "what it tried changes nothing of the first"
-    );
-    assert!(rt; is_put(&mut other, "f2", "other"), "now it has the name");
-    let are_whole = holds(&rt, "grid-of-two/https:,,b.example/f1", "one")
-        && holds(&rt, "grid-of-two/https:,,b.example/f2", "other");
-    assert!(rt; are_whole, "each destination holds what was written for it");
-    assert!(rt; is_written(&mut one, "f3", "again"), "a part is left");
-    assert!(rt; one.size(at("f3")) == Ok(None), "a look lets it go");
-    assert!(rt;
-        is_put(&mut other, "f3", "taken"),
-        "a part that nobody holds is made anew"
-    );
-    fs::remove_dir_all(&rt, root)?;
-    Ok(())
+    play(&rt, &TWO_STORES)
 }
 
-const SWAPPED_PART: &str = "grid-of-a-swap/https:,,b.example/.fts/part-1";
+const OTHER: &str = "grid/other";
 
-const SWAPPED_DEST: &str = "grid-of-a-swap/https:,,b.example/d";
+const OWN_PART: &str = "grid/https:,,b.example:8443/.fts/part-1";
+
+const DEST: &str = "grid/https:,,b.example:8443/d";
+
+const SWAPPED: [Row; 13] = [
+    ("the folder is made", One, Create, "x", "", Done),
+    ("a part is read back", One, Write, "d", "abcd", Done),
+    ("another file is made", Beside, File, OTHER, "other", Done),
+    (
+        "it is put in the part's place",
+        Beside,
+        Move,
+        OTHER,
+        OWN_PART,
+        Done,
+    ),
+    (
+        "nothing is at the destination",
+        One,
+        Rename,
+        PART,
+        "d",
+        Failed,
+    ),
+    ("nothing is put there", Beside, Find, DEST, "", Nothing),
+    ("another part is made", One, Create, "x", "", Done),
+    (
+        "something is at the destination",
+        Beside,
+        File,
+        DEST,
+        "there",
+        Done,
+    ),
+    ("a second part is read back", One, Write, "d", "abcd", Done),
+    (
+        "another file is made again",
+        Beside,
+        File,
+        OTHER,
+        "other",
+        Done,
+    ),
+    (
+        "it is put in the second part's place",
+        Beside,
+        Move,
+        OTHER,
+        OWN_PART,
+        Done,
+    ),
+    (
+        "what is at the destination may be replaced",
+        One,
+        Rename,
+        PART,
+        "d",
+        Failed,
+    ),
+    ("it is kept", Beside, Holds, DEST, "there", Done),
+];
 
 #[test]
 fn what_is_moved_is_what_was_read_back(rt: HostRuntime) -> Result<(), Fail> {
-    let alloc = rt.alloc();
-    let root = "grid-of-a-swap";
-    let _old = fs::remove_dir_all(&rt, root);
-    let mut store = FolderStore::new(&rt, alloc, String::from_str(alloc, root)?);
-    for (case, there) in [
-        ("nothing is at the destination", ""),
-        ("what is at the destination may be replaced", "there"),
-    ] {
-        assert!(rt; store.create(at("x")).is_ok(), "the folder is made");
-        if !there.is_empty() {
-            fs::write(&rt, SWAPPED_DEST, there)?;
-        }
-        let is_read_back = is_written(&mut store, "d", "abcd");
-        fs::write(&rt, "grid-of-a-swap/other", "other")?;
-        fs::rename(&rt, "grid-of-a-swap/other", SWAPPED_PART)?;
-        let is_refused = store.rename(at(PART), at("d")) == Err(StoreFailed);
-        let is_kept = holds(&rt, SWAPPED_DEST, there);
-        assert!(rt; is_read_back && is_refused && is_kept, "{case}");
-    }
-    fs::remove_dir_all(&rt, root)?;
-    Ok(())
+    play(&rt, &SWAPPED)
 }
 
-/// A store over files that refuse one call, with EIO.
-fn refusing<R: Files<File = File> + Drop>(
-    rt: R,
-    alloc: Global,
-    root: &str,
+/// What came of a file that is put where a call may be refused.
+#[derive(Clone, Copy, PartialEq, Eq)]
+enum Tried {
+    /// No call was refused, and it is there.
+    Done,
+    /// It failed and left no name, and the next try put it there.
+    Again,
+    Wrong,
+}
+
+const TRIED: &str = "grid/https:,,b.example:8443/a/d";
+
+fn put_again<R: Files<File = fs::File> + Alloc, E: Store>(rt: &R, store: &mut E) -> Tried {
+    let is_free = holds(rt, TRIED, "");
+    if is_free && is_put(store, "a/d", "abcd") && holds(rt, TRIED, "abcd") {
+        Tried::Again
+    } else {
+        Tried::Wrong
+    }
+}
+
+fn try_to_put<R: Files<File = fs::File> + Alloc, E: Store>(rt: &R, store: &mut E) -> Tried {
+    if !is_put(store, "a/d", "abcd") {
+        return put_again(rt, store);
+    }
+    if holds(rt, TRIED, "abcd") {
+        Tried::Done
+    } else {
+        Tried::Wrong
+    }
+}
+
+fn try_refused<R: Files<File = fs::File> + Alloc<A = Global>>(
+    rt: &R,
     call: usize,
-) -> Result<FolderStore<NotingFiles<R>>, Fail> {
-    let files = NotingFiles {
-        files: SystemFiles::new(rt),
-        letters: Vec::new(alloc),
-        refuses_at: call,
-        refusals: 1,
-        errno: 5,
-        most: 1024,
-    };
-    Ok(FolderStore::over(files, alloc, String::from_str(alloc, root)?))
+) -> Result<Tried, Fail> {
+    clear(rt);
+    let mut store = refusing(rt, rt.alloc(), call)?;
+    Ok(try_to_put(rt, &mut store))
 }
 
 // Each call of a move into a new folder in turn is refused: that is told, leaves no destination, and spoils no second try.
 #[test]
 fn a_move_that_failed_leaves_no_name_and_is_made_again(rt: HostRuntime) -> Result<(), Fail> {
-    let alloc = rt.alloc();
-    let root = "grid-of-a-try";
     let mut failures = 0_u64;
     for call in 1..64 {
-        let _old = fs::remove_dir_all(&rt, root);
-        let mut store = refusing(&rt, alloc, root, call)?;
-        if !is_put(&mut store, "a/d", "abcd") {
-            failures = u64::saturating_add(failures, 1);
-            let is_free = holds(&rt, "grid-of-a-try/https:,,b.example/a/d", "");
-            assert!(rt; is_free, "no name is left where call {call} fails");
-            let is_made_again = is_put(&mut store, "a/d", "abcd");
-            assert!(rt; is_made_again, "the next try behind call {call}");
+        let tried = try_refused(&rt, call)?;
+        assert!(rt; tried != Tried::Wrong, "call {call} is refused");
+        if tried == Tried::Again {
+            failures = failures.saturating_add(1);
         }
-        let is_there = holds(&rt, "grid-of-a-try/https:,,b.example/a/d", "abcd");
-        assert!(rt; is_there, "the file is there, call {call}");
     }
     assert!(rt; failures > 20, "calls failed: {failures}");
-    fs::remove_dir_all(&rt, root)?;
+    clear(&rt);
     Ok(())
 }
 
-const MOUNTED: &str = "grid-of-a-mount/https:,,b.example";
+const OWN: &str = "grid/https:,,b.example:8443";
 
-const AWAY: &str = "grid-of-a-mount/away";
+const AWAY: &str = "grid/away";
 
-/// Whether a look, a making, a move and a removal fail, and the endpoint's own folder isn't made.
-fn is_given_up<E: Store>(store: &mut E) -> bool {
-    store.rename(at(PART), at("d")) == Err(StoreFailed)
-        && store.size(at("d")) == Err(StoreFailed)
-        && store.create(at(PART)) == Err(StoreFailed)
-        && store.remove(at("d")) == Err(StoreFailed)
-}
+const GOES_AWAY: [Row; 18] = [
+    ("the endpoint's own folder", Beside, Folder, OWN, "", Done),
+    ("it is there at first", One, Put, "f1", "abcd", Done),
+    ("a part is open", One, Write, "d", "abcd", Done),
+    ("it goes away", Beside, Move, OWN, AWAY, Done),
+    ("a move fails", One, Rename, PART, "d", Failed),
+    ("a look fails", One, Size, "d", "", Failed),
+    ("no part is made", One, Create, PART, "", Failed),
+    ("nothing is removed", One, Remove, "d", "", Failed),
+    ("it isn't made", Beside, Find, OWN, "", Nothing),
+    ("another device answers", Beside, Link, "/proc", OWN, Done),
+    ("no move is made on it", One, Rename, PART, "d", Failed),
+    ("nor a look", One, Size, "d", "", Failed),
+    ("nor a part", One, Create, PART, "", Failed),
+    ("nor a removal", One, Remove, "d", "", Failed),
+    ("the other device goes away", Beside, Unlink, OWN, "", Done),
+    ("the folder comes back", Beside, Move, AWAY, OWN, Done),
+    ("it is served again", One, Put, "d", "abcd", Done),
+    (
+        "the first file is there",
+        Beside,
+        Holds,
+        "grid/https:,,b.example:8443/f1",
+        "abcd",
+        Done,
+    ),
+];
 
 #[test]
 fn an_endpoint_that_goes_away_is_not_made_anew(rt: HostRuntime) -> Result<(), Fail> {
-    let alloc = rt.alloc();
-    let root = "grid-of-a-mount";
-    let _old = fs::remove_dir_all(&rt, root);
-    fs::create_dir_all(&rt, MOUNTED)?;
-    let mut store = FolderStore::new(&rt, alloc, String::from_str(alloc, root)?);
-    assert!(rt; is_put(&mut store, "f1", "abcd"), "it is there at first");
-    assert!(rt; is_written(&mut store, "d", "abcd"), "a part is open");
-    fs::rename(&rt, MOUNTED, AWAY)?;
-    assert!(rt; is_given_up(&mut store), "it is gone");
-    assert!(rt; !fs::exists(&rt, MOUNTED)?, "and isn't made");
-    symlink(&rt, "/proc", MOUNTED)?;
-    assert!(rt; is_given_up(&mut store), "another device answers");
-    fs::remove_file(&rt, MOUNTED)?;
-    fs::rename(&rt, AWAY, MOUNTED)?;
-    assert!(rt; is_put(&mut store, "d", "abcd"), "it is back");
-    fs::remove_dir_all(&rt, root)?;
-    Ok(())
+    play(&rt, &GOES_AWAY)
 }
 
-const REPLACED: &str = "grid-of-rights/https:,,b.example/d";
+/// Whether a file with these rights is replaced by one that has them.
+fn leaves_rights<R: Files<File = fs::File>, E: Store>(rt: &R, store: &mut E, rights: u32) -> bool {
+    have_rights(rt, DEST, rights) && is_put(store, "d", "efgh") && has_rights(rt, DEST, rights)
+}
+
+fn leave_rights<R: Files<File = fs::File> + Abort, E: Store>(rt: &R, store: &mut E) {
+    let is_first_put = is_put(store, "d", "abcd");
+    assert!(rt; is_first_put, "a file is put");
+    for rights in [0o600, 0o444, 0o755] {
+        let are_left = leaves_rights(rt, store, rights);
+        assert!(rt; are_left, "another has the rights {rights:o}");
+    }
+}
 
 #[test]
 fn a_replaced_file_leaves_its_rights(rt: HostRuntime) -> Result<(), Fail> {
-    let alloc = rt.alloc();
-    let root = "grid-of-rights";
-    let _old = fs::remove_dir_all(&rt, root);
-    let mut store = FolderStore::new(&rt, alloc, String::from_str(alloc, root)?);
-    assert!(rt; is_put(&mut store, "d", "abcd"), "a file is put");
-    for rights in [0o600, 0o444, 0o755] {
-        fs::set_permissions(&rt, REPLACED, Permissions::from_mode(rights))?;
-        assert!(rt; is_put(&mut store, "d", "efgh"), "another replaces it");
-        let found = fs::metadata(&rt, REPLACED)?.mode() & 0o777;
-        assert!(rt; found == rights, "it has the rights {rights:o}");
-    }
-    fs::remove_dir_all(&rt, root)?;
+    clear(&rt);
+    let mut store = store_of(&rt, rt.alloc())?;
+    leave_rights(&rt, &mut store);
+    clear(&rt);
     Ok(())
-}
-
-const SWEPT: &str = "grid-of-a-sweep/https:,,b.example/.fts";
-
-/// Whether something has a name in the folder of parts, a link too.
-fn is_left<R: Files<File = File> + Alloc<A = Global>>(rt: &R, name: &str) -> Result<bool, Fail> {
-    let path = format!(in rt.alloc(); "{SWEPT}/{name}")?;
-    Ok(fs::symlink_metadata(rt, path.as_str()).is_ok())
 }
 
 /// A folder of parts, with what may stand there.
-fn fill<R: Files<File = File> + Alloc<A = Global>>(rt: &R, root: &str) -> Result<(), Fail> {
-    let _old = fs::remove_dir_all(rt, root);
-    fs::create_dir_all(rt, SWEPT)?;
-    fs::create_dir(rt, "grid-of-a-sweep/empty")?;
-    fs::write(rt, "grid-of-a-sweep/part-5", "a")?;
-    for name in [
-        "part-2", "part-20", "other", "part-", "part-2x", "part", "xpart-2",
-    ] {
-        let path = format!(in rt.alloc(); "{SWEPT}/{name}")?;
-        fs::write(rt, path.as_str(), "a")?;
-    }
-    fs::create_dir(rt, "grid-of-a-sweep/https:,,b.example/.fts/part-3")?;
-    symlink(rt, "other", "grid-of-a-sweep/https:,,b.example/.fts/part-4")?;
-    Ok(())
-}
+const FILL: [Deed; 11] = [
+    (
+        "the folder of parts",
+        Folder,
+        "grid/https:,,b.example:8443/.fts/part-3",
+        "",
+    ),
+    ("an empty folder", Folder, "grid/empty", ""),
+    ("a file in the root", File, "grid/part-5", "a"),
+    (
+        "a part",
+        File,
+        "grid/https:,,b.example:8443/.fts/part-2",
+        "a",
+    ),
+    (
+        "another",
+        File,
+        "grid/https:,,b.example:8443/.fts/part-20",
+        "a",
+    ),
+    (
+        "what is none",
+        File,
+        "grid/https:,,b.example:8443/.fts/other",
+        "a",
+    ),
+    (
+        "no number",
+        File,
+        "grid/https:,,b.example:8443/.fts/part-",
+        "a",
+    ),
+    (
+        "more than one",
+        File,
+        "grid/https:,,b.example:8443/.fts/part-2x",
+        "a",
+    ),
+    (
+        "no hyphen",
+        File,
+        "grid/https:,,b.example:8443/.fts/part",
+        "a",
+    ),
+    (
+        "a letter before",
+        File,
+        "grid/https:,,b.example:8443/.fts/xpart-2",
+        "a",
+    ),
+    (
+        "a link",
+        Link,
+        "other",
+        "grid/https:,,b.example:8443/.fts/part-4",
+    ),
+];
+
+const SWEPT: [Row; 18] = [
+    ("a part is held", One, Write, "f1", "held", Done),
+    ("the first sweep", Other, Sweep, "", "", Done),
+    ("what is held is left", Beside, Find, OWN_PART, "", Done),
+    (
+        "a part is swept",
+        Beside,
+        Find,
+        "grid/https:,,b.example:8443/.fts/part-2",
+        "",
+        Nothing,
+    ),
+    (
+        "so is another",
+        Beside,
+        Find,
+        "grid/https:,,b.example:8443/.fts/part-20",
+        "",
+        Nothing,
+    ),
+    (
+        "a folder is left",
+        Beside,
+        Find,
+        "grid/https:,,b.example:8443/.fts/part-3",
+        "",
+        Done,
+    ),
+    (
+        "a link is left",
+        Beside,
+        Find,
+        "grid/https:,,b.example:8443/.fts/part-4",
+        "",
+        Done,
+    ),
+    (
+        "what is none is left",
+        Beside,
+        Find,
+        "grid/https:,,b.example:8443/.fts/other",
+        "",
+        Done,
+    ),
+    (
+        "no number is left",
+        Beside,
+        Find,
+        "grid/https:,,b.example:8443/.fts/part-",
+        "",
+        Done,
+    ),
+    (
+        "more than one is left",
+        Beside,
+        Find,
+        "grid/https:,,b.example:8443/.fts/part-2x",
+        "",
+        Done,
+    ),
+    (
+        "no hyphen is left",
+        Beside,
+        Find,
+        "grid/https:,,b.example:8443/.fts/part",
+        "",
+        Done,
+    ),
+    (
+        "a letter before is left",
+        Beside,
+        Find,
+        "grid/https:,,b.example:8443/.fts/xpart-2",
+        "",
+        Done,
+    ),
+    (
+        "no part lies in the root itself",
+        Beside,
+        Find,
+        "grid/part-5",
+        "",
+        Done,
+    ),
+    ("what is held is whole", One, Rename, PART, "f1", Done),
+    ("another is left", One, Write, "f2", "left", Done),
+    ("by a look", One, Size, "f2", "", Nothing),
+    ("the next sweep", Other, Sweep, "", "", Done),
+    ("takes it", Beside, Find, OWN_PART, "", Nothing),
+];
 
 #[test]
 fn a_sweep_takes_what_no_run_holds(rt: HostRuntime) -> Result<(), Fail> {
-    let alloc = rt.alloc();
-    let root = "grid-of-a-sweep";
-    fill(&rt, root)?;
-    let mut holder = FolderStore::new(&rt, alloc, String::from_str(alloc, root)?);
-    assert!(rt; is_written(&mut holder, "f1", "held"), "a part is held");
-    let mut store = FolderStore::new(&rt, alloc, String::from_str(alloc, root)?);
-    assert!(rt; store.sweep().is_ok(), "the first sweep");
-    for (name, want) in [
-        ("part-1", true),
-        ("part-2", false),
-        ("part-20", false),
-        ("part-3", true),
-        ("part-4", true),
-        ("other", true),
-        ("part-", true),
-        ("part-2x", true),
-        ("part", true),
-        ("xpart-2", true),
-    ] {
-        assert!(rt; is_left(&rt, name)? == want, "{name} is left: {want}");
-    }
-    let is_kept = fs::exists(&rt, "grid-of-a-sweep/part-5")?;
-    assert!(rt; is_kept, "no part lies in the root itself");
-    assert!(rt;
-        holder.rename(at(PART), at("f1")).is_ok(),
-        "what is held is whole"
-    );
-    assert!(rt; is_written(&mut holder, "f2", "left"), "another is left");
-    assert!(rt; holder.size(at("f2")) == Ok(None), "by a look");
-    assert!(rt; store.sweep().is_ok(), "the next sweep");
-    assert!(rt; !is_left(&rt, "part-1")?, "takes it");
-    fs::remove_dir_all(&rt, root)?;
+    clear(&rt);
+    do_all(&rt, &FILL);
+    go_on(&rt, &SWEPT)?;
+    clear(&rt);
     Ok(())
+}
+
+/// Whether one of two parts at most is left, and each other file.
+fn is_one_left_at_most<R: Files<File = fs::File>>(rt: &R) -> bool {
+    let is_one = is_gone(rt, "grid/https:,,b.example:8443/.fts/part-2")
+        || is_gone(rt, "grid/https:,,b.example:8443/.fts/part-20");
+    is_one && !is_gone(rt, "grid/https:,,b.example:8443/.fts/other")
+}
+
+/// Whether a sweep is done where this call is refused.
+fn is_swept<R: Files<File = fs::File> + Alloc<A = Global>>(
+    rt: &R,
+    call: usize,
+) -> Result<bool, Fail> {
+    let mut store = refusing(rt, rt.alloc(), call)?;
+    Ok(store.sweep().is_ok())
+}
+
+fn is_gone<R: Files<File = fs::File>>(rt: &R, path: &str) -> bool {
+    fs::symlink_metadata(rt, path).is_err()
 }
 
 // Each call of a sweep in turn is refused: what it was made for is left, and all else is swept.
 #[test]
 fn a_refused_call_leaves_one_part_at_most(rt: HostRuntime) -> Result<(), Fail> {
-    let alloc = rt.alloc();
-    let root = "grid-of-a-sweep";
     for call in 5..16 {
-        fill(&rt, root)?;
-        let mut store = refusing(&rt, alloc, root, call)?;
-        assert!(rt; store.sweep().is_ok(), "call {call} is refused");
-        let is_one = !is_left(&rt, "part-2")? || !is_left(&rt, "part-20")?;
-        assert!(rt; is_one, "one of two is swept, call {call}");
-        assert!(rt; is_left(&rt, "other")?, "no other file is, call {call}");
+        clear(&rt);
+        do_all(&rt, &FILL);
+        let is_so = is_swept(&rt, call)? && is_one_left_at_most(&rt);
+        assert!(rt;
+            is_so,
+            "one of two is swept, and no other file, call {call}"
+        );
     }
-    fs::remove_dir_all(&rt, root)?;
+    clear(&rt);
     Ok(())
 }
 
-const KEPT_FOLDER: &str = "grid-of-all/https:,,b.example";
+const MET: [Row; 10] = [
+    ("the endpoint's own folder", Beside, Folder, OWN, "", Done),
+    (
+        "a file beside it",
+        Beside,
+        File,
+        "grid/a-file",
+        "no folder",
+        Done,
+    ),
+    ("a store looks at all folders", Other, Meet, "", "", Done),
+    (
+        "the folder goes away",
+        Beside,
+        Move,
+        OWN,
+        "grid/moved",
+        Done,
+    ),
+    (
+        "what it met and is gone is not made anew",
+        Other,
+        Create,
+        PART,
+        "",
+        Failed,
+    ),
+    ("nor told as empty", Other, Size, "f1", "", Failed),
+    ("it is still gone", Beside, Find, OWN, "", Nothing),
+    (
+        "the folder comes back",
+        Beside,
+        Move,
+        "grid/moved",
+        OWN,
+        Done,
+    ),
+    ("it is served again", Other, Put, "f1", "abcd", Done),
+    (
+        "a store that met nothing makes what it needs",
+        One,
+        Put,
+        "f2",
+        "ab",
+        Done,
+    ),
+];
 
 #[test]
 fn a_store_that_met_all_misses_a_folder_that_went_away(rt: HostRuntime) -> Result<(), Fail> {
-    let alloc = rt.alloc();
-    let root = "grid-of-all";
-    let _old = fs::remove_dir_all(&rt, root);
-    fs::create_dir_all(&rt, KEPT_FOLDER)?;
-    fs::write(&rt, "grid-of-all/a-file", "no folder")?;
-    let mut first = FolderStore::new(&rt, alloc, String::from_str(alloc, root)?);
-    let mut met = FolderStore::new(&rt, alloc, String::from_str(alloc, root)?);
-    assert!(rt;
-        met.meet_all().is_ok(),
-        "the second one looks at all folders"
-    );
-    fs::rename(&rt, KEPT_FOLDER, "grid-of-all/moved")?;
-    assert!(rt;
-        met.create(at(PART)) == Err(StoreFailed) && met.size(at("f1")) == Err(StoreFailed),
-        "what it met and is gone is a failed call, and is not made anew"
-    );
-    assert!(rt;
-        fs::metadata(&rt, KEPT_FOLDER).is_err(),
-        "the folder is still gone"
-    );
-    fs::rename(&rt, "grid-of-all/moved", KEPT_FOLDER)?;
-    assert!(rt;
-        is_put(&mut met, "f1", "abcd"),
-        "it is served again once it is back"
-    );
-    assert!(rt;
-        is_put(&mut first, "f2", "ab"),
-        "a store that met nothing makes what it needs"
-    );
-    fs::remove_dir_all(&rt, root)?;
-    Ok(())
+    play(&rt, &MET)
 }
 
-const SHUT_PART: &str = "grid-of-rights/https:,,b.example/.fts/part-1";
+const SHUT_PART: [Row; 8] = [
+    (
+        "the folder of parts",
+        Beside,
+        Folder,
+        "grid/https:,,b.example:8443/.fts",
+        "",
+        Done,
+    ),
+    ("a part is left", Beside, File, OWN_PART, "left", Done),
+    ("it may only be read", Beside, Shut, OWN_PART, "", Done),
+    ("a part is made in its place", One, Put, "f1", "abcd", Done),
+    ("another is left", Beside, File, OWN_PART, "left", Done),
+    ("it too may only be read", Beside, Shut, OWN_PART, "", Done),
+    ("it is removed", One, Remove, PART, "", Done),
+    ("it is gone", Beside, Find, OWN_PART, "", Nothing),
+];
 
 #[test]
 fn a_part_that_may_only_be_read_is_no_hindrance(rt: HostRuntime) -> Result<(), Fail> {
-    let alloc = rt.alloc();
-    let root = "grid-of-rights";
-    let _old = fs::remove_dir_all(&rt, root);
-    fs::create_dir_all(&rt, "grid-of-rights/https:,,b.example/.fts")?;
-    let mut store = FolderStore::new(&rt, alloc, String::from_str(alloc, root)?);
-    for case in ["a part is made in its place", "it is removed"] {
-        fs::write(&rt, SHUT_PART, "left")?;
-        fs::set_permissions(&rt, SHUT_PART, Permissions::from_mode(0o444))?;
-        let is_done = if case == "it is removed" {
-            store.remove(at(PART)).is_ok() && fs::metadata(&rt, SHUT_PART).is_err()
-        } else {
-            is_put(&mut store, "f1", "abcd")
-        };
-        assert!(rt; is_done, "{case}");
-    }
-    fs::remove_dir_all(&rt, root)?;
-    Ok(())
+    play(&rt, &SHUT_PART)
 }
