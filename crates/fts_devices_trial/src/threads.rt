@@ -4,12 +4,12 @@ use fts_tables::limits::{MAX_LANES, MAX_WORKERS};
 
 #[test]
 fn all_threads_of_a_service_begin(rt: HostRuntime) {
-    assert!(
+    assert!(rt;
         can_begin(&rt, &rt, 0),
-        "nobody asks for a thread, and one is missing"
+        "none is asked for, and one is missing"
     );
-    assert!(
+    assert!(rt;
         can_begin(&rt, &rt, MAX_LANES + MAX_WORKERS),
-        "a thread for each lane and each worker can't be made"
+        "one for each lane and each worker can't be made"
     );
 }
