@@ -8,11 +8,11 @@ built by cc and preloaded; it counts the calls that take memory, over all thread
 `job` and `workers` refuse each call, from the first on, until runs refuse none. A load makes some 140,000 calls: each is known by the places in the
 program that led to it, and refused are the first, the second, the middle and the last call of each kind, and every STEP-th of all (997).
 
-Wanted of each run: it ends by itself, by no signal, with status 0 or 1, or, where a load's store had no memory for a file, 13; each reply is the
-one of a run that nothing is refused in, or 500; a file is FINISHED, with the bytes of its source, or it is FAILED with `store failed`; the journal
-opens, and its jobs are those that were answered 200, where the run came so far. Then a run in which nothing is refused ends with status 0, and
-settles every file. Printed is how many runs ended in each way, and each that is otherwise. A row of which no call was refused is otherwise too: then
-the program's calls for memory do not come to refuse_memory.c.
+Wanted of each run: it ends by itself, by no signal, with status 0 or 1, or, where a load's store had no memory for a file, 13, and, where a listener
+had none, 9 without a reply; each reply is the one of a run that nothing is refused in, or 500; a file is FINISHED, with the bytes of its source, or it
+is FAILED with `store failed`; the journal opens, and its jobs are those that were answered 200, where the run came so far. Then a run in which nothing
+is refused ends with status 0, and settles every file. Printed is how many runs ended in each way, and each that is otherwise. A row of which no call
+was refused is otherwise too: then the program's calls for memory do not come to refuse_memory.c.
 """
 import collections
 import json
@@ -112,7 +112,7 @@ class Stand:
         shutil.rmtree(self.folder)
 
 
-def faults_of(stand, status, accepted):
+def faults_of(stand, status, accepted, statuses=(0, 1)):
     """What is otherwise than wanted of a run that ended with this status and was answered these ids, and what it left."""
     looked, jobs, files = stand.show()
     is_made = looked == 0
@@ -122,7 +122,7 @@ def faults_of(stand, status, accepted):
     if is_made and jobs != accepted:
         faults.append(f"jobs {jobs}, accepted {accepted}")
     states = collections.Counter(state for state, _, _ in files)
-    faults += later_faults_of(stand, status, jobs, (0, 1))
+    faults += later_faults_of(stand, status, jobs, statuses)
     return faults, ", ".join(f"{count} {state}" for state, count in sorted(states.items())) or "no file"
 
 
@@ -219,7 +219,8 @@ def served_workers(program, preload, number):
         process.kill()
         process.communicate()
         faults.append("it does not end")
-    more, left = faults_of(stand, process.returncode, ids(found))
+    # what a listener lacks is a failure of the doors
+    more, left = faults_of(stand, process.returncode, ids(found), (0, 1) if found else (0, 1, 9))
     statuses = tuple(status for status, _ in found)
     if statuses not in ((), (200,), (500,), (200, 200), (500, 200), (200, 500)):
         faults.append("other replies")
