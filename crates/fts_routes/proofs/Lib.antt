@@ -1,4 +1,6 @@
-pub mod Segments
+pub mod Walks
+pub mod Tabled
+pub mod Taken
 pub mod Numbered
 pub mod Listed
 pub mod Changed

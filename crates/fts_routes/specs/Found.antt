@@ -1,15 +1,15 @@
 -- What code has at hand of a route, a path and a query.
-use Rattle.std.specs.Prelude.{ℕ, if◌then◌else◌, List, [], Option, Some, None}
-use Rattle.std.specs.Borrow.{Bor}
-use Rattle.fts_tables.specs.Names.{segments}
+use Rattle.std.specs.Prelude.{ℕ, if◌then◌else◌, List, Option, Some, None}
+use Rattle.matchit.specs.Params.{walk}
+use Rattle.matchit.specs.declared.params.Params.{Params}
 use Rattle.fts_routes.specs.Queries.{job_states, between_commas, is_one_of}
 use Rattle.serde_json.specs.Data.{Data}
 use Rattle.fts_tables.specs.Tables.{Tables}
 use Rattle.fts_tables.specs.declared.rows.JobRow.{JobRow}
 use Rattle.fts_routes.specs.Objects.{job_object, job_state_text, state_in}
 use Rattle.fts_routes.specs.Routes.{Route, Jobs, Job, Files, File, Links, Endpoints, Shares, Bans, JournalEntry}
-use Rattle.fts_routes.specs.declared.routes.Route.{Route as Found}
-use Rattle.fts_routes.specs.declared.routes.Route.TheVariants.{Jobs as FoundJobs, Job as FoundJob, Files as FoundFiles, File as FoundFile, Links as FoundLinks, Endpoints as FoundEndpoints, Shares as FoundShares, Bans as FoundBans, JournalEntry as FoundEntry}
+use Rattle.fts_routes.specs.declared.paths.Route.{Route as Found}
+use Rattle.fts_routes.specs.declared.paths.Route.TheVariants.{Jobs as FoundJobs, Job as FoundJob, Files as FoundFiles, File as FoundFile, Links as FoundLinks, Endpoints as FoundEndpoints, Shares as FoundShares, Bans as FoundBans, JournalEntry as FoundEntry}
 
 -- the route that was found
 abbrev pub route_data : Found → Route
@@ -23,10 +23,9 @@ route_data FoundShares = Shares
 route_data FoundBans = Bans
 route_data (FoundEntry number) = JournalEntry number.now
 
--- the names behind a slash, and none where there is no slash
-abbrev pub names_behind : Option (Bor (List ℕ)) → List (List ℕ)
-names_behind None = []
-names_behind (Some rest) = segments rest.now
+-- each name of a match with the text that it took
+abbrev pub told : Params → List (List ℕ × List ℕ)
+told taken = walk taken.pattern.now taken.text.now taken.path.now taken.names.now 0 0
 
 -- the states that count, where a query's text asks for some
 abbrev pub states_asked : Option (List ℕ) → List (List ℕ)

@@ -3,6 +3,7 @@ pub mod Objects
 pub mod Values
 pub mod Queries
 pub mod Routes
+pub mod RouteRows
 pub mod Found
 pub mod Refusals
 pub mod Bodies

@@ -19,6 +19,7 @@ ghost use Rattle.fts_routes.specs.Replies.{reply_to_refusal, id_of_job, said};
 use crate::bodies::ReadBody;
 use crate::entries::look_at_entry;
 use crate::named::job_of_number;
+use crate::paths::Routes;
 use crate::plan::plan;
 use crate::planned::Planned;
 use crate::replies::{
@@ -36,6 +37,7 @@ use std::alloc::Global;
 /// 503 comes only where the disk's count of faults rose in this call, 500 only for want of memory, and both add nothing.
 pub fn answer<D: Disk>(
     alloc: Global,
+    routes: &Routes,
     keep: &mut Keep<D>,
     writer: u32,
     request: &Request<'_>,
@@ -52,12 +54,13 @@ pub fn answer<D: Disk>(
     ensures decided { (bodies : List (List ℕ))
         → IsTrue (is_decided (said keep.old.tables bodies keep.old.used writer (request_data request.now) now).reply.status) }
 {
-    answer_read(alloc, keep, writer, request, ReadBody::Nothing, now)
+    answer_read(alloc, routes, keep, writer, request, ReadBody::Nothing, now)
 }
 
 /// The same, where the request's body may have been read before (`read_body`).
 pub fn answer_read<D: Disk>(
     alloc: Global,
+    routes: &Routes,
     keep: &mut Keep<D>,
     writer: u32,
     request: &Request<'_>,
@@ -74,7 +77,7 @@ pub fn answer_read<D: Disk>(
     ensures decided { (bodies : List (List ℕ))
         → IsTrue (is_decided (said keep.old.tables bodies keep.old.used writer (request_data request.now) now).reply.status) }
 {
-    match plan(alloc, keep.desk(), request, read, now) {
+    match plan(alloc, routes, keep.desk(), request, read, now) {
         Ok(Planned::Replies { reply }) => reply,
         Ok(Planned::Looks { number }) => look_at_entry(alloc, keep, number),
         Ok(Planned::Tries { command, reply }) => try_command(alloc, keep, writer, command, reply),

@@ -7,7 +7,7 @@ ghost use Rattle.fts_jobdoc.specs.Documents.{job_of, priority_of};
 ghost use Rattle.fts_jobdoc.specs.Bans.{ban_of};
 ghost use Rattle.fts_routes.specs.Bodies.{IsReadOf};
 
-use crate::routes::{Route, find_route};
+use crate::paths::{Route, Routes};
 use fts_jobdoc::{
     BanAsk, BanFault, DocFault, Document, job_under, read_ban, read_document, read_job,
     read_priority,
@@ -36,11 +36,11 @@ pub enum ReadBody {
 }
 
 /// Reads the document that a request asks for by its route and method, and nothing where it asks for none.
-pub fn read_body(alloc: Global, request: &Request<'_>) -> ReadBody
+pub fn read_body(alloc: Global, routes: &Routes, request: &Request<'_>) -> ReadBody
     ensures { IsReadOf request.now.body.now result }
 {
     let body = request.body;
-    match (find_route(request.path), request.method) {
+    match (routes.find(request.path), request.method) {
         (Some(Route::Jobs), "POST" | "PUT") => ReadBody::Submission {
             document: read_document(alloc, body),
         },

@@ -14,14 +14,15 @@ mod entries;
 mod looks;
 mod named;
 mod objects;
+mod paths;
 mod plan;
 mod planned;
 mod queries;
 mod replies;
-mod routes;
 mod texts;
 
 pub use answers::{answer, answer_read};
 pub use bodies::{ReadBody, read_body};
+pub use paths::Routes;
 pub use replies::refusal_reply;
 pub use texts::{file_state_text, job_state_text, kind_text};

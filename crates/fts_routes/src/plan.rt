@@ -20,9 +20,9 @@ use crate::changes::{plan_cancellation, plan_file_cancellation, plan_priority, p
 use crate::looks::{look_at_job, look_at_jobs, look_at_list};
 use crate::named::{entry_number, file_named, job_named, settings_of};
 use crate::objects::Shown;
+use crate::paths::{Route, Routes};
 use crate::planned::{Planned, refuse_method};
 use crate::replies::{bad_document, no_file, no_job, no_route};
-use crate::routes::{Route, find_route};
 use fts_desk::Desk;
 use fts_jobdoc::DocFault;
 use fts_tables::{JobRow, Memory};
@@ -32,6 +32,7 @@ use std::alloc::Global;
 /// What a request comes to, before anything changes.
 pub fn plan(
     alloc: Global,
+    routes: &Routes,
     desk: &Desk,
     request: &Request<'_>,
     read: ReadBody,
@@ -41,7 +42,7 @@ pub fn plan(
     requires read { IsReadOf request.now.body.now read }
     ensures { IfOk result (λ planned. IsPlanned desk.now.tables planned (plan_of desk.now.tables now (request_data request.now))) }
 {
-    match find_route(request.path) {
+    match routes.find(request.path) {
         None => {
             let reply = no_route(alloc)?;
             Ok(Planned::Replies { reply })

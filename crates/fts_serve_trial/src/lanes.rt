@@ -8,6 +8,7 @@ use crate::stand::{NOW, SETTINGS, clock, no_memory};
 use fts_config::read_settings;
 use fts_disk::MemoryDisk;
 use fts_keep::Keep;
+use fts_routes::Routes;
 use fts_shop::Shop;
 use fts_tables::Memory;
 use fts_top::{Booth, Lane, LaneStop, LineEnd, MemoryDoors, serve_connection, serve_lane};
@@ -59,8 +60,9 @@ fn reads_what_it_wrote<R: Wait>(rt: &R, alloc: Global) -> Result<bool, Memory> {
     let mut line = line(alloc, ASKED)?;
     let mut clock = clock(alloc)?;
     let mut room = Room::new(alloc)?;
+    let routes = Routes::new(alloc)?;
     let end = serve_connection(
-        rt, alloc, &shop, &mut pass, &mut line, &mut clock, &mut room,
+        rt, alloc, &routes, &shop, &mut pass, &mut line, &mut clock, &mut room,
     );
     Ok(end == LineEnd::Closed && line.bytes() == ANSWERED.as_bytes())
 }
@@ -101,7 +103,8 @@ fn lane_over<R: Wait>(
         pass,
         end: None,
     };
-    serve_lane(rt, alloc, &shop, &mut booth, connections);
+    let routes = Routes::new(alloc)?;
+    serve_lane(rt, alloc, &routes, &shop, &mut booth, connections);
     let lanes = shop.with_turn(
         rt,
         &mut booth.pass,

@@ -14,7 +14,7 @@ ghost use Rattle.fts_service.specs.Lanes.{AnsweredInTurn, IsLineServed, standing
 ghost use Rattle.fts_service.specs.Within.{AnswersIn};
 
 use fts_disk::Disk;
-use fts_routes::{ReadBody, answer_read, read_body};
+use fts_routes::{ReadBody, Routes, answer_read, read_body};
 use fts_session::{LineEnd, refuse, respond};
 use fts_shop::Shop;
 use fts_tables::Clock;
@@ -29,6 +29,7 @@ use std::sync::Wait;
 pub fn serve_connection<D: Disk, L: Source + Sink, C: Clock, R: Wait>(
     rt: &R,
     alloc: Global,
+    routes: &Routes,
     shop: &Turnstile<Shop<D>>,
     pass: &mut Pass<Shop<D>>,
     line: &mut L,
@@ -56,7 +57,7 @@ pub fn serve_connection<D: Disk, L: Source + Sink, C: Clock, R: Wait>(
             Err(fault) => return refuse(alloc, line, fault),
         }
         let now = clock.now();
-        let reply = answer_in_turn(rt, alloc, shop, pass, room, now);
+        let reply = answer_in_turn(rt, alloc, routes, shop, pass, room, now);
         let request = room.request();
         match respond(line, &request, done, &reply) {
             Ok(()) => {}
@@ -73,6 +74,7 @@ pub fn serve_connection<D: Disk, L: Source + Sink, C: Clock, R: Wait>(
 fn answer_in_turn<D: Disk, R: Wait>(
     rt: &R,
     alloc: Global,
+    routes: &Routes,
     shop: &Turnstile<Shop<D>>,
     pass: &mut Pass<Shop<D>>,
     room: &Room,
@@ -84,17 +86,18 @@ fn answer_in_turn<D: Disk, R: Wait>(
     ensures methods { IsTrue (has_methods result.status result.allow) }
 {
     let writer = pass.number();
-    let read = read_body(alloc, &room.request());
+    let read = read_body(alloc, routes, &room.request());
     shop.with_turn(
         rt,
         pass,
-        |shop: &mut Shop<D>| answer_in(alloc, shop, writer, room, read, now),
+        |shop: &mut Shop<D>| answer_in(alloc, routes, shop, writer, room, read, now),
     )
 }
 
 /// Answers the loaded request of a writer within a turn, by what was read of its body before.
 fn answer_in<D: Disk>(
     alloc: Global,
+    routes: &Routes,
     shop: &mut Shop<D>,
     writer: u32,
     room: &Room,
@@ -106,5 +109,5 @@ fn answer_in<D: Disk>(
 {
     let keep = shop.keep();
     let _desk = keep.desk();
-    answer_read(alloc, keep, writer, &room.request(), read, now)
+    answer_read(alloc, routes, keep, writer, &room.request(), read, now)
 }

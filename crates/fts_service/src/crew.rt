@@ -19,6 +19,7 @@ use crate::seats::{cycle, leave_booths, leave_stations, seat_hands, seat_lanes};
 use crate::together::{ServedEnd, served};
 use fts_disk::Disk;
 use fts_passes::close_with;
+use fts_routes::Routes;
 use fts_shop::{Shop, Station};
 use fts_store::Store;
 use fts_tables::{Clock, Words};
@@ -141,6 +142,7 @@ pub fn serve_seated<
 >(
     rt: &R,
     alloc: Global,
+    routes: &Routes,
     lock: Turnstile<Shop<D>>,
     first: Pass<Shop<D>>,
     mut passes: Vec<Pass<Shop<D>>>,
@@ -170,6 +172,7 @@ where
     let hall = Hall {
         shop: &lock,
         alloc,
+        routes,
         connections,
         gate,
     };
@@ -177,6 +180,7 @@ where
     let Hall {
         shop: _,
         alloc: _,
+        routes: _,
         connections: _,
         gate: _,
     } = hall;

@@ -10,6 +10,7 @@ ghost use Rattle.fts_service.specs.Lanes.{sides_of};
 use crate::doors::Doors;
 use crate::lane::{Booth, serve_lane};
 use fts_disk::Disk;
+use fts_routes::Routes;
 use fts_shop::{Shop, Station, Work, beside, spread, worker};
 use fts_store::Store;
 use fts_tables::{Clock, Words};
@@ -19,11 +20,12 @@ use std::alloc::Global;
 use std::sync::Wait;
 use std::thread::Threads;
 
-/// What all lanes and workers of a run share: the lock, where memory comes from, how many lines a lane serves at most, which is at least 1, and the gate
+/// What all lanes and workers of a run share: the lock, where memory comes from, the routes, how many lines a lane serves at most, which is at least 1, and the gate
 /// before copies.
 pub struct Hall<'a, D: Disk, G> {
     pub shop: &'a Turnstile<Shop<D>>,
     pub alloc: Global,
+    pub routes: &'a Routes,
     pub connections: Option<u32>,
     pub gate: &'a G,
 }
@@ -40,7 +42,14 @@ impl<'a, D: Disk, A: Doors, C: Clock, G> Work<Hall<'a, D, G>, Booth<D, A, C>> fo
     ghost done = { λ hall old new. IsBoothServed (sides_of A.Line.Source A.Line.Sink) A.Doors C.Clock hall.connections old new };
 
     fn work<R: Wait>(rt: &R, shared: &Hall<'a, D, G>, job: &mut Booth<D, A, C>) {
-        serve_lane(rt, shared.alloc, shared.shop, job, shared.connections);
+        serve_lane(
+            rt,
+            shared.alloc,
+            shared.routes,
+            shared.shop,
+            job,
+            shared.connections,
+        );
     }
 }
 
@@ -92,6 +101,7 @@ where
 pub fn run_lanes<D: Disk + Send, A: Doors + Send, C: Clock + Send, R: Threads + Wait + Sync>(
     rt: &R,
     alloc: Global,
+    routes: &Routes,
     shop: &Turnstile<Shop<D>>,
     booths: &mut [Booth<D, A, C>],
     connections: Option<u32>,
@@ -104,6 +114,7 @@ where
     let hall = Hall {
         shop,
         alloc,
+        routes,
         connections,
         gate: &NoGate,
     };
@@ -111,6 +122,7 @@ where
     let Hall {
         shop: _,
         alloc: _,
+        routes: _,
         connections: _,
         gate: _,
     } = hall;

@@ -12,6 +12,7 @@ ghost use Rattle.fts_service.specs.Lanes.{BoothDone, ServesNext, StopsLines, is_
 use crate::connection::serve_connection;
 use crate::doors::{Doors, DoorsFailed};
 use fts_disk::Disk;
+use fts_routes::Routes;
 use fts_shop::{Shop, lane_ends};
 use fts_tables::Clock;
 use fts_turnstile::{Pass, Turnstile};
@@ -51,6 +52,7 @@ pub struct Booth<D: Disk, A: Doors, C: Clock> {
 pub fn serve_lane<D: Disk, A: Doors, C: Clock, R: Wait>(
     rt: &R,
     alloc: Global,
+    routes: &Routes,
     shop: &Turnstile<Shop<D>>,
     booth: &mut Booth<D, A, C>,
     connections: Option<u32>,
@@ -59,7 +61,7 @@ pub fn serve_lane<D: Disk, A: Doors, C: Clock, R: Wait>(
     requires some { IfSome connections (λ most. 1 ≤ most) }
     ensures { BoothDone (sides_of A.Line.Source A.Line.Sink) connections (booth_data C.Clock A.Doors booth.old) (booth_data C.Clock A.Doors booth.new) }
 {
-    let stop = serve_lines(rt, alloc, shop, booth, connections);
+    let stop = serve_lines(rt, alloc, routes, shop, booth, connections);
     lane_ends(rt, shop, &mut booth.pass);
     booth.end = Some(stop);
 }
@@ -68,6 +70,7 @@ pub fn serve_lane<D: Disk, A: Doors, C: Clock, R: Wait>(
 fn serve_lines<D: Disk, A: Doors, C: Clock, R: Wait>(
     rt: &R,
     alloc: Global,
+    routes: &Routes,
     shop: &Turnstile<Shop<D>>,
     booth: &mut Booth<D, A, C>,
     connections: Option<u32>,
@@ -85,7 +88,7 @@ fn serve_lines<D: Disk, A: Doors, C: Clock, R: Wait>(
                 lines: connections.unwrap_or(0),
             };
         }
-        match serve_next(rt, alloc, shop, booth) {
+        match serve_next(rt, alloc, routes, shop, booth) {
             Ok(true) => left = one_less(left),
             Ok(false) => return LaneStop::NoMore,
             Err(DoorsFailed) => return LaneStop::DoorsFailed,
@@ -115,6 +118,7 @@ fn one_less(left: Option<u32>) -> Option<u32>
 fn serve_next<D: Disk, A: Doors, C: Clock, R: Wait>(
     rt: &R,
     alloc: Global,
+    routes: &Routes,
     shop: &Turnstile<Shop<D>>,
     booth: &mut Booth<D, A, C>,
 ) -> Result<bool, DoorsFailed>
@@ -130,6 +134,7 @@ fn serve_next<D: Disk, A: Doors, C: Clock, R: Wait>(
             serve_connection(
                 rt,
                 alloc,
+                routes,
                 shop,
                 &mut booth.pass,
                 &mut line,

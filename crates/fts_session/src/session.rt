@@ -15,7 +15,7 @@ use crate::ends::{LineEnd, SessionEnd};
 use crate::responding::{refuse, respond};
 use fts_disk::Disk;
 use fts_keep::Keep;
-use fts_routes::answer;
+use fts_routes::{Routes, answer};
 use fts_store::Store;
 use fts_tables::limits::MAX_REQUESTS;
 use fts_tables::{Clock, Words};
@@ -33,6 +33,7 @@ pub struct Working<D: Disk> {
 /// Answers the requests of a connection as writer 0, with a round behind each, and then makes rounds until one is not busy.
 pub fn run_session<D: Disk, S: Source, K: Sink, E: Store, C: Clock, W: Words>(
     alloc: Global,
+    routes: &Routes,
     working: &mut Working<D>,
     room: &mut Room,
     input: &mut S,
@@ -52,7 +53,9 @@ pub fn run_session<D: Disk, S: Source, K: Sink, E: Store, C: Clock, W: Words>(
     ensures output { result.line ≡ LineEnd.SinkFailed → Rose (K.faults output.old) (K.faults output.new) }
     ensures disk { result.last ≡ RoundEnd.DiskFailed → Rose (D.faults working.old.keep.disk) (D.faults working.new.keep.disk) }
 {
-    let line = answer_requests(alloc, working, room, input, output, clock, store, words);
+    let line = answer_requests(
+        alloc, routes, working, room, input, output, clock, store, words,
+    );
     let last = make_last_rounds(working, clock, store, words);
     SessionEnd { line, last }
 }
@@ -60,6 +63,7 @@ pub fn run_session<D: Disk, S: Source, K: Sink, E: Store, C: Clock, W: Words>(
 /// Answers the requests of a connection, with a round behind each.
 fn answer_requests<D: Disk, S: Source, K: Sink, E: Store, C: Clock, W: Words>(
     alloc: Global,
+    routes: &Routes,
     working: &mut Working<D>,
     room: &mut Room,
     input: &mut S,
@@ -90,7 +94,7 @@ fn answer_requests<D: Disk, S: Source, K: Sink, E: Store, C: Clock, W: Words>(
         }
         let now = clock.now();
         let request = room.request();
-        let reply = answer(alloc, &mut working.keep, 0, &request, now);
+        let reply = answer(alloc, routes, &mut working.keep, 0, &request, now);
         match respond(output, &request, done, &reply) {
             Ok(()) => {}
             Err(SinkFailed) => return LineEnd::SinkFailed,

@@ -10,7 +10,7 @@ use crate::stand::{NOW, no_memory};
 use fts_disk::MemoryDisk;
 use fts_keep::Keep;
 use fts_record::read_entry;
-use fts_routes::answer;
+use fts_routes::{Routes, answer};
 use fts_tables::{Command, Memory, Outcome, Settings};
 use fts_wire::{Allow, Reply};
 use std::alloc::Global;
@@ -72,7 +72,12 @@ fn is_wanted(reply: &Reply, row: &Row<'_>) -> bool {
 }
 
 /// Sends what a row sends, and answers 1 where the reply is as wanted, else 0; of a remark 0.
-fn play_row(rt: &HostRuntime, keep: &mut Keep<MemoryDisk>, text: &str) -> io::Result<u32> {
+fn play_row(
+    rt: &HostRuntime,
+    routes: &Routes,
+    keep: &mut Keep<MemoryDisk>,
+    text: &str,
+) -> io::Result<u32> {
     let alloc = rt.alloc();
     if text.starts_with(REMARK) {
         return Ok(0);
@@ -81,7 +86,7 @@ fn play_row(rt: &HostRuntime, keep: &mut Keep<MemoryDisk>, text: &str) -> io::Re
         println!(rt; "otherwise: no row:\n{text}")?;
         return Ok(0);
     };
-    let reply = answer(alloc, keep, 0, &row.request, NOW);
+    let reply = answer(alloc, routes, keep, 0, &row.request, NOW);
     if is_wanted(&reply, &row) {
         return Ok(1);
     }
@@ -96,9 +101,10 @@ fn play_row(rt: &HostRuntime, keep: &mut Keep<MemoryDisk>, text: &str) -> io::Re
 
 /// Sends rows, one after the other, and answers how many were as wanted.
 fn play_rows(rt: &HostRuntime, keep: &mut Keep<MemoryDisk>, rows: &str) -> io::Result<u32> {
+    let routes = Routes::new(rt.alloc()).map_err(no_memory)?;
     let mut same: u32 = 0;
     for row in rows.split(BETWEEN) {
-        same = same.saturating_add(play_row(rt, keep, row)?);
+        same = same.saturating_add(play_row(rt, &routes, keep, row)?);
     }
     Ok(same)
 }

@@ -22,6 +22,7 @@ use crate::top::serve;
 use fts_disk::Disk;
 use fts_keep::Keep;
 use fts_load::{DroppingSink, LoadInput, make_requests, make_sources};
+use fts_routes::Routes;
 use fts_session::Working;
 use fts_store::{Store, StoreFailed};
 use fts_tables::{Clock, Endpoint, EndpointName, Memory, Settings, Words};
@@ -33,6 +34,7 @@ use std::alloc::Global;
 /// What a load takes memory for before its keep is started.
 #[derive(Drop)]
 struct Prepared {
+    routes: Routes,
     room: Room,
     bench: Bench,
     source: EndpointName,
@@ -94,7 +96,7 @@ fn load_under<K: Sink, D: Disk, E: Store, C: Clock, W: Words>(
     }
 }
 
-/// Takes the memory of a load: of its connection, of a bench, of the name of its sources' endpoint, and of its requests.
+/// Takes the memory of a load: of the routes, of its connection, of a bench, of the name of its sources' endpoint, and of its requests.
 fn prepare(alloc: Global, settings: &Settings) -> Result<Prepared, Memory>
     ensures settings { IsSettings settings.now }
     ensures room { IfOk result (λ prepared. prepared.room.kept ≡ []) }
@@ -106,9 +108,11 @@ fn prepare(alloc: Global, settings: &Settings) -> Result<Prepared, Memory>
     let endpoints = settings.endpoints.as_slice();
     let (source, dest) = (first(endpoints), last(endpoints));
     let requests = make_requests(alloc, source.as_str(), dest.as_str())?;
+    let routes = Routes::new(alloc)?;
     let room = Room::new(alloc)?;
     let bench = Bench::new(alloc, settings.workers)?;
     Ok(Prepared {
+        routes,
         room,
         bench,
         source: source.copy(alloc)?,
@@ -155,6 +159,7 @@ fn load_over<K: Sink, D: Disk, E: Store, C: Clock, W: Words>(
     ensures disk { status_of result.end ≡ 4 → Rose (D.faults keep.disk) (D.faults result.disk) }
 {
     let Prepared {
+        routes,
         mut room,
         bench,
         source,
@@ -172,6 +177,7 @@ fn load_over<K: Sink, D: Disk, E: Store, C: Clock, W: Words>(
     let mut responses = DroppingSink::new();
     let done = serve(
         alloc,
+        &routes,
         working,
         &mut room,
         &mut input,

@@ -26,6 +26,7 @@ use crate::reading::load_settings;
 use fts_disk::Disk;
 use fts_keep::Keep;
 use fts_laws::{claims_raise_attempts, count_attempts};
+use fts_routes::Routes;
 use fts_service::{
     Doors, DoorsFailed, Lane, Locked, Seats, Served, lock_shop, make_benches, make_rooms,
     open_doors, serve_seated, unlock,
@@ -124,6 +125,7 @@ fn serve_locked<
 >(
     rt: &R,
     alloc: Global,
+    routes: &Routes,
     order: Order,
     locked: Locked<D>,
     seats: Seats<D, A, E, C, W>,
@@ -162,6 +164,7 @@ where
             let Served { shop, end } = serve_seated(
                 rt,
                 alloc,
+                routes,
                 lock,
                 first,
                 passes,
@@ -192,6 +195,7 @@ fn serve_keep<
 >(
     rt: &R,
     alloc: Global,
+    routes: &Routes,
     order: Order,
     keep: Keep<D>,
     seats: Seats<D, A, E, C, W>,
@@ -221,7 +225,9 @@ where
     let passes = order.lanes + seats.benches.len() as u32;
     match lock_shop(alloc, Shop::new(keep, order.lanes), passes) {
         Ok(locked) => {
-            let (shop, end) = serve_locked(rt, alloc, order, locked, seats, lanes, hands, gate);
+            let (shop, end) = serve_locked(
+                rt, alloc, routes, order, locked, seats, lanes, hands, gate,
+            );
             close_shop(shop, attempts, end)
         }
         Err(shop) => {
@@ -231,7 +237,7 @@ where
     }
 }
 
-// Takes the memory of lanes and workers, starts a keep with these settings, and serves it.
+// Takes the memory of the routes, of lanes and workers, starts a keep with these settings, and serves it.
 fn serve_under<
     D: Disk + Send,
     A: Doors + Send,
@@ -264,12 +270,15 @@ where
     ensures lanes { length lanes.new.items ≡ 8 }
     ensures hands { length hands.new.items ≡ 16 }
 {
+    let Ok(routes) = Routes::new(alloc) else {
+        return stop(RunEnd::NoMemory, disk);
+    };
     let Ok(seats) = make_seats(alloc, order.lanes, settings.workers) else {
         return stop(RunEnd::NoMemory, disk);
     };
     let now = clock.now();
     match Keep::start(alloc, disk, settings, now) {
-        Ok(keep) => serve_keep(rt, alloc, order, keep, seats, lanes, hands, gate),
+        Ok(keep) => serve_keep(rt, alloc, &routes, order, keep, seats, lanes, hands, gate),
         Err((fault, disk)) => {
             drop_seats(seats);
             stop(RunEnd::of_start(fault), disk)

@@ -30,6 +30,7 @@ use crate::service::serve_as_asked;
 use fts_client::Link;
 use fts_disk::Disk;
 use fts_keep::Keep;
+use fts_routes::Routes;
 use fts_service::{Doors, Lane};
 use fts_session::{Working, run_session};
 use fts_store::Store;
@@ -387,7 +388,7 @@ fn begin_session<F: Source, S: Source, K: Sink, D: Disk, E: Store, C: Clock, W: 
     }
 }
 
-/// Takes the memory of a connection and of a bench, starts a keep with these settings, and serves it.
+/// Takes the memory of the routes, of a connection and of a bench, starts a keep with these settings, and serves it.
 fn serve_under<S: Source, K: Sink, D: Disk, E: Store, C: Clock, W: Words>(
     alloc: Global,
     settings: Settings,
@@ -407,6 +408,9 @@ fn serve_under<S: Source, K: Sink, D: Disk, E: Store, C: Clock, W: Words>(
     ensures output { status_of result.end ≡ 6 → Rose (K.faults output.old) (K.faults output.new) }
     ensures disk { status_of result.end ≡ 4 → Rose (D.faults disk) (D.faults result.disk) }
 {
+    let Ok(routes) = Routes::new(alloc) else {
+        return stop(RunEnd::NoMemory, disk);
+    };
     let Ok(mut room) = Room::new(alloc) else {
         return stop(RunEnd::NoMemory, disk);
     };
@@ -422,7 +426,7 @@ fn serve_under<S: Source, K: Sink, D: Disk, E: Store, C: Clock, W: Words>(
                 claims: 0,
             };
             serve(
-                alloc, working, &mut room, input, output, clock, store, draws,
+                alloc, &routes, working, &mut room, input, output, clock, store, draws,
             )
         }
         Err((fault, disk)) => stop(RunEnd::of_start(fault), disk),
@@ -432,6 +436,7 @@ fn serve_under<S: Source, K: Sink, D: Disk, E: Store, C: Clock, W: Words>(
 /// Runs a session over a keep, and closes it.
 pub fn serve<S: Source, K: Sink, D: Disk, E: Store, C: Clock, W: Words>(
     alloc: Global,
+    routes: &Routes,
     mut working: Working<D>,
     room: &mut Room,
     input: &mut S,
@@ -453,6 +458,7 @@ pub fn serve<S: Source, K: Sink, D: Disk, E: Store, C: Clock, W: Words>(
 {
     let end = run_session(
         alloc,
+        routes,
         &mut working,
         room,
         input,

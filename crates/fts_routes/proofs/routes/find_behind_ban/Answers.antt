@@ -1,7 +1,0 @@
--- Behind the name of the bans nothing comes.
-use Rattle.std.proofs.Common.{refl}
-use Rattle.fts_routes.proofs.Segments.{segments-some}
-use Rattle.fts_routes.proofs.routes.find_behind_ban.Goals as goal
-
-pub returns-in-Some : goal.returns-in-Some
-returns-in-Some c = let next = segments-some c.in-Some.field-0.now in rw (c.in_ok-rest.was, c.cut.ensures, c.in-Some.is, next.1.1) refl
