@@ -1,6 +1,7 @@
 pub mod Walks
 pub mod Tabled
 pub mod Taken
+pub mod Crosses
 pub mod Numbered
 pub mod Listed
 pub mod Changed
