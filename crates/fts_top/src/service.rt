@@ -237,7 +237,7 @@ where
     }
 }
 
-// Takes the memory of the routes, of lanes and workers, starts a keep with these settings, and serves it.
+// Takes the memory of lanes and workers and of the routes, starts a keep with these settings, and serves it.
 fn serve_under<
     D: Disk + Send,
     A: Doors + Send,
@@ -270,10 +270,11 @@ where
     ensures lanes { length lanes.new.items ≡ 8 }
     ensures hands { length hands.new.items ≡ 16 }
 {
-    let Ok(routes) = Routes::new(alloc) else {
+    let Ok(seats) = make_seats(alloc, order.lanes, settings.workers) else {
         return stop(RunEnd::NoMemory, disk);
     };
-    let Ok(seats) = make_seats(alloc, order.lanes, settings.workers) else {
+    let Ok(routes) = Routes::new(alloc) else {
+        drop_seats(seats);
         return stop(RunEnd::NoMemory, disk);
     };
     let now = clock.now();

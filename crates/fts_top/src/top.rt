@@ -388,7 +388,7 @@ fn begin_session<F: Source, S: Source, K: Sink, D: Disk, E: Store, C: Clock, W: 
     }
 }
 
-/// Takes the memory of the routes, of a connection and of a bench, starts a keep with these settings, and serves it.
+/// Takes the memory of a connection, of a bench and of the routes, starts a keep with these settings, and serves it.
 fn serve_under<S: Source, K: Sink, D: Disk, E: Store, C: Clock, W: Words>(
     alloc: Global,
     settings: Settings,
@@ -408,13 +408,13 @@ fn serve_under<S: Source, K: Sink, D: Disk, E: Store, C: Clock, W: Words>(
     ensures output { status_of result.end ≡ 6 → Rose (K.faults output.old) (K.faults output.new) }
     ensures disk { status_of result.end ≡ 4 → Rose (D.faults disk) (D.faults result.disk) }
 {
-    let Ok(routes) = Routes::new(alloc) else {
-        return stop(RunEnd::NoMemory, disk);
-    };
     let Ok(mut room) = Room::new(alloc) else {
         return stop(RunEnd::NoMemory, disk);
     };
     let Ok(bench) = Bench::new(alloc, settings.workers) else {
+        return stop(RunEnd::NoMemory, disk);
+    };
+    let Ok(routes) = Routes::new(alloc) else {
         return stop(RunEnd::NoMemory, disk);
     };
     let now = clock.now();

@@ -31,16 +31,16 @@ returns-in-Ok-start-clause-run g c = λ text read.
       serves = rw (c.in-Ok.ensures.many.1 ∙ ap (λ (s : SettingsData). s.workers) c.settings.view_is) at c.serve_keep.ensures.serves;
     })
 
-pub returns-in-Err-clause-run : goal.returns-in-Err-clause-run
-returns-in-Err-clause-run g c = λ text read. inl (unstarted_run (world_of g.D.Disk g.E.Store g.A.Doors g.A.Line.Source g.A.Line.Sink g.C.Clock g.W.Words (g.G.Gate.closes c.args.gate.now)) text c.args.lanes.now.items c.args.hands.now.items (g.C.Clock.moments c.args.clock.now)
+pub returns-clause-run : goal.returns-clause-run
+returns-clause-run g c = λ text read. inl (unstarted_run (world_of g.D.Disk g.E.Store g.A.Doors g.A.Line.Source g.A.Line.Sink g.C.Clock g.W.Words (g.G.Gate.closes c.args.gate.now)) text c.args.lanes.now.items c.args.hands.now.items (g.C.Clock.moments c.args.clock.now)
     (g.C.Clock.moments c.now-now.new.self) c.args.disk c.in-Err.disk c.stop-in-Err.result.disk c.args.settings c.now-now.result c.in-Err.fault
     c.stop-in-Err.result.end c.stop-in-Err.result.tally (subst IsSettings c.settings.view_is c.settings.invariant) read c.now-now.ensures c.in-Err.ensures.err
     (c.stop-in-Err.ensures.end ∙ c.of_start.ensures) c.stop-in-Err.ensures.tally c.stop-in-Err.ensures.disk)
 
-pub returns-in-Err-clause-settings : goal.returns-in-Err-clause-settings
-returns-in-Err-clause-settings g c =
+pub returns-clause-settings : goal.returns-clause-settings
+returns-clause-settings g c =
     ap (λ (end : RunEnd). status_of end == 8) (c.stop-in-Err.ensures.end ∙ c.of_start.ensures) ∙ start_settings c.in-Err.fault
 
-pub returns-in-Err-clause-status : goal.returns-in-Err-clause-status
-returns-in-Err-clause-status g c =
+pub returns-clause-status : goal.returns-clause-status
+returns-clause-status g c =
     subst (λ (end : RunEnd). IsServingStatus (status_of end)) (sym (c.stop-in-Err.ensures.end ∙ c.of_start.ensures)) (start_status c.in-Err.fault)
