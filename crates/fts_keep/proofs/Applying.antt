@@ -11,16 +11,15 @@ use Rattle.fts_record.specs.Proper.{IsProper}
 use Rattle.fts_desk.specs.DeskData.{DeskData}
 use Rattle.fts_disk.specs.Disk.{DiskState, IsTold}
 use Rattle.fts_journal.specs.Journal.{JournalData}
-use Rattle.fts_keep.specs.Keeps.{KeepData, HoldsList, IsFilledBy, IsOver, IsFold, used_of, IsImageSince, Grows, DoubtHasCause, KeepsImages, StandsFor, with_doubt}
-use Rattle.fts_keep.specs.Views.{keep_of, entries_in, IsTied, IsKept}
+use Rattle.fts_keep.specs.Keeps.{KeepData, HoldsList, IsFilledBy, IsFold, used_of, IsImageSince, Grows, DoubtHasCause, KeepsImages, StandsFor, with_doubt}
+use Rattle.fts_keep.specs.Views.{keep_of, IsTied, IsKept}
 use Rattle.fts_keep.specs.Applied.{Applied, AppliesSafely, DoubtIsOwn, KeepsList, IsImageDuring, applied_to, applied_by, fits}
 use Rattle.fts_keep.specs.Ending.{KeepsFirstLimit, LeavesRoom, HasRoom, IsNotFull, ShowsProper, StaysFilled}
 use Rattle.fts_keep.specs.declared.fault.KeepFault.{KeepFault}
 use Rattle.fts_keep.specs.declared.fault.KeepFault.TheVariants.{Rule, DiskFailed, JournalFull, Damaged, Memory}
-use Rattle.fts_keep.proofs.Lists.{none_more, legal_list, proper_list, legal_more, accepted_by, filled_by_more}
+use Rattle.fts_keep.proofs.Lists.{none_more, legal_list, legal_more, accepted_by, filled_by_more}
 use Rattle.fts_keep.proofs.Exits.{fits_by}
 use Rattle.fts_keep.proofs.Moments.{weakened}
-use Rattle.fts_keep.proofs.Tying.{list_untold}
 use Rattle.fts_keep.proofs.Settled.{settings_stay}
 
 -- what fits comes to what it is
@@ -33,10 +32,11 @@ step_of : (used : ℕ) (entry : Entry) (came : Outcomes) (done : Tables × Answe
 step_of used entry (Err refusal) done is = absurd cc
 step_of used entry (Ok found) done is = ap (λ (d : Tables × Answer). Ok d) (fit_of (fits used entry) used found done is)
 
-module _ {D : Type 0} (state : D → DiskState) (faults : D → ℕ) (desk next : DeskData) (journal last : JournalData D) (entry : Entry) where
+module _ {D : Type 0} (state : D → DiskState) (faults : D → ℕ) (desk next : DeskData) (journal last : JournalData D) (list longer : List Entry)
+    (entry : Entry) where
   -- settings that were in force still are
   settings_in : IsSome desk.tables.settings → (result : Result Answer KeepFault)
-      → Applied state faults (keep_of state desk journal) (keep_of state next last) entry result → IsSome next.tables.settings
+      → Applied state faults (keep_of state desk journal list) (keep_of state next last longer) entry result → IsSome next.tables.settings
   settings_in some (Ok answer) applied = settings_stay desk.tables next.tables entry.command answer some
       (step_of journal.used entry (step desk.tables entry.command) (next.tables, answer) applied.done)
   settings_in some (Err (Rule refusal)) applied = subst (λ (t : Tables). IsSome t.settings) (sym (ap (λ (k : KeepData D). k.tables) applied.1)) some
@@ -46,41 +46,37 @@ module _ {D : Type 0} (state : D → DiskState) (faults : D → ℕ) (desk next 
   settings_in some (Err (Damaged offset)) applied = absurd applied
 
   -- a keep is one still
-  pub kept_after : (result : Result Answer KeepFault) → IsKept state desk journal
-      → Applied state faults (keep_of state desk journal) (keep_of state next last) entry result → IsTied state next last → IsKept state next last
+  pub kept_after : (result : Result Answer KeepFault) → IsKept state desk journal list
+      → Applied state faults (keep_of state desk journal list) (keep_of state next last longer) entry result → IsTied state next last longer → IsKept state next last longer
   kept_after result kept applied tied = record { settings = settings_in kept.settings result applied; tied = tied }
 
   module _ (counts : faults journal.disk ≤ faults last.disk) where
     -- nothing was added
-    added_none : (keep_of state next last).entries ≡ (keep_of state desk journal).entries → (state last.disk).told ≡ (state journal.disk).told
-        → Grows state faults entry.writer (keep_of state desk journal) (keep_of state next last)
+    added_none : longer ≡ list → (state last.disk).told ≡ (state journal.disk).told
+        → Grows state faults entry.writer (keep_of state desk journal list) (keep_of state next last longer)
     added_none entries told = record {
       added = [];
-      appended = entries ∙ sym (none_more (keep_of state desk journal).entries);
+      appended = entries ∙ sym (none_more list);
       by = All-nil (λ (other : Entry). other.writer ≡ entry.writer);
       counts = counts;
       told = told;
     }
 
-    -- this entry was added, where the list is told
-    added_one : (told : Bool) → told ≡ (state journal.disk).told → (state last.disk).told ≡ (state journal.disk).told
-        → (IsTold (state journal.disk) → (keep_of state next last).entries ≡ (keep_of state desk journal).entries ++ entry ∷ [])
-        → Grows state faults entry.writer (keep_of state desk journal) (keep_of state next last)
-    added_one true is told listed = record {
+    -- this entry was added
+    added_one : longer ≡ list ++ entry ∷ [] → (state last.disk).told ≡ (state journal.disk).told
+        → Grows state faults entry.writer (keep_of state desk journal list) (keep_of state next last longer)
+    added_one listed told = record {
       added = entry ∷ [];
-      appended = listed (sym is);
+      appended = listed;
       by = All-cons (λ (other : Entry). other.writer ≡ entry.writer) entry [] refl (All-nil (λ (other : Entry). other.writer ≡ entry.writer));
       counts = counts;
       told = told;
     }
-    added_one false is told listed = added_none
-        (list_untold (state last.disk).told (entries_in last.bodies) (told ∙ sym is)
-        ∙ sym (list_untold (state journal.disk).told (entries_in journal.bodies) (sym is))) told
 
     -- the list only grows, by entries of this writer
-    pub grown : (result : Result Answer KeepFault) → Applied state faults (keep_of state desk journal) (keep_of state next last) entry result
-        → Grows state faults entry.writer (keep_of state desk journal) (keep_of state next last)
-    grown (Ok answer) applied = added_one (state journal.disk).told refl applied.told (λ told. (applied.listed told).0)
+    pub grown : (result : Result Answer KeepFault) → Applied state faults (keep_of state desk journal list) (keep_of state next last longer) entry result
+        → Grows state faults entry.writer (keep_of state desk journal list) (keep_of state next last longer)
+    grown (Ok answer) applied = added_one applied.listed applied.told
     grown (Err (Rule refusal)) applied = added_none (ap (λ (k : KeepData D). k.entries) applied.1) (ap (λ (k : KeepData D). (state k.disk).told) applied.1)
     grown (Err (JournalFull used)) applied = added_none (ap (λ (k : KeepData D). k.entries) applied.1) (ap (λ (k : KeepData D). (state k.disk).told) applied.1)
     grown (Err DiskFailed) applied = added_none applied.keeps.entries applied.keeps.told
@@ -97,7 +93,7 @@ module _ {D : Type 0} (state : D → DiskState) (faults : D → ℕ) (old new : 
   }
 
   pub doubt_caused : (result : Result Answer KeepFault) → Applied state faults old new entry result → DoubtHasCause state faults old new
-  doubt_caused (Ok answer) applied = record { in_doubt = λ doubted. let sure = applied.no_doubt in absurd cc; doubt = λ told. inl (applied.listed told).1 }
+  doubt_caused (Ok answer) applied = record { in_doubt = λ doubted. let sure = applied.no_doubt in absurd cc; doubt = λ told. inl (applied.cleared told) }
   doubt_caused (Err (Rule refusal)) applied = same_caused applied.1
   doubt_caused (Err (JournalFull used)) applied = same_caused applied.1
   doubt_caused (Err DiskFailed) applied = record { in_doubt = λ doubted. inr applied.rose; doubt = λ told. inr (inr applied.rose) }
@@ -114,7 +110,7 @@ module _ {D : Type 0} (state : D → DiskState) (faults : D → ℕ) (old new : 
 -- and it is the old one, or the command's own
 pub doubt_of : {D : Type 0} (state : D → DiskState) (faults : D → ℕ) (old new : KeepData D) (entry : Entry) (result : Result Answer KeepFault)
     → Applied state faults old new entry result → DoubtIsOwn state faults old new entry
-doubt_of state faults old new entry (Ok answer) applied = λ told doubted is. let sure = (applied.listed told).1 in absurd cc
+doubt_of state faults old new entry (Ok answer) applied = λ told doubted is. let sure = applied.cleared told in absurd cc
 doubt_of state faults old new entry (Err (Rule refusal)) applied = λ told doubted is. inl (ap (λ k. k.doubt) (sym applied.1) ∙ is)
 doubt_of state faults old new entry (Err (JournalFull used)) applied = λ told doubted is. inl (ap (λ k. k.doubt) (sym applied.1) ∙ is)
 doubt_of state faults old new entry (Err DiskFailed) applied = λ told doubted is. ⊎_elim
@@ -162,24 +158,12 @@ not_full_by tables used full entry (Ok done) room is =
 
 module _ {D : Type 0} (state : D → DiskState) (faults : D → ℕ) (old new : KeepData D) (entry : Entry) (result : Result Answer KeepFault)
     (applied : Applied state faults old new entry result) (fold : IsFold state old) where
-  -- a list that the keep may be of is legal and proper, makes its tables and fills its bytes
-  filled : (entries : List Entry) → IsOver state old entries → IsFilledBy old entries
-  filled entries (inr over) = over
-  filled entries (inl own) = let held = fold.holds own.0 in subst (λ l. IsFilledBy old l) (sym own.1) (record {
-    list = record { folded = held.folded; legal = legal_list old.entries old.doubt held.legal; counted = held.counted };
-    proper = proper_list old.entries old.doubt held.proper;
-    fills = held.fills;
-  })
-
   -- behind such a list, where it leaves room, what settles something has room
   pub not_full : ((entries : List Entry) → IsLegal entries → All IsProper entries → LeavesRoom entries → HasRoom (tables_of entries) (used_of entries))
-      → ShowsProper entry result → (entries : List Entry) → IsOver state old entries → LeavesRoom entries → settles entry.command ≡ true
+      → ShowsProper entry result → (entries : List Entry) → IsFilledBy old entries → LeavesRoom entries → settles entry.command ≡ true
       → IsNotFull result
-  not_full has_room proper entries over room settling = by result applied proper
+  not_full has_room proper entries is room settling = by result applied proper
     where
-      is : IsFilledBy old entries
-      is = filled entries over
-
       here : HasRoom old.tables old.used
       here = subst (λ t. HasRoom t old.used) (sym is.list.folded)
           (subst (λ n. HasRoom (tables_of entries) n) (sym is.fills) (has_room entries is.list.legal is.proper room))
@@ -194,10 +178,24 @@ module _ {D : Type 0} (state : D → DiskState) (faults : D → ℕ) (old new : 
       by (Err Memory) a p = tt
 
   -- an entry that would be accepted fits
-  fits_here : IsTold (state old.disk) → IsOk (applied_to old.tables old.used entry) → fits (used_of old.entries) entry ≡ true
-  fits_here told would = ap (λ n. fits n entry) (sym (fold.holds told).fills) ∙ fits_by old.used entry (step old.tables entry.command) would
+  fits_here : IsOk (applied_to old.tables old.used entry) → fits (used_of old.entries) entry ≡ true
+  fits_here would = ap (λ n. fits n entry) (sym fold.filled.fills) ∙ fits_by old.used entry (step old.tables entry.command) would
 
-  -- its own list, with the entry in doubt, keeps the first limit
+  -- its own list keeps the first limit
+  pub own_limit_kept : ((entries : List Entry) (more : Entry) → KeepsFirstLimit entries → fits (used_of entries) more ≡ true
+      → KeepsFirstLimit (entries ++ more ∷ [])) → KeepsFirstLimit old.entries → KeepsFirstLimit new.entries
+  own_limit_kept more limit = by result applied
+    where
+      by : (r : Result Answer KeepFault) → Applied state faults old new entry r → KeepsFirstLimit new.entries
+      by (Ok answer) a = subst KeepsFirstLimit (sym a.listed)
+          (more old.entries entry limit (fits_here (subst (λ came. IsOk came) (sym a.done) refl)))
+      by (Err (JournalFull full)) a = subst KeepsFirstLimit (sym (ap (λ (k : KeepData D). k.entries) a.1)) limit
+      by (Err (Rule refusal)) a = subst KeepsFirstLimit (sym (ap (λ (k : KeepData D). k.entries) a.1)) limit
+      by (Err DiskFailed) a = subst KeepsFirstLimit (sym a.keeps.entries) limit
+      by (Err Memory) a = subst KeepsFirstLimit (sym a.keeps.entries) limit
+      by (Err (Damaged offset)) a = absurd a
+
+  -- and, with the entry in doubt, where the disk tells its contents
   pub limit_kept : ((entries : List Entry) (more : Entry) → KeepsFirstLimit entries → fits (used_of entries) more ≡ true
       → KeepsFirstLimit (entries ++ more ∷ [])) → ((entries more : List Entry) → KeepsFirstLimit (entries ++ more) → KeepsFirstLimit entries)
       → IsTold (state old.disk) → KeepsFirstLimit (with_doubt old.entries old.doubt) → KeepsFirstLimit (with_doubt new.entries new.doubt)
@@ -221,13 +219,13 @@ module _ {D : Type 0} (state : D → DiskState) (faults : D → ℕ) (old new : 
       same is = with old.entries old.doubt (ap (λ (k : KeepData D). k.entries) is) (ap (λ (k : KeepData D). k.doubt) is) limit
 
       by : (r : Result Answer KeepFault) → Applied state faults old new entry r → KeepsFirstLimit (with_doubt new.entries new.doubt)
-      by (Ok answer) a = with (old.entries ++ entry ∷ []) None (a.listed told).0 (a.listed told).1
-          (more old.entries entry alone (fits_here told (subst (λ came. IsOk came) (sym a.done) refl)))
+      by (Ok answer) a = with (old.entries ++ entry ∷ []) None a.listed (a.cleared told)
+          (more old.entries entry alone (fits_here (subst (λ came. IsOk came) (sym a.done) refl)))
       by (Err (JournalFull full)) a = same a.1
       by (Err (Rule refusal)) a = same a.1
       by (Err DiskFailed) a = ⊎_elim (λ was. with old.entries old.doubt a.keeps.entries was limit)
           (λ other. ⊎_elim (λ none. with old.entries None a.keeps.entries none alone)
-          (λ own. with old.entries (Some entry) a.keeps.entries own (more old.entries entry alone (fits_here told a.would))) other)
+          (λ own. with old.entries (Some entry) a.keeps.entries own (more old.entries entry alone (fits_here a.would))) other)
           (a.doubt told)
       by (Err Memory) a = ⊎_elim (λ was. with old.entries old.doubt a.keeps.entries was limit)
           (λ none. with old.entries None a.keeps.entries none alone) (a.doubt told)

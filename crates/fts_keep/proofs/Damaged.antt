@@ -11,8 +11,7 @@ use Rattle.fts_record.specs.Reading.{Read, entry_at, entry_in, ok_of, read_of, w
 use Rattle.fts_journal.specs.Once.{StandsForOne, StandsUncut, IsCutOnce, StandsAsJournal, IsCutAsJournal}
 use Rattle.fts_keep.specs.Keeps.{bodies_of}
 use Rattle.fts_keep.specs.Damage.{fault_behind, fault_at, fault_from, fault_in, IsDamaged, IsWhole, DamageIsOne}
-use Rattle.fts_keep.specs.Views.{entries_in}
-use Rattle.fts_keep.proofs.Lists.{entries_again}
+use Rattle.fts_keep.proofs.Lists.{entries_in, entries_again}
 
 -- what is read is in the bytes
 pub read_in : (bytes : List ℕ) (entry : Entry) → read_of bytes ≡ Some entry → entry_in bytes ≡ Ok entry

@@ -23,13 +23,13 @@ use Rattle.fts_journal.specs.declared.fault.JournalFault.{JournalFault}
 use Rattle.fts_journal.specs.declared.fault.JournalFault.TheVariants.{DiskFailed as JournalDiskFailed, Full, NotJournal, Cut, Memory as JournalMemory}
 use Rattle.fts_keep.specs.Faults.{fault_of}
 use Rattle.fts_keep.specs.Keeps.{KeepData, IsFilledBy, IsFold, bodies_of, used_of}
-use Rattle.fts_keep.specs.Views.{keep_of, entries_in, IsTied, list_if, option_if}
+use Rattle.fts_keep.specs.Views.{keep_of, IsTied, option_if}
 use Rattle.fts_keep.specs.Applied.{Applied, AppliesSafely, KeepsList, IsImageDuring, Checks, applied_to, applied_by, fits}
 use Rattle.fts_keep.specs.declared.fault.KeepFault.{KeepFault}
 use Rattle.fts_keep.specs.declared.fault.KeepFault.TheVariants.{Rule, DiskFailed, JournalFull, Damaged, Memory}
 use Rattle.fts_keep.proofs.Moments.{begun, joined, weakened, rose_later}
 use Rattle.fts_keep.proofs.Lists.{legal_list, legal_more, proper_list, bodies_more, filled_more, image_of, accepted_by, accepted_tables, filled_by_more, spelled_some}
-use Rattle.fts_keep.proofs.Tying.{IsHeld, option_told, seen_entries, seen_doubt, tie, held}
+use Rattle.fts_keep.proofs.Tying.{IsHeld, option_told, seen_doubt, tie, held}
 
 -- what a settling did, by its clauses
 pub record Settles {D : Type 0} (state : D → DiskState) (faults : D → ℕ) (old new : JournalData D) (result : Result (Unit {0}) JournalFault) : Type 0 where
@@ -60,21 +60,15 @@ pub record Appends {D : Type 0} (state : D → DiskState) (faults : D → ℕ) (
   pub images : IsSound (state new.disk) new.bodies new.doubt
 
 -- two keeps that see the same are one
-pub same_keep : {D : Type 0} (state : D → DiskState) (desk next : DeskData) (journal other : JournalData D) → next.tables ≡ desk.tables
+pub same_keep : {D : Type 0} (state : D → DiskState) (desk next : DeskData) (journal other : JournalData D) (list : List Entry) → next.tables ≡ desk.tables
     → next.commands ≡ desk.commands → other ≡ journal
-    → keep_of state next other ≡ keep_of state desk journal
-same_keep state desk next journal other tables commands same =
-    ap (λ t. keep_of state (record { tables = t; commands = next.commands; planned = next.planned }) other) tables
-    ∙ ap (λ n. keep_of state (record { tables = desk.tables; commands = n; planned = desk.planned }) other) commands
-    ∙ ap (λ j. keep_of state desk j) same
+    → keep_of state next other list ≡ keep_of state desk journal list
+same_keep state desk next journal other list tables commands same =
+    ap (λ t. keep_of state (record { tables = t; commands = next.commands; planned = next.planned }) other list) tables
+    ∙ ap (λ n. keep_of state (record { tables = desk.tables; commands = n; planned = desk.planned }) other list) commands
+    ∙ ap (λ j. keep_of state desk j list) same
 
--- what is seen of one list, by two disks of which both tell or none
-same_list : {A : Type 0} (before after : Bool) (items others : List A) → after ≡ before → (before ≡ true → others ≡ items)
-    → list_if after others ≡ list_if before items
-same_list true after items others is same = ap (λ t. list_if t others) is ∙ same refl
-same_list false after items others is same = ap (λ t. list_if t others) is
-
--- and of one option
+-- what is seen of one option, by two disks of which both tell or none
 same_option : {A : Type 0} (before after : Bool) (item other : Option A) → after ≡ before → (before ≡ true → other ≡ item)
     → option_if after other ≡ option_if before item
 same_option true after item other is same = ap (λ t. option_if t other) is ∙ same refl
@@ -111,16 +105,16 @@ came_by : (used : ℕ) (entry : Entry) (came : Outcomes) (done : Tables × Answe
 came_by used entry came done is ok = ap (applied_by used entry) is ∙ ap (λ b. if b then Ok done else Err (JournalFull used)) (fits_by used entry came ok)
 
 module _ {D : Type 0} (state : D → DiskState) (faults : D → ℕ) (reads : (entry : Entry) → IsProper entry → read_of (spelled entry) ≡ Some entry)
-    (lawful : (disk : D) → IsTold (state disk) → IsLawful (state disk)) (desk next : DeskData) (journal : JournalData D) (entry : Entry)
-    (tables : next.tables ≡ desk.tables) (commands : next.commands ≡ desk.commands) (tied : IsTied state desk journal) where
+    (lawful : (disk : D) → IsTold (state disk) → IsLawful (state disk)) (desk next : DeskData) (journal : JournalData D) (list : List Entry)
+    (entry : Entry) (tables : next.tables ≡ desk.tables) (commands : next.commands ≡ desk.commands) (tied : IsTied state desk journal list) where
   -- the keep before
   abbrev old : KeepData D
-  old = keep_of state desk journal
+  old = keep_of state desk journal list
 
   -- a desk that only made room is tied as well
-  pub checked_tied : IsTied state next journal
+  pub checked_tied : IsTied state next journal list
   checked_tied = record {
-    fold = subst (IsFold state) (sym (same_keep state desk next journal journal tables commands refl)) tied.fold;
+    fold = subst (IsFold state) (sym (same_keep state desk next journal journal list tables commands refl)) tied.fold;
     counted = commands ∙ tied.counted;
     bodies = tied.bodies;
     doubt = tied.doubt;
@@ -128,39 +122,35 @@ module _ {D : Type 0} (state : D → DiskState) (faults : D → ℕ) (reads : (e
 
   -- a check that failed
   pub checked_applied : (T : Type 0) (fault : KeepFault) → Checks {T = T} desk.tables journal.used entry (Err fault)
-      → Applied state faults old (keep_of state next journal) entry (Err fault)
-  checked_applied T (Rule refusal) checks = (checks, same_keep state desk next journal journal tables commands refl)
-  checked_applied T (JournalFull used) checks = (checks, same_keep state desk next journal journal tables commands refl)
+      → Applied state faults old (keep_of state next journal list) entry (Err fault)
+  checked_applied T (Rule refusal) checks = (checks, same_keep state desk next journal journal list tables commands refl)
+  checked_applied T (JournalFull used) checks = (checks, same_keep state desk next journal journal list tables commands refl)
   checked_applied T Memory checks = record {
     keeps = record { entries = refl; tables = tables; commands = commands; used = refl; told = refl };
     doubt = λ told. inl refl;
-    untouched = λ sure. same_keep state desk next journal journal tables commands refl;
+    untouched = λ sure. same_keep state desk next journal journal list tables commands refl;
   }
   checked_applied T DiskFailed checks = absurd checks
   checked_applied T (Damaged offset) checks = absurd checks
 
   -- nothing was written
-  pub checked_safe : AppliesSafely state old (keep_of state next journal) entry
+  pub checked_safe : AppliesSafely state old (keep_of state next journal list) entry
   checked_safe told = begun (state journal.disk) (IsImageDuring old entry) (lawful journal.disk told)
       (λ content left. inl ((tied.fold.holds told).images content left))
 
-  -- tables and number are still those of a list, which fills what is used
-  filled_list : (mid : JournalData D) → mid.used ≡ journal.used → (entries : List Entry) × IsFilledBy (keep_of state next mid) entries
-  filled_list mid used = let filled = tied.fold.filled.1 in (
-    tied.fold.filled.0,
-    record {
-      list = record { folded = tables ∙ filled.list.folded; legal = filled.list.legal; counted = commands ∙ filled.list.counted };
-      proper = filled.proper;
-      fills = used ∙ filled.fills;
-    },
-  )
+  -- tables and number are still those of the list, which fills what is used
+  filled_list : (mid : JournalData D) → mid.used ≡ journal.used → IsFilledBy (keep_of state next mid list) list
+  filled_list mid used = let filled = tied.fold.filled in record {
+    list = record { folded = tables ∙ filled.list.folded; legal = filled.list.legal; counted = commands ∙ filled.list.counted };
+    proper = filled.proper;
+    fills = used ∙ filled.fills;
+  }
 
   -- list, tables and numbers are as before
   keeps_list : (mid : JournalData D) → mid.used ≡ journal.used → (state mid.disk).told ≡ (state journal.disk).told
-      → (IsTold (state journal.disk) → mid.bodies ≡ journal.bodies) → KeepsList state old (keep_of state next mid)
-  keeps_list mid used told bodies = record {
-    entries = same_list (state journal.disk).told (state mid.disk).told (entries_in journal.bodies) (entries_in mid.bodies) told
-        (λ is. ap entries_in (bodies is));
+      → KeepsList state old (keep_of state next mid list)
+  keeps_list mid used told = record {
+    entries = refl;
     tables = tables;
     commands = commands;
     used = used;
@@ -169,20 +159,20 @@ module _ {D : Type 0} (state : D → DiskState) (faults : D → ℕ) (reads : (e
 
   module _ (checked : IsOk (applied_to desk.tables journal.used entry)) where
     -- the machine accepts it
-    accepted : IsTold (state journal.disk) → IsAccepted (step (tables_of old.entries) entry.command)
-    accepted told = subst (λ t. IsAccepted (step t entry.command)) (tied.fold.holds told).folded
+    accepted : IsAccepted (step (tables_of list) entry.command)
+    accepted = subst (λ t. IsAccepted (step t entry.command)) tied.fold.filled.list.folded
         (accepted_by journal.used entry (step desk.tables entry.command) checked)
 
     -- the list with it is legal
-    longer : IsTold (state journal.disk) → IsLegal (old.entries ++ entry ∷ [])
-    longer told = legal_more empty_tables old.entries entry (legal_list old.entries old.doubt (tied.fold.holds told).legal) (accepted told)
+    longer : IsLegal (list ++ entry ∷ [])
+    longer = legal_more empty_tables list entry tied.fold.filled.list.legal accepted
 
     module _ (mid : JournalData D) where
       module _ (fault : JournalFault) (settles : Settles state faults journal mid (Err fault)) where
         -- list and doubt are held still
-        unsettled_held : IsTold (state journal.disk) → IsHeld next mid old.entries old.doubt
+        unsettled_held : IsTold (state journal.disk) → IsHeld next mid list old.doubt
         unsettled_held told =
-            let h = held state reads desk journal tied told in
+            let h = held state reads desk journal list tied told in
             record {
               bodies = settles.bodies told ∙ h.bodies;
               doubts = settles.doubt told ∙ h.doubts;
@@ -194,40 +184,40 @@ module _ {D : Type 0} (state : D → DiskState) (faults : D → ℕ) (reads : (e
               fills = settles.kept.1 ∙ h.fills;
             }
 
-        pub unsettled_tied : IsTied state next mid
-        unsettled_tied = tie state reads next mid (omega (arith, commands, settles.kept.1, tied.fold.low)) (omega (arith, settles.kept.1, tied.fold.high))
+        pub unsettled_tied : IsTied state next mid list
+        unsettled_tied = tie state reads next mid list (omega (arith, commands, settles.kept.1, tied.fold.low)) (omega (arith, settles.kept.1, tied.fold.high))
             (commands ∙ tied.counted ∙ sym settles.kept.0)
             (filled_list mid settles.kept.1)
-            (λ told. record { entries = old.entries; doubt = old.doubt; held = unsettled_held (sym settles.told ∙ told) }) settles.images
+            (λ told. record { doubt = old.doubt; held = unsettled_held (sym settles.told ∙ told) }) settles.images
 
-        pub unsettled_applied : Applied state faults old (keep_of state next mid) entry (Err (fault_of fault))
-        unsettled_applied = subst (λ f. Applied state faults old (keep_of state next mid) entry (Err (fault_of f))) (sym settles.cause.0) (record {
+        pub unsettled_applied : Applied state faults old (keep_of state next mid list) entry (Err (fault_of fault))
+        unsettled_applied = subst (λ f. Applied state faults old (keep_of state next mid list) entry (Err (fault_of f))) (sym settles.cause.0) (record {
           would = checked;
           rose = settles.cause.1;
-          keeps = keeps_list mid settles.kept.1 settles.told settles.bodies;
+          keeps = keeps_list mid settles.kept.1 settles.told;
           doubt = λ told. inl (same_option (state journal.disk).told (state mid.disk).told (option_and_then read_of journal.doubt)
               (option_and_then read_of mid.doubt) settles.told (λ is. ap (λ found. option_and_then read_of found) (settles.doubt is)));
         })
 
       -- at each moment of a settling an image is one of the list, with its doubt
       pub settled_safe : (result : Result (Unit {0}) JournalFault) → Settles state faults journal mid result
-          → AppliesSafely state old (keep_of state next mid) entry
+          → AppliesSafely state old (keep_of state next mid list) entry
       settled_safe result settles told =
-          let h = held state reads desk journal tied told in
+          let h = held state reads desk journal list tied told in
           weakened (state journal.disk) (state mid.disk) (IsJournalImage journal.bodies journal.doubt) (IsImageDuring old entry) (settles.any_moment told)
           (λ content there. inl
-          (image_of old.entries old.doubt content
-          (subst (λ d. IsJournalImage (bodies_of old.entries) d content) h.doubts (subst (λ b. IsJournalImage b journal.doubt content) h.bodies there))))
+          (image_of list old.doubt content
+          (subst (λ d. IsJournalImage (bodies_of list) d content) h.doubts (subst (λ b. IsJournalImage b journal.doubt content) h.bodies there))))
 
       module _ (settles : Settles state faults journal mid (Ok tt)) (last : JournalData D) (body : List ℕ) (is_body : body ≡ spelled entry)
           (proper : IsProper entry) where
         -- the bodies are those of the list
-        settled_bodies : IsTold (state journal.disk) → mid.bodies ≡ bodies_of old.entries
-        settled_bodies told = settles.bodies told ∙ (held state reads desk journal tied told).bodies
+        settled_bodies : IsTold (state journal.disk) → mid.bodies ≡ bodies_of list
+        settled_bodies told = settles.bodies told ∙ (held state reads desk journal list tied told).bodies
 
         -- at each moment of both an image is one of the list with its doubt, or of the list with this entry
         pub appended_safe : (result : Result (Unit {0}) JournalFault) → Appends state faults mid last body result
-            → AppliesSafely state old (keep_of state next last) entry
+            → AppliesSafely state old (keep_of state next last list) entry
         appended_safe result appends told = joined (state journal.disk) (state mid.disk) (state last.disk) (IsImageDuring old entry)
             (settled_safe (Ok tt) settles told)
             (weakened (state mid.disk) (state last.disk) (IsBeforeOrAfter mid.bodies body) (IsImageDuring old entry)
@@ -236,29 +226,29 @@ module _ {D : Type 0} (state : D → DiskState) (faults : D → ℕ) (reads : (e
             (λ after. inr (
               checked,
               subst (Stands content)
-                  (ap (λ b. b ++ body ∷ []) (settled_bodies told) ∙ ap (λ x. bodies_of old.entries ++ x ∷ []) is_body ∙ sym (bodies_more old.entries entry))
+                  (ap (λ b. b ++ body ∷ []) (settled_bodies told) ∙ ap (λ x. bodies_of list ++ x ∷ []) is_body ∙ sym (bodies_more list entry))
                   after,
             ))
             there))
 
         module _ (fault : JournalFault) (appends : Appends state faults mid last body (Err fault)) where
           -- the list is held, without doubt or with this entry in doubt
-          failed_held : IsTold (state journal.disk) → IsHeld next last old.entries None ⊎ IsHeld next last old.entries (Some entry)
+          failed_held : IsTold (state journal.disk) → IsHeld next last list None ⊎ IsHeld next last list (Some entry)
           failed_held told = by last.in_doubt refl
             where
-              h : IsHeld desk journal old.entries old.doubt
-              h = held state reads desk journal tied told
+              h : IsHeld desk journal list old.doubt
+              h = held state reads desk journal list tied told
 
               failing : FailsToAppend (state mid.disk) (state last.disk) mid.bodies last.bodies last.doubt last.in_doubt body
               failing = appends.failed (settles.told ∙ told)
 
-              by : (b : Bool) → b ≡ last.in_doubt → IsHeld next last old.entries None ⊎ IsHeld next last old.entries (Some entry)
+              by : (b : Bool) → b ≡ last.in_doubt → IsHeld next last list None ⊎ IsHeld next last list (Some entry)
               by false is = inl (record {
                 bodies = failing.same ∙ settled_bodies told;
                 doubts = (failing.closed (sym is)).0;
                 folded = tables ∙ h.folded;
-                legal = legal_list old.entries old.doubt h.legal;
-                proper = proper_list old.entries old.doubt h.proper;
+                legal = legal_list list old.doubt h.legal;
+                proper = proper_list list old.doubt h.proper;
                 counted = commands ∙ h.counted;
                 sure = sym is;
                 fills = appends.err.1 ∙ settles.kept.1 ∙ h.fills;
@@ -267,35 +257,34 @@ module _ {D : Type 0} (state : D → DiskState) (faults : D → ℕ) (reads : (e
                 bodies = failing.same ∙ settled_bodies told;
                 doubts = failing.open_to_both (sym is) ∙ ap (λ x. Some x) is_body;
                 folded = tables ∙ h.folded;
-                legal = longer told;
-                proper = All-push IsProper old.entries entry (proper_list old.entries old.doubt h.proper) proper;
+                legal = longer;
+                proper = All-push IsProper list entry (proper_list list old.doubt h.proper) proper;
                 counted = commands ∙ h.counted;
                 sure = sym is;
                 fills = appends.err.1 ∙ settles.kept.1 ∙ h.fills;
               })
 
-          pub failed_tied : IsTied state next last
-          failed_tied = tie state reads next last (omega (arith, commands, settles.kept.1, appends.err.1, tied.fold.low))
+          pub failed_tied : IsTied state next last list
+          failed_tied = tie state reads next last list (omega (arith, commands, settles.kept.1, appends.err.1, tied.fold.low))
               (omega (arith, settles.kept.1, appends.err.1, tied.fold.high))
               (commands ∙ tied.counted ∙ sym settles.kept.0 ∙ sym appends.err.0) (filled_list last (appends.err.1 ∙ settles.kept.1)) (λ told. ⊎_elim
-              (λ sure. record { entries = old.entries; doubt = None; held = sure })
-              (λ unsure. record { entries = old.entries; doubt = Some entry; held = unsure })
+              (λ sure. record { doubt = None; held = sure })
+              (λ unsure. record { doubt = Some entry; held = unsure })
               (failed_held (sym settles.told ∙ sym appends.told ∙ told))) appends.images
 
-          failed_keeps : KeepsList state old (keep_of state next last)
+          failed_keeps : KeepsList state old (keep_of state next last list)
           failed_keeps = keeps_list last (appends.err.1 ∙ settles.kept.1) (appends.told ∙ settles.told)
-              (λ told. (appends.failed (settles.told ∙ told)).same ∙ settles.bodies told)
 
           -- why, by the fault
           failed_by : (f : JournalFault) → AppendCause faults mid last (length body) f
-              → Applied state faults old (keep_of state next last) entry (Err (fault_of f))
+              → Applied state faults old (keep_of state next last list) entry (Err (fault_of f))
           failed_by JournalDiskFailed cause = record {
             would = checked;
             rose = rose_later (faults journal.disk) (faults mid.disk) (faults last.disk) settles.counts cause;
             keeps = failed_keeps;
             doubt = λ told. inr (⊎_elim
-                (λ sure. inl (seen_doubt state reads next last old.entries None sure (appends.told ∙ settles.told ∙ told)))
-                (λ unsure. inr (seen_doubt state reads next last old.entries (Some entry) unsure (appends.told ∙ settles.told ∙ told)))
+                (λ sure. inl (seen_doubt state reads next last list None sure (appends.told ∙ settles.told ∙ told)))
+                (λ unsure. inr (seen_doubt state reads next last list (Some entry) unsure (appends.told ∙ settles.told ∙ told)))
                 (failed_held told));
           }
           failed_by (Full used) cause = absurd
@@ -304,12 +293,12 @@ module _ {D : Type 0} (state : D → DiskState) (faults : D → ℕ) (reads : (e
             keeps = failed_keeps;
             doubt = λ told. inr (option_told (state last.disk).told (option_and_then read_of last.doubt) (appends.told ∙ settles.told ∙ told)
                 ∙ ap (λ found. option_and_then read_of found) (ap (λ (j : JournalData D). j.doubt) cause ∙ settles.settled told));
-            untouched = λ sure. same_keep state desk next journal last tables commands (cause ∙ (settles.nothing sure).0);
+            untouched = λ sure. same_keep state desk next journal last list tables commands (cause ∙ (settles.nothing sure).0);
           }
           failed_by NotJournal cause = absurd cause
           failed_by (Cut offset) cause = absurd cause
 
-          pub failed_applied : Applied state faults old (keep_of state next last) entry (Err (fault_of fault))
+          pub failed_applied : Applied state faults old (keep_of state next last list) entry (Err (fault_of fault))
           failed_applied = failed_by fault appends.cause
 
         module _ (appends : Appends state faults mid last body (Ok tt)) (done : DeskData) (answer : Answer)
@@ -320,45 +309,41 @@ module _ {D : Type 0} (state : D → DiskState) (faults : D → ℕ) (reads : (e
               (subst (λ t. step t entry.command ≡ Ok (done.tables, answer)) tables stepped) checked
 
           -- the list with the entry is held
-          done_held : IsTold (state journal.disk) → IsHeld done last (old.entries ++ entry ∷ []) None
+          done_held : IsTold (state journal.disk) → IsHeld done last (list ++ entry ∷ []) None
           done_held told =
-              let h = held state reads desk journal tied told in
+              let h = held state reads desk journal list tied told in
               record {
                 bodies = (appends.appended (settles.told ∙ told)).0 ∙ ap (λ b. b ++ body ∷ []) (settled_bodies told)
-                    ∙ ap (λ x. bodies_of old.entries ++ x ∷ []) is_body ∙ sym (bodies_more old.entries entry);
+                    ∙ ap (λ x. bodies_of list ++ x ∷ []) is_body ∙ sym (bodies_more list entry);
                 doubts = (appends.appended (settles.told ∙ told)).1;
-                folded = accepted_tables old.entries entry desk.tables done.tables journal.used answer h.folded done_came;
-                legal = longer told;
-                proper = All-push IsProper old.entries entry (proper_list old.entries old.doubt h.proper) proper;
-                counted = omega (arith, more, commands, h.counted, length-append old.entries (entry ∷ []));
+                folded = accepted_tables list entry desk.tables done.tables journal.used answer h.folded done_came;
+                legal = longer;
+                proper = All-push IsProper list entry (proper_list list old.doubt h.proper) proper;
+                counted = omega (arith, more, commands, h.counted, length-append list (entry ∷ []));
                 sure = appends.ok.2;
-                fills = appends.ok.1 ∙ ap (λ n. n + 5 + length body) (settles.kept.1 ∙ h.fills) ∙ ap (λ x. used_of old.entries + 5 + length x) is_body
-                    ∙ sym (filled_more old.entries entry);
+                fills = appends.ok.1 ∙ ap (λ n. n + 5 + length body) (settles.kept.1 ∙ h.fills) ∙ ap (λ x. used_of list + 5 + length x) is_body
+                    ∙ sym (filled_more list entry);
               }
 
-          pub done_applied : Applied state faults old (keep_of state done last) entry (Ok answer)
+          pub done_applied : Applied state faults old (keep_of state done last (list ++ entry ∷ [])) entry (Ok answer)
           done_applied = record {
             done = done_came;
             commands = more ∙ ap (λ n. n + 1) commands;
             used = appends.ok.1 ∙ ap (λ n. n + 5 + length body) settles.kept.1 ∙ ap (λ x. journal.used + 5 + length x) is_body;
             no_doubt = appends.ok.2;
             told = appends.told ∙ settles.told;
-            listed = λ told. let there = appends.told ∙ settles.told ∙ told in (
-              seen_entries state reads done last (old.entries ++ entry ∷ []) None (done_held told) there,
-              seen_doubt state reads done last (old.entries ++ entry ∷ []) None (done_held told) there,
-            );
+            listed = refl;
+            cleared = λ told. seen_doubt state reads done last (list ++ entry ∷ []) None (done_held told) (appends.told ∙ settles.told ∙ told);
           }
 
-          pub done_tied : IsTied state done last
-          done_tied = tie state reads done last
+          pub done_tied : IsTied state done last (list ++ entry ∷ [])
+          done_tied = tie state reads done last (list ++ entry ∷ [])
               (omega (arith, more, commands, appends.ok.1, settles.kept.1, tied.fold.low, ap length is_body, spelled_some entry))
               (omega (arith, appends.ok.1, settles.kept.1, ap length is_body, room_by journal.used entry (step desk.tables entry.command) checked))
-              (omega (arith, more, commands, tied.counted, settles.kept.0, appends.ok.0)) (
-                tied.fold.filled.0 ++ entry ∷ [],
-                filled_by_more state old (keep_of state done last) tied.fold.filled.0 entry answer tied.fold.filled.1 proper done_applied,
-              )
-              (λ told. record { entries = old.entries ++ entry ∷ []; doubt = None; held = done_held (sym settles.told ∙ sym appends.told ∙ told) })
+              (omega (arith, more, commands, tied.counted, settles.kept.0, appends.ok.0))
+              (filled_by_more state old (keep_of state done last (list ++ entry ∷ [])) list entry answer tied.fold.filled proper done_applied)
+              (λ told. record { doubt = None; held = done_held (sym settles.told ∙ sym appends.told ∙ told) })
               appends.images
 
-          pub done_safe : AppliesSafely state old (keep_of state done last) entry
+          pub done_safe : AppliesSafely state old (keep_of state done last (list ++ entry ∷ [])) entry
           done_safe = appended_safe (Ok tt) appends

@@ -10,6 +10,7 @@ use Rattle.fts_tables.specs.Tables.{Tables, empty_tables}
 use Rattle.fts_tables.specs.Step.{Outcomes, step}
 use Rattle.fts_tables.specs.History.{tables_after, IsAccepted}
 use Rattle.fts_tables.specs.declared.commands.Answer.{Answer}
+use Rattle.fts_tables.specs.declared.commands.Entry.{Entry}
 use Rattle.fts_record.specs.Spelling.{spelled}
 use Rattle.fts_record.specs.Proper.{IsProper}
 use Rattle.fts_record.specs.Reading.{entry_in}
@@ -65,9 +66,8 @@ passes_more sizes n size is = omega
 
 module _ {D : Type 0} (state : D → DiskState) (journal : JournalData D) where
   -- nothing was folded yet
-  pub folded_none : HasFolded state journal empty_tables 8 0
+  pub folded_none : HasFolded state journal empty_tables [] 8 0
   folded_none = record {
-    entries = [];
     folded = refl;
     legal = tt;
     counted = refl;
@@ -79,37 +79,36 @@ module _ {D : Type 0} (state : D → DiskState) (journal : JournalData D) where
   }
 
   -- one entry more
-  pub folded_more : (tables after : Tables) (gate n : ℕ) (body : List ℕ) → HasFolded state journal tables gate n → TakesEntry tables body after
-      → slice_get journal.sizes n ≡ Some (length body)
-      → (IsTold (state journal.disk) → slice_get journal.bodies n ≡ Some body) → HasFolded state journal after (gate + 5 + length body) (n + 1)
-  folded_more tables after gate n body so_far takes long here =
+  pub folded_more : (tables after : Tables) (list longer : List Entry) (gate n : ℕ) (body : List ℕ) → HasFolded state journal tables list gate n
+      → TakesEntry tables list body after longer → slice_get journal.sizes n ≡ Some (length body)
+      → (IsTold (state journal.disk) → slice_get journal.bodies n ≡ Some body) → HasFolded state journal after longer (gate + 5 + length body) (n + 1)
+  folded_more tables after list longer gate n body so_far takes long here =
       let done = step_done tables after takes.answer (step tables takes.entry.command) takes.stepped in
-      record {
-        entries = so_far.entries ++ takes.entry ∷ [];
+      subst (λ l. HasFolded state journal after l (gate + 5 + length body) (n + 1)) (sym takes.listed) (record {
         folded = sym done.1 ∙ ap (λ t. tables_after t (step t takes.entry.command)) so_far.folded
-            ∙ sym (tables_from-append empty_tables so_far.entries (takes.entry ∷ []));
-        legal = legal_more empty_tables so_far.entries takes.entry so_far.legal (subst (λ t. IsAccepted (step t takes.entry.command)) so_far.folded done.0);
-        counted = omega (arith, so_far.counted, length-append so_far.entries (takes.entry ∷ []));
-        proper = All-push IsProper so_far.entries takes.entry so_far.proper takes.proper;
+            ∙ sym (tables_from-append empty_tables list (takes.entry ∷ []));
+        legal = legal_more empty_tables list takes.entry so_far.legal (subst (λ t. IsAccepted (step t takes.entry.command)) so_far.folded done.0);
+        counted = omega (arith, so_far.counted, length-append list (takes.entry ∷ []));
+        proper = All-push IsProper list takes.entry so_far.proper takes.proper;
         fills = ap (λ b. gate + 5 + length b) takes.spells ∙ ap (λ n. n + 5 + length (spelled takes.entry)) so_far.fills
-            ∙ sym (filled_more so_far.entries takes.entry);
+            ∙ sym (filled_more list takes.entry);
         passes = ap (λ n. n + 5 + length body) so_far.passes ∙ passes_more journal.sizes n (length body) long
             ∙ ap (λ k. filled_by (take k journal.sizes)) (sym (add-one n));
         spells = λ told. ap (λ k. take k journal.bodies) (add-one n) ∙ take_at_place journal.bodies n body (here told)
             ∙ ap (λ b. b ++ body ∷ []) (so_far.spells told)
-            ∙ ap (λ x. bodies_of so_far.entries ++ x ∷ []) takes.spells ∙ sym (bodies_more so_far.entries takes.entry);
+            ∙ ap (λ x. bodies_of list ++ x ∷ []) takes.spells ∙ sym (bodies_more list takes.entry);
         behind = λ told. so_far.behind told
             ∙ ap (λ rest. fault_from tables gate rest) (drop_at_place journal.bodies n body (here told))
             ∙ ap (λ read. fault_at tables gate read (λ next. fault_from next (gate + 5 + length body) (drop (suc n) journal.bodies))) takes.read
             ∙ ap (λ came. fault_behind gate came (λ next. fault_from next (gate + 5 + length body) (drop (suc n) journal.bodies))) takes.stepped
             ∙ ap (λ k. fault_from after (gate + 5 + length body) (drop k journal.bodies)) (sym (add-one n));
-      }
+      })
 
   -- a fault that a body is, whatever follows, is the first of all
-  pub folded_fault : (tables : Tables) (gate n offset : ℕ) (body : List ℕ) → HasFolded state journal tables gate n
+  pub folded_fault : (tables : Tables) (list : List Entry) (gate n offset : ℕ) (body : List ℕ) → HasFolded state journal tables list gate n
       → ((later : Tables → Option ℕ) → fault_at tables gate (entry_in body) later ≡ Some offset)
       → IsTold (state journal.disk) → slice_get journal.bodies n ≡ Some body → fault_in journal.bodies ≡ Some offset
-  folded_fault tables gate n offset body so_far fault told here =
+  folded_fault tables list gate n offset body so_far fault told here =
       so_far.behind told
       ∙ ap (λ rest. fault_from tables gate rest) (drop_at_place journal.bodies n body here)
       ∙ fault (λ next. fault_from next (gate + 5 + length body) (drop (suc n) journal.bodies))
@@ -159,16 +158,16 @@ read_fault state faults old mid new counts fault rose (inl is) = subst (λ f. Fo
 read_fault state faults old mid new counts fault rose (inr is) = subst (λ f. FoldFault state faults old new (fault_of f)) (sym is) tt
 
 -- why a body wasn't taken
-pub take_fault : {D : Type 0} (state : D → DiskState) (faults : D → ℕ) (old new : JournalData D) (tables after : Tables) (gate n : ℕ) (body : List ℕ)
-    → HasFolded state old tables gate n
-    → (IsTold (state old.disk) → slice_get old.bodies n ≡ Some body) → (fault : KeepFault) → Takes tables gate body after (Err fault)
+pub take_fault : {D : Type 0} (state : D → DiskState) (faults : D → ℕ) (old new : JournalData D) (tables after : Tables) (list longer : List Entry)
+    (gate n : ℕ) (body : List ℕ) → HasFolded state old tables list gate n
+    → (IsTold (state old.disk) → slice_get old.bodies n ≡ Some body) → (fault : KeepFault) → Takes tables list gate body after longer (Err fault)
     → FoldFault state faults old new fault
-take_fault state faults old new tables after gate n body so_far here (Damaged offset) takes =
-    λ told. folded_fault state old tables gate n offset body so_far takes told (here told)
-take_fault state faults old new tables after gate n body so_far here Memory takes = tt
-take_fault state faults old new tables after gate n body so_far here DiskFailed takes = absurd takes
-take_fault state faults old new tables after gate n body so_far here (JournalFull used) takes = absurd takes
-take_fault state faults old new tables after gate n body so_far here (Rule refusal) takes = absurd takes
+take_fault state faults old new tables after list longer gate n body so_far here (Damaged offset) takes =
+    λ told. folded_fault state old tables list gate n offset body so_far takes told (here told)
+take_fault state faults old new tables after list longer gate n body so_far here Memory takes = tt
+take_fault state faults old new tables after list longer gate n body so_far here DiskFailed takes = absurd takes
+take_fault state faults old new tables after list longer gate n body so_far here (JournalFull used) takes = absurd takes
+take_fault state faults old new tables after list longer gate n body so_far here (Rule refusal) takes = absurd takes
 
 -- what holds of a fault holds of the answer that carries it
 pub on_err : {T : Type 0} (result : Result T KeepFault) (fault : KeepFault) (P : KeepFault → Type 0) → IsErrAnd result (λ e. e ≡ fault) → P fault

@@ -1,5 +1,5 @@
 -- Lists of entries: their spellings, what one entry more makes of them, and the bytes that it fills.
-use Rattle.std.proofs.Common.{◌≡◌, refl, ap, sym, ◌∙◌, subst, ℕ, ◌+◌, ◌≤◌, ◌==◌, inl, inr, Bool, true, false, if◌then◌else◌, List, [], ◌∷◌, ◌++◌, length, Option, Some, None, option_map, option_and_then, Ok, Err, IsOk, All, arith}
+use Rattle.std.proofs.Common.{◌≡◌, refl, ap, sym, ◌∙◌, subst, ℕ, ◌+◌, ◌≤◌, ◌==◌, inl, inr, Bool, true, false, if◌then◌else◌, List, [], ◌∷◌, ◌++◌, length, filter_map, Option, Some, None, option_map, option_and_then, Ok, Err, IsOk, All, arith}
 use Rattle.std.proofs.lemmas.List.{append_assoc, map-append, length-append}
 use Rattle.std.proofs.lemmas.List.Elements.{All-nil, All-cons, All-head, All-tail, All-push}
 use Rattle.std.specs.List.{flat_map}
@@ -17,9 +17,12 @@ use Rattle.fts_disk.specs.Disk.{DiskState}
 use Rattle.fts_journal.specs.Format.{used_by, header, block, size_bytes, Stands}
 use Rattle.fts_journal.specs.Journal.{IsImageOf as IsJournalImage}
 use Rattle.fts_keep.specs.Keeps.{KeepData, IsListOf, IsFilledBy, used_of, used_after, bodies_of, with_doubt, IsImageOf}
-use Rattle.fts_keep.specs.Views.{entries_in}
 use Rattle.fts_keep.specs.Applied.{Applies, applied_to, applied_by, fits, Accepts}
 use Rattle.fts_keep.specs.declared.fault.KeepFault.TheVariants.{JournalFull as Full}
+
+-- the entries that bodies spell
+abbrev pub entries_in : List (List ℕ) → List Entry
+entries_in bodies = filter_map read_of bodies
 
 -- nothing more
 pub none_more : {A : Type 0} (items : List A) → items ++ [] ≡ items

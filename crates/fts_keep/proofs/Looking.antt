@@ -1,9 +1,10 @@
 -- One entry is given: the journal was only looked at, so the keep is one still, and the bytes are those of its list.
-use Rattle.std.proofs.Common.{◌≡◌, refl, ap, sym, ◌∙◌, subst, inl, inr, ◌⊎◌, ℕ, zero, suc, ◌+◌, ◌*◌, ◌≤◌, ◌<◌, Bool, true, false, List, [], ◌∷◌, length, slice_get, Option, Some, option_and_then, Result, Ok, Err, IfErr, OnOk, arith}
+use Rattle.std.proofs.Common.{◌≡◌, refl, ap, sym, ◌∙◌, subst, inl, inr, ◌⊎◌, ℕ, zero, suc, ◌+◌, ◌*◌, ◌≤◌, ◌<◌, Bool, true, false, List, [], ◌∷◌, length, slice_get, Option, Some, option_and_then, Ok, Err, arith}
 use Rattle.std.proofs.lemmas.List.Sums.{sum_by-cons}
 use Rattle.std.specs.List.{sum_by}
 use Rattle.fts_tables.specs.Counts.{Rose}
 use Rattle.fts_tables.specs.declared.limits.TheConstants.{JOURNAL_END}
+use Rattle.fts_tables.specs.declared.commands.Entry.{Entry}
 use Rattle.fts_record.specs.Reading.{read_of}
 use Rattle.fts_desk.specs.DeskData.{DeskData}
 use Rattle.fts_disk.specs.Disk.{DiskState, IsTold, IsLawful}
@@ -11,17 +12,11 @@ use Rattle.fts_journal.specs.Journal.{JournalData, Keeps, filled_by}
 use Rattle.fts_journal.specs.declared.fault.JournalFault.{JournalFault}
 use Rattle.fts_journal.specs.declared.fault.JournalFault.TheVariants.{DiskFailed as JournalDiskFailed, Memory as JournalMemory}
 use Rattle.fts_keep.specs.Faults.{fault_of}
-use Rattle.fts_keep.specs.Keeps.{KeepData, IsFold, bodies_of}
-use Rattle.fts_keep.specs.Views.{entries_in, list_if, option_if, keep_of, IsTied, IsKept}
+use Rattle.fts_keep.specs.Keeps.{IsFold}
+use Rattle.fts_keep.specs.Views.{option_if, keep_of, IsKept}
 use Rattle.fts_keep.specs.Looking.{OnlyLooks, EntryFault, GivesEntry}
-use Rattle.fts_keep.proofs.Tying.{list_told}
 
--- what is told of a list as before, and is the same where it is told, is seen the same
-list_still : {A : Type 0} (now before : Bool) (items was : List A) → now ≡ before → (before ≡ true → items ≡ was) → list_if now items ≡ list_if before was
-list_still now true items was told same = ap (λ b. list_if b items) told ∙ same refl
-list_still now false items was told same = ap (λ b. list_if b items) told
-
--- the same of an option
+-- what is told of an option as before, and is the same where it is told, is seen the same
 option_still : {A : Type 0} (now before : Bool) (item was : Option A) → now ≡ before → (before ≡ true → item ≡ was) → option_if now item ≡ option_if before was
 option_still now true item was told same = ap (λ b. option_if b item) told ∙ same refl
 option_still now false item was told same = ap (λ b. option_if b item) told
@@ -37,34 +32,26 @@ pub bytes_within : (sizes : List ℕ) (n size used : ℕ) → slice_get sizes n 
 bytes_within sizes n size used is fills = omega (arith, size_within sizes n size is, fills)
 
 module _ {D : Type 0} (state : D → DiskState) (faults : D → ℕ) (lawful : (disk : D) → IsTold (state disk) → IsLawful (state disk)) (desk : DeskData)
-    (old new : JournalData D) (told : (state new.disk).told ≡ (state old.disk).told)
+    (list : List Entry) (old new : JournalData D) (told : (state new.disk).told ≡ (state old.disk).told)
     (kept : (new.count ≡ old.count) × (new.used ≡ old.used) × (new.in_doubt ≡ old.in_doubt))
     (keeps : IsTold (state old.disk) → Keeps (state old.disk) (state new.disk) old.bodies new.bodies)
     (doubt : IsTold (state old.disk) → new.doubt ≡ old.doubt) where
-  -- the same entries are seen
-  same_entries : (keep_of state desk new).entries ≡ (keep_of state desk old).entries
-  same_entries = list_still (state new.disk).told (state old.disk).told (entries_in new.bodies) (entries_in old.bodies) told (λ is. ap entries_in (keeps is).same)
-
-  -- and the same doubt
-  same_doubt : (keep_of state desk new).doubt ≡ (keep_of state desk old).doubt
+  -- the same doubt is seen
+  same_doubt : (keep_of state desk new list).doubt ≡ (keep_of state desk old list).doubt
   same_doubt = option_still (state new.disk).told (state old.disk).told (option_and_then read_of new.doubt) (option_and_then read_of old.doubt) told
       (λ is. ap (λ found. option_and_then read_of found) (doubt is))
 
   -- the list is held still
-  held_still : IsFold state (keep_of state desk old) → IsFold state (keep_of state desk new)
+  held_still : IsFold state (keep_of state desk old list) → IsFold state (keep_of state desk new list)
   held_still fold = record {
     low = subst (λ n. 8 + 6 * desk.commands ≤ n) (sym kept.1) fold.low;
     high = subst (λ n. n < JOURNAL_END) (sym kept.1) fold.high;
-    some = (fold.some.0, record { folded = fold.some.1.folded; legal = fold.some.1.legal; counted = fold.some.1.counted });
-    filled = (
-      fold.filled.0,
-      record {
-        list = record { folded = fold.filled.1.list.folded; legal = fold.filled.1.list.legal; counted = fold.filled.1.list.counted };
-        proper = fold.filled.1.proper;
-        fills = kept.1 ∙ fold.filled.1.fills;
-      },
-    );
-    holds = λ now. let was = sym told ∙ now in let held = fold.holds was in rw (same_entries, same_doubt) (record {
+    filled = record {
+      list = record { folded = fold.filled.list.folded; legal = fold.filled.list.legal; counted = fold.filled.list.counted };
+      proper = fold.filled.proper;
+      fills = kept.1 ∙ fold.filled.fills;
+    };
+    holds = λ now. let was = sym told ∙ now in let held = fold.holds was in rw (same_doubt) (record {
       folded = held.folded;
       legal = held.legal;
       proper = held.proper;
@@ -77,22 +64,21 @@ module _ {D : Type 0} (state : D → DiskState) (faults : D → ℕ) (lawful : (
   }
 
   -- the keep is one still
-  pub kept_still : IsKept state desk old → IsKept state desk new
+  pub kept_still : IsKept state desk old list → IsKept state desk new list
   kept_still is = record {
     settings = is.settings;
     tied = record {
       fold = held_still is.tied.fold;
       counted = is.tied.counted ∙ sym kept.0;
-      bodies = λ now. let same = (keeps (sym told ∙ now)).same in
-          same ∙ is.tied.bodies (sym told ∙ now) ∙ ap (λ bodies. bodies_of (entries_in bodies)) (sym same);
+      bodies = λ now. (keeps (sym told ∙ now)).same ∙ is.tied.bodies (sym told ∙ now);
       doubt = λ now. rw (doubt (sym told ∙ now)) (is.tied.doubt (sym told ∙ now));
     };
   }
 
   -- it was only looked at
-  only_looks : faults old.disk ≤ faults new.disk → OnlyLooks state faults (keep_of state desk old) (keep_of state desk new)
+  only_looks : faults old.disk ≤ faults new.disk → OnlyLooks state faults (keep_of state desk old list) (keep_of state desk new list)
   only_looks counts = record {
-    entries = same_entries;
+    entries = refl;
     doubt = same_doubt;
     tables = refl;
     commands = refl;
@@ -110,13 +96,12 @@ module _ {D : Type 0} (state : D → DiskState) (faults : D → ℕ) (lawful : (
   cause_of fault rose (inr none) = subst (λ f. EntryFault (faults old.disk) (faults new.disk) (fault_of f)) (sym none) tt
 
   -- the entry was given
-  pub given : (n : ℕ) (bytes : List ℕ) → IsKept state desk old → faults old.disk ≤ faults new.disk
+  pub given : (n : ℕ) (bytes : List ℕ) → IsKept state desk old list → faults old.disk ≤ faults new.disk
       → (IsTold (state old.disk) → slice_get old.bodies n ≡ Some bytes) → slice_get old.sizes n ≡ Some (length bytes) → old.used ≡ filled_by old.sizes
-      → GivesEntry state faults (keep_of state desk old) (keep_of state desk new) n bytes (Ok tt)
+      → GivesEntry state faults (keep_of state desk old list) (keep_of state desk new list) n bytes (Ok tt)
   given n bytes is counts read long fills = record {
     looks = only_looks counts;
-    given = λ was. ap (λ bodies. slice_get bodies n) (ap bodies_of (list_told (state old.disk).told (entries_in old.bodies) was) ∙ sym (is.tied.bodies was))
-        ∙ read was;
+    given = λ was. ap (λ bodies. slice_get bodies n) (sym (is.tied.bodies was)) ∙ read was;
     within = bytes_within old.sizes n (length bytes) old.used long fills;
     cause = tt;
   }
@@ -124,7 +109,7 @@ module _ {D : Type 0} (state : D → DiskState) (faults : D → ℕ) (lawful : (
   -- it wasn't
   pub not_given : (n : ℕ) (bytes : List ℕ) (fault : JournalFault) → faults old.disk ≤ faults new.disk
       → (fault ≡ JournalDiskFailed → Rose (faults old.disk) (faults new.disk)) → (fault ≡ JournalDiskFailed) ⊎ (fault ≡ JournalMemory)
-      → GivesEntry state faults (keep_of state desk old) (keep_of state desk new) n bytes (Err (fault_of fault))
+      → GivesEntry state faults (keep_of state desk old list) (keep_of state desk new list) n bytes (Err (fault_of fault))
   not_given n bytes fault counts rose others = record {
     looks = only_looks counts;
     given = λ was. tt;

@@ -17,7 +17,7 @@ use Rattle.fts_disk.specs.Disk.{DiskState, IsTold, IsLawful, LeavesOnly}
 use Rattle.fts_journal.specs.Format.{Stands, front}
 use Rattle.fts_journal.specs.Journal.{JournalData, IsMaking, IsImageOf as IsJournalImage}
 use Rattle.fts_keep.specs.Keeps.{KeepData, IsFilledBy, IsImageSince, StandsFor, bodies_of, with_doubt}
-use Rattle.fts_keep.specs.Views.{keep_of, entries_in, IsTied}
+use Rattle.fts_keep.specs.Views.{keep_of, IsTied}
 use Rattle.fts_keep.specs.Damage.{IsDamaged, IsWhole, DamageIsOne, fault_in}
 use Rattle.fts_keep.specs.Applied.{Applied, AppliesSafely, IsImageDuring, fits}
 use Rattle.fts_keep.specs.Folding.{Folds, LeavesJournal, FoldFault}
@@ -27,7 +27,7 @@ use Rattle.fts_keep.specs.declared.fault.KeepFault.{KeepFault}
 use Rattle.fts_keep.specs.declared.fault.KeepFault.TheVariants.{Rule, DiskFailed, JournalFull, Damaged, Memory}
 use Rattle.fts_keep.proofs.Moments.{joined, weakened, behind_still, still_still, quiet_still, rose_later}
 use Rattle.fts_keep.proofs.Lists.{none_more, legal_more, accepted_tables, filled_by_more}
-use Rattle.fts_keep.proofs.Tying.{IsHeld, list_untold, seen_entries, seen_doubt, tie}
+use Rattle.fts_keep.proofs.Tying.{IsHeld, seen_doubt, tie}
 use Rattle.fts_keep.proofs.Ending.{limit_more}
 use Rattle.fts_keep.proofs.Exits.{fits_by}
 
@@ -187,9 +187,9 @@ module _ {D : Type 0} (state : D → DiskState) (faults : D → ℕ) (reads : (e
         why (JournalFull used) cause = absurd cause
         why (Rule refusal) cause = absurd cause
 
-    module _ (desk : DeskData) (folds : Folds state journal desk.tables desk.commands) where
+    module _ (desk : DeskData) (list : List Entry) (folds : Folds state journal desk.tables list desk.commands) where
       -- the list that was opened is held
-      opened_held : IsTold (state disk) → IsHeld desk folded folds.entries None
+      opened_held : IsTold (state disk) → IsHeld desk folded list None
       opened_held told =
           let there = told_journal told in
           record {
@@ -204,9 +204,9 @@ module _ {D : Type 0} (state : D → DiskState) (faults : D → ℕ) (reads : (e
           }
 
       -- it is what the disk stood for
-      opened_list : IsTold (state disk) → Opens (state disk).seen folds.entries
+      opened_list : IsTold (state disk) → Opens (state disk).seen list
       opened_list told = ⊎_elim
-          (λ none. inl (none.0, no_entries folds.entries (sym none.1 ∙ folds.spells (told_journal told))))
+          (λ none. inl (none.0, no_entries list (sym none.1 ∙ folds.spells (told_journal told))))
           (λ some. inr (record {
             stands = subst (Stands (state disk).seen) (folds.spells (told_journal told))
                 some.1;
@@ -216,11 +216,11 @@ module _ {D : Type 0} (state : D → DiskState) (faults : D → ℕ) (reads : (e
           (opens.own told).list
 
       -- each image of the journal that was opened stands for it
-      opened_sound : IsTold (state disk) → (content : List ℕ) → (state journal.disk).may_leave content → StandsFor content folds.entries
+      opened_sound : IsTold (state disk) → (content : List ℕ) → (state journal.disk).may_leave content → StandsFor content list
       opened_sound told content left = subst (Stands content) (folds.spells (told_journal told)) ((opens.own told).sound content left)
 
       -- the journal as it was opened
-      opened_first : IsTold (state disk) → IsOpened state faults disk journal.disk folds.entries
+      opened_first : IsTold (state disk) → IsOpened state faults disk journal.disk list
       opened_first told = record {
         list = opened_list told;
         stands = opened_sound told (state journal.disk).seen (lawful journal.disk (told_journal told)).image;
@@ -231,7 +231,7 @@ module _ {D : Type 0} (state : D → DiskState) (faults : D → ℕ) (reads : (e
       }
 
       -- and fills what is used
-      opened_filled : IsFilledBy (keep_of state desk folded) folds.entries
+      opened_filled : IsFilledBy (keep_of state desk folded list) list
       opened_filled = record {
         list = record { folded = folds.folded; legal = folds.legal; counted = folds.counted };
         proper = folds.proper;
@@ -239,81 +239,74 @@ module _ {D : Type 0} (state : D → DiskState) (faults : D → ℕ) (reads : (e
       }
 
       -- the desk is tied to it
-      pub folded_tied : IsTied state desk folded
-      folded_tied = tie state reads desk folded (omega (arith, folds.low, folds.all, leaves.used)) (omega (arith, folds.high, leaves.used))
-          (folds.all ∙ sym leaves.count) (folds.entries, opened_filled)
-          (λ there. record { entries = folds.entries; doubt = None; held = opened_held (sym opens.told ∙ sym leaves.told ∙ there) })
+      pub folded_tied : IsTied state desk folded list
+      folded_tied = tie state reads desk folded list (omega (arith, folds.low, folds.all, leaves.used)) (omega (arith, folds.high, leaves.used))
+          (folds.all ∙ sym leaves.count) opened_filled
+          (λ there. record { doubt = None; held = opened_held (sym opens.told ∙ sym leaves.told ∙ there) })
           (λ there content left. let told = sym opens.told ∙ sym leaves.told ∙ there in
           subst (λ d. IsJournalImage folded.bodies d content) (sym (leaves.doubt (told_journal told) ∙ opens.no_doubt told))
           (subst (Stands content) (sym (leaves.bodies (told_journal told)))
           ((opens.own told).sound content ((leaves.still (told_journal told)).images content left))))
 
-      module _ (next : DeskData) (last : JournalData D) (safe : AppliesSafely state (keep_of state desk folded) (keep_of state next last) restart)
-          (counts : faults folded.disk ≤ faults last.disk) where
-        -- the list before the Restart, and no doubt
-        before_entries : IsTold (state disk) → (keep_of state desk folded).entries ≡ folds.entries
-        before_entries told = seen_entries state reads desk folded folds.entries None (opened_held told) (leaves.told ∙ told_journal told)
-
-        before_doubt : IsTold (state disk) → (keep_of state desk folded).doubt ≡ None
-        before_doubt told = seen_doubt state reads desk folded folds.entries None (opened_held told) (leaves.told ∙ told_journal told)
+      module _ (next : DeskData) (last : JournalData D) (longer : List Entry)
+          (safe : AppliesSafely state (keep_of state desk folded list) (keep_of state next last longer) restart) (counts : faults folded.disk ≤ faults last.disk) where
+        -- before the Restart there is no doubt
+        before_doubt : IsTold (state disk) → (keep_of state desk folded list).doubt ≡ None
+        before_doubt told = seen_doubt state reads desk folded list None (opened_held told) (leaves.told ∙ told_journal told)
 
         -- a Restart is never refused, so with it the list is legal
-        with_restart : IsLegal (restarted folds.entries now settings)
-        with_restart = legal_more _ folds.entries restart folds.legal tt
+        with_restart : IsLegal (restarted list now settings)
+        with_restart = legal_more _ list restart folds.legal tt
 
         -- an image of the acceptance is one since the opening
-        during_since : (told : IsTold (state disk)) (final : List Entry) → final ≡ restarted folds.entries now settings → (content : List ℕ)
-            → IsImageDuring (keep_of state desk folded) restart content
-            → IsImageSince folds.entries final content
-        during_since told final is content (inl (inl stands)) = image_before folds.entries final restart content is folds.legal
-            (subst (StandsFor content) (before_entries told) stands)
-        during_since told final is content (inl (inr stands)) = image_before folds.entries final restart content is folds.legal
-            (subst (λ l. StandsFor content (with_doubt l None)) (before_entries told)
-            (subst (λ d. StandsFor content (with_doubt (keep_of state desk folded).entries d)) (before_doubt told) stands))
-        during_since told final is content (inr with_it) = image_with folds.entries final restart content is with_restart
-            (subst (λ l. StandsFor content (l ++ restart ∷ [])) (before_entries told) with_it.1)
+        during_since : (told : IsTold (state disk)) (final : List Entry) → final ≡ restarted list now settings → (content : List ℕ)
+            → IsImageDuring (keep_of state desk folded list) restart content
+            → IsImageSince list final content
+        during_since told final is content (inl (inl stands)) = image_before list final restart content is folds.legal stands
+        during_since told final is content (inl (inr stands)) = image_before list final restart content is folds.legal
+            (subst (λ d. StandsFor content (with_doubt list d)) (before_doubt told) stands)
+        during_since told final is content (inr with_it) = image_with list final restart content is with_restart with_it.1
 
         -- since the opening each image is one of the list
-        since_opening : (told : IsTold (state disk)) (final : List Entry) → final ≡ restarted folds.entries now settings
-            → LeavesOnly (state journal.disk) (state last.disk) (IsImageSince folds.entries final)
-        since_opening told final is = joined (state journal.disk) (state folded.disk) (state last.disk) (IsImageSince folds.entries final)
-            (weakened (state journal.disk) (state folded.disk) (state journal.disk).may_leave (IsImageSince folds.entries final)
+        since_opening : (told : IsTold (state disk)) (final : List Entry) → final ≡ restarted list now settings
+            → LeavesOnly (state journal.disk) (state last.disk) (IsImageSince list final)
+        since_opening told final is = joined (state journal.disk) (state folded.disk) (state last.disk) (IsImageSince list final)
+            (weakened (state journal.disk) (state folded.disk) (state journal.disk).may_leave (IsImageSince list final)
             (leaves.still (told_journal told)).moments
-            (λ content there. image_before folds.entries final restart content is folds.legal (opened_sound told content there)))
-            (weakened (state folded.disk) (state last.disk) (IsImageDuring (keep_of state desk folded) restart) (IsImageSince folds.entries final)
+            (λ content there. image_before list final restart content is folds.legal (opened_sound told content there)))
+            (weakened (state folded.disk) (state last.disk) (IsImageDuring (keep_of state desk folded list) restart) (IsImageSince list final)
             (safe (leaves.told ∙ told_journal told)) (during_since told final is))
 
         -- the Restart was accepted
-        pub started : (answer : Answer) → Applied state faults (keep_of state desk folded) (keep_of state next last) restart (Ok answer)
-            → IsProper restart → IsTied state next last
-            → Started state faults disk settings now (Ok (keep_of state next last))
+        pub started : (answer : Answer) → Applied state faults (keep_of state desk folded list) (keep_of state next last longer) restart (Ok answer)
+            → IsProper restart → IsTied state next last longer
+            → Started state faults disk settings now (Ok (keep_of state next last longer))
         started answer accepts proper tied = (
-          folds.entries,
+          list,
           record {
             legal = folds.legal;
-            folded = accepted_tables folds.entries restart desk.tables next.tables folded.used answer folds.folded accepts.done;
+            folded = accepted_tables list restart desk.tables next.tables folded.used answer folds.folded accepts.done;
             counted = omega (arith, accepts.commands, folds.counted);
             before = folded.used;
             least = omega (arith, folds.low, folds.all, folds.counted, leaves.used);
             fills = leaves.used ∙ folds.fills;
             room = has_room;
             filled = accepts.used;
-            over = filled_by_more state (keep_of state desk folded) (keep_of state next last) folds.entries restart answer opened_filled proper accepts;
-            limit = λ kept. limit_more folds.entries restart kept (ap (λ n. fits n restart) (sym (leaves.used ∙ folds.fills)) ∙ has_room);
+            over = filled_by_more state (keep_of state desk folded list) (keep_of state next last longer) list restart answer opened_filled proper accepts;
+            limit = λ kept. limit_more list restart kept (ap (λ n. fits n restart) (sym (leaves.used ∙ folds.fills)) ∙ has_room);
             sure = accepts.no_doubt;
             told = accepts.told ∙ leaves.told ∙ opens.told;
             counts = omega (arith, opens.counts, leaves.counts, counts);
-            unlisted = λ untold. list_untold (state last.disk).told (entries_in last.bodies) (accepts.told ∙ leaves.told ∙ opens.told ∙ untold);
+            listed = accepts.listed;
             own = λ told.
                 let there = leaves.told ∙ told_journal told in
-                let listed = (accepts.listed there).0 ∙ ap (λ l. l ++ restart ∷ []) (before_entries told) in
                 record {
                   opened = journal.disk;
                   opens = opened_first told;
-                  listed = listed;
-                  no_doubt = (accepts.listed there).1;
+                  listed = accepts.listed;
+                  no_doubt = accepts.cleared there;
                   holds = tied.fold.holds (accepts.told ∙ there);
-                  images = since_opening told (keep_of state next last).entries listed;
+                  images = since_opening told longer accepts.listed;
                   counts = omega (arith, leaves.counts, counts);
                 };
           },
@@ -323,42 +316,42 @@ module _ {D : Type 0} (state : D → DiskState) (faults : D → ℕ) (reads : (e
             has_room = fits_by folded.used restart (step desk.tables restart.command) (subst (λ came. IsOk came) (sym accepts.done) refl)
 
         -- it wasn't
-        pub unstarted : (fault : KeepFault) → Applied state faults (keep_of state desk folded) (keep_of state next last) restart (Err fault)
+        pub unstarted : (fault : KeepFault) → Applied state faults (keep_of state desk folded list) (keep_of state next last longer) restart (Err fault)
             → Started state faults disk settings now (Err (fault, last.disk))
         unstarted fault applied = (
           why fault applied,
           record {
-            told = told_still state faults (keep_of state desk folded) (keep_of state next last) restart fault applied ∙ leaves.told ∙ opens.told;
+            told = told_still state faults (keep_of state desk folded list) (keep_of state next last longer) restart fault applied ∙ leaves.told ∙ opens.told;
             counts = omega (arith, opens.counts, leaves.counts, counts);
             images = λ told opening sound.
-                let same : folds.entries ≡ opening = ⊎_elim
+                let same : list ≡ opening = ⊎_elim
                 (λ none. absurd (whole_some (state disk).seen opening sound none.0))
-                (λ own. (once (state disk).seen).list folds.entries opening own sound)
+                (λ own. (once (state disk).seen).list list opening own sound)
                 (opened_list told) in
                 subst (λ l. LeavesOnly (state disk) (state last.disk)
                 (λ content. (state disk).may_leave content ⊎ IsImageSince l (restarted l now settings) content)) same
-                (behind_still (state disk) (state journal.disk) (state last.disk) (IsImageSince folds.entries (restarted folds.entries now settings))
+                (behind_still (state disk) (state journal.disk) (state last.disk) (IsImageSince list (restarted list now settings))
                 (quiet_still (state disk) (state journal.disk) ((opens.own told).quiet (whole_some (state disk).seen opening sound)))
-                (since_opening told (restarted folds.entries now settings) refl));
+                (since_opening told (restarted list now settings) refl));
             made = λ told empty.
-                let same : folds.entries ≡ [] = ⊎_elim (λ none. none.1) (λ own. absurd (whole_some (state disk).seen folds.entries own empty))
+                let same : list ≡ [] = ⊎_elim (λ none. none.1) (λ own. absurd (whole_some (state disk).seen list own empty))
                 (opened_list told) in
                 joined (state disk) (state journal.disk) (state last.disk)
                 (λ content. IsMaking (state disk) content ⊎ IsImageSince [] (restarted [] now settings) content)
                 (weakened (state disk) (state journal.disk) (IsMaking (state disk)) _ (made told empty) (λ content there. inl there))
-                (weakened (state journal.disk) (state last.disk) (IsImageSince folds.entries (restarted folds.entries now settings)) _
-                (since_opening told (restarted folds.entries now settings) refl)
+                (weakened (state journal.disk) (state last.disk) (IsImageSince list (restarted list now settings)) _
+                (since_opening told (restarted list now settings) refl)
                 (λ content there. inr (subst (λ l. IsImageSince l (restarted l now settings) content) same there)));
             doubt_cause = λ told some. ⊎_elim (λ rose. inl (since_disk rose))
                 (λ same. inr (subst (λ d. IsStill (state disk) (state d)) same (looked_still told some)))
-                (untouched_disk state faults (keep_of state desk folded) (keep_of state next last) restart (leaves.in_doubt ∙ opens.sure) fault applied);
+                (untouched_disk state faults (keep_of state desk folded list) (keep_of state next last longer) restart (leaves.in_doubt ∙ opens.sure) fault applied);
             made_cause = λ told empty. ⊎_elim (λ rose. inl (since_disk rose))
                 (λ same. inr (subst (λ d. LeavesOnly (state disk) (state d) (λ content. IsMaking (state disk) content ⊎ StandsFor content []))
                 same (made_still told empty)))
-                (untouched_disk state faults (keep_of state desk folded) (keep_of state next last) restart (leaves.in_doubt ∙ opens.sure) fault applied);
+                (untouched_disk state faults (keep_of state desk folded list) (keep_of state next last longer) restart (leaves.in_doubt ∙ opens.sure) fault applied);
             quiet = λ told offset some damaged. absurd (⊎_elim
                 (λ none. some none.0)
-                (λ own. (once (state disk).seen).apart offset folds.entries damaged own)
+                (λ own. (once (state disk).seen).apart offset list damaged own)
                 (opened_list told));
           },
         )
@@ -366,11 +359,11 @@ module _ {D : Type 0} (state : D → DiskState) (faults : D → ℕ) (reads : (e
             since_disk : Rose (faults folded.disk) (faults last.disk) → Rose (faults disk) (faults last.disk)
             since_disk rose = rose_later (faults disk) (faults folded.disk) (faults last.disk) (omega (arith, opens.counts, leaves.counts)) rose
 
-            why : (f : KeepFault) → Applied state faults (keep_of state desk folded) (keep_of state next last) restart (Err f)
+            why : (f : KeepFault) → Applied state faults (keep_of state desk folded list) (keep_of state next last longer) restart (Err f)
                 → StartFault state faults disk last.disk settings now f
             why (Damaged offset) a = absurd a
             why DiskFailed a = since_disk a.rose
             why Memory a = tt
             why (JournalFull used) a = let l = full_by (fits folded.used restart) _ folded.used used a.0 in
-                (ap (λ n. fits n restart) l.0 ∙ l.1, λ told. (folds.entries, (opened_list told, l.0 ∙ (opened_held told).fills)))
+                (ap (λ n. fits n restart) l.0 ∙ l.1, λ told. (list, (opened_list told, l.0 ∙ (opened_held told).fills)))
             why (Rule refusal) a = ruled_by (fits folded.used restart) _ folded.used refusal a.0

@@ -58,7 +58,8 @@ pub record Accepts {D : Type 0} (state : D → DiskState) (old new : KeepData D)
   pub used : new.used ≡ old.used + 5 + length (spelled entry)
   pub no_doubt : new.in_doubt ≡ false
   pub told : (state new.disk).told ≡ (state old.disk).told
-  pub listed : IsTold (state old.disk) → (new.entries ≡ old.entries ++ entry ∷ []) × (new.doubt ≡ None)
+  pub listed : new.entries ≡ old.entries ++ entry ∷ []
+  pub cleared : IsTold (state old.disk) → new.doubt ≡ None
 
 -- a call of the disk failed: the command would have been accepted, and the doubt is the old one, or none, or this entry
 pub record FailsByDisk {D : Type 0} (state : D → DiskState) (faults : D → ℕ) (old new : KeepData D) (entry : Entry) : Type 0 where

@@ -1,5 +1,5 @@
 -- What folding the bodies of a journal comes to, one body after the other: the list so far, or the first fault.
-use Rattle.std.specs.Prelude.{◌≡◌, ℕ, ◌+◌, ◌*◌, ◌≤◌, ◌<◌, Option, Some, List, length, take, drop, Result, Ok, Err, All}
+use Rattle.std.specs.Prelude.{◌≡◌, ℕ, ◌+◌, ◌*◌, ◌≤◌, ◌<◌, Option, Some, List, [], ◌∷◌, ◌++◌, length, take, drop, Result, Ok, Err, All}
 use Rattle.fts_tables.specs.Counts.{Rose}
 use Rattle.fts_tables.specs.Tables.{Tables}
 use Rattle.fts_tables.specs.Step.{step}
@@ -18,9 +18,10 @@ use Rattle.fts_keep.specs.Started.{IsStill}
 use Rattle.fts_keep.specs.declared.fault.KeepFault.{KeepFault}
 use Rattle.fts_keep.specs.declared.fault.KeepFault.TheVariants.{Rule, DiskFailed, JournalFull, Damaged, Memory}
 
--- a body is the spelling of an entry, and this entry leads from the tables before to those after
-pub record TakesEntry (before : Tables) (body : List ℕ) (after : Tables) : Type 0 where
+-- a body is the spelling of an entry, which leads from the tables before to those after, and stands behind the list
+pub record TakesEntry (before : Tables) (list : List Entry) (body : List ℕ) (after : Tables) (longer : List Entry) : Type 0 where
   pub entry : Entry
+  pub listed : longer ≡ list ++ entry ∷ []
   pub answer : Answer
   pub spells : body ≡ spelled entry
   pub proper : IsProper entry
@@ -28,13 +29,13 @@ pub record TakesEntry (before : Tables) (body : List ℕ) (after : Tables) : Typ
   pub stepped : step before entry.command ≡ Ok (after, answer)
 
 -- what comes of a body behind the gate at this offset: its entry, or the fault that it is whatever follows
-abbrev pub Takes : Tables → ℕ → List ℕ → Tables → Result (Unit {0}) KeepFault → Type 0
-Takes before gate body after (Ok done) = TakesEntry before body after
-Takes before gate body after (Err (Damaged offset)) = (later : Tables → Option ℕ) → fault_at before gate (entry_in body) later ≡ Some offset
-Takes before gate body after (Err Memory) = Unit {0}
-Takes before gate body after (Err DiskFailed) = ⊥
-Takes before gate body after (Err (JournalFull used)) = ⊥
-Takes before gate body after (Err (Rule refusal)) = ⊥
+abbrev pub Takes : Tables → List Entry → ℕ → List ℕ → Tables → List Entry → Result (Unit {0}) KeepFault → Type 0
+Takes before list gate body after longer (Ok done) = TakesEntry before list body after longer
+Takes before list gate body after longer (Err (Damaged offset)) = (later : Tables → Option ℕ) → fault_at before gate (entry_in body) later ≡ Some offset
+Takes before list gate body after longer (Err Memory) = Unit {0}
+Takes before list gate body after longer (Err DiskFailed) = ⊥
+Takes before list gate body after longer (Err (JournalFull used)) = ⊥
+Takes before list gate body after longer (Err (Rule refusal)) = ⊥
 
 -- a reading of bodies leaves the journal as it was
 pub record LeavesJournal {D : Type 0} (state : D → DiskState) (faults : D → ℕ) (old new : JournalData D) : Type 0 where
@@ -48,10 +49,9 @@ pub record LeavesJournal {D : Type 0} (state : D → DiskState) (faults : D → 
   pub doubt : IsTold (state old.disk) → new.doubt ≡ old.doubt
   pub still : IsTold (state old.disk) → IsStill (state old.disk) (state new.disk)
 
--- So many bodies were folded: the tables are those of a legal list, and the next gate stands behind it and behind these bodies. Where the disk
+-- So many bodies were folded: the tables are those of this list, which is legal, and the next gate stands behind it and behind these bodies. Where the disk
 -- tells its contents its bodies begin with the spellings of this list, and the first fault is one of the bodies that follow.
-pub record HasFolded {D : Type 0} (state : D → DiskState) (journal : JournalData D) (tables : Tables) (gate n : ℕ) : Type 0 where
-  pub entries : List Entry
+pub record HasFolded {D : Type 0} (state : D → DiskState) (journal : JournalData D) (tables : Tables) (entries : List Entry) (gate n : ℕ) : Type 0 where
   pub folded : tables ≡ tables_of entries
   pub legal : IsLegal entries
   pub counted : n ≡ length entries
@@ -61,9 +61,8 @@ pub record HasFolded {D : Type 0} (state : D → DiskState) (journal : JournalDa
   pub spells : IsTold (state journal.disk) → take n journal.bodies ≡ bodies_of entries
   pub behind : IsTold (state journal.disk) → fault_in journal.bodies ≡ fault_from tables gate (drop n journal.bodies)
 
--- all bodies were folded, of a journal whose bytes are in their bounds
-pub record Folds {D : Type 0} (state : D → DiskState) (journal : JournalData D) (tables : Tables) (commands : ℕ) : Type 0 where
-  pub entries : List Entry
+-- all bodies were folded to this list, of a journal whose bytes are in their bounds
+pub record Folds {D : Type 0} (state : D → DiskState) (journal : JournalData D) (tables : Tables) (entries : List Entry) (commands : ℕ) : Type 0 where
   pub folded : tables ≡ tables_of entries
   pub legal : IsLegal entries
   pub counted : commands ≡ length entries

@@ -55,8 +55,8 @@ pub record Starts {D : Type 0} (state : D → DiskState) (faults : D → ℕ) (d
   pub images : LeavesOnly (state opened) (state keep.disk) (IsImageSince opening keep.entries)
   pub counts : faults opened ≤ faults keep.disk
 
--- A keep was started. Over every disk there is a list of proper entries that is legal and, with the Restart behind it, makes its tables; and as
--- many bytes were used before that Restart as the list fills. Over a disk that tells its contents the list is its own.
+-- A keep was started. Over every disk there is a list of proper entries that is legal and, with the Restart behind it, is the keep's and makes its
+-- tables; and as many bytes were used before that Restart as the list fills. Over a disk that tells its contents the list is the disk's own.
 pub record StartsOver {D : Type 0} (state : D → DiskState) (faults : D → ℕ) (disk : D) (settings : SettingsData) (now : ℕ) (keep : KeepData D)
     (opening : List Entry) : Type 0 where
   pub legal : IsLegal opening
@@ -73,7 +73,7 @@ pub record StartsOver {D : Type 0} (state : D → DiskState) (faults : D → ℕ
   pub sure : keep.in_doubt ≡ false
   pub told : (state keep.disk).told ≡ (state disk).told
   pub counts : faults disk ≤ faults keep.disk
-  pub unlisted : (state disk).told ≡ false → keep.entries ≡ []
+  pub listed : keep.entries ≡ restarted opening now settings
   pub own : IsTold (state disk) → Starts state faults disk settings now keep opening
 
 -- a keep wasn't started: the disk stands for what it stood for, with the Restart in doubt at most

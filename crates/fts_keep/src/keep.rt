@@ -1,5 +1,6 @@
 //! The keep: a list of entries on a disk, and the desk that the list makes.
-//! Keeps: the tables are the fold of the list, and every image of a told disk stands for the list, or for it with the entry in doubt (`IsKept`).
+//! Keeps: the tables are the fold of the list over every disk, and every image of a told disk stands for the list, or for it with the entry in doubt
+//! (`IsKept`).
 //! Order: a start opens the journal, folds its entries and has a Restart accepted; each command after it is checked, journaled and then done.
 //! It knows neither.
 ghost use Rattle.std.specs.Prelude.{◌≡◌, IsSome, IfOk, IfErr, IsTrue, Ok, Err, true, List};
@@ -15,6 +16,7 @@ use crate::KeepFault;
 use crate::accepting::accept;
 use crate::folding::fold;
 use crate::laws::{damage_is_one, the_end_strands_nobody};
+use crate::list::EntryList;
 use crate::opening::open;
 use fts_desk::Desk;
 use fts_disk::Disk;
@@ -25,11 +27,13 @@ use std::alloc::Global;
 use std::marker::Model;
 
 /// A list of entries on a disk, and the desk that it makes. Contracts see the list, the entry in doubt or none, the tables, the number of bytes
-/// used, and the disk; over a disk that doesn't tell its contents they see the list empty, and the rest all the same.
+/// used, and the disk. The list takes no memory: it is what was folded at the start and accepted since, over every disk; over one that tells its
+/// contents it is also what the disk's bytes stand for.
 pub struct Keep<D: Disk> {
     alloc: Global,
     desk: Desk,
     journal: Journal<D>,
+    list: EntryList,
 }
 
 impl<D: Disk + Drop> Drop for Keep<D> {
@@ -38,6 +42,7 @@ impl<D: Disk + Drop> Drop for Keep<D> {
             alloc: _,
             desk: _,
             journal: _,
+            list: _,
         } = self;
     }
 }
@@ -48,15 +53,15 @@ impl<D: Disk> Model for Keep<D> {
 
     ghost Value = { KeepData D };
 
-    ghost view = { λ k. keep_of D.state k.desk k.journal };
+    ghost view = { λ k. keep_of D.state k.desk k.journal k.list.entries };
 
-    ghost invariant = { λ k. IsKept D.state k.desk k.journal };
+    ghost invariant = { λ k. IsKept D.state k.desk k.journal k.list.entries };
 }
 
 impl<D: Disk> Keep<D> {
-    ghost use Rattle.std.specs.Prelude.{◌≡◌, ◌≢◌, ◌<◌, [], IsSome, IfOk, IfErr, IsTrue, Ok, Err};
+    ghost use Rattle.std.specs.Prelude.{◌≡◌, ◌<◌, IsSome, IfOk, IfErr, IsTrue, Ok, Err};
     ghost use Rattle.fts_disk.specs.Disk.{IsTold};
-    ghost use Rattle.fts_keep.specs.Keeps.{with_doubt, IsOver, IsKeep, Grows, DoubtHasCause, KeepsImagesSinceAny};
+    ghost use Rattle.fts_keep.specs.Keeps.{with_doubt, IsFilledBy, IsKeep, Grows, DoubtHasCause, KeepsImagesSinceAny};
 
     /// Makes a journal on an empty disk, or folds the one that is there, and then has a Restart of writer 0 accepted.
     /// `now` is in seconds since 1970. Gives the disk back where it isn't started; `Rule` never comes.
@@ -75,19 +80,20 @@ impl<D: Disk> Keep<D> {
             Ok(journal) => journal,
             Err(stopped) => return Err(stopped),
         };
-        let mut desk = match fold(alloc, &mut journal) {
-            Ok(desk) => desk,
+        let (mut desk, mut list) = match fold(alloc, &mut journal) {
+            Ok(made) => made,
             Err(fault) => return Err((fault, journal.close())),
         };
         let restart = Entry {
             writer: 0,
             command: Command::Restart { now, settings },
         };
-        match accept(alloc, &mut desk, &mut journal, &restart) {
+        match accept(alloc, &mut desk, &mut journal, &mut list, &restart) {
             Ok(_) => Ok(Keep {
                 alloc,
                 desk,
                 journal,
+                list,
             }),
             Err(fault) => Err((fault, journal.close())),
         }
@@ -108,15 +114,23 @@ impl<D: Disk> Keep<D> {
         // Since any opening of the list each image is a beginning of it, with one entry more at most.
         ensures images { KeepsImagesSinceAny D.state self.old self.new }
         // The journal's end strands nobody: behind a list that leaves room, what settles something isn't refused for want of it. The list is the
-        // keep's own, or any that the keep may be of; its own, with the entry in doubt, keeps the first limit from call to call.
-        ensures room { (entries : List Entry) → IsOver D.state self.old entries → LeavesRoom entries → settles command ≡ true → IsNotFull result }
-        ensures limit { IsTold (D.state self.old.disk) → KeepsFirstLimit (with_doubt self.old.entries self.old.doubt)
+        // keep's own, or any that its tables and bytes are of.
+        ensures room { (entries : List Entry) → IsFilledBy self.old entries → LeavesRoom entries → settles command ≡ true → IsNotFull result }
+        // Its own list keeps the first limit from call to call; where the disk tells its contents, with the entry in doubt too.
+        ensures limit { KeepsFirstLimit self.old.entries → KeepsFirstLimit self.new.entries }
+        ensures doubt_limit { IsTold (D.state self.old.disk) → KeepsFirstLimit (with_doubt self.old.entries self.old.doubt)
             → KeepsFirstLimit (with_doubt self.new.entries self.new.doubt) }
         ensures filled { StaysFilled self.old self.new (entry_by writer command) result }
     {
         the_end_strands_nobody();
         let entry = Entry { writer, command };
-        accept(self.alloc, &mut self.desk, &mut self.journal, &entry)
+        accept(
+            self.alloc,
+            &mut self.desk,
+            &mut self.journal,
+            &mut self.list,
+            &entry,
+        )
     }
 
     /// The desk that the list makes. It has settings in force.
@@ -125,8 +139,6 @@ impl<D: Disk> Keep<D> {
         ensures commands { result.now.commands ≡ self.now.commands }
         ensures settings { IsSome result.now.tables.settings }
         ensures kept { IsKeep D.state self.now }
-        // Only over a disk that tells its contents entries are seen.
-        ensures told { self.now.entries ≢ [] → IsTold (D.state self.now.disk) }
     {
         &self.desk
     }
@@ -159,6 +171,7 @@ impl<D: Disk> Keep<D> {
             alloc: _,
             desk: _,
             journal,
+            list: _,
         } = self;
         journal.close()
     }
@@ -174,7 +187,7 @@ impl<D: Disk> Keep<D> {
             Err((fault, disk)) => return Err((fault.into(), disk)),
         };
         match fold(alloc, &mut journal) {
-            Ok(desk) => Ok((desk, journal.close())),
+            Ok((desk, _)) => Ok((desk, journal.close())),
             Err(fault) => Err((fault, journal.close())),
         }
     }

@@ -11,6 +11,7 @@ mod folding;
 mod keep;
 mod laws;
 mod limits;
+mod list;
 mod opening;
 
 pub use fault::KeepFault;

@@ -16,7 +16,7 @@ use Rattle.fts_keep.specs.declared.fault.KeepFault.TheVariants.{Rule, DiskFailed
 use Rattle.fts_workers.specs.Rounds.{applied_over}
 use Rattle.fts_workers.specs.ClaimSteps.{goes_on}
 use Rattle.fts_workers.proofs.Accepted.{refused_of, step_of}
-use Rattle.fts_shop.specs.Shops.{CameTo, ClaimsIfTried, HasFault, IsToldList, IsTriedBehind, StepInTurn, TakesTurn, TriedInTurn, added_by, added_by_claim, point, step_answer, writer_of}
+use Rattle.fts_shop.specs.Shops.{CameTo, ClaimsIfTried, HasFault, IsTriedBehind, StepInTurn, TakesTurn, TriedInTurn, added_by, added_by_claim, point, step_answer, writer_of}
 use Rattle.fts_shop.specs.Looking.{NoneOf}
 use Rattle.fts_shop.specs.Looked.{items_on, none_on}
 use Rattle.fts_ledger.proofs.Turned.{Came, Stepped, Tried, legal_back}
@@ -72,26 +72,26 @@ point_is : (old new : PassView Entry) (taken : TakesTurn old new) → point take
 point_is old new taken = ap (λ list. old.opening ++ list) (items_on old.seen taken.between)
 
 -- a command that was tried in a turn
-tried_at : (old new : PassView Entry) (command : Command) (result : Result Answer KeepFault) (lanes : ℕ) → IsToldList old
+tried_at : (old new : PassView Entry) (command : Command) (result : Result Answer KeepFault) (lanes : ℕ)
     → TriedInTurn old new command result lanes → Tried old.opening old.number (items_of old.seen) (items_of new.seen) command result
-tried_at old new command result lanes told tried =
+tried_at old new command result lanes tried =
     let taken = tried.taken in
     record {
       others = items_of taken.between;
       none = none_between old new taken;
-      after_is = items_taken old new taken ∙ ap (λ list. (items_of old.seen ++ items_of taken.between) ++ list) (tried.added told);
+      after_is = items_taken old new taken ∙ ap (λ list. (items_of old.seen ++ items_of taken.between) ++ list) tried.added;
       came = subst (λ list. Came list command result) (point_is old new taken)
-          (came_of (point taken) (entry_by old.number command) (HasFault taken) result (tried.came told));
+          (came_of (point taken) (entry_by old.number command) (HasFault taken) result tried.came);
     }
 
 -- the same, by what the pass was at the beginning
 pub tried_for : (old new : PassView Entry) (opening : List Entry) (writer : ℕ) (command : Command) (result : Result Answer KeepFault) (lanes : ℕ)
-    → old.opening ≡ opening → old.number ≡ writer → opening ≢ [] → TriedInTurn old new command result lanes
+    → old.opening ≡ opening → old.number ≡ writer → TriedInTurn old new command result lanes
     → Tried opening writer (items_of old.seen) (items_of new.seen) command result
-tried_for old new opening writer command result lanes opens number told tried =
+tried_for old new opening writer command result lanes opens number tried =
     subst (λ n. Tried opening n (items_of old.seen) (items_of new.seen) command result) number
     (subst (λ o. Tried o old.number (items_of old.seen) (items_of new.seen) command result) opens
-    (tried_at old new command result lanes (λ none. told (sym opens ∙ none)) tried))
+    (tried_at old new command result lanes tried))
 
 -- an expiry that no claim follows added nothing, and came to a fault of the disk, the journal or memory
 stopped_adds : (entry : Entry) (expiry : Result Answer KeepFault) → goes_on expiry ≡ false → added_by entry expiry ≡ []
@@ -119,9 +119,9 @@ claim_came entries writer now word rose expiry (Some result) follows claims = ca
 
 -- an expiry and a claim that were tried in a turn
 stepped_at : (old new : PassView Entry) (now word : ℕ) (expiry : Result Answer KeepFault) (claim : Option (Result Answer KeepFault)) (lanes : ℕ)
-    → IsToldList old → StepInTurn old new now word expiry claim lanes
+    → StepInTurn old new now word expiry claim lanes
     → Stepped old.opening old.number (items_of old.seen) (items_of new.seen) now word expiry (step_answer expiry claim)
-stepped_at old new now word expiry claim lanes told tried =
+stepped_at old new now word expiry claim lanes tried =
     let taken = tried.taken in
     let expires = entry_by old.number (Expire now) in
     let claims = entry_by old.number (Claim now word) in
@@ -138,27 +138,27 @@ stepped_at old new now word expiry claim lanes told tried =
         none = none_between old new taken;
         after_is = refl;
         came = subst (λ list. Came list (Expire now) expiry) (point_is old new taken)
-            (came_of (point taken) expires (HasFault taken) expiry (tried.expired told));
+            (came_of (point taken) expires (HasFault taken) expiry tried.expired);
       };
       claimed = record {
         others = [];
         none = tt;
-        after_is = items_taken old new taken ∙ ap (λ list. before ++ list) (tried.added told) ∙ sym (append_assoc before first (added_by_claim claims claim))
+        after_is = items_taken old new taken ∙ ap (λ list. before ++ list) tried.added ∙ sym (append_assoc before first (added_by_claim claims claim))
             ∙ (λ i. sym (append-nil middle) i ++ claim_added claims expiry claim tried.follows i);
         came = subst (λ list. Came list (Claim now word) answer) met
-            (claim_came (point taken ++ first) old.number now word (HasFault taken) expiry claim tried.follows (tried.claimed told));
+            (claim_came (point taken ++ first) old.number now word (HasFault taken) expiry claim tried.follows tried.claimed);
       };
     }
 
 -- the same, by what the pass was at the beginning
 pub stepped_for : (old new : PassView Entry) (opening : List Entry) (writer now word : ℕ) (expiry : Result Answer KeepFault)
-    (claim : Option (Result Answer KeepFault)) (lanes : ℕ) → old.opening ≡ opening → old.number ≡ writer → opening ≢ []
+    (claim : Option (Result Answer KeepFault)) (lanes : ℕ) → old.opening ≡ opening → old.number ≡ writer
     → StepInTurn old new now word expiry claim lanes
     → Stepped opening writer (items_of old.seen) (items_of new.seen) now word expiry (step_answer expiry claim)
-stepped_for old new opening writer now word expiry claim lanes opens number told tried =
+stepped_for old new opening writer now word expiry claim lanes opens number tried =
     subst (λ n. Stepped opening n (items_of old.seen) (items_of new.seen) now word expiry (step_answer expiry claim)) number
     (subst (λ o. Stepped o old.number (items_of old.seen) (items_of new.seen) now word expiry (step_answer expiry claim)) opens
-    (stepped_at old new now word expiry claim lanes (λ none. told (sym opens ∙ none)) tried))
+    (stepped_at old new now word expiry claim lanes tried))
 
 -- what a command was tried behind is legal, where the list behind it is
 pub legal_tried : (opening : List Entry) (writer : ℕ) (before after : List Entry) (command : Command) (result : Result Answer KeepFault)

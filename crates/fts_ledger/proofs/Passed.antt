@@ -15,7 +15,7 @@ use Rattle.fts_turnstile.specs.Passes.{PassView, IsSame, seen_list}
 use Rattle.fts_keep.specs.Applied.{entry_by}
 use Rattle.fts_keep.specs.declared.fault.KeepFault.{KeepFault}
 use Rattle.fts_workers.specs.declared.held.Held.{Held}
-use Rattle.fts_shop.specs.Shops.{IsToldList, StepInTurn, TakesTurn, step_answer}
+use Rattle.fts_shop.specs.Shops.{StepInTurn, TakesTurn, step_answer}
 use Rattle.fts_shop.specs.Within.{is_cancel_asked}
 use Rattle.fts_shop.specs.Looking.{NoneOf}
 use Rattle.fts_shop.specs.Looked.{items_on, same_on, same_pass}
@@ -102,7 +102,7 @@ module _ {E : Type 0} (stores : store.Ghosts E) where
   grown_turns (suc more) old new turns = grown_on old.pass turns.0.pass new.pass
       (grown_turn old.pass turns.0.pass old.hand turns.0.hand old.held turns.1 turns.0.held turns.2.0) (grown_turns more turns.0 new turns.2.1.1)
 
-  module _ (machine : Machine) (opening : List Entry) (writer : ℕ) (told : opening ≢ []) where
+  module _ (machine : Machine) (opening : List Entry) (writer : ℕ) where
     -- the report of what is held
     report_turned : (old new : PassView Entry) (moments later : Option Coming) (held : Held) (outcome : Outcome) (end : Turn) (left : List Held)
         → old.opening ≡ opening → old.number ≡ writer → IsLegal (opening ++ items_of new.seen) → Fits writer opening (items_of old.seen) (held ∷ [])
@@ -110,7 +110,7 @@ module _ {E : Type 0} (stores : store.Ghosts E) where
     report_turned old new moments later held outcome end left opens number legal fits turn =
         subst (Turned opening writer (items_of old.seen) (items_of new.seen)) (sym turn.leaves)
         (report_tried machine opening writer (items_of old.seen) (items_of new.seen) held outcome turn.now turn.result turn.kept
-        (tried_for old new opening writer (Report turn.now held.file held.attempt outcome) turn.result turn.lanes opens number told turn.tried)
+        (tried_for old new opening writer (Report turn.now held.file held.attempt outcome) turn.result turn.lanes opens number turn.tried)
         turn.tried.answers legal fits)
 
     -- a claim that was tried behind a list and came to this, and what follows
@@ -142,10 +142,9 @@ module _ {E : Type 0} (stores : store.Ghosts E) where
         let is : items_of middle.seen ≡ ((before ++ at.others) ++ entry_by writer (Claim now word) ∷ []) ++ looked =
         items_grown claimed middle grown_mid ∙ ap (λ list. list ++ looked) at.after_is in
         let legal_mid = legal_grown opening middle new grown_new legal in
-        let told_claimed : IsToldList claimed = λ none. told (sym opens ∙ none) in
         let asked : goes.outcome ≡ Stopped
         → is_cancel_asked (tables_of (opening ++ (((before ++ at.others) ++ entry_by writer (Claim now word) ∷ []) ++ looked))) file ≡ true =
-        λ stopped. subst (λ list. is_cancel_asked (tables_of list) file ≡ true) ((λ i. open_mid i ++ is i)) (goes.copied.stopped told_claimed stopped) in
+        λ stopped. subst (λ list. is_cancel_asked (tables_of list) file ≡ true) ((λ i. open_mid i ++ is i)) (goes.copied.stopped stopped) in
         let first = turned_as machine opening writer before _ (items_of middle.seen) (held_with file attempt goes.outcome ∷ []) is
         (claim_turned machine opening writer before at.others looked now word file attempt goes.outcome at.came.0 at.none
         (subst (λ n. NoneOf n looked) number goes.copied.others)
@@ -161,7 +160,7 @@ module _ {E : Type 0} (stores : store.Ghosts E) where
         → GoesOn stores lanes (step_answer expiry claim) claimed new behind after end left → Turned opening writer (items_of old.seen) (items_of new.seen) left
     step_goes old claimed new now word behind after end left lanes expiry claim opens number legal fits tried goes =
         let before = items_of old.seen in
-        let at = stepped_for old claimed opening writer now word expiry claim lanes opens number told tried in
+        let at = stepped_for old claimed opening writer now word expiry claim lanes opens number tried in
         let grown = grown_goes claimed new behind after end left lanes (step_answer expiry claim) goes in
         let first = expiry_tried machine opening writer before at.middle now expiry at.expired tried.answers
         (legal_tried opening writer at.middle (items_of claimed.seen) (Claim now word) (step_answer expiry claim) at.claimed
@@ -224,7 +223,7 @@ module _ {E : Type 0} (stores : store.Ghosts E) where
     turn_keeps old new end turn may =
         let grown = grown_turn old.pass new.pass old.hand new.hand old.held end new.held turn in
         keeps_by old.pass new.pass new.held grown
-        (turn_turned machine old.pass.opening old.pass.number may.told old.pass new.pass old.hand new.hand old.held end new.held refl refl
+        (turn_turned machine old.pass.opening old.pass.number old.pass new.pass old.hand new.hand old.held end new.held refl refl
         (legal_of old.pass new.pass grown may.legal) may.fits turn)
 
     -- turns
@@ -233,7 +232,7 @@ module _ {E : Type 0} (stores : store.Ghosts E) where
     turns_keep more old new turns may =
         let grown = grown_turns more old new turns in
         keeps_by old.pass new.pass new.held grown
-        (turns_turned machine old.pass.opening old.pass.number may.told more old new refl refl (legal_of old.pass new.pass grown may.legal) may.fits turns)
+        (turns_turned machine old.pass.opening old.pass.number more old new refl refl (legal_of old.pass new.pass grown may.legal) may.fits turns)
 
     -- a worker
     pub worker_keeps : (closes : Bool) (old new : StationData E) → WorkerDone stores closes old new → MayKeep old.pass new.pass old.held
@@ -246,8 +245,8 @@ module _ {E : Type 0} (stores : store.Ghosts E) where
         let last = grown_turn between.pass new.pass between.hand new.hand between.held done.last new.held done.ends in
         let all = grown_on old.pass between.pass new.pass grown last in
         let legal = legal_of old.pass new.pass all may.legal in
-        let first = turns_turned machine opening writer may.told done.more old between refl refl (legal_grown opening between.pass new.pass last legal) may.fits done.turns in
+        let first = turns_turned machine opening writer done.more old between refl refl (legal_grown opening between.pass new.pass last legal) may.fits done.turns in
         keeps_by old.pass new.pass new.held all
         (turned_on machine opening writer (items_of old.pass.seen) (items_of between.pass.seen) (items_of new.pass.seen) between.held new.held first
-        (turn_turned machine opening writer may.told between.pass new.pass between.hand new.hand between.held done.last new.held grown.same.1 grown.same.3 legal
+        (turn_turned machine opening writer between.pass new.pass between.hand new.hand between.held done.last new.held grown.same.1 grown.same.3 legal
         first.fits done.ends))

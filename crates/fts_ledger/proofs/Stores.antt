@@ -21,7 +21,7 @@ use Rattle.fts_keep.specs.declared.fault.KeepFault.{KeepFault}
 use Rattle.fts_keep.specs.declared.fault.KeepFault.TheVariants.{Rule, DiskFailed, JournalFull, Damaged, Memory}
 use Rattle.fts_workers.specs.Copies.{FollowsReports, copies_from, copies_kept, copies_of_file}
 use Rattle.fts_workers.specs.declared.held.Held.{Held}
-use Rattle.fts_shop.specs.Shops.{AnswersReport, IsEndState, IsToldList, StepInTurn, added_by, step_answer}
+use Rattle.fts_shop.specs.Shops.{AnswersReport, IsEndState, StepInTurn, added_by, step_answer}
 use Rattle.fts_workers.proofs.Copied.{copies_from-append, tables_from-append}
 use Rattle.fts_shop.specs.Looking.{NoneOf}
 use Rattle.fts_shop.specs.Looked.{items_on}
@@ -74,7 +74,7 @@ fresh_claim file lanes Memory is = absurd cc
 fresh_claim file lanes (Damaged offset) is = absurd cc
 
 module _ {E : Type 0} (stores : store.Ghosts E) (machine : Machine) (orders : OrdersStay)
-    (opening : List Entry) (writer : ℕ) (told : opening ≢ []) where
+    (opening : List Entry) (writer : ℕ) where
   -- what a turn comes to where nobody takes a file: the store follows, and it isn't stale
   pub record GoesWell (before after : List Entry) (held left : List Held) (old new : E) (end : Turn) : Type 0 where
     pub followed : Followed stores opening writer before after held left old new
@@ -92,7 +92,7 @@ module _ {E : Type 0} (stores : store.Ghosts E) (machine : Machine) (orders : Or
   }
     where
       at : Tried opening writer (items_of old.seen) (items_of new.seen) (Report turn.now held.file held.attempt outcome) turn.result
-      at = tried_for old new opening writer (Report turn.now held.file held.attempt outcome) turn.result turn.lanes opens number told turn.tried
+      at = tried_for old new opening writer (Report turn.now held.file held.attempt outcome) turn.result turn.lanes opens number turn.tried
 
       legal_mid : IsLegal (opening ++ (items_of old.seen ++ at.others))
       legal_mid = legal_back opening (items_of old.seen ++ at.others) (items_of new.seen)
@@ -186,7 +186,6 @@ module _ {E : Type 0} (stores : store.Ghosts E) (machine : Machine) (orders : Or
       let none_looked : NoneOf writer looked = subst (λ n. NoneOf n looked) number goes.copied.others in
       let is : items_of middle.seen ≡ list ++ looked = items_grown claimed middle grown_mid ∙ ap (λ all. all ++ looked) at.after_is in
       let legal_mid = legal_grown opening middle new grown_new legal in
-      let told_claimed : IsToldList claimed = λ none. told (sym opens ∙ none) in
       let free_mid : IsUndisturbed writer opening (list ++ looked) =
       subst (IsUndisturbed writer opening) is
       (undisturbed_before writer opening (items_of middle.seen) (items_of grown_new.since)
@@ -203,7 +202,7 @@ module _ {E : Type 0} (stores : store.Ghosts E) (machine : Machine) (orders : Or
       } in
       let asked : copies_of_file (tables_of (opening ++ list)) file goes.outcome ≡ record { order = goes.copied.order; outcome = goes.outcome } ∷ [] =
       subst (λ all. copies_of_file (tables_of all) file goes.outcome ≡ record { order = goes.copied.order; outcome = goes.outcome } ∷ [])
-      (λ i. opens i ++ at.after_is i) (goes.copied.of_file told_claimed) in
+      (λ i. opens i ++ at.after_is i) goes.copied.of_file in
       let copied = followed_claim stores opening writer machine orders before at.others now word file attempt goes.outcome goes.copied.order
       behind.store after.store at.none asked goes.copied.made in
       let waited = followed_others stores opening writer machine orders list looked (held ∷ []) after.store
@@ -229,7 +228,7 @@ module _ {E : Type 0} (stores : store.Ghosts E) (machine : Machine) (orders : Or
       → GoesWell (items_of old.seen) (items_of new.seen) [] left behind.store after.store end
   step_well old claimed new now word behind after end left lanes expiry claim opens number legal free tried goes =
       let before = items_of old.seen in
-      let at = stepped_for old claimed opening writer now word expiry claim lanes opens number told tried in
+      let at = stepped_for old claimed opening writer now word expiry claim lanes opens number tried in
       let store = behind.store in
       let first = followed_as stores opening writer before ((before ++ at.expired.others) ++ added_by (entry_by writer (Expire now)) expiry) at.middle [] []
       store store at.expired.after_is (followed_expiry stores opening writer before at.expired.others now expiry store at.expired.none) in
@@ -284,7 +283,7 @@ module _ {E : Type 0} (stores : store.Ghosts E) (machine : Machine) (orders : Or
       let free_next : IsUndisturbed writer opening (items_of next.pass.seen) =
       undisturbed_before writer opening (items_of next.pass.seen) (items_of later.since)
       (subst (IsUndisturbed writer opening) (items_grown next.pass new.pass later) free) in
-      let fits_next = (turn_turned stores machine opening writer told old.pass next.pass old.hand next.hand old.held turns.1 next.held opens number
+      let fits_next = (turn_turned stores machine opening writer old.pass next.pass old.hand next.hand old.held turns.1 next.held opens number
       legal_next fits turns.2.0).fits in
       let one = turn_well old.pass next.pass old.hand next.hand old.held turns.1 next.held opens number legal_next fits free_next turns.2.0 in
       let others = turns_well more next new (grown.same.1 ∙ opens) (grown.same.3 ∙ number) legal fits_next free rest in
@@ -324,7 +323,7 @@ module _ {E : Type 0} (stores : store.Ghosts E) (machine : Machine) (orders : Or
       → KeepsItsFiles new.pass → FollowsOwn stores old new × ((file : ℕ) → end ≢ turn_ends.Stale file)
   turn_follows old new end turn may free =
       let grown = grown_turn stores old.pass new.pass old.hand new.hand old.held end new.held turn in
-      let well = turn_well stores machine orders old.pass.opening old.pass.number may.told old.pass new.pass old.hand new.hand old.held end new.held
+      let well = turn_well stores machine orders old.pass.opening old.pass.number old.pass new.pass old.hand new.hand old.held end new.held
       refl refl (legal_of old.pass new.pass grown may.legal) may.fits (free_of old.pass new.pass grown free) turn in
       (follows_by old new grown well.followed, well.fresh)
 
@@ -333,7 +332,7 @@ module _ {E : Type 0} (stores : store.Ghosts E) (machine : Machine) (orders : Or
       → KeepsItsFiles new.pass → FollowsOwn stores old new × AreFresh stores more old new
   turns_follow more old new turns may free =
       let grown = grown_turns stores more old new turns in
-      let well = turns_well stores machine orders old.pass.opening old.pass.number may.told more old new refl refl
+      let well = turns_well stores machine orders old.pass.opening old.pass.number more old new refl refl
       (legal_of old.pass new.pass grown may.legal) may.fits (free_of old.pass new.pass grown free) turns in
       (follows_by old new grown well.followed, well.fresh)
 
@@ -353,9 +352,9 @@ module _ {E : Type 0} (stores : store.Ghosts E) (machine : Machine) (orders : Or
       let free_mid : IsUndisturbed writer opening (items_of between.pass.seen) =
       undisturbed_before writer opening (items_of between.pass.seen) (items_of last.since)
       (subst (IsUndisturbed writer opening) (items_grown between.pass new.pass last) free_new) in
-      let fits_mid = (turns_turned stores machine opening writer may.told done.more old between refl refl legal_mid may.fits done.turns).fits in
-      let first = turns_well stores machine orders opening writer may.told done.more old between refl refl legal_mid may.fits free_mid done.turns in
-      let ends = turn_well stores machine orders opening writer may.told between.pass new.pass between.hand new.hand between.held done.last new.held
+      let fits_mid = (turns_turned stores machine opening writer done.more old between refl refl legal_mid may.fits done.turns).fits in
+      let first = turns_well stores machine orders opening writer done.more old between refl refl legal_mid may.fits free_mid done.turns in
+      let ends = turn_well stores machine orders opening writer between.pass new.pass between.hand new.hand between.held done.last new.held
       grown.same.1 grown.same.3 legal fits_mid free_new done.ends in (
         follows_by old new all
             (followed_on stores opening writer (items_of old.pass.seen) (items_of between.pass.seen) (items_of new.pass.seen) old.held between.held new.held

@@ -7,7 +7,6 @@ use Rattle.fts_turnstile.specs.History.{items_of}
 use Rattle.fts_turnstile.specs.Passes.{PassView, IsSame, seen_list}
 use Rattle.fts_workers.specs.Copies.{copies_from, copies_kept, FollowsReports}
 use Rattle.fts_workers.specs.declared.held.Held.{Held}
-use Rattle.fts_shop.specs.Shops.{IsToldList}
 use Rattle.fts_shop.specs.Workers.{StationData, TakesOne, worker_end_of}
 use Rattle.fts_shop.specs.declared.ends.Turn.{Turn}
 use Rattle.fts_shop.specs.declared.ends.Turn.TheVariants as turn_ends
@@ -25,9 +24,8 @@ pub record KeepsLedger (old new : PassView Entry) (held_now : List Held) : Type 
   pub stopped : StopsAsked old.number (seen_list old) (items_of since)
   pub held_is_out : FitsPass new held_now
 
--- the list is told, and legal in what the pass has then seen; and the bench fitted the pass before
+-- the list is legal in what the pass has then seen; and the bench fitted the pass before
 pub record MayKeep (old new : PassView Entry) (held : List Held) : Type 0 where
-  pub told : IsToldList old
   pub legal : IsLegal (seen_list new)
   pub fits : FitsPass old held
 

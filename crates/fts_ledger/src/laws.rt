@@ -1,4 +1,4 @@
-//! The laws over a worker's turns, of any list that its pass has then seen: it is told, and legal.
+//! The laws over a worker's turns, of any list that its pass has then seen: it is legal.
 //! A law is a function without parameters that does nothing: its clauses speak of every station. Who runs workers calls it.
 //! Each clause begins with a bench that fits its pass (`FitsPass`), as an empty one does before its pass has added anything (`begins`).
 ghost use Rattle.std.specs.Prelude.{◌≡◌, ◌≢◌, ◌⊎◌, ℕ, ◌==◌, List, [], ◌∷◌, ◌++◌, Some, Bool};

@@ -42,7 +42,7 @@ module _ {D : Type 0} (state : D → DiskState) (faults : D → ℕ) where
     tables = rw (same, none) refl;
     commands = rw (same, none) (omega arith);
     used = rw (same, none) refl;
-    listed = λ told. rw (same, none) (sym (append-nil old.entries));
+    listed = rw (same, none) (sym (append-nil old.entries));
   }
 
   -- nothing was added, for want of memory
@@ -56,7 +56,7 @@ module _ {D : Type 0} (state : D → DiskState) (faults : D → ℕ) where
     tables = tables;
     commands = omega (arith, commands);
     used = used;
-    listed = λ told. entries ∙ sym (append-nil old.entries);
+    listed = entries ∙ sym (append-nil old.entries);
   }
 
   lacking_as_was : (old new : KeepData D) (said : Said) (reply : Reply) → new ≡ old → reply ≡ no_memory → Comes state faults old new said reply
@@ -106,7 +106,7 @@ module _ {D : Type 0} (state : D → DiskState) (faults : D → ℕ) where
     tables = fails.keeps.tables;
     commands = omega (arith, fails.keeps.commands);
     used = fails.keeps.used;
-    listed = λ told. fails.keeps.entries ∙ sym (append-nil old.entries);
+    listed = fails.keeps.entries ∙ sym (append-nil old.entries);
   }
   comes-without_disk old new writer command result (Err e) fails failed taken lacks shown =
       lacking old new _ result fails.keeps.entries fails.keeps.tables fails.keeps.commands fails.keeps.used lacks
@@ -114,7 +114,7 @@ module _ {D : Type 0} (state : D → DiskState) (faults : D → ℕ) where
   -- what a command leaves in doubt has a cause
   pub doubt-caused : (old new : KeepData D) (entry : Entry) (result : Result Answer KeepFault) → Applied state faults old new entry result
       → DoubtHasCause state faults old new
-  doubt-caused old new entry (Ok answer) applied = λ told. inl (applied.listed told).1
+  doubt-caused old new entry (Ok answer) applied = λ told. inl (applied.cleared told)
   doubt-caused old new entry (Err (Rule refusal)) applied = λ told. inr (inl (ap (λ (keep : KeepData D). keep.doubt) applied.1))
   doubt-caused old new entry (Err (JournalFull used)) applied = λ told. inr (inl (ap (λ (keep : KeepData D). keep.doubt) applied.1))
   doubt-caused old new entry (Err DiskFailed) applied = λ told. inr (inr applied.rose)

@@ -88,7 +88,7 @@ module _ {D : Type 0} (state : D → DiskState) (faults : D → ℕ) where
       tables = rw none only.tables;
       commands = rw none (omega (arith, only.commands));
       used = rw none only.used;
-      listed = λ told. rw none (only.entries ∙ sym (append-nil old.entries));
+      listed = rw none (only.entries ∙ sym (append-nil old.entries));
     }
 
     -- for want of memory
@@ -101,7 +101,7 @@ module _ {D : Type 0} (state : D → DiskState) (faults : D → ℕ) where
       tables = only.tables;
       commands = omega (arith, only.commands);
       used = only.used;
-      listed = λ told. only.entries ∙ sym (append-nil old.entries);
+      listed = only.entries ∙ sym (append-nil old.entries);
     }
 
     -- the disk failed, for a reply that shows an entry
@@ -115,7 +115,7 @@ module _ {D : Type 0} (state : D → DiskState) (faults : D → ℕ) where
       tables = only.tables;
       commands = omega (arith, only.commands);
       used = only.used;
-      listed = λ told. only.entries ∙ sym (append-nil old.entries);
+      listed = only.entries ∙ sym (append-nil old.entries);
     }
 
     -- a reply that was made, or that for want of memory

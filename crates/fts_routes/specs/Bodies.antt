@@ -1,10 +1,14 @@
 -- What was read of a request's body before the tables were asked.
-use Rattle.std.specs.Prelude.{◌≡◌, ◌⊎◌, ⊤, ℕ, List, Err}
+use Rattle.std.specs.Prelude.{◌≡◌, ◌⊎◌, ◌||◌, ⊤, ℕ, if◌then◌else◌, List, Err, codes}
+use Rattle.std.specs.Option.{option_map_or}
 use Rattle.fts_jobdoc.specs.Checks.{Gives}
 use Rattle.fts_jobdoc.specs.Document.{IsReadAs}
 use Rattle.fts_jobdoc.specs.Documents.{priority_of}
 use Rattle.fts_jobdoc.specs.Bans.{ban_of}
 use Rattle.fts_jobdoc.specs.declared.ban.BanFault.TheVariants.{Memory as NoMemoryForBan}
+use Rattle.fts_wire.specs.RequestData.{RequestData}
+use Rattle.fts_routes.specs.Replies.{has_method}
+use Rattle.fts_routes.specs.Routes.{Route, Jobs, Job, Files, File, Links, Endpoints, Shares, Bans, JournalEntry, route_of}
 use Rattle.fts_routes.specs.declared.bodies.ReadBody.{ReadBody}
 use Rattle.fts_routes.specs.declared.bodies.ReadBody.TheVariants.{Nothing, Submission, Priority, Ban}
 
@@ -14,3 +18,33 @@ IsReadOf body Nothing = ⊤
 IsReadOf body (Submission document) = IsReadAs body document
 IsReadOf body (Priority priority) = Gives priority (priority_of body)
 IsReadOf body (Ban ban) = (ban ≡ ban_of body) ⊎ (ban ≡ Err NoMemoryForBan)
+
+-- the documents that requests ask for
+pub data Asked : Type 0 where
+  NoDocument : Asked
+  JobDocument : Asked
+  PriorityDocument : Asked
+  BanDocument : Asked
+
+-- which one a request asks for on a route, by its method
+abbrev pub asked_on : Route → RequestData → Asked
+asked_on Jobs request = if has_method request (codes "POST") || has_method request (codes "PUT") then JobDocument else NoDocument
+asked_on (Job id) request = if has_method request (codes "POST") then PriorityDocument else NoDocument
+asked_on (Files id) request = NoDocument
+asked_on (File id file) request = NoDocument
+asked_on Links request = NoDocument
+asked_on Endpoints request = NoDocument
+asked_on Shares request = NoDocument
+asked_on Bans request = if has_method request (codes "POST") then BanDocument else NoDocument
+asked_on (JournalEntry number) request = NoDocument
+
+-- and where its path has no route, none
+abbrev pub asked_by : RequestData → Asked
+asked_by request = option_map_or (λ route. asked_on route request) (route_of request.path) NoDocument
+
+-- which document was read
+abbrev pub document_of : ReadBody → Asked
+document_of Nothing = NoDocument
+document_of (Submission document) = JobDocument
+document_of (Priority priority) = PriorityDocument
+document_of (Ban ban) = BanDocument

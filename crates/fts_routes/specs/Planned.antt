@@ -98,7 +98,7 @@ pub record Comes {D : Type 0} (state : D → DiskState) (faults : D → ℕ) (ol
   pub tables : new.tables ≡ tables_from old.tables (said_so way said).added
   pub commands : new.commands ≡ old.commands + length (said_so way said).added
   pub used : new.used ≡ used_after old.used (said_so way said).added
-  pub listed : IsTold (state old.disk) → new.entries ≡ old.entries ++ (said_so way said).added
+  pub listed : new.entries ≡ old.entries ++ (said_so way said).added
 
 -- what looking at an entry did to a keep: it said what is shown of that entry
 pub record LooksAtEntry {D : Type 0} (state : D → DiskState) (faults : D → ℕ) (old new : KeepData D) (number : Option ℕ) (reply : Reply) : Type 0 where

@@ -303,7 +303,7 @@ pub record Answers {D : Type 0} (state : D → DiskState) (faults : D → ℕ) (
   pub tables : new.tables ≡ tables_from old.tables (said_so way (said old.tables bodies old.used writer request now)).added
   pub commands : new.commands ≡ old.commands + length (said_so way (said old.tables bodies old.used writer request now)).added
   pub used : new.used ≡ used_after old.used (said_so way (said old.tables bodies old.used writer request now)).added
-  pub listed : IsTold (state old.disk) → new.entries ≡ old.entries ++ (said_so way (said old.tables bodies old.used writer request now)).added
+  pub listed : new.entries ≡ old.entries ++ (said_so way (said old.tables bodies old.used writer request now)).added
 
 -- an entry is in doubt only where it was before, or where the disk's count rose
 abbrev pub DoubtHasCause : {D : Type 0} → (D → DiskState) → (D → ℕ) → KeepData D → KeepData D → Type 0

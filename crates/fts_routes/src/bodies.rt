@@ -5,7 +5,8 @@ ghost use Rattle.std.specs.Prelude.{◌≡◌, ◌⊎◌};
 ghost use Rattle.fts_jobdoc.specs.Checks.{Gives};
 ghost use Rattle.fts_jobdoc.specs.Documents.{job_of, priority_of};
 ghost use Rattle.fts_jobdoc.specs.Bans.{ban_of};
-ghost use Rattle.fts_routes.specs.Bodies.{IsReadOf};
+ghost use Rattle.fts_wire.specs.Answered.{request_data};
+ghost use Rattle.fts_routes.specs.Bodies.{IsReadOf, asked_by, document_of};
 
 use crate::paths::{Route, Routes};
 use fts_jobdoc::{
@@ -35,9 +36,10 @@ pub enum ReadBody {
     },
 }
 
-/// Reads the document that a request asks for by its route and method, and nothing where it asks for none.
+/// Reads the document that a request asks for by its route and method, and nothing exactly where it asks for none.
 pub fn read_body(alloc: Global, routes: &Routes, request: &Request<'_>) -> ReadBody
-    ensures { IsReadOf request.now.body.now result }
+    ensures of { IsReadOf request.now.body.now result }
+    ensures asked { document_of result ≡ asked_by (request_data request.now) }
 {
     let body = request.body;
     match (routes.find(request.path), request.method) {

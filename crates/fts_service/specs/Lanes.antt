@@ -3,12 +3,14 @@ use Rattle.std.specs.Prelude.{◌≡◌, ℕ, ◌-◌, ◌==◌, ◌<◌, ◌≤
 use Rattle.std.specs.Option.{option_map_or}
 use Rattle.fts_tables.specs.Counts.{Rose}
 use Rattle.fts_tables.specs.Coming.{Coming, Gives}
+use Rattle.fts_tables.specs.History.{tables_of}
 use Rattle.fts_tables.specs.declared.commands.Entry.{Entry}
 use Rattle.fts_turnstile.specs.Passes.{PassView, IsSame, own_items}
 use Rattle.fts_wire.specs.RequestData.{RequestData}
 use Rattle.fts_wire.specs.declared.response.Reply.{Reply}
-use Rattle.fts_routes.specs.Replies.{Way, said_over, said_so, CausedBy, IsInsteadOf}
-use Rattle.fts_shop.specs.Shops.{TakesTurn, point, shown_before, faults_shown, KeepsLanes, IsToldList, LaneEnds}
+use Rattle.fts_keep.specs.Keeps.{bodies_of, used_of}
+use Rattle.fts_routes.specs.Replies.{Way, Said, said, said_so, CausedBy, IsInsteadOf}
+use Rattle.fts_shop.specs.Shops.{TakesTurn, point, shown_before, faults_shown, telling_shown, KeepsLanes, LaneEnds}
 use Rattle.fts_session.specs.Connections.{Reading, reading_of, IsConnection}
 use Rattle.fts_service.specs.Doors.{DoorsData, PassThrough}
 use Rattle.fts_session.specs.declared.ends.LineEnd.{LineEnd}
@@ -27,6 +29,15 @@ pub record Standing : Type 0 where
 abbrev pub standing : PassView Entry → Option Coming → Standing
 standing pass moments = record { pass = pass; moments = moments }
 
+-- the entries of a list as a turn shows them: as many, and where the disk showed before the turn that it tells its contents, each by its spelling
+pub record AreShownIn (shown : List ℕ) (entries : List Entry) (bodies : List (List ℕ)) : Type 0 where
+  pub counted : length bodies ≡ length entries
+  pub spelled : telling_shown shown ≡ 1 → bodies ≡ bodies_of entries
+
+-- what is said over a list whose entries are shown so
+abbrev pub said_in : List Entry → List (List ℕ) → ℕ → RequestData → ℕ → Said
+said_in entries bodies writer request now = said (tables_of entries) bodies (used_of entries) writer request now
+
 -- A request was answered in one turn at this moment, over the list before that turn, and its command is all that the turn adds.
 pub record AnsweredInTurn (old new : PassView Entry) (request : RequestData) (now : ℕ) (reply : Reply) : Type 0 where
   pub taken : TakesTurn old new
@@ -35,9 +46,12 @@ pub record AnsweredInTurn (old new : PassView Entry) (request : RequestData) (no
   -- as it is defined, or without memory, or without the disk, whose count rose in that very turn
   pub way : Way
   pub cause : CausedBy way (faults_shown (shown_before taken)) (faults_shown taken.turn.shows)
-  pub instead : IsToldList old → IsInsteadOf way (said_over (point taken) old.number request now)
-  pub replies : IsToldList old → reply ≡ (said_so way (said_over (point taken) old.number request now)).reply
-  pub added : IsToldList old → taken.turn.items ≡ (said_so way (said_over (point taken) old.number request now)).added
+  -- only a look at one entry reads them from the disk
+  pub bodies : List (List ℕ)
+  pub shown : AreShownIn (shown_before taken) (point taken) bodies
+  pub instead : IsInsteadOf way (said_in (point taken) bodies old.number request now)
+  pub replies : reply ≡ (said_so way (said_in (point taken) bodies old.number request now)).reply
+  pub added : taken.turn.items ≡ (said_so way (said_in (point taken) bodies old.number request now)).added
 
 -- a request was answered so at the next moment
 pub record AnswersInTurn (old : Standing) (request : RequestData) (reply : Reply) (new : Standing) : Type 0 where

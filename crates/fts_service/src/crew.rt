@@ -164,7 +164,8 @@ where
     requires room { (length seats.rooms.items ≤ vec_capacity seats.booths) × (length seats.benches.items ≤ vec_capacity seats.stations) }
     requires idle { All (λ bench. bench.held ≡ []) seats.benches.items }
     requires some { IfSome connections (λ most. 1 ≤ most) }
-    ensures ran { RanTogether (world_of D.Disk E.Store A.Doors A.Line.Source A.Line.Sink C.Clock W.Words (G.closes gate.now)) first connections lanes.old.items lanes.new.items hands.old.items hands.new.items
+    ensures ran { RanTogether (world_of D.Disk E.Store A.Doors A.Line.Source A.Line.Sink C.Clock W.Words (G.closes gate.now))
+        first connections lanes.old.items lanes.new.items hands.old.items hands.new.items
         seats.rooms.items seats.benches.items result.shop result.end }
     ensures many { (length lanes.new.items ≡ length lanes.old.items) × (length hands.new.items ≡ length hands.old.items) }
 {

@@ -14,14 +14,15 @@ use Rattle.fts_jobdoc.specs.declared.ban.BanAsk.{BanAsk}
 use Rattle.fts_jobdoc.specs.declared.ban.BanFault.{BanFault}
 use Rattle.fts_wire.specs.RequestData.{RequestData}
 use Rattle.fts_keep.specs.Applied.{Applies, applied_to, entry_by}
-use Rattle.fts_keep.specs.Keeps.{bodies_of, used_of}
+use Rattle.fts_keep.specs.Keeps.{used_of}
 use Rattle.fts_keep.specs.declared.fault.KeepFault.TheVariants.{Rule, DiskFailed, JournalFull, Damaged, Memory}
 use Rattle.fts_tables.specs.History.{tables_of}
 use Rattle.fts_routes.specs.Objects.{endpoint_object, link_object, settings_in, weight_object}
 use Rattle.fts_routes.specs.Refusals.{no_route}
 use Rattle.fts_routes.specs.Routes.{Route, Jobs, Job, Files, File, Links, Endpoints, Shares, Bans, JournalEntry, route_of, job_named, file_named}
 use Rattle.fts_routes.specs.Queries.{QueryFault, asked_in, storage_asked}
-use Rattle.fts_routes.specs.Replies.{Plan, Replies, Looks, Tries, Way, AsDefined, WithoutMemory, WithoutDisk, if_job, if_file, if_read, if_ban, if_storage, banning, unbanning, plan_on_bans, jobs_plan, submission, has_method, plan_on_jobs, look_at_job, cancellation, prioritization, plan_on_job, look_at_files, plan_on_files, file_cancellation, plan_on_file, look_at_settings, plan_on, plan_of, said_by, said_to, said_over, said_so}
+use Rattle.fts_routes.specs.Replies.{Plan, Replies, Looks, Tries, Way, AsDefined, WithoutMemory, WithoutDisk, if_job, if_file, if_read, if_ban, if_storage, banning, unbanning, plan_on_bans, jobs_plan, submission, has_method, plan_on_jobs, look_at_job, cancellation, prioritization, plan_on_job, look_at_files, plan_on_files, file_cancellation, plan_on_file, look_at_settings, plan_on, plan_of, said_by, said_to, said_so}
+use Rattle.fts_service.specs.Lanes.{said_in}
 use Rattle.fts_ledger.specs.Reports.{IsAsked}
 
 -- a plan that tries a client's command, or none
@@ -129,9 +130,9 @@ to_asked tables bodies used writer (Tries command shown) asked =
     by_asked tables shown (entry_by writer command) (applied_to tables used (entry_by writer command)) asked
 
 -- what is said to a request adds a client's command, or none
-pub said_asked : (way : Way) (entries : List Entry) (writer : ℕ) (request : RequestData) (now : ℕ)
-    → AllAsked (said_so way (said_over entries writer request now)).added
-said_asked AsDefined entries writer request now =
-    to_asked (tables_of entries) (bodies_of entries) (used_of entries) writer (plan_of (tables_of entries) now request) (plan_asked (tables_of entries) now request)
-said_asked WithoutMemory entries writer request now = tt
-said_asked WithoutDisk entries writer request now = tt
+pub said_asked : (way : Way) (entries : List Entry) (bodies : List (List ℕ)) (writer : ℕ) (request : RequestData) (now : ℕ)
+    → AllAsked (said_so way (said_in entries bodies writer request now)).added
+said_asked AsDefined entries bodies writer request now =
+    to_asked (tables_of entries) bodies (used_of entries) writer (plan_of (tables_of entries) now request) (plan_asked (tables_of entries) now request)
+said_asked WithoutMemory entries bodies writer request now = tt
+said_asked WithoutDisk entries bodies writer request now = tt

@@ -20,7 +20,7 @@ use Rattle.fts_keep.specs.declared.fault.KeepFault.{KeepFault}
 use Rattle.fts_keep.specs.declared.fault.KeepFault.TheVariants.{Rule, DiskFailed, JournalFull, Damaged, Memory}
 use Rattle.fts_workers.specs.Rounds.{applied_over}
 use Rattle.fts_workers.specs.declared.held.Held.{Held}
-use Rattle.fts_shop.specs.Shops.{CameTo, HasFault, IsToldList, StepInTurn, TriedInTurn, added_by, added_by_claim, faults_shown, point, step_answer}
+use Rattle.fts_shop.specs.Shops.{CameTo, HasFault, StepInTurn, TriedInTurn, added_by, added_by_claim, faults_shown, point, step_answer}
 use Rattle.fts_shop.specs.Turns.{GoesOn, HandData, IsTurn, ReportsHeld, end_by_claim, end_by_report, end_by_state, idle_end}
 use Rattle.fts_shop.specs.Workers.{EndsBehind, end_without_lanes, stopped_instead, worker_end_of}
 use Rattle.fts_shop.specs.declared.ends.Turn.{Turn}
@@ -29,7 +29,7 @@ use Rattle.fts_shop.specs.declared.ends.WorkerEnd.{WorkerEnd}
 use Rattle.fts_shop.specs.declared.ends.WorkerEnd.TheVariants as worker_ends
 use Rattle.fts_store.specs.declared.store.Store as store
 
--- the last command that was tried in the last turn that a pass has seen, over a told list, behind what the turn had added until then
+-- the last command that was tried in the last turn that a pass has seen, behind what the turn had added until then
 pub record TriesLast (pass : PassView Entry) (result : Result Answer KeepFault) : Type 0 where
   pub before : List (LoggedTurn Entry)
   pub turn : LoggedTurn Entry
@@ -43,14 +43,14 @@ pub record TriesLast (pass : PassView Entry) (result : Result Answer KeepFault) 
 
 -- so is each that is tried
 full_as : {old new : PassView Entry} {command : Command} {result : Result Answer KeepFault} {lanes : ℕ} (used : ℕ)
-    (tried : TriedInTurn old new command result lanes) → IsToldList old → result ≡ Err (JournalFull used)
+    (tried : TriedInTurn old new command result lanes) → result ≡ Err (JournalFull used)
     → applied_over (point tried.taken) (entry_by old.number command) ≡ Err (JournalFull used)
-full_as {old} {command = command} used tried told is =
-    subst (λ (r : Result Answer KeepFault). CameTo (applied_over (point tried.taken) (entry_by old.number command)) (HasFault tried.taken) r) is (tried.came told)
+full_as {old} {command = command} used tried is =
+    subst (λ (r : Result Answer KeepFault). CameTo (applied_over (point tried.taken) (entry_by old.number command)) (HasFault tried.taken) r) is tried.came
 
-pub tries_last : {old new : PassView Entry} {command : Command} {result : Result Answer KeepFault} {lanes : ℕ} → IsToldList old
+pub tries_last : {old new : PassView Entry} {command : Command} {result : Result Answer KeepFault} {lanes : ℕ}
     → TriedInTurn old new command result lanes → TriesLast new result
-tries_last {old} {new} {command} {result} {lanes} told tried = record {
+tries_last {old} {new} {command} {result} {lanes} tried = record {
   before = old.seen ++ tried.taken.between;
   turn = tried.taken.turn;
   seen = tried.taken.seen;
@@ -62,13 +62,13 @@ tries_last {old} {new} {command} {result} {lanes} told tried = record {
   entry = entry_by old.number command;
   full = λ used is. subst (λ o. applied_over ((o ++ items_of (old.seen ++ tried.taken.between)) ++ []) (entry_by old.number command) ≡ Err (JournalFull used))
       (sym tried.taken.same.1)
-      (subst (λ l. applied_over l (entry_by old.number command) ≡ Err (JournalFull used)) (sym (append-nil (point tried.taken))) (full_as used tried told is));
+      (subst (λ l. applied_over l (entry_by old.number command) ≡ Err (JournalFull used)) (sym (append-nil (point tried.taken))) (full_as used tried is));
 }
 
 -- so is the last command of a worker's step
 pub step_last : {old new : PassView Entry} {now word lanes : ℕ} (expiry : Result Answer KeepFault) (claim : Option (Result Answer KeepFault))
-    → IsToldList old → StepInTurn old new now word expiry claim lanes → TriesLast new (step_answer expiry claim)
-step_last {old} {new} {now} {word} expiry None told tried = record {
+    → StepInTurn old new now word expiry claim lanes → TriesLast new (step_answer expiry claim)
+step_last {old} {new} {now} {word} expiry None tried = record {
   before = old.seen ++ tried.taken.between;
   turn = tried.taken.turn;
   seen = tried.taken.seen;
@@ -82,9 +82,9 @@ step_last {old} {new} {now} {word} expiry None told tried = record {
       (sym tried.taken.same.1)
       (subst (λ l. applied_over l (entry_by old.number (Expire now)) ≡ Err (JournalFull used)) (sym (append-nil (point tried.taken)))
       (subst (λ (r : Result Answer KeepFault). CameTo (applied_over (point tried.taken) (entry_by old.number (Expire now))) (HasFault tried.taken) r) is
-      (tried.expired told)));
+      tried.expired));
 }
-step_last {old} {new} {now} {word} expiry (Some result) told tried = record {
+step_last {old} {new} {now} {word} expiry (Some result) tried = record {
   before = old.seen ++ tried.taken.between;
   turn = tried.taken.turn;
   seen = tried.taken.seen;
@@ -92,14 +92,14 @@ step_last {old} {new} {now} {word} expiry (Some result) told tried = record {
       (sym tried.taken.same.2) (tried.claim_cause (ap (λ (r : Result Answer KeepFault). Some r) failed));
   own = added_by (entry_by old.number (Expire now)) expiry;
   rest = added_by_claim (entry_by old.number (Claim now word)) (Some result);
-  items = tried.added told;
+  items = tried.added;
   entry = entry_by old.number (Claim now word);
   full = λ used is. subst (λ o. applied_over ((o ++ items_of (old.seen ++ tried.taken.between)) ++ added_by (entry_by old.number (Expire now)) expiry)
       (entry_by old.number (Claim now word)) ≡ Err (JournalFull used))
       (sym tried.taken.same.1)
       (subst (λ (r : Result Answer KeepFault). CameTo (applied_over (point tried.taken ++ added_by (entry_by old.number (Expire now)) expiry)
       (entry_by old.number (Claim now word))) (HasFault tried.taken) r) is
-      (tried.claimed told).came);
+      tried.claimed.came);
 }
 
 -- the fault by which a turn ended
@@ -161,45 +161,45 @@ pub record FailsLast (pass : PassView Entry) (fault : KeepFault) : Type 0 where
 
 module _ {E : Type 0} (stores : store.Ghosts E) where
   reports_fail : (old new : PassView Entry) (moments later : Option Coming) (held : List Held) (end : Turn) (left : List Held) (fault : KeepFault)
-      → IsToldList old → ReportsHeld old new moments later held end left → fault_of end ≡ Some fault → FailsLast new fault
-  reports_fail old new moments later [] end left fault told reported is = absurd reported
-  reports_fail old new moments later (held ∷ []) end left fault told reported is = record {
+      → ReportsHeld old new moments later held end left → fault_of end ≡ Some fault → FailsLast new fault
+  reports_fail old new moments later [] end left fault reported is = absurd reported
+  reports_fail old new moments later (held ∷ []) end left fault reported is = record {
     result = reported.1.result;
-    tries = tries_last told reported.1.tried;
+    tries = tries_last reported.1.tried;
     is = report_fault held.file reported.1.lanes reported.1.result fault (sym (ap fault_of reported.1.ends) ∙ is);
   }
-  reports_fail old new moments later (held ∷ next ∷ others) end left fault told reported is = absurd reported
+  reports_fail old new moments later (held ∷ next ∷ others) end left fault reported is = absurd reported
 
   goes_fail : (claimed new : PassView Entry) (lanes : ℕ) (result : Result Answer KeepFault) (hand after : HandData E) (end : Turn) (left : List Held)
-      (fault : KeepFault) → IsToldList claimed → TriesLast claimed result
+      (fault : KeepFault) → TriesLast claimed result
       → GoesOn stores lanes result claimed new hand after end left → fault_of end ≡ Some fault → FailsLast new fault
-  goes_fail claimed new lanes (Ok (Claimed file attempt)) hand after end left fault told tried goes is = record {
+  goes_fail claimed new lanes (Ok (Claimed file attempt)) hand after end left fault tried goes is = record {
     result = goes.reported.result;
-    tries = tries_last (λ none. told (sym goes.copied.same.1 ∙ none)) goes.reported.tried;
+    tries = tries_last goes.reported.tried;
     is = report_fault file goes.reported.lanes goes.reported.result fault (sym (ap fault_of goes.reported.ends) ∙ is);
   }
-  goes_fail claimed new lanes (Ok (Restarted released)) hand after end left fault told tried goes is = absurd goes
-  goes_fail claimed new lanes (Ok (Submitted job id)) hand after end left fault told tried goes is = absurd goes
-  goes_fail claimed new lanes (Ok (Cancelled job)) hand after end left fault told tried goes is = absurd goes
-  goes_fail claimed new lanes (Ok (PrioritySet job)) hand after end left fault told tried goes is = absurd goes
-  goes_fail claimed new lanes (Ok (Reported file left_in)) hand after end left fault told tried goes is = absurd goes
-  goes_fail claimed new lanes (Ok (Banned cancelled)) hand after end left fault told tried goes is = absurd goes
-  goes_fail claimed new lanes (Ok Unbanned) hand after end left fault told tried goes is = absurd goes
-  goes_fail claimed new lanes (Ok (Expired cancelled)) hand after end left fault told tried goes is = absurd goes
-  goes_fail claimed new lanes (Err found) hand after end left fault told tried goes is = record {
+  goes_fail claimed new lanes (Ok (Restarted released)) hand after end left fault tried goes is = absurd goes
+  goes_fail claimed new lanes (Ok (Submitted job id)) hand after end left fault tried goes is = absurd goes
+  goes_fail claimed new lanes (Ok (Cancelled job)) hand after end left fault tried goes is = absurd goes
+  goes_fail claimed new lanes (Ok (PrioritySet job)) hand after end left fault tried goes is = absurd goes
+  goes_fail claimed new lanes (Ok (Reported file left_in)) hand after end left fault tried goes is = absurd goes
+  goes_fail claimed new lanes (Ok (Banned cancelled)) hand after end left fault tried goes is = absurd goes
+  goes_fail claimed new lanes (Ok Unbanned) hand after end left fault tried goes is = absurd goes
+  goes_fail claimed new lanes (Ok (Expired cancelled)) hand after end left fault tried goes is = absurd goes
+  goes_fail claimed new lanes (Err found) hand after end left fault tried goes is = record {
     result = Err found;
     tries = subst (λ pass. TriesLast pass (Err found)) (sym goes.1.pass) tried;
     is = claim_fault lanes found fault (sym (ap fault_of goes.0) ∙ is);
   }
 
   -- a turn that ends by a fault
-  pub turn_fails : (old new : PassView Entry) (hand after : HandData E) (held : List Held) (end : Turn) (left : List Held) (fault : KeepFault) → IsToldList old
+  pub turn_fails : (old new : PassView Entry) (hand after : HandData E) (held : List Held) (end : Turn) (left : List Held) (fault : KeepFault)
       → IsTurn stores old new hand after held end left → fault_of end ≡ Some fault → FailsLast new fault
-  turn_fails old new hand after [] end left fault told turn is =
+  turn_fails old new hand after [] end left fault turn is =
       goes_fail turn.claimed new turn.lanes (step_answer turn.expiry turn.claim) turn.behind after end left fault
-      (λ none. told (sym turn.tried.taken.same.1 ∙ none)) (step_last turn.expiry turn.claim told turn.tried) turn.goes_on is
-  turn_fails old new hand after (held ∷ others) end left fault told turn is =
-      reports_fail old new hand.moments after.moments (held ∷ others) end left fault told turn.reported is
+      (step_last turn.expiry turn.claim turn.tried) turn.goes_on is
+  turn_fails old new hand after (held ∷ others) end left fault turn is =
+      reports_fail old new hand.moments after.moments (held ∷ others) end left fault turn.reported is
 
 -- the fault by which a worker ended, by its last turn
 abbrev pub worker_fault : WorkerEnd → Option KeepFault

@@ -8,7 +8,7 @@ use Rattle.fts_wire.specs.RequestData.{RequestData}
 use Rattle.fts_wire.specs.declared.response.Reply.{Reply}
 use Rattle.fts_shop.specs.Looking.{LeaveLanes}
 use Rattle.fts_shop.specs.Looked.{items_on, same_on}
-use Rattle.fts_shop.specs.Shops.{IsToldList, KeepsLanes, TakesTurn, lanes_shown, point, writer_of}
+use Rattle.fts_shop.specs.Shops.{KeepsLanes, TakesTurn, ShowsOn, lanes_shown, point, writer_of}
 use Rattle.fts_session.specs.Connections.{AreServed, Exchange, LastAnswered}
 use Rattle.fts_service.specs.Doors.{DoorsData}
 use Rattle.fts_service.specs.Lanes.{AnswersInTurn, AreLinesServed, IsServed, LaneDone, Sides, Standing, Stays}
@@ -34,17 +34,13 @@ turn_on base {old} {new} was taken keeps asked = record {
       (subst (λ l. LeaveLanes old.number l new.seen) (sym taken.same.2) (turn_leaves taken was.leaves keeps));
 }
 
--- a told list is told to each pass of the lock
-pub told_on : (base pass : PassView Entry) → IsSame base pass → IsToldList base → IsToldList pass
-told_on base pass same told none = told (sym same.1 ∙ none)
-
-module _ (base : PassView Entry) (told : IsToldList base) where
+module _ (base : PassView Entry) where
   answer_on : {old new : Standing} {request : RequestData} {reply : Reply} → InLane base old.pass → AnswersInTurn old request reply new → InLane base new.pass
   answer_on {old} {new} {request} {reply} was answers =
       let one = answers.answered in
       turn_on base was one.taken one.lanes
-      (subst AllAsked (sym (one.added (told_on base old.pass was.same told)))
-      (said_asked one.way (point one.taken) old.pass.number request answers.now))
+      (subst AllAsked (sym one.added)
+      (said_asked one.way (point one.taken) one.bodies old.pass.number request answers.now))
 
   served_on : (old : Standing) (exchanges : List Exchange) (new : Standing) → InLane base old.pass → AreServed AnswersInTurn Stays old exchanges new
       → InLane base new.pass
@@ -70,7 +66,7 @@ module _ (base : PassView Entry) (told : IsToldList base) where
     lines_on old [] new was served = subst (λ (s : Standing). InLane base s.pass) (sym served) was
     lines_on old (line ∷ lines) new was served = lines_on served.0 lines new (line_on old line served.0 was served.1.0) served.1.1
 
--- a lane has ended: in its last turn it left one lane less, and in no other turn any
+-- a lane has ended: in its last turn it left one lane less, and in no other turn any; and each goes on from what was shown
 pub record LaneEnded (base pass : PassView Entry) : Type 0 where
   pub same : IsSame base pass
   pub asked : AddsAsked base.number (items_of pass.seen)
@@ -80,17 +76,18 @@ pub record LaneEnded (base pass : PassView Entry) : Type 0 where
   pub mine : turn.number ≡ base.number
   pub leaves : LeaveLanes base.number base.opening_shows before
   pub one_less : lanes_shown turn.shows ≡ lanes_shown (shown_after base.opening_shows before) - 1
+  pub on : ShowsOn (shown_after base.opening_shows before) turn.shows
 
 pub lane_ended : {L : Type 0} (sides : Sides L) (connections : Option ℕ) (old new : Standing) (doors doors_now : DoorsData L) (rose : Type 0) (stop : LaneStop)
-    → IsToldList old.pass → old.pass.seen ≡ [] → LaneDone sides connections old new doors doors_now rose stop → LaneEnded old.pass new.pass
-lane_ended sides connections old new doors doors_now rose stop told unseen done =
+    → old.pass.seen ≡ [] → LaneDone sides connections old new doors doors_now rose stop → LaneEnded old.pass new.pass
+lane_ended sides connections old new doors doors_now rose stop unseen done =
     let base = old.pass in
     let begun : InLane base base = record {
       same = (refl, refl, refl, refl, refl, refl);
       asked = subst (λ l. AddsAsked base.number (items_of l)) (sym unseen) tt;
       leaves = subst (LeaveLanes base.number base.opening_shows) (sym unseen) tt;
     } in
-    let was = lines_on base told sides old done.served.lines done.between begun done.served.serves.served in
+    let was = lines_on base sides old done.served.lines done.between begun done.served.serves.served in
     let ends = done.ends in
     let between = done.between.pass in
     let number : between.number ≡ base.number = was.same.3 in
@@ -107,28 +104,33 @@ lane_ended sides connections old new doors doors_now rose stop told unseen done 
       leaves = subst (λ n. LeaveLanes n base.opening_shows seen) number
           (subst (λ l. LeaveLanes between.number l seen) shows (before_leaves ends.taken was.leaves));
       one_less = subst (λ l. lanes_shown ends.taken.turn.shows ≡ lanes_shown (shown_after l seen) - 1) shows ends.one_less;
+      on = subst (λ l. ShowsOn (shown_after l seen) ends.taken.turn.shows) shows ends.taken.on;
     }
 
 -- in all turns the lane's last one stands where no other of its own follows
 lane_turns : (number : ℕ) (shown : List ℕ) (before : List (LoggedTurn Entry)) (turn : LoggedTurn Entry) (later : List (LoggedTurn Entry)) → LeaveLanes number shown before
-    → turn.number ≡ number → lanes_shown turn.shows ≡ lanes_shown (shown_after shown before) - 1 → NoneBy (number ∷ []) later
+    → turn.number ≡ number → lanes_shown turn.shows ≡ lanes_shown (shown_after shown before) - 1
+    → ShowsOn (shown_after shown before) turn.shows → NoneBy (number ∷ []) later
     → has_turn number later ≡ false → LaneTurns number shown (before ++ turn ∷ later)
-lane_turns number shown [] turn later leaves mine one_less none has =
-    ((λ is. one_less ∙ sym (ap (λ b. cond {A = ℕ} b (lanes_shown shown) (lanes_shown shown - 1)) has)), none_turns number turn.shows later none)
+lane_turns number shown [] turn later leaves mine one_less on none has =
+    ((λ is. (one_less ∙ sym (ap (λ b. cond {A = ℕ} b (lanes_shown shown) (lanes_shown shown - 1)) has), on)), none_turns number turn.shows later none)
   where
     none_turns : (number : ℕ) (shown : List ℕ) (turns : List (LoggedTurn Entry)) → NoneBy (number ∷ []) turns → LaneTurns number shown turns
     none_turns number shown [] none = tt
     none_turns number shown (one ∷ turns) none = ((λ is. absurd (none.0 (inl is))), none_turns number one.shows turns none.1)
-lane_turns number shown (first ∷ before) turn later leaves mine one_less none has = (
-  (λ is. leaves.0 is ∙ sym (ap (λ b. cond {A = ℕ} b (lanes_shown shown) (lanes_shown shown - 1)) (there number before turn later mine))),
-  lane_turns number first.shows before turn later leaves.1 mine one_less none has,
+lane_turns number shown (first ∷ before) turn later leaves mine one_less on none has = (
+  (λ is. (
+    (leaves.0 is).0 ∙ sym (ap (λ b. cond {A = ℕ} b (lanes_shown shown) (lanes_shown shown - 1)) (there number before turn later mine)),
+    (leaves.0 is).1,
+  )),
+  lane_turns number first.shows before turn later leaves.1 mine one_less on none has,
 )
 
 pub ended_turns : (base pass : PassView Entry) (later : List (LoggedTurn Entry)) → LaneEnded base pass → NoneBy (base.number ∷ []) later
     → has_turn base.number later ≡ false → LaneTurns base.number base.opening_shows (pass.seen ++ later)
 ended_turns base pass later ended none has =
     subst (LaneTurns base.number base.opening_shows) (sym (ap (λ l. l ++ later) ended.seen ∙ append_assoc ended.before (ended.turn ∷ []) later))
-    (lane_turns base.number base.opening_shows ended.before ended.turn later ended.leaves ended.mine ended.one_less none has)
+    (lane_turns base.number base.opening_shows ended.before ended.turn later ended.leaves ended.mine ended.one_less ended.on none has)
 
 pub ended_there : (base pass : PassView Entry) (later : List (LoggedTurn Entry)) → LaneEnded base pass → has_turn base.number (pass.seen ++ later) ≡ true
 ended_there base pass later ended =

@@ -1,5 +1,5 @@
--- Of lanes and workers that ran over a told list: what each pass added, by its number, and what follows for all of them.
-use Rattle.std.proofs.Common.{◌≡◌, ◌≢◌, refl, sym, ap, ◌∙◌, subst, inl, inr, ⊎_elim, ℕ, zero, suc, ◌+◌, ◌<◌, ◌≤◌, Bool, true, false, List, [], ◌∷◌, ◌++◌, length, map, drop, Option, Some, Err, append-nil, append_assoc, arith}
+-- Of lanes and workers that ran over one list: what each pass added, by its number, and what follows for all of them.
+use Rattle.std.proofs.Common.{◌≡◌, ◌≢◌, refl, sym, ap, ◌∙◌, subst, inl, inr, ⊎_elim, ℕ, zero, suc, ◌+◌, ◌<◌, ◌≤◌, Bool, true, false, List, [], ◌∷◌, ◌++◌, length, map, drop, Option, Some, None, Err, append-nil, append_assoc, arith}
 use Rattle.std.specs.Prelude.{◌⊎◌, max}
 use Rattle.fts_tables.specs.SettingsData.{SettingsData, IsSettings}
 use Rattle.fts_tables.specs.Tables.{Tables, empty_tables}
@@ -20,13 +20,14 @@ use Rattle.fts_keep.specs.declared.fault.KeepFault.TheVariants.{DiskFailed, Jour
 use Rattle.fts_keep.specs.Keeps.{used_of}
 use Rattle.fts_workers.specs.Rounds.{applied_over}
 use Rattle.fts_tables.specs.Counts.{Rose}
+use Rattle.fts_disk.specs.Disk.{IsTold}
 use Rattle.fts_workers.specs.declared.hand.Hand.{Hand}
 use Rattle.fts_workers.specs.declared.held.Held.{Held}
 use Rattle.fts_shop.specs.Many.{Each}
 use Rattle.fts_shop.specs.Looking.{LeaveLanes, NoneOf}
 use Rattle.fts_shop.specs.Looked.{items_on}
 use Rattle.fts_workers.proofs.Accepted.{legal_front}
-use Rattle.fts_shop.specs.Shops.{IsToldList, ShopData, faults_shown, lanes_shown, writer_of}
+use Rattle.fts_shop.specs.Shops.{ShopData, faults_shown, ShowsOn, flag, is_doubted, lanes_shown, shop_of, shop_shows, writer_of}
 use Rattle.fts_shop.specs.Turns.{hand_data}
 use Rattle.fts_shop.specs.Workers.{StationData, WorkerDone, station_data}
 use Rattle.fts_shop.specs.declared.ends.Turn.TheVariants.{Stale}
@@ -48,9 +49,9 @@ use Rattle.fts_service.specs.declared.lane.Lane.{Lane}
 use Rattle.fts_ledger.specs.Claims.{IsOut, IsOwn, last_claim}
 use Rattle.fts_ledger.specs.Ledger.{AreFresh, FollowsOwn, KeepsItsFiles, KeepsLedger, MayKeep}
 use Rattle.fts_ledger.specs.Reports.{AddsAsked, AddsWork, HasNoRestart, IsUndisturbed, ReportsOwn}
-use Rattle.fts_serving.specs.Ends.{AreAtRest, AreDrained, IsOpenedBy, KeepTheLedger, KeepsOwn, LeavesNothing}
+use Rattle.fts_serving.specs.Ends.{AreAtRest, AreDrained, EndsSure, IsOpenedBy, KeepTheLedger, KeepsOwn, LeavesNothing}
 use Rattle.fts_serving.proofs.Last.{HasLast, given_last, last_of, last_or_behind, last_there, none_above, none_among, none_last, not_behind, within}
-use Rattle.fts_serving.proofs.Open.{LaneTurns, Rules, has_turn, none_open, open_all, open_behind, open_lanes, own_turn, there_behind}
+use Rattle.fts_serving.proofs.Open.{LaneTurns, Rules, has_turn, none_open, open_all, open_behind, open_lanes, own_turn, none_rises_in, shows_through, there_behind}
 use Rattle.fts_serving.proofs.Own.{asked_none, named_back, none_items}
 use Rattle.fts_serving.proofs.Seats.{At, Seat, all_weaker, booths_given, drop_given, each_idle, each_weaker, each_with, giver_from, seat_at, seats, seen_behind, stations_given}
 use Rattle.fts_serving.specs.Finishes.{NoneRises, RecordPasses}
@@ -95,6 +96,13 @@ work_none : (writer : ℕ) (entries : List Entry) → NoneOf writer entries → 
 work_none writer [] none = tt
 work_none writer (entry ∷ entries) none = ((λ is. absurd (none.0 is)), work_none writer entries none.1)
 
+-- disks of which the same is shown tell alike
+same_flag : (one other : Bool) → flag one ≡ flag other → one ≡ other
+same_flag true true is = refl
+same_flag true false is = absurd cc
+same_flag false true is = absurd cc
+same_flag false false is = refl
+
 -- a moment isn't later than the greater of two
 le_max : (a b : ℕ) → b ≤ max a b
 le_max a b = omega arith
@@ -131,13 +139,6 @@ module _ {D A E C W L : Type 0} (world : World D A E C W L)
 
   named : AllNamed writer_of turns
   named = serves.ran.history.named
-
-  told : IsToldList first
-  told none = not_empty opened.opening (sym opened.is ∙ sym opening_is ∙ none)
-    where
-      not_empty : (entries : List Entry) → entries ++ entry_by 0 (Restart opened.now settings) ∷ [] ≡ [] → ⊥
-      not_empty [] is = absurd cc
-      not_empty (entry ∷ entries) is = absurd cc
 
   legal_first : IsLegal (first.opening ++ items)
   legal_first = subst (λ o. IsLegal (o ++ items)) (sym opening_is) legal
@@ -202,7 +203,7 @@ module _ {D A E C W L : Type 0} (world : World D A E C W L)
   lane_of n low high =
       let at = lane_at n low high in
       let is = numbered n at.seat.given at.old.pass at.is at.seat.pass in
-      let of = of_lane world.sides world.doors world.clocks connections turns at.old at.new (λ none. told (sym is.1.0 ∙ none)) is.1.1.1 named at.seat.since at.seat.holds in (
+      let of = of_lane world.sides world.doors world.clocks connections turns at.old at.new is.1.1.1 named at.seat.since at.seat.holds in (
         subst (λ m. AddsAsked m items) is.0 of.asked,
         (
           subst (λ m. LaneTurns m first.opening_shows turns) is.0 (subst (λ l. LaneTurns at.old.pass.number l turns) is.1.1.0 of.lane),
@@ -216,22 +217,19 @@ module _ {D A E C W L : Type 0} (world : World D A E C W L)
     station_is : (old.pass.number ≡ suc given) × ((old.pass.opening ≡ first.opening) × ((old.pass.opening_shows ≡ first.opening_shows) × (old.pass.seen ≡ [])))
     station_is = numbered (suc given) given old.pass refl from
 
-    station_told : IsToldList old.pass
-    station_told none = told (sym station_is.1.0 ∙ none)
-
     station_legal : IsLegal (old.pass.opening ++ items)
     station_legal = subst (λ o. IsLegal (o ++ items)) (sym station_is.1.0) legal_first
 
     station_may : MayKeep old.pass new.pass old.bench.held
-    station_may = may world.stores laws.own turns (station_data world.clocks world.words old) (station_data world.clocks world.words new) station_told
+    station_may = may world.stores laws.own turns (station_data world.clocks world.words old) (station_data world.clocks world.words new)
         station_is.1.1.1 done.1 station_legal done.0 since
 
     station_keeps : KeepsLedger old.pass new.pass new.bench.held
-    station_keeps = keeps world.stores laws.own turns (station_data world.clocks world.words old) (station_data world.clocks world.words new) station_told
+    station_keeps = keeps world.stores laws.own turns (station_data world.clocks world.words old) (station_data world.clocks world.words new)
         station_is.1.1.1 done.1 station_legal done.0 since
 
     station_of_worker : OfWorker turns old.pass
-    station_of_worker = of_worker world.stores laws.own turns (station_data world.clocks world.words old) (station_data world.clocks world.words new) station_told
+    station_of_worker = of_worker world.stores laws.own turns (station_data world.clocks world.words old) (station_data world.clocks world.words new)
         station_is.1.1.1 done.1 station_legal done.0 since named
 
   worker_of : (n : ℕ) → lanes < n → n ≤ lanes + workers
@@ -246,6 +244,61 @@ module _ {D A E C W L : Type 0} (world : World D A E C W L)
           subst (λ m. LeaveLanes m first.opening_shows turns) is.0 (subst (λ l. LeaveLanes at.old.pass.number l turns) is.1.1.0 of.leaves),
         ),
       )
+
+  -- the rules by which lanes are shown
+  rules : Rules lanes (lanes + workers) first.opening_shows turns
+  rules = record {
+    lane = λ n low high. (lane_of n low high).1.0;
+    other = λ n low high. (worker_of n low high).1.1;
+    given = subst (λ m. AllGiven m turns) given_is serves.ran.history.given;
+    none = serves.ran.history.none_of_first;
+  }
+
+  -- what is shown behind all turns goes on from what was shown before them
+  shows_all : ShowsOn (shop_shows world.disks (shop_of keep lanes)) (shop_shows world.disks closed)
+  shows_all =
+      let opening : first.opening_shows ≡ shop_shows world.disks (shop_of keep lanes) =
+      ap (λ (p : PassView Entry). p.opening_shows) serves.locked.first_is ∙ serves.locked.shows in
+      subst (λ l. ShowsOn l (shop_shows world.disks closed)) opening
+      (subst (λ l. ShowsOn first.opening_shows l) (sym serves.ran.history.shown)
+      (shows_through lanes (lanes + workers) first.opening_shows turns rules))
+
+  -- so is what is kept of the disk
+  sure : EndsSure world.disks keep closed.keep
+  sure = record {
+    told = same_flag (world.disks.state closed.keep.disk).told (world.disks.state keep.disk).told shows_all.tells;
+    counts = shows_all.counts;
+    doubt = λ told none. by_rise told none closed.keep.doubt refl;
+  }
+    where
+      by_rise : IsTold (world.disks.state keep.disk) → keep.doubt ≡ None → (doubt : Option Entry) → closed.keep.doubt ≡ doubt
+          → (closed.keep.doubt ≡ None) ⊎ Rose (world.disks.faults keep.disk) (world.disks.faults closed.keep.disk)
+      by_rise told none None is = inl is
+      by_rise told none (Some entry) is =
+          let still : (world.disks.state closed.keep.disk).told ≡ true =
+          same_flag (world.disks.state closed.keep.disk).told (world.disks.state keep.disk).told shows_all.tells ∙ told in
+          let shown : flag (is_doubted (world.disks.state closed.keep.disk).told closed.keep.doubt) ≡ 1 =
+          subst (λ d. flag (is_doubted (world.disks.state closed.keep.disk).told d) ≡ 1) (sym is)
+          (subst (λ t. flag (is_doubted t (Some entry)) ≡ 1) (sym still) refl) in
+          ⊎_elim
+          (λ was. absurd (not_before was))
+          (λ rose. inr rose)
+          (shows_all.doubt shown)
+        where
+          not_before : flag (is_doubted (world.disks.state keep.disk).told keep.doubt) ≡ 1 → ⊥
+          not_before was =
+              let no : flag (is_doubted true None) ≡ 1 =
+              subst (λ t. flag (is_doubted t None) ≡ 1) told (subst (λ d. flag (is_doubted (world.disks.state keep.disk).told d) ≡ 1) none was) in absurd cc
+
+  -- where the disk's count didn't rise, it rose in no turn
+  pub none_rises_by : (base : ℕ) → base ≤ world.disks.faults keep.disk → (Rose base (world.disks.faults closed.keep.disk) → ⊥)
+      → NoneRises first.opening_shows turns
+  none_rises_by base low stays =
+      let opening : first.opening_shows ≡ shop_shows world.disks (shop_of keep lanes) =
+      ap (λ (p : PassView Entry). p.opening_shows) serves.locked.first_is ∙ serves.locked.shows in
+      none_rises_in lanes (lanes + workers) first.opening_shows turns base (world.disks.faults closed.keep.disk) rules
+      (subst (λ l. base ≤ faults_shown l) (sym opening) low)
+      (subst (λ l. faults_shown l ≤ world.disks.faults closed.keep.disk) serves.ran.history.shown (omega arith)) stays
 
   -- the entries of other numbers
   none_of_zero : NoneOf 0 items
@@ -313,7 +366,7 @@ module _ {D A E C W L : Type 0} (world : World D A E C W L)
       let done = seat.holds.0 in
       let between = between_same world.stores (station_data world.clocks world.words old) (station_data world.clocks world.words new) is.1.1.1 done in
       let fails = turn_fails world.stores done.between.pass new.pass done.between.hand (hand_data world.clocks world.words new.hand) done.between.held done.last
-      new.bench.held fault (λ none. told (sym is.1.0 ∙ sym between.1 ∙ none)) done.ends (fault_behind done.last ended fault done.end_is end_is by) in
+      new.bench.held fault done.ends (fault_behind done.last ended fault done.end_is end_is by) in
       let shows : new.pass.opening_shows ≡ first.opening_shows = done.same.2 ∙ is.1.1.0 in
       let opens : new.pass.opening ≡ first.opening = done.same.1 ∙ is.1.0 in
       record {
@@ -365,7 +418,7 @@ module _ {D A E C W L : Type 0} (world : World D A E C W L)
         let old = station_data world.clocks world.words at.old in
         let new = station_data world.clocks world.words at.new in
         let holds : at.new.bench.held ≡ [] = ⊎_elim
-        (λ drained. (drained_finds_none world.stores old new (λ none. told (sym is.1.0 ∙ none)) is.1.1.1 done drained).1)
+        (λ drained. (drained_finds_none world.stores old new is.1.1.1 done drained).1)
         (λ stopped. (stopped_holds world.stores old new done stopped).0)
         at.seat.holds.1 in
         let kept = station_keeps at.old at.new at.seat.given at.seat.pass at.seat.since at.seat.holds.0 in
@@ -445,7 +498,7 @@ module _ {D A E C W L : Type 0} (world : World D A E C W L)
         let done = at.seat.holds.0.0 in
         let old = station_data world.clocks world.words at.old in
         let new = station_data world.clocks world.words at.new in
-        let ends = drained_finds_none world.stores old new (λ none. told (sym is.1.0 ∙ none)) is.1.1.1 done at.seat.holds.1 in
+        let ends = drained_finds_none world.stores old new is.1.1.1 done at.seat.holds.1 in
         let number : at.new.pass.number ≡ n = done.same.3 ∙ is.0 in
         record {
           pass = at.new.pass;
@@ -457,15 +510,6 @@ module _ {D A E C W L : Type 0} (world : World D A E C W L)
           is = at.seat.since.1;
           none = subst (λ m. NoneBy (m ∷ []) at.seat.since.0) number at.seat.since.2;
         }
-
-    -- the rules by which lanes are shown
-    rules : Rules lanes (lanes + workers) first.opening_shows turns
-    rules = record {
-      lane = λ n low high. (lane_of n low high).1.0;
-      other = λ n low high. (worker_of n low high).1.1;
-      given = subst (λ m. AllGiven m turns) given_is serves.ran.history.given;
-      none = serves.ran.history.none_of_first;
-    }
 
     -- behind a drained worker's last turn no lane has a turn
     none_behind : {n : ℕ} (at : Found n) (m : ℕ) → 1 ≤ m → m ≤ lanes → has_turn m (at.finds.turn ∷ at.later) ≡ false
@@ -558,6 +602,7 @@ module _ {D A E C W L : Type 0} (world : World D A E C W L)
     stations = stations;
     none_out = none_out;
     nothing_left = nothing_left;
+    sure = sure;
   }
 
   -- how they ended that nothing was in the way of

@@ -5,7 +5,9 @@ use Rattle.fts_tables.specs.declared.commands.Entry.{Entry}
 use Rattle.fts_turnstile.specs.declared.turn.LoggedTurn.{LoggedTurn}
 use Rattle.fts_turnstile.specs.History.{shown_after, AllGiven, NoneBy}
 use Rattle.fts_shop.specs.Looking.{LeaveLanes}
-use Rattle.fts_shop.specs.Shops.{lanes_shown}
+use Rattle.fts_shop.specs.Shops.{ShowsOn, faults_shown, lanes_shown, telling_shown}
+use Rattle.fts_tables.specs.Counts.{Rose}
+use Rattle.fts_serving.specs.Finishes.{NoneRises}
 
 -- whether a pass has a turn among these
 abbrev pub has_turn : ℕ → List (LoggedTurn Entry) → Bool
@@ -17,11 +19,12 @@ abbrev pub open_lanes : ℕ → List (LoggedTurn Entry) → ℕ
 open_lanes zero turns = 0
 open_lanes (suc more) turns = cond {A = ℕ} (has_turn (suc more) turns) 1 0 + open_lanes more turns
 
--- the turns of a lane leave the lanes that are shown, but the last one, which leaves one less
+-- the turns of a lane leave the lanes that are shown, but the last one, which leaves one less; and each goes on from the rest that is shown
 abbrev pub LaneTurns : ℕ → List ℕ → List (LoggedTurn Entry) → Type 0
 LaneTurns number shown [] = Unit {0}
 LaneTurns number shown (turn ∷ turns) =
-    (turn.number ≡ number → lanes_shown turn.shows ≡ cond {A = ℕ} (has_turn number turns) (lanes_shown shown) (lanes_shown shown - 1)) × LaneTurns number turn.shows turns
+    (turn.number ≡ number → (lanes_shown turn.shows ≡ cond {A = ℕ} (has_turn number turns) (lanes_shown shown) (lanes_shown shown - 1))
+    × ShowsOn shown turn.shows) × LaneTurns number turn.shows turns
 
 -- so do those of each lane, and the others leave the lanes
 pub record Rules (lanes all : ℕ) (shown : List ℕ) (turns : List (LoggedTurn Entry)) : Type 0 where
@@ -93,25 +96,65 @@ open_own (suc more) turn turns low high = by (turn.number == suc more) refl (λ 
         let one = ap (λ b. cond {A = ℕ} b 1 0) (other_turn (suc more) turn turns unlike) in
         omega (arith, one, behind (omega (arith, high, unlike)))
 
+-- a number is another one at most, or above it
+up_to : (n m : ℕ) → (n ≤ m) ⊎ (m < n)
+up_to zero m = inl (omega arith)
+up_to (suc n) zero = inr (omega arith)
+up_to (suc n) (suc m) = ⊎_elim (λ le. inl (omega (arith, le))) (λ lt. inr (omega (arith, lt))) (up_to n m)
+
+not_zero : (n : ℕ) → n ≢ 0 → 1 ≤ n
+not_zero zero unlike = absurd (unlike refl)
+not_zero (suc n) unlike = omega arith
+
+-- what is shown goes on from what is shown, and then again
+shows_more : (one two three : List ℕ) → ShowsOn one two → ShowsOn two three → ShowsOn one three
+shows_more one two three first second = record {
+  tells = second.tells ∙ first.tells;
+  counts = omega (arith, first.counts, second.counts);
+  doubt = λ is. ⊎_elim
+      (λ mid. ⊎_elim (λ was. inl was)
+      (λ rose. inr (⊎_elim (λ less. inl (omega (arith, less, second.counts))) (λ most. inr (omega (arith, most, second.counts))) rose)) (first.doubt mid))
+      (λ rose. inr (⊎_elim (λ less. inl (omega (arith, less, first.counts))) (λ most. inr most) rose))
+      (second.doubt is);
+}
+
+-- so does each turn
+turn_shows : (lanes all : ℕ) (shown : List ℕ) (turn : LoggedTurn Entry) (turns : List (LoggedTurn Entry)) → Rules lanes all shown (turn ∷ turns)
+    → ShowsOn shown turn.shows
+turn_shows lanes all shown turn turns rules = ⊎_elim
+    (λ high. ((rules.lane turn.number (not_zero turn.number (λ e. rules.none.0 (inl e))) high).0 refl).1)
+    (λ above. ((rules.other turn.number above rules.given.0).0 refl).1)
+    (up_to turn.number lanes)
+
+-- and so do all turns
+pub shows_through : (lanes all : ℕ) (shown : List ℕ) (turns : List (LoggedTurn Entry)) → Rules lanes all shown turns
+    → ShowsOn shown (shown_after shown turns)
+shows_through lanes all shown [] rules = record { tells = refl; counts = omega arith; doubt = λ is. inl is }
+shows_through lanes all shown (turn ∷ turns) rules = shows_more shown turn.shows (shown_after turn.shows turns) (turn_shows lanes all shown turn turns rules)
+    (shows_through lanes all turn.shows turns (rules_behind lanes all shown turn turns rules))
+
+-- where the count doesn't rise from before the first turn to behind the last, it rises in none
+pub none_rises_in : (lanes all : ℕ) (shown : List ℕ) (turns : List (LoggedTurn Entry)) (base top : ℕ) → Rules lanes all shown turns → base ≤ faults_shown shown
+    → faults_shown (shown_after shown turns) ≤ top → (Rose base top → ⊥) → NoneRises shown turns
+none_rises_in lanes all shown [] base top rules low high stays = tt
+none_rises_in lanes all shown (turn ∷ turns) base top rules low high stays =
+    let behind = rules_behind lanes all shown turn turns rules in
+    let here = turn_shows lanes all shown turn turns rules in
+    let later = shows_through lanes all turn.shows turns behind in (
+      (λ rose. stays (⊎_elim (λ less. inl (omega (arith, less, low, later.counts, high))) (λ most. inr (omega (arith, most, later.counts, high))) rose)),
+      none_rises_in lanes all turn.shows turns base top behind (omega (arith, low, here.counts)) high stays,
+    )
+
 -- the lanes that are shown are those with turns to come: one turn on
 open_turn : (lanes all : ℕ) (shown : List ℕ) (turn : LoggedTurn Entry) (turns : List (LoggedTurn Entry)) → Rules lanes all shown (turn ∷ turns)
     → lanes_shown shown ≡ open_lanes lanes (turn ∷ turns) → lanes_shown turn.shows ≡ open_lanes lanes turns
-open_turn lanes all shown turn turns rules is = ⊎_elim at_lane at_other (within turn.number lanes)
+open_turn lanes all shown turn turns rules is = ⊎_elim at_lane at_other (up_to turn.number lanes)
   where
-    within : (n m : ℕ) → (n ≤ m) ⊎ (m < n)
-    within zero m = inl (omega arith)
-    within (suc n) zero = inr (omega arith)
-    within (suc n) (suc m) = ⊎_elim (λ le. inl (omega (arith, le))) (λ lt. inr (omega (arith, lt))) (within n m)
-
     low : 1 ≤ turn.number
     low = not_zero turn.number (λ e. rules.none.0 (inl e))
-      where
-        not_zero : (n : ℕ) → n ≢ 0 → 1 ≤ n
-        not_zero zero unlike = absurd (unlike refl)
-        not_zero (suc n) unlike = omega arith
 
     at_lane : turn.number ≤ lanes → lanes_shown turn.shows ≡ open_lanes lanes turns
-    at_lane high = by (has_turn turn.number turns) ((rules.lane turn.number low high).0 refl) (open_own lanes turn turns low high)
+    at_lane high = by (has_turn turn.number turns) ((rules.lane turn.number low high).0 refl).0 (open_own lanes turn turns low high)
       where
         by : (has : Bool) → lanes_shown turn.shows ≡ cond {A = ℕ} has (lanes_shown shown) (lanes_shown shown - 1)
             → open_lanes lanes (turn ∷ turns) ≡ one_if_last has + open_lanes lanes turns → lanes_shown turn.shows ≡ open_lanes lanes turns
@@ -119,7 +162,7 @@ open_turn lanes all shown turn turns rules is = ⊎_elim at_lane at_other (withi
         by false shows opens = omega (arith, shows, opens, is)
 
     at_other : lanes < turn.number → lanes_shown turn.shows ≡ open_lanes lanes turns
-    at_other high = (rules.other turn.number high rules.given.0).0 refl ∙ is ∙ open_other lanes turn turns high
+    at_other high = ((rules.other turn.number high rules.given.0).0 refl).0 ∙ is ∙ open_other lanes turn turns high
 
 -- and behind any beginning of the turns
 pub open_behind : (lanes all : ℕ) (shown : List ℕ) (before after : List (LoggedTurn Entry)) → Rules lanes all shown (before ++ after)

@@ -98,4 +98,4 @@ module _ {old new : PassView Entry} (taken : TakesTurn old new) where
   -- and in the turn, where it keeps the lanes
   pub turn_leaves : LeaveLanes old.number old.opening_shows old.seen → KeepsLanes taken → LeaveLanes old.number old.opening_shows new.seen
   turn_leaves before keeps = subst (LeaveLanes old.number old.opening_shows) (sym taken.seen)
-      (leave_on old.number old.opening_shows (old.seen ++ taken.between) (taken.turn ∷ []) (before_leaves before) ((λ is. keeps), tt))
+      (leave_on old.number old.opening_shows (old.seen ++ taken.between) (taken.turn ∷ []) (before_leaves before) ((λ is. (keeps, taken.on)), tt))

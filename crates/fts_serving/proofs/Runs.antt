@@ -1,5 +1,5 @@
 -- A run that serves, from its start to its closed shop.
-use Rattle.std.proofs.Common.{◌≡◌, ◌≢◌, refl, sym, ap, ◌∙◌, subst, inl, inr, ℕ, zero, suc, ◌≤◌, Bool, true, false, cond, List, [], ◌∷◌, ◌++◌, length, map, All, Option, Some, None, Result, Err, arith}
+use Rattle.std.proofs.Common.{◌≡◌, ◌≢◌, refl, sym, ap, ◌∙◌, subst, inl, inr, ⊎_elim, ℕ, zero, suc, ◌≤◌, Bool, true, false, cond, List, [], ◌∷◌, ◌++◌, length, map, All, Option, Some, None, Result, Err, arith}
 use Rattle.std.proofs.lemmas.Bool.{leb-true, ltb-false, ltb-true}
 use Rattle.std.specs.Prelude.{◌⊎◌, ◌==◌, ◌&&◌, nat_le, nat_lt, unwrap_or, IfSome, IsOk, IsSome, IsTrue}
 use Rattle.std.specs.List.{AllByRecursion, list_any}
@@ -9,15 +9,14 @@ use Rattle.fts_tables.specs.SettingsData.{SettingsData, has_worker_range}
 use Rattle.fts_tables.specs.Tables.{empty_tables}
 use Rattle.fts_tables.specs.History.{IsLegal, out_of_list}
 use Rattle.fts_tables.specs.declared.commands.Entry.{Entry}
+use Rattle.fts_tables.specs.Counts.{Rose}
 use Rattle.fts_disk.specs.Disk.{IsTold}
 use Rattle.fts_turnstile.specs.History.{items_of}
 use Rattle.fts_config.specs.Settings.{settings_of}
 use Rattle.fts_config.specs.declared.fault.SettingsFault.{SettingsFault}
 use Rattle.fts_keep.specs.Applied.{fits}
 use Rattle.fts_keep.specs.Damage.{IsDamaged}
-use Rattle.fts_keep.specs.Keeps.{with_doubt}
 use Rattle.fts_keep.specs.Started.{restarted, restart_at}
-use Rattle.fts_workers.proofs.Accepted.{legal_front}
 use Rattle.fts_shop.specs.Many.{Each}
 use Rattle.fts_shop.specs.declared.ends.WorkerEnd.{WorkerEnd}
 use Rattle.fts_shop.specs.declared.ends.WorkerEnd.TheVariants as worker_ends
@@ -37,9 +36,9 @@ use Rattle.fts_service.specs.declared.lane.LaneStop.{LaneStop}
 use Rattle.fts_top.specs.declared.tally.Tally.{Tally}
 use Rattle.fts_service.specs.declared.together.ServedEnd.{ServedEnd}
 use Rattle.fts_service.specs.declared.together.ServedEnd.TheVariants as served_ends
-use Rattle.fts_serving.specs.Ends.{KeepTheLedger, KeptWhereServed, LeavesDisk, LeavesNoneOut, LeavesNothing, stations_before}
-use Rattle.fts_serving.specs.Finishes.{BreaksNoRule, EndsWell, Finishes}
-use Rattle.fts_serving.proofs.Ledger.{ListLaws, StoreLaws, ends_well, ledger}
+use Rattle.fts_serving.specs.Ends.{IsOpenedBy, KeepTheLedger, KeptWhereServed, LeavesDisk, LeavesNoneOut, LeavesNothing, stations_before}
+use Rattle.fts_serving.specs.Finishes.{BreaksNoRule, EndsWell, Finishes, RecordPasses}
+use Rattle.fts_serving.proofs.Ledger.{ListLaws, StoreLaws, ends_well, ledger, none_rises_by}
 use Rattle.fts_disk.specs.declared.disk.Disk as disk
 use Rattle.fts_service.specs.declared.doors.Doors as doors
 use Rattle.fts_service.specs.Worlds.{World}
@@ -53,11 +52,6 @@ opened_length all_doors (suc more) [] [] opened = refl
 opened_length all_doors (suc more) [] (new ∷ news) opened = absurd opened
 opened_length all_doors (suc more) (old ∷ olds) [] opened = absurd opened
 opened_length all_doors (suc more) (old ∷ olds) (new ∷ news) opened = ap suc (opened_length all_doors more olds news opened.1)
-
--- a list without its doubt is legal
-pub undoubted : (entries : List Entry) (doubt : Option Entry) → IsLegal (with_doubt entries doubt) → IsLegal entries
-undoubted entries None legal = legal
-undoubted entries (Some entry) legal = legal_front empty_tables entries (entry ∷ []) legal
 
 -- the worst of ends is drained only where all are
 not_less : (end : WorkerEnd) → severity_of end ≡ 0 → end ≡ worker_ends.Drained
@@ -224,11 +218,6 @@ range_of settings range =
     let both = both_true (nat_le 1 settings.workers) (nat_le settings.workers MAX_WORKERS) range in
     (leb-true 1 settings.workers both.0, leb-true settings.workers MAX_WORKERS both.1)
 
--- the list that a keep was started with isn't empty
-restarted_some : (opening : List Entry) (now : ℕ) (settings : SettingsData) → restarted opening now settings ≢ []
-restarted_some [] now settings is = absurd cc
-restarted_some (entry ∷ opening) now settings is = absurd cc
-
 module _ {D A E C W L : Type 0} (world : World D A E C W L)
     (lists : ListLaws) (laws : StoreLaws world.stores) where
   -- of a run of workers, each one's end
@@ -241,31 +230,60 @@ module _ {D A E C W L : Type 0} (world : World D A E C W L)
 
   module _ {lanes : ℕ} {connections : Option ℕ} {text : Option (List ℕ)} {before after : ManyThreads D A E C W L} {end : RunEnd} {tally : Tally}
       (runs : RunsServing world lanes connections text before after end tally)
-      (told : IsTold (world.disks.state before.disk)) (lanes_eight : length before.lanes ≡ MAX_LANES) (few : lanes ≤ MAX_LANES) (hands_sixteen : length before.hands ≡ MAX_WORKERS) where
+      (lanes_eight : length before.lanes ≡ MAX_LANES) (few : lanes ≤ MAX_LANES) (hands_sixteen : length before.hands ≡ MAX_WORKERS) where
     listed : runs.keep.entries ≡ restarted runs.opening runs.now runs.settings
-    listed = (runs.starts.own told).listed
-
-    some_entries : runs.keep.entries ≢ []
-    some_entries none = restarted_some runs.opening runs.now runs.settings (sym listed ∙ none)
+    listed = runs.starts.listed
 
     behind : HoldsBehind world.disks runs.keep.entries runs.serves.added runs.serves.closed.keep tally
-    behind = runs.serves.told some_entries
+    behind = runs.serves.holds
 
     all_legal : IsLegal (runs.keep.entries ++ runs.serves.added)
-    all_legal = subst IsLegal behind.listed (undoubted runs.serves.closed.keep.entries runs.serves.closed.keep.doubt behind.holds.legal)
+    all_legal = subst IsLegal behind.listed behind.filled.list.legal
 
     workers_range : (1 ≤ runs.settings.workers) × (runs.settings.workers ≤ MAX_WORKERS)
     workers_range = range_of runs.settings runs.kept.workers
 
-    ledger_of : (serves : ClosesServed world lanes runs.settings.workers connections
-        runs.keep before.lanes before.hands after.lanes after.hands runs.serves.closed end) → runs.serves.added ≡ items_of serves.ran.history.turns
-        → KeepTheLedger world serves
+    -- what the ledger asks for
+    opened_by : IsOpenedBy runs.keep.entries runs.settings
+    opened_by = record { opening = runs.opening; now = runs.now; is = listed; kept = runs.kept }
+
+    legal_of : (entries : List Entry) → runs.serves.added ≡ entries → IsLegal (runs.keep.entries ++ entries)
+    legal_of entries is = subst (λ l. IsLegal (runs.keep.entries ++ l)) is all_legal
+
+    abbrev Serves : Type 0
+    Serves = ClosesServed world lanes runs.settings.workers connections runs.keep before.lanes before.hands after.lanes after.hands runs.serves.closed end
+
+    lanes_there : (serves : Serves) → lanes ≤ length serves.opened
+    lanes_there serves = omega (arith, few, lanes_eight, opened_length world.doors lanes before.lanes serves.opened serves.opens)
+
+    hands_there : runs.settings.workers ≤ length before.hands
+    hands_there = omega (arith, workers_range.1, hands_sixteen)
+
+    ledger_of : (serves : Serves) → runs.serves.added ≡ items_of serves.ran.history.turns → KeepTheLedger world serves
     ledger_of serves is =
-        ledger world lists laws serves runs.settings
-        (record { opening = runs.opening; now = runs.now; is = listed; kept = runs.kept })
-        (subst (λ l. IsLegal (runs.keep.entries ++ l)) is all_legal)
-        (omega (arith, few, lanes_eight, opened_length world.doors lanes before.lanes serves.opened serves.opens))
-        (omega (arith, workers_range.1, hands_sixteen)) workers_range.0
+        ledger world lists laws serves runs.settings opened_by (legal_of (items_of serves.ran.history.turns) is) (lanes_there serves) hands_there workers_range.0
+
+    -- how lanes and workers ended where neither doors nor the disk failed
+    well_of : (serves : Serves) → runs.serves.added ≡ items_of serves.ran.history.turns → (SomeRose world.doors before.lanes after.lanes → ⊥)
+        → Stays (world.disks.faults before.disk) (world.disks.faults after.disk)
+        → (status_of end ≡ 0) ⊎ ((status_of end ≡ 1) ⊎ (((status_of end ≡ 11) × RecordPasses (runs.keep.entries ++ items_of serves.ran.history.turns))
+        ⊎ ((status_of end ≡ 23) × (world.closes ≡ true))))
+    well_of serves is doors_stay disk_stays =
+        let legal = legal_of (items_of serves.ran.history.turns) is in
+        ends_well world lists laws serves runs.settings opened_by legal (lanes_there serves) hands_there workers_range.0 doors_stay
+        (none_rises_by world lists laws serves runs.settings opened_by legal (lanes_there serves) hands_there workers_range.0
+        (world.disks.faults before.disk) runs.starts.counts
+        (λ rose. disk_stays (subst (λ n. Rose (world.disks.faults before.disk) n) (sym (ap world.disks.faults runs.serves.left_is)) rose)))
+
+    -- an entry is in doubt at the end only where the disk's count rose in the run
+    caused : {serves : Serves} → KeepTheLedger world serves
+        → IsTold (world.disks.state before.disk) → (runs.serves.closed.keep.doubt ≡ None) ⊎ Rose (world.disks.faults before.disk) (world.disks.faults after.disk)
+    caused kept told = ⊎_elim
+        (λ none. inl none)
+        (λ rose. inr (⊎_elim
+        (λ less. inl (omega (arith, less, runs.starts.counts, ap world.disks.faults runs.serves.left_is)))
+        (λ most. inr (omega (arith, most, ap world.disks.faults runs.serves.left_is))) rose))
+        (kept.sure.doubt (runs.starts.told ∙ told) (runs.starts.own told).no_doubt)
 
     pub kept_where_served : KeptWhereServed world runs.serves.closes
     kept_where_served = by runs.serves.closes
@@ -276,38 +294,50 @@ module _ {D A E C W L : Type 0} (world : World D A E C W L)
         by (inl unserved) = tt
         by (inr served) = ledger_of served.0 served.1
 
-    pub leaves_disk : status_of end ≡ 0 → LeavesDisk world.disks after.disk
+    pub leaves_disk : status_of end ≡ 0 → LeavesDisk world.disks before.disk after.disk
     leaves_disk zero_is = by runs.serves.closes
       where
         by : Closes world lanes runs.settings.workers connections
-            runs.keep before.lanes before.hands after.lanes after.hands runs.serves.closed end runs.serves.added → LeavesDisk world.disks after.disk
+            runs.keep before.lanes before.hands after.lanes after.hands runs.serves.closed end runs.serves.added → LeavesDisk world.disks before.disk after.disk
         by (inl unserved) = absurd (late_zero (status_of end) (no_lane_status world.doors before.lanes after.lanes end unserved.0.why) zero_is)
         by (inr served) =
             let serves = served.0 in
+            let told_stays : (world.disks.state runs.serves.closed.keep.disk).told ≡ (world.disks.state before.disk).told =
+            (ledger_of serves served.1).sure.told ∙ runs.starts.told in
             let worst = worked_worst (map (λ (booth : Booth D A C L). booth.end) serves.ran.booths) (map (λ (station : Station D E C W). station.end) serves.ran.stations) (sym serves.ran.ended ∙ served_zero serves.served (ap status_of (sym serves.ended) ∙ zero_is)) in
             let drained = drained_all worker_ends.Drained serves.ran.stations worst (ended_all (stations_before world serves) serves.ran.stations serves.ran.worked) in
             record {
               keep = runs.serves.closed.keep;
               disk_is = runs.serves.left_is;
-              holds = behind.holds;
+              filled = behind.filled;
+              told = ap (λ d. (world.disks.state d).told) runs.serves.left_is ∙ told_stays;
+              holds = λ told. behind.holds (told_stays ∙ told);
+              counts = omega (arith, runs.starts.counts, (ledger_of serves served.1).sure.counts, ap world.disks.faults runs.serves.left_is);
+              cause = λ told. caused (ledger_of serves served.1) told;
               is_so = subst LeavesNothing (sym (behind.listed ∙ ap (λ l. runs.keep.entries ++ l) served.1)) ((ledger_of serves served.1).nothing_left drained);
             }
 
-    pub leaves_none_out : status_of end ≡ 23 → LeavesNoneOut world.disks after.disk
+    pub leaves_none_out : status_of end ≡ 23 → LeavesNoneOut world.disks before.disk after.disk
     leaves_none_out stop_is = by runs.serves.closes
       where
         by : Closes world lanes runs.settings.workers connections
-            runs.keep before.lanes before.hands after.lanes after.hands runs.serves.closed end runs.serves.added → LeavesNoneOut world.disks after.disk
+            runs.keep before.lanes before.hands after.lanes after.hands runs.serves.closed end runs.serves.added → LeavesNoneOut world.disks before.disk after.disk
         by (inl unserved) = absurd (late_stop (status_of end) (no_lane_status world.doors before.lanes after.lanes end unserved.0.why) stop_is)
         by (inr served) =
             let serves = served.0 in
+            let told_stays : (world.disks.state runs.serves.closed.keep.disk).told ≡ (world.disks.state before.disk).told =
+            (ledger_of serves served.1).sure.told ∙ runs.starts.told in
             let worst = stopped_worst (map (λ (booth : Booth D A C L). booth.end) serves.ran.booths) (map (λ (station : Station D E C W). station.end) serves.ran.stations)
             (sym serves.ran.ended ∙ served_stopped serves.served (ap status_of (sym serves.ended) ∙ stop_is)) in
             let rest = rest_all worker_ends.Drained serves.ran.stations worst (ended_all (stations_before world serves) serves.ran.stations serves.ran.worked) in
             record {
               keep = runs.serves.closed.keep;
               disk_is = runs.serves.left_is;
-              holds = behind.holds;
+              filled = behind.filled;
+              told = ap (λ d. (world.disks.state d).told) runs.serves.left_is ∙ told_stays;
+              holds = λ told. behind.holds (told_stays ∙ told);
+              counts = omega (arith, runs.starts.counts, (ledger_of serves served.1).sure.counts, ap world.disks.faults runs.serves.left_is);
+              cause = λ told. caused (ledger_of serves served.1) told;
               is_so = subst (λ entries. out_of_list entries ≡ []) (sym (behind.listed ∙ ap (λ l. runs.keep.entries ++ l) served.1)) ((ledger_of serves served.1).none_out rest);
             }
 
@@ -385,25 +415,19 @@ module _ {D A E C W L : Type 0} (world : World D A E C W L)
             runs.keep before.lanes before.hands after.lanes after.hands runs.serves.closed end runs.serves.added)
             → EndsWell world closes
         by (inl unserved) = by_unserved end refl unserved.0.why
-        by (inr served) = λ none_rises.
-            ends_well world lists laws served.0 runs.settings
-            (record { opening = runs.opening; now = runs.now; is = listed runs rules.told lanes_eight few hands_sixteen; kept = runs.kept })
-            (subst (λ l. IsLegal (runs.keep.entries ++ l)) served.1 (all_legal runs rules.told lanes_eight few hands_sixteen))
-            (omega (arith, few, lanes_eight, opened_length world.doors lanes before.lanes served.0.opened served.0.opens))
-            (omega (arith, (workers_range runs rules.told lanes_eight few hands_sixteen).1, hands_sixteen))
-            (workers_range runs rules.told lanes_eight few hands_sixteen).0 doors_stay none_rises
+        by (inr served) = well_of runs lanes_eight few hands_sixteen served.0 served.1 doors_stay disk_stays
 
   pub run_leaves_disk : {lanes : ℕ} {connections : Option ℕ} {text : Option (List ℕ)} {before after : ManyThreads D A E C W L} {end : RunEnd} {tally : Tally}
       → IsServingRun world lanes connections end tally text before after
-      → status_of end ≡ 0 → IsTold (world.disks.state before.disk) → length before.lanes ≡ MAX_LANES → lanes ≤ MAX_LANES → length before.hands ≡ MAX_WORKERS → LeavesDisk world.disks after.disk
-  run_leaves_disk {text = text} {before = before} {after = after} {end = end} (inl stops) zero_is told lanes_eight few hands_sixteen =
+      → status_of end ≡ 0 → length before.lanes ≡ MAX_LANES → lanes ≤ MAX_LANES → length before.hands ≡ MAX_WORKERS → LeavesDisk world.disks before.disk after.disk
+  run_leaves_disk {text = text} {before = before} {after = after} {end = end} (inl stops) zero_is lanes_eight few hands_sixteen =
       absurd (late_zero (status_of end) (stop_status world.disks text before.moments after.moments before.disk after.disk end stops.stop) zero_is)
-  run_leaves_disk (inr runs) zero_is told lanes_eight few hands_sixteen = leaves_disk runs told lanes_eight few hands_sixteen zero_is
+  run_leaves_disk (inr runs) zero_is lanes_eight few hands_sixteen = leaves_disk runs lanes_eight few hands_sixteen zero_is
 
   pub run_leaves_none_out : {lanes : ℕ} {connections : Option ℕ} {text : Option (List ℕ)} {before after : ManyThreads D A E C W L} {end : RunEnd} {tally : Tally}
       → IsServingRun world lanes connections end tally text before after
-      → status_of end ≡ 23 → IsTold (world.disks.state before.disk) → length before.lanes ≡ MAX_LANES → lanes ≤ MAX_LANES → length before.hands ≡ MAX_WORKERS
-      → LeavesNoneOut world.disks after.disk
-  run_leaves_none_out {text = text} {before = before} {after = after} {end = end} (inl stops) stop_is told lanes_eight few hands_sixteen =
+      → status_of end ≡ 23 → length before.lanes ≡ MAX_LANES → lanes ≤ MAX_LANES → length before.hands ≡ MAX_WORKERS
+      → LeavesNoneOut world.disks before.disk after.disk
+  run_leaves_none_out {text = text} {before = before} {after = after} {end = end} (inl stops) stop_is lanes_eight few hands_sixteen =
       absurd (late_stop (status_of end) (stop_status world.disks text before.moments after.moments before.disk after.disk end stops.stop) stop_is)
-  run_leaves_none_out (inr runs) stop_is told lanes_eight few hands_sixteen = leaves_none_out runs told lanes_eight few hands_sixteen stop_is
+  run_leaves_none_out (inr runs) stop_is lanes_eight few hands_sixteen = leaves_none_out runs lanes_eight few hands_sixteen stop_is

@@ -25,7 +25,7 @@ use Rattle.fts_workers.specs.ClaimSteps.{goes_on}
 use Rattle.fts_workers.specs.declared.held.Held.{Held}
 use Rattle.fts_shop.specs.Looked.{items_on, same_on}
 use Rattle.fts_shop.specs.Looking.{LeaveLanes}
-use Rattle.fts_shop.specs.Shops.{IsToldList, StepInTurn, TriedInTurn, added_by, lanes_shown, point, step_answer}
+use Rattle.fts_shop.specs.Shops.{StepInTurn, TriedInTurn, added_by, lanes_shown, point, step_answer}
 use Rattle.fts_shop.specs.Turns.{Copies, GoesOn, HandData, IsTurn, ReportsHeld, end_by_report, end_by_state, idle_end}
 use Rattle.fts_shop.specs.Workers.{AreTurns, EndsBehind, StationData, WorkerDone, stopped_instead, worker_end_of}
 use Rattle.fts_shop.specs.declared.ends.Turn.{Turn}
@@ -233,10 +233,10 @@ module _ {E : Type 0} (stores : store.Ghosts E) where
   held_ends old new moments later (held ∷ []) left reported = report_ends held.file reported.1.lanes reported.1.result (sym reported.1.ends)
   held_ends old new moments later (held ∷ next ∷ others) left reported = reported
 
-  -- a refused claim, tried over a told list
-  refused_claim : {old claimed : PassView Entry} (now word lanes : ℕ) (expiry : Result Answer KeepFault) (refusal : Refusal) → IsToldList old → lanes ≡ 0
+  -- a refused claim
+  refused_claim : {old claimed : PassView Entry} (now word lanes : ℕ) (expiry : Result Answer KeepFault) (refusal : Refusal) → lanes ≡ 0
       → StepInTurn old claimed now word expiry (Some (Err (Rule refusal))) lanes → FindsNone claimed
-  refused_claim {old} {claimed} now word lanes expiry refusal told none tried =
+  refused_claim {old} {claimed} now word lanes expiry refusal none tried =
       let taken = tried.taken in
       let before = old.seen ++ taken.between in
       let own = added_by (entry_by old.number (Expire now)) expiry in
@@ -250,60 +250,59 @@ module _ {E : Type 0} (stores : store.Ghosts E) where
         now = now;
         word = word;
         refused = subst (λ o. step (tables_of (o ++ items_of (before ++ taken.turn ∷ []))) (Claim now word) ≡ Err Idle) (sym taken.same.1)
-            (subst (λ l. step (tables_of l) (Claim now word) ≡ Err Idle) (sym (items_with old.opening before taken.turn own (tried.added told)))
+            (subst (λ l. step (tables_of l) (Claim now word) ≡ Err Idle) (sym (items_with old.opening before taken.turn own tried.added))
             (subst (λ r. step (tables_of list) (Claim now word) ≡ Err r) tried.follows.1
-            (refused_of (used_of list) (entry_by old.number (Claim now word)) (step (tables_of list) (Claim now word)) refusal (tried.claimed told).came)));
+            (refused_of (used_of list) (entry_by old.number (Claim now word)) (step (tables_of list) (Claim now word)) refusal tried.claimed.came)));
       }
 
   -- a step whose last command was refused tried its claim
   refused_step : {old claimed : PassView Entry} (now word lanes : ℕ) (expiry : Result Answer KeepFault) (claim : Option (Result Answer KeepFault)) (refusal : Refusal)
-      → IsToldList old → lanes ≡ 0 → step_answer expiry claim ≡ Err (Rule refusal)
+      → lanes ≡ 0 → step_answer expiry claim ≡ Err (Rule refusal)
       → StepInTurn old claimed now word expiry claim lanes → FindsNone claimed
-  refused_step {old} {claimed} now word lanes expiry None refusal told none is tried =
+  refused_step {old} {claimed} now word lanes expiry None refusal none is tried =
       absurd (clash (sym (ap goes_on is) ∙ tried.follows))
     where
       clash : true ≡ false → ⊥
       clash is = absurd cc
-  refused_step {old} {claimed} now word lanes expiry (Some result) refusal told none is tried =
-      refused_claim now word lanes expiry refusal told none
+  refused_step {old} {claimed} now word lanes expiry (Some result) refusal none is tried =
+      refused_claim now word lanes expiry refusal none
       (subst (λ (r : Result Answer KeepFault). StepInTurn old claimed now word expiry (Some r) lanes) is tried)
 
   goes_none : {old claimed new : PassView Entry} (now word lanes : ℕ) (expiry : Result Answer KeepFault) (claim : Option (Result Answer KeepFault))
       (result : Result Answer KeepFault) (hand after : HandData E) (left : List Held)
-      → IsToldList old → step_answer expiry claim ≡ result → StepInTurn old claimed now word expiry claim lanes
+      → step_answer expiry claim ≡ result → StepInTurn old claimed now word expiry claim lanes
       → GoesOn stores lanes result claimed new hand after turn_ends.Stopping left → FindsNone new × (left ≡ [])
-  goes_none now word lanes expiry claim (Ok (Claimed file attempt)) hand after left told is tried goes =
+  goes_none now word lanes expiry claim (Ok (Claimed file attempt)) hand after left is tried goes =
       absurd (report_ends file goes.reported.lanes goes.reported.result (sym goes.reported.ends))
-  goes_none now word lanes expiry claim (Ok (Restarted released)) hand after left told is tried goes = absurd goes
-  goes_none now word lanes expiry claim (Ok (Submitted job id)) hand after left told is tried goes = absurd goes
-  goes_none now word lanes expiry claim (Ok (Cancelled job)) hand after left told is tried goes = absurd goes
-  goes_none now word lanes expiry claim (Ok (PrioritySet job)) hand after left told is tried goes = absurd goes
-  goes_none now word lanes expiry claim (Ok (Reported file left_in)) hand after left told is tried goes = absurd goes
-  goes_none now word lanes expiry claim (Ok (Banned cancelled)) hand after left told is tried goes = absurd goes
-  goes_none now word lanes expiry claim (Ok Unbanned) hand after left told is tried goes = absurd goes
-  goes_none now word lanes expiry claim (Ok (Expired cancelled)) hand after left told is tried goes = absurd goes
-  goes_none now word lanes expiry claim (Err (Rule refusal)) hand after left told is tried goes = (
-    subst FindsNone (sym goes.1.pass) (refused_step now word lanes expiry claim refusal told (no_lane_left lanes (sym goes.0)) is tried),
+  goes_none now word lanes expiry claim (Ok (Restarted released)) hand after left is tried goes = absurd goes
+  goes_none now word lanes expiry claim (Ok (Submitted job id)) hand after left is tried goes = absurd goes
+  goes_none now word lanes expiry claim (Ok (Cancelled job)) hand after left is tried goes = absurd goes
+  goes_none now word lanes expiry claim (Ok (PrioritySet job)) hand after left is tried goes = absurd goes
+  goes_none now word lanes expiry claim (Ok (Reported file left_in)) hand after left is tried goes = absurd goes
+  goes_none now word lanes expiry claim (Ok (Banned cancelled)) hand after left is tried goes = absurd goes
+  goes_none now word lanes expiry claim (Ok Unbanned) hand after left is tried goes = absurd goes
+  goes_none now word lanes expiry claim (Ok (Expired cancelled)) hand after left is tried goes = absurd goes
+  goes_none now word lanes expiry claim (Err (Rule refusal)) hand after left is tried goes = (
+    subst FindsNone (sym goes.1.pass) (refused_step now word lanes expiry claim refusal (no_lane_left lanes (sym goes.0)) is tried),
     goes.1.nothing,
   )
-  goes_none now word lanes expiry claim (Err DiskFailed) hand after left told answer tried goes = absurd (let is = goes.0 in cc)
-  goes_none now word lanes expiry claim (Err (JournalFull used)) hand after left told answer tried goes = absurd (let is = goes.0 in cc)
-  goes_none now word lanes expiry claim (Err Memory) hand after left told answer tried goes = absurd (let is = goes.0 in cc)
-  goes_none now word lanes expiry claim (Err (Damaged offset)) hand after left told answer tried goes = absurd (let is = goes.0 in cc)
+  goes_none now word lanes expiry claim (Err DiskFailed) hand after left answer tried goes = absurd (let is = goes.0 in cc)
+  goes_none now word lanes expiry claim (Err (JournalFull used)) hand after left answer tried goes = absurd (let is = goes.0 in cc)
+  goes_none now word lanes expiry claim (Err Memory) hand after left answer tried goes = absurd (let is = goes.0 in cc)
+  goes_none now word lanes expiry claim (Err (Damaged offset)) hand after left answer tried goes = absurd (let is = goes.0 in cc)
 
-  turn_none : (old new : PassView Entry) (hand after : HandData E) (held left : List Held) → IsToldList old
+  turn_none : (old new : PassView Entry) (hand after : HandData E) (held left : List Held)
       → IsTurn stores old new hand after held turn_ends.Stopping left → FindsNone new × (left ≡ [])
-  turn_none old new hand after [] left told turn =
-      goes_none turn.now turn.word turn.lanes turn.expiry turn.claim (step_answer turn.expiry turn.claim) turn.behind after left told refl turn.tried turn.goes_on
-  turn_none old new hand after (held ∷ others) left told turn = absurd (held_ends old new hand.moments after.moments (held ∷ others) left turn.reported)
+  turn_none old new hand after [] left turn =
+      goes_none turn.now turn.word turn.lanes turn.expiry turn.claim (step_answer turn.expiry turn.claim) turn.behind after left refl turn.tried turn.goes_on
+  turn_none old new hand after (held ∷ others) left turn = absurd (held_ends old new hand.moments after.moments (held ∷ others) left turn.reported)
 
   -- a worker that ended drained found none in its last turn, and holds nothing
-  pub drained_finds_none : {closes : Bool} (old new : StationData E) → IsToldList old.pass → old.pass.seen ≡ [] → (done : WorkerDone stores closes old new)
+  pub drained_finds_none : {closes : Bool} (old new : StationData E) → old.pass.seen ≡ [] → (done : WorkerDone stores closes old new)
       → new.end ≡ Some worker_ends.Drained → FindsNone new.pass × (new.held ≡ [])
-  drained_finds_none old new told unseen done is =
+  drained_finds_none old new unseen done is =
       let was = turns_leave stores old.pass done.more old done.between (begun old.pass unseen) done.turns in
       turn_none done.between.pass new.pass done.between.hand new.hand done.between.held new.held
-      (λ none. told (sym was.same.1 ∙ none))
       (subst (λ e. IsTurn stores done.between.pass new.pass done.between.hand new.hand done.between.held e new.held)
       (drained_behind done.end_is is) done.ends)
 

@@ -7,7 +7,7 @@ use Rattle.fts_turnstile.specs.History.{AllNamed, NoneBy, OnlyOthersSince, items
 use Rattle.fts_turnstile.specs.Passes.{PassView, IsSame, seen_list}
 use Rattle.fts_workers.specs.declared.held.Held.{Held}
 use Rattle.fts_shop.specs.Looking.{LeaveLanes, NoneOf}
-use Rattle.fts_shop.specs.Shops.{IsToldList, writer_of}
+use Rattle.fts_shop.specs.Shops.{writer_of}
 use Rattle.fts_shop.specs.Workers.{StationData, WorkerDone}
 use Rattle.fts_service.specs.Booths.{booth_data}
 use Rattle.fts_service.specs.Halls.{IsBoothServed}
@@ -50,13 +50,13 @@ pub record OfWorker (turns : List (LoggedTurn Entry)) (pass : PassView Entry) : 
   pub leaves : LeaveLanes pass.number pass.opening_shows turns
 
 pub of_lane : {D A C L : Type 0} (sides : Sides L) (all_doors : doors.Ghosts A L) (clocks : clock.Ghosts C) (connections : Option ℕ)
-    (turns : List (LoggedTurn Entry)) (old new : Booth D A C L) → IsToldList old.pass → old.pass.seen ≡ [] → AllNamed writer_of turns
+    (turns : List (LoggedTurn Entry)) (old new : Booth D A C L) → old.pass.seen ≡ [] → AllNamed writer_of turns
     → OnlyOthersSince (new.pass.number ∷ []) new.pass.seen turns
     → IsBoothServed sides all_doors clocks connections old new → OfLane turns old.pass
-of_lane sides all_doors clocks connections turns old new told unseen named since served =
+of_lane sides all_doors clocks connections turns old new unseen named since served =
     let done = served.1 in
     let ended = lane_ended sides connections (booth_data clocks all_doors old).standing (booth_data clocks all_doors new).standing
-    (booth_data clocks all_doors old).doors (booth_data clocks all_doors new).doors _ done.stop told unseen done.done in
+    (booth_data clocks all_doors old).doors (booth_data clocks all_doors new).doors _ done.stop unseen done.done in
     let seen = sees turns old.pass new.pass served.0 since in
     record {
       asked = subst (λ t. AddsAsked old.pass.number (items_of t)) (sym seen.is)
@@ -79,7 +79,7 @@ pub record Laws {E : Type 0} (stores : store.Ghosts E) : Type 0 where
       → NoneOf old.number (items_of old.seen) → NoneOf old.number (items_of later) → AddsWork old.number (items_of (new.seen ++ later))
 
 module _ {E : Type 0} (stores : store.Ghosts E) (laws : Laws stores)
-    (turns : List (LoggedTurn Entry)) (old new : StationData E) (told : IsToldList old.pass) (unseen : old.pass.seen ≡ []) (empty : old.held ≡ [])
+    (turns : List (LoggedTurn Entry)) (old new : StationData E) (unseen : old.pass.seen ≡ []) (empty : old.held ≡ [])
     (legal : IsLegal (old.pass.opening ++ items_of turns)) {closes : Bool} (done : WorkerDone stores closes old new)
     (since : OnlyOthersSince (new.pass.number ∷ []) new.pass.seen turns) where
   pub seen : Sees turns old.pass new.pass
@@ -91,7 +91,6 @@ module _ {E : Type 0} (stores : store.Ghosts E) (laws : Laws stores)
   -- the worker's pass may keep the ledger, and does
   pub may : MayKeep old.pass new.pass old.held
   may = record {
-    told = told;
     legal = laws.legal new.pass seen.later
         (subst (λ t. IsLegal (new.pass.opening ++ items_of t)) seen.is
         (subst (λ o. IsLegal (o ++ items_of turns)) (sym done.same.1) legal));

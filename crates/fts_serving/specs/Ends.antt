@@ -1,14 +1,16 @@
--- What lanes and workers leave together over a list that is told: who adds what, that nobody takes a file from a worker, what each station's store
+-- What lanes and workers leave together over their one list: who adds what, that nobody takes a file from a worker, what each station's store
 -- follows from, that no file is out where no worker ended by a fault, and that nothing is left to do where all ended drained.
-use Rattle.std.specs.Prelude.{◌≡◌, ◌≢◌, ◌⊎◌, ℕ, ◌≤◌, ◌<◌, Bool, List, [], ◌++◌, length, drop, All, Option, Some}
+use Rattle.std.specs.Prelude.{◌≡◌, ◌≢◌, ◌⊎◌, ℕ, ◌≤◌, ◌<◌, Bool, List, [], ◌++◌, length, drop, All, Option, Some, None}
 use Rattle.std.proofs.Common.{inl, inr}
+use Rattle.fts_tables.specs.Counts.{Rose}
 use Rattle.fts_tables.specs.SettingsData.{SettingsData, IsSettings}
 use Rattle.fts_tables.specs.Limits.{eligible_rows}
 use Rattle.fts_tables.specs.History.{out_of_list, tables_of}
 use Rattle.fts_tables.specs.declared.commands.Entry.{Entry}
 use Rattle.fts_turnstile.specs.History.{items_of}
 use Rattle.fts_passes.specs.Crews.{passes_given}
-use Rattle.fts_keep.specs.Keeps.{HoldsList, KeepData}
+use Rattle.fts_disk.specs.Disk.{IsTold}
+use Rattle.fts_keep.specs.Keeps.{HoldsList, IsFilledBy, KeepData}
 use Rattle.fts_keep.specs.Started.{restarted}
 use Rattle.fts_workers.specs.declared.hand.Hand.{Hand}
 use Rattle.fts_shop.specs.Many.{Each}
@@ -38,6 +40,12 @@ pub record IsOpenedBy (entries : List Entry) (settings : SettingsData) : Type 0 
   pub now : ℕ
   pub is : entries ≡ restarted opening now settings
   pub kept : IsSettings settings
+
+-- behind all turns: whether the disk tells its contents stayed, its count never fell, and an entry is in doubt, where none was, only if it rose
+pub record EndsSure {D : Type 0} (disks : disk.Ghosts D) (old new : KeepData D) : Type 0 where
+  pub told : (disks.state new.disk).told ≡ (disks.state old.disk).told
+  pub counts : disks.faults old.disk ≤ disks.faults new.disk
+  pub doubt : IsTold (disks.state old.disk) → old.doubt ≡ None → (new.doubt ≡ None) ⊎ Rose (disks.faults old.disk) (disks.faults new.disk)
 
 module _ {E : Type 0} (stores : store.Ghosts E) where
   -- a worker's turns at a station: none was stale, and the store follows from the reports that the pass added; `closes` says whether its gate may be closed
@@ -88,6 +96,7 @@ module _ {D A E C W L : Type 0} (world : World D A E C W L)
     pub none_out : AreAtRest serves → out_of_list (keep.entries ++ entries_added serves) ≡ []
     -- where all ended drained, nothing is left to do
     pub nothing_left : AreDrained serves → LeavesNothing (keep.entries ++ entries_added serves)
+    pub sure : EndsSure world.disks keep closed.keep
 
   -- so they did in a run that closed its shop, where its lanes began
   abbrev pub KeptWhereServed : {added : List Entry} → Closes world lanes workers
@@ -95,17 +104,23 @@ module _ {D A E C W L : Type 0} (world : World D A E C W L)
   KeptWhereServed (inl unserved) = Unit {0}
   KeptWhereServed (inr served) = KeepTheLedger served.0
 
--- a disk was left with a list of its own, which is so
-pub record LeavesList {D : Type 0} (disks : disk.Ghosts D) (IsSo : List Entry → Type 0) (disk : D) : Type 0 where
+-- a disk was left with a list, which is so; where it told its contents before the list is its own
+pub record LeavesList {D : Type 0} (disks : disk.Ghosts D) (IsSo : List Entry → Type 0) (before after : D) : Type 0 where
   pub keep : KeepData D
-  pub disk_is : disk ≡ keep.disk
-  pub holds : HoldsList (disks.state keep.disk) keep.entries keep.doubt keep.tables keep.commands keep.used keep.in_doubt
+  pub disk_is : after ≡ keep.disk
+  pub filled : IsFilledBy keep keep.entries
+  pub told : (disks.state after).told ≡ (disks.state before).told
+  pub holds : IsTold (disks.state before)
+      → HoldsList (disks.state keep.disk) keep.entries keep.doubt keep.tables keep.commands keep.used keep.in_doubt
+  pub counts : disks.faults before ≤ disks.faults after
+  -- an entry is in doubt only where the disk's count rose
+  pub cause : IsTold (disks.state before) → (keep.doubt ≡ None) ⊎ Rose (disks.faults before) (disks.faults after)
   pub is_so : IsSo keep.entries
 
--- a disk was left with a list of its own, behind which nothing is left to do
-abbrev pub LeavesDisk : {D : Type 0} → disk.Ghosts D → D → Type 0
-LeavesDisk disks disk = LeavesList disks LeavesNothing disk
+-- a disk was left with a list behind which nothing is left to do
+abbrev pub LeavesDisk : {D : Type 0} → disk.Ghosts D → D → D → Type 0
+LeavesDisk disks before after = LeavesList disks LeavesNothing before after
 
--- a disk was left with a list of its own, behind which no file is out
-abbrev pub LeavesNoneOut : {D : Type 0} → disk.Ghosts D → D → Type 0
-LeavesNoneOut disks disk = LeavesList disks (λ entries. out_of_list entries ≡ []) disk
+-- a disk was left with a list behind which no file is out
+abbrev pub LeavesNoneOut : {D : Type 0} → disk.Ghosts D → D → D → Type 0
+LeavesNoneOut disks before after = LeavesList disks (λ entries. out_of_list entries ≡ []) before after

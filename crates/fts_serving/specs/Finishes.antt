@@ -79,8 +79,7 @@ module _ {D A E C W L : Type 0} (world : World D A E C W L) where
       end added → Type 0
   EndsWell {keep = keep} {end = end} (inl unserved) = status_of end ≡ 1
   EndsWell {keep = keep} {end = end} (inr served) =
-      NoneRises served.0.first.opening_shows served.0.ran.history.turns
-      → (status_of end ≡ 0) ⊎ ((status_of end ≡ 1) ⊎ (((status_of end ≡ 11) × RecordPasses (keep.entries
+      (status_of end ≡ 0) ⊎ ((status_of end ≡ 1) ⊎ (((status_of end ≡ 11) × RecordPasses (keep.entries
       ++ entries_added world served.0)) ⊎ ((status_of end ≡ 23) × (world.closes ≡ true))))
 
   -- how a run did that was to serve, where nothing was in its way

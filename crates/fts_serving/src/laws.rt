@@ -1,10 +1,9 @@
-//! The laws over lanes and workers that ran over one told list, as `fts_top` says what they did.
+//! The laws over lanes and workers that ran over one list, as `fts_top` says what they did: over every disk.
 //! A law is a function without parameters that does nothing: its clauses speak of every run. Who reads what `run` says of a run that serves calls it.
 ghost use Rattle.std.specs.Prelude.{◌≡◌, ◌≢◌, ◌⊎◌, ◌≤◌, ℕ, Bool, List, ◌++◌, length, Option};
 ghost use Rattle.fts_tables.specs.SettingsData.{SettingsData};
 ghost use Rattle.fts_tables.specs.History.{IsLegal};
 ghost use Rattle.fts_tables.specs.declared.limits.TheConstants.{MAX_LANES, MAX_WORKERS};
-ghost use Rattle.fts_disk.specs.Disk.{IsTold};
 ghost use Rattle.fts_keep.specs.Keeps.{KeepData};
 ghost use Rattle.fts_shop.specs.Shops.{ShopData};
 ghost use Rattle.fts_workers.specs.declared.hand.Hand.{Hand};
@@ -29,7 +28,7 @@ use fts_store::Store;
 use fts_tables::{Clock, Words};
 use fts_top::Doors;
 
-/// Lanes and workers that ran over a told list, which is legal, keep the ledger: lanes add clients' commands alone and workers claims and reports;
+/// Lanes and workers that ran over a list, which is legal, keep the ledger: lanes add clients' commands alone and workers claims and reports;
 /// each report is of a file whose last claim is the writer's own, so nobody takes a file from a worker; each station's store follows from the reports
 /// of its pass, and no turn is stale. Where all workers ended drained or stopped, no file is out; where all ended drained, no row may be claimed at the last
 /// moment either. `closes` says whether the gate before copies may be closed.
@@ -49,22 +48,23 @@ pub fn lanes_and_workers_keep_the_ledger<D: Disk, E: Store, C: Clock, W: Words, 
     idle_claims_find_none();
 }
 
-/// A run that serves over a told disk keeps the ledger where its lanes began (`ledger`). Where it ended with status 0, its disk has a list of its own
-/// behind which no file is out, and no row may be claimed at the last moment (`ends`); with status 23 a list behind which no file is out (`stops`).
+/// A run that serves keeps the ledger where its lanes began (`ledger`), over every disk. Where it ended with status 0, it left a list behind which no
+/// file is out, and no row may be claimed at the last moment (`ends`); with status 23 a list behind which no file is out (`stops`). Over a disk that
+/// tells its contents that list is the disk's own, and an entry is in doubt at the end only where the disk's count of failures rose in the run.
 /// There are `MAX_LANES` lanes, of which it uses some, and `MAX_WORKERS` hands.
 pub fn runs_that_serve_leave_nothing<D: Disk, E: Store, C: Clock, W: Words, A: Doors>()
     ensures ledger { (closes : Bool) (lanes : ℕ) (connections : Option ℕ) (text : Option (List ℕ)) (before after : ManyThreads D A E C W A.Line) (end : RunEnd) (tally : Tally)
         → (runs : RunsServing (world_of D.Disk E.Store A.Doors A.Line.Source A.Line.Sink C.Clock W.Words closes) lanes connections text before after end tally)
-        → IsTold (D.state before.disk) → length before.lanes ≡ MAX_LANES → lanes ≤ MAX_LANES → length before.hands ≡ MAX_WORKERS
+        → length before.lanes ≡ MAX_LANES → lanes ≤ MAX_LANES → length before.hands ≡ MAX_WORKERS
         → KeptWhereServed (world_of D.Disk E.Store A.Doors A.Line.Source A.Line.Sink C.Clock W.Words closes) runs.serves.closes }
     ensures ends { (closes : Bool) (lanes : ℕ) (connections : Option ℕ) (text : Option (List ℕ)) (before after : ManyThreads D A E C W A.Line) (end : RunEnd) (tally : Tally)
         → IsServingRun (world_of D.Disk E.Store A.Doors A.Line.Source A.Line.Sink C.Clock W.Words closes) lanes connections end tally text before after
-        → status_of end ≡ 0 → IsTold (D.state before.disk) → length before.lanes ≡ MAX_LANES → lanes ≤ MAX_LANES → length before.hands ≡ MAX_WORKERS
-        → LeavesDisk D.Disk after.disk }
+        → status_of end ≡ 0 → length before.lanes ≡ MAX_LANES → lanes ≤ MAX_LANES → length before.hands ≡ MAX_WORKERS
+        → LeavesDisk D.Disk before.disk after.disk }
     ensures stops { (closes : Bool) (lanes : ℕ) (connections : Option ℕ) (text : Option (List ℕ)) (before after : ManyThreads D A E C W A.Line) (end : RunEnd) (tally : Tally)
         → IsServingRun (world_of D.Disk E.Store A.Doors A.Line.Source A.Line.Sink C.Clock W.Words closes) lanes connections end tally text before after
-        → status_of end ≡ 23 → IsTold (D.state before.disk) → length before.lanes ≡ MAX_LANES → lanes ≤ MAX_LANES → length before.hands ≡ MAX_WORKERS
-        → LeavesNoneOut D.Disk after.disk }
+        → status_of end ≡ 23 → length before.lanes ≡ MAX_LANES → lanes ≤ MAX_LANES → length before.hands ≡ MAX_WORKERS
+        → LeavesNoneOut D.Disk before.disk after.disk }
 {
     turns_keep_the_ledger::<E>();
     own_reports_disturb_nobody();
@@ -74,8 +74,8 @@ pub fn runs_that_serve_leave_nothing<D: Disk, E: Store, C: Clock, W: Words, A: D
     idle_claims_find_none();
 }
 
-/// A run that serves comes to its end: where what it is given is told and breaks no rule, no doors fail, the disk counts no failure at its start and
-/// none is shown in any turn, it ends with status 0; or memory was wanting, with status 1; or a record passes the journal's limit, with status 11; or the
+/// A run that serves comes to its end: where what it is given is told and breaks no rule, no doors fail, and the disk counts no failure from its
+/// beginning to its end, it ends with status 0; or memory was wanting, with status 1; or a record passes the journal's limit, with status 11; or the
 /// gate may be closed, and it was, with status 23. That the words are accepted and the settings could be read is what its status says, which is neither 2 nor 8.
 pub fn runs_that_serve_come_to_their_end<D: Disk, E: Store, C: Clock, W: Words, A: Doors>()
     ensures ends { (closes : Bool) (lanes : ℕ) (connections : Option ℕ) (text : Option (List ℕ)) (before after : ManyThreads D A E C W A.Line) (end : RunEnd) (tally : Tally)

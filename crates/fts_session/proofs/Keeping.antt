@@ -7,6 +7,7 @@ use Rattle.fts_tables.specs.History.{tables_from, tables_after, IsLegalFrom, IsL
 use Rattle.fts_tables.specs.declared.commands.Entry.{Entry}
 use Rattle.fts_disk.specs.Disk.{DiskState, IsTold, LeavesOnly, IsLawful}
 use Rattle.fts_keep.specs.Keeps.{KeepData, IsKeep, IsImageOf, IsImageSince, KeepsImagesSinceAny, with_doubt}
+use Rattle.fts_routes.specs.Replies.{DoubtHasCause}
 use Rattle.fts_session.specs.Sessions.{Extends}
 use Rattle.fts_disk.specs.declared.disk.Disk as disk
 
@@ -99,22 +100,40 @@ module _ {D : Type 0} (disks : disk.Ghosts D) where
 
   -- images of one call and of one behind it
   images_more : (old mid new : KeepData D) (first second : List Entry) → (disks.state mid.disk).told ≡ (disks.state old.disk).told
-      → (IsTold (disks.state old.disk) → mid.entries ≡ old.entries ++ first) → (IsTold (disks.state mid.disk) → new.entries ≡ mid.entries ++ second)
+      → mid.entries ≡ old.entries ++ first → new.entries ≡ mid.entries ++ second
       → KeepsImagesSinceAny disks.state old mid → KeepsImagesSinceAny disks.state mid new → KeepsImagesSinceAny disks.state old new
   images_more old mid new first second tells one two before behind = λ opening since is told.
       joined (disks.state old.disk) (disks.state mid.disk) (disks.state new.disk) (IsImageSince opening new.entries)
       (weakened (disks.state old.disk) (disks.state mid.disk) (IsImageSince opening mid.entries) (IsImageSince opening new.entries) (before opening since is told)
-      (λ c image. subst (λ l. IsImageSince opening l c) (sym (two (tells ∙ told))) (since_more opening mid.entries second c image)))
-      (behind opening (since ++ first) (one told ∙ ap (λ l. l ++ first) is ∙ append_assoc opening since first) (tells ∙ told))
+      (λ c image. subst (λ l. IsImageSince opening l c) (sym two) (since_more opening mid.entries second c image)))
+      (behind opening (since ++ first) (one ∙ ap (λ l. l ++ first) is ∙ append_assoc opening since first) (tells ∙ told))
+
+  -- a doubt behind both calls was there before, or came by a failure
+  doubt_more : (old mid new : KeepData D) → (disks.state mid.disk).told ≡ (disks.state old.disk).told → disks.faults old.disk ≤ disks.faults mid.disk
+      → disks.faults mid.disk ≤ disks.faults new.disk → DoubtHasCause disks.state disks.faults old mid → DoubtHasCause disks.state disks.faults mid new
+      → DoubtHasCause disks.state disks.faults old new
+  doubt_more old mid new tells first second before behind = λ told. ⊎_elim (λ none. inl none)
+      (λ some. ⊎_elim
+      (λ same. ⊎_elim (λ none. inl (same ∙ none)) (λ known. inr (⊎_elim (λ was. inl (same ∙ was)) (λ rose. inr (sooner rose)) known)) (before told))
+      (λ rose. inr (inr (later rose)))
+      some)
+      (behind (tells ∙ told))
+    where
+      sooner : Rose (disks.faults old.disk) (disks.faults mid.disk) → Rose (disks.faults old.disk) (disks.faults new.disk)
+      sooner rose = ⊎_elim (λ more. inl (omega (arith, more, second))) (λ most. inr (omega (arith, most, second))) rose
+
+      later : Rose (disks.faults mid.disk) (disks.faults new.disk) → Rose (disks.faults old.disk) (disks.faults new.disk)
+      later rose = ⊎_elim (λ more. inl (omega (arith, more, first))) (λ most. inr most) rose
 
   -- nothing was added
   pub extends_none : (keep : KeepData D) → IsKeep disks.state keep → (IsTold (disks.state keep.disk) → IsLawful (disks.state keep.disk)) → Extends disks keep keep []
   extends_none keep kept lawful = record {
     tables = refl;
-    listed = λ told. sym (none_more keep.entries);
+    listed = sym (none_more keep.entries);
     told = refl;
     counts = omega arith;
     images = images_none keep kept lawful;
+    doubt = λ told. inr (inl refl);
   }
 
   -- entries were added, and then others
@@ -122,8 +141,9 @@ module _ {D : Type 0} (disks : disk.Ghosts D) where
       → Extends disks old new (first ++ second)
   extends_more old mid new first second before behind = record {
     tables = behind.tables ∙ ap (λ t. tables_from t second) before.tables ∙ sym (tables_from-append old.tables first second);
-    listed = λ told. behind.listed (before.told ∙ told) ∙ ap (λ l. l ++ second) (before.listed told) ∙ append_assoc old.entries first second;
+    listed = behind.listed ∙ ap (λ l. l ++ second) before.listed ∙ append_assoc old.entries first second;
     told = behind.told ∙ before.told;
     counts = omega (arith, before.counts, behind.counts);
     images = images_more old mid new first second before.told before.listed behind.listed before.images behind.images;
+    doubt = doubt_more old mid new before.told before.counts behind.counts before.doubt behind.doubt;
   }

@@ -15,7 +15,7 @@ use Rattle.fts_wire.specs.declared.fault.WireFault.{WireFault}
 use Rattle.fts_wire.specs.declared.fault.WireFault.TheVariants.{EndsInside, SourceFailed}
 use Rattle.fts_wire.specs.declared.outside.SinkFailed.{SinkFailed}
 use Rattle.fts_wire.specs.declared.response.Reply.{Reply}
-use Rattle.fts_routes.specs.Replies.{Answers}
+use Rattle.fts_routes.specs.Replies.{Answers, DoubtHasCause}
 use Rattle.fts_session.specs.Connections.{Reading, Loads, IsRefused, response_to, IsConnection}
 use Rattle.fts_session.specs.Sessions.{AnswersNext, FollowedByRound, LastRounds, IsSession, ThreadData, IsReady, Works, walk_of}
 use Rattle.fts_session.specs.declared.ends.LineEnd.{LineEnd}
@@ -139,7 +139,8 @@ module _ {D E : Type 0} (disks : disk.Ghosts D) (stores : store.Ghosts E)
 
     module _ (law : LeavesBench) (new : KeepData D) (input2 : Reading) (output2 : Option (List ℕ)) (coming : Option Coming) (room : RoomData) (moment : ℕ) (reply : Reply)
         (load : Loads behind now input2 room (Ok true)) (tick : Gives here.moments coming moment)
-        (answers : Answers disks.state disks.faults here.keep new 0 room.request moment reply) (grows : Grows disks.state disks.faults 0 here.keep new) (images : KeepsImagesSinceAny disks.state here.keep new) where
+        (answers : Answers disks.state disks.faults here.keep new 0 room.request moment reply) (grows : Grows disks.state disks.faults 0 here.keep new) (images : KeepsImagesSinceAny disks.state here.keep new)
+        (doubt : DoubtHasCause disks.state disks.faults here.keep new) where
       -- where the thread stands once the request was answered
       abbrev pub answered : ThreadData D E
       answered = record here { keep = new; moments = coming }
@@ -147,7 +148,7 @@ module _ {D E : Type 0} (disks : disk.Ghosts D) (stores : store.Ghosts E)
       -- the request, answered over whatever list
       one_answer : Works disks stores (λ own before after. AnswersNext own before room.request reply after) here answered
       one_answer = works_answer disks stores law here.keep new here.bench here.claims here.store here.moments coming here.words room.request moment reply
-          so_far.ready answers grows images tick
+          so_far.ready answers grows images doubt tick
 
       -- what was answered, and this request behind it
       abbrev WithOne : Bool → Walk → Walk → Type 0

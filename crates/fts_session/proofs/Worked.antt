@@ -19,7 +19,7 @@ use Rattle.fts_workers.specs.declared.held.Held.{Held}
 use Rattle.fts_workers.specs.declared.ends.RoundEnd.{RoundEnd}
 use Rattle.fts_wire.specs.RequestData.{RequestData}
 use Rattle.fts_wire.specs.declared.response.Reply.{Reply}
-use Rattle.fts_routes.specs.Replies.{Answers, said, said_so, IsInsteadOf}
+use Rattle.fts_routes.specs.Replies.{Answers, said, said_so, IsInsteadOf, DoubtHasCause}
 use Rattle.fts_laws.specs.Attempts.{claims_in, is_claim}
 use Rattle.fts_session.specs.Sessions.{AnswersNext, ThreadData, Extends, IsOver, IsOwn, IsReady, walk_of, kept_at, Works}
 use Rattle.fts_session.proofs.Keeping.{none_more, tables_from-append, legal_behind, extends_none, extends_more}
@@ -224,7 +224,7 @@ module _ {D E : Type 0} (disks : disk.Ghosts D) (stores : store.Ghosts E) where
   own_more : (own : Bool) (old mid : ThreadData D E) (entries added : List Entry) → Extends disks old.keep mid.keep added → IsOwn disks own old entries
       → IsOwn disks own mid (entries ++ added)
   own_more own old mid entries added extends is = λ so.
-      let both = is so in (extends.told ∙ both.0, ap (λ l. l ++ added) both.1 ∙ sym (extends.listed both.0))
+      let both = is so in (extends.told ∙ both.0, ap (λ l. l ++ added) both.1 ∙ sym extends.listed)
 
   -- one part, and another one behind it
   pub works_more : (First Second Both : Bool → Walk → Walk → Type 0) (old mid new : ThreadData D E)
@@ -266,19 +266,19 @@ module _ {D E : Type 0} (disks : disk.Ghosts D) (stores : store.Ghosts E) where
   pub works_round : (keep new : KeepData D) (bench bench_now : BenchData) (claims claims_now : ℕ) (store store_now : E) (moments later words words_later : Option Coming) (end : RoundEnd)
       → IsReady (record { keep = keep; bench = bench; claims = claims; store = store; moments = moments; words = words })
       → (round : MakesRound disks.state disks.faults stores.state stores.calls stores.faults keep new bench bench_now store store_now moments later words words_later end)
-      → HoldsActive new.tables bench_now → bench_now.places ≡ bench.places → Grows disks.state disks.faults 0 keep new → KeepsImagesSinceAny disks.state keep new
+      → HoldsActive new.tables bench_now → bench_now.places ≡ bench.places → Grows disks.state disks.faults 0 keep new → KeepsImagesSinceAny disks.state keep new → DoubtHasCause disks.state disks.faults keep new
       → claims_now ≡ claims + newly_held bench_now.held
       → Works disks stores (λ own before after. IsRound bench.places before end after)
       (record { keep = keep; bench = bench; claims = claims; store = store; moments = moments; words = words })
       (record { keep = new; bench = bench_now; claims = claims_now; store = store_now; moments = later; words = words_later })
-  works_round keep new bench bench_now claims claims_now store store_now moments later words words_later end ready round active places grows images counted =
+  works_round keep new bench bench_now claims claims_now store store_now moments later words words_later end ready round active places grows images doubt counted =
       let base = ready.over.0 in
       let over = ready.over.1 in
       let over_now = round.over base over in
       let claimed : claims_in round.added ≡ newly_held bench_now.held = same_claims round.added ∙ round.claimed in
       record {
         added = round.added;
-        extends = record { tables = round.tables; listed = round.listed; told = grows.told; counts = grows.counts; images = images };
+        extends = record { tables = round.tables; listed = round.listed; told = grows.told; counts = grows.counts; images = images; doubt = doubt };
         over = round.over;
         goes = λ own entries over is. round.round entries over;
         follows = round.follows;
@@ -294,11 +294,12 @@ module _ {D E : Type 0} (disks : disk.Ghosts D) (stores : store.Ghosts E) where
   -- a request that was answered
   pub works_answer : LeavesBench → (keep new : KeepData D) (bench : BenchData) (claims : ℕ) (store : E) (moments later words : Option Coming) (request : RequestData) (now : ℕ) (reply : Reply)
       → IsReady (record { keep = keep; bench = bench; claims = claims; store = store; moments = moments; words = words })
-      → Answers disks.state disks.faults keep new 0 request now reply → Grows disks.state disks.faults 0 keep new → KeepsImagesSinceAny disks.state keep new → Gives moments later now
+      → Answers disks.state disks.faults keep new 0 request now reply → Grows disks.state disks.faults 0 keep new → KeepsImagesSinceAny disks.state keep new
+      → DoubtHasCause disks.state disks.faults keep new → Gives moments later now
       → Works disks stores (λ own before after. AnswersNext own before request reply after)
       (record { keep = keep; bench = bench; claims = claims; store = store; moments = moments; words = words })
       (record { keep = new; bench = bench; claims = claims; store = store; moments = later; words = words })
-  works_answer law keep new bench claims store moments later words request now reply ready answers grows images tick =
+  works_answer law keep new bench claims store moments later words request now reply ready answers grows images doubt tick =
       let added = (said_so answers.way (said keep.tables answers.bodies keep.used 0 request now)).added in
       let well : AddsWell keep.tables added = said_well keep.tables answers.bodies keep.used 0 request now answers.way in
       let base = ready.over.0 in
@@ -308,7 +309,7 @@ module _ {D E : Type 0} (disks : disk.Ghosts D) (stores : store.Ghosts E) where
       let held = over.held in
       record {
         added = added;
-        extends = record { tables = answers.tables; listed = answers.listed; told = grows.told; counts = grows.counts; images = images };
+        extends = record { tables = answers.tables; listed = answers.listed; told = grows.told; counts = grows.counts; images = images; doubt = doubt };
         over = λ entries is. asked_over law keep new bench entries added well answers.tables answers.commands is;
         goes = λ own entries is whose. record {
           now = now;

@@ -13,7 +13,7 @@ use Rattle.fts_workers.specs.Copies.{Copy, copies_from, copies_kept, FollowsRepo
 use Rattle.fts_workers.specs.Rounds.{Walk, IsRound, IsWorkedOver, walk_over}
 use Rattle.fts_workers.specs.declared.ends.RoundEnd.{RoundEnd}
 use Rattle.fts_workers.specs.declared.ends.RoundEnd.TheVariants.{Busy}
-use Rattle.fts_routes.specs.Replies.{Way, Said, said, said_so, CausedBy, IsInsteadOf}
+use Rattle.fts_routes.specs.Replies.{Way, Said, said, said_so, CausedBy, IsInsteadOf, DoubtHasCause}
 use Rattle.fts_laws.specs.Attempts.{claims_in}
 use Rattle.fts_session.specs.Connections.{Reading, IsConnection}
 use Rattle.fts_session.specs.declared.ends.SessionEnd.{SessionEnd}
@@ -70,14 +70,15 @@ pub record IsSession (own : Bool) (kept : List ℕ) (workers : ℕ) (input left 
   pub connection : IsConnection (AnswersNext own) (FollowedByRound workers) kept before between input left held now end.line
   pub rounds : LastRounds workers end.last between after
 
--- A keep has these entries more: each was accepted, its tables are those behind them, and where its disk tells its contents they stand behind its
--- list. Meanwhile each image is one of the list, with one entry more at most.
+-- A keep has these entries more: each was accepted, its tables are those behind them, and they stand behind its list. Meanwhile each image is one of
+-- the list, with one entry more at most; and behind them an entry is in doubt only where one was before, or where the disk counted a failure.
 pub record Extends {D : Type 0} (disks : disk.Ghosts D) (old new : KeepData D) (added : List Entry) : Type 0 where
   pub tables : new.tables ≡ tables_from old.tables added
-  pub listed : IsTold (disks.state old.disk) → new.entries ≡ old.entries ++ added
+  pub listed : new.entries ≡ old.entries ++ added
   pub told : (disks.state new.disk).told ≡ (disks.state old.disk).told
   pub counts : disks.faults old.disk ≤ disks.faults new.disk
   pub images : KeepsImagesSinceAny disks.state old new
+  pub doubt : DoubtHasCause disks.state disks.faults old new
 
 -- what one thread works with: its keep, its bench, how many files it has claimed, its store, and the moments and words to come
 pub record ThreadData (D E : Type 0) : Type 0 where

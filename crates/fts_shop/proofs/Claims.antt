@@ -64,8 +64,8 @@ module _ {D : Type 0} (disks : disk.Ghosts D) (old new : KeepData D) (writer now
   pub has_order : (answer : Result Answer KeepFault) → Applied disks.state disks.faults old new (entry_by writer (Claim now word)) answer
       → HasOrder answer (order_claimed new.tables answer)
   has_order (Ok (Claimed file attempt)) applied =
-      let some = kept.fold.some in
-      let fine = subst (λ t. AreWellFormed t) (sym some.1.folded) (formed some.0 some.1.legal) in
+      let list = kept.fold.filled.list in
+      let fine = subst (λ t. AreWellFormed t) (sym list.folded) (formed old.entries list.legal) in
       let stepped = step_of old.used (entry_by writer (Claim now word)) (step old.tables (Claim now word)) (new.tables, Claimed file attempt) applied.done in
       let row = waited old.tables now word file fine (ap claimed_file stepped) in
       some_map (order_in new.tables) (row_at new.tables.rows file)

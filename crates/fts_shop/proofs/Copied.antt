@@ -14,7 +14,6 @@ use Rattle.fts_copy.specs.Copy.{Order}
 use Rattle.fts_copy.specs.Watch.{NoesBy, VerifiedAsks, pieces}
 use Rattle.fts_turnstile.specs.Passes.{PassView, seen_list}
 use Rattle.fts_workers.specs.Copies.{Copy, order_in}
-use Rattle.fts_shop.specs.Shops.{IsToldList}
 use Rattle.fts_shop.specs.Looking.{looks_in, Unasked}
 use Rattle.fts_workers.specs.declared.held.Held.{Held}
 use Rattle.fts_shop.specs.declared.ends.Turn.{Turn}
@@ -70,7 +69,7 @@ module _ {E : Type 0} (stores : store.Ghosts E) (old new : PassView Entry) (stor
     (file : ℕ) (order : Order) (outcome : Outcome) where
   -- the copy of a claimed file
   pub copies_of : CopiesOrder stores old new store after file order outcome → HasSize outcome
-      → (IsToldList old → Some order ≡ option_map (order_in (tables_of (seen_list old))) (row_at (tables_of (seen_list old)).rows file))
+      → Some order ≡ option_map (order_in (tables_of (seen_list old))) (row_at (tables_of (seen_list old)).rows file)
       → Copies stores old new store after file outcome
   copies_of copied small is = record {
     same = copied.watched.same;
@@ -81,9 +80,9 @@ module _ {E : Type 0} (stores : store.Ghosts E) (old new : PassView Entry) (stor
     lanes = copied.watched.lanes;
     order = order;
     made = copied.made;
-    of_file = λ told. copy_of_order (row_at (tables_of (seen_list old)).rows file) (tables_of (seen_list old)) order outcome (is told);
-    looked = λ told. looked_after outcome copied.askings copied.noes (looks_in old.number copied.watched.since)
+    of_file = copy_of_order (row_at (tables_of (seen_list old)).rows file) (tables_of (seen_list old)) order outcome is;
+    looked = looked_after outcome copied.askings copied.noes (looks_in old.number copied.watched.since)
         (Unasked old.number file (seen_list old) copied.watched.since) small copied.asked copied.stopped copied.watched.looks
-        (λ none. copied.watched.unasked told none (omega arith));
-    stopped = λ told stopped. copied.watched.asked told (said_no outcome copied.noes stopped copied.stopped);
+        (λ none. copied.watched.unasked none (omega arith));
+    stopped = λ stopped. copied.watched.asked (said_no outcome copied.noes stopped copied.stopped);
   }

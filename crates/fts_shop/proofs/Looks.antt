@@ -5,11 +5,11 @@ use Rattle.fts_tables.specs.declared.commands.Entry.{Entry}
 use Rattle.fts_turnstile.specs.declared.turn.LoggedTurn.{LoggedTurn}
 use Rattle.fts_turnstile.specs.History.{items_of, shown_after, turn_of, AllName, AllNamed, NoneBy}
 use Rattle.fts_turnstile.specs.Passes.{PassView, IsSame, TookTurn, seen_list, own_items}
-use Rattle.fts_shop.specs.Shops.{ShopData, shop_entries, writer_of, shop_shows, lanes_shown, IsToldList}
+use Rattle.fts_shop.specs.Shops.{ShopData, shop_entries, writer_of, shop_shows, lanes_shown, ShowsOn}
 use Rattle.fts_shop.specs.Within.{is_cancel_asked, IsLookIn}
 use Rattle.fts_shop.specs.Looking.{looks_in, is_empty, Unasked, LeaveLanes, NoneOf, IsWatched}
 use Rattle.fts_shop.specs.Looked.{items_on, looks_on, unasked_on, shown_on, lanes_on, none_on}
-use Rattle.fts_shop.proofs.Took.{some_met, nothing_added, list_left}
+use Rattle.fts_shop.proofs.Took.{nothing_added, list_left, shows_same}
 use Rattle.fts_disk.specs.declared.disk.Disk as disk
 
 -- the entries of a turn are of none but its writer
@@ -63,11 +63,10 @@ module _ {D : Type 0} (disks : disk.Ghosts D) (work : ShopData D → ShopData D 
       ∙ sym (append_assoc old.opening (items_of old.seen) (items_of took.between))
 
   -- what was asked is so of that list
-  asked_there : IsToldList old → is_cancel_asked (tables_of (seen_list old ++ items_of took.between)) file ≡ asked
-  asked_there told =
-      let folded = (looked.kept.fold.holds (looked.told (some_met disks work old new same took told))).folded in
+  asked_there : is_cancel_asked (tables_of (seen_list old ++ items_of took.between)) file ≡ asked
+  asked_there =
       ap (λ list. is_cancel_asked (tables_of list) file) (sym met)
-      ∙ ap (λ tables. is_cancel_asked tables file) (sym folded) ∙ sym looked.is
+      ∙ ap (λ tables. is_cancel_asked tables file) (sym looked.kept.fold.filled.list.folded) ∙ sym looked.is
 
   pub watched_once : (askings askings_now noes noes_now : ℕ) → askings_now ≤ askings + 1 → noes ≤ noes_now
       → (asked ≡ true → noes < 18446744073709551615 → noes_now ≢ noes) → (noes < noes_now → asked ≡ true)
@@ -82,18 +81,26 @@ module _ {D : Type 0} (disks : disk.Ghosts D) (work : ShopData D → ShopData D 
         (others_none old.number old.joined took.between (named_behind old.seen took.between took.all_named) took.others)
         (subst (λ list. NoneOf old.number (list ++ [])) (sym none) tt));
     lanes = lanes_on old.number (shown_after old.opening_shows old.seen) took.between (last ∷ [])
-        (others_lanes old.number old.joined (shown_after old.opening_shows old.seen) took.between took.others)
-        ((λ mine. ap (λ (s : ShopData D). s.lanes) looked.same ∙ ap lanes_shown (took.showed ∙ shown_on old.opening_shows old.seen took.between)), tt);
+        (others_lanes old.number old.joined (shown_after old.opening_shows old.seen) took.between took.others) (
+          (λ mine. (
+            ap lanes_shown shows_still,
+            subst (λ shown. ShowsOn (shown_after (shown_after old.opening_shows old.seen) took.between) shown) (sym shows_still) (shows_same _),
+          )),
+          tt,
+        );
     looks = omega (arith, few, looks_on old.number took.between (last ∷ []), one_look);
     no_fewer = no_fewer;
-    unasked = λ told still low. unasked_on old.number file (seen_list old) took.between (last ∷ [])
+    unasked = λ still low. unasked_on old.number file (seen_list old) took.between (last ∷ [])
         (others_unasked old.number file old.joined (seen_list old) took.between took.others)
-        ((λ mine. asked_there told ∙ is_no asked refl still low), tt);
-    asked = λ told rose. subst (λ list. is_cancel_asked (tables_of list) file ≡ true)
-        (sym (met_again))
-        (asked_there told ∙ on_no rose);
+        ((λ mine. asked_there ∙ is_no asked refl still low), tt);
+    asked = λ rose. subst (λ list. is_cancel_asked (tables_of list) file ≡ true)
+        (sym met_again)
+        (asked_there ∙ on_no rose);
   }
     where
+      shows_still : shop_shows disks took.after ≡ shown_after (shown_after old.opening_shows old.seen) took.between
+      shows_still = ap (shop_shows disks) looked.same ∙ took.showed ∙ shown_on old.opening_shows old.seen took.between
+
       is_no : (answer : Bool) → asked ≡ answer → noes_now ≡ noes → noes < 18446744073709551615 → asked ≡ false
       is_no true is still low = absurd (on_yes is low still)
       is_no false is still low = is

@@ -1,5 +1,5 @@
 -- A turn of the lock, as the turnstile says it, is a turn as workers and lanes say it; and what was tried in it is what they say of a command.
-use Rattle.std.proofs.Common.{◌≡◌, ◌≢◌, refl, sym, ap, ◌∙◌, subst, inl, inr, ⊎_elim, ℕ, ◌≤◌, arith, List, [], ◌∷◌, ◌++◌, append-nil, append_assoc, Option, Some, None, Result, Ok, Err, IsOk}
+use Rattle.std.proofs.Common.{◌≡◌, ◌⊎◌, refl, sym, ap, ◌∙◌, subst, inl, inr, ⊎_elim, ℕ, ◌≤◌, arith, Bool, true, false, List, [], ◌∷◌, ◌++◌, append-nil, append_assoc, Option, Some, None, Result, Ok, Err, IsOk}
 use Rattle.std.proofs.lemmas.List.{append_cancel_left}
 use Rattle.fts_tables.specs.Counts.{Rose}
 use Rattle.fts_tables.specs.Tables.{Tables}
@@ -8,17 +8,16 @@ use Rattle.fts_tables.specs.declared.commands.Entry.{Entry}
 use Rattle.fts_tables.specs.declared.commands.Command.{Command}
 use Rattle.fts_tables.specs.declared.commands.Command.TheVariants.{Claim, Expire}
 use Rattle.fts_tables.specs.declared.commands.Answer.{Answer}
-use Rattle.fts_disk.specs.Disk.{IsTold}
 use Rattle.fts_turnstile.specs.declared.turn.LoggedTurn.{LoggedTurn}
 use Rattle.fts_turnstile.specs.History.{items_of, turn_of, AllName, AllNamed}
 use Rattle.fts_turnstile.specs.Passes.{PassView, IsSame, TookTurn, seen_list}
-use Rattle.fts_keep.specs.Keeps.{KeepData, IsKeep, HoldsList}
+use Rattle.fts_keep.specs.Keeps.{KeepData, IsKeep, IsFilledBy}
 use Rattle.fts_keep.specs.Applied.{Applied, applied_to, entry_by}
 use Rattle.fts_keep.specs.declared.fault.KeepFault.{KeepFault}
 use Rattle.fts_keep.specs.declared.fault.KeepFault.TheVariants.{Rule, DiskFailed, JournalFull, Damaged, Memory}
 use Rattle.fts_workers.specs.Rounds.{applied_over}
 use Rattle.fts_workers.specs.ClaimSteps.{FollowsExpiry, HasNoneOverdue}
-use Rattle.fts_shop.specs.Shops.{ShopData, shop_entries, writer_of, shop_shows, faults_shown, lanes_shown, TakesTurn, point, HasFault, IsToldList, CameTo, added_by, TriedInTurn}
+use Rattle.fts_shop.specs.Shops.{ShopData, shop_entries, writer_of, shop_shows, faults_shown, lanes_shown, flag, is_doubted, ShowsOn, KeepsDisk, TakesTurn, point, HasFault, CameTo, added_by, TriedInTurn}
 use Rattle.fts_shop.specs.Shops.{ClaimsIfTried, IsTriedBehind, StepInTurn, added_by_claim}
 use Rattle.fts_shop.specs.Within.{StepsIn, TriesIn}
 use Rattle.fts_shop.specs.Looked.{items_on}
@@ -31,10 +30,35 @@ pub named_more : (turns : List (LoggedTurn Entry)) (turn : LoggedTurn Entry) →
 named_more [] turn named last = (last, tt)
 named_more (first ∷ turns) turn named last = (named.0, named_more turns turn named.1 last)
 
--- a list that isn't empty isn't so with more behind it
-pub some_more : (entries more : List Entry) → entries ≢ [] → entries ++ more ≢ []
-some_more [] more some = absurd (some refl)
-some_more (entry ∷ entries) more some = λ none. cc
+-- on a disk that tells its contents as before, an entry is in doubt where it was, or by a rise
+doubt_on : (told told_now : Bool) (doubt doubt_now : Option Entry) (Rises : Type 0) → told_now ≡ told
+    → (told ≡ true → (doubt_now ≡ None) ⊎ ((doubt_now ≡ doubt) ⊎ Rises)) → flag (is_doubted told_now doubt_now) ≡ 1
+    → (flag (is_doubted told doubt) ≡ 1) ⊎ Rises
+doubt_on false told_now doubt doubt_now Rises same caused is =
+    let no : flag (is_doubted false doubt_now) ≡ 1 = subst (λ told. flag (is_doubted told doubt_now) ≡ 1) same is in absurd cc
+doubt_on true told_now doubt doubt_now Rises same caused is =
+    let now : flag (is_doubted true doubt_now) ≡ 1 = subst (λ told. flag (is_doubted told doubt_now) ≡ 1) same is in
+    ⊎_elim
+    (λ none. let no : flag (is_doubted true None) ≡ 1 = subst (λ found. flag (is_doubted true found) ≡ 1) none now in absurd cc)
+    (λ some. ⊎_elim (λ still. inl (subst (λ found. flag (is_doubted true found) ≡ 1) still now)) (λ rose. inr rose) some)
+    (caused refl)
+
+-- what is shown of a disk that was kept so
+pub shows_on : {D : Type 0} (disks : disk.Ghosts D) (old new : ShopData D) → KeepsDisk disks old.keep new.keep → ShowsOn (shop_shows disks old) (shop_shows disks new)
+shows_on disks old new kept = record {
+  tells = ap flag kept.told;
+  counts = kept.counts;
+  doubt = doubt_on (disks.state old.keep.disk).told (disks.state new.keep.disk).told old.keep.doubt new.keep.doubt
+      (Rose (disks.faults old.keep.disk) (disks.faults new.keep.disk)) kept.told kept.doubt;
+}
+
+-- a keep keeps its own disk so
+pub same_disk : {D : Type 0} (disks : disk.Ghosts D) (keep : KeepData D) → KeepsDisk disks keep keep
+same_disk disks keep = record { told = refl; counts = omega arith; doubt = λ told. inr (inl refl) }
+
+-- and what is shown goes on from itself
+pub shows_same : (shown : List ℕ) → ShowsOn shown shown
+shows_same shown = record { tells = refl; counts = omega arith; doubt = λ is. inl is }
 
 module _ {D : Type 0} (disks : disk.Ghosts D) (old new : KeepData D) (entry : Entry) where
   -- what a command came to over a keep is what it came to over a list that the keep is of
@@ -49,30 +73,17 @@ module _ {D : Type 0} (disks : disk.Ghosts D) (old new : KeepData D) (entry : En
   came_over entries rose would rises (Err (Damaged offset)) applied = absurd applied
 
   -- and what it added to a keep's own list
-  added_over : IsTold (disks.state old.disk) → (result : Result Answer KeepFault) → Applied disks.state disks.faults old new entry result
+  added_over : (result : Result Answer KeepFault) → Applied disks.state disks.faults old new entry result
       → new.entries ≡ old.entries ++ added_by entry result
-  added_over told (Ok found) applied = (applied.listed told).0
-  added_over told (Err (Rule refusal)) applied = ap (λ (k : KeepData D). k.entries) applied.1 ∙ sym (append-nil old.entries)
-  added_over told (Err (JournalFull used)) applied = ap (λ (k : KeepData D). k.entries) applied.1 ∙ sym (append-nil old.entries)
-  added_over told (Err DiskFailed) applied = applied.keeps.entries ∙ sym (append-nil old.entries)
-  added_over told (Err Memory) applied = applied.keeps.entries ∙ sym (append-nil old.entries)
-  added_over told (Err (Damaged offset)) applied = absurd applied
+  added_over (Ok found) applied = applied.listed
+  added_over (Err (Rule refusal)) applied = ap (λ (k : KeepData D). k.entries) applied.1 ∙ sym (append-nil old.entries)
+  added_over (Err (JournalFull used)) applied = ap (λ (k : KeepData D). k.entries) applied.1 ∙ sym (append-nil old.entries)
+  added_over (Err DiskFailed) applied = applied.keeps.entries ∙ sym (append-nil old.entries)
+  added_over (Err Memory) applied = applied.keeps.entries ∙ sym (append-nil old.entries)
+  added_over (Err (Damaged offset)) applied = absurd applied
 
 module _ {D : Type 0} (disks : disk.Ghosts D) (work : ShopData D → ShopData D → Type 0) (old new : PassView Entry) (same : IsSame old new)
     (took : TookTurn shop_entries writer_of (shop_shows disks) work old new) where
-  -- the turn
-  abbrev pub taken_of : TakesTurn old new
-  taken_of = record {
-    between = took.between;
-    turn = turn_of old.number took.added (shop_shows disks took.after);
-    others = took.others;
-    mine = refl;
-    seen = took.seen;
-    same = same;
-    named = subst (λ turns. AllNamed writer_of turns) (sym took.seen)
-        (named_more (old.seen ++ took.between) (turn_of old.number took.added (shop_shows disks took.after)) took.all_named took.named);
-  }
-
   -- the list that the turn left is what the pass has then seen
   pub list_left : took.after.keep.entries ≡ seen_list new
   list_left =
@@ -83,156 +94,153 @@ module _ {D : Type 0} (disks : disk.Ghosts D) (work : ShopData D → ShopData D 
       ∙ sym (items_on (old.seen ++ took.between) (turn_of old.number took.added (shop_shows disks took.after) ∷ [])))
       ∙ (λ i. sym same.1 i ++ items_of (sym took.seen i))
 
-  -- where the list held an entry at the beginning, it holds one in the turn
-  pub some_met : IsToldList old → took.before.keep.entries ≢ []
-  some_met some = λ none. some_more old.opening (items_of (old.seen ++ took.between)) some (sym took.began ∙ none)
-
   -- where nothing was added to the list, no items were
   pub nothing_added : took.after.keep.entries ≡ took.before.keep.entries → took.added ≡ []
   nothing_added is = append_cancel_left took.before.keep.entries took.added []
       (sym took.appended ∙ is ∙ sym (append-nil took.before.keep.entries))
 
-  -- a rise of the disk's count is one that is shown
-  rose_shown : Rose (disks.faults took.before.keep.disk) (disks.faults took.after.keep.disk) → HasFault taken_of
-  rose_shown rose = subst (λ n. Rose n (disks.faults took.after.keep.disk)) (ap faults_shown took.showed) rose
-
-  -- what a command would come to over the keep that the turn met is what it would over the list
-  would_met : IsKeep disks.state took.before.keep → (took.before.keep.entries ≢ [] → IsTold (disks.state took.before.keep.disk)) → IsToldList old
-      → (entry : Entry) → applied_to took.before.keep.tables took.before.keep.used entry ≡ applied_over (point taken_of) entry
-  would_met kept told some entry =
-      let holds = kept.fold.holds (told (some_met some)) in
-      (λ i. applied_to (holds.folded i) (holds.fills i) entry) ∙ ap (λ list. applied_over list entry) took.began
-
   -- the tables that the turn left are those of the list that the pass has then seen
-  pub tables_left : IsKeep disks.state took.after.keep → (took.after.keep.entries ≢ [] → IsTold (disks.state took.after.keep.disk)) → IsToldList old
-      → took.after.keep.tables ≡ tables_of (seen_list new)
-  tables_left kept told some =
-      (kept.fold.holds (told
-      (subst (λ list. list ≢ []) (sym took.appended) (some_more took.before.keep.entries took.added (some_met some))))).folded
-      ∙ ap tables_of list_left
+  pub tables_left : IsKeep disks.state took.after.keep → took.after.keep.tables ≡ tables_of (seen_list new)
+  tables_left kept = kept.fold.filled.list.folded ∙ ap tables_of list_left
 
-  module _ (command : Command) (answer : Result Answer KeepFault) (lanes : ℕ)
-      (tries : TriesIn disks old.number command took.before took.after answer lanes) where
-    abbrev entry : Entry
-    entry = entry_by old.number command
-
-    -- what the command would come to over the keep is what it would over the list
-    would_is : IsToldList old → applied_to took.before.keep.tables took.before.keep.used entry ≡ applied_over (point taken_of) entry
-    would_is some = would_met tries.kept tries.told some entry
-
-    added_is : IsToldList old → took.added ≡ added_by entry answer
-    added_is some = append_cancel_left took.before.keep.entries took.added (added_by entry answer)
-        (sym took.appended ∙ added_over disks took.before.keep took.after.keep entry (tries.told (some_met some)) answer tries.applied)
-
-    -- a command that was tried in the turn
-    pub tried_of : TriedInTurn old new command answer lanes
-    tried_of = record {
-      taken = taken_of;
-      came = λ some. came_over disks took.before.keep took.after.keep entry (point taken_of) (HasFault taken_of) (would_is some) rose_shown answer tries.applied;
-      added = added_is;
-      answers = answers_to disks took.before.keep took.after.keep old.number command answer tries.applied;
-      cause = λ failed. rose_shown (subst (λ result. Applied disks.state disks.faults took.before.keep took.after.keep entry result) failed tries.applied).rose;
-      left = tries.left ∙ ap lanes_shown took.showed;
-      stay = tries.stay ∙ ap lanes_shown took.showed;
+  module _ (disk_kept : KeepsDisk disks took.before.keep took.after.keep) where
+    -- the turn
+    abbrev pub taken_of : TakesTurn old new
+    taken_of = record {
+      between = took.between;
+      turn = turn_of old.number took.added (shop_shows disks took.after);
+      others = took.others;
+      mine = refl;
+      seen = took.seen;
+      same = same;
+      named = subst (λ turns. AllNamed writer_of turns) (sym took.seen)
+          (named_more (old.seen ++ took.between) (turn_of old.number took.added (shop_shows disks took.after)) took.all_named took.named);
+      on = subst (λ shown. ShowsOn shown (shop_shows disks took.after)) took.showed (shows_on disks took.before took.after disk_kept);
     }
 
-  -- an expiry and a claim as one step
-  module _ (now word : ℕ) (expiry : Result Answer KeepFault) (claim : Option (Result Answer KeepFault)) (lanes : ℕ)
-      (steps : StepsIn disks old.number now word took.before took.after expiry claim lanes) where
-    -- the entries, and the keep between the two
-    abbrev expires : Entry
-    expires = entry_by old.number (Expire now)
+    -- a rise of the disk's count is one that is shown
+    rose_shown : Rose (disks.faults took.before.keep.disk) (disks.faults took.after.keep.disk) → HasFault taken_of
+    rose_shown rose = subst (λ n. Rose n (disks.faults took.after.keep.disk)) (ap faults_shown took.showed) rose
 
-    abbrev claims : Entry
-    claims = entry_by old.number (Claim now word)
+    -- what a command would come to over the keep that the turn met is what it would over the list
+    would_met : IsKeep disks.state took.before.keep → (entry : Entry)
+        → applied_to took.before.keep.tables took.before.keep.used entry ≡ applied_over (point taken_of) entry
+    would_met kept entry =
+        (λ i. applied_to (kept.fold.filled.list.folded i) (kept.fold.filled.fills i) entry) ∙ ap (λ list. applied_over list entry) took.began
 
-    abbrev between : KeepData D
-    between = steps.stepped.between
+    module _ (command : Command) (answer : Result Answer KeepFault) (lanes : ℕ)
+        (tries : TriesIn disks old.number command took.before took.after answer lanes) where
+      abbrev entry : Entry
+      entry = entry_by old.number command
 
-    -- the list that the claim meets
-    abbrev met : List Entry
-    met = point taken_of ++ added_by expires expiry
+      -- what the command would come to over the keep is what it would over the list
+      would_is : applied_to took.before.keep.tables took.before.keep.used entry ≡ applied_over (point taken_of) entry
+      would_is = would_met tries.kept entry
 
-    listed_between : IsToldList old → between.entries ≡ took.before.keep.entries ++ added_by expires expiry
-    listed_between some =
-        added_over disks took.before.keep between expires (steps.told (some_met some)) expiry steps.stepped.expired.tried.applied
+      added_is : took.added ≡ added_by entry answer
+      added_is = append_cancel_left took.before.keep.entries took.added (added_by entry answer)
+          (sym took.appended ∙ added_over disks took.before.keep took.after.keep entry answer tries.applied)
 
-    told_between : IsToldList old → IsTold (disks.state between.disk)
-    told_between some = steps.stepped.told
-        (subst (λ list. list ≢ []) (sym (listed_between some)) (some_more took.before.keep.entries (added_by expires expiry) (some_met some)))
+      -- a command that was tried in the turn
+      pub tried_of : TriedInTurn old new command answer lanes
+      tried_of = record {
+        taken = taken_of;
+        came = came_over disks took.before.keep took.after.keep entry (point taken_of) (HasFault taken_of) would_is rose_shown answer tries.applied;
+        added = added_is;
+        answers = answers_to disks took.before.keep took.after.keep old.number command answer tries.applied;
+        cause = λ failed. rose_shown (subst (λ result. Applied disks.state disks.faults took.before.keep took.after.keep entry result) failed tries.applied).rose;
+        left = tries.left ∙ ap lanes_shown took.showed;
+        stay = tries.stay ∙ ap lanes_shown took.showed;
+      }
 
-    -- the keep between is of that list
-    holds_between : IsToldList old
-        → HoldsList (disks.state between.disk) between.entries between.doubt between.tables between.commands between.used between.in_doubt
-    holds_between some = steps.stepped.kept.fold.holds (told_between some)
+    -- an expiry and a claim as one step
+    module _ (now word : ℕ) (expiry : Result Answer KeepFault) (claim : Option (Result Answer KeepFault)) (lanes : ℕ)
+        (steps : StepsIn disks old.number now word took.before took.after expiry claim lanes) where
+      -- the entries, and the keep between the two
+      abbrev expires : Entry
+      expires = entry_by old.number (Expire now)
 
-    list_between : IsToldList old → between.entries ≡ met
-    list_between some = listed_between some ∙ ap (λ list. list ++ added_by expires expiry) took.began
+      abbrev claims : Entry
+      claims = entry_by old.number (Claim now word)
 
-    tables_between : IsToldList old → between.tables ≡ tables_of met
-    tables_between some = (holds_between some).folded ∙ ap tables_of (list_between some)
+      abbrev between : KeepData D
+      between = steps.stepped.between
 
-    would_between : IsToldList old → applied_to between.tables between.used claims ≡ applied_over met claims
-    would_between some = let holds = holds_between some in
-        (λ i. applied_to (holds.folded i) (holds.fills i) claims) ∙ ap (λ list. applied_over list claims) (list_between some)
+      -- the list that the claim meets
+      abbrev met : List Entry
+      met = point taken_of ++ added_by expires expiry
 
-    -- what follows the expiry
-    abbrev Follows : Option (Result Answer KeepFault) → Type 0
-    Follows tried = FollowsExpiry disks.state disks.faults old.number between took.after.keep now word expiry tried
+      listed_between : between.entries ≡ took.before.keep.entries ++ added_by expires expiry
+      listed_between = added_over disks took.before.keep between expires expiry steps.stepped.expired.tried.applied
 
-    -- the disk's count never falls in it
-    counts_on : (tried : Option (Result Answer KeepFault)) → Follows tried → disks.faults between.disk ≤ disks.faults took.after.keep.disk
-    counts_on None follows = omega (arith, ap (λ (k : KeepData D). disks.faults k.disk) follows.1)
-    counts_on (Some result) follows = follows.1.claim.tried.keeps.grows.counts
+      -- the keep between is of that list
+      filled_between : IsFilledBy between between.entries
+      filled_between = steps.stepped.kept.fold.filled
 
-    -- so a rise in either is shown
-    rose_first : Rose (disks.faults took.before.keep.disk) (disks.faults between.disk) → HasFault taken_of
-    rose_first rose = rose_shown
-        (⊎_elim (λ more. inl (omega (arith, more, counts_on claim steps.stepped.follows))) (λ most. inr (omega (arith, most, counts_on claim steps.stepped.follows))) rose)
+      list_between : between.entries ≡ met
+      list_between = listed_between ∙ ap (λ list. list ++ added_by expires expiry) took.began
 
-    rose_later : Rose (disks.faults between.disk) (disks.faults took.after.keep.disk) → HasFault taken_of
-    rose_later rose = rose_shown
-        (⊎_elim (λ more. inl (omega (arith, more, steps.stepped.expired.tried.keeps.grows.counts))) (λ most. inr most) rose)
+      tables_between : between.tables ≡ tables_of met
+      tables_between = filled_between.list.folded ∙ ap tables_of list_between
 
-    claims_if : (tried : Option (Result Answer KeepFault)) → Follows tried → IsToldList old
-        → ClaimsIfTried met old.number now word (HasFault taken_of) tried
-    claims_if None follows some = tt
-    claims_if (Some result) follows some = record {
-      none_overdue = subst (λ (tables : Tables). HasNoneOverdue tables now) (tables_between some) follows.1.none_overdue;
-      came = came_over disks between took.after.keep claims met (HasFault taken_of) (would_between some) rose_later result follows.1.claim.tried.applied;
-    }
+      would_between : applied_to between.tables between.used claims ≡ applied_over met claims
+      would_between =
+          (λ i. applied_to (filled_between.list.folded i) (filled_between.fills i) claims) ∙ ap (λ list. applied_over list claims) list_between
 
-    listed_behind : (tried : Option (Result Answer KeepFault)) → Follows tried → IsToldList old
-        → took.after.keep.entries ≡ between.entries ++ added_by_claim claims tried
-    listed_behind None follows some = ap (λ (k : KeepData D). k.entries) follows.1 ∙ sym (append-nil between.entries)
-    listed_behind (Some result) follows some =
-        added_over disks between took.after.keep claims (told_between some) result follows.1.claim.tried.applied
+      -- what follows the expiry
+      abbrev Follows : Option (Result Answer KeepFault) → Type 0
+      Follows tried = FollowsExpiry disks.state disks.faults old.number between took.after.keep now word expiry tried
 
-    both_added : IsToldList old → took.added ≡ added_by expires expiry ++ added_by_claim claims claim
-    both_added some =
-        let before = took.before.keep.entries in
-        append_cancel_left before took.added (added_by expires expiry ++ added_by_claim claims claim)
-        (sym took.appended ∙ listed_behind claim steps.stepped.follows some
-        ∙ ap (λ list. list ++ added_by_claim claims claim) (listed_between some)
-        ∙ append_assoc before (added_by expires expiry) (added_by_claim claims claim))
+      -- the disk's count never falls in it
+      counts_on : (tried : Option (Result Answer KeepFault)) → Follows tried → disks.faults between.disk ≤ disks.faults took.after.keep.disk
+      counts_on None follows = omega (arith, ap (λ (k : KeepData D). disks.faults k.disk) follows.1)
+      counts_on (Some result) follows = follows.1.claim.tried.keeps.grows.counts
 
-    tried_behind : (tried : Option (Result Answer KeepFault)) → Follows tried → IsTriedBehind expiry tried
-    tried_behind None follows = follows.0
-    tried_behind (Some result) follows = (follows.0, follows.1.claim.answers)
+      -- so a rise in either is shown
+      rose_first : Rose (disks.faults took.before.keep.disk) (disks.faults between.disk) → HasFault taken_of
+      rose_first rose = rose_shown
+          (⊎_elim (λ more. inl (omega (arith, more, counts_on claim steps.stepped.follows))) (λ most. inr (omega (arith, most, counts_on claim steps.stepped.follows))) rose)
 
-    -- a step that was made in the turn
-    pub stepped_of : StepInTurn old new now word expiry claim lanes
-    stepped_of = record {
-      taken = taken_of;
-      expired = λ some. came_over disks took.before.keep between expires (point taken_of) (HasFault taken_of)
-          (would_met steps.kept steps.told some expires) rose_first expiry steps.stepped.expired.tried.applied;
-      claimed = claims_if claim steps.stepped.follows;
-      added = both_added;
-      answers = steps.stepped.expired.answers;
-      follows = tried_behind claim steps.stepped.follows;
-      expiry_cause = λ failed. rose_first
-          (subst (λ result. Applied disks.state disks.faults took.before.keep between expires result) failed steps.stepped.expired.tried.applied).rose;
-      claim_cause = λ failed. rose_later (subst Follows failed steps.stepped.follows).1.claim.tried.applied.rose;
-      left = steps.left ∙ ap lanes_shown took.showed;
-      stay = steps.stay ∙ ap lanes_shown took.showed;
-    }
+      rose_later : Rose (disks.faults between.disk) (disks.faults took.after.keep.disk) → HasFault taken_of
+      rose_later rose = rose_shown
+          (⊎_elim (λ more. inl (omega (arith, more, steps.stepped.expired.tried.keeps.grows.counts))) (λ most. inr most) rose)
+
+      claims_if : (tried : Option (Result Answer KeepFault)) → Follows tried → ClaimsIfTried met old.number now word (HasFault taken_of) tried
+      claims_if None follows = tt
+      claims_if (Some result) follows = record {
+        none_overdue = subst (λ (tables : Tables). HasNoneOverdue tables now) tables_between follows.1.none_overdue;
+        came = came_over disks between took.after.keep claims met (HasFault taken_of) would_between rose_later result follows.1.claim.tried.applied;
+      }
+
+      listed_behind : (tried : Option (Result Answer KeepFault)) → Follows tried → took.after.keep.entries ≡ between.entries ++ added_by_claim claims tried
+      listed_behind None follows = ap (λ (k : KeepData D). k.entries) follows.1 ∙ sym (append-nil between.entries)
+      listed_behind (Some result) follows = added_over disks between took.after.keep claims result follows.1.claim.tried.applied
+
+      both_added : took.added ≡ added_by expires expiry ++ added_by_claim claims claim
+      both_added =
+          let before = took.before.keep.entries in
+          append_cancel_left before took.added (added_by expires expiry ++ added_by_claim claims claim)
+          (sym took.appended ∙ listed_behind claim steps.stepped.follows
+          ∙ ap (λ list. list ++ added_by_claim claims claim) listed_between
+          ∙ append_assoc before (added_by expires expiry) (added_by_claim claims claim))
+
+      tried_behind : (tried : Option (Result Answer KeepFault)) → Follows tried → IsTriedBehind expiry tried
+      tried_behind None follows = follows.0
+      tried_behind (Some result) follows = (follows.0, follows.1.claim.answers)
+
+      -- a step that was made in the turn
+      pub stepped_of : StepInTurn old new now word expiry claim lanes
+      stepped_of = record {
+        taken = taken_of;
+        expired = came_over disks took.before.keep between expires (point taken_of) (HasFault taken_of)
+            (would_met steps.kept expires) rose_first expiry steps.stepped.expired.tried.applied;
+        claimed = claims_if claim steps.stepped.follows;
+        added = both_added;
+        answers = steps.stepped.expired.answers;
+        follows = tried_behind claim steps.stepped.follows;
+        expiry_cause = λ failed. rose_first
+            (subst (λ result. Applied disks.state disks.faults took.before.keep between expires result) failed steps.stepped.expired.tried.applied).rose;
+        claim_cause = λ failed. rose_later (subst Follows failed steps.stepped.follows).1.claim.tried.applied.rose;
+        left = steps.left ∙ ap lanes_shown took.showed;
+        stay = steps.stay ∙ ap lanes_shown took.showed;
+      }

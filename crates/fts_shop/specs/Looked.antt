@@ -31,7 +31,6 @@ use Rattle.fts_tables.specs.declared.commands.Refusal.TheVariants.{NoJob, NoFile
 use Rattle.fts_turnstile.specs.declared.turn.LoggedTurn.{LoggedTurn}
 use Rattle.fts_turnstile.specs.History.{items_of, shown_after}
 use Rattle.fts_turnstile.specs.Passes.{PassView, IsSame, seen_list}
-use Rattle.fts_shop.specs.Shops.{IsToldList}
 use Rattle.fts_shop.specs.Within.{is_cancel_asked}
 use Rattle.fts_shop.specs.Looking.{looks_in, Unasked, LeaveLanes, NoneOf, IsWatched}
 
@@ -341,8 +340,8 @@ watched_itself file pass askings noes = record {
   lanes = tt;
   looks = omega arith;
   no_fewer = omega arith;
-  unasked = λ told same low. tt;
-  asked = λ told rose. absurd (omega (arith, rose));
+  unasked = λ same low. tt;
+  asked = λ rose. absurd (omega (arith, rose));
 }
 
 -- and passes on
@@ -353,7 +352,6 @@ watched_on file other one two three a b c n m k is_file first behind =
     let number : two.number ≡ one.number = first.same.3 in
     let opening : two.opening ≡ one.opening = first.same.1 in
     let list : seen_list two ≡ seen_list one ++ items_of first.since = seen_on one two first.since opening first.seen in
-    let told : IsToldList one → IsToldList two = λ is none. is (sym opening ∙ none) in
     record {
       same = same_on one two three first.same second.same;
       only_looks = second.only_looks ∙ first.only_looks;
@@ -373,16 +371,16 @@ watched_on file other one two three a b c n m k is_file first behind =
         ap (λ n. looks_in n second.since) number,
       );
       no_fewer = omega (arith, first.no_fewer, second.no_fewer);
-      unasked = λ is same low.
+      unasked = λ same low.
           let still : m ≡ n = omega (arith, first.no_fewer, second.no_fewer, same) in
-          unasked_on one.number file (seen_list one) first.since second.since (first.unasked is still low)
+          unasked_on one.number file (seen_list one) first.since second.since (first.unasked still low)
           (subst (λ list. Unasked one.number file list second.since) list
           (subst (λ n. Unasked n file (seen_list two) second.since) number
-          (second.unasked (told is) (omega (arith, same, still)) (omega (arith, low, still)))));
-      asked = λ is rose. dite (dec_le m n)
-          (λ le. second.asked (told is) (omega (arith, le, rose)))
+          (second.unasked (omega (arith, same, still)) (omega (arith, low, still)))));
+      asked = λ rose. dite (dec_le m n)
+          (λ le. second.asked (omega (arith, le, rose)))
           (λ more.
           subst (λ list. is_cancel_asked (tables_of list) file ≡ true)
           (sym (seen_on two three second.since second.same.1 second.seen))
-          (asked_stays (seen_list two) (items_of second.since) file (first.asked is (omega arith))));
+          (asked_stays (seen_list two) (items_of second.since) file (first.asked (omega arith))));
     }

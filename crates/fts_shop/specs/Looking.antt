@@ -5,7 +5,7 @@ use Rattle.fts_tables.specs.declared.commands.Entry.{Entry}
 use Rattle.fts_turnstile.specs.declared.turn.LoggedTurn.{LoggedTurn}
 use Rattle.fts_turnstile.specs.History.{items_of, shown_after}
 use Rattle.fts_turnstile.specs.Passes.{PassView, IsSame, own_items, seen_list}
-use Rattle.fts_shop.specs.Shops.{IsToldList, lanes_shown}
+use Rattle.fts_shop.specs.Shops.{lanes_shown, ShowsOn}
 use Rattle.fts_shop.specs.Within.{is_cancel_asked}
 
 -- a list without an item
@@ -24,10 +24,11 @@ Unasked number file entries [] = Unit {0}
 Unasked number file entries (turn ∷ turns) =
     (turn.number ≡ number → is_cancel_asked (tables_of entries) file ≡ false) × Unasked number file (entries ++ turn.items) turns
 
--- the turns with this number leave the lanes as the turn before them showed them
+-- the turns with this number leave the lanes as the turn before them showed them, and go on from the rest that it showed
 abbrev pub LeaveLanes : ℕ → List ℕ → List (LoggedTurn Entry) → Type 0
 LeaveLanes number shown [] = Unit {0}
-LeaveLanes number shown (turn ∷ turns) = (turn.number ≡ number → lanes_shown turn.shows ≡ lanes_shown shown) × LeaveLanes number turn.shows turns
+LeaveLanes number shown (turn ∷ turns) =
+    (turn.number ≡ number → (lanes_shown turn.shows ≡ lanes_shown shown) × ShowsOn shown turn.shows) × LeaveLanes number turn.shows turns
 
 -- none of the entries is of this writer
 abbrev pub NoneOf : ℕ → List Entry → Type 0
@@ -46,5 +47,5 @@ pub record IsWatched (file : ℕ) (old new : PassView Entry) (askings askings_no
   pub looks : askings_now ≤ askings + looks_in old.number since
   pub no_fewer : noes ≤ noes_now
   -- a count at the end of its type stays
-  pub unasked : IsToldList old → noes_now ≡ noes → noes < 18446744073709551615 → Unasked old.number file (seen_list old) since
-  pub asked : IsToldList old → noes < noes_now → is_cancel_asked (tables_of (seen_list new)) file ≡ true
+  pub unasked : noes_now ≡ noes → noes < 18446744073709551615 → Unasked old.number file (seen_list old) since
+  pub asked : noes < noes_now → is_cancel_asked (tables_of (seen_list new)) file ≡ true

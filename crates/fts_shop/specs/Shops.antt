@@ -1,5 +1,5 @@
 -- The value behind the lock, the turns that a pass takes of it, and what a command comes to in one.
-use Rattle.std.specs.Prelude.{◌≡◌, ◌≢◌, ℕ, ◌-◌, true, false, List, [], ◌∷◌, ◌++◌, Option, Some, None, Result, Ok, Err, IsOk, slice_index}
+use Rattle.std.specs.Prelude.{◌≡◌, ◌⊎◌, ℕ, ◌-◌, ◌≤◌, ◌&&◌, Bool, true, false, if◌then◌else◌, List, [], ◌∷◌, ◌++◌, Option, Some, None, is_some, Result, Ok, Err, IsOk, slice_index}
 use Rattle.fts_tables.specs.Counts.{Rose}
 use Rattle.fts_tables.specs.Tables.{Tables}
 use Rattle.fts_tables.specs.History.{tables_of}
@@ -10,6 +10,7 @@ use Rattle.fts_tables.specs.declared.commands.Answer.{Answer}
 use Rattle.fts_tables.specs.declared.commands.Answer.TheVariants.{Restarted, Submitted, Cancelled, PrioritySet, Claimed, Reported, Banned, Unbanned, Expired}
 use Rattle.fts_tables.specs.declared.rows.FileState.{FileState}
 use Rattle.fts_tables.specs.declared.rows.FileState.TheVariants as state
+use Rattle.fts_disk.specs.Disk.{IsTold}
 use Rattle.fts_turnstile.specs.declared.turn.LoggedTurn.{LoggedTurn}
 use Rattle.fts_turnstile.specs.History.{items_of, shown_after, AllNamed, NoneBy}
 use Rattle.fts_turnstile.specs.Passes.{PassView, IsSame, numbers_of}
@@ -42,9 +43,19 @@ shop_entries shop = shop.keep.entries
 abbrev pub writer_of : Entry → ℕ
 writer_of entry = entry.writer
 
--- what a shop shows besides: its disk's count of faults, and the lanes left
+-- a test as a number
+abbrev pub flag : Bool → ℕ
+flag test = if test then 1 else 0
+
+-- an entry is in doubt on a disk that tells its contents
+abbrev pub is_doubted : Bool → Option Entry → Bool
+is_doubted told doubt = told && is_some doubt
+
+-- what a shop shows besides: its disk's count of faults, the lanes left, whether its disk tells its contents, and whether an entry is in doubt there
 abbrev pub shop_shows : {D : Type 0} → disk.Ghosts D → ShopData D → List ℕ
-shop_shows disks shop = disks.faults shop.keep.disk ∷ shop.lanes ∷ []
+shop_shows disks shop =
+    disks.faults shop.keep.disk ∷ shop.lanes ∷ flag (disks.state shop.keep.disk).told
+    ∷ flag (is_doubted (disks.state shop.keep.disk).told shop.keep.doubt) ∷ []
 
 -- the count of faults that is shown
 abbrev pub faults_shown : List ℕ → ℕ
@@ -53,6 +64,27 @@ faults_shown shown = slice_index shown 0
 -- the lanes left that are shown
 abbrev pub lanes_shown : List ℕ → ℕ
 lanes_shown shown = slice_index shown 1
+
+-- whether the disk tells its contents, as it is shown
+abbrev pub telling_shown : List ℕ → ℕ
+telling_shown shown = slice_index shown 2
+
+-- whether an entry is in doubt there, as it is shown
+abbrev pub doubt_shown : List ℕ → ℕ
+doubt_shown shown = slice_index shown 3
+
+-- what no turn does: whether the disk tells its contents stays, its count of faults never falls, and an entry comes into doubt only where it rose
+pub record ShowsOn (before after : List ℕ) : Type 0 where
+  pub tells : telling_shown after ≡ telling_shown before
+  pub counts : faults_shown before ≤ faults_shown after
+  pub doubt : doubt_shown after ≡ 1 → (doubt_shown before ≡ 1) ⊎ Rose (faults_shown before) (faults_shown after)
+
+-- the same of a keep's disk
+pub record KeepsDisk {D : Type 0} (disks : disk.Ghosts D) (old new : KeepData D) : Type 0 where
+  pub told : (disks.state new.disk).told ≡ (disks.state old.disk).told
+  pub counts : disks.faults old.disk ≤ disks.faults new.disk
+  pub doubt : IsTold (disks.state old.disk)
+      → (new.doubt ≡ None) ⊎ ((new.doubt ≡ old.doubt) ⊎ Rose (disks.faults old.disk) (disks.faults new.disk))
 
 -- a pass took one turn, behind turns of others
 pub record TakesTurn (old new : PassView Entry) : Type 0 where
@@ -64,6 +96,7 @@ pub record TakesTurn (old new : PassView Entry) : Type 0 where
   pub same : IsSame old new
   -- each entry of a turn is of the turn's writer
   pub named : AllNamed writer_of new.seen
+  pub on : ShowsOn (shown_after old.opening_shows (old.seen ++ between)) turn.shows
 
 -- the list before the turn: the point at which what is done in it is done
 abbrev pub point : {old new : PassView Entry} → TakesTurn old new → List Entry
@@ -84,10 +117,6 @@ HasFault taken = Rose (faults_shown (shown_before taken)) (faults_shown taken.tu
 -- the turn leaves the number of lanes
 abbrev pub KeepsLanes : {old new : PassView Entry} → TakesTurn old new → Type 0
 KeepsLanes taken = lanes_shown taken.turn.shows ≡ lanes_in taken
-
--- the list held an entry when the lock was made, so its disk tells its contents and is honest
-abbrev pub IsToldList : PassView Entry → Type 0
-IsToldList pass = pass.opening ≢ []
 
 -- what a command came to, by what it would come to: the disk may fail where it would be accepted, and want of memory is free
 abbrev pub CameTo : Applies → Type 0 → Result Answer KeepFault → Type 0
@@ -145,9 +174,8 @@ AnswersTo (Unban now storage) result = Unit {0}
 -- a command was tried in one turn, over the list that the turn met, while so many lanes were left
 pub record TriedInTurn (old new : PassView Entry) (command : Command) (result : Result Answer KeepFault) (lanes : ℕ) : Type 0 where
   pub taken : TakesTurn old new
-  pub came : IsToldList old → CameTo (applied_over (point taken) (entry_by old.number command)) (HasFault taken) result
-  pub added : IsToldList old → taken.turn.items ≡ added_by (entry_by old.number command) result
-  -- these are so over every disk
+  pub came : CameTo (applied_over (point taken) (entry_by old.number command)) (HasFault taken) result
+  pub added : taken.turn.items ≡ added_by (entry_by old.number command) result
   pub answers : AnswersTo command result
   pub cause : result ≡ Err DiskFailed → HasFault taken
   pub left : lanes ≡ lanes_in taken
@@ -178,12 +206,9 @@ ClaimsIfTried entries writer now word rose (Some result) = ClaimsOver entries wr
 pub record StepInTurn (old new : PassView Entry) (now word : ℕ) (expiry : Result Answer KeepFault) (claim : Option (Result Answer KeepFault)) (lanes : ℕ)
     : Type 0 where
   pub taken : TakesTurn old new
-  pub expired : IsToldList old → CameTo (applied_over (point taken) (entry_by old.number (Expire now))) (HasFault taken) expiry
-  pub claimed : IsToldList old
-      → ClaimsIfTried (point taken ++ added_by (entry_by old.number (Expire now)) expiry) old.number now word (HasFault taken) claim
-  pub added : IsToldList old
-      → taken.turn.items ≡ added_by (entry_by old.number (Expire now)) expiry ++ added_by_claim (entry_by old.number (Claim now word)) claim
-  -- these are so over every disk
+  pub expired : CameTo (applied_over (point taken) (entry_by old.number (Expire now))) (HasFault taken) expiry
+  pub claimed : ClaimsIfTried (point taken ++ added_by (entry_by old.number (Expire now)) expiry) old.number now word (HasFault taken) claim
+  pub added : taken.turn.items ≡ added_by (entry_by old.number (Expire now)) expiry ++ added_by_claim (entry_by old.number (Claim now word)) claim
   pub answers : AnswersExpiry expiry
   pub follows : IsTriedBehind expiry claim
   pub expiry_cause : expiry ≡ Err DiskFailed → HasFault taken

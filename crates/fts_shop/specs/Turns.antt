@@ -22,7 +22,7 @@ use Rattle.fts_workers.specs.Copies.{IsCopied, copies_of_file}
 use Rattle.fts_workers.specs.declared.held.Held.{Held}
 use Rattle.fts_workers.specs.declared.hand.Hand.{Hand}
 use Rattle.fts_shop.specs.Within.{is_cancel_asked}
-use Rattle.fts_shop.specs.Shops.{IsToldList, StepInTurn, TriedInTurn, step_answer}
+use Rattle.fts_shop.specs.Shops.{StepInTurn, TriedInTurn, step_answer}
 use Rattle.fts_shop.specs.Looking.{looks_in, Unasked, LeaveLanes, NoneOf}
 use Rattle.fts_shop.specs.declared.ends.Turn.{Turn}
 use Rattle.fts_shop.specs.declared.ends.Turn.TheVariants as turn_ends
@@ -56,13 +56,13 @@ pub record Copies {E : Type 0} (stores : store.Ghosts E) (old new : PassView Ent
   pub only_looks : own_items new ≡ own_items old
   pub others : NoneOf old.number (items_of since)
   pub lanes : LeaveLanes old.number (shown_after old.opening_shows old.seen) since
-  -- the store's calls are those of the copy of an order, with the removal of its part behind one that wasn't verified, over every store and every
-  -- disk; over a told list it is the order of the file's row
+  -- the store's calls are those of the copy of an order, with the removal of its part behind one that wasn't verified, over every store; it is the
+  -- order of the file's row
   pub order : Order
   pub made : IsCopied (stores.state store) (stores.state after) (stores.calls store) (stores.calls after) (stores.faults store) (stores.faults after) (record { order = order; outcome = outcome })
-  pub of_file : IsToldList old → copies_of_file (tables_of (seen_list old)) file outcome ≡ record { order = order; outcome = outcome } ∷ []
-  pub looked : IsToldList old → IsLookedAfter outcome (looks_in old.number since) (Unasked old.number file (seen_list old) since)
-  pub stopped : IsToldList old → outcome ≡ Stopped → is_cancel_asked (tables_of (seen_list new)) file ≡ true
+  pub of_file : copies_of_file (tables_of (seen_list old)) file outcome ≡ record { order = order; outcome = outcome } ∷ []
+  pub looked : IsLookedAfter outcome (looks_in old.number since) (Unasked old.number file (seen_list old) since)
+  pub stopped : outcome ≡ Stopped → is_cancel_asked (tables_of (seen_list new)) file ≡ true
 
 -- the end of a turn by the state that a report was answered with
 abbrev pub end_by_state : ℕ → FileState → Turn

@@ -1,7 +1,6 @@
 -- What is done to a shop within one turn.
 use Rattle.std.specs.Prelude.{◌≡◌, ◌≢◌, ℕ, Bool, false, [], Option, None, IsSome, option_map, Result, Ok, Err}
 use Rattle.std.specs.Option.{option_map_or}
-use Rattle.fts_disk.specs.Disk.{IsTold}
 use Rattle.fts_tables.specs.Tables.{Tables, row_at}
 use Rattle.fts_tables.specs.declared.commands.Command.{Command}
 use Rattle.fts_tables.specs.declared.commands.Answer.{Answer}
@@ -13,18 +12,17 @@ use Rattle.fts_keep.specs.Applied.{Applied, entry_by}
 use Rattle.fts_keep.specs.declared.fault.KeepFault.{KeepFault}
 use Rattle.fts_workers.specs.Copies.{order_in}
 use Rattle.fts_workers.specs.ClaimSteps.{IsClaimStep}
-use Rattle.fts_shop.specs.Shops.{ShopData, shop_entries, writer_of}
+use Rattle.fts_shop.specs.Shops.{ShopData, KeepsDisk, shop_entries, writer_of}
 use Rattle.fts_disk.specs.declared.disk.Disk as disk
 
 -- a command of a writer was tried: what it came to, by its answer, what it added, and the lanes left, which stay
 pub record TriesIn {D : Type 0} (disks : disk.Ghosts D) (writer : ℕ) (command : Command) (old new : ShopData D)
     (answer : Result Answer KeepFault) (lanes : ℕ) : Type 0 where
-  -- what a keep's type keeps, and that only over a disk that tells its contents entries are seen
+  -- what a keep's type keeps
   pub kept : IsKeep disks.state old.keep
-  pub told : old.keep.entries ≢ [] → IsTold (disks.state old.keep.disk)
   pub keeps : IsKeep disks.state new.keep
-  pub still_told : new.keep.entries ≢ [] → IsTold (disks.state new.keep.disk)
   pub applied : Applied disks.state disks.faults old.keep new.keep (entry_by writer command) answer
+  pub disk : KeepsDisk disks old.keep new.keep
   pub appends : Appends shop_entries writer_of writer old new
   pub left : lanes ≡ old.lanes
   pub stay : new.lanes ≡ old.lanes
@@ -33,10 +31,9 @@ pub record TriesIn {D : Type 0} (disks : disk.Ghosts D) (writer : ℕ) (command 
 pub record StepsIn {D : Type 0} (disks : disk.Ghosts D) (writer now word : ℕ) (old new : ShopData D) (expiry : Result Answer KeepFault)
     (claim : Option (Result Answer KeepFault)) (lanes : ℕ) : Type 0 where
   pub kept : IsKeep disks.state old.keep
-  pub told : old.keep.entries ≢ [] → IsTold (disks.state old.keep.disk)
   pub keeps : IsKeep disks.state new.keep
-  pub still_told : new.keep.entries ≢ [] → IsTold (disks.state new.keep.disk)
   pub stepped : IsClaimStep disks.state disks.faults writer old.keep new.keep now word expiry claim
+  pub disk : KeepsDisk disks old.keep new.keep
   pub appends : Appends shop_entries writer_of writer old new
   pub left : lanes ≡ old.lanes
   pub stay : new.lanes ≡ old.lanes
@@ -74,6 +71,5 @@ is_cancel_asked tables file = option_map_or (λ row. row.cancel_asked) (row_at t
 -- a look whether cancel was asked of a file, which changes nothing
 pub record IsLookIn {D : Type 0} (disks : disk.Ghosts D) (file : ℕ) (old new : ShopData D) (asked : Bool) : Type 0 where
   pub kept : IsKeep disks.state old.keep
-  pub told : old.keep.entries ≢ [] → IsTold (disks.state old.keep.disk)
   pub same : new ≡ old
   pub is : asked ≡ is_cancel_asked old.keep.tables file

@@ -11,7 +11,6 @@ ghost use Rattle.fts_copy.specs.Copy.{StaysInside};
 ghost use Rattle.fts_turnstile.specs.Passes.{IsOf, IsSame, seen_list};
 ghost use Rattle.fts_workers.specs.Copies.{order_in};
 ghost use Rattle.fts_workers.specs.ClaimSteps.{AnswersClaim};
-ghost use Rattle.fts_shop.specs.Shops.{IsToldList};
 ghost use Rattle.fts_shop.specs.Within.{HasOrder};
 ghost use Rattle.fts_shop.specs.Turns.{IsReady, IsTurn, ReportsHeld, WorksOn, hand_data};
 ghost use Rattle.fts_shop.specs.Parts.{CopiesOrder, HasSize};
@@ -147,8 +146,7 @@ fn work_on<D: Disk, E: Store, C: Clock, W: Words, R: Wait>(
     requires own { IsOf shop.now pass.old }
     requires empty { bench.old.held ≡ [] }
     requires inside { StaysInside claimed.order }
-    requires order { IsToldList pass.old
-        → Some claimed.order ≡ option_map (order_in (tables_of (seen_list pass.old))) (row_at (tables_of (seen_list pass.old)).rows claimed.file) }
+    requires order { Some claimed.order ≡ option_map (order_in (tables_of (seen_list pass.old))) (row_at (tables_of (seen_list pass.old)).rows claimed.file) }
     ensures works { WorksOn E.Store pass.old pass.new (hand_data C.Clock W.Words hand.old) (hand_data C.Clock W.Words hand.new)
         claimed.file claimed.attempt result bench.new.held }
     ensures same { IsSame pass.old pass.new }

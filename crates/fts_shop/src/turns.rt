@@ -6,7 +6,7 @@ ghost use Rattle.fts_record.specs.Proper.{has_priority};
 ghost use Rattle.fts_copy.specs.Copy.{StaysInside};
 ghost use Rattle.fts_turnstile.specs.Passes.{IsOf, seen_list};
 ghost use Rattle.fts_workers.specs.ClaimSteps.{AnswersClaim};
-ghost use Rattle.fts_shop.specs.Shops.{IsToldList, LaneEnds, StepInTurn, TriedInTurn, step_answer};
+ghost use Rattle.fts_shop.specs.Shops.{LaneEnds, StepInTurn, TriedInTurn, step_answer};
 ghost use Rattle.fts_shop.specs.Within.{HasOrder, order_claimed};
 
 use crate::shop::Shop;
@@ -49,8 +49,7 @@ pub fn try_claim<D: Disk, R: Wait>(
     requires own { IsOf shop.now pass.old }
     ensures tried { StepInTurn pass.old pass.new now word result.step.expiry result.step.claim result.lanes }
     ensures answers { AnswersClaim (step_answer result.step.expiry result.step.claim) }
-    ensures order { IsToldList pass.old
-        → result.order ≡ order_claimed (tables_of (seen_list pass.new)) (step_answer result.step.expiry result.step.claim) }
+    ensures order { result.order ≡ order_claimed (tables_of (seen_list pass.new)) (step_answer result.step.expiry result.step.claim) }
     ensures some { HasOrder (step_answer result.step.expiry result.step.claim) result.order }
     ensures inside { IfSome result.order StaysInside }
 {

@@ -1,5 +1,5 @@
 -- A shop that was closed holds the list that its keep began with, and the items of all turns behind it.
-use Rattle.std.proofs.Common.{◌≡◌, ◌≢◌, ◌==◌, inl, inr, ℕ, ◌+◌, ◌-◌, List, [], ◌∷◌, ◌++◌, length, filter, Option, refl, sym, ap, ◌∙◌, subst, arith, append-nil}
+use Rattle.std.proofs.Common.{◌≡◌, ◌==◌, inl, inr, ℕ, ◌+◌, ◌-◌, List, [], ◌∷◌, ◌++◌, length, filter, Option, refl, sym, ap, ◌∙◌, subst, arith, append-nil}
 use Rattle.fts_top.specs.Ends.{end_when_served}
 use Rattle.fts_tables.specs.Tables.{Tables}
 use Rattle.fts_tables.specs.Coming.{Coming, Gives}
@@ -7,7 +7,6 @@ use Rattle.fts_tables.specs.SettingsData.{SettingsData, IsSettings}
 use Rattle.fts_tables.specs.History.{tables_of, IsLegal}
 use Rattle.fts_tables.specs.declared.commands.Entry.{Entry}
 use Rattle.fts_laws.specs.Attempts.{attempts_in, claims_in}
-use Rattle.fts_disk.specs.Disk.{IsTold}
 use Rattle.fts_turnstile.specs.declared.turn.LoggedTurn.{LoggedTurn}
 use Rattle.fts_turnstile.specs.History.{items_of, items_by, AllNamed}
 use Rattle.fts_turnstile.specs.Passes.{TurnstileView, PassView}
@@ -15,7 +14,6 @@ use Rattle.fts_passes.specs.Crews.{IsFirst, passes_given}
 use Rattle.fts_keep.specs.Keeps.{KeepData, IsKeep}
 use Rattle.fts_keep.specs.Started.{StartFault, StartsNot}
 use Rattle.fts_keep.specs.declared.fault.KeepFault.{KeepFault}
-use Rattle.fts_keep.proofs.Lists.{legal_list}
 use Rattle.fts_workers.specs.declared.hand.Hand.{Hand}
 use Rattle.fts_wire.specs.RoomData.{RoomData}
 use Rattle.fts_workers.specs.Benches.{BenchData}
@@ -33,11 +31,6 @@ use Rattle.fts_service.specs.declared.together.ServedEnd.{ServedEnd}
 use Rattle.fts_top.proofs.Started.{unstarted}
 use Rattle.fts_disk.specs.declared.disk.Disk as disk
 use Rattle.fts_service.specs.Worlds.{World}
-
--- a list behind one that holds an entry holds one
-some_behind : (first more all : List Entry) → first ≢ [] → all ≡ first ++ more → all ≢ []
-some_behind [] more all some e none = some refl
-some_behind (entry ∷ first) more all some e none = cc
 
 -- what one number has more than another that it begins with
 more_of : (before more after : ℕ) → after ≡ before + more → after - before ≡ more
@@ -60,25 +53,24 @@ module _ {D A E C W L : Type 0} (world : World D A E C W L)
         ∙ ap (λ l. keep.entries ++ l) (sym served.1)
   ]
 
-  module _ (old_sound : IsKeep world.disks.state keep) (sound : IsKeep world.disks.state closed.keep) (old_told : keep.entries ≢ [] → IsTold (world.disks.state keep.disk))
-      (told : closed.keep.entries ≢ [] → IsTold (world.disks.state closed.keep.disk)) (tally : Tally) (counted : tally ≡ tally_since keep closed.keep)
+  module _ (old_sound : IsKeep world.disks.state keep) (sound : IsKeep world.disks.state closed.keep) (tally : Tally) (counted : tally ≡ tally_since keep closed.keep)
       (counts : (entries more : List Entry) → IsLegal (entries ++ more) → attempts_in (tables_of (entries ++ more)).rows ≡ attempts_in (tables_of entries).rows + claims_in more)
     where
-      -- over a disk that tells its contents the list is its own
-      pub holds_behind : keep.entries ≢ [] → HoldsBehind world.disks keep.entries added closed.keep tally
-      holds_behind some =
-          let holds = sound.fold.holds (told (some_behind keep.entries added closed.keep.entries some closed_list)) in
-          let held = old_sound.fold.holds (old_told some) in
-          let legal : IsLegal (keep.entries ++ added) = subst IsLegal closed_list (legal_list closed.keep.entries closed.keep.doubt holds.legal) in
-          let now : closed.keep.tables ≡ tables_of (keep.entries ++ added) = holds.folded ∙ ap tables_of closed_list in
+      -- the tables are those of the list, and the tally counts its claims
+      pub holds_behind : HoldsBehind world.disks keep.entries added closed.keep tally
+      holds_behind =
+          let filled = sound.fold.filled in
+          let legal : IsLegal (keep.entries ++ added) = subst IsLegal closed_list filled.list.legal in
+          let now : closed.keep.tables ≡ tables_of (keep.entries ++ added) = filled.list.folded ∙ ap tables_of closed_list in
           let claims : attempts_in closed.keep.tables.rows - attempts_in keep.tables.rows ≡ claims_in added =
           ap (λ (t : Tables). attempts_in t.rows - attempts_in keep.tables.rows) now
-          ∙ ap (λ (t : Tables). attempts_in (tables_of (keep.entries ++ added)).rows - attempts_in t.rows) held.folded
+          ∙ ap (λ (t : Tables). attempts_in (tables_of (keep.entries ++ added)).rows - attempts_in t.rows) old_sound.fold.filled.list.folded
           ∙ more_of (attempts_in (tables_of keep.entries).rows) (claims_in added) (attempts_in (tables_of (keep.entries ++ added)).rows)
           (counts keep.entries added legal) in
           record {
             listed = closed_list;
-            holds = holds;
+            filled = filled;
+            holds = sound.fold.holds;
             counted = counted ∙ ap (λ n. tally_with n closed.keep.tables) claims ∙ ap (λ t. tally_with (claims_in added) t) now;
           }
 

@@ -1,5 +1,5 @@
 -- A run that started its keep and served it, and one that did not start it.
-use Rattle.std.proofs.Common.{◌≡◌, inl, inr, ℕ, ◌+◌, true, List, [], ◌∷◌, ◌++◌, length, Option, refl, ap, sym, ◌∙◌, subst, arith, length-append}
+use Rattle.std.proofs.Common.{◌≡◌, inl, inr, ⊎_elim, ℕ, ◌+◌, true, List, [], ◌∷◌, ◌++◌, length, Option, refl, ap, sym, ◌∙◌, subst, arith, length-append}
 use Rattle.fts_tables.specs.Coming.{Coming, Gives}
 use Rattle.fts_tables.specs.SettingsData.{SettingsData, IsSettings}
 use Rattle.fts_tables.specs.Tables.{Tables, empty_tables}
@@ -197,10 +197,10 @@ module _ {D E : Type 0} (disks : disk.Ghosts D) (stores : store.Ghosts E) where
         let told_keep = starts.told ∙ told in
         let extends = serves.session.extends in
         let told_last = extends.told ∙ told_keep in
-        let listed : serves.last.keep.entries ≡ final_list = extends.listed told_keep ∙ ap (λ l. l ++ since) own.listed in
+        let listed : serves.last.keep.entries ≡ final_list = extends.listed ∙ ap (λ l. l ++ since) own.listed in
         let holds = serves.sound.fold.holds told_last in
         let early = weakened (disks.state own.opened) (disks.state keep.disk) (IsImageSince opening keep.entries) (IsImageSince opening serves.last.keep.entries) own.images
-        (λ c image. subst (λ l. IsImageSince opening l c) (sym (extends.listed told_keep)) (since_more opening keep.entries since c image)) in
+        (λ c image. subst (λ l. IsImageSince opening l c) (sym extends.listed) (since_more opening keep.entries since c image)) in
         let all = joined (disks.state own.opened) (disks.state keep.disk) (disks.state serves.last.keep.disk) (IsImageSince opening serves.last.keep.entries) early
         (extends.images opening (restart_at now settings ∷ []) own.listed told_keep) in
         record {
@@ -211,6 +211,11 @@ module _ {D E : Type 0} (disks : disk.Ghosts D) (stores : store.Ghosts E) where
           images = λ c leave. subst (λ l. IsImageOf l serves.last.keep.doubt c) listed
               (holds.images c (subst (λ (d : D). (disks.state d).may_leave c) serves.closed leave));
           counts = omega (arith, own.counts, extends.counts, ap disks.faults serves.closed);
+          cause = ⊎_elim (λ none. inl none)
+              (λ some. ⊎_elim (λ same. inl (same ∙ own.no_doubt))
+              (λ rose. inr (⊎_elim (λ more. inl (omega (arith, more, own.counts, ap disks.faults serves.closed)))
+              (λ most. inr (omega (arith, most, ap disks.faults serves.closed))) rose)) some)
+              (extends.doubt told_keep);
         }
 
     -- the claims of the run

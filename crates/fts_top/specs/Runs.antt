@@ -2,6 +2,7 @@
 -- What it answers and does is so over every disk, over some list that is legal; images, and that the list is the disk's own, are so over a disk
 -- that tells its contents.
 use Rattle.std.specs.Prelude.{◌≡◌, ◌≢◌, ◌⊎◌, ℕ, ◌≤◌, true, List, [], ◌∷◌, ◌++◌, Option, Some, None, IfSome, Ok, Err}
+use Rattle.fts_tables.specs.Counts.{Rose}
 use Rattle.fts_tables.specs.Coming.{Coming, Gives}
 use Rattle.fts_tables.specs.SettingsData.{SettingsData, IsSettings}
 use Rattle.fts_tables.specs.History.{tables_of, IsLegal}
@@ -105,13 +106,14 @@ start_end faults_of_keep.Memory = NoMemory
 start_end (faults_of_keep.Rule refusal) = NoMemory
 
 -- what a list leaves of the disk: since the journal was opened or made each image is one of the list, as it was at some time, with one entry
--- more at most; and at the end each is one of the list itself, with one doubt at most
+-- more at most; and at the end each is one of the list itself, with one doubt at most, and with none where the disk counted no failure
 pub record LeavesList {D : Type 0} (disks : disk.Ghosts D) (opened disk : D) (opening final : List Entry) : Type 0 where
   pub since : LeavesOnly (disks.state opened) (disks.state disk) (IsImageSince opening final)
   pub doubt : Option Entry
   pub legal : IsLegal (with_doubt final doubt)
   pub images : (content : List ℕ) → (disks.state disk).may_leave content → IsImageOf final doubt content
   pub counts : disks.faults opened ≤ disks.faults disk
+  pub cause : (doubt ≡ None) ⊎ Rose (disks.faults opened) (disks.faults disk)
 
 -- nothing was started: the disk is as it was, and no moment was taken
 pub record StopsBefore {D : Type 0} (moments later : Option Coming) (disk left : D) : Type 0 where

@@ -1,7 +1,7 @@
 -- What a run that serves is: how it begins, what its lanes and workers do, what it leaves, and how it may stop before its lanes begin.
--- What each lane and each worker did stands in `RanTogether`; the list that all of them share is the closed shop's. That it is the disk's own, and
--- images, are so over a disk that tells its contents.
-use Rattle.std.specs.Prelude.{◌≡◌, ◌≢◌, ◌⊎◌, ℕ, ◌+◌, ◌-◌, ◌==◌, List, [], ◌∷◌, ◌++◌, length, filter, Option}
+-- What each lane and each worker did stands in `RanTogether`; the list that all of them share is the closed shop's, over every disk. That it is the
+-- disk's own, and images, are so over a disk that tells its contents.
+use Rattle.std.specs.Prelude.{◌≡◌, ◌⊎◌, ℕ, ◌+◌, ◌-◌, ◌==◌, List, [], ◌∷◌, ◌++◌, length, filter, Option}
 use Rattle.fts_top.specs.Ends.{end_when_served}
 use Rattle.fts_tables.specs.Coming.{Coming, Gives}
 use Rattle.fts_tables.specs.SettingsData.{SettingsData, IsSettings}
@@ -10,7 +10,8 @@ use Rattle.fts_tables.specs.declared.commands.Entry.{Entry}
 use Rattle.fts_laws.specs.Attempts.{attempts_in}
 use Rattle.fts_turnstile.specs.History.{items_of, items_by}
 use Rattle.fts_turnstile.specs.Passes.{TurnstileView, PassView}
-use Rattle.fts_keep.specs.Keeps.{KeepData, HoldsList, IsKeep}
+use Rattle.fts_disk.specs.Disk.{IsTold}
+use Rattle.fts_keep.specs.Keeps.{KeepData, HoldsList, IsFilledBy, IsKeep}
 use Rattle.fts_keep.specs.Started.{StartsOver}
 use Rattle.fts_wire.specs.RoomData.{RoomData}
 use Rattle.fts_workers.specs.Benches.{BenchData}
@@ -41,11 +42,13 @@ pub record ManyThreads (D A E C W L : Type 0) : Type 0 where
 abbrev pub many_threads : {D A E C W L : Type 0} → D → List (Lane A C L) → List (Hand E C W) → Option Coming → ManyThreads D A E C W L
 many_threads disk lanes hands moments = record { disk = disk; lanes = lanes; hands = hands; moments = moments }
 
--- what a closed shop holds over a disk that tells its contents: a list with these entries behind its beginning, whose tables and images are its
--- disk's, and a tally that counts the claims among them
+-- what a closed shop holds: a list with these entries behind its beginning, whose tables are its own, and a tally that counts the claims among them;
+-- and over a disk that tells its contents, its images too are of that list
 pub record HoldsBehind {D : Type 0} (disks : disk.Ghosts D) (beginning added : List Entry) (closed : KeepData D) (tally : Tally) : Type 0 where
   pub listed : closed.entries ≡ beginning ++ added
-  pub holds : HoldsList (disks.state closed.disk) closed.entries closed.doubt closed.tables closed.commands closed.used closed.in_doubt
+  pub filled : IsFilledBy closed closed.entries
+  pub holds : IsTold (disks.state closed.disk)
+      → HoldsList (disks.state closed.disk) closed.entries closed.doubt closed.tables closed.commands closed.used closed.in_doubt
   pub counted : tally ≡ tally_of added (tables_of (beginning ++ added))
 
 -- the tally of a shop that was closed, by how many attempts its rows have more than those of the keep that was started
@@ -121,8 +124,8 @@ module _ {D A E C W L : Type 0} (world : World D A E C W L) where
     pub left_is : left ≡ closed.keep.disk
     pub sound : IsKeep world.disks.state closed.keep
     pub counted : tally ≡ tally_since keep closed.keep
-    -- over a disk that tells its contents these entries stand behind the list that the keep was started with
-    pub told : keep.entries ≢ [] → HoldsBehind world.disks keep.entries added closed.keep tally
+    -- these entries stand behind the list that the keep was started with
+    pub holds : HoldsBehind world.disks keep.entries added closed.keep tally
 
   -- a run came to its shop: its keep was started over the disk at the next moment, under the settings of the text
   pub record RunsServing (lanes : ℕ) (connections : Option ℕ) (text : Option (List ℕ)) (before after : ManyThreads D A E C W L) (end : RunEnd) (tally : Tally)

@@ -98,7 +98,6 @@ fn close_shop<D: Disk>(shop: Shop<D>, attempts: u64, end: RunEnd) -> Done<D>
     ensures disk { result.disk ≡ shop.keep.disk }
     ensures tally { result.tally ≡ tally_with (attempts_in shop.keep.tables.rows - attempts) shop.keep.tables }
     ensures sound { IsKeep D.state shop.keep }
-    ensures told { shop.keep.entries ≢ [] → IsTold (D.state shop.keep.disk) }
 {
     // No more claims than a journal has entries, so that their number fits.
     claims_raise_attempts();
@@ -237,7 +236,7 @@ where
     }
 }
 
-// Takes the memory of lanes and workers and of the routes, starts a keep with these settings, and serves it.
+// Takes the memory of lanes, workers and routes, starts a keep with these settings, and serves it.
 fn serve_under<
     D: Disk + Send,
     A: Doors + Send,
@@ -353,7 +352,8 @@ where
     requires asked { IsToServe (asked_in (map string_bytes words.now)) }
     requires lanes { length lanes.old.items ≡ 8 }
     requires hands { length hands.old.items ≡ 16 }
-    ensures run { DoesOrServes (asked_in (map string_bytes words.now)) ⊥ (λ lanes_asked connections. IsServingRun (world_of D.Disk E.Store A.Doors A.Line.Source A.Line.Sink C.Clock W.Words (G.closes gate.now))
+    ensures run { DoesOrServes (asked_in (map string_bytes words.now)) ⊥ (λ lanes_asked connections.
+        IsServingRun (world_of D.Disk E.Store A.Doors A.Line.Source A.Line.Sink C.Clock W.Words (G.closes gate.now))
         lanes_asked connections result.end result.tally (F.left settings.old) (many_threads disk lanes.old.items hands.old.items (C.moments clock.old))
         (many_threads result.disk lanes.new.items hands.new.items (C.moments clock.new))) }
     ensures settings { status_of result.end ≡ 8 → Rose (F.faults settings.old) (F.faults settings.new) }

@@ -106,7 +106,8 @@ where
         (one_thread_at S.Source K.Sink C.Clock W.Words disk hand.store outside.old.input outside.old.output outside.old.clock hand.words)
         (one_thread_at S.Source K.Sink C.Clock W.Words left now.store outside.new.input outside.new.output outside.new.clock now.words)
         (beyond_at L.Link outside.old.link outside.old.deletes) (beyond_at L.Link outside.new.link outside.new.deletes)) × (outside.new.lanes ≡ outside.old.lanes))
-        (λ lanes connections. IsServingRun (world_of D.Disk E.Store A.Doors A.Line.Source A.Line.Sink C.Clock W.Words (G.closes outside.old.gate)) lanes connections end result.tally (F.left outside.old.settings)
+        (λ lanes connections. IsServingRun (world_of D.Disk E.Store A.Doors A.Line.Source A.Line.Sink C.Clock W.Words (G.closes outside.old.gate))
+        lanes connections end result.tally (F.left outside.old.settings)
         (many_threads disk outside.old.lanes.items outside.old.hands.items (C.moments outside.old.clock))
         (many_threads left outside.new.lanes.items outside.new.hands.items (C.moments outside.new.clock))
         × (outside.new.input ≡ outside.old.input) × (outside.new.output ≡ outside.old.output) × (outside.new.deletes ≡ outside.old.deletes) × (outside.new.link ≡ outside.old.link)))
@@ -167,11 +168,13 @@ where
     requires lanes { length outside.old.lanes.items ≡ MAX_LANES }
     ensures run { (end : RunEnd) × ((result.status ≡ status_of end)
         × (OverDisks outside.old.disk outside.new.disk (λ disk left. DoesOrServes (asked_in (map string_bytes words.now)) ⊥
-        (λ lanes connections. IsServingRun (world_of D.Disk E.Store A.Doors A.Line.Source A.Line.Sink C.Clock W.Words (G.closes outside.old.gate)) lanes connections end result.tally (F.left outside.old.settings)
+        (λ lanes connections. IsServingRun (world_of D.Disk E.Store A.Doors A.Line.Source A.Line.Sink C.Clock W.Words (G.closes outside.old.gate))
+        lanes connections end result.tally (F.left outside.old.settings)
         (many_threads disk outside.old.lanes.items outside.old.hands.items (C.moments outside.old.clock))
         (many_threads left outside.new.lanes.items outside.new.hands.items (C.moments outside.new.clock))))
         × IsNoted (N.held outside.old.notes) (N.held outside.new.notes) (N.faults outside.old.notes) (N.faults outside.new.notes) (note_of end))) }
-    ensures nothing { (outside.new.input ≡ outside.old.input) × (outside.new.output ≡ outside.old.output) × (outside.new.deletes ≡ outside.old.deletes) × (outside.new.link ≡ outside.old.link) }
+    ensures nothing { (outside.new.input ≡ outside.old.input) × (outside.new.output ≡ outside.old.output)
+        × (outside.new.deletes ≡ outside.old.deletes) × (outside.new.link ≡ outside.old.link) }
     ensures settings { result.status ≡ 8 → Rose (F.faults outside.old.settings) (F.faults outside.new.settings) }
     ensures status { IsServingStatus result.status }
     ensures there { IsSome outside.new.disk }
@@ -388,7 +391,7 @@ fn begin_session<F: Source, S: Source, K: Sink, D: Disk, E: Store, C: Clock, W: 
     }
 }
 
-/// Takes the memory of a connection, of a bench and of the routes, starts a keep with these settings, and serves it.
+/// Takes the memory of the routes, of a connection and of a bench, starts a keep with these settings, and serves it.
 fn serve_under<S: Source, K: Sink, D: Disk, E: Store, C: Clock, W: Words>(
     alloc: Global,
     settings: Settings,

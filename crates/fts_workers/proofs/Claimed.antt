@@ -221,7 +221,7 @@ module _ {D : Type 0} (state : D → DiskState) (faults : D → ℕ) (formed : (
       over = over_after;
       tables = tables_more state old new the_claim answer done;
       told = done.told;
-      listed = λ told. (done.listed told).0;
+      listed = done.listed;
     }
 
     -- no copy is kept before or then

@@ -30,7 +30,7 @@ module _ {D : Type 0} (state : D → DiskState) (faults : D → ℕ) where
           (second.over (entries ++ first.added) (first.over entries over));
       tables = second.tables ∙ ap (λ t. tables_from t second.added) first.tables ∙ sym (tables_from-append one.keep.tables first.added second.added);
       told = second.told ∙ first.told;
-      listed = λ told. second.listed (first.told ∙ told) ∙ ap (λ all. all ++ second.added) (first.listed told)
+      listed = second.listed ∙ ap (λ all. all ++ second.added) first.listed
           ∙ append_assoc one.keep.entries first.added second.added;
     }
 
@@ -88,7 +88,7 @@ module _ {D : Type 0} (state : D → DiskState) (faults : D → ℕ) where
       over = λ entries over. subst (λ all. IsOver at all) (sym (none_more entries)) over;
       tables = refl;
       told = refl;
-      listed = λ told. sym (none_more at.keep.entries);
+      listed = sym (none_more at.keep.entries);
     };
     balance = refl;
   }

@@ -254,7 +254,7 @@ module _ {D : Type 0} (state : D → DiskState) (faults : D → ℕ) (formed : (
       over = over_after;
       tables = tables_more state old new the_report answer done;
       told = done.told;
-      listed = λ told. (done.listed told).0;
+      listed = done.listed;
     }
 
     -- and its copy is the one that was kept

@@ -30,7 +30,7 @@ module _ {D : Type 0} (state : D → DiskState) (faults : D → ℕ) (Goes : Wal
       over = over_still;
       tables = keeps.tables;
       told = keeps.told;
-      listed = λ told. keeps.entries ∙ sym (none_more old.entries);
+      listed = keeps.entries ∙ sym (none_more old.entries);
     };
     balance = ap (λ t. copies_kept t bench.held) (sym keeps.tables);
   }

@@ -98,7 +98,6 @@ module _ {D : Type 0} (state : D → DiskState) (faults : D → ℕ) (writer : �
   pub record IsClaimStep (old new : KeepData D) (now word : ℕ) (expiry : Result Answer KeepFault) (claim : Option (Result Answer KeepFault)) : Type 0 where
     pub between : KeepData D
     pub expired : IsExpiry old between now expiry
-    -- what a keep's type keeps, and that only over a disk that tells its contents entries are seen
+    -- what a keep's type keeps
     pub kept : IsKeep state between
-    pub told : between.entries ≢ [] → IsTold (state between.disk)
     pub follows : FollowsExpiry between new now word expiry claim

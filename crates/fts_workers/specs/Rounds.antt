@@ -203,7 +203,7 @@ abbrev pub claims_among : List Entry → ℕ
 claims_among entries = count_by (λ entry. is_claim entry.command) entries
 
 -- A round over every disk: it added entries, and whatever list keep and bench are over, it is a round from that list to it with these entries.
--- Over a disk that tells its contents the keep's own list is such a one.
+-- The keep's own list is such a one.
 pub record MakesRound {D E : Type 0} (state : D → DiskState) (faults : D → ℕ)
     (store_state : E → StoreState) (store_calls : E → Option (List Call)) (store_faults : E → ℕ)
     (old new : KeepData D) (bench bench_now : BenchData) (store store_now : E) (moments later words words_later : Option Coming) (end : RoundEnd) : Type 0 where
@@ -212,7 +212,7 @@ pub record MakesRound {D E : Type 0} (state : D → DiskState) (faults : D → �
       → IsRound bench.places (walk_over faults entries old bench moments words) end (walk_over faults (entries ++ added) new bench_now later words_later)
   pub over : (entries : List Entry) → IsWorkedOver old bench entries → IsWorkedOver new bench_now (entries ++ added)
   pub tables : new.tables ≡ tables_from old.tables added
-  pub listed : IsTold (state old.disk) → new.entries ≡ old.entries ++ added
+  pub listed : new.entries ≡ old.entries ++ added
   -- as many of them are claims as files are held that it claimed
   pub claimed : claims_among added ≡ newly_held bench_now.held
   -- the store follows from the reports among them, in order

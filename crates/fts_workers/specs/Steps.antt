@@ -39,7 +39,7 @@ pub record Walks {D : Type 0} (state : D → DiskState) (faults : D → ℕ) (Go
   pub over : (entries : List Entry) → IsOver old entries → IsOver new (entries ++ added)
   pub tables : new.keep.tables ≡ tables_from old.keep.tables added
   pub told : (state new.keep.disk).told ≡ (state old.keep.disk).told
-  pub listed : IsTold (state old.keep.disk) → new.keep.entries ≡ old.keep.entries ++ added
+  pub listed : new.keep.entries ≡ old.keep.entries ++ added
 
 -- the copies that are made and not reported
 abbrev pub kept_at : {D : Type 0} → Stand D → List Copy

@@ -1,5 +1,6 @@
 -- Each exit of the loop, by the lemmas of `Folded`.
 use Rattle.std.proofs.Common.{◌≡◌, ◌∙◌, ap, sym, subst, suc, ◌+◌, ◌≤◌, slice_get, Some, length, rules, arith}
+use Rattle.fts_tables.specs.Tables.{empty_tables}
 use Rattle.fts_tables.specs.declared.limits.TheConstants.{JOURNAL_END}
 use Rattle.fts_journal.specs.Journal.{filled_by}
 use Rattle.fts_keep.specs.Faults.{fault_of}
@@ -10,7 +11,8 @@ use Rattle.fts_keep.proofs.folding.fold.Goals as goal
 pub loop-n-init : goal.loop-n-init
 loop-n-init g c = record {
   leaves = leaves_none g.D.Disk.state g.D.Disk.faults g.met.D.Disk.lawful c.args.journal.now;
-  folded = subst (λ t. HasFolded g.D.Disk.state c.args.journal.now t 8 0) (sym c.empty-desk.ensures.tables) (folded_none g.D.Disk.state c.args.journal.now);
+  folded = subst (λ t. HasFolded g.D.Disk.state c.args.journal.now t c.new-list.result.entries 8 0) (sym c.empty-desk.ensures.tables)
+      (subst (λ l. HasFolded g.D.Disk.state c.args.journal.now empty_tables l 8 0) (sym c.new-list.ensures.none) (folded_none g.D.Disk.state c.args.journal.now));
   commands = c.empty-desk.ensures.commands;
 }
 
@@ -49,7 +51,8 @@ pub returns-in_err-take_entry-clause-fault : goal.returns-in_err-take_entry-clau
 returns-in_err-take_entry-clause-fault g c = on_err c.from_residual-in_err-take_entry.result c.in_err-take_entry.field-0.0
     (FoldFault g.D.Disk.state g.D.Disk.faults c.args.journal.now c.body.new.self)
     c.from_residual-in_err-take_entry.ensures.1
-    (take_fault g.D.Disk.state g.D.Disk.faults c.args.journal.now c.body.new.self c.loop-n.desk.tables c.take_entry.new.desk.tables c.loop-n.gate c.loop-n.n
+    (take_fault g.D.Disk.state g.D.Disk.faults c.args.journal.now c.body.new.self c.loop-n.desk.tables c.take_entry.new.desk.tables
+    c.loop-n.list.entries c.take_entry.new.list.entries c.loop-n.gate c.loop-n.n
     c.deref.result.now c.loop-n.invariant.folded
     (λ told. ap (λ b. slice_get b c.loop-n.n) (sym (c.loop-n.invariant.leaves.bodies told))
     ∙ c.in_ok-body.ensures.read (c.loop-n.invariant.leaves.told ∙ told) ∙ ap (λ b. Some b) (sym c.deref.ensures.value))
@@ -80,8 +83,9 @@ loop-n-preserved g c =
       leaves = leaves_more g.D.Disk.state g.D.Disk.faults g.met.D.Disk.lawful c.args.journal.now c.loop-n.journal c.body.new.self
           c.loop-n.invariant.leaves c.body.ensures.told c.body.ensures.kept c.body.ensures.counts c.body.ensures.sizes c.body.ensures.keeps
           c.body.ensures.doubt;
-      folded = subst (λ k. HasFolded g.D.Disk.state c.args.journal.now c.take_entry.new.desk.tables k (c.loop-n.n + 1)) long
-          (folded_more g.D.Disk.state c.args.journal.now c.loop-n.desk.tables c.take_entry.new.desk.tables c.loop-n.gate c.loop-n.n c.deref.result.now
+      folded = subst (λ k. HasFolded g.D.Disk.state c.args.journal.now c.take_entry.new.desk.tables c.take_entry.new.list.entries k (c.loop-n.n + 1)) long
+          (folded_more g.D.Disk.state c.args.journal.now c.loop-n.desk.tables c.take_entry.new.desk.tables c.loop-n.list.entries c.take_entry.new.list.entries
+          c.loop-n.gate c.loop-n.n c.deref.result.now
           c.loop-n.invariant.folded c.in_ok-take_entry.ensures.takes
           (ap (λ s. slice_get s c.loop-n.n) (sym c.loop-n.invariant.leaves.sizes) ∙ c.in_ok-body.ensures.long
           ∙ ap (λ b. Some (length b)) (sym c.deref.ensures.value))
@@ -98,7 +102,6 @@ returns-clause-folded g c =
     let folded = c.loop-n.invariant.folded in
     let all : c.loop-n.n ≡ c.count-n-end.result = omega (arith, c.loop-n.auto.n-end, c.loop-n-test.false) in
     record {
-      entries = folded.entries;
       folded = folded.folded;
       legal = folded.legal;
       counted = c.loop-n.invariant.commands ∙ folded.counted;

@@ -1,9 +1,9 @@
 -- A request is answered over the keep that the shop lends.
-use Rattle.std.proofs.Common.{◌≡◌, ◌≢◌, refl, subst, [], ◌++◌}
-use Rattle.fts_disk.specs.Disk.{IsTold}
+use Rattle.std.proofs.Common.{◌≡◌, refl, subst, ◌++◌}
 use Rattle.fts_wire.specs.RequestData.{RequestData}
 use Rattle.fts_keep.specs.Keeps.{KeepData, IsKeep}
 use Rattle.fts_routes.specs.Replies.{Answers}
+use Rattle.fts_shop.specs.Shops.{KeepsDisk}
 use Rattle.fts_shop.proofs.Rows.{all_name}
 use Rattle.fts_service.proofs.connection.answer_in.Goals as goal
 
@@ -13,7 +13,8 @@ returns g c =
     let grows = c.answer_read.ensures.grows in
     record {
       kept = subst (λ (k : KeepData g.row.D.Denot). IsKeep g.D.Disk.state k) value c.desk-desk.ensures.kept;
-      told = subst (λ (k : KeepData g.row.D.Denot). k.entries ≢ [] → IsTold (g.D.Disk.state k.disk)) value c.desk-desk.ensures.told;
+      disk = subst (λ (k : KeepData g.row.D.Denot). KeepsDisk g.D.Disk k c.answer_read.new.keep) value
+          (record { told = grows.told; counts = grows.counts; doubt = c.answer_read.ensures.doubt });
       answers = subst (λ (k : KeepData g.row.D.Denot). Answers g.D.Disk.state g.D.Disk.faults k c.answer_read.new.keep c.args.writer
           c.args.room.now.request c.args.now c.answer_read.result) value
           (subst (λ (r : RequestData). Answers g.D.Disk.state g.D.Disk.faults c.keep-keep.result.now c.answer_read.new.keep c.args.writer

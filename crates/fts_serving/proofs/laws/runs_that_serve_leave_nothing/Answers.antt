@@ -36,18 +36,18 @@ stores_of g c = record {
 
 pub returns-clause-ledger : goal.returns-clause-ledger
 returns-clause-ledger g c =
-    λ closes lanes connections text before after end tally runs told lanes_eight few hands_sixteen.
+    λ closes lanes connections text before after end tally runs lanes_eight few hands_sixteen.
     kept_where_served (world_of g.D.Disk g.E.Store g.A.Doors g.A.Line.Source g.A.Line.Sink g.C.Clock g.W.Words closes) (lists_of g c) (stores_of g c)
-    runs told lanes_eight few hands_sixteen
+    runs lanes_eight few hands_sixteen
 
 pub returns-clause-ends : goal.returns-clause-ends
 returns-clause-ends g c =
-    λ closes lanes connections text before after end tally runs zero_is told lanes_eight few hands_sixteen.
+    λ closes lanes connections text before after end tally runs zero_is lanes_eight few hands_sixteen.
     run_leaves_disk (world_of g.D.Disk g.E.Store g.A.Doors g.A.Line.Source g.A.Line.Sink g.C.Clock g.W.Words closes) (lists_of g c) (stores_of g c)
-    runs zero_is told lanes_eight few hands_sixteen
+    runs zero_is lanes_eight few hands_sixteen
 
 pub returns-clause-stops : goal.returns-clause-stops
 returns-clause-stops g c =
-    λ closes lanes connections text before after end tally runs stop_is told lanes_eight few hands_sixteen.
+    λ closes lanes connections text before after end tally runs stop_is lanes_eight few hands_sixteen.
     run_leaves_none_out (world_of g.D.Disk g.E.Store g.A.Doors g.A.Line.Source g.A.Line.Sink g.C.Clock g.W.Words closes) (lists_of g c) (stores_of g c)
-    runs stop_is told lanes_eight few hands_sixteen
+    runs stop_is lanes_eight few hands_sixteen

@@ -97,7 +97,7 @@ returns-in-Err-respond-clause-works g c =
     (thread c.loop-done.working.keep c.loop-done.working.bench c.loop-done.working.claims c.loop-done.store (g.C.Clock.moments c.loop-done.clock) (g.W.Words.words c.loop-done.words))
     c.loop-done.invariant.so_far
     law c.answer-reply.new.keep input (g.K.Sink.held c.respond.new.output) (g.C.Clock.moments c.now-now.new.self) c.load.new.self c.now-now.result c.answer-reply.result
-    load c.now-now.ensures answered c.answer-reply.ensures.grows c.answer-reply.ensures.images
+    load c.now-now.ensures answered c.answer-reply.ensures.grows c.answer-reply.ensures.images c.answer-reply.ensures.doubt
     c.in-Err-respond.field-0 c.loop-done-test.true sent
 
 pub make_round-requires : goal.make_round-requires
@@ -117,7 +117,7 @@ make_round-requires g c =
           (thread c.loop-done.working.keep c.loop-done.working.bench c.loop-done.working.claims c.loop-done.store (g.C.Clock.moments c.loop-done.clock) (g.W.Words.words c.loop-done.words))
           c.loop-done.invariant.so_far
           law c.answer-reply.new.keep input (g.K.Sink.held c.respond.new.output) (g.C.Clock.moments c.now-now.new.self) c.load.new.self c.now-now.result c.answer-reply.result
-          load c.now-now.ensures answered c.answer-reply.ensures.grows c.answer-reply.ensures.images;
+          load c.now-now.ensures answered c.answer-reply.ensures.grows c.answer-reply.ensures.images c.answer-reply.ensures.doubt;
     }
 
 pub returns-then-request-clause-works : goal.returns-then-request-clause-works
@@ -138,7 +138,7 @@ returns-then-request-clause-works g c =
     (thread c.loop-done.working.keep c.loop-done.working.bench c.loop-done.working.claims c.loop-done.store (g.C.Clock.moments c.loop-done.clock) (g.W.Words.words c.loop-done.words))
     c.loop-done.invariant.so_far
     law c.answer-reply.new.keep input (g.K.Sink.held c.respond.new.output) (g.C.Clock.moments c.now-now.new.self) c.load.new.self c.now-now.result c.answer-reply.result
-    load c.now-now.ensures answered c.answer-reply.ensures.grows c.answer-reply.ensures.images
+    load c.now-now.ensures answered c.answer-reply.ensures.grows c.answer-reply.ensures.images c.answer-reply.ensures.doubt
     c.make_round.result
     (thread c.make_round.new.working.keep c.make_round.new.working.bench c.make_round.new.working.claims c.make_round.new.store (g.C.Clock.moments c.make_round.new.clock)
     (g.W.Words.words c.make_round.new.words))
@@ -164,7 +164,7 @@ loop-done-preserved g c =
           (thread c.loop-done.working.keep c.loop-done.working.bench c.loop-done.working.claims c.loop-done.store (g.C.Clock.moments c.loop-done.clock) (g.W.Words.words c.loop-done.words))
           c.loop-done.invariant.so_far
           law c.answer-reply.new.keep input (g.K.Sink.held c.respond.new.output) (g.C.Clock.moments c.now-now.new.self) c.load.new.self c.now-now.result c.answer-reply.result
-          load c.now-now.ensures answered c.answer-reply.ensures.grows c.answer-reply.ensures.images
+          load c.now-now.ensures answered c.answer-reply.ensures.grows c.answer-reply.ensures.images c.answer-reply.ensures.doubt
           c.make_round.result
           (thread c.make_round.new.working.keep c.make_round.new.working.bench c.make_round.new.working.claims c.make_round.new.store (g.C.Clock.moments c.make_round.new.clock)
           (g.W.Words.words c.make_round.new.words))

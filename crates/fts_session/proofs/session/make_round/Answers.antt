@@ -9,4 +9,5 @@ returns-clause-works g c =
     c.round-end.new.bench c.args.working.now.claims _ c.args.store.now c.round-end.new.store (g.C.Clock.moments c.args.clock.now) (g.C.Clock.moments c.round-end.new.clock)
     (g.W.Words.words c.args.words.now) (g.W.Words.words c.round-end.new.words) c.round-end.result c.requires.ready c.round-end.ensures.round c.round-end.ensures.active
     c.round-end.ensures.places c.round-end.ensures.grows c.round-end.ensures.images
+    c.round-end.ensures.doubt_cause.doubt
     (ap (λ n. c.args.working.now.claims + n) c.newly_held.ensures)

@@ -1,8 +1,8 @@
 -- A step, over the keep that the shop lends.
-use Rattle.std.proofs.Common.{◌≡◌, ◌≢◌, refl, subst, [], ◌++◌}
-use Rattle.fts_disk.specs.Disk.{IsTold}
+use Rattle.std.proofs.Common.{◌≡◌, refl, subst, ◌++◌}
 use Rattle.fts_keep.specs.Keeps.{KeepData, IsKeep}
 use Rattle.fts_workers.specs.ClaimSteps.{IsClaimStep}
+use Rattle.fts_shop.specs.Shops.{KeepsDisk}
 use Rattle.fts_shop.proofs.Claims.{answers_of_step}
 use Rattle.fts_shop.proofs.Rows.{all_name}
 use Rattle.fts_shop.proofs.tried.step_in.Goals as goal
@@ -15,11 +15,11 @@ returns-clause-steps g c =
     let grows = c.claim_step-step.ensures.keeps.grows in
     record {
       kept = subst (λ (k : KeepData g.row.D.Denot). IsKeep g.D.Disk.state k) value c.desk-desk.ensures.kept;
-      told = subst (λ (k : KeepData g.row.D.Denot). k.entries ≢ [] → IsTold (g.D.Disk.state k.disk)) value c.desk-desk.ensures.told;
       keeps = c.desk-later.ensures.kept;
-      still_told = c.desk-later.ensures.told;
       stepped = subst (λ (k : KeepData g.row.D.Denot). IsClaimStep g.D.Disk.state g.D.Disk.faults c.args.writer k after c.args.now c.args.word
           step.expiry step.claim) value c.claim_step-step.ensures.step;
+      disk = subst (λ (k : KeepData g.row.D.Denot). KeepsDisk g.D.Disk k after) value
+          (record { told = grows.told; counts = grows.counts; doubt = c.claim_step-step.ensures.keeps.doubt.doubt });
       appends = record {
         added = grows.added;
         appended = subst (λ (k : KeepData g.row.D.Denot). after.entries ≡ k.entries ++ grows.added) value grows.appended;

@@ -1,8 +1,8 @@
 -- What was tried, over the keep that the shop lends.
-use Rattle.std.proofs.Common.{◌≡◌, ◌≢◌, refl, subst, [], ◌++◌}
-use Rattle.fts_disk.specs.Disk.{IsTold}
+use Rattle.std.proofs.Common.{◌≡◌, refl, subst, ◌++◌}
 use Rattle.fts_keep.specs.Keeps.{KeepData, IsKeep}
 use Rattle.fts_keep.specs.Applied.{Applied, entry_by}
+use Rattle.fts_shop.specs.Shops.{KeepsDisk}
 use Rattle.fts_shop.proofs.Rows.{all_name}
 use Rattle.fts_shop.proofs.tried.try_in.Goals as goal
 
@@ -12,11 +12,11 @@ returns g c =
     let grows = c.apply-answer.ensures.grows in
     record {
       kept = subst (λ (k : KeepData g.row.D.Denot). IsKeep g.D.Disk.state k) value c.desk-desk.ensures.kept;
-      told = subst (λ (k : KeepData g.row.D.Denot). k.entries ≢ [] → IsTold (g.D.Disk.state k.disk)) value c.desk-desk.ensures.told;
       keeps = c.desk-later.ensures.kept;
-      still_told = c.desk-later.ensures.told;
       applied = subst (λ (k : KeepData g.row.D.Denot). Applied g.D.Disk.state g.D.Disk.faults k c.apply-answer.new.self
           (entry_by c.args.writer c.args.command) c.apply-answer.result) value c.apply-answer.ensures.applied;
+      disk = subst (λ (k : KeepData g.row.D.Denot). KeepsDisk g.D.Disk k c.apply-answer.new.self) value
+          (record { told = grows.told; counts = grows.counts; doubt = c.apply-answer.ensures.doubt_cause.doubt });
       appends = record {
         added = grows.added;
         appended = subst (λ (k : KeepData g.row.D.Denot). c.apply-answer.new.self.entries ≡ k.entries ++ grows.added) value grows.appended;

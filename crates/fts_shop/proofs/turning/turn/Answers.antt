@@ -1,5 +1,5 @@
 -- A turn: a step that was answered with a file goes on with its copy, and any other is over.
-use Rattle.std.proofs.Common.{rules, ◌≡◌, ◌∙◌, refl, sym, ap, subst, List, [], Ok, Result}
+use Rattle.std.proofs.Common.{rules, ◌≡◌, ◌==◌, ◌∙◌, refl, sym, ap, subst, true, List, [], ◌∷◌, length, Ok, Result, arith, eqb-true}
 use Rattle.fts_tables.specs.declared.commands.Answer.{Answer}
 use Rattle.fts_tables.specs.declared.commands.Answer.TheVariants.{Claimed}
 use Rattle.fts_keep.specs.declared.fault.KeepFault.{KeepFault}
@@ -8,9 +8,15 @@ use Rattle.fts_shop.specs.Shops.{step_answer}
 use Rattle.fts_shop.specs.Turns.{IsTurn, GoesOn, HandData, hand_data}
 use Rattle.fts_shop.proofs.turning.turn.Goals as goal
 
+-- a bench without a file holds none
+none_held : (held : List Held) → (length held == 0) ≡ true → held ≡ []
+none_held [] is = refl
+none_held (one ∷ others) is = absurd (omega (arith, eqb-true (length (one ∷ others)) 0 is))
+
 pub returns-in-Ok-clause-turn : goal.returns-in-Ok-clause-turn
 returns-in-Ok-clause-turn g c =
-    let none : c.args.bench.now.held ≡ [] = search rules in
+    let none : c.args.bench.now.held ≡ [] =
+    sym c.held.ensures.held ∙ none_held c.held.result.now (sym c.is_empty.ensures ∙ c.if-not-is_empty.false) in
     let accepted : Answer → Result Answer KeepFault = λ answer. Ok answer in
     let step = c.try_claim-lanes.result.step in
     let claimed : step_answer step.expiry step.claim ≡ Ok (Claimed c.claimed_of-claimed.result.file c.claimed_of-claimed.result.attempt) =

@@ -12,11 +12,11 @@ returns-clause-tried g c =
     let step = c.with_turn.result.step in
     let steps : StepsIn g.D.Disk c.args.pass.now.number c.args.now c.args.word t.before t.after step.expiry step.claim
     c.with_turn.result.lanes = search rules in
-    stepped_of g.D.Disk _ c.args.pass.now c.with_turn.new.pass c.with_turn.ensures.same t c.args.now c.args.word step.expiry step.claim
+    stepped_of g.D.Disk _ c.args.pass.now c.with_turn.new.pass c.with_turn.ensures.same t steps.disk c.args.now c.args.word step.expiry step.claim
     c.with_turn.result.lanes steps
 
 pub returns-clause-order : goal.returns-clause-order
-returns-clause-order g c = λ told.
+returns-clause-order g c =
     let t = c.with_turn.ensures.took in let d = t.did in let m = d.met in
     let step = c.with_turn.result.step in
     let answer = step_answer step.expiry step.claim in
@@ -24,4 +24,4 @@ returns-clause-order g c = λ told.
     c.with_turn.result.lanes = search rules in
     let said : c.with_turn.result.order ≡ order_claimed t.after.keep.tables answer = search rules in
     said ∙ ap (λ (tables : Tables). order_claimed tables answer)
-    (tables_left g.D.Disk _ c.args.pass.now c.with_turn.new.pass c.with_turn.ensures.same t steps.keeps steps.still_told told)
+    (tables_left g.D.Disk _ c.args.pass.now c.with_turn.new.pass c.with_turn.ensures.same t steps.keeps)

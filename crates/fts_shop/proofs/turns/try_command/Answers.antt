@@ -9,5 +9,5 @@ returns g c =
     let t = c.with_turn.ensures.took in let d = t.did in let m = d.met in
     let tries : TriesIn g.D.Disk c.args.pass.now.number c.args.command t.before t.after c.with_turn.result.answer
     c.with_turn.result.lanes = search rules in
-    tried_of g.D.Disk _ c.args.pass.now c.with_turn.new.pass c.with_turn.ensures.same t c.args.command c.with_turn.result.answer
+    tried_of g.D.Disk _ c.args.pass.now c.with_turn.new.pass c.with_turn.ensures.same t tries.disk c.args.command c.with_turn.result.answer
     c.with_turn.result.lanes tries

@@ -37,8 +37,7 @@ returns-in-Ok-clause-serves g c =
       left_is = c.close_shop.ensures.disk;
       sound = c.close_shop.ensures.sound;
       counted = counted;
-      told = holds_behind _ _ _ _ _ _ _ _ _ _ _ _ closes.1 c.desk.ensures.kept c.close_shop.ensures.sound c.desk.ensures.told c.close_shop.ensures.told
-          c.close_shop.result.tally counted c.claims_raise_attempts.ensures.lists;
+      holds = holds_behind _ _ _ _ _ _ _ _ _ _ _ _ closes.1 c.desk.ensures.kept c.close_shop.ensures.sound c.close_shop.result.tally counted c.claims_raise_attempts.ensures.lists;
     }
 
 pub returns-in-Err-clause-serves : goal.returns-in-Err-clause-serves
@@ -59,6 +58,5 @@ returns-in-Err-clause-serves g c =
       left_is = c.close_shop-in-Err.ensures.disk;
       sound = c.close_shop-in-Err.ensures.sound;
       counted = counted;
-      told = holds_behind _ _ _ _ _ _ _ _ _ _ _ _ closes.1 c.desk.ensures.kept c.close_shop-in-Err.ensures.sound c.desk.ensures.told
-          c.close_shop-in-Err.ensures.told c.close_shop-in-Err.result.tally counted c.claims_raise_attempts.ensures.lists;
+      holds = holds_behind _ _ _ _ _ _ _ _ _ _ _ _ closes.1 c.desk.ensures.kept c.close_shop-in-Err.ensures.sound c.close_shop-in-Err.result.tally counted c.claims_raise_attempts.ensures.lists;
     }

@@ -8,7 +8,6 @@ returns-then-not-goes_on-clause-step g c = record {
   between = c.expire-expiry.new.keep;
   expired = c.expire-expiry.ensures;
   kept = c.desk-between.ensures.kept;
-  told = c.desk-between.ensures.told;
   follows = (sym c.goes_on.ensures ∙ c.if-not-goes_on.true, refl);
 }
 
@@ -19,7 +18,6 @@ returns-clause-step g c =
       between = c.expire-expiry.new.keep;
       expired = c.expire-expiry.ensures;
       kept = c.desk-between.ensures.kept;
-      told = c.desk-between.ensures.told;
       follows = (on, record { none_overdue = c.expire-expiry.ensures.gone on; claim = c.claim-answer.ensures });
     }
 

@@ -19,13 +19,13 @@ returns-in-Err-fold-clause-err g c = subst
 pub accept-requires-clause-tied : goal.accept-requires-clause-tied
 accept-requires-clause-tied g c = folded_tied g.D.Disk.state g.D.Disk.faults c.what_is_spelled_is_read.ensures.read g.met.D.Disk.lawful c.damage_is_one.ensures
     c.args.disk c.args.settings c.args.now
-    c.in-Ok.journal c.fold.new.journal c.in-Ok.ensures.made c.in-Ok.ensures.ok c.fold.ensures.leaves c.in-Ok-fold.desk c.in-Ok-fold.ensures.folded
+    c.in-Ok.journal c.fold.new.journal c.in-Ok.ensures.made c.in-Ok.ensures.ok c.fold.ensures.leaves c.in-Ok-fold.made.0 c.in-Ok-fold.made.1.entries c.in-Ok-fold.ensures.folded
 
 pub returns-in-Ok-accept-clause-ok : goal.returns-in-Ok-accept-clause-ok
 returns-in-Ok-accept-clause-ok g c = started g.D.Disk.state g.D.Disk.faults c.what_is_spelled_is_read.ensures.read g.met.D.Disk.lawful c.damage_is_one.ensures
     c.args.disk c.args.settings c.args.now
-    c.in-Ok.journal c.fold.new.journal c.in-Ok.ensures.made c.in-Ok.ensures.ok c.fold.ensures.leaves c.in-Ok-fold.desk c.in-Ok-fold.ensures.folded
-    c.accept.new.desk c.accept.new.journal c.accept.ensures.safe c.accept.ensures.counts
+    c.in-Ok.journal c.fold.new.journal c.in-Ok.ensures.made c.in-Ok.ensures.ok c.fold.ensures.leaves c.in-Ok-fold.made.0 c.in-Ok-fold.made.1.entries c.in-Ok-fold.ensures.folded
+    c.accept.new.desk c.accept.new.journal c.accept.new.list.entries c.accept.ensures.safe c.accept.ensures.counts
     c.in-Ok-accept.field-0 c.in-Ok-accept.ensures.applied c.in-Ok-accept.ensures.shows c.accept.ensures.tied
 
 pub returns-in-Err-accept-clause-err : goal.returns-in-Err-accept-clause-err
@@ -33,6 +33,6 @@ returns-in-Err-accept-clause-err g c = subst
     (λ d. Started g.D.Disk.state g.D.Disk.faults c.args.disk c.args.settings c.args.now (Err (c.in-Err-accept.fault, d))) (sym c.close-in-Err-accept.ensures)
     (unstarted g.D.Disk.state g.D.Disk.faults c.what_is_spelled_is_read.ensures.read g.met.D.Disk.lawful c.damage_is_one.ensures
     c.args.disk c.args.settings c.args.now
-    c.in-Ok.journal c.fold.new.journal c.in-Ok.ensures.made c.in-Ok.ensures.ok c.fold.ensures.leaves c.in-Ok-fold.desk c.in-Ok-fold.ensures.folded
-    c.accept.new.desk c.accept.new.journal c.accept.ensures.safe c.accept.ensures.counts
+    c.in-Ok.journal c.fold.new.journal c.in-Ok.ensures.made c.in-Ok.ensures.ok c.fold.ensures.leaves c.in-Ok-fold.made.0 c.in-Ok-fold.made.1.entries c.in-Ok-fold.ensures.folded
+    c.accept.new.desk c.accept.new.journal c.accept.new.list.entries c.accept.ensures.safe c.accept.ensures.counts
     c.in-Err-accept.fault c.in-Err-accept.ensures.applied)
