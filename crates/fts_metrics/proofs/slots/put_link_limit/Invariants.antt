@@ -1,0 +1,7 @@
+use Rattle.std.proofs.Common.{◌≡◌, ◌++◌, take}
+use Rattle.std.specs.List.{flat_map}
+use Rattle.fts_metrics.specs.Metrics.{link_limit_sample}
+use Rattle.fts_metrics.proofs.slots.put_link_limit.Given as goal
+
+abbrev pub invariant-loop-link : goal.invariant-loop-link
+invariant-loop-link l = l.text.items ≡ l.initial.text.items ++ flat_map (link_limit_sample) (take l.link-index l.links)

@@ -1,0 +1,18 @@
+-- The texts of all metrics, one behind the other.
+use Rattle.std.proofs.Common.{◌≡◌, ◌++◌, ◌∙◌, List, ℕ, ap}
+use Rattle.fts_metrics.specs.Metrics.{jobs_text, files_text, link_active_text, link_limit_text, endpoint_active_text, endpoint_limit_text, sizes_text, endpoints_of, links_of}
+use Rattle.fts_metrics.proofs.text.metrics.Goals as goal
+
+pub returns : goal.returns
+returns c =
+    let tables = c.args.desk.now.tables in
+    let rows = c.rows-rows.ensures.rows in
+    let endpoints : c.endpoints_of-endpoints.result.now ≡ endpoints_of tables.settings = c.endpoints_of-endpoints.ensures ∙ ap endpoints_of c.settings.ensures in
+    let links : c.links_of-links.result.now ≡ links_of tables.settings = c.links_of-links.ensures ∙ ap links_of c.settings-2.ensures in
+    let jobs = c.in_ok-put_jobs.ensures ∙ ap (λ (l : List ℕ). l ++ jobs_text tables) c.new-text.ensures.items in
+    let files = c.in_ok-put_files.ensures ∙ (λ i. jobs i ++ files_text (rows i) (endpoints i)) in
+    let link_active = c.in_ok-put_link_active.ensures ∙ (λ i. files i ++ link_active_text (rows i) (links i)) in
+    let link_limit = c.in_ok-put_link_limit.ensures ∙ (λ i. link_active i ++ link_limit_text (links i)) in
+    let endpoint_active = c.in_ok-put_endpoint_active.ensures ∙ (λ i. link_limit i ++ endpoint_active_text (rows i) (endpoints i)) in
+    let endpoint_limit = c.in_ok-put_endpoint_limit.ensures ∙ (λ i. endpoint_active i ++ endpoint_limit_text (endpoints i)) in
+    c.in_ok-put_sizes.ensures ∙ (λ i. endpoint_limit i ++ sizes_text (rows i) c.args.used)

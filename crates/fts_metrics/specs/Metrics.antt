@@ -1,0 +1,168 @@
+-- The metrics of tables: which samples there are, and what each counts.
+use Rattle.std.specs.Prelude.{ℕ, Bool, false, ◌&&◌, ◌==◌, if◌then◌else◌, Option, Some, None, List, [], ◌++◌, length, codes, count_by}
+use Rattle.std.specs.List.{flat_map, list_any}
+use Rattle.std.specs.Option.{option_map_or}
+use Rattle.fts_tables.specs.SettingsData.{SettingsData}
+use Rattle.fts_tables.specs.Tables.{Tables, is_submitted, is_active, is_finished, is_failed, is_canceled, is_not_used}
+use Rattle.fts_tables.specs.Limits.{is_on_link, held, out_of, into}
+use Rattle.fts_tables.specs.declared.rows.FileRow.{FileRow}
+use Rattle.fts_tables.specs.declared.rows.FileState.{FileState}
+use Rattle.fts_tables.specs.declared.rows.JobRow.{JobRow}
+use Rattle.fts_tables.specs.declared.rows.JobState.{JobState}
+use Rattle.fts_tables.specs.declared.rows.JobState.TheVariants.{FinishedDirty, Submitted as JobSubmitted, Active as JobActive, Finished as JobFinished, Failed as JobFailed, Canceled as JobCanceled}
+use Rattle.fts_desk.specs.DeskData.{state_at}
+use Rattle.fts_tables.specs.declared.settings.Endpoint.{Endpoint}
+use Rattle.fts_tables.specs.declared.settings.LinkRule.{LinkRule}
+use Rattle.fts_metrics.specs.Form.{head, label, two_labels, sample, plain_sample}
+
+-- how many rows of a link are in a state
+abbrev pub rows_in : (FileState → Bool) → List FileRow → List ℕ → List ℕ → ℕ
+rows_in is_state rows source dest = count_by (λ row. is_state row.state && is_on_link source dest row) rows
+
+-- the labels of a link
+abbrev pub link_labels : List ℕ → List ℕ → List ℕ
+link_labels source dest = two_labels (label (codes "source") source) (label (codes "destination") dest)
+
+-- the labels of a link and a state
+abbrev pub state_labels : List ℕ → List ℕ → List ℕ
+state_labels labels state = two_labels labels (label (codes "state") state)
+
+-- a sample of a link's rows in a state
+abbrev pub files_sample : List ℕ → List ℕ → ℕ → List ℕ
+files_sample labels state number = sample (codes "fts_files") (state_labels labels state) number
+
+-- the samples of a link's rows, a state each
+unfoldable pub files_on : List FileRow → List ℕ → List ℕ → List ℕ
+files_on rows source dest =
+    files_sample (link_labels source dest) (codes "SUBMITTED") (rows_in is_submitted rows source dest)
+    ++ files_sample (link_labels source dest) (codes "ACTIVE") (rows_in is_active rows source dest)
+    ++ files_sample (link_labels source dest) (codes "FINISHED") (rows_in is_finished rows source dest)
+    ++ files_sample (link_labels source dest) (codes "FAILED") (rows_in is_failed rows source dest)
+    ++ files_sample (link_labels source dest) (codes "CANCELED") (rows_in is_canceled rows source dest)
+    ++ files_sample (link_labels source dest) (codes "NOT_USED") (rows_in is_not_used rows source dest)
+
+-- none for a link without rows
+unfoldable pub files_where : List FileRow → List ℕ → List ℕ → List ℕ
+files_where rows source dest = if list_any (is_on_link source dest) rows then files_on rows source dest else []
+
+-- those of the links from one endpoint
+abbrev pub files_from : List FileRow → List Endpoint → List ℕ → List ℕ
+files_from rows endpoints source = flat_map (λ (endpoint : Endpoint). files_where rows source endpoint.name) endpoints
+
+-- fts_files: the rows of each link between listed endpoints that has one, by state
+abbrev pub files_text : List FileRow → List Endpoint → List ℕ
+files_text rows endpoints =
+    head (codes "fts_files") (codes "Files of each link by state.") (codes "gauge")
+    ++ flat_map (λ (endpoint : Endpoint). files_from rows endpoints endpoint.name) endpoints
+
+-- the ACTIVE files of a link
+abbrev pub link_active_sample : List FileRow → LinkRule → List ℕ
+link_active_sample rows link = sample (codes "fts_link_active") (link_labels link.source link.dest) (held rows link.source link.dest)
+
+-- how many there may be
+abbrev pub link_limit_sample : LinkRule → List ℕ
+link_limit_sample link = sample (codes "fts_link_limit") (link_labels link.source link.dest) link.max_active
+
+-- fts_link_active: the ACTIVE files of each listed link
+abbrev pub link_active_text : List FileRow → List LinkRule → List ℕ
+link_active_text rows links =
+    head (codes "fts_link_active") (codes "Files that are being copied over a listed link.") (codes "gauge")
+    ++ flat_map (link_active_sample rows) links
+
+-- fts_link_limit: how many there may be
+abbrev pub link_limit_text : List LinkRule → List ℕ
+link_limit_text links =
+    head (codes "fts_link_limit") (codes "How many files may be copied at once over a listed link.") (codes "gauge")
+    ++ flat_map link_limit_sample links
+
+-- the labels of an endpoint in a direction
+abbrev pub endpoint_labels : List ℕ → List ℕ → List ℕ
+endpoint_labels endpoint direction = two_labels (label (codes "endpoint") endpoint) (label (codes "direction") direction)
+
+-- a number of an endpoint for each direction
+unfoldable pub both_directions : List ℕ → List ℕ → ℕ → ℕ → List ℕ
+both_directions name endpoint inbound outbound =
+    sample name (endpoint_labels endpoint (codes "inbound")) inbound ++ sample name (endpoint_labels endpoint (codes "outbound")) outbound
+
+-- the ACTIVE files to an endpoint, and from it
+abbrev pub endpoint_active_samples : List FileRow → Endpoint → List ℕ
+endpoint_active_samples rows endpoint = both_directions (codes "fts_endpoint_active") endpoint.name (into rows endpoint.name) (out_of rows endpoint.name)
+
+-- how many there may be
+abbrev pub endpoint_limit_samples : Endpoint → List ℕ
+endpoint_limit_samples endpoint = both_directions (codes "fts_endpoint_limit") endpoint.name endpoint.inbound endpoint.outbound
+
+-- fts_endpoint_active: the ACTIVE files to each endpoint, and from it
+abbrev pub endpoint_active_text : List FileRow → List Endpoint → List ℕ
+endpoint_active_text rows endpoints =
+    head (codes "fts_endpoint_active") (codes "Files that are being copied to or from a storage.") (codes "gauge")
+    ++ flat_map (endpoint_active_samples rows) endpoints
+
+-- fts_endpoint_limit: how many there may be
+abbrev pub endpoint_limit_text : List Endpoint → List ℕ
+endpoint_limit_text endpoints =
+    head (codes "fts_endpoint_limit") (codes "How many files may be copied at once to or from a storage.") (codes "gauge")
+    ++ flat_map endpoint_limit_samples endpoints
+
+-- the place of a job's state in their order
+abbrev pub place_of : JobState → ℕ
+place_of JobSubmitted = 0
+place_of JobActive = 1
+place_of JobFinished = 2
+place_of FinishedDirty = 3
+place_of JobFailed = 4
+place_of JobCanceled = 5
+
+-- whether a job stands in the state of this place, by its rows
+abbrev pub is_job_in : Tables → ℕ → JobRow → Bool
+is_job_in tables place job = option_map_or (λ state. place_of state == place) (state_at tables job.number) false
+
+-- how many jobs stand in a state
+abbrev pub jobs_in : Tables → JobState → ℕ
+jobs_in tables state = count_by (is_job_in tables (place_of state)) tables.jobs
+
+-- a sample of the jobs in a state
+abbrev pub jobs_sample : List ℕ → ℕ → List ℕ
+jobs_sample state number = sample (codes "fts_jobs") (label (codes "state") state) number
+
+-- fts_jobs: the jobs by state
+unfoldable pub jobs_text : Tables → List ℕ
+jobs_text tables =
+    head (codes "fts_jobs") (codes "Jobs by state.") (codes "gauge")
+    ++ jobs_sample (codes "SUBMITTED") (jobs_in tables JobSubmitted)
+    ++ jobs_sample (codes "ACTIVE") (jobs_in tables JobActive)
+    ++ jobs_sample (codes "FINISHED") (jobs_in tables JobFinished)
+    ++ jobs_sample (codes "FINISHEDDIRTY") (jobs_in tables FinishedDirty)
+    ++ jobs_sample (codes "FAILED") (jobs_in tables JobFailed)
+    ++ jobs_sample (codes "CANCELED") (jobs_in tables JobCanceled)
+
+-- fts_rows, fts_journal_bytes, fts_journal_limit_bytes: the rows, the bytes of the journal up to its last gate, and where it ends
+unfoldable pub sizes_text : List FileRow → ℕ → List ℕ
+sizes_text rows used =
+    head (codes "fts_rows") (codes "File rows.") (codes "gauge")
+    ++ plain_sample (codes "fts_rows") (length rows)
+    ++ head (codes "fts_journal_bytes") (codes "Bytes of the journal.") (codes "gauge")
+    ++ plain_sample (codes "fts_journal_bytes") used
+    ++ head (codes "fts_journal_limit_bytes") (codes "How many bytes the journal may have.") (codes "gauge")
+    ++ plain_sample (codes "fts_journal_limit_bytes") 1073741824
+
+-- the endpoints that settings list, and none without settings
+abbrev pub endpoints_of : Option SettingsData → List Endpoint
+endpoints_of None = []
+endpoints_of (Some settings) = settings.endpoints
+
+-- the links that settings list, and none without settings
+abbrev pub links_of : Option SettingsData → List LinkRule
+links_of None = []
+links_of (Some settings) = settings.links
+
+-- all of them
+abbrev pub metrics_text : Tables → ℕ → List ℕ
+metrics_text tables used =
+    jobs_text tables
+    ++ files_text tables.rows (endpoints_of tables.settings)
+    ++ link_active_text tables.rows (links_of tables.settings)
+    ++ link_limit_text (links_of tables.settings)
+    ++ endpoint_active_text tables.rows (endpoints_of tables.settings)
+    ++ endpoint_limit_text (endpoints_of tables.settings)
+    ++ sizes_text tables.rows used

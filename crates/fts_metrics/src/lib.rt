@@ -1,0 +1,11 @@
+//! The numbers of the tables in Prometheus' text form, version 0.0.4: for each metric what it is, and then its samples.
+//! `specs/Form.antt` says how a sample is written, `specs/Metrics.antt` which there are, and what each counts.
+#![tactic(auto)]
+
+mod files;
+mod jobs;
+mod lines;
+mod slots;
+mod text;
+
+pub use text::metrics;

@@ -1,0 +1,172 @@
+//! What is being copied over each listed link, and to and from each storage, beside the limits that the settings give.
+ghost use Rattle.std.specs.Prelude.{◌≡◌, ◌++◌, ◌≤◌, length, OnOk};
+ghost use Rattle.fts_tables.specs.Limits.{out_of, into};
+ghost use Rattle.fts_metrics.specs.Metrics.{link_active_text, link_limit_text, endpoint_active_text, endpoint_limit_text, both_directions, link_active_sample, link_limit_sample, endpoint_active_samples, endpoint_limit_samples};
+
+use crate::files::active;
+use crate::lines::{labels_of, put_head, put_sample};
+use fts_tables::{Endpoint, FileRow, LinkRule, Memory};
+use std::alloc::Global;
+
+// A sample of the files that are being copied over a link.
+fn put_active(
+    alloc: Global,
+    text: &mut Vec<u8>,
+    rows: &[FileRow],
+    link: &LinkRule,
+) -> Result<(), Memory>
+    ensures { OnOk result (text.new.items ≡ text.old.items ++ link_active_sample rows.now link.now) }
+{
+    let (source, dest) = (link.source.as_str(), link.dest.as_str());
+    let labels = labels_of(alloc, "source", source, "destination", dest)?;
+    let count = active(rows, source, dest) as u64;
+    put_sample(text, "fts_link_active", &labels, count)?;
+    Ok(())
+}
+
+// A sample of a link's limit.
+fn put_limit(alloc: Global, text: &mut Vec<u8>, link: &LinkRule) -> Result<(), Memory>
+    ensures { OnOk result (text.new.items ≡ text.old.items ++ link_limit_sample link.now) }
+{
+    let (source, dest) = (link.source.as_str(), link.dest.as_str());
+    let labels = labels_of(alloc, "source", source, "destination", dest)?;
+    put_sample(text, "fts_link_limit", &labels, link.max_active as u64)
+}
+
+/// What there is of `fts_link_active`.
+pub fn put_link_active(
+    alloc: Global,
+    text: &mut Vec<u8>,
+    rows: &[FileRow],
+    links: &[LinkRule],
+) -> Result<(), Memory>
+    ensures { OnOk result (text.new.items ≡ text.old.items ++ link_active_text rows.now links.now) }
+{
+    put_head(
+        text,
+        "fts_link_active",
+        "Files that are being copied over a listed link.",
+        "gauge",
+    )?;
+    for link in links {
+        put_active(alloc, text, rows, link)?;
+    }
+    Ok(())
+}
+
+/// What there is of `fts_link_limit`.
+pub fn put_link_limit(alloc: Global, text: &mut Vec<u8>, links: &[LinkRule]) -> Result<(), Memory>
+    ensures { OnOk result (text.new.items ≡ text.old.items ++ link_limit_text links.now) }
+{
+    put_head(
+        text,
+        "fts_link_limit",
+        "How many files may be copied at once over a listed link.",
+        "gauge",
+    )?;
+    for link in links {
+        put_limit(alloc, text, link)?;
+    }
+    Ok(())
+}
+
+// The files that are being copied from an endpoint.
+fn from_endpoint(rows: &[FileRow], name: &str) -> usize
+    ensures { result ≡ out_of rows.now name.now }
+{
+    rows.iter()
+        .filter(|row| row.state.is_active() && row.source.endpoint.as_str() == name)
+        .count()
+}
+
+// The files that are being copied to an endpoint.
+fn to_endpoint(rows: &[FileRow], name: &str) -> usize
+    ensures { result ≡ into rows.now name.now }
+{
+    rows.iter()
+        .filter(|row| row.state.is_active() && row.dest.endpoint.as_str() == name)
+        .count()
+}
+
+// A number of an endpoint for each direction.
+fn put_both(
+    alloc: Global,
+    text: &mut Vec<u8>,
+    name: &str,
+    endpoint: &str,
+    inbound: u64,
+    outbound: u64,
+) -> Result<(), Memory>
+    ensures { OnOk result (text.new.items ≡ text.old.items ++ both_directions name.now endpoint.now inbound outbound) }
+{
+    let labels = labels_of(alloc, "endpoint", endpoint, "direction", "inbound")?;
+    put_sample(text, name, &labels, inbound)?;
+    let labels = labels_of(alloc, "endpoint", endpoint, "direction", "outbound")?;
+    put_sample(text, name, &labels, outbound)?;
+    Ok(())
+}
+
+// The samples of what is being copied to an endpoint and from it.
+fn put_endpoint(
+    alloc: Global,
+    text: &mut Vec<u8>,
+    rows: &[FileRow],
+    endpoint: &Endpoint,
+) -> Result<(), Memory>
+    ensures { OnOk result (text.new.items ≡ text.old.items ++ endpoint_active_samples rows.now endpoint.now) }
+{
+    let name = endpoint.name.as_str();
+    let inbound = to_endpoint(rows, name) as u64;
+    let outbound = from_endpoint(rows, name) as u64;
+    put_both(alloc, text, "fts_endpoint_active", name, inbound, outbound)
+}
+
+// The samples of an endpoint's limits.
+fn put_limits(alloc: Global, text: &mut Vec<u8>, endpoint: &Endpoint) -> Result<(), Memory>
+    ensures { OnOk result (text.new.items ≡ text.old.items ++ endpoint_limit_samples endpoint.now) }
+{
+    let name = endpoint.name.as_str();
+    let (inbound, outbound) = (endpoint.inbound as u64, endpoint.outbound as u64);
+    put_both(alloc, text, "fts_endpoint_limit", name, inbound, outbound)
+}
+
+/// What there is of `fts_endpoint_active`.
+pub fn put_endpoint_active(
+    alloc: Global,
+    text: &mut Vec<u8>,
+    rows: &[FileRow],
+    endpoints: &[Endpoint],
+) -> Result<(), Memory>
+    ensures { OnOk result (text.new.items ≡ text.old.items ++ endpoint_active_text rows.now endpoints.now) }
+{
+    put_head(
+        text,
+        "fts_endpoint_active",
+        "Files that are being copied to or from a storage.",
+        "gauge",
+    )?;
+    for endpoint in endpoints {
+        put_endpoint(alloc, text, rows, endpoint)?;
+    }
+    Ok(())
+}
+
+/// What there is of `fts_endpoint_limit`.
+pub fn put_endpoint_limit(
+    alloc: Global,
+    text: &mut Vec<u8>,
+    endpoints: &[Endpoint],
+) -> Result<(), Memory>
+    ensures { OnOk result (text.new.items ≡ text.old.items ++ endpoint_limit_text endpoints.now) }
+{
+    put_head(
+        text,
+        "fts_endpoint_limit",
+        "How many files may be copied at once to or from a storage.",
+        "gauge",
+    )?;
+    for endpoint in endpoints {
+        put_limits(alloc, text, endpoint)?;
+    }
+    Ok(())
+}

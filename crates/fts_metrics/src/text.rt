@@ -1,0 +1,68 @@
+//! All metrics, in one text.
+ghost use Rattle.std.specs.Prelude.{◌≡◌, ◌++◌, ◌≤◌, length, OnOk, IfOk, option_map};
+ghost use Rattle.fts_metrics.specs.Metrics.{endpoints_of, links_of, sizes_text, metrics_text};
+
+use crate::files::put_files;
+use crate::jobs::put_jobs;
+use crate::lines::{put_head, put_plain};
+use crate::slots::{put_endpoint_active, put_endpoint_limit, put_link_active, put_link_limit};
+use fts_desk::Desk;
+use fts_tables::limits::JOURNAL_END;
+use fts_tables::{Endpoint, FileRow, LinkRule, Memory, Settings};
+use std::alloc::Global;
+
+/// The text of the metrics of a desk's tables, of whose journal so many bytes are used. It fails for want of memory alone.
+pub fn metrics(alloc: Global, desk: &Desk, used: u64) -> Result<Vec<u8>, Memory>
+    ensures { IfOk result (λ text. text.items ≡ metrics_text desk.now.tables used) }
+{
+    let mut text = Vec::new(alloc);
+    let rows = desk.rows();
+    let endpoints = endpoints_of(desk.settings());
+    let links = links_of(desk.settings());
+    put_jobs(alloc, &mut text, desk)?;
+    put_files(alloc, &mut text, rows, endpoints)?;
+    put_link_active(alloc, &mut text, rows, links)?;
+    put_link_limit(alloc, &mut text, links)?;
+    put_endpoint_active(alloc, &mut text, rows, endpoints)?;
+    put_endpoint_limit(alloc, &mut text, endpoints)?;
+    put_sizes(&mut text, rows, used)?;
+    Ok(text)
+}
+
+// The endpoints that settings list.
+fn endpoints_of(settings: Option<&Settings>) -> &[Endpoint]
+    ensures { result.now ≡ endpoints_of (option_map (λ settings. settings.now) settings.entry) }
+{
+    match settings {
+        Some(settings) => settings.endpoints.as_slice(),
+        None => &[],
+    }
+}
+
+// The links that settings list.
+fn links_of(settings: Option<&Settings>) -> &[LinkRule]
+    ensures { result.now ≡ links_of (option_map (λ settings. settings.now) settings.entry) }
+{
+    match settings {
+        Some(settings) => settings.links.as_slice(),
+        None => &[],
+    }
+}
+
+// What there is of rows, and of the journal.
+fn put_sizes(text: &mut Vec<u8>, rows: &[FileRow], used: u64) -> Result<(), Memory>
+    ensures { OnOk result (text.new.items ≡ text.old.items ++ sizes_text rows.now used) }
+{
+    put_head(text, "fts_rows", "File rows.", "gauge")?;
+    put_plain(text, "fts_rows", rows.len() as u64)?;
+    put_head(text, "fts_journal_bytes", "Bytes of the journal.", "gauge")?;
+    put_plain(text, "fts_journal_bytes", used)?;
+    put_head(
+        text,
+        "fts_journal_limit_bytes",
+        "How many bytes the journal may have.",
+        "gauge",
+    )?;
+    put_plain(text, "fts_journal_limit_bytes", JOURNAL_END)?;
+    Ok(())
+}

@@ -1,0 +1,154 @@
+//! The monitor: the desk that a journal's entries make, and how far the journal was passed.
+//! Keeps: the tables are those of a legal list, whose spellings are the bodies up to the gate (`IsMonitor`).
+//! Order: a look takes the bodies behind the gate one by one: each is read, done by the desk, and only then passed. So where it stops, what was folded
+//! stays on view, and the next look goes on from there.
+ghost use Rattle.std.specs.Prelude.{◌≡◌, ◌<◌, ◌+◌, ◌^◌, OnOk, OnErr};
+ghost use Rattle.fts_monitor.specs.Monitor.{Takes};
+
+use crate::MonitorFault;
+use fts_desk::{Desk, DeskFault};
+use fts_disk::Disk;
+use fts_journal::FRONT_BYTES;
+use fts_record::{ReadFault, read_entry};
+use fts_tail::Tail;
+use std::alloc::Global;
+use std::marker::Model;
+
+/// The tables of a journal, as far as it was looked at. Contracts see them, the number of entries that made them, the offset of the gate behind the last of
+/// these, and the disk.
+pub struct Monitor<D: Disk> {
+    alloc: Global,
+    desk: Desk,
+    tail: Tail<D>,
+}
+
+impl<D: Disk + Drop> Drop for Monitor<D> {
+    fn drop(self) {
+        let Monitor {
+            alloc: _,
+            desk: _,
+            tail: _,
+        } = self;
+    }
+}
+
+impl<D: Disk> Model for Monitor<D> {
+    ghost use Rattle.fts_monitor.specs.Monitor.{MonitorData, IsMonitor};
+
+    ghost Value = { MonitorData D };
+
+    ghost view = { λ m. record { tables = m.desk.tables; commands = m.desk.commands; used = m.tail.used; disk = m.tail.disk } };
+
+    ghost invariant = { λ m. IsMonitor D.state (record { tables = m.desk.tables; commands = m.desk.commands; used = m.tail.used; disk = m.tail.disk }) };
+}
+
+impl<D: Disk> Monitor<D> {
+    ghost use Rattle.std.specs.Prelude.{◌≡◌, ◌<◌, [], true, false, IfOk, IfErr, OnOk, MatchResult};
+    ghost use Rattle.fts_tables.specs.declared.limits.TheConstants.{JOURNAL_END};
+    ghost use Rattle.fts_monitor.specs.Monitor.{IsFoldOf, IsMonitor, GoesOn, IsAll, OnlyLooks, LookFault, OpenFault};
+
+    /// A monitor of a journal, of which no entry was folded. Gives the disk back where there is none.
+    pub fn open(alloc: Global, disk: D) -> Result<Monitor<D>, (MonitorFault, D)>
+        ensures looks { MatchResult result (λ m. OnlyLooks D.state D.faults disk m.disk) (λ e. OnlyLooks D.state D.faults disk e.1) }
+        ensures none { IfOk result (λ m. IsFoldOf D.state m []) }
+        ensures cause { IfErr result (λ e. OpenFault D.state D.faults disk e.1 e.0) }
+    {
+        match Tail::begin(alloc, disk) {
+            Ok(tail) => Ok(Monitor {
+                alloc,
+                desk: Desk::empty(alloc),
+                tail,
+            }),
+            Err((fault, disk)) => Err((fault.into(), disk)),
+        }
+    }
+
+    /// Folds what stands behind the last look. A body that is being written is none, and where nothing was appended it is one call of the disk.
+    /// At `Ok` the tables are those of all entries; otherwise those of the entries before what stopped it.
+    pub fn look(&mut self) -> Result<(), MonitorFault>
+        ensures goes_on { GoesOn D.state self.old self.new }
+        ensures looks { OnlyLooks D.state D.faults self.old.disk self.new.disk }
+        ensures all { OnOk result (IsAll D.state self.new) }
+        ensures cause { IfErr result (LookFault D.state D.faults self.old self.new) }
+    {
+        'bodies: while true {
+            if !self.step()? {
+                return Ok(());
+            }
+        }
+        Ok(())
+    }
+
+    // Folds the next body, and says whether there was one.
+    fn step(&mut self) -> Result<bool, MonitorFault>
+        ensures goes_on { GoesOn D.state self.old self.new }
+        ensures looks { OnlyLooks D.state D.faults self.old.disk self.new.disk }
+        ensures all { IfOk result (λ more. more ≡ false → IsAll D.state self.new) }
+        ensures low { self.old.used < JOURNAL_END }
+        ensures further { IfOk result (λ more. more ≡ true → self.old.used < self.new.used) }
+        ensures cause { IfErr result (LookFault D.state D.faults self.old self.new) }
+    {
+        if !self.tail.look()? {
+            return Ok(false);
+        }
+        let gate = self.tail.used();
+        take_entry(self.alloc, &mut self.desk, self.tail.body(), gate)?;
+        self.tail.pass();
+        Ok(true)
+    }
+
+    /// The tables, as far as they were folded.
+    pub fn desk(&self) -> &Desk
+        ensures tables { result.now.tables ≡ self.now.tables }
+        ensures commands { result.now.commands ≡ self.now.commands }
+        ensures fold { IsMonitor D.state self.now }
+    {
+        &self.desk
+    }
+
+    /// The offset of the gate behind the entries that were folded, in bytes.
+    pub fn used(&self) -> u64
+        ensures { result ≡ self.now.used }
+    {
+        self.tail.used()
+    }
+
+    /// The disk, given back.
+    pub fn close(self) -> D
+        ensures { result ≡ self.disk }
+    {
+        let Monitor {
+            alloc: _,
+            desk: _,
+            tail,
+        } = self;
+        tail.close()
+    }
+}
+
+// Does the entry that a body spells. Its gate is at this offset, in bytes.
+fn take_entry(alloc: Global, desk: &mut Desk, body: &[u8], gate: u64) -> Result<(), MonitorFault>
+    requires few { desk.old.commands < 4294967295 }
+    requires low { gate < 2 ^ 62 }
+    ensures takes { Takes desk.old.tables gate body.now desk.new.tables result }
+    ensures commands { OnOk result (desk.new.commands ≡ desk.old.commands + 1) }
+    ensures kept { OnErr result (desk.new.tables ≡ desk.old.tables) }
+    ensures counted { OnErr result (desk.new.commands ≡ desk.old.commands) }
+{
+    let entry = match read_entry(alloc, body) {
+        Ok(entry) => entry,
+        Err(ReadFault::BadEntry { at }) => {
+            let offset = gate + FRONT_BYTES + at as u64;
+            return Err(MonitorFault::Damaged { offset });
+        }
+        Err(ReadFault::Memory) => return Err(MonitorFault::Memory),
+    };
+    match desk.prepare(&entry.command) {
+        Ok(plan) => {
+            desk.commit(plan);
+            Ok(())
+        }
+        Err(DeskFault::Rule(_)) => Err(MonitorFault::Damaged { offset: gate }),
+        Err(DeskFault::Memory) => Err(MonitorFault::Memory),
+    }
+}
