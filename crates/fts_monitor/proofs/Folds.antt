@@ -16,7 +16,6 @@ use Rattle.fts_journal.specs.Loading.{IsCut}
 use Rattle.fts_record.specs.Reading.{entry_in}
 use Rattle.fts_keep.specs.Keeps.{bodies_of, used_of}
 use Rattle.fts_keep.specs.Damage.{IsWhole, fault_at}
-use Rattle.fts_keep.specs.Folding.{TakesEntry}
 use Rattle.fts_keep.proofs.Lists.{tables_from-append, legal_more, bodies_more}
 use Rattle.fts_desk.specs.DeskData.{DeskData}
 use Rattle.fts_tail.specs.Tail.{TailData, HasPassed, EndsThere, LookCause, bodies_with}
@@ -25,7 +24,7 @@ use Rattle.fts_tail.specs.declared.fault.TailFault.{TailFault}
 use Rattle.fts_tail.specs.declared.fault.TailFault.TheVariants.{DiskFailed, NotJournal, Cut, Changed, Memory}
 use Rattle.fts_tail.proofs.Passed.{used_more}
 use Rattle.fts_monitor.specs.Faults.{fault_of}
-use Rattle.fts_monitor.specs.Monitor.{MonitorData, IsFoldOf, IsMonitor, GoesOn, IsAll, OnlyLooks, LookFault, Takes}
+use Rattle.fts_monitor.specs.Monitor.{MonitorData, IsFoldOf, IsMonitor, GoesOn, IsAll, OnlyLooks, LookFault, TakesEntry, Takes}
 use Rattle.fts_monitor.specs.declared.fault.MonitorFault.{MonitorFault}
 use Rattle.fts_monitor.specs.declared.fault.MonitorFault.TheVariants.{DiskFailed as MonitorDiskFailed, Damaged, Changed as MonitorChanged, Memory as MonitorMemory}
 

@@ -2,16 +2,18 @@
 use Rattle.std.specs.Prelude.{◌≡◌, ◌⊎◌, ℕ, ◌+◌, ◌≤◌, Option, Some, List, ◌++◌, length, take, drop, Result, Ok, Err, All}
 use Rattle.fts_tables.specs.Counts.{Rose}
 use Rattle.fts_tables.specs.Tables.{Tables}
+use Rattle.fts_tables.specs.Step.{step}
 use Rattle.fts_tables.specs.History.{tables_of, IsLegal}
+use Rattle.fts_tables.specs.declared.commands.Answer.{Answer}
 use Rattle.fts_tables.specs.declared.commands.Entry.{Entry}
 use Rattle.fts_record.specs.Proper.{IsProper}
 use Rattle.fts_record.specs.Reading.{entry_in}
+use Rattle.fts_record.specs.Spelling.{spelled}
 use Rattle.fts_disk.specs.Disk.{DiskState, IsTold}
 use Rattle.fts_journal.specs.Format.{block}
 use Rattle.fts_journal.specs.Loading.{IsNotJournal, IsCut, IsQuiet}
 use Rattle.fts_keep.specs.Keeps.{bodies_of, used_of}
 use Rattle.fts_keep.specs.Damage.{IsWhole, fault_at}
-use Rattle.fts_keep.specs.Folding.{TakesEntry}
 use Rattle.fts_tail.specs.Tail.{HasPassed}
 use Rattle.fts_monitor.specs.declared.fault.MonitorFault.{MonitorFault}
 use Rattle.fts_monitor.specs.declared.fault.MonitorFault.TheVariants.{DiskFailed, Damaged, Changed, Memory}
@@ -75,6 +77,14 @@ OpenFault state faults old new DiskFailed = Rose (faults old) (faults new)
 OpenFault state faults old new (Damaged offset) = (offset ≡ 0) × (IsTold (state old) → IsNotJournal (state old).seen)
 OpenFault state faults old new Changed = ⊥
 OpenFault state faults old new Memory = Unit {0}
+
+-- a body is the spelling of an entry, which leads from the tables before to those after
+pub record TakesEntry (before : Tables) (body : List ℕ) (after : Tables) : Type 0 where
+  pub entry : Entry
+  pub answer : Answer
+  pub spells : body ≡ spelled entry
+  pub proper : IsProper entry
+  pub stepped : step before entry.command ≡ Ok (after, answer)
 
 -- what comes of a body behind the gate at this offset: its entry, or the fault that it is whatever follows
 abbrev pub Takes : Tables → ℕ → List ℕ → Tables → Result (Unit {0}) MonitorFault → Type 0
