@@ -5,6 +5,7 @@ use Rattle.std.specs.Option.{option_map_or}
 use Rattle.fts_tables.specs.SettingsData.{SettingsData}
 use Rattle.fts_tables.specs.Tables.{Tables, is_submitted, is_active, is_finished, is_failed, is_canceled, is_not_used}
 use Rattle.fts_tables.specs.Limits.{is_on_link, held, out_of, into}
+use Rattle.fts_tables.specs.declared.limits.TheConstants.{JOURNAL_END}
 use Rattle.fts_tables.specs.declared.rows.FileRow.{FileRow}
 use Rattle.fts_tables.specs.declared.rows.FileState.{FileState}
 use Rattle.fts_tables.specs.declared.rows.JobRow.{JobRow}
@@ -144,7 +145,7 @@ sizes_text rows used =
     ++ head (codes "fts_journal_bytes") (codes "Bytes of the journal.") (codes "gauge")
     ++ plain_sample (codes "fts_journal_bytes") used
     ++ head (codes "fts_journal_limit_bytes") (codes "How many bytes the journal may have.") (codes "gauge")
-    ++ plain_sample (codes "fts_journal_limit_bytes") 1073741824
+    ++ plain_sample (codes "fts_journal_limit_bytes") JOURNAL_END
 
 -- the endpoints that settings list, and none without settings
 abbrev pub endpoints_of : Option SettingsData → List Endpoint
