@@ -15,7 +15,8 @@ use Rattle.fts_tables.specs.declared.rows.Outcome.TheVariants.{Verified}
 use Rattle.fts_tables.specs.declared.commands.Entry.{Entry}
 use Rattle.fts_tables.specs.declared.commands.Command.TheVariants.{Restart, Submit, CancelJob, Claim, Report, Expire}
 use Rattle.fts_tables.specs.declared.commands.Refusal.TheVariants.{Idle}
-use Rattle.fts_record.specs.Spelling.{spelled, command_bytes, number_bytes, text_bytes, settings_bytes, endpoint_bytes, link_bytes, weight_bytes, job_bytes, limited_job_bytes, file_bytes, outcome_bytes}
+use Rattle.fts_record.specs.Spelling.{spelled, command_bytes, number_bytes, text_bytes, settings_bytes, endpoint_bytes, link_bytes, weight_bytes}
+use Rattle.fts_record.specs.Spelling.{job_bytes, limited_job_bytes, file_bytes, outcome_bytes}
 use Rattle.fts_keep.specs.Keeps.{used_of}
 use Rattle.fts_keep.specs.Applied.{Applies, entry_by}
 use Rattle.fts_keep.specs.declared.fault.KeepFault.TheVariants.{Rule}
