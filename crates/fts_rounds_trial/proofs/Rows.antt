@@ -49,7 +49,7 @@ abbrev site : List ℕ → Endpoint
 site name = record { name = name; inbound = 20; outbound = 20 }
 
 -- two endpoints, and two files at once over each link between them
-abbrev settings : SettingsData
+abbrev pub settings : SettingsData
 settings = record {
   vo = codes "demo";
   workers = 4;

@@ -31,14 +31,14 @@ unfolding is_clear
 clear-is-not-busy held same = subst is_clear same tt
 
 -- the connection ends with its bytes, or by a request, and the last round is clear
-abbrev ends_well : SessionEnd
+abbrev pub ends_well : SessionEnd
 ends_well = record { line = Closed; last = Clear }
 
 -- ---- no byte comes: one read finds that, nothing is written, and one round finds nothing to claim
 
-empty-input : IsSession true [] 4 (reading_of (Some []) 0) (reading_of (Some []) 1) (Some []) (Some []) ends_well (at_list restarted) (at_list restarted)
+pub empty-input : (own : Bool) → IsSession own [] 4 (reading_of (Some []) 0) (reading_of (Some []) 1) (Some []) (Some []) ends_well (at_list restarted) (at_list restarted)
 unfolding spelled command_bytes number_bytes text_bytes settings_bytes endpoint_bytes link_bytes weight_bytes
-empty-input = record {
+empty-input own = record {
   between = at_list restarted;
   connection = record {
     served = [];
