@@ -1,5 +1,5 @@
-//! Which link a claim takes its file from, given all links with what each holds: `pick_link` waits for a caller, one that keeps links in order.
-//! The desk keeps none. It finds the link of its claim by a walk over the rows, to the same end (`picked_links_are_the_claims`).
+//! Which link a claim takes its file from, given all links in order with what each holds. It is for whoever keeps such a list, and tests alone call it.
+//! A claim keeps none: it finds its link by a look at each queue (`fts_claims`), to the same end (`picked_links_are_the_claims`).
 ghost use Rattle.std.specs.Prelude.{
   ◌≡◌,
   ◌↔◌,
