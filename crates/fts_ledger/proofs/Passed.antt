@@ -100,7 +100,7 @@ module _ {E : Type 0} (stores : store.Ghosts E) where
   pub grown_turns : (more : ℕ) (old new : StationData E) → AreTurns stores more old new → Grown old.pass new.pass
   grown_turns zero old new turns = subst (Grown old.pass) turns.2 (grown_itself old.pass)
   grown_turns (suc more) old new turns = grown_on old.pass turns.0.pass new.pass
-      (grown_turn old.pass turns.0.pass old.hand turns.0.hand old.held turns.1 turns.0.held turns.2.0) (grown_turns more turns.0 new turns.2.1.1)
+      (grown_turn old.pass turns.0.pass old.hand turns.2.0.behind old.held turns.1 turns.0.held turns.2.0.turn) (grown_turns more turns.0 new turns.2.1.1)
 
   module _ (machine : Machine) (opening : List Entry) (writer : ℕ) where
     -- the report of what is held
@@ -192,10 +192,11 @@ module _ {E : Type 0} (stores : store.Ghosts E) where
         (turned_others machine opening writer before [] old.held (subst (λ list. IsLegal (opening ++ list)) is legal) tt fits))
     turns_turned (suc more) old new opens number legal fits turns =
         let next = turns.0 in
+        let takes = turns.2.0 in
         let rest = turns.2.1.1 in
-        let grown = grown_turn old.pass next.pass old.hand next.hand old.held turns.1 next.held turns.2.0 in
+        let grown = grown_turn old.pass next.pass old.hand takes.behind old.held turns.1 next.held takes.turn in
         let legal_next = legal_grown opening next.pass new.pass (grown_turns more next new rest) legal in
-        let first = turn_turned old.pass next.pass old.hand next.hand old.held turns.1 next.held opens number legal_next fits turns.2.0 in
+        let first = turn_turned old.pass next.pass old.hand takes.behind old.held turns.1 next.held opens number legal_next fits takes.turn in
         turned_on machine opening writer (items_of old.pass.seen) (items_of next.pass.seen) (items_of new.pass.seen) next.held new.held first
         (turns_turned more next new (grown.same.1 ∙ opens) (grown.same.3 ∙ number) legal first.fits rest)
 
@@ -220,11 +221,11 @@ module _ {E : Type 0} (stores : store.Ghosts E) where
     -- a turn
     pub turn_keeps : (old new : StationData E) (end : Turn) → TakesOne stores old new end → MayKeep old.pass new.pass old.held
         → KeepsLedger old.pass new.pass new.held
-    turn_keeps old new end turn may =
-        let grown = grown_turn old.pass new.pass old.hand new.hand old.held end new.held turn in
+    turn_keeps old new end takes may =
+        let grown = grown_turn old.pass new.pass old.hand takes.behind old.held end new.held takes.turn in
         keeps_by old.pass new.pass new.held grown
-        (turn_turned machine old.pass.opening old.pass.number old.pass new.pass old.hand new.hand old.held end new.held refl refl
-        (legal_of old.pass new.pass grown may.legal) may.fits turn)
+        (turn_turned machine old.pass.opening old.pass.number old.pass new.pass old.hand takes.behind old.held end new.held refl refl
+        (legal_of old.pass new.pass grown may.legal) may.fits takes.turn)
 
     -- turns
     pub turns_keep : (more : ℕ) (old new : StationData E) → AreTurns stores more old new → MayKeep old.pass new.pass old.held
@@ -242,11 +243,11 @@ module _ {E : Type 0} (stores : store.Ghosts E) where
         let opening = old.pass.opening in
         let writer = old.pass.number in
         let grown = grown_turns done.more old between done.turns in
-        let last = grown_turn between.pass new.pass between.hand new.hand between.held done.last new.held done.ends in
+        let last = grown_turn between.pass new.pass between.hand done.ends.behind between.held done.last new.held done.ends.turn in
         let all = grown_on old.pass between.pass new.pass grown last in
         let legal = legal_of old.pass new.pass all may.legal in
         let first = turns_turned machine opening writer done.more old between refl refl (legal_grown opening between.pass new.pass last legal) may.fits done.turns in
         keeps_by old.pass new.pass new.held all
         (turned_on machine opening writer (items_of old.pass.seen) (items_of between.pass.seen) (items_of new.pass.seen) between.held new.held first
-        (turn_turned machine opening writer between.pass new.pass between.hand new.hand between.held done.last new.held grown.same.1 grown.same.3 legal
-        first.fits done.ends))
+        (turn_turned machine opening writer between.pass new.pass between.hand done.ends.behind between.held done.last new.held grown.same.1 grown.same.3
+        legal first.fits done.ends.turn))

@@ -253,6 +253,15 @@ module _ {E : Type 0} (stores : store.Ghosts E) (machine : Machine) (orders : Or
       (report_well old new hand.moments after.moments held turn.reported.0 end left hand.store opens number legal fits.each.0.claimed free turn.reported.1)
   turn_well old new hand after (held ∷ next ∷ others) end left opens number legal fits free turn = absurd turn.reported
 
+  -- a turn at a station; a rest leaves the store as it is
+  takes_well : (old new : StationData E) (end : Turn) → old.pass.opening ≡ opening → old.pass.number ≡ writer
+      → IsLegal (opening ++ items_of new.pass.seen) → Fits writer opening (items_of old.pass.seen) old.held
+      → IsUndisturbed writer opening (items_of new.pass.seen) → TakesOne stores old new end
+      → GoesWell (items_of old.pass.seen) (items_of new.pass.seen) old.held new.held old.hand.store new.hand.store end
+  takes_well old new end opens number legal fits free takes =
+      subst (λ store. GoesWell (items_of old.pass.seen) (items_of new.pass.seen) old.held new.held old.hand.store store end) (sym takes.rested.store)
+      (turn_well old.pass new.pass old.hand takes.behind old.held end new.held opens number legal fits free takes.turn)
+
   -- turns: the store follows, and none is stale
   pub record GoWell (more : ℕ) (old new : StationData E) : Type 0 where
     pub followed : Followed stores opening writer (items_of old.pass.seen) (items_of new.pass.seen) old.held new.held old.hand.store new.hand.store
@@ -276,16 +285,17 @@ module _ {E : Type 0} (stores : store.Ghosts E) (machine : Machine) (orders : Or
       }
   turns_well (suc more) old new opens number legal fits free turns =
       let next = turns.0 in
+      let takes = turns.2.0 in
       let rest = turns.2.1.1 in
-      let grown = grown_turn stores old.pass next.pass old.hand next.hand old.held turns.1 next.held turns.2.0 in
+      let grown = grown_turn stores old.pass next.pass old.hand takes.behind old.held turns.1 next.held takes.turn in
       let later = grown_turns stores more next new rest in
       let legal_next = legal_grown opening next.pass new.pass later legal in
       let free_next : IsUndisturbed writer opening (items_of next.pass.seen) =
       undisturbed_before writer opening (items_of next.pass.seen) (items_of later.since)
       (subst (IsUndisturbed writer opening) (items_grown next.pass new.pass later) free) in
-      let fits_next = (turn_turned stores machine opening writer old.pass next.pass old.hand next.hand old.held turns.1 next.held opens number
-      legal_next fits turns.2.0).fits in
-      let one = turn_well old.pass next.pass old.hand next.hand old.held turns.1 next.held opens number legal_next fits free_next turns.2.0 in
+      let fits_next = (turn_turned stores machine opening writer old.pass next.pass old.hand takes.behind old.held turns.1 next.held opens number
+      legal_next fits takes.turn).fits in
+      let one = takes_well old next turns.1 opens number legal_next fits free_next takes in
       let others = turns_well more next new (grown.same.1 ∙ opens) (grown.same.3 ∙ number) legal fits_next free rest in
       record {
         followed = followed_on stores opening writer (items_of old.pass.seen) (items_of next.pass.seen) (items_of new.pass.seen) old.held next.held
@@ -321,10 +331,10 @@ module _ {E : Type 0} (stores : store.Ghosts E) (machine : Machine) (orders : Or
   -- a turn
   pub turn_follows : (old new : StationData E) (end : Turn) → TakesOne stores old new end → MayKeep old.pass new.pass old.held
       → KeepsItsFiles new.pass → FollowsOwn stores old new × ((file : ℕ) → end ≢ turn_ends.Stale file)
-  turn_follows old new end turn may free =
-      let grown = grown_turn stores old.pass new.pass old.hand new.hand old.held end new.held turn in
-      let well = turn_well stores machine orders old.pass.opening old.pass.number old.pass new.pass old.hand new.hand old.held end new.held
-      refl refl (legal_of old.pass new.pass grown may.legal) may.fits (free_of old.pass new.pass grown free) turn in
+  turn_follows old new end takes may free =
+      let grown = grown_turn stores old.pass new.pass old.hand takes.behind old.held end new.held takes.turn in
+      let well = takes_well stores machine orders old.pass.opening old.pass.number old new end refl refl
+      (legal_of old.pass new.pass grown may.legal) may.fits (free_of old.pass new.pass grown free) takes in
       (follows_by old new grown well.followed, well.fresh)
 
   -- turns
@@ -344,7 +354,7 @@ module _ {E : Type 0} (stores : store.Ghosts E) (machine : Machine) (orders : Or
       let opening = old.pass.opening in
       let writer = old.pass.number in
       let grown = grown_turns stores done.more old between done.turns in
-      let last = grown_turn stores between.pass new.pass between.hand new.hand between.held done.last new.held done.ends in
+      let last = grown_turn stores between.pass new.pass between.hand done.ends.behind between.held done.last new.held done.ends.turn in
       let all = grown_on old.pass between.pass new.pass grown last in
       let legal = legal_of old.pass new.pass all may.legal in
       let legal_mid = legal_grown opening between.pass new.pass last legal in
@@ -354,8 +364,7 @@ module _ {E : Type 0} (stores : store.Ghosts E) (machine : Machine) (orders : Or
       (subst (IsUndisturbed writer opening) (items_grown between.pass new.pass last) free_new) in
       let fits_mid = (turns_turned stores machine opening writer done.more old between refl refl legal_mid may.fits done.turns).fits in
       let first = turns_well stores machine orders opening writer done.more old between refl refl legal_mid may.fits free_mid done.turns in
-      let ends = turn_well stores machine orders opening writer between.pass new.pass between.hand new.hand between.held done.last new.held
-      grown.same.1 grown.same.3 legal fits_mid free_new done.ends in (
+      let ends = takes_well stores machine orders opening writer between new done.last grown.same.1 grown.same.3 legal fits_mid free_new done.ends in (
         follows_by old new all
             (followed_on stores opening writer (items_of old.pass.seen) (items_of between.pass.seen) (items_of new.pass.seen) old.held between.held new.held
             old.hand.store between.hand.store new.hand.store first.followed ends.followed),

@@ -1,7 +1,7 @@
 //! A connection over a pass of the lock: its requests, one after another, each answered in one turn of the lock.
 //! Keeps, from request to request: what was written are the responses so far, each reply is the machine's over the list before its turn, with the
 //! pass's number as writer, and the turns stand in the order of the requests (`IsLineServed` of `specs/Lanes.antt`).
-//! Order of a request: it is read, the clock is asked, its document is read, it is answered in a turn, its response is written. What an earlier line left in the room is
+//! Order of a request: it is read, the clock is asked, its document is read, it is answered in a turn, idle workers are told where it may have changed something, its response is written. What an earlier line left in the room is
 //! dropped first. Nothing is read behind a request that says close, nor behind the millionth, nor behind a load that found no request.
 ghost use Rattle.std.specs.Prelude.{◌≡◌, IsTrue};
 ghost use Rattle.fts_tables.specs.Counts.{Rose};
@@ -20,7 +20,7 @@ use fts_shop::Shop;
 use fts_tables::Clock;
 use fts_tables::limits::MAX_REQUESTS;
 use fts_turnstile::{Pass, Turnstile};
-use fts_wire::{Reply, Room, Sink, SinkFailed, Source, WireFault};
+use fts_wire::{Reply, Request, Room, Sink, SinkFailed, Source, WireFault};
 use std::alloc::Global;
 use std::sync::Wait;
 
@@ -59,6 +59,7 @@ pub fn serve_connection<D: Disk, L: Source + Sink, C: Clock, R: Wait>(
         let now = clock.now();
         let reply = answer_in_turn(rt, alloc, routes, shop, pass, room, now);
         let request = room.request();
+        count_change(shop, &request);
         match respond(line, &request, done, &reply) {
             Ok(()) => {}
             Err(SinkFailed) => return LineEnd::SinkFailed,
@@ -68,6 +69,13 @@ pub fn serve_connection<D: Disk, L: Source + Sink, C: Clock, R: Wait>(
         }
     }
     LineEnd::Many
+}
+
+/// Counts a request that may have changed something, so that idle workers look.
+fn count_change<D: Disk>(shop: &Turnstile<Shop<D>>, request: &Request<'_>) {
+    if request.method != "GET" {
+        shop.stir();
+    }
 }
 
 /// Answers the loaded request at a moment, in one turn of the pass, which is the writer of its command. Its document is read before the turn.

@@ -28,7 +28,6 @@ use Rattle.fts_shop.specs.Looking.{LeaveLanes, NoneOf}
 use Rattle.fts_shop.specs.Looked.{items_on}
 use Rattle.fts_workers.proofs.Accepted.{legal_front}
 use Rattle.fts_shop.specs.Shops.{ShopData, faults_shown, ShowsOn, flag, is_doubted, lanes_shown, shop_of, shop_shows, writer_of}
-use Rattle.fts_shop.specs.Turns.{hand_data}
 use Rattle.fts_shop.specs.Workers.{StationData, WorkerDone, station_data}
 use Rattle.fts_shop.specs.declared.ends.Turn.TheVariants.{Stale}
 use Rattle.fts_shop.specs.declared.ends.WorkerEnd.{WorkerEnd}
@@ -365,8 +364,8 @@ module _ {D A E C W L : Type 0} (world : World D A E C W L)
       let is = numbered (suc seat.given) seat.given old.pass refl seat.pass in
       let done = seat.holds.0 in
       let between = between_same world.stores (station_data world.clocks world.words old) (station_data world.clocks world.words new) is.1.1.1 done in
-      let fails = turn_fails world.stores done.between.pass new.pass done.between.hand (hand_data world.clocks world.words new.hand) done.between.held done.last
-      new.bench.held fault done.ends (fault_behind done.last ended fault done.end_is end_is by) in
+      let fails = turn_fails world.stores done.between.pass new.pass done.between.hand done.ends.behind done.between.held done.last
+      new.bench.held fault done.ends.turn (fault_behind done.last ended fault done.end_is end_is by) in
       let shows : new.pass.opening_shows ≡ first.opening_shows = done.same.2 ∙ is.1.1.0 in
       let opens : new.pass.opening ≡ first.opening = done.same.1 ∙ is.1.0 in
       record {

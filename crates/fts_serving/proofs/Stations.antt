@@ -111,14 +111,14 @@ module _ {E : Type 0} (stores : store.Ghosts E) where
   turns_leave base zero old new was turns = subst (Leaves base) turns.2 was
   turns_leave base (suc more) old new was turns =
       turns_leave base more turns.0 new
-      (turn_leaves_lanes base old.pass turns.0.pass old.hand turns.0.hand old.held turns.1 turns.0.held was turns.2.0)
+      (turn_leaves_lanes base old.pass turns.0.pass old.hand turns.2.0.behind old.held turns.1 turns.0.held was turns.2.0.turn)
       turns.2.1.1
 
   -- a worker has left the lanes as they were, in all that its pass has seen
   pub worker_leaves : {closes : Bool} (old new : StationData E) → old.pass.seen ≡ [] → WorkerDone stores closes old new → Leaves old.pass new.pass
   worker_leaves old new unseen done =
-      turn_leaves_lanes old.pass done.between.pass new.pass done.between.hand new.hand done.between.held done.last new.held
-      (turns_leave old.pass done.more old done.between (begun old.pass unseen) done.turns) done.ends
+      turn_leaves_lanes old.pass done.between.pass new.pass done.between.hand done.ends.behind done.between.held done.last new.held
+      (turns_leave old.pass done.more old done.between (begun old.pass unseen) done.turns) done.ends.turn
 
   -- its pass is the same before its last turn
   pub between_same : {closes : Bool} (old new : StationData E) → old.pass.seen ≡ [] → (done : WorkerDone stores closes old new)
@@ -302,9 +302,9 @@ module _ {E : Type 0} (stores : store.Ghosts E) where
       → new.end ≡ Some worker_ends.Drained → FindsNone new.pass × (new.held ≡ [])
   drained_finds_none old new unseen done is =
       let was = turns_leave stores old.pass done.more old done.between (begun old.pass unseen) done.turns in
-      turn_none done.between.pass new.pass done.between.hand new.hand done.between.held new.held
-      (subst (λ e. IsTurn stores done.between.pass new.pass done.between.hand new.hand done.between.held e new.held)
-      (drained_behind done.end_is is) done.ends)
+      turn_none done.between.pass new.pass done.between.hand done.ends.behind done.between.held new.held
+      (subst (λ e. IsTurn stores done.between.pass new.pass done.between.hand done.ends.behind done.between.held e new.held)
+      (drained_behind done.end_is is) done.ends.turn)
 
   -- a worker that was stopped holds nothing
   pub stopped_holds : {closes : Bool} (old new : StationData E) (done : WorkerDone stores closes old new) → new.end ≡ Some worker_ends.Stopped

@@ -2,6 +2,7 @@
 -- is stopped with nothing in its hands.
 use Rattle.std.specs.Prelude.{◌≡◌, ◌⊎◌, ℕ, zero, suc, Bool, true, false, List, [], Option, Some, None, IsSome}
 use Rattle.fts_tables.specs.declared.commands.Entry.{Entry}
+use Rattle.fts_tables.specs.Coming.{RestsOnlyIf}
 use Rattle.fts_turnstile.specs.Passes.{PassView, IsSame}
 use Rattle.fts_workers.specs.declared.held.Held.{Held}
 use Rattle.fts_shop.specs.Turns.{HandData, IsReady, IsTurn, hand_data}
@@ -80,10 +81,18 @@ is_restful (turn_ends.DiskFailed lanes) = true
 is_restful (turn_ends.JournalFull used lanes) = true
 is_restful (turn_ends.Memory lanes) = true
 
+-- behind a turn that ended so a worker rests only where nothing was eligible or a fault was met; its store and its words stay
+pub record IsRested {E : Type 0} (end : Turn) (old new : HandData E) : Type 0 where
+  pub moments : RestsOnlyIf (is_restful end) old.moments new.moments
+  pub store : new.store ≡ old.store
+  pub words : new.words ≡ old.words
+
 module _ {E : Type 0} (stores : store.Ghosts E) where
-  -- one turn at a station
-  abbrev pub TakesOne : StationData E → StationData E → Turn → Type 0
-  TakesOne old new end = IsTurn stores old.pass new.pass old.hand new.hand old.held end new.held
+  -- one turn at a station, and the rest behind it
+  pub record TakesOne (old new : StationData E) (end : Turn) : Type 0 where
+    pub behind : HandData E
+    pub turn : IsTurn stores old.pass new.pass old.hand behind old.held end new.held
+    pub rested : IsRested end behind new.hand
 
   -- turns, one after the other, after none of which a worker ends
   abbrev pub AreTurns : ℕ → StationData E → StationData E → Type 0

@@ -67,4 +67,5 @@ pub fn lane_ends<D: Disk, R: Wait>(rt: &R, shop: &Turnstile<Shop<D>>, pass: &mut
     ensures { LaneEnds pass.old pass.new }
 {
     shop.with_turn(rt, pass, |shop: &mut Shop<D>| shop.lane_ends());
+    shop.stir();
 }

@@ -1,9 +1,10 @@
 //! A worker: it takes turns at its station until nothing is left to do, until its gate is closed, or until it fails with no lane left. And many workers
 //! at once.
 //! Keeps: the pass is of the lock, and what a bench holds between two turns (`IsReady`).
-//! Order: a turn, then a rest where nothing was eligible or a fault was met, then a look at the gate, where nothing is held. `run_workers` returns once
-//! each worker has ended.
+//! Order: a turn, then rests where nothing was eligible or a fault was met, then a look at the gate, where nothing is held. Where nothing was eligible
+//! the rests go on, for a second at most, until somebody counts a change. `run_workers` returns once each worker has ended.
 ghost use Rattle.std.specs.Prelude.{◌≡◌, true, [], Some, All};
+ghost use Rattle.fts_tables.specs.Coming.{HasRested, RestsOnlyIf};
 ghost use Rattle.fts_turnstile.specs.Passes.{IsOf};
 ghost use Rattle.fts_shop.specs.Turns.{IsReady};
 ghost use Rattle.fts_shop.specs.Many.{Each};
@@ -21,6 +22,10 @@ use fts_turnstile::Turnstile;
 use fts_workers::{Bench, Gate};
 use std::sync::Wait;
 use std::thread::Threads;
+
+/// How often a worker that found nothing eligible rests before it looks again, where nothing was changed meanwhile: by time alone files become eligible,
+/// and moments are whole seconds.
+const MOST_RESTS: u32 = 10;
 
 // How a worker ends by a fault: not while a lane is left.
 fn end_without_lanes(lanes: u32, end: WorkerEnd) -> Option<WorkerEnd>
@@ -96,12 +101,47 @@ fn end_at<G: Gate>(gate: &G, bench: &Bench, end: WorkerEnd) -> WorkerEnd
     }
 }
 
-// Rests behind a turn that found nothing or met a fault.
-fn rest_behind<C: Clock>(clock: &mut C, turn: Turn)
-    ensures { C.moments clock.new ≡ C.moments clock.old }
+// How many rests there are at most behind a turn: a fault may be over behind the next one, and where nothing was eligible the time alone makes a file so.
+fn most_rests(turn: Turn) -> u32 {
+    if turn == Turn::Idle {
+        MOST_RESTS
+    } else {
+        1
+    }
+}
+
+// Rests so often at most, and no more once something was changed since that count of changes, or the gate is closed.
+fn rest_until_changed<D: Disk, C: Clock, G: Gate>(
+    shop: &Turnstile<Shop<D>>,
+    gate: &G,
+    clock: &mut C,
+    changes: u64,
+    most: u32,
+)
+    ensures { HasRested (C.moments clock.old) (C.moments clock.new) }
+{
+    for _ in 0..most {
+        clock.rest();
+        if shop.stirred() != changes || gate.is_closed() {
+            return;
+        }
+    }
+}
+
+// Rests behind a turn that found nothing or met a fault; any other one is counted as a change. The count of changes is that from before the turn.
+fn rest_behind<D: Disk, C: Clock, G: Gate>(
+    shop: &Turnstile<Shop<D>>,
+    gate: &G,
+    clock: &mut C,
+    changes: u64,
+    turn: Turn,
+)
+    ensures { RestsOnlyIf (is_restful turn) (C.moments clock.old) (C.moments clock.new) }
 {
     if rests_after(turn) {
-        clock.rest();
+        rest_until_changed(shop, gate, clock, changes, most_rests(turn));
+    } else {
+        shop.stir();
     }
 }
 
@@ -118,6 +158,7 @@ pub fn worker<D: Disk, E: Store, C: Clock, W: Words, G: Gate, R: Wait>(
     ensures { WorkerDone E.Store (G.closes gate.now) (station_data C.Clock W.Words station.old) (station_data C.Clock W.Words station.new) }
 {
     for _ in rt.forever() {
+        let changes = shop.stirred();
         let end = turn(
             rt,
             shop,
@@ -130,7 +171,7 @@ pub fn worker<D: Disk, E: Store, C: Clock, W: Words, G: Gate, R: Wait>(
             station.end = Some(end_at(gate, &station.bench, end));
             return;
         }
-        rest_behind(&mut station.hand.clock, end);
+        rest_behind(shop, gate, &mut station.hand.clock, changes, end);
         if is_stopped(gate, &station.bench) {
             station.end = Some(WorkerEnd::Stopped);
             return;

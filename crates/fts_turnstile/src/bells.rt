@@ -8,10 +8,11 @@ use std::sync::atomic::{AtomicU64, Ordering};
 /// How many bells there are. Tickets that differ by this number share one, and wake together.
 const BELLS: usize = 32;
 
-/// The bells of one lock.
+/// The bells of one lock, and how often something was changed in a turn.
 #[derive(Drop)]
 pub struct Bells {
     rung: [AtomicU64; BELLS],
+    stirred: AtomicU64,
 }
 
 impl Bells {
@@ -19,6 +20,7 @@ impl Bells {
     pub fn new() -> Bells {
         Bells {
             rung: array::from_fn(|_| AtomicU64::new(0)),
+            stirred: AtomicU64::new(0),
         }
     }
 
@@ -43,5 +45,15 @@ impl Bells {
         let bell = self.bell(ticket);
         bell.fetch_add(1, Ordering::SeqCst);
         bell.wake_all();
+    }
+
+    /// Counts a change.
+    pub fn stir(&self) {
+        self.stirred.fetch_add(1, Ordering::SeqCst);
+    }
+
+    /// How many changes were counted, modulo 2^64.
+    pub fn stirred(&self) -> u64 {
+        self.stirred.load(Ordering::SeqCst)
     }
 }

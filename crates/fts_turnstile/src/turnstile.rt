@@ -134,6 +134,16 @@ impl<T: Logged> Turnstile<T> {
         result
     }
 
+    /// Counts a change, for those that take a turn only where there may be something new. To be called behind the turn that made it.
+    pub fn stir(&self) {
+        self.bells.stir();
+    }
+
+    /// How many changes were counted, modulo 2^64. Where the number is another behind a turn than before it, something may be new; it tells nothing of the value.
+    pub fn stirred(&self) -> u64 {
+        self.bells.stirred()
+    }
+
     /// Afterwards each of the two has seen what either had.
     pub fn meet(&self, pass: &mut Pass<T>, other: &mut Pass<T>)
         requires own { IsOf self.now pass.old × IsOf self.now other.old }
