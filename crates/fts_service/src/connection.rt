@@ -1,8 +1,9 @@
 //! A connection over a pass of the lock: its requests, one after another, each answered in one turn of the lock.
 //! Keeps, from request to request: what was written are the responses so far, each reply is the machine's over the list before its turn, with the
 //! pass's number as writer, and the turns stand in the order of the requests (`IsLineServed` of `specs/Lanes.antt`).
-//! Order of a request: it is read, the clock is asked, its document is read, it is answered in a turn, idle workers are told where it may have changed something, its response is written. What an earlier line left in the room is
-//! dropped first. Nothing is read behind a request that says close, nor behind the millionth, nor behind a load that found no request.
+//! Order of a request: it is read, the clock is asked, its document is read, it is answered in a turn, it is counted where it may have changed
+//! something, its response is written. What an earlier line left in the room is dropped first. Nothing is read behind a request that says close, nor
+//! behind the millionth, nor behind a load that found no request.
 ghost use Rattle.std.specs.Prelude.{◌≡◌, IsTrue};
 ghost use Rattle.fts_tables.specs.Counts.{Rose};
 ghost use Rattle.fts_turnstile.specs.Passes.{IsOf, IsSame};
