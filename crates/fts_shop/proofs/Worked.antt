@@ -1,5 +1,5 @@
 -- Turns at a station, one more behind those before it.
-use Rattle.std.proofs.Common.{◌≡◌, refl, sym, subst, absurd, tt, ℕ, zero, suc, List, Option, Some, None}
+use Rattle.std.proofs.Common.{◌≡◌, refl, sym, subst, absurd, ℕ, zero, suc, List, Option, Some, None}
 use Rattle.fts_tables.specs.Coming.{Coming, HasRested}
 use Rattle.fts_tables.specs.declared.commands.Entry.{Entry}
 use Rattle.fts_turnstile.specs.Passes.{PassView}
@@ -13,12 +13,12 @@ use Rattle.fts_store.specs.declared.store.Store as store
 pub rested_on : (first second third : Option Coming) → HasRested first second → HasRested second third → HasRested first third
 rested_on None None third one other = other
 rested_on None (Some second) third one other = absurd (let is = one in cc)
-rested_on (Some first) None third one other = absurd one
+rested_on (Some first) None third one other = absurd (let is = one in cc)
 rested_on (Some first) (Some second) third one other = other
 
 pub unrested : (moments : Option Coming) → HasRested moments moments
 unrested None = refl
-unrested (Some coming) = tt
+unrested (Some coming) = refl
 
 -- what a station has at a turn
 pub record IsAlike {E : Type 0} (one other : StationData E) : Type 0 where

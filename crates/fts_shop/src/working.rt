@@ -103,11 +103,7 @@ fn end_at<G: Gate>(gate: &G, bench: &Bench, end: WorkerEnd) -> WorkerEnd
 
 // How many rests there are at most behind a turn: a fault may be over behind the next one, and where nothing was eligible the time alone makes a file so.
 fn most_rests(turn: Turn) -> u32 {
-    if turn == Turn::Idle {
-        MOST_RESTS
-    } else {
-        1
-    }
+    if turn == Turn::Idle { MOST_RESTS } else { 1 }
 }
 
 // Rests so often at most, and no more once something was changed since that count of changes, or the gate is closed.

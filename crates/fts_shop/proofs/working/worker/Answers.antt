@@ -1,5 +1,5 @@
 -- A turn more, after which the worker goes on, or ends.
-use Rattle.std.proofs.Common.{◌≡◌, ◌∙◌, inl, inr, refl, sym, ap, suc, Bool, true, false, List, Option, Some, None}
+use Rattle.std.proofs.Common.{◌≡◌, ◌∙◌, inl, inr, refl, sym, ap, suc, Bool, true, false, List, Option}
 use Rattle.fts_tables.specs.Coming.{Coming, RestsOnlyIf}
 use Rattle.fts_shop.specs.Turns.{HandData, hand_data}
 use Rattle.fts_shop.specs.Looked.{same_on}
