@@ -21,6 +21,7 @@ ghost use Rattle.fts_routes.specs.declared.planned.Planned.TheVariants.{Replies 
 use crate::bodies::{ReadBody, ban_read};
 use crate::counts::count_cancelled;
 use crate::looks::look_at_list;
+use crate::methods::has_method;
 use crate::named::settings_of;
 use crate::objects::{ban_value, unban_value};
 use crate::planned::{Planned, refuse_method};
@@ -31,6 +32,7 @@ use fts_jobdoc::{BanAsk, BanFault, read_storage};
 use fts_tables::rules::is_listed;
 use fts_tables::{Command, EndpointName, Memory};
 use fts_wire::{Allow, Reply, Request};
+use http::Method;
 use std::alloc::Global;
 use std::borrow::CowStr;
 
@@ -46,14 +48,15 @@ pub fn plan_on_bans(
     requires read { IsReadOf request.now.body.now read }
     ensures { IfOk result (λ planned. IsPlanned desk.now.tables planned (plan_on_bans desk.now.tables now (request_data request.now))) }
 {
-    match request.method {
-        "GET" => {
-            let reply = look_at_list(alloc, desk.banned())?;
-            Ok(Planned::Replies { reply })
-        }
-        "POST" => plan_by_document(alloc, desk, request.body, read, now),
-        "DELETE" => plan_by_query(alloc, request.query, now),
-        _ => refuse_method(alloc, Allow::Job),
+    if has_method(request, &Method::GET) {
+        let reply = look_at_list(alloc, desk.banned())?;
+        Ok(Planned::Replies { reply })
+    } else if has_method(request, &Method::POST) {
+        plan_by_document(alloc, desk, request.body, read, now)
+    } else if has_method(request, &Method::DELETE) {
+        plan_by_query(alloc, request.query, now)
+    } else {
+        refuse_method(alloc, Allow::Job)
     }
 }
 

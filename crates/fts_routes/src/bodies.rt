@@ -8,6 +8,7 @@ ghost use Rattle.fts_jobdoc.specs.Bans.{ban_of};
 ghost use Rattle.fts_wire.specs.Answered.{request_data};
 ghost use Rattle.fts_routes.specs.Bodies.{IsReadOf, asked_by, document_of};
 
+use crate::methods::has_method;
 use crate::paths::{Route, Routes};
 use fts_jobdoc::{
     BanAsk, BanFault, DocFault, Document, job_under, read_ban, read_document, read_job,
@@ -15,6 +16,7 @@ use fts_jobdoc::{
 };
 use fts_tables::{NewJob, Settings};
 use fts_wire::Request;
+use http::Method;
 use std::alloc::Global;
 
 /// What was read of a request's body.
@@ -42,14 +44,15 @@ pub fn read_body(alloc: Global, routes: &Routes, request: &Request<'_>) -> ReadB
     ensures asked { document_of result ≡ asked_by (request_data request.now) }
 {
     let body = request.body;
-    match (routes.find(request.path), request.method) {
-        (Some(Route::Jobs), "POST" | "PUT") => ReadBody::Submission {
+    let posts = has_method(request, &Method::POST);
+    match routes.find(request.path) {
+        Some(Route::Jobs) if posts || has_method(request, &Method::PUT) => ReadBody::Submission {
             document: read_document(alloc, body),
         },
-        (Some(Route::Job { .. }), "POST") => ReadBody::Priority {
+        Some(Route::Job { .. }) if posts => ReadBody::Priority {
             priority: read_priority(alloc, body),
         },
-        (Some(Route::Bans), "POST") => ReadBody::Ban {
+        Some(Route::Bans) if posts => ReadBody::Ban {
             ban: read_ban(alloc, body),
         },
         _ => ReadBody::Nothing,

@@ -12,6 +12,7 @@ mod changes;
 mod counts;
 mod entries;
 mod looks;
+mod methods;
 mod named;
 mod objects;
 mod paths;

@@ -18,6 +18,7 @@ use crate::bans::plan_on_bans;
 use crate::bodies::{ReadBody, job_read, priority_read};
 use crate::changes::{plan_cancellation, plan_file_cancellation, plan_priority, plan_submission};
 use crate::looks::{look_at_job, look_at_jobs, look_at_list};
+use crate::methods::has_method;
 use crate::named::{entry_number, file_named, job_named, settings_of};
 use crate::objects::Shown;
 use crate::paths::{Route, Routes};
@@ -27,6 +28,7 @@ use fts_desk::Desk;
 use fts_jobdoc::DocFault;
 use fts_tables::{JobRow, Memory};
 use fts_wire::{Allow, Request};
+use http::Method;
 use std::alloc::Global;
 
 /// What a request comes to, before anything changes.
@@ -89,13 +91,13 @@ fn plan_on_jobs(
     requires read { IsReadOf request.now.body.now read }
     ensures { IfOk result (λ planned. IsPlanned desk.now.tables planned (plan_on_jobs desk.now.tables now (request_data request.now))) }
 {
-    match request.method {
-        "GET" => {
-            let reply = look_at_jobs(alloc, desk, request.query)?;
-            Ok(Planned::Replies { reply })
-        }
-        "POST" | "PUT" => plan_document(alloc, desk, request.body, read, now),
-        _ => refuse_method(alloc, Allow::Jobs),
+    if has_method(request, &Method::GET) {
+        let reply = look_at_jobs(alloc, desk, request.query)?;
+        Ok(Planned::Replies { reply })
+    } else if has_method(request, &Method::POST) || has_method(request, &Method::PUT) {
+        plan_document(alloc, desk, request.body, read, now)
+    } else {
+        refuse_method(alloc, Allow::Jobs)
     }
 }
 
@@ -132,11 +134,14 @@ fn plan_on_job(
     requires read { IsReadOf request.now.body.now read }
     ensures { IfOk result (λ planned. IsPlanned desk.now.tables planned (plan_on_job desk.now.tables now (request_data request.now) id.now)) }
 {
-    match request.method {
-        "GET" => plan_look_at_job(alloc, desk, id),
-        "DELETE" => plan_delete(alloc, desk, now, id),
-        "POST" => plan_post(alloc, desk, request.body, read, now, id),
-        _ => refuse_method(alloc, Allow::Job),
+    if has_method(request, &Method::GET) {
+        plan_look_at_job(alloc, desk, id)
+    } else if has_method(request, &Method::DELETE) {
+        plan_delete(alloc, desk, now, id)
+    } else if has_method(request, &Method::POST) {
+        plan_post(alloc, desk, request.body, read, now, id)
+    } else {
+        refuse_method(alloc, Allow::Job)
     }
 }
 
@@ -215,9 +220,10 @@ fn plan_on_files(
 ) -> Result<Planned, Memory>
     ensures { IfOk result (λ planned. IsPlanned desk.now.tables planned (plan_on_files desk.now.tables (request_data request.now) id.now)) }
 {
-    match request.method {
-        "GET" => plan_look_at_files(alloc, desk, id),
-        _ => refuse_method(alloc, Allow::Get),
+    if has_method(request, &Method::GET) {
+        plan_look_at_files(alloc, desk, id)
+    } else {
+        refuse_method(alloc, Allow::Get)
     }
 }
 
@@ -245,9 +251,10 @@ fn plan_on_file(
 ) -> Result<Planned, Memory>
     ensures { IfOk result (λ planned. IsPlanned desk.now.tables planned (plan_on_file desk.now.tables now (request_data request.now) id.now file.now)) }
 {
-    match request.method {
-        "DELETE" => plan_delete_file(alloc, desk, now, id, file),
-        _ => refuse_method(alloc, Allow::File),
+    if has_method(request, &Method::DELETE) {
+        plan_delete_file(alloc, desk, now, id, file)
+    } else {
+        refuse_method(alloc, Allow::File)
     }
 }
 
@@ -297,12 +304,11 @@ fn plan_on_list<T: Shown>(
 ) -> Result<Planned, Memory>
     ensures { IfOk result (λ planned. (tables : Tables) → IsPlanned tables planned (look_at_settings (request_data request.now) T.shown items.now)) }
 {
-    match request.method {
-        "GET" => {
-            let reply = look_at_list(alloc, items)?;
-            Ok(Planned::Replies { reply })
-        }
-        _ => refuse_method(alloc, Allow::Get),
+    if has_method(request, &Method::GET) {
+        let reply = look_at_list(alloc, items)?;
+        Ok(Planned::Replies { reply })
+    } else {
+        refuse_method(alloc, Allow::Get)
     }
 }
 
@@ -310,11 +316,12 @@ fn plan_on_list<T: Shown>(
 fn plan_on_entry(alloc: Global, request: &Request<'_>, number: &str) -> Result<Planned, Memory>
     ensures { IfOk result (λ planned. (tables : Tables) → IsPlanned tables planned (plan_on_entry (request_data request.now) number.now)) }
 {
-    match request.method {
-        "GET" => Ok(Planned::Looks {
+    if has_method(request, &Method::GET) {
+        Ok(Planned::Looks {
             number: entry_number(number),
-        }),
-        _ => refuse_method(alloc, Allow::Get),
+        })
+    } else {
+        refuse_method(alloc, Allow::Get)
     }
 }
 

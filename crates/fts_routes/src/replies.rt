@@ -12,7 +12,8 @@ use crate::objects::body_of;
 use crate::texts::id_text;
 use fts_jobdoc::{BanFault, DocFault};
 use fts_tables::{Items, Memory};
-use fts_wire::{Allow, Reply, statuses};
+use fts_wire::{Allow, Reply};
+use http::StatusCode;
 use serde_json::{Value, json};
 use std::alloc::Global;
 
@@ -63,7 +64,7 @@ pub fn no_memory(alloc: Global) -> Reply
     ensures { result ≡ no_memory }
 {
     Reply {
-        status: statuses::INTERNAL_SERVER_ERROR,
+        status: StatusCode::INTERNAL_SERVER_ERROR.as_u16(),
         allow: Allow::None,
         body: Items::new(alloc),
     }
@@ -84,7 +85,7 @@ pub fn or_no_memory(alloc: Global, made: Result<Reply, Memory>) -> Reply
 pub fn refusal_reply(alloc: Global, message: &str, rule: u32, status: u16) -> Reply
     ensures { IsOrNoMemory result (refusal_of message.now rule status) }
 {
-    or_no_memory(alloc, refusal(alloc, message, rule, status))
+    or_no_memory(alloc, numbered_refusal(alloc, message, rule, status))
 }
 
 /// The reply that shows a value.
@@ -92,7 +93,7 @@ pub fn shows(alloc: Global, value: &Value) -> Result<Reply, Memory>
     requires { has_float (view value.now) ≡ false }
     ensures { IfOk result (λ reply. reply ≡ shows (view value.now)) }
 {
-    reply_of(alloc, statuses::OK, Allow::None, value)
+    reply_of(alloc, StatusCode::OK.as_u16(), Allow::None, value)
 }
 
 /// A reply with this value as its body.
@@ -109,7 +110,14 @@ fn reply_of(alloc: Global, status: u16, allow: Allow, value: &Value) -> Result<R
 }
 
 /// A refusal with its message, the number of the rule that was broken, and its status.
-fn refusal(alloc: Global, message: &str, rule: u32, status: u16) -> Result<Reply, Memory>
+fn refusal(alloc: Global, message: &str, rule: u32, status: StatusCode) -> Result<Reply, Memory>
+    ensures { IfOk result (λ reply. reply ≡ refusal_of message.now rule status) }
+{
+    numbered_refusal(alloc, message, rule, status.as_u16())
+}
+
+/// The same with the number of its status.
+fn numbered_refusal(alloc: Global, message: &str, rule: u32, status: u16) -> Result<Reply, Memory>
     ensures { IfOk result (λ reply. reply ≡ refusal_of message.now rule status) }
 {
     let value = refusal_value(alloc, message, rule, status)?;
@@ -127,77 +135,87 @@ fn refusal_value(alloc: Global, message: &str, rule: u32, status: u16) -> Result
 pub fn bad_document(alloc: Global, fault: DocFault) -> Result<Reply, Memory>
     ensures { IfOk result (λ reply. reply ≡ bad_document fault) }
 {
-    refusal(alloc, fault.message(), fault.rule(), statuses::BAD_REQUEST)
+    refusal(
+        alloc,
+        fault.message(),
+        fault.rule(),
+        StatusCode::BAD_REQUEST,
+    )
 }
 
 /// The document of a ban breaks a rule, or the query of the end of one names no storage.
 pub fn bad_ban(alloc: Global, fault: BanFault) -> Result<Reply, Memory>
     ensures { IfOk result (λ reply. reply ≡ bad_ban fault) }
 {
-    refusal(alloc, fault.message(), fault.rule(), statuses::BAD_REQUEST)
+    refusal(
+        alloc,
+        fault.message(),
+        fault.rule(),
+        StatusCode::BAD_REQUEST,
+    )
 }
 
 /// The query names a state that jobs don't have.
 pub fn bad_states(alloc: Global) -> Result<Reply, Memory>
     ensures { IfOk result (λ reply. reply ≡ bad_query TheBadStates) }
 {
-    refusal(alloc, "bad state_in", BAD_STATES, statuses::BAD_REQUEST)
+    refusal(alloc, "bad state_in", BAD_STATES, StatusCode::BAD_REQUEST)
 }
 
 /// The query asks for no number of jobs.
 pub fn bad_limit(alloc: Global) -> Result<Reply, Memory>
     ensures { IfOk result (λ reply. reply ≡ bad_query TheBadLimit) }
 {
-    refusal(alloc, "bad limit", BAD_LIMIT, statuses::BAD_REQUEST)
+    refusal(alloc, "bad limit", BAD_LIMIT, StatusCode::BAD_REQUEST)
 }
 
 /// The path has no route.
 pub fn no_route(alloc: Global) -> Result<Reply, Memory>
     ensures { IfOk result (λ reply. reply ≡ no_route) }
 {
-    refusal(alloc, "no route", NO_ROUTE, statuses::NOT_FOUND)
+    refusal(alloc, "no route", NO_ROUTE, StatusCode::NOT_FOUND)
 }
 
 /// No job has the id.
 pub fn no_job(alloc: Global) -> Result<Reply, Memory>
     ensures { IfOk result (λ reply. reply ≡ no_job) }
 {
-    refusal(alloc, "no job", NO_JOB, statuses::NOT_FOUND)
+    refusal(alloc, "no job", NO_JOB, StatusCode::NOT_FOUND)
 }
 
 /// The job has no such file.
 pub fn no_file(alloc: Global) -> Result<Reply, Memory>
     ensures { IfOk result (λ reply. reply ≡ no_file) }
 {
-    refusal(alloc, "no file", NO_FILE, statuses::NOT_FOUND)
+    refusal(alloc, "no file", NO_FILE, StatusCode::NOT_FOUND)
 }
 
 /// The settings don't list the storage.
 pub fn no_storage(alloc: Global) -> Result<Reply, Memory>
     ensures { IfOk result (λ reply. reply ≡ no_storage) }
 {
-    refusal(alloc, "no storage", NO_STORAGE, statuses::NOT_FOUND)
+    refusal(alloc, "no storage", NO_STORAGE, StatusCode::NOT_FOUND)
 }
 
 /// The storage isn't banned.
 pub fn not_banned(alloc: Global) -> Result<Reply, Memory>
     ensures { IfOk result (λ reply. reply ≡ not_banned) }
 {
-    refusal(alloc, "not banned", NOT_BANNED, statuses::NOT_FOUND)
+    refusal(alloc, "not banned", NOT_BANNED, StatusCode::NOT_FOUND)
 }
 
 /// No entry of the journal has the number.
 pub fn no_entry(alloc: Global) -> Result<Reply, Memory>
     ensures { IfOk result (λ reply. reply ≡ no_entry) }
 {
-    refusal(alloc, "no entry", NO_ENTRY, statuses::NOT_FOUND)
+    refusal(alloc, "no entry", NO_ENTRY, StatusCode::NOT_FOUND)
 }
 
 /// The route has no such method, but these.
 pub fn no_method(alloc: Global, allow: Allow) -> Result<Reply, Memory>
     ensures { IfOk result (λ reply. reply ≡ no_method allow) }
 {
-    let status = statuses::METHOD_NOT_ALLOWED;
+    let status = StatusCode::METHOD_NOT_ALLOWED.as_u16();
     let value = refusal_value(alloc, "no such method", NO_METHOD, status)?;
     reply_of(alloc, status, allow, &value)
 }
@@ -207,7 +225,7 @@ pub fn duplicate(alloc: Global, id: u128) -> Result<Reply, Memory>
     ensures { IfOk result (λ reply. reply ≡ duplicate id) }
 {
     let value = duplicate_value(alloc, id)?;
-    reply_of(alloc, statuses::CONFLICT, Allow::None, &value)
+    reply_of(alloc, StatusCode::CONFLICT.as_u16(), Allow::None, &value)
 }
 
 fn duplicate_value(alloc: Global, id: u128) -> Result<Value, Memory>
@@ -218,7 +236,7 @@ fn duplicate_value(alloc: Global, id: u128) -> Result<Value, Memory>
         "job_id": &id,
         "message": "duplicate",
         "rule": DUPLICATE,
-        "status": statuses::CONFLICT
+        "status": StatusCode::CONFLICT.as_u16()
     })?;
     Ok(value)
 }
@@ -231,7 +249,7 @@ pub fn disk_failed(alloc: Global) -> Result<Reply, Memory>
         alloc,
         "disk failed",
         DISK_FAILED,
-        statuses::SERVICE_UNAVAILABLE,
+        StatusCode::SERVICE_UNAVAILABLE,
     )
 }
 
@@ -243,7 +261,7 @@ pub fn rows_full(alloc: Global) -> Result<Reply, Memory>
         alloc,
         "rows full",
         ROWS_FULL,
-        statuses::INSUFFICIENT_STORAGE,
+        StatusCode::INSUFFICIENT_STORAGE,
     )
 }
 
@@ -255,7 +273,7 @@ pub fn jobs_full(alloc: Global) -> Result<Reply, Memory>
         alloc,
         "jobs full",
         JOBS_FULL,
-        statuses::INSUFFICIENT_STORAGE,
+        StatusCode::INSUFFICIENT_STORAGE,
     )
 }
 
@@ -267,6 +285,6 @@ pub fn journal_full(alloc: Global) -> Result<Reply, Memory>
         alloc,
         "journal full",
         JOURNAL_FULL,
-        statuses::INSUFFICIENT_STORAGE,
+        StatusCode::INSUFFICIENT_STORAGE,
     )
 }
