@@ -1,5 +1,5 @@
 -- Turns at a station, one more behind those before it.
-use Rattle.std.proofs.Common.{◌≡◌, refl, sym, subst, absurd, ℕ, zero, suc, List, Option, Some, None}
+use Rattle.std.proofs.Common.{◌≡◌, refl, sym, subst, ℕ, zero, suc, List, Option, Some, None}
 use Rattle.fts_tables.specs.Coming.{Coming, HasRested}
 use Rattle.fts_tables.specs.declared.commands.Entry.{Entry}
 use Rattle.fts_turnstile.specs.Passes.{PassView}

@@ -1,5 +1,5 @@
 -- What is done to a shop within one turn.
-use Rattle.std.specs.Prelude.{◌≡◌, ◌≢◌, ℕ, Bool, false, [], Option, None, IsSome, option_map, Result, Ok, Err}
+use Rattle.std.specs.Prelude.{◌≡◌, ℕ, Bool, false, Option, None, IsSome, option_map, Result, Ok, Err}
 use Rattle.std.specs.Option.{option_map_or}
 use Rattle.fts_tables.specs.Tables.{Tables, row_at}
 use Rattle.fts_tables.specs.declared.commands.Command.{Command}
