@@ -1,1 +1,4 @@
 pub mod Texts
+pub mod Counting
+pub mod Places
+pub mod ActiveRows

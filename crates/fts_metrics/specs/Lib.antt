@@ -1,2 +1,4 @@
 pub mod Form
 pub mod Metrics
+pub mod Goings
+pub mod JobStates

@@ -3,6 +3,7 @@
 #![tactic(auto)]
 
 mod files;
+mod goings;
 mod jobs;
 mod lines;
 mod slots;

@@ -1,21 +1,40 @@
 //! What is being copied over each listed link, and to and from each storage, beside the limits that the settings give.
-ghost use Rattle.std.specs.Prelude.{◌≡◌, ◌++◌, ◌≤◌, length, OnOk};
-ghost use Rattle.fts_tables.specs.Limits.{out_of, into};
+//! Its rows are the ACTIVE ones alone, which `active_rows` gathers in one walk over all.
+ghost use Rattle.std.specs.Prelude.{◌≡◌, ◌++◌, map, filter, OnOk, IfOk};
+ghost use Rattle.fts_tables.specs.Tables.{is_active};
+ghost use Rattle.fts_tables.specs.Limits.{held, out_of, into};
 ghost use Rattle.fts_metrics.specs.Metrics.{link_active_text, link_limit_text, endpoint_active_text, endpoint_limit_text, both_directions, link_active_sample, link_limit_sample, endpoint_active_samples, endpoint_limit_samples};
 
-use crate::files::active;
 use crate::lines::{labels_of, put_head, put_sample};
 use fts_tables::{Endpoint, FileRow, LinkRule, Memory};
-use std::alloc::Global;
+use std::alloc::{AllocError, Global};
+
+/// The rows whose files are being copied.
+pub fn active_rows(alloc: Global, rows: &[FileRow]) -> Result<Vec<&FileRow>, AllocError>
+    ensures { IfOk result (λ active. map (λ row. row.now) active.items ≡ filter (λ row. is_active row.state) rows.now) }
+{
+    rows.iter()
+        .filter(|row| row.state.is_active())
+        .collect(alloc)
+}
+
+// The files that are being copied over a link.
+fn active(rows: &[&FileRow], source: &str, dest: &str) -> usize
+    ensures { result ≡ held (map (λ row. row.now) rows.now) source.now dest.now }
+{
+    rows.iter()
+        .filter(|row| row.state.is_active() && row.is_on_link(source, dest))
+        .count()
+}
 
 // A sample of the files that are being copied over a link.
 fn put_active(
     alloc: Global,
     text: &mut Vec<u8>,
-    rows: &[FileRow],
+    rows: &[&FileRow],
     link: &LinkRule,
 ) -> Result<(), Memory>
-    ensures { OnOk result (text.new.items ≡ text.old.items ++ link_active_sample rows.now link.now) }
+    ensures { OnOk result (text.new.items ≡ text.old.items ++ link_active_sample (map (λ row. row.now) rows.now) link.now) }
 {
     let (source, dest) = (link.source.as_str(), link.dest.as_str());
     let labels = labels_of(alloc, "source", source, "destination", dest)?;
@@ -37,10 +56,10 @@ fn put_limit(alloc: Global, text: &mut Vec<u8>, link: &LinkRule) -> Result<(), M
 pub fn put_link_active(
     alloc: Global,
     text: &mut Vec<u8>,
-    rows: &[FileRow],
+    rows: &[&FileRow],
     links: &[LinkRule],
 ) -> Result<(), Memory>
-    ensures { OnOk result (text.new.items ≡ text.old.items ++ link_active_text rows.now links.now) }
+    ensures { OnOk result (text.new.items ≡ text.old.items ++ link_active_text (map (λ row. row.now) rows.now) links.now) }
 {
     put_head(
         text,
@@ -71,8 +90,8 @@ pub fn put_link_limit(alloc: Global, text: &mut Vec<u8>, links: &[LinkRule]) -> 
 }
 
 // The files that are being copied from an endpoint.
-fn from_endpoint(rows: &[FileRow], name: &str) -> usize
-    ensures { result ≡ out_of rows.now name.now }
+fn from_endpoint(rows: &[&FileRow], name: &str) -> usize
+    ensures { result ≡ out_of (map (λ row. row.now) rows.now) name.now }
 {
     rows.iter()
         .filter(|row| row.state.is_active() && row.source.endpoint.as_str() == name)
@@ -80,8 +99,8 @@ fn from_endpoint(rows: &[FileRow], name: &str) -> usize
 }
 
 // The files that are being copied to an endpoint.
-fn to_endpoint(rows: &[FileRow], name: &str) -> usize
-    ensures { result ≡ into rows.now name.now }
+fn to_endpoint(rows: &[&FileRow], name: &str) -> usize
+    ensures { result ≡ into (map (λ row. row.now) rows.now) name.now }
 {
     rows.iter()
         .filter(|row| row.state.is_active() && row.dest.endpoint.as_str() == name)
@@ -110,10 +129,10 @@ fn put_both(
 fn put_endpoint(
     alloc: Global,
     text: &mut Vec<u8>,
-    rows: &[FileRow],
+    rows: &[&FileRow],
     endpoint: &Endpoint,
 ) -> Result<(), Memory>
-    ensures { OnOk result (text.new.items ≡ text.old.items ++ endpoint_active_samples rows.now endpoint.now) }
+    ensures { OnOk result (text.new.items ≡ text.old.items ++ endpoint_active_samples (map (λ row. row.now) rows.now) endpoint.now) }
 {
     let name = endpoint.name.as_str();
     let inbound = to_endpoint(rows, name) as u64;
@@ -134,10 +153,10 @@ fn put_limits(alloc: Global, text: &mut Vec<u8>, endpoint: &Endpoint) -> Result<
 pub fn put_endpoint_active(
     alloc: Global,
     text: &mut Vec<u8>,
-    rows: &[FileRow],
+    rows: &[&FileRow],
     endpoints: &[Endpoint],
 ) -> Result<(), Memory>
-    ensures { OnOk result (text.new.items ≡ text.old.items ++ endpoint_active_text rows.now endpoints.now) }
+    ensures { OnOk result (text.new.items ≡ text.old.items ++ endpoint_active_text (map (λ row. row.now) rows.now) endpoints.now) }
 {
     put_head(
         text,

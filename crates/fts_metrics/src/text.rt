@@ -5,7 +5,9 @@ ghost use Rattle.fts_metrics.specs.Metrics.{endpoints_of, links_of, sizes_text, 
 use crate::files::put_files;
 use crate::jobs::put_jobs;
 use crate::lines::{put_head, put_plain};
-use crate::slots::{put_endpoint_active, put_endpoint_limit, put_link_active, put_link_limit};
+use crate::slots::{
+    active_rows, put_endpoint_active, put_endpoint_limit, put_link_active, put_link_limit,
+};
 use fts_desk::Desk;
 use fts_tables::limits::JOURNAL_END;
 use fts_tables::{Endpoint, FileRow, LinkRule, Memory, Settings};
@@ -21,9 +23,10 @@ pub fn metrics(alloc: Global, desk: &Desk, used: u64) -> Result<Vec<u8>, Memory>
     let links = links_of(desk.settings());
     put_jobs(alloc, &mut text, desk)?;
     put_files(alloc, &mut text, rows, endpoints)?;
-    put_link_active(alloc, &mut text, rows, links)?;
+    let active = active_rows(alloc, rows)?;
+    put_link_active(alloc, &mut text, &active, links)?;
     put_link_limit(alloc, &mut text, links)?;
-    put_endpoint_active(alloc, &mut text, rows, endpoints)?;
+    put_endpoint_active(alloc, &mut text, &active, endpoints)?;
     put_endpoint_limit(alloc, &mut text, endpoints)?;
     put_sizes(&mut text, rows, used)?;
     Ok(text)

@@ -1,19 +1,30 @@
 -- The samples of the links from one endpoint more.
 use Rattle.std.proofs.Common.{codes, ◌≡◌, ◌++◌, ◌∙◌, List, ℕ, ap, sym, arith, rules}
 use Rattle.std.proofs.lemmas.Grind.{common_steps}
+use Rattle.std.specs.Prelude.{◌==◌, filter}
 use Rattle.std.specs.List.{flat_map}
 use Rattle.fts_tables.specs.declared.settings.Endpoint.{Endpoint}
 use Rattle.fts_metrics.specs.Form.{head}
 use Rattle.fts_metrics.specs.Metrics.{files_from}
+use Rattle.fts_metrics.specs.declared.goings.Going.{Going}
+use Rattle.fts_tables.specs.SettingsData.{is_listed}
+use Rattle.fts_metrics.proofs.Places.{listed_at}
 use Rattle.fts_metrics.proofs.Texts.{goes_on, line_more}
 use Rattle.fts_metrics.proofs.files.put_files.Goals as goal
 
 pub loop-endpoint-preserved : goal.loop-endpoint-preserved
-loop-endpoint-preserved c = line_more (λ (endpoint : Endpoint). files_from c.args.rows.now c.args.endpoints.now endpoint.name) c.args.endpoints.now
-    c.loop-endpoint.endpoint-index c.endpoint-item.result c.loop-endpoint-test.true (sym c.endpoint-item.is) c.put_head.new.text.items c.loop-endpoint.text.items
-    c.put_files_from.new.text.items c.loop-endpoint.invariant
-    (c.in_ok-put_files_from.ensures
-    ∙ ap (λ (name : List ℕ). c.loop-endpoint.text.items ++ files_from c.args.rows.now c.args.endpoints.now name) c.as_str.ensures.text)
+loop-endpoint-preserved c =
+    let rows = c.args.rows.now in
+    let endpoints = c.args.endpoints.now in
+    let endpoint = c.endpoint-item.result in
+    let name = c.as_str-source.ensures.text in
+    let listed = ap (is_listed endpoints) name
+    ∙ listed_at endpoints c.loop-endpoint.endpoint-index endpoint c.loop-endpoint-test.true (sym c.endpoint-item.is) in
+    let goings = c.deref.ensures.value ∙ c.in_ok-goings.ensures in
+    let away = c.deref-in-loop-endpoint.ensures.value ∙ c.in_ok-away.ensures ∙ (λ i. filter (λ (going : Going). going.source == c.place_among.ensures i) (goings i)) in
+    line_more (λ (endpoint : Endpoint). files_from rows endpoints endpoint.name) endpoints c.loop-endpoint.endpoint-index endpoint c.loop-endpoint-test.true
+    (sym c.endpoint-item.is) c.put_head.new.text.items c.loop-endpoint.text.items c.put_files_from.new.text.items c.loop-endpoint.invariant
+    (c.in_ok-put_files_from.ensures rows listed away ∙ ap (λ (name : List ℕ). c.loop-endpoint.text.items ++ files_from rows endpoints name) name)
 
 pub returns : goal.returns
 returns c =

@@ -1,13 +1,21 @@
 -- The samples of one link more.
 use Rattle.std.proofs.Common.{◌++◌, ◌∙◌, List, ℕ, ap, sym}
 use Rattle.fts_tables.specs.declared.settings.Endpoint.{Endpoint}
+use Rattle.fts_metrics.specs.Goings.{place_among, states_to, states_on}
 use Rattle.fts_metrics.specs.Metrics.{files_where}
+use Rattle.fts_metrics.proofs.Places.{listed_at, states_between}
 use Rattle.fts_metrics.proofs.Texts.{line_more}
 use Rattle.fts_metrics.proofs.files.put_files_from.Goals as goal
 
 pub loop-endpoint-preserved : goal.loop-endpoint-preserved
-loop-endpoint-preserved c = line_more (λ (endpoint : Endpoint). files_where c.args.rows.now c.args.source.now endpoint.name) c.args.endpoints.now
-    c.loop-endpoint.endpoint-index c.endpoint-item.result c.loop-endpoint-test.true (sym c.endpoint-item.is) c.args.text.now.items c.loop-endpoint.text.items
-    c.put_files_where.new.text.items c.loop-endpoint.invariant
-    (c.in_ok-put_files_where.ensures
-    ∙ ap (λ (name : List ℕ). c.loop-endpoint.text.items ++ files_where c.args.rows.now c.args.source.now name) c.as_str.ensures.text)
+loop-endpoint-preserved c = λ rows listed away.
+    let endpoints = c.args.endpoints.now in
+    let source = c.args.source.now in
+    let endpoint = c.endpoint-item.result in
+    let name = c.as_str-dest.ensures.text in
+    let there = listed_at endpoints c.loop-endpoint.endpoint-index endpoint c.loop-endpoint-test.true (sym c.endpoint-item.is) in
+    let states = c.deref.ensures.value ∙ c.in_ok-states.ensures ∙ (λ i. states_to ((c.place_among.ensures ∙ ap (place_among endpoints) name) i) (away i))
+    ∙ states_between endpoints source endpoint.name listed there rows ∙ ap (λ (dest : List ℕ). states_on source dest rows) (sym name) in
+    line_more (λ (endpoint : Endpoint). files_where rows source endpoint.name) endpoints c.loop-endpoint.endpoint-index endpoint c.loop-endpoint-test.true
+    (sym c.endpoint-item.is) c.args.text.now.items c.loop-endpoint.text.items c.put_files_where.new.text.items (c.loop-endpoint.invariant rows listed away)
+    (c.in_ok-put_files_where.ensures rows states ∙ ap (λ (dest : List ℕ). c.loop-endpoint.text.items ++ files_where rows source dest) name)

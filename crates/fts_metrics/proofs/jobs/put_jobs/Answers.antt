@@ -1,29 +1,27 @@
 -- The samples, one behind the other.
-use Rattle.std.proofs.Common.{◌≡◌, ◌++◌, ◌∙◌, List, ℕ, ap, codes}
+use Rattle.std.proofs.Common.{◌≡◌, ◌++◌, ◌∙◌, List, ℕ, ap, append_assoc, codes, Option}
+use Rattle.std.specs.Prelude.{map, count_by}
+use Rattle.fts_desk.specs.DeskData.{state_at}
+use Rattle.fts_tables.specs.declared.rows.JobRow.{JobRow}
+use Rattle.fts_tables.specs.declared.rows.JobState.{JobState}
 use Rattle.fts_tables.specs.declared.rows.JobState.TheVariants.{FinishedDirty, Submitted, Active, Finished, Failed, Canceled}
-use Rattle.fts_metrics.specs.Form.{head}
-use Rattle.fts_metrics.specs.Metrics.{jobs_text, jobs_sample, jobs_in}
-use Rattle.fts_metrics.proofs.Texts.{goes_on}
+use Rattle.fts_metrics.specs.JobStates.{stands_in}
+use Rattle.fts_metrics.specs.Metrics.{jobs_text, jobs_sample, jobs_in, place_of}
+use Rattle.fts_metrics.proofs.Counting.{count_read}
 use Rattle.fts_metrics.proofs.jobs.put_jobs.Goals as goal
-
--- a sample by its number
-sampled : (old new state : List ℕ) (count number : ℕ) → new ≡ old ++ jobs_sample state count → count ≡ number → new ≡ old ++ jobs_sample state number
-sampled old new state count number is counted = is ∙ ap (λ (n : ℕ). old ++ jobs_sample state n) counted
 
 pub returns : goal.returns
 unfolding jobs_text
 returns c =
     let tables = c.args.desk.now.tables in
-    (goes_on (c.args.text.now.items) c.put_state-5.new.text.items c.put_state-6.new.text.items ((((((head (codes "fts_jobs") (codes "Jobs by state.") (codes "gauge")) ++ (jobs_sample (codes "SUBMITTED") (jobs_in tables Submitted))) ++ (jobs_sample (codes "ACTIVE") (jobs_in tables Active))) ++ (jobs_sample (codes "FINISHED") (jobs_in tables Finished))) ++ (jobs_sample (codes "FINISHEDDIRTY") (jobs_in tables FinishedDirty))) ++ (jobs_sample (codes "FAILED") (jobs_in tables Failed))) (jobs_sample (codes "CANCELED") (jobs_in tables Canceled))
-    (goes_on (c.args.text.now.items) c.put_state-4.new.text.items c.put_state-5.new.text.items (((((head (codes "fts_jobs") (codes "Jobs by state.") (codes "gauge")) ++ (jobs_sample (codes "SUBMITTED") (jobs_in tables Submitted))) ++ (jobs_sample (codes "ACTIVE") (jobs_in tables Active))) ++ (jobs_sample (codes "FINISHED") (jobs_in tables Finished))) ++ (jobs_sample (codes "FINISHEDDIRTY") (jobs_in tables FinishedDirty))) (jobs_sample (codes "FAILED") (jobs_in tables Failed))
-    (goes_on (c.args.text.now.items) c.put_state-3.new.text.items c.put_state-4.new.text.items ((((head (codes "fts_jobs") (codes "Jobs by state.") (codes "gauge")) ++ (jobs_sample (codes "SUBMITTED") (jobs_in tables Submitted))) ++ (jobs_sample (codes "ACTIVE") (jobs_in tables Active))) ++ (jobs_sample (codes "FINISHED") (jobs_in tables Finished))) (jobs_sample (codes "FINISHEDDIRTY") (jobs_in tables FinishedDirty))
-    (goes_on (c.args.text.now.items) c.put_state-2.new.text.items c.put_state-3.new.text.items (((head (codes "fts_jobs") (codes "Jobs by state.") (codes "gauge")) ++ (jobs_sample (codes "SUBMITTED") (jobs_in tables Submitted))) ++ (jobs_sample (codes "ACTIVE") (jobs_in tables Active))) (jobs_sample (codes "FINISHED") (jobs_in tables Finished))
-    (goes_on (c.args.text.now.items) c.put_state.new.text.items c.put_state-2.new.text.items ((head (codes "fts_jobs") (codes "Jobs by state.") (codes "gauge")) ++ (jobs_sample (codes "SUBMITTED") (jobs_in tables Submitted))) (jobs_sample (codes "ACTIVE") (jobs_in tables Active))
-    (goes_on (c.args.text.now.items) c.put_head.new.text.items c.put_state.new.text.items (head (codes "fts_jobs") (codes "Jobs by state.") (codes "gauge")) (jobs_sample (codes "SUBMITTED") (jobs_in tables Submitted))
-    c.in_ok-put_head.ensures
-    (sampled c.put_head.new.text.items c.put_state.new.text.items (codes "SUBMITTED") c.jobs_in.result (jobs_in tables Submitted) c.in_ok-put_state.ensures c.jobs_in.ensures))
-    (sampled c.put_state.new.text.items c.put_state-2.new.text.items (codes "ACTIVE") c.jobs_in-2.result (jobs_in tables Active) c.in_ok-put_state-2.ensures c.jobs_in-2.ensures))
-    (sampled c.put_state-2.new.text.items c.put_state-3.new.text.items (codes "FINISHED") c.jobs_in-3.result (jobs_in tables Finished) c.in_ok-put_state-3.ensures c.jobs_in-3.ensures))
-    (sampled c.put_state-3.new.text.items c.put_state-4.new.text.items (codes "FINISHEDDIRTY") c.jobs_in-4.result (jobs_in tables FinishedDirty) c.in_ok-put_state-4.ensures c.jobs_in-4.ensures))
-    (sampled c.put_state-4.new.text.items c.put_state-5.new.text.items (codes "FAILED") c.jobs_in-5.result (jobs_in tables Failed) c.in_ok-put_state-5.ensures c.jobs_in-5.ensures))
-    (sampled c.put_state-5.new.text.items c.put_state-6.new.text.items (codes "CANCELED") c.jobs_in-6.result (jobs_in tables Canceled) c.in_ok-put_state-6.ensures c.jobs_in-6.ensures))
+    let counted : (state : JobState) (states : List (Option JobState)) (count : ℕ) → states ≡ map (λ (job : JobRow). state_at tables job.number) tables.jobs → count ≡ count_by (stands_in (place_of state)) states
+    → count ≡ jobs_in tables state = λ state states count are is.
+    is ∙ ap (count_by (stands_in (place_of state))) are
+    ∙ count_read (λ (job : JobRow). state_at tables job.number) (stands_in (place_of state)) tables.jobs in
+    let submitted = c.in_ok-put_state.ensures ∙ (λ i. c.in_ok-put_head.ensures i ++ jobs_sample (codes "SUBMITTED") (counted Submitted _ _ (c.deref.ensures.value ∙ c.in_ok-states.ensures) c.jobs_in.ensures i)) in
+    let active = c.in_ok-put_state-2.ensures ∙ (λ i. submitted i ++ jobs_sample (codes "ACTIVE") (counted Active _ _ (c.deref-2.ensures.value ∙ c.in_ok-states.ensures) c.jobs_in-2.ensures i)) in
+    let finished = c.in_ok-put_state-3.ensures ∙ (λ i. active i ++ jobs_sample (codes "FINISHED") (counted Finished _ _ (c.deref-3.ensures.value ∙ c.in_ok-states.ensures) c.jobs_in-3.ensures i)) in
+    let dirty = c.in_ok-put_state-4.ensures ∙ (λ i. finished i ++ jobs_sample (codes "FINISHEDDIRTY") (counted FinishedDirty _ _ (c.deref-4.ensures.value ∙ c.in_ok-states.ensures) c.jobs_in-4.ensures i)) in
+    let failed = c.in_ok-put_state-5.ensures ∙ (λ i. dirty i ++ jobs_sample (codes "FAILED") (counted Failed _ _ (c.deref-5.ensures.value ∙ c.in_ok-states.ensures) c.jobs_in-5.ensures i)) in
+    let all = c.in_ok-put_state-6.ensures ∙ (λ i. failed i ++ jobs_sample (codes "CANCELED") (counted Canceled _ _ (c.deref-6.ensures.value ∙ c.in_ok-states.ensures) c.jobs_in-6.ensures i)) in
+    all ∙ simp append_assoc

@@ -1,5 +1,6 @@
 -- The labels and the count of a link, by its own names.
 use Rattle.std.proofs.Common.{◌++◌, ◌∙◌, List, ℕ, ap, codes}
+use Rattle.std.specs.Prelude.{map}
 use Rattle.fts_tables.specs.Limits.{held}
 use Rattle.fts_metrics.specs.Form.{sample}
 use Rattle.fts_metrics.specs.Metrics.{link_labels}
@@ -14,4 +15,4 @@ returns c =
     ∙ ap (λ (l : List ℕ). text ++ sample name l c.active-count.result)
     (c.deref.ensures.value ∙ c.in_ok-labels.ensures ∙ (λ i. link_labels (c.as_str-source.ensures.text i) (c.as_str-dest.ensures.text i)))
     ∙ ap (λ (n : ℕ). text ++ sample name (link_labels link.source link.dest) n)
-    (c.active-count.ensures ∙ (λ i. held c.args.rows.now (c.as_str-source.ensures.text i) (c.as_str-dest.ensures.text i)))
+    (c.active-count.ensures ∙ (λ i. held (map (λ row. row.now) c.args.rows.now) (c.as_str-source.ensures.text i) (c.as_str-dest.ensures.text i)))

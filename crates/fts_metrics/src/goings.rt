@@ -1,0 +1,120 @@
+//! Where the rows go, by the places of their endpoints among the listed ones: names are looked up where a row's link is not that of the row before it.
+//! A link's states are then found by comparing numbers alone (`specs/Goings.antt`).
+ghost use Rattle.std.specs.Prelude.{◌≡◌, ◌==◌, bytes_eq, map, filter, count_by, position, IfOk};
+ghost use Rattle.fts_metrics.specs.Goings.{place_among, going_of, states_to, test_of};
+
+use fts_tables::{Endpoint, FileRow, FileState, Memory};
+use std::alloc::Global;
+
+/// Where a row goes: the places of its endpoints, and their number where one isn't listed.
+#[derive(Clone, Copy)]
+pub struct Going {
+    pub source: usize,
+    pub dest: usize,
+    pub state: FileState,
+}
+
+/// The place of the first endpoint of a name, and their number where none has it.
+pub fn place_among(endpoints: &[Endpoint], name: &str) -> usize
+    ensures { result ≡ place_among endpoints.now name.now }
+{
+    first_named(endpoints, name).unwrap_or(endpoints.len())
+}
+
+fn first_named(endpoints: &[Endpoint], name: &str) -> Option<usize>
+    ensures { result ≡ position (λ endpoint. bytes_eq endpoint.name name.now) endpoints.now }
+{
+    endpoints
+        .iter()
+        .position(|endpoint| endpoint.name.as_str() == name)
+}
+
+fn going_of(endpoints: &[Endpoint], row: &FileRow) -> Going
+    ensures { result ≡ going_of endpoints.now row.now }
+{
+    Going {
+        source: place_among(endpoints, row.source.endpoint.as_str()),
+        dest: place_among(endpoints, row.dest.endpoint.as_str()),
+        state: row.state,
+    }
+}
+
+// Where a row goes, beside one of which it is known.
+fn going_beside(endpoints: &[Endpoint], row: &FileRow, other: &FileRow, going: Going) -> Going
+    requires { going ≡ going_of endpoints.now other.now }
+    ensures { result ≡ going_of endpoints.now row.now }
+{
+    if row.is_same_link(other) {
+        Going {
+            state: row.state,
+            ..going
+        }
+    } else {
+        going_of(endpoints, row)
+    }
+}
+
+/// Where the rows go, in their order.
+pub fn goings_of(
+    alloc: Global,
+    endpoints: &[Endpoint],
+    rows: &[FileRow],
+) -> Result<Vec<Going>, Memory>
+    ensures { IfOk result (λ goings. goings.items ≡ map (going_of endpoints.now) rows.now) }
+{
+    let mut goings = Vec::with_capacity(alloc, rows.len())?;
+    let Some(mut last) = rows.first() else {
+        return Ok(goings);
+    };
+    let mut going = going_of(endpoints, last);
+    for row in rows {
+        going = going_beside(endpoints, row, last, going);
+        last = row;
+        goings.push_reserved(going);
+    }
+    Ok(goings)
+}
+
+/// Those that come from a place.
+pub fn from_place(alloc: Global, goings: &[Going], source: usize) -> Result<Vec<Going>, Memory>
+    ensures { IfOk result (λ from. from.items ≡ filter (λ going. going.source == source) goings.now) }
+{
+    let from = goings
+        .iter()
+        .copied()
+        .filter(|going| going.source == source)
+        .collect(alloc)?;
+    Ok(from)
+}
+
+/// The states of those that go to a place.
+pub fn states_to(alloc: Global, goings: &[Going], dest: usize) -> Result<Vec<FileState>, Memory>
+    ensures { IfOk result (λ states. states.items ≡ states_to dest goings.now) }
+{
+    let states = goings
+        .iter()
+        .filter(|going| going.dest == dest)
+        .map(|going| going.state)
+        .collect(alloc)?;
+    Ok(states)
+}
+
+/// How many of these are this state.
+pub fn count_in(states: &[FileState], wanted: FileState) -> usize
+    ensures { result ≡ count_by (test_of wanted) states.now }
+{
+    states.iter().filter(|state| is_in(wanted, **state)).count()
+}
+
+fn is_in(wanted: FileState, state: FileState) -> bool
+    ensures { result ≡ test_of wanted state }
+{
+    match wanted {
+        FileState::Submitted => state.is_submitted(),
+        FileState::Active => state.is_active(),
+        FileState::Finished => state.is_finished(),
+        FileState::Failed => state.is_failed(),
+        FileState::Canceled => state.is_canceled(),
+        FileState::NotUsed => state.is_not_used(),
+    }
+}
