@@ -11,7 +11,6 @@ use fts_desk::{Desk, DeskFault};
 use fts_tables::{Answer, Command, LinkAt, Memory, Refusal};
 use std::alloc::Global;
 use std::process::Abort;
-use std::test::Fail;
 
 /// Where the generator starts, a run each.
 const SEEDS: [u64; 3] = [20_261_127, 20_261_128, 20_261_129];
@@ -53,26 +52,28 @@ struct Seen {
     rarities: Rarities,
 }
 
+/// What a call gave. The test ends where it gave nothing: so there is no exit in what calls it, at which all that lives is dropped.
+pub fn must<T, E: Drop>(rt: &impl Abort, given: Result<T, E>) -> T {
+    match given {
+        Ok(value) => value,
+        Err(_) => panic!(rt; "memory is wanting"),
+    }
+}
+
 /// Gives both the next command, and compares what they answer and what they keep.
-fn agree_on_next(
-    rt: &impl Abort,
-    trial: &mut Trial,
-    seen: &mut Seen,
-    number: u32,
-) -> Result<(), Fail> {
-    let plain = trial.generator.next(&trial.machine)?;
-    let before = Before::of(trial.alloc, &trial.machine)?;
-    let Some(command) = command_of(trial.alloc, &plain)? else {
-        assert!(rt; false, "command {number} is lawful");
-        return Ok(());
+fn agree_on_next(rt: &impl Abort, trial: &mut Trial, seen: &mut Seen, number: u32) {
+    let plain = must(rt, trial.generator.next(&trial.machine));
+    let before = must(rt, Before::of(trial.alloc, &trial.machine));
+    let Some(command) = must(rt, command_of(trial.alloc, &plain)) else {
+        panic!(rt; "command {number} is lawful");
     };
-    let answer = answer_of(&mut trial.desk, &command)?;
-    let wanted = trial.machine.step(plain)?;
+    let answer = must(rt, answer_of(&mut trial.desk, &command));
+    let wanted = must(rt, trial.machine.step(plain));
     assert!(rt;
         answer == wanted,
         "command {number} is answered as the plain machine answers it"
     );
-    let ended = before.ended(trial.alloc, trial.machine.rows())?;
+    let ended = must(rt, before.ended(trial.alloc, trial.machine.rows()));
     seen.coverage.note_answer(&command, &answer);
     seen.coverage
         .note_moves(before.rows(), trial.machine.rows());
@@ -84,7 +85,6 @@ fn agree_on_next(
         machine: &trial.machine,
     });
     agree_on_tables(rt, &trial.desk, &trial.machine, number);
-    Ok(())
 }
 
 /// Compares what both keep.
@@ -109,13 +109,7 @@ fn agree_on_tables(rt: &impl Abort, desk: &Desk, machine: &PlainMachine, number:
 }
 
 /// A run of commands from the empty tables, with moments that begin about the earliest.
-fn agree_on_run(
-    rt: &impl Abort,
-    alloc: Global,
-    seed: u64,
-    earliest: u64,
-    seen: &mut Seen,
-) -> Result<(), Fail> {
+fn agree_on_run(rt: &impl Abort, alloc: Global, seed: u64, earliest: u64, seen: &mut Seen) {
     let mut trial = Trial {
         alloc,
         desk: Desk::empty(alloc),
@@ -123,24 +117,18 @@ fn agree_on_run(
         generator: Generator::new(alloc, seed, earliest),
     };
     for number in 0..COMMANDS {
-        agree_on_next(rt, &mut trial, seen, number)?;
+        agree_on_next(rt, &mut trial, seen, number);
     }
-    Ok(())
 }
 
 /// A run from each seed, in all of which each case comes.
-fn agree_on_runs(
-    rt: &impl Abort,
-    alloc: Global,
-    earliest: u64,
-    is_to_the_last: bool,
-) -> Result<(), Fail> {
+fn agree_on_runs(rt: &impl Abort, alloc: Global, earliest: u64, is_to_the_last: bool) {
     let mut seen = Seen {
         coverage: Coverage::new(),
         rarities: Rarities::new(),
     };
     for seed in SEEDS {
-        agree_on_run(rt, alloc, seed ^ earliest, earliest, &mut seen)?;
+        agree_on_run(rt, alloc, seed ^ earliest, earliest, &mut seen);
     }
     let is_each_event = seen.coverage.rarer_than(OFTEN).is_none();
     assert!(rt; is_each_event, "each event comes");
@@ -148,20 +136,19 @@ fn agree_on_runs(
     assert!(rt; is_each_move, "each change of a state comes");
     let is_each_rarity = seen.rarities.rarer_than(OFTEN, is_to_the_last).is_none();
     assert!(rt; is_each_rarity, "each rare case comes");
-    Ok(())
 }
 
 #[test]
-fn a_desk_and_the_plain_machine_agree_from_moment_0_on(rt: HostRuntime) -> Result<(), Fail> {
-    agree_on_runs(&rt, rt.alloc(), 0, false)
+fn a_desk_and_the_plain_machine_agree_from_moment_0_on(rt: HostRuntime) {
+    agree_on_runs(&rt, rt.alloc(), 0, false);
 }
 
 #[test]
-fn a_desk_and_the_plain_machine_agree_in_our_days(rt: HostRuntime) -> Result<(), Fail> {
-    agree_on_runs(&rt, rt.alloc(), 1_700_000_000, false)
+fn a_desk_and_the_plain_machine_agree_in_our_days(rt: HostRuntime) {
+    agree_on_runs(&rt, rt.alloc(), 1_700_000_000, false);
 }
 
 #[test]
-fn a_desk_and_the_plain_machine_agree_up_to_the_last_moment(rt: HostRuntime) -> Result<(), Fail> {
-    agree_on_runs(&rt, rt.alloc(), NEAR_THE_LAST, true)
+fn a_desk_and_the_plain_machine_agree_up_to_the_last_moment(rt: HostRuntime) {
+    agree_on_runs(&rt, rt.alloc(), NEAR_THE_LAST, true);
 }

@@ -1,6 +1,7 @@
 //! Worked rows by hand: scripts of commands with the answers that are wanted, over settings and documents as users write them.
 //! A line of a script is a command or a question, ` = `, and its answer. What no clause says is that each call succeeds with ample memory.
 use crate::scripts::BANS_AND_HOURS;
+use crate::tests::must;
 use fts_config::read_settings;
 use fts_desk::{Desk, DeskFault};
 use fts_jobdoc::read_job;
@@ -10,7 +11,6 @@ use fts_tables::{
 };
 use std::alloc::{AllocError, Global};
 use std::process::Abort;
-use std::test::Fail;
 
 /// A storage each; the third takes one file at a time.
 const A: &str = "[[storage]]\nurl = \"https://a.example\"\n";
@@ -360,15 +360,14 @@ fn told(alloc: Global, desk: &mut Desk, said: &str) -> Result<String, Memory> {
 }
 
 /// Gives a desk the lines of a script, and compares each answer.
-fn play(rt: &impl Abort, alloc: Global, case: &str, script: &str) -> Result<(), Memory> {
+fn play(rt: &impl Abort, alloc: Global, case: &str, script: &str) {
     let mut desk = Desk::empty(alloc);
     for line in script.lines() {
         if let Some((said, want)) = line.split_once(" = ") {
-            let answer = told(alloc, &mut desk, said)?;
+            let answer = must(rt, told(alloc, &mut desk, said));
             assert!(rt; answer.as_str() == want, "{case}: {line}: {answer}");
         }
     }
-    Ok(())
 }
 
 const ROWS: [(&str, &str); 10] = [
@@ -427,17 +426,15 @@ const ROWS: [(&str, &str); 10] = [
 ];
 
 #[test]
-fn worked_rows_are_answered_as_wanted(rt: HostRuntime) -> Result<(), Fail> {
+fn worked_rows_are_answered_as_wanted(rt: HostRuntime) {
     for (case, script) in ROWS {
-        play(&rt, rt.alloc(), case, script)?;
+        play(&rt, rt.alloc(), case, script);
     }
-    Ok(())
 }
 
 #[test]
-fn bans_and_hours_in_the_queue_are_answered_as_wanted(rt: HostRuntime) -> Result<(), Fail> {
+fn bans_and_hours_in_the_queue_are_answered_as_wanted(rt: HostRuntime) {
     for (case, script) in BANS_AND_HOURS {
-        play(&rt, rt.alloc(), case, script)?;
+        play(&rt, rt.alloc(), case, script);
     }
-    Ok(())
 }

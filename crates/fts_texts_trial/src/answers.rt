@@ -1,8 +1,8 @@
 //! Of `fts_wire`, as a client reads: responses of the service and hostile ones, each cut in two at every place, and how much of a line is read.
 
+use crate::checks::{check, check_found, must};
 use fts_wire::{AnswerFault, AnswerRoom, MemorySource, Source, SourceFailed, next_response};
-use std::io::Write;
-use std::test::Fail;
+use std::io::{self, Write};
 
 /// A source that gives its bytes up to a cut, and then the others.
 #[derive(Drop)]
@@ -13,7 +13,7 @@ struct CutSource {
 }
 
 impl CutSource {
-    fn new(rt: &HostRuntime, bytes: &[u8], cut: usize) -> Result<CutSource, Fail> {
+    fn new(rt: &HostRuntime, bytes: &[u8], cut: usize) -> io::Result<CutSource> {
         let bytes = Vec::from_slice(rt.alloc(), bytes)?;
         Ok(CutSource { bytes, at: 0, cut })
     }
@@ -51,7 +51,7 @@ fn note_of<S: Source>(
     rt: &HostRuntime,
     room: &mut AnswerRoom,
     source: &mut S,
-) -> Result<Vec<u8>, Fail> {
+) -> io::Result<Vec<u8>> {
     let mut note = Vec::new(rt.alloc());
     match next_response(room, source) {
         Ok(answered) => {
@@ -71,7 +71,7 @@ fn is_read_so(
     room: &mut AnswerRoom,
     input: &[u8],
     want: &str,
-) -> Result<bool, Fail> {
+) -> io::Result<bool> {
     for cut in 0..=input.len() {
         let mut source = CutSource::new(rt, input, cut)?;
         let note = note_of(rt, room, &mut source)?;
@@ -221,26 +221,24 @@ const FOREIGN: [AnswerRow; 18] = [
 ];
 
 /// Whether a row's input is read as it says.
-fn is_row_read_so(rt: &HostRuntime, room: &mut AnswerRoom, row: &AnswerRow) -> Result<bool, Fail> {
+fn is_row_read_so(rt: &HostRuntime, room: &mut AnswerRoom, row: &AnswerRow) -> io::Result<bool> {
     is_read_so(rt, room, row.1.as_bytes(), row.2)
 }
 
 #[test]
-fn responses_are_read_however_they_are_cut(rt: HostRuntime) -> Result<(), Fail> {
-    let mut room = AnswerRoom::new(rt.alloc())?;
+fn responses_are_read_however_they_are_cut(rt: HostRuntime) {
+    let mut room = must(&rt, AnswerRoom::new(rt.alloc()), "there is room");
     for row in &WRITTEN {
-        let is_so = is_row_read_so(&rt, &mut room, row)?;
-        assert!(rt; is_so, "{}", row.0);
+        check_found(&rt, is_row_read_so(&rt, &mut room, row), row.0);
     }
     for row in &FOREIGN {
-        let is_so = is_row_read_so(&rt, &mut room, row)?;
-        assert!(rt; is_so && room.body().is_empty(), "{}", row.0);
+        check_found(&rt, is_row_read_so(&rt, &mut room, row), row.0);
+        check(&rt, room.body().is_empty(), row.0);
     }
-    Ok(())
 }
 
 /// A front, and so many bytes behind it.
-fn with_bytes(rt: &HostRuntime, front: &[u8], byte: u8, count: usize) -> Result<Vec<u8>, Fail> {
+fn with_bytes(rt: &HostRuntime, front: &[u8], byte: u8, count: usize) -> io::Result<Vec<u8>> {
     let mut bytes = Vec::from_slice(rt.alloc(), front)?;
     let behind = vec![in rt.alloc(); byte; count]?;
     bytes.extend_from_slice(behind.as_slice())?;
@@ -248,7 +246,7 @@ fn with_bytes(rt: &HostRuntime, front: &[u8], byte: u8, count: usize) -> Result<
 }
 
 /// A source of these bytes, whose read of this number fails.
-fn source_of(rt: &HostRuntime, bytes: Vec<u8>, fail: u64) -> Result<MemorySource, Fail> {
+fn source_of(rt: &HostRuntime, bytes: Vec<u8>, fail: u64) -> io::Result<MemorySource> {
     Ok(MemorySource::new(bytes, vec![in rt.alloc(); fail; 1]?))
 }
 
@@ -279,24 +277,18 @@ const BOUNDS: [BoundRow; 4] = [
 ];
 
 /// Whether a row's bytes are refused by their first read. The second read fails, so there is none.
-fn is_refused_at_once(
-    rt: &HostRuntime,
-    room: &mut AnswerRoom,
-    row: &BoundRow,
-) -> Result<bool, Fail> {
+fn is_refused_at_once(rt: &HostRuntime, room: &mut AnswerRoom, row: &BoundRow) -> io::Result<bool> {
     let input = with_bytes(rt, row.1.as_bytes(), row.2, row.3)?;
     let mut source = source_of(rt, input, 2)?;
     Ok(status_of(room, &mut source) == Err(AnswerFault::BadResponse))
 }
 
 #[test]
-fn a_line_is_not_read_without_bound(rt: HostRuntime) -> Result<(), Fail> {
-    let mut room = AnswerRoom::new(rt.alloc())?;
+fn a_line_is_not_read_without_bound(rt: HostRuntime) {
+    let mut room = must(&rt, AnswerRoom::new(rt.alloc()), "there is room");
     for row in &BOUNDS {
-        let is_refused = is_refused_at_once(&rt, &mut room, row)?;
-        assert!(rt; is_refused, "{}", row.0);
+        check_found(&rt, is_refused_at_once(&rt, &mut room, row), row.0);
     }
-    Ok(())
 }
 
 /// A row: a sentence, how many bytes stand behind the front, the read that fails, what is read, and how many bytes the room holds then.
@@ -325,20 +317,18 @@ const GREATEST: &[u8] =
     b"HTTP/1.1 200 OK\r\nContent-Type: application/json\r\nContent-Length: 8389632\r\n\r\n";
 
 /// Whether a large body is read as a row says.
-fn is_body_read_so(rt: &HostRuntime, room: &mut AnswerRoom, row: &BodyRow) -> Result<bool, Fail> {
+fn is_body_read_so(rt: &HostRuntime, room: &mut AnswerRoom, row: &BodyRow) -> io::Result<bool> {
     let input = with_bytes(rt, GREATEST, b'a', row.1)?;
     let mut source = source_of(rt, input, row.2)?;
     Ok(status_of(room, &mut source) == row.3 && room.body().len() == row.4)
 }
 
 #[test]
-fn a_body_has_a_greatest_length(rt: HostRuntime) -> Result<(), Fail> {
-    let mut room = AnswerRoom::new(rt.alloc())?;
+fn a_body_has_a_greatest_length(rt: HostRuntime) {
+    let mut room = must(&rt, AnswerRoom::new(rt.alloc()), "there is room");
     for row in &BODIES {
-        let is_so = is_body_read_so(&rt, &mut room, row)?;
-        assert!(rt; is_so, "{}", row.0);
+        check_found(&rt, is_body_read_so(&rt, &mut room, row), row.0);
     }
-    Ok(())
 }
 
 const WHOLE: &str =
@@ -357,7 +347,7 @@ fn gives_readings(
     rt: &HostRuntime,
     room: &mut AnswerRoom,
     source: &mut CutSource,
-) -> Result<bool, Fail> {
+) -> io::Result<bool> {
     for want in &THREE_READINGS {
         if note_of(rt, room, source)?.as_slice() != want.as_bytes() {
             return Ok(false);
@@ -367,12 +357,12 @@ fn gives_readings(
 }
 
 #[test]
-fn a_second_response_stays_on_the_line(rt: HostRuntime) -> Result<(), Fail> {
-    let mut room = AnswerRoom::new(rt.alloc())?;
-    let mut source = CutSource::new(&rt, TWO_RESPONSES.as_bytes(), WHOLE.len())?;
-    let are_given = gives_readings(&rt, &mut room, &mut source)?;
-    assert!(rt; are_given, "the first, the second, and the end");
-    Ok(())
+fn a_second_response_stays_on_the_line(rt: HostRuntime) {
+    let mut room = must(&rt, AnswerRoom::new(rt.alloc()), "there is room");
+    let source = CutSource::new(&rt, TWO_RESPONSES.as_bytes(), WHOLE.len());
+    let mut source = must(&rt, source, "there is memory");
+    let are_given = gives_readings(&rt, &mut room, &mut source);
+    check_found(&rt, are_given, "the first, the second, and the end");
 }
 
 const SHORT: &str =
@@ -396,7 +386,7 @@ const FAILS: [FailRow; 5] = [
 ];
 
 /// Whether a line whose read fails is read as a row says.
-fn is_fail_told(rt: &HostRuntime, room: &mut AnswerRoom, row: &FailRow) -> Result<bool, Fail> {
+fn is_fail_told(rt: &HostRuntime, room: &mut AnswerRoom, row: &FailRow) -> io::Result<bool> {
     let bytes = Vec::from_slice(rt.alloc(), row.1.as_bytes())?;
     let mut source = source_of(rt, bytes, row.2)?;
     let note = note_of(rt, room, &mut source)?;
@@ -404,11 +394,9 @@ fn is_fail_told(rt: &HostRuntime, room: &mut AnswerRoom, row: &FailRow) -> Resul
 }
 
 #[test]
-fn a_read_that_fails_is_told(rt: HostRuntime) -> Result<(), Fail> {
-    let mut room = AnswerRoom::new(rt.alloc())?;
+fn a_read_that_fails_is_told(rt: HostRuntime) {
+    let mut room = must(&rt, AnswerRoom::new(rt.alloc()), "there is room");
     for row in &FAILS {
-        let is_told = is_fail_told(&rt, &mut room, row)?;
-        assert!(rt; is_told, "{}", row.0);
+        check_found(&rt, is_fail_told(&rt, &mut room, row), row.0);
     }
-    Ok(())
 }

@@ -1,11 +1,11 @@
 //! Of `fts_config`: the example and the text of a stand, read whole; texts that break one rule alone, and texts that break it with the one that
 //! is answered next. Most are a start, which breaks no rule, with a line more. A row is a sentence, a text, and what is wanted.
+use crate::checks::{check, check_found, must};
 use fts_config::{SettingKey, SettingsFault, read_settings};
 use fts_joburl::UrlFault;
 use fts_tables::{Endpoint, LinkRule, Settings, Weight};
 use std::alloc::{AllocError, Global};
 use std::process::Abort;
-use std::test::Fail;
 
 /// The fault of a text that ends so.
 fn fault_of(alloc: Global, start: &str, end: &str) -> Result<Option<SettingsFault>, AllocError> {
@@ -66,27 +66,34 @@ fn shown(alloc: Global, settings: &Settings) -> Result<String, AllocError> {
     Ok(shown)
 }
 
+/// Whether settings are these.
+fn is_shown(alloc: Global, settings: &Settings, want: &str) -> bool {
+    match shown(alloc, settings) {
+        Ok(line) => line.as_str() == want,
+        Err(_) => false,
+    }
+}
+
 /// Whether a text gives these settings.
-fn gives(alloc: Global, text: &str, want: &str) -> Result<bool, Fail> {
-    let settings = read_settings(alloc, text.as_bytes())?;
-    let line = shown(alloc, &settings)?;
-    Ok(line.as_str() == want)
+fn gives(alloc: Global, text: &str, want: &str) -> bool {
+    match read_settings(alloc, text.as_bytes()) {
+        Ok(settings) => is_shown(alloc, &settings, want),
+        Err(_) => false,
+    }
 }
 
 #[test]
-fn a_stand_s_text_gives_its_settings(rt: HostRuntime) -> Result<(), Fail> {
+fn a_stand_s_text_gives_its_settings(rt: HostRuntime) {
     let text =
         "vo = \"demo\"\nworkers = 2\n[[storage]]\nurl = \"https://a.example\"\n[[storage]]\nurl = \"https://b.example\"\n";
     let want = "demo 2 2, https://a.example 20 20, https://b.example 20 20, default 1,";
-    assert!(rt; gives(rt.alloc(), text, want)?, "a stand's settings");
-    Ok(())
+    check(&rt, gives(rt.alloc(), text, want), "a stand's settings");
 }
 
 #[test]
-fn what_a_text_leaves_out_has_its_default(rt: HostRuntime) -> Result<(), Fail> {
+fn what_a_text_leaves_out_has_its_default(rt: HostRuntime) {
     let want = "v 4 2, x://a 20 20, x://b 20 20, default 1,";
-    assert!(rt; gives(rt.alloc(), START, want)?, "settings by default");
-    Ok(())
+    check(&rt, gives(rt.alloc(), START, want), "settings by default");
 }
 
 /// The file `examples/fts.toml`, byte for byte.
@@ -122,11 +129,14 @@ weight = 9
 ";
 
 #[test]
-fn the_example_gives_its_settings(rt: HostRuntime) -> Result<(), Fail> {
+fn the_example_gives_its_settings(rt: HostRuntime) {
     let want =
         "demo 8 5, https://a.example 10 40, https://b.example 20 20, root://c.example:1094 20 20, a-to-b https://a.example https://b.example 20, default 1, production 9,";
-    assert!(rt; gives(rt.alloc(), EXAMPLE, want)?, "the example's settings");
-    Ok(())
+    check(
+        &rt,
+        gives(rt.alloc(), EXAMPLE, want),
+        "the example's settings",
+    );
 }
 
 /// A row: a sentence, the end of a text, and the key that its fault names.
@@ -149,47 +159,43 @@ fn has_fault(
 }
 
 /// In each row's text the key has another type.
-fn have_other_types(rt: &impl Abort, alloc: Global, rows: &[KeyRow]) -> Result<(), AllocError> {
+fn have_other_types(rt: &impl Abort, alloc: Global, rows: &[KeyRow]) {
     for (case, text, key) in rows {
-        let is_so = has_fault(alloc, "", text, SettingsFault::WrongType { key: *key })?;
-        assert!(rt; is_so, "{case}");
+        check_found(
+            rt,
+            has_fault(alloc, "", text, SettingsFault::WrongType { key: *key }),
+            case,
+        );
     }
-    Ok(())
 }
 
 /// In each row's text, behind this start, the key is missing.
-fn are_missing(
-    rt: &impl Abort,
-    alloc: Global,
-    start: &str,
-    rows: &[KeyRow],
-) -> Result<(), AllocError> {
+fn are_missing(rt: &impl Abort, alloc: Global, start: &str, rows: &[KeyRow]) {
     for (case, text, key) in rows {
-        let is_so = has_fault(alloc, start, text, SettingsFault::Missing { key: *key })?;
-        assert!(rt; is_so, "{case}");
+        check_found(
+            rt,
+            has_fault(alloc, start, text, SettingsFault::Missing { key: *key }),
+            case,
+        );
     }
-    Ok(())
 }
 
 /// Each row's text, behind the start, has its fault.
-fn have_faults(rt: &impl Abort, alloc: Global, rows: &[FaultRow]) -> Result<(), AllocError> {
+fn have_faults(rt: &impl Abort, alloc: Global, rows: &[FaultRow]) {
     for (case, text, fault) in rows {
-        let is_so = has_fault(alloc, START, text, *fault)?;
-        assert!(rt; is_so, "{case}");
+        check_found(rt, has_fault(alloc, START, text, *fault), case);
     }
-    Ok(())
 }
 
 /// Each row's text breaks its rule first.
-fn break_first(rt: &impl Abort, alloc: Global, rows: &[RuleRow]) -> Result<(), AllocError> {
+fn break_first(rt: &impl Abort, alloc: Global, rows: &[RuleRow]) {
     for (case, text, rule) in rows {
-        let is_so = match fault_of(alloc, "", text)? {
+        let is_so = match must(rt, fault_of(alloc, "", text), case) {
             Some(fault) => fault.rule() == *rule,
             None => false,
         };
-        assert!(rt; is_so, "{case}");
+        check(rt, is_so, case);
     }
-    Ok(())
 }
 
 const KEYS_OF_THE_WHOLE: [KeyRow; 4] = [
@@ -212,9 +218,8 @@ const KEYS_OF_THE_WHOLE: [KeyRow; 4] = [
 ];
 
 #[test]
-fn a_key_of_the_whole_has_its_type(rt: HostRuntime) -> Result<(), Fail> {
-    have_other_types(&rt, rt.alloc(), &KEYS_OF_THE_WHOLE)?;
-    Ok(())
+fn a_key_of_the_whole_has_its_type(rt: HostRuntime) {
+    have_other_types(&rt, rt.alloc(), &KEYS_OF_THE_WHOLE);
 }
 
 const KEYS_OF_A_STORAGE: [KeyRow; 4] = [
@@ -241,9 +246,8 @@ const KEYS_OF_A_STORAGE: [KeyRow; 4] = [
 ];
 
 #[test]
-fn a_key_of_a_storage_has_its_type(rt: HostRuntime) -> Result<(), Fail> {
-    have_other_types(&rt, rt.alloc(), &KEYS_OF_A_STORAGE)?;
-    Ok(())
+fn a_key_of_a_storage_has_its_type(rt: HostRuntime) {
+    have_other_types(&rt, rt.alloc(), &KEYS_OF_A_STORAGE);
 }
 
 const KEYS_OF_A_LINK: [KeyRow; 6] = [
@@ -276,9 +280,8 @@ const KEYS_OF_A_LINK: [KeyRow; 6] = [
 ];
 
 #[test]
-fn a_key_of_a_link_has_its_type(rt: HostRuntime) -> Result<(), Fail> {
-    have_other_types(&rt, rt.alloc(), &KEYS_OF_A_LINK)?;
-    Ok(())
+fn a_key_of_a_link_has_its_type(rt: HostRuntime) {
+    have_other_types(&rt, rt.alloc(), &KEYS_OF_A_LINK);
 }
 
 const KEYS_OF_AN_ACTIVITY: [KeyRow; 3] = [
@@ -300,9 +303,8 @@ const KEYS_OF_AN_ACTIVITY: [KeyRow; 3] = [
 ];
 
 #[test]
-fn a_key_of_an_activity_has_its_type(rt: HostRuntime) -> Result<(), Fail> {
-    have_other_types(&rt, rt.alloc(), &KEYS_OF_AN_ACTIVITY)?;
-    Ok(())
+fn a_key_of_an_activity_has_its_type(rt: HostRuntime) {
+    have_other_types(&rt, rt.alloc(), &KEYS_OF_AN_ACTIVITY);
 }
 
 const NEEDED_KEYS: [KeyRow; 4] = [
@@ -321,9 +323,8 @@ const NEEDED_KEYS: [KeyRow; 4] = [
 ];
 
 #[test]
-fn a_needed_key_is_there(rt: HostRuntime) -> Result<(), Fail> {
-    are_missing(&rt, rt.alloc(), "", &NEEDED_KEYS)?;
-    Ok(())
+fn a_needed_key_is_there(rt: HostRuntime) {
+    are_missing(&rt, rt.alloc(), "", &NEEDED_KEYS);
 }
 
 const NEEDED_KEYS_BELOW: [KeyRow; 5] = [
@@ -351,9 +352,8 @@ const NEEDED_KEYS_BELOW: [KeyRow; 5] = [
 ];
 
 #[test]
-fn a_needed_key_of_a_link_or_activity_is_there(rt: HostRuntime) -> Result<(), Fail> {
-    are_missing(&rt, rt.alloc(), START, &NEEDED_KEYS_BELOW)?;
-    Ok(())
+fn a_needed_key_of_a_link_or_activity_is_there(rt: HostRuntime) {
+    are_missing(&rt, rt.alloc(), START, &NEEDED_KEYS_BELOW);
 }
 
 /// A sentence, and the end of a text that breaks no rule.
@@ -366,12 +366,11 @@ const READ: [(&str, &str); 2] = [
 ];
 
 #[test]
-fn what_breaks_no_rule(rt: HostRuntime) -> Result<(), Fail> {
+fn what_breaks_no_rule(rt: HostRuntime) {
     for row in &READ {
-        let is_read = fault_of(rt.alloc(), START, row.1)?.is_none();
-        assert!(rt; is_read, "{}", row.0);
+        let fault = must(&rt, fault_of(rt.alloc(), START, row.1), row.0);
+        check(&rt, fault.is_none(), row.0);
     }
-    Ok(())
 }
 
 const RULES_ON_LINKS: [FaultRow; 4] = [
@@ -400,9 +399,8 @@ const RULES_ON_LINKS: [FaultRow; 4] = [
 ];
 
 #[test]
-fn each_rule_on_links_alone(rt: HostRuntime) -> Result<(), Fail> {
-    have_faults(&rt, rt.alloc(), &RULES_ON_LINKS)?;
-    Ok(())
+fn each_rule_on_links_alone(rt: HostRuntime) {
+    have_faults(&rt, rt.alloc(), &RULES_ON_LINKS);
 }
 
 const RULES_ON_TEXT_AND_LIMITS: [FaultRow; 5] = [
@@ -426,9 +424,8 @@ const RULES_ON_TEXT_AND_LIMITS: [FaultRow; 5] = [
 ];
 
 #[test]
-fn each_rule_on_text_and_limits_alone(rt: HostRuntime) -> Result<(), Fail> {
-    have_faults(&rt, rt.alloc(), &RULES_ON_TEXT_AND_LIMITS)?;
-    Ok(())
+fn each_rule_on_text_and_limits_alone(rt: HostRuntime) {
+    have_faults(&rt, rt.alloc(), &RULES_ON_TEXT_AND_LIMITS);
 }
 
 const RULES_ON_WEIGHTS: [FaultRow; 3] = [
@@ -450,9 +447,8 @@ const RULES_ON_WEIGHTS: [FaultRow; 3] = [
 ];
 
 #[test]
-fn each_rule_on_weights_alone(rt: HostRuntime) -> Result<(), Fail> {
-    have_faults(&rt, rt.alloc(), &RULES_ON_WEIGHTS)?;
-    Ok(())
+fn each_rule_on_weights_alone(rt: HostRuntime) {
+    have_faults(&rt, rt.alloc(), &RULES_ON_WEIGHTS);
 }
 
 const TWO_RULES: [RuleRow; 5] = [
@@ -473,9 +469,8 @@ const TWO_RULES: [RuleRow; 5] = [
 ];
 
 #[test]
-fn of_two_rules_the_first_is_answered(rt: HostRuntime) -> Result<(), Fail> {
-    break_first(&rt, rt.alloc(), &TWO_RULES)?;
-    Ok(())
+fn of_two_rules_the_first_is_answered(rt: HostRuntime) {
+    break_first(&rt, rt.alloc(), &TWO_RULES);
 }
 
 const TWO_LATER_RULES: [RuleRow; 5] = [
@@ -507,9 +502,8 @@ const TWO_LATER_RULES: [RuleRow; 5] = [
 ];
 
 #[test]
-fn of_two_later_rules_the_first_is_answered(rt: HostRuntime) -> Result<(), Fail> {
-    break_first(&rt, rt.alloc(), &TWO_LATER_RULES)?;
-    Ok(())
+fn of_two_later_rules_the_first_is_answered(rt: HostRuntime) {
+    break_first(&rt, rt.alloc(), &TWO_LATER_RULES);
 }
 
 /// The start, and this many activities of one name, with `more` before them.
@@ -551,30 +545,25 @@ const CROWDS: [CrowdRow; 4] = [
 ];
 
 #[test]
-fn too_many_stands_between_its_neighbours(rt: HostRuntime) -> Result<(), Fail> {
+fn too_many_stands_between_its_neighbours(rt: HostRuntime) {
     for row in &CROWDS {
-        let is_so = crowded(rt.alloc(), row.1, row.2)? == Some(row.3);
-        assert!(rt; is_so, "{}", row.0);
+        let fault = must(&rt, crowded(rt.alloc(), row.1, row.2), row.0);
+        check(&rt, fault == Some(row.3), row.0);
     }
-    Ok(())
 }
 
 #[test]
 fn a_text_that_is_no_utf_8_is_no_toml(rt: HostRuntime) {
     let fault = read_settings(rt.alloc(), &[b'#', 0xff]).err();
-    assert!(rt;
-        fault == Some(SettingsFault::NotToml),
-        "a byte that begins no letter"
-    );
+    let is_so = fault == Some(SettingsFault::NotToml);
+    check(&rt, is_so, "a byte that begins no letter");
 }
 
 #[test]
-fn a_text_that_is_too_long_is_told_first(rt: HostRuntime) -> Result<(), Fail> {
-    let text = vec![in rt.alloc(); b'='; 1_048_577]?;
+fn a_text_that_is_too_long_is_told_first(rt: HostRuntime) {
+    let text = vec![in rt.alloc(); b'='; 1_048_577];
+    let text = must(&rt, text, "there is memory");
     let fault = read_settings(rt.alloc(), text.as_slice()).err();
-    assert!(rt;
-        fault == Some(SettingsFault::TooLong),
-        "a byte more than the limit"
-    );
-    Ok(())
+    let is_so = fault == Some(SettingsFault::TooLong);
+    check(&rt, is_so, "a byte more than the limit");
 }

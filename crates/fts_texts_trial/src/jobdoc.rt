@@ -3,6 +3,7 @@
 //! texts are those of the rules' table in `docs/API.md`; ids are those of another program.
 ghost use Rattle.std.specs.Prelude.{◌≡◌, ◌∷◌, [], ◌++◌, IfOk, OnOk};
 
+use crate::checks::{check, check_found, must};
 use crate::jobdoc_cases::{
     ABC, BANS, BODIES, BodyCase, EXAMPLES, FIELDS, HOURS, KINDS, MULTIHOP, PARAMETERS, PRIORITIES,
     PairCase, URLS, WITH_CHECKSUM,
@@ -13,7 +14,6 @@ use fts_tables::{
 };
 use std::alloc::{AllocError, Global};
 use std::process::Abort;
-use std::test::Fail;
 
 fn add<T: Drop>(items: &mut Items<T>, item: T) -> Result<(), Memory>
     ensures { OnOk result (items.new ≡ items.old ++ item ∷ []) }
@@ -186,20 +186,23 @@ fn lines(alloc: Global, job: &NewJob) -> Result<String, AllocError> {
     Ok(text)
 }
 
-/// A document's job.
-fn job_of(alloc: Global, body: &str) -> Result<NewJob, Fail> {
+/// A document's job; an error where it breaks a rule, or memory is wanting.
+fn job_of(alloc: Global, body: &str) -> Result<NewJob, Memory> {
     let settings = settings(alloc)?;
-    Ok(read_job(alloc, body.as_bytes(), &settings)?)
+    match read_job(alloc, body.as_bytes(), &settings) {
+        Ok(job) => Ok(job),
+        Err(_) => Err(Memory),
+    }
 }
 
 /// What a document's job is, in some lines.
-fn summary(alloc: Global, body: &str) -> Result<String, Fail> {
+fn summary(alloc: Global, body: &str) -> Result<String, Memory> {
     let job = job_of(alloc, body)?;
     Ok(lines(alloc, &job)?)
 }
 
 /// The digest that a document's first file wants.
-fn wanted(alloc: Global, body: &str) -> Result<Option<[u8; 16]>, Fail> {
+fn wanted(alloc: Global, body: &str) -> Result<Option<[u8; 16]>, Memory> {
     let job = job_of(alloc, body)?;
     match job.files.as_slice() {
         [] => Ok(None),
@@ -229,39 +232,35 @@ fn wrong_url(alloc: Global, cases: &[PairCase]) -> Result<Option<&'static str>, 
 }
 
 /// No row of a table is answered otherwise; the first that is, is told.
-fn is_none(rt: &impl Abort, wrong: Option<&'static str>) {
-    let case = wrong.unwrap_or("");
-    assert!(rt; wrong.is_none(), "{case}");
+fn is_none(rt: &impl Abort, wrong: Result<Option<&'static str>, Memory>) {
+    if let Some(case) = must(rt, wrong, "there is memory") {
+        panic!(rt; "{case}");
+    }
 }
 
 #[test]
-fn a_body_that_is_no_document_breaks_the_least_rule(rt: HostRuntime) -> Result<(), Fail> {
-    is_none(&rt, wrong_body(rt.alloc(), &BODIES)?);
-    Ok(())
+fn a_body_that_is_no_document_breaks_the_least_rule(rt: HostRuntime) {
+    is_none(&rt, wrong_body(rt.alloc(), &BODIES));
 }
 
 #[test]
-fn a_broken_url_has_its_number(rt: HostRuntime) -> Result<(), Fail> {
-    is_none(&rt, wrong_url(rt.alloc(), &URLS)?);
-    Ok(())
+fn a_broken_url_has_its_number(rt: HostRuntime) {
+    is_none(&rt, wrong_url(rt.alloc(), &URLS));
 }
 
 #[test]
-fn a_broken_field_breaks_its_rule(rt: HostRuntime) -> Result<(), Fail> {
-    is_none(&rt, wrong_field(rt.alloc(), &FIELDS)?);
-    Ok(())
+fn a_broken_field_breaks_its_rule(rt: HostRuntime) {
+    is_none(&rt, wrong_field(rt.alloc(), &FIELDS));
 }
 
 #[test]
-fn a_broken_parameter_breaks_its_rule(rt: HostRuntime) -> Result<(), Fail> {
-    is_none(&rt, wrong_field(rt.alloc(), &PARAMETERS)?);
-    Ok(())
+fn a_broken_parameter_breaks_its_rule(rt: HostRuntime) {
+    is_none(&rt, wrong_field(rt.alloc(), &PARAMETERS));
 }
 
 #[test]
-fn several_files_break_the_rules_on_kinds(rt: HostRuntime) -> Result<(), Fail> {
-    is_none(&rt, wrong_body(rt.alloc(), &KINDS)?);
-    Ok(())
+fn several_files_break_the_rules_on_kinds(rt: HostRuntime) {
+    is_none(&rt, wrong_body(rt.alloc(), &KINDS));
 }
 
 /// The rule that a document of so many equal files breaks; 0 where it breaks none.
@@ -271,17 +270,16 @@ fn rule_of_many(alloc: Global, file: &str, count: usize) -> Result<u32, Memory> 
 }
 
 #[test]
-fn so_many_files_are_allowed(rt: HostRuntime) -> Result<(), Fail> {
+fn so_many_files_are_allowed(rt: HostRuntime) {
     let file = "{\"sources\":[\"https://a.example/f\"],\"destinations\":[\"https://b.example/f\"]}";
     for &(case, file, count, rule) in &[
         ("200 files", file, 200, 0),
         ("201 files", file, 201, 4),
         ("201 files that are no objects", "3", 201, 4),
     ] {
-        let is_so = rule_of_many(rt.alloc(), file, count)? == rule;
-        assert!(rt; is_so, "{case}");
+        let found = must(&rt, rule_of_many(rt.alloc(), file, count), case);
+        check(&rt, found == rule, case);
     }
-    Ok(())
 }
 
 fn of_activity(alloc: Global, length: usize) -> Result<String, AllocError> {
@@ -310,56 +308,47 @@ fn rules_of_length(alloc: Global, length: usize) -> Result<(u32, u32), Memory> {
 }
 
 #[test]
-fn so_many_bytes_are_allowed(rt: HostRuntime) -> Result<(), Fail> {
+fn so_many_bytes_are_allowed(rt: HostRuntime) {
     for &(case, length, rules) in &[("255 bytes", 255, (0, 0)), ("256 bytes", 256, (15, 24))] {
-        let are_so = rules_of_length(rt.alloc(), length)? == rules;
-        assert!(rt; are_so, "{case}");
+        let found = must(&rt, rules_of_length(rt.alloc(), length), case);
+        check(&rt, found == rules, case);
     }
-    Ok(())
 }
 
 #[test]
-fn deep_lists_are_no_json(rt: HostRuntime) -> Result<(), Fail> {
-    let body = many_of(rt.alloc(), "[", 200)?;
-    let is_refused = rule_of(rt.alloc(), body.as_str())? == 1;
-    assert!(rt; is_refused, "200 open lists");
-    Ok(())
+fn deep_lists_are_no_json(rt: HostRuntime) {
+    let body = must(&rt, many_of(rt.alloc(), "[", 200), "there is memory");
+    let rule = must(&rt, rule_of(rt.alloc(), body.as_str()), "there is memory");
+    check(&rt, rule == 1, "200 open lists");
 }
 
 #[test]
-fn the_examples_are_the_jobs_that_they_say(rt: HostRuntime) -> Result<(), Fail> {
+fn the_examples_are_the_jobs_that_they_say(rt: HostRuntime) {
     for &(case, body, want) in &EXAMPLES {
-        let found = summary(rt.alloc(), body)?;
-        assert!(rt; found.as_str() == want, "{case}");
+        let found = must(&rt, summary(rt.alloc(), body), case);
+        check(&rt, found.as_str() == want, case);
     }
-    Ok(())
 }
 
 #[test]
-fn a_digest_is_wanted_only_where_verification_is_asked_for(rt: HostRuntime) -> Result<(), Fail> {
-    let is_wanted = wanted(rt.alloc(), WITH_CHECKSUM)? == Some(ABC);
-    assert!(rt; is_wanted, "a verification");
+fn a_digest_is_wanted_only_where_verification_is_asked_for(rt: HostRuntime) {
+    let digest = must(&rt, wanted(rt.alloc(), WITH_CHECKSUM), "a job");
+    check(&rt, digest == Some(ABC), "a verification");
     let checksum = ",\"checksum\":\"MD5:900150983cd24fb0d6963f7d28e17f72\"";
-    let body = document(rt.alloc(), checksum, "")?;
-    let is_dropped = wanted(rt.alloc(), body.as_str())?.is_none();
-    assert!(rt; is_dropped, "no verification");
-    Ok(())
+    let body = must(&rt, document(rt.alloc(), checksum, ""), "there is memory");
+    let digest = must(&rt, wanted(rt.alloc(), body.as_str()), "another job");
+    check(&rt, digest.is_none(), "no verification");
 }
 
 #[test]
-fn a_sid_makes_the_id_that_another_program_makes(rt: HostRuntime) -> Result<(), Fail> {
+fn a_sid_makes_the_id_that_another_program_makes(rt: HostRuntime) {
     // Python: uuid.uuid5(uuid.uuid5(base, vo), sid).int
     let id = sid_id("atlas", "dataset-2026-11-27");
-    assert!(rt;
-        id == 0xb25e_2ead_09fa_59c0_b703_38ca_9d40_b86c,
-        "a sid of its own"
-    );
-    let id = job_of(rt.alloc(), MULTIHOP)?.id;
-    assert!(rt;
-        id == Some(0x8b35_c5cc_fec2_5479_8778_9cbe_6f13_7978),
-        "a document's sid"
-    );
-    Ok(())
+    let is_so = id == 0xb25e_2ead_09fa_59c0_b703_38ca_9d40_b86c;
+    check(&rt, is_so, "a sid of its own");
+    let id = must(&rt, job_of(rt.alloc(), MULTIHOP), "a job").id;
+    let is_so = id == Some(0x8b35_c5cc_fec2_5479_8778_9cbe_6f13_7978);
+    check(&rt, is_so, "a document's sid");
 }
 
 /// What a body asks for, and the rule and message of its refusal.
@@ -373,25 +362,23 @@ fn priority(alloc: Global, body: &str) -> (u32, u32, &'static str) {
 #[test]
 fn a_priority_is_read(rt: HostRuntime) {
     for &(case, body, want) in &PRIORITIES {
-        let is_read = priority(rt.alloc(), body) == want;
-        assert!(rt; is_read, "{case}");
+        check(&rt, priority(rt.alloc(), body) == want, case);
     }
 }
 
 /// The hours that the job of a document has which gives them so.
-fn hours(alloc: Global, given: &str) -> Result<u32, Fail> {
+fn hours(alloc: Global, given: &str) -> Result<u32, Memory> {
     let keys = format!(in alloc; ",\"params\":{{\"max_time_in_queue\":{given}}}")?;
     let body = document(alloc, "", keys.as_str())?;
     Ok(job_of(alloc, body.as_str())?.queue_hours)
 }
 
 #[test]
-fn hours_in_the_queue_are_read(rt: HostRuntime) -> Result<(), Fail> {
+fn hours_in_the_queue_are_read(rt: HostRuntime) {
     for &(case, given, want) in &HOURS {
-        let is_read = hours(rt.alloc(), given)? == want;
-        assert!(rt; is_read, "{case}");
+        let found = must(&rt, hours(rt.alloc(), given), case);
+        check(&rt, found == want, case);
     }
-    Ok(())
 }
 
 /// Whether a body asks for this ban, or is refused by this rule with this message.
@@ -405,8 +392,7 @@ fn is_ban(alloc: Global, body: &str, asked: (&str, bool), refused: (u32, &str)) 
 #[test]
 fn a_ban_is_read(rt: HostRuntime) {
     for &(case, body, asked, refused) in &BANS {
-        let is_read = is_ban(rt.alloc(), body, asked, refused);
-        assert!(rt; is_read, "{case}");
+        check(&rt, is_ban(rt.alloc(), body, asked, refused), case);
     }
 }
 
@@ -419,15 +405,13 @@ fn is_storage(alloc: Global, text: &str, want: &str) -> Result<bool, Memory> {
 }
 
 #[test]
-fn a_storage_is_read(rt: HostRuntime) -> Result<(), Fail> {
+fn a_storage_is_read(rt: HostRuntime) {
     for &(case, text, want) in &[
         ("a storage", "https://b.example", "https://b.example"),
         ("with a slash", "https://b.example/", "https://b.example"),
         ("with a path", "https://b.example/f", ""),
         ("an empty text", "", ""),
     ] {
-        let is_read = is_storage(rt.alloc(), text, want)?;
-        assert!(rt; is_read, "{case}");
+        check_found(&rt, is_storage(rt.alloc(), text, want), case);
     }
-    Ok(())
 }

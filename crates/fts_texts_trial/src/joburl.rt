@@ -1,7 +1,7 @@
 //! Of `fts_joburl`: that the definitions mean what the URL Standard means by these texts, and each call with ample memory.
+use crate::checks::{check, check_found};
 use fts_joburl::{Surl, UrlFault, read_endpoint, read_surl};
 use std::alloc::{AllocError, Global};
-use std::test::Fail;
 
 /// The fault's number, or 0 where a file was read.
 fn number_of_surl(read: Result<Surl, UrlFault>) -> u32 {
@@ -136,12 +136,10 @@ fn is_file(alloc: Global, row: &FileRow) -> Result<bool, UrlFault> {
 }
 
 #[test]
-fn urls_of_files_are_read(rt: HostRuntime) -> Result<(), Fail> {
+fn urls_of_files_are_read(rt: HostRuntime) {
     for row in &FILES {
-        let is_read = is_file(rt.alloc(), row)?;
-        assert!(rt; is_read, "{}", row.0);
+        check_found(&rt, is_file(rt.alloc(), row), row.0);
     }
-    Ok(())
 }
 
 /// A row: a sentence, a text, and the number of its first fault.
@@ -197,12 +195,14 @@ const FAULTS: [FaultRow; 33] = [
 ];
 
 #[test]
-fn other_texts_have_their_first_fault(rt: HostRuntime) -> Result<(), Fail> {
+fn other_texts_have_their_first_fault(rt: HostRuntime) {
     for row in &FAULTS {
-        let is_so = number_of_surl(read_surl(rt.alloc(), row.1)) == row.2;
-        assert!(rt; is_so, "{}", row.0);
+        check(
+            &rt,
+            number_of_surl(read_surl(rt.alloc(), row.1)) == row.2,
+            row.0,
+        );
     }
-    Ok(())
 }
 
 /// A row: a sentence, the front of a text, how many bytes more it has, and the number of its first fault, 0 where there is none.
@@ -233,12 +233,10 @@ fn is_length_so(alloc: Global, row: &LengthRow) -> Result<bool, AllocError> {
 }
 
 #[test]
-fn a_url_has_at_most_1024_bytes(rt: HostRuntime) -> Result<(), Fail> {
+fn a_url_has_at_most_1024_bytes(rt: HostRuntime) {
     for row in &LENGTHS {
-        let is_so = is_length_so(rt.alloc(), row)?;
-        assert!(rt; is_so, "{}", row.0);
+        check_found(&rt, is_length_so(rt.alloc(), row), row.0);
     }
-    Ok(())
 }
 
 /// A row: a sentence, a text, and the endpoint that it names.
@@ -266,12 +264,10 @@ fn is_endpoint(alloc: Global, row: &EndpointRow) -> Result<bool, UrlFault> {
 }
 
 #[test]
-fn urls_of_endpoints_are_read(rt: HostRuntime) -> Result<(), Fail> {
+fn urls_of_endpoints_are_read(rt: HostRuntime) {
     for row in &ENDPOINTS {
-        let is_read = is_endpoint(rt.alloc(), row)?;
-        assert!(rt; is_read, "{}", row.0);
+        check_found(&rt, is_endpoint(rt.alloc(), row), row.0);
     }
-    Ok(())
 }
 
 /// A row: a sentence, a text that names no endpoint, and its fault.
@@ -305,7 +301,6 @@ fn is_other(alloc: Global, row: &OtherRow) -> bool {
 #[test]
 fn an_endpoint_has_no_path(rt: HostRuntime) {
     for row in &OTHERS {
-        let is_so = is_other(rt.alloc(), row);
-        assert!(rt; is_so, "{}", row.0);
+        check(&rt, is_other(rt.alloc(), row), row.0);
     }
 }

@@ -1,11 +1,11 @@
 //! Of `fts_load`: calls with ample memory, and files and requests by their digests, which an independent program gave (`acceptance/load.py`).
+use crate::checks::{check, check_found, must};
 use fts_load::{DroppingSink, LoadInput, make_requests, make_sources};
 use fts_store::{MemoryStore, Store, StoreFailed};
 use fts_tables::{Items, PlaceRef};
 use fts_wire::{Sink, Source};
 use md5::{Digest, Md5};
 use std::alloc::{AllocError, Global};
-use std::test::Fail;
 
 const SOURCE: &str = "https://a.example";
 
@@ -69,15 +69,14 @@ fn the_files_are_those_of_the_number(rt: HostRuntime) {
     let alloc = rt.alloc();
     let mut store = store(alloc, Vec::new(alloc));
     let made = make_sources(&mut store, SOURCE, 7);
-    assert!(rt; made.is_ok(), "the files are made");
+    check(&rt, made.is_ok(), "the files are made");
     for row in &FILES {
-        let is_so = is_drawn(&mut store, row);
-        assert!(rt; is_so, "{} and its bytes", row.0);
+        check(&rt, is_drawn(&mut store, row), row.0);
     }
     let before = store.size(at("load/s0"));
-    assert!(rt; before == Ok(None), "no file before the first");
+    check(&rt, before == Ok(None), "no file before the first");
     let behind = store.size(at("load/s2001"));
-    assert!(rt; behind == Ok(None), "no file behind the last");
+    check(&rt, behind == Ok(None), "no file behind the last");
 }
 
 /// Whether the first three files have so many bytes; None stands for no file.
@@ -106,12 +105,10 @@ fn ends_at(alloc: Global, row: &FailRow) -> Result<bool, AllocError> {
 }
 
 #[test]
-fn a_failed_call_ends_the_making(rt: HostRuntime) -> Result<(), Fail> {
+fn a_failed_call_ends_the_making(rt: HostRuntime) {
     for row in &FAILS {
-        let is_so = ends_at(rt.alloc(), row)?;
-        assert!(rt; is_so, "{}", row.0);
+        check_found(&rt, ends_at(rt.alloc(), row), row.0);
     }
-    Ok(())
 }
 
 /// A row: a sentence, where a request begins and ends, and its MD5.
@@ -147,17 +144,20 @@ fn has_digest(bytes: &[u8], row: &RequestRow) -> bool {
 }
 
 #[test]
-fn the_requests_are_those_of_the_endpoints(rt: HostRuntime) -> Result<(), Fail> {
-    let bytes = make_requests(rt.alloc(), SOURCE, DEST)?;
-    assert!(rt; bytes.len() == 185_726, "as many bytes as the program gave");
+fn the_requests_are_those_of_the_endpoints(rt: HostRuntime) {
+    let bytes = make_requests(rt.alloc(), SOURCE, DEST);
+    let bytes = must(&rt, bytes, "the requests are made");
+    check(
+        &rt,
+        bytes.len() == 185_726,
+        "as many bytes as the program gave",
+    );
     let start =
         "POST /jobs HTTP/1.1\r\nContent-Length: 8936\r\n\r\n{\"files\":[{\"destinations\":[\"https://b.example/load/d1\"],";
-    assert!(rt; bytes.starts_with(start.as_bytes()), "the start");
+    check(&rt, bytes.starts_with(start.as_bytes()), "the start");
     for row in &REQUESTS {
-        let is_so = has_digest(bytes.as_slice(), row);
-        assert!(rt; is_so, "{}", row.0);
+        check(&rt, has_digest(bytes.as_slice(), row), row.0);
     }
-    Ok(())
 }
 
 /// A row: a sentence, and the bytes that are read into three and written.
@@ -179,13 +179,12 @@ fn are_next(input: &mut LoadInput, sink: &mut DroppingSink, bytes: &str) -> bool
 }
 
 #[test]
-fn the_input_gives_its_bytes_once_and_the_sink_counts_them(rt: HostRuntime) -> Result<(), Fail> {
-    let mut input = LoadInput::new(b"abcde".to_vec(rt.alloc())?);
+fn the_input_gives_its_bytes_once_and_the_sink_counts_them(rt: HostRuntime) {
+    let bytes = b"abcde".to_vec(rt.alloc());
+    let mut input = LoadInput::new(must(&rt, bytes, "there is memory"));
     let mut sink = DroppingSink::new();
     for row in &PIECES {
-        let are_so = are_next(&mut input, &mut sink, row.1);
-        assert!(rt; are_so, "{}", row.0);
+        check(&rt, are_next(&mut input, &mut sink, row.1), row.0);
     }
-    assert!(rt; sink.count() == 5, "all bytes are counted");
-    Ok(())
+    check(&rt, sink.count() == 5, "all bytes are counted");
 }

@@ -1,7 +1,9 @@
 //! Of `fts_wire`, requests: that each call succeeds with ample memory, that the definitions mean what the standard means however the bytes are cut,
 //! and the limits of heads and bodies.
+use crate::checks::{check, check_found, must};
+use fts_tables::Memory;
 use fts_wire::{MemorySource, Request, Room, WireFault, next_request};
-use std::test::Fail;
+use std::alloc::AllocError;
 
 /// What a call said of its source.
 #[derive(Clone, Copy, PartialEq, Eq)]
@@ -16,7 +18,7 @@ fn note_next(
     room: &mut Room,
     source: &mut MemorySource,
     notes: &mut Vec<u8>,
-) -> Result<Said, Fail> {
+) -> Result<Said, AllocError> {
     match next_request(room, source) {
         Ok(Some(request)) => {
             note_request(request, notes)?;
@@ -29,7 +31,7 @@ fn note_next(
     Ok(Said::Ended)
 }
 
-fn note_request(request: Request, notes: &mut Vec<u8>) -> Result<(), Fail> {
+fn note_request(request: Request, notes: &mut Vec<u8>) -> Result<(), AllocError> {
     notes.extend_from_slice(request.method.as_bytes())?;
     notes.push(b' ')?;
     notes.extend_from_slice(request.path.as_bytes())?;
@@ -44,13 +46,17 @@ fn note_request(request: Request, notes: &mut Vec<u8>) -> Result<(), Fail> {
 }
 
 /// A source of these bytes, whose read of this number fails.
-fn source_of(rt: &HostRuntime, bytes: &[u8], fail: u64) -> Result<MemorySource, Fail> {
+fn source_of(rt: &HostRuntime, bytes: &[u8], fail: u64) -> Result<MemorySource, AllocError> {
     let bytes = Vec::from_slice(rt.alloc(), bytes)?;
     Ok(MemorySource::new(bytes, vec![in rt.alloc(); fail; 1]?))
 }
 
 /// Notes what stands in a source.
-fn note_all(room: &mut Room, source: &mut MemorySource, notes: &mut Vec<u8>) -> Result<Said, Fail> {
+fn note_all(
+    room: &mut Room,
+    source: &mut MemorySource,
+    notes: &mut Vec<u8>,
+) -> Result<Said, AllocError> {
     let mut said = Said::More;
     for _ in 0..9 {
         if said == Said::More {
@@ -67,7 +73,7 @@ fn note_part(
     part: &[u8],
     is_last: bool,
     notes: &mut Vec<u8>,
-) -> Result<Said, Fail> {
+) -> Result<Said, AllocError> {
     let failing = if part.is_empty() { 1 } else { 2 };
     let fail = if is_last { 9 } else { failing };
     let mut source = source_of(rt, part, fail)?;
@@ -80,7 +86,7 @@ fn note_parts(
     room: &mut Room,
     parts: &[&[u8]],
     notes: &mut Vec<u8>,
-) -> Result<(), Fail> {
+) -> Result<(), AllocError> {
     let mut said = Said::Failed;
     for part in parts {
         if said != Said::Ended {
@@ -94,7 +100,7 @@ fn note_parts(
 }
 
 /// Whether the input gives these notes as it is read in these parts.
-fn are_parts_read_so(rt: &HostRuntime, parts: &[&[u8]], want: &str) -> Result<bool, Fail> {
+fn are_parts_read_so(rt: &HostRuntime, parts: &[&[u8]], want: &str) -> Result<bool, Memory> {
     let mut room = Room::new(rt.alloc())?;
     let mut notes = Vec::new(rt.alloc());
     note_parts(rt, &mut room, parts, &mut notes)?;
@@ -102,17 +108,19 @@ fn are_parts_read_so(rt: &HostRuntime, parts: &[&[u8]], want: &str) -> Result<bo
 }
 
 /// Whether the input gives these notes as it is read byte by byte.
-fn is_read_by_bytes(rt: &HostRuntime, input: &[u8], want: &str) -> Result<bool, Fail> {
+fn is_read_by_bytes(rt: &HostRuntime, input: &[u8], want: &str) -> Result<bool, Memory> {
     let mut single = Vec::new(rt.alloc());
     for byte in input.chunks(1) {
-        single.push(byte)?;
+        if single.push(byte).is_err() {
+            return Err(Memory);
+        }
     }
     are_parts_read_so(rt, single.as_slice(), want)
 }
 
 /// Whether the input gives these notes as it is cut in two at each place, and as it is read byte by byte.
 /// Input of more than 1,000 bytes is not read byte by byte.
-fn is_read_so(rt: &HostRuntime, input: &[u8], want: &str) -> Result<bool, Fail> {
+fn is_read_so(rt: &HostRuntime, input: &[u8], want: &str) -> Result<bool, Memory> {
     for cut in 0..=input.len() {
         if !are_parts_read_so(rt, &[&input[..cut], &input[cut..]], want)? {
             return Ok(false);
@@ -187,17 +195,15 @@ const REQUESTS: [InputRow; 15] = [
 ];
 
 /// Whether a row's input is read as it says.
-fn is_row_read_so(rt: &HostRuntime, row: &InputRow) -> Result<bool, Fail> {
+fn is_row_read_so(rt: &HostRuntime, row: &InputRow) -> Result<bool, Memory> {
     is_read_so(rt, row.1.as_bytes(), row.2)
 }
 
 #[test]
-fn requests_are_the_same_however_they_are_cut(rt: HostRuntime) -> Result<(), Fail> {
+fn requests_are_the_same_however_they_are_cut(rt: HostRuntime) {
     for row in &REQUESTS {
-        let is_so = is_row_read_so(&rt, row)?;
-        assert!(rt; is_so, "{}", row.0);
+        check_found(&rt, is_row_read_so(&rt, row), row.0);
     }
-    Ok(())
 }
 
 /// A row: a sentence and a head.
@@ -240,15 +246,16 @@ const REFUSED: [HeadRow; 17] = [
 ];
 
 #[test]
-fn heads_outside_the_grammar_are_refused(rt: HostRuntime) -> Result<(), Fail> {
+fn heads_outside_the_grammar_are_refused(rt: HostRuntime) {
     for row in &REFUSED {
-        let is_refused = is_read_so(&rt, row.1.as_bytes(), "bad head")?;
-        assert!(rt; is_refused, "{}", row.0);
+        check_found(&rt, is_read_so(&rt, row.1.as_bytes(), "bad head"), row.0);
     }
     let no_text = b"GET /\xff HTTP/1.1\r\n\r\n";
-    let is_refused = is_read_so(&rt, no_text, "bad head")?;
-    assert!(rt; is_refused, "a target that is no text");
-    Ok(())
+    check_found(
+        &rt,
+        is_read_so(&rt, no_text, "bad head"),
+        "a target that is no text",
+    );
 }
 
 /// Fields of a request with the body `x`.
@@ -328,21 +335,18 @@ const FIELDS: [InputRow; 16] = [
 ];
 
 /// Whether a request with a row's fields is read as it says.
-fn is_field_read_so(rt: &HostRuntime, row: &InputRow) -> Result<bool, Fail> {
+fn is_field_read_so(rt: &HostRuntime, row: &InputRow) -> Result<bool, Memory> {
     let input = repeated(rt, "POST / HTTP/1.1\r\n", row.1, 1, "\r\n\r\nx")?;
     is_read_so(rt, input.as_slice(), row.2)
 }
 
 #[test]
-fn fields_say_the_length_and_the_end(rt: HostRuntime) -> Result<(), Fail> {
+fn fields_say_the_length_and_the_end(rt: HostRuntime) {
     for row in &FIELDS {
-        let is_so = is_field_read_so(&rt, row)?;
-        assert!(rt; is_so, "{}", row.0);
+        check_found(&rt, is_field_read_so(&rt, row), row.0);
     }
     let old = b"GET / HTTP/1.0\r\nConnection: keep-alive\r\n\r\n";
-    let ends = is_read_so(&rt, old, "GET / .end")?;
-    assert!(rt; ends, "version 1.0");
-    Ok(())
+    check_found(&rt, is_read_so(&rt, old, "GET / .end"), "version 1.0");
 }
 
 /// Two requests of curl, one each of Python's http.client, of Go and of a browser.
@@ -381,12 +385,10 @@ const CLIENTS: [InputRow; 5] = [
 ];
 
 #[test]
-fn heads_of_clients_are_read(rt: HostRuntime) -> Result<(), Fail> {
+fn heads_of_clients_are_read(rt: HostRuntime) {
     for row in &CLIENTS {
-        let is_so = is_row_read_so(&rt, row)?;
-        assert!(rt; is_so, "{}", row.0);
+        check_found(&rt, is_row_read_so(&rt, row), row.0);
     }
-    Ok(())
 }
 
 /// So many times a text, between two others.
@@ -396,7 +398,7 @@ fn repeated(
     text: &str,
     count: usize,
     back: &str,
-) -> Result<Vec<u8>, Fail> {
+) -> Result<Vec<u8>, AllocError> {
     let mut bytes = Vec::from_slice(rt.alloc(), front.as_bytes())?;
     for _ in 0..count {
         bytes.extend_from_slice(text.as_bytes())?;
@@ -500,32 +502,28 @@ const SIZES: [SizeRow; 10] = [
 ];
 
 /// Whether the head of a row is read as it says.
-fn is_size_read_so(rt: &HostRuntime, row: &SizeRow) -> Result<bool, Fail> {
+fn is_size_read_so(rt: &HostRuntime, row: &SizeRow) -> Result<bool, Memory> {
     let input = repeated(rt, row.1, row.2, row.3, row.4)?;
     is_read_so(rt, input.as_slice(), row.5)
 }
 
 #[test]
-fn heads_have_a_greatest_size(rt: HostRuntime) -> Result<(), Fail> {
+fn heads_have_a_greatest_size(rt: HostRuntime) {
     for row in &SIZES {
-        let is_so = is_size_read_so(&rt, row)?;
-        assert!(rt; is_so, "{}", row.0);
+        check_found(&rt, is_size_read_so(&rt, row), row.0);
     }
-    Ok(())
 }
 
 #[test]
-fn a_room_is_cleared(rt: HostRuntime) -> Result<(), Fail> {
+fn a_room_is_cleared(rt: HostRuntime) {
     let text = b"POST /jobs HTTP/1.1\r\nContent-Length: 1\r\n\r\nxPOST";
-    let bytes = Vec::from_slice(rt.alloc(), text)?;
-    let mut source = MemorySource::new(bytes, Vec::new(rt.alloc()));
-    let mut room = Room::new(rt.alloc())?;
-    assert!(rt; room.load(&mut source) == Ok(true), "a request is there");
+    let mut source = must(&rt, source_of(&rt, text, 9), "there is memory");
+    let mut room = must(&rt, Room::new(rt.alloc()), "there is room");
+    let is_there = room.load(&mut source) == Ok(true);
+    check(&rt, is_there, "a request is there");
     room.clear();
-    assert!(rt; room.request().body == b"x".as_slice(), "its body stays");
-    assert!(rt;
-        room.load(&mut source) == Ok(false),
-        "what came behind it is gone"
-    );
-    Ok(())
+    let has_body = room.request().body == b"x".as_slice();
+    check(&rt, has_body, "its body stays");
+    let is_gone = room.load(&mut source) == Ok(false);
+    check(&rt, is_gone, "what came behind it is gone");
 }

@@ -1,30 +1,31 @@
 //! Of `fts_wire`, its sources and sinks over a reader and a writer: what comes of those that fail and tell nothing, and of a source that is read to its end.
 ghost use Rattle.std.specs.Prelude.{◌≡◌, IfOk};
 
+use crate::checks::{check, check_found, must};
 use fts_wire::{
     MemorySource, ReadAllFault, Sink, SinkFailed, Source, SourceFailed, StdSink, StdSource,
     read_all,
 };
+use std::alloc::AllocError;
 use std::collections::VecDeque;
 use std::io;
 use std::io::{Read, Write};
-use std::test::Fail;
 
 #[test]
-fn a_reader_and_a_writer_are_a_source_and_a_sink(rt: HostRuntime) -> Result<(), Fail> {
+fn a_reader_and_a_writer_are_a_source_and_a_sink(rt: HostRuntime) {
     let mut queue = VecDeque::new(rt.alloc());
-    queue.push_back(7)?;
+    must(&rt, queue.push_back(7), "there is memory");
     let mut source = StdSource::new(queue);
     let mut into = [0; 4];
     let is_read = source.read(&mut into) == Ok(1) && into[0] == 7;
-    assert!(rt; is_read, "the reader's one byte");
-    assert!(rt; source.read(&mut into) == Ok(0), "its end");
+    check(&rt, is_read, "the reader's one byte");
+    check(&rt, source.read(&mut into) == Ok(0), "its end");
     let mut sink = StdSink::new(VecDeque::new(rt.alloc()));
-    assert!(rt;
+    check(
+        &rt,
         sink.write(&[1, 2, 3]) == Ok(3),
-        "three bytes for the writer"
+        "three bytes for the writer",
     );
-    Ok(())
 }
 
 /// A reader and a writer whose first call fails, and whose later ones have nothing to give and take nothing.
@@ -62,18 +63,17 @@ impl Write for FailsAtFirst {
 }
 
 #[test]
-fn a_reader_and_a_writer_that_fail_are_heard(rt: HostRuntime) -> Result<(), Fail> {
+fn a_reader_and_a_writer_that_fail_are_heard(rt: HostRuntime) {
     let mut source = StdSource::new(FailsAtFirst { has_failed: false });
     let has_failed = source.read(&mut [0; 4]) == Err(SourceFailed);
-    assert!(rt; has_failed, "a failed read");
+    check(&rt, has_failed, "a failed read");
     assert!(rt; source.read(&mut [0; 4]) == Ok(0), "the end behind it");
     let mut sink = StdSink::new(FailsAtFirst { has_failed: false });
     let has_failed = sink.write(&[1, 2, 3]) == Err(SinkFailed);
-    assert!(rt; has_failed, "a failed write");
+    check(&rt, has_failed, "a failed write");
     let has_failed = sink.write(&[1, 2, 3]) == Err(SinkFailed);
-    assert!(rt; has_failed, "a write that takes nothing");
-    assert!(rt; sink.write(&[]) == Ok(0), "nothing to take");
-    Ok(())
+    check(&rt, has_failed, "a write that takes nothing");
+    check(&rt, sink.write(&[]) == Ok(0), "nothing to take");
 }
 
 /// A row: a sentence, how many bytes a source has, the limit, the read that fails, and how many bytes are read.
@@ -119,17 +119,15 @@ fn count_of(
 }
 
 /// Whether a source is read to its end as a row says.
-fn is_end_read_so(rt: &HostRuntime, row: &EndRow) -> Result<bool, Fail> {
+fn is_end_read_so(rt: &HostRuntime, row: &EndRow) -> Result<bool, AllocError> {
     let bytes = vec![in rt.alloc(); b'a'; row.1]?;
     let mut source = MemorySource::new(bytes, vec![in rt.alloc(); row.3; 1]?);
     Ok(count_of(rt, &mut source, row.2) == row.4)
 }
 
 #[test]
-fn a_source_is_read_to_its_end(rt: HostRuntime) -> Result<(), Fail> {
+fn a_source_is_read_to_its_end(rt: HostRuntime) {
     for row in &ENDS {
-        let is_so = is_end_read_so(&rt, row)?;
-        assert!(rt; is_so, "{}", row.0);
+        check_found(&rt, is_end_read_so(&rt, row), row.0);
     }
-    Ok(())
 }

@@ -3,14 +3,15 @@
 ghost use Rattle.std.specs.Prelude.{◌≡◌, IfOk, IsTrue};
 ghost use Rattle.fts_wire.specs.Response.{has_phrase, has_methods};
 
+use crate::checks::check_found;
 use fts_tables::Items;
 use fts_wire::{
     Allow, MemoryLine, MemorySink, MemorySource, Reply, Sink, SinkFailed, write_response,
 };
-use std::test::Fail;
+use std::alloc::AllocError;
 
 /// A reply of this status.
-fn reply_of(rt: &HostRuntime, status: u16, allow: Allow, body: &[u8]) -> Result<Reply, Fail>
+fn reply_of(rt: &HostRuntime, status: u16, allow: Allow, body: &[u8]) -> Result<Reply, AllocError>
     ensures { IfOk result (λ r. (r.status ≡ status) × (r.allow ≡ allow)) }
 {
     let body = Items::from_vec(Vec::from_slice(rt.alloc(), body)?);
@@ -29,7 +30,7 @@ fn is_response(
     head_only: bool,
     close: bool,
     want: &str,
-) -> Result<bool, Fail>
+) -> Result<bool, AllocError>
     requires phrase { IsTrue (has_phrase status) }
     requires methods { IsTrue (has_methods status allow) }
 {
@@ -40,26 +41,40 @@ fn is_response(
 }
 
 #[test]
-fn responses_have_the_bytes_of_the_standard(rt: HostRuntime) -> Result<(), Fail> {
+fn responses_have_the_bytes_of_the_standard(rt: HostRuntime) {
     let want = "HTTP/1.1 200 OK\r\nContent-Type: application/json\r\nContent-Length: 2\r\n\r\n{}";
-    let is_so = is_response(&rt, 200, Allow::None, false, false, want)?;
-    assert!(rt; is_so, "a reply");
+    check_found(
+        &rt,
+        is_response(&rt, 200, Allow::None, false, false, want),
+        "a reply",
+    );
     let want = "HTTP/1.1 200 OK\r\nContent-Type: application/json\r\nContent-Length: 0\r\n\r\n";
-    let is_so = is_response(&rt, 200, Allow::None, true, false, want)?;
-    assert!(rt; is_so, "a reply to HEAD");
+    check_found(
+        &rt,
+        is_response(&rt, 200, Allow::None, true, false, want),
+        "a reply to HEAD",
+    );
     let want =
         "HTTP/1.1 501 Not Implemented\r\nContent-Type: application/json\r\nContent-Length: 2\r\nConnection: close\r\n\r\n{}";
-    let is_so = is_response(&rt, 501, Allow::None, false, true, want)?;
-    assert!(rt; is_so, "the last reply");
+    check_found(
+        &rt,
+        is_response(&rt, 501, Allow::None, false, true, want),
+        "the last reply",
+    );
     let want =
         "HTTP/1.1 405 Method Not Allowed\r\nContent-Type: application/json\r\nContent-Length: 2\r\nAllow: GET, POST, PUT\r\nConnection: close\r\n\r\n{}";
-    let is_so = is_response(&rt, 405, Allow::Jobs, false, true, want)?;
-    assert!(rt; is_so, "a refusal of a method");
+    check_found(
+        &rt,
+        is_response(&rt, 405, Allow::Jobs, false, true, want),
+        "a refusal of a method",
+    );
     let want =
         "HTTP/1.1 507 Insufficient Storage\r\nContent-Type: application/json\r\nContent-Length: 2\r\n\r\n{}";
-    let is_so = is_response(&rt, 507, Allow::Job, false, false, want)?;
-    assert!(rt; is_so, "methods at another status");
-    Ok(())
+    check_found(
+        &rt,
+        is_response(&rt, 507, Allow::Job, false, false, want),
+        "methods at another status",
+    );
 }
 
 /// A writer that notes how long each piece is that it is handed, and takes all of it.
@@ -100,7 +115,7 @@ const PIECES: [PieceRow; 6] = [
 ];
 
 /// Whether a response goes out in the pieces of a row.
-fn is_sent_in(rt: &HostRuntime, row: &PieceRow) -> Result<bool, Fail> {
+fn is_sent_in(rt: &HostRuntime, row: &PieceRow) -> Result<bool, AllocError> {
     let body = vec![in rt.alloc(); b' '; row.1]?;
     let reply = reply_of(rt, 200, Allow::None, body.as_slice())?;
     let mut sink = PieceLengths {
@@ -111,12 +126,10 @@ fn is_sent_in(rt: &HostRuntime, row: &PieceRow) -> Result<bool, Fail> {
 }
 
 #[test]
-fn a_response_goes_out_in_few_pieces(rt: HostRuntime) -> Result<(), Fail> {
+fn a_response_goes_out_in_few_pieces(rt: HostRuntime) {
     for row in &PIECES {
-        let is_so = is_sent_in(&rt, row)?;
-        assert!(rt; is_so, "{}", row.0);
+        check_found(&rt, is_sent_in(&rt, row), row.0);
     }
-    Ok(())
 }
 
 /// A row: a sentence, the write that fails, whether the response is whole, and how many of its bytes are written.
@@ -129,14 +142,14 @@ const WRITES: [WriteRow; 3] = [
 ];
 
 /// A line whose write of this number fails.
-fn line_of(rt: &HostRuntime, fail: u64) -> Result<MemoryLine, Fail> {
+fn line_of(rt: &HostRuntime, fail: u64) -> Result<MemoryLine, AllocError> {
     let fails = vec![in rt.alloc(); fail; 1]?;
     let source = MemorySource::new(Vec::new(rt.alloc()), Vec::new(rt.alloc()));
     Ok(MemoryLine::new(source, MemorySink::new(rt.alloc(), fails)))
 }
 
 /// Whether a large response is written as a row says.
-fn is_written_so(rt: &HostRuntime, row: &WriteRow) -> Result<bool, Fail> {
+fn is_written_so(rt: &HostRuntime, row: &WriteRow) -> Result<bool, AllocError> {
     let mut line = line_of(rt, row.1)?;
     let body = vec![in rt.alloc(); b' '; 70_000]?;
     let reply = reply_of(rt, 200, Allow::None, body.as_slice())?;
@@ -145,10 +158,8 @@ fn is_written_so(rt: &HostRuntime, row: &WriteRow) -> Result<bool, Fail> {
 }
 
 #[test]
-fn each_write_of_a_line_fails_in_turn(rt: HostRuntime) -> Result<(), Fail> {
+fn each_write_of_a_line_fails_in_turn(rt: HostRuntime) {
     for row in &WRITES {
-        let is_so = is_written_so(&rt, row)?;
-        assert!(rt; is_so, "{}", row.0);
+        check_found(&rt, is_written_so(&rt, row), row.0);
     }
-    Ok(())
 }
