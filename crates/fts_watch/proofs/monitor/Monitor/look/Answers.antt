@@ -1,7 +1,7 @@
 -- Step after step, and the journal's end ends them.
 use Rattle.std.proofs.Common.{arith}
-use Rattle.fts_monitor.proofs.Folds.{goes_further, looks_further}
-use Rattle.fts_monitor.proofs.monitor.Monitor.look.Goals as goal
+use Rattle.fts_watch.proofs.Folds.{goes_further, looks_further}
+use Rattle.fts_watch.proofs.monitor.Monitor.look.Goals as goal
 
 pub returns-in_err-step-clause-goes_on : goal.returns-in_err-step-clause-goes_on
 returns-in_err-step-clause-goes_on g c = goes_further g.D.Disk.state c.args.self.now c.bodies.self c.step.new.self c.bodies.invariant.goes_on c.step.ensures.goes_on

@@ -2,7 +2,7 @@ use Rattle.std.proofs.Common.{subst, Err, rules}
 use Rattle.fts_record.specs.Answers.{Tells}
 use Rattle.fts_record.specs.Reading.{entry_in}
 use Rattle.fts_keep.proofs.Damaged.{place_inside}
-use Rattle.fts_monitor.proofs.monitor.take_entry.Goals as goal
+use Rattle.fts_watch.proofs.monitor.take_entry.Goals as goal
 
 pub overflow_add-offset-in-Err-BadEntry : goal.overflow_add-offset-in-Err-BadEntry
 overflow_add-offset-in-Err-BadEntry c =

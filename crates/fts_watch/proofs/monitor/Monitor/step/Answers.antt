@@ -1,9 +1,9 @@
 -- The lists that a monitor may be of go on by the entry that was done, or by nothing.
 use Rattle.std.proofs.Common.{◌<◌, refl, subst}
 use Rattle.fts_tables.specs.declared.limits.TheConstants.{JOURNAL_END}
-use Rattle.fts_monitor.specs.Monitor.{MonitorData, GoesOn}
-use Rattle.fts_monitor.proofs.Folds.{few_entries, looked_on, took_on, monitor_still, view_of}
-use Rattle.fts_monitor.proofs.monitor.Monitor.step.Goals as goal
+use Rattle.fts_watch.specs.Monitor.{MonitorData, GoesOn}
+use Rattle.fts_watch.proofs.Folds.{few_entries, looked_on, took_on, monitor_still, view_of}
+use Rattle.fts_watch.proofs.monitor.Monitor.step.Goals as goal
 
 pub returns-in_err-look-clause-goes_on : goal.returns-in_err-look-clause-goes_on
 returns-in_err-look-clause-goes_on g c =

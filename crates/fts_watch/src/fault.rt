@@ -1,6 +1,6 @@
 //! What a call of a monitor answers where it isn't done.
 ghost use Rattle.std.specs.Prelude.{◌≡◌};
-ghost use Rattle.fts_monitor.specs.Faults.{fault_of};
+ghost use Rattle.fts_watch.specs.Faults.{fault_of};
 
 use fts_tail::TailFault;
 

@@ -1,7 +1,7 @@
 use Rattle.std.proofs.Common.{◌-◌}
 use Rattle.fts_tables.specs.declared.limits.TheConstants.{JOURNAL_END}
-use Rattle.fts_monitor.specs.Monitor.{GoesOn, OnlyLooks}
-use Rattle.fts_monitor.proofs.monitor.Monitor.look.Given as goal
+use Rattle.fts_watch.specs.Monitor.{GoesOn, OnlyLooks}
+use Rattle.fts_watch.proofs.monitor.Monitor.look.Given as goal
 
 abbrev pub invariant-bodies : goal.invariant-bodies
 invariant-bodies g l = record {

@@ -3,7 +3,7 @@
 //! Order: a look takes the bodies behind the gate one by one: each is read, done by the desk, and only then passed. So where it stops, what was folded
 //! stays on view, and the next look goes on from there.
 ghost use Rattle.std.specs.Prelude.{◌≡◌, ◌<◌, ◌+◌, ◌^◌, OnOk, OnErr};
-ghost use Rattle.fts_monitor.specs.Monitor.{Takes};
+ghost use Rattle.fts_watch.specs.Monitor.{Takes};
 
 use crate::MonitorFault;
 use fts_desk::{Desk, DeskFault};
@@ -33,7 +33,7 @@ impl<D: Disk + Drop> Drop for Monitor<D> {
 }
 
 impl<D: Disk> Model for Monitor<D> {
-    ghost use Rattle.fts_monitor.specs.Monitor.{MonitorData, IsMonitor};
+    ghost use Rattle.fts_watch.specs.Monitor.{MonitorData, IsMonitor};
 
     ghost Value = { MonitorData D };
 
@@ -45,7 +45,7 @@ impl<D: Disk> Model for Monitor<D> {
 impl<D: Disk> Monitor<D> {
     ghost use Rattle.std.specs.Prelude.{◌≡◌, ◌<◌, [], true, false, IfOk, IfErr, OnOk, MatchResult};
     ghost use Rattle.fts_tables.specs.declared.limits.TheConstants.{JOURNAL_END};
-    ghost use Rattle.fts_monitor.specs.Monitor.{IsFoldOf, IsMonitor, GoesOn, IsAll, OnlyLooks, LookFault, OpenFault};
+    ghost use Rattle.fts_watch.specs.Monitor.{IsFoldOf, IsMonitor, GoesOn, IsAll, OnlyLooks, LookFault, OpenFault};
 
     /// A monitor of a journal, of which no entry was folded. Gives the disk back where there is none.
     pub fn open(alloc: Global, disk: D) -> Result<Monitor<D>, (MonitorFault, D)>

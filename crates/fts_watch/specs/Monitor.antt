@@ -15,8 +15,8 @@ use Rattle.fts_journal.specs.Loading.{IsNotJournal, IsCut, IsQuiet}
 use Rattle.fts_keep.specs.Keeps.{bodies_of, used_of}
 use Rattle.fts_keep.specs.Damage.{IsWhole, fault_at}
 use Rattle.fts_tail.specs.Tail.{HasPassed}
-use Rattle.fts_monitor.specs.declared.fault.MonitorFault.{MonitorFault}
-use Rattle.fts_monitor.specs.declared.fault.MonitorFault.TheVariants.{DiskFailed, Damaged, Changed, Memory}
+use Rattle.fts_watch.specs.declared.fault.MonitorFault.{MonitorFault}
+use Rattle.fts_watch.specs.declared.fault.MonitorFault.TheVariants.{DiskFailed, Damaged, Changed, Memory}
 
 -- what contracts see of a monitor: the tables, how many entries made them, the offset of the gate behind the last of these, and the disk
 pub record MonitorData (D : Type 0) : Type 0 where

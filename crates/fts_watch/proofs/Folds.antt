@@ -23,10 +23,10 @@ use Rattle.fts_tail.proofs.Quiet.{quiet_quiet}
 use Rattle.fts_tail.specs.declared.fault.TailFault.{TailFault}
 use Rattle.fts_tail.specs.declared.fault.TailFault.TheVariants.{DiskFailed, NotJournal, Cut, Changed, Memory}
 use Rattle.fts_tail.proofs.Passed.{used_more}
-use Rattle.fts_monitor.specs.Faults.{fault_of}
-use Rattle.fts_monitor.specs.Monitor.{MonitorData, IsFoldOf, IsMonitor, GoesOn, IsAll, OnlyLooks, LookFault, TakesEntry, Takes}
-use Rattle.fts_monitor.specs.declared.fault.MonitorFault.{MonitorFault}
-use Rattle.fts_monitor.specs.declared.fault.MonitorFault.TheVariants.{DiskFailed as MonitorDiskFailed, Damaged, Changed as MonitorChanged, Memory as MonitorMemory}
+use Rattle.fts_watch.specs.Faults.{fault_of}
+use Rattle.fts_watch.specs.Monitor.{MonitorData, IsFoldOf, IsMonitor, GoesOn, IsAll, OnlyLooks, LookFault, TakesEntry, Takes}
+use Rattle.fts_watch.specs.declared.fault.MonitorFault.{MonitorFault}
+use Rattle.fts_watch.specs.declared.fault.MonitorFault.TheVariants.{DiskFailed as MonitorDiskFailed, Damaged, Changed as MonitorChanged, Memory as MonitorMemory}
 
 -- each body takes six bytes at least
 least_used : (bodies : List (List ℕ)) → All IsBody bodies → (before : List (List ℕ)) → used_by before + 6 * length bodies ≤ used_by (before ++ bodies)
