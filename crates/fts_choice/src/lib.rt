@@ -2,7 +2,6 @@
 //! Each answer is a place in the lists at hand, and None exactly where there is none. Nothing here is kept, and no call takes memory.
 //! `draws_by_weight` is the law of the draw: of the numbers below the sum of the weights that take part, each activity has exactly its weight.
 //! The machine's own words are in `fts_tables/specs/Choice.antt`; `specs/` here says them for places.
-//! A claim calls `draw` (`fts_claims`), the desk `next_alternative` and `next_hop`. `pick_link` is called by tests alone.
 #![tactic(auto)]
 
 mod alternatives;

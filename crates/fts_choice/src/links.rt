@@ -1,5 +1,5 @@
-//! Which link a claim takes its file from, given all links in order with what each holds. It is for whoever keeps such a list, and tests alone call it.
-//! A claim keeps none: it finds its link by a look at each queue (`fts_claims`), to the same end (`picked_links_are_the_claims`).
+//! Which link a claim takes its file from, given all links in order with what each holds. It is for whoever keeps such a list.
+//! `picked_links_are_the_claims`: it is the link of the machine's own claim.
 ghost use Rattle.std.specs.Prelude.{
   ◌≡◌,
   ◌↔◌,
