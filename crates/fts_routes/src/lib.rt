@@ -24,6 +24,9 @@ mod texts;
 
 pub use answers::{answer, answer_read};
 pub use bodies::{ReadBody, read_body};
+pub use named::{job_named, state_of};
+pub use objects::{Shown, array_value, body_of, job_value};
 pub use paths::Routes;
+pub use queries::{bytes_of, first_value, number_in};
 pub use replies::refusal_reply;
-pub use texts::{file_state_text, job_state_text, kind_text};
+pub use texts::{file_state_text, job_state_text, kind_text, reason_text};
