@@ -14,8 +14,8 @@ ghost use Rattle.fts_words.specs.Words.{asked_in};
 ghost use Rattle.fts.specs.CommandLine.{stand_of, words_of, asks_service, exit_status_of, LooksAtMost, DeletesNothing};
 
 use fts_devices::{
-    LinkLimits, OpenedFile, StopFile, SystemClock, TcpLink, can_begin, closed_doors, hands_over,
-    lanes_over,
+    LinkLimits, OpenedFile, StopFile, SystemClock, TcpLink, can_begin, closed_doors, command_line,
+    hands_over, lanes_over,
 };
 use fts_disk::{Disk, FileDisk, MemoryDisk, SystemDisk};
 use fts_files::{FileSystem, SystemFiles};
@@ -29,7 +29,6 @@ use fts_workers::{Gate, NoGate};
 use std::process::ExitCode;
 use std::sync::Wait;
 use std::thread::Threads;
-use std::{env, io};
 
 /// The settings of the stand `-`.
 const STAND_SETTINGS: &str =
@@ -37,22 +36,6 @@ const STAND_SETTINGS: &str =
 
 /// How many hands a run has.
 const HANDS: usize = MAX_WORKERS as usize;
-
-/// The words of the command line, with the program's name first; none where one of them is no UTF-8.
-fn command_line(rt: &HostRuntime) -> Result<Vec<String>, Memory> {
-    let mut line = Vec::new(rt.alloc());
-    let args = match env::args(rt) {
-        Ok(args) => args,
-        Err(e) if e.kind() == io::ErrorKind::OutOfMemory => return Err(Memory),
-        Err(_) => return Ok(line),
-    };
-    for word in args {
-        if line.push(word).is_err() {
-            return Err(Memory);
-        }
-    }
-    Ok(line)
-}
 
 /// The stand that a command line names.
 fn stand(line: &[String]) -> &str

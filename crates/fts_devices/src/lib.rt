@@ -1,12 +1,13 @@
 //! The real devices, as the service sees them: the system's clock, words by PCG, the file of a folder's settings, doors of a port of 127.0.0.1 with
-//! their lines, a client's link to such a port, the file that stops a service, whether threads can be begun, and the hands and lanes that are made of
-//! them.
+//! their lines, a client's link to such a port, the file that stops a service, whether threads can be begun, a program's command line, and the hands and lanes that
+//! are made of them.
 //! Keeps: each device counts its failures at the call that answers them, and tells nothing of contents. What doors and lines decide by an answer of the
 //! system is one function each, with an equation over the system's own numbers (`specs/Steps.antt`); the loops over sockets carry it out.
 //! Files, folders, disks and streams are not here: they are `fts_files`', `fts_store`'s, `fts_disk`'s and `fts_wire`'s.
 #![tactic(auto)]
 
 mod accepting;
+mod command_line;
 mod hands;
 mod lanes;
 mod outside;
@@ -19,6 +20,7 @@ mod tcp_link;
 mod threads;
 
 pub use accepting::{Listens, next_line};
+pub use command_line::command_line;
 pub use hands::{SystemHand, hands_over};
 pub use lanes::{SystemLane, closed_doors, lanes_over};
 pub use outside::{OpenedFile, PcgWords, SystemClock};

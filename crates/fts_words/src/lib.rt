@@ -5,10 +5,12 @@
 #![tactic(auto)]
 
 mod asked;
+mod numbers;
 mod options;
 mod parser;
 mod reader;
 
 pub use asked::Asked;
+pub use numbers::number_of;
 pub use parser::take_words;
 pub use reader::read_words;

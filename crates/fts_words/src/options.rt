@@ -1,17 +1,14 @@
 //! One option of a command, and the options that were given so far, each at most once (`specs/Words.antt`).
 //! A value is read as 1 to 20 decimal digits; a number that no `u64` holds is in no range. That of `--job` is read as the text of a UUID.
 ghost use Rattle.std.specs.Prelude.{◌≡◌, List, [], ◌∷◌, ◌++◌, Option, Some, None, if◌then◌else◌, ◌&&◌, nat_le, length, IfSome, is_some, option_and_then};
-ghost use Rattle.std.specs.List.{list_all, list_any};
-ghost use Rattle.fts_tables.specs.Names.{is_digit};
+ghost use Rattle.std.specs.List.{list_any};
 ghost use Rattle.fts_words.specs.Words.{option_of, given_by, given_to_client, names_job, job_named, number_of, numbers_of, is_same_option, asked_with, command_of};
 
 use crate::Asked;
 use crate::asked::Command;
+use crate::numbers::number_of;
 use fts_tables::limits::MAX_LANES;
 use uuid::Uuid;
-
-/// The most decimal digits of a value.
-const MAX_DIGITS: usize = 20;
 
 /// How many lanes there are where none are named.
 const DEFAULT_LANES: u32 = 4;
@@ -71,20 +68,10 @@ fn of_id(value: &str) -> Option<Given>
 fn of_number(command: Command, name: &str, value: &str) -> Option<Given>
     ensures { result ≡ option_and_then (given_by command name.now) (number_of value.now) }
 {
-    let bytes = value.as_bytes();
-    if bytes.is_empty() || bytes.len() > MAX_DIGITS || !are_digits(bytes) {
-        return None;
+    match number_of(value) {
+        Some(number) => by_name(command, name, number),
+        None => None,
     }
-    match value.parse() {
-        Ok(number) => by_name(command, name, number),
-        Err(_) => None,
-    }
-}
-
-fn are_digits(bytes: &[u8]) -> bool
-    ensures { result ≡ list_all is_digit bytes.now }
-{
-    bytes.iter().all(|byte| 0x30 <= *byte && *byte <= 0x39)
 }
 
 /// The option of a command by its name, with a number in its range.

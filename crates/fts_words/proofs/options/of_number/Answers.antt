@@ -1,12 +1,7 @@
--- Digits alone are read as their number; where no `u64` holds it, it is in no range.
-use Rattle.std.proofs.Common.{◌≡◌, ℕ, ◌≤◌, ◌<◌, ◌^◌, Bool, true, false, if◌then◌else◌, List, length, Option, Some, None, Ok, refl, ◌∙◌, ap, sym, rules, arith}
-use Rattle.std.specs.Prelude.{bytes_eq, codes, option_and_then}
-use Rattle.std.specs.List.{list_all}
-use Rattle.std.specs.Str.Parse.{digits_value}
-use Rattle.std.proofs.lemmas.Bool.{eqb-false}
+-- A value whose number no `u64` holds is in no range.
+use Rattle.std.proofs.Common.{◌≡◌, ℕ, ◌<◌, Bool, true, false, if◌then◌else◌, List, Option, Some, None, refl, ◌∙◌, ap, sym, arith}
+use Rattle.std.specs.Prelude.{IfSome, bytes_eq, codes, option_and_then}
 use Rattle.std.proofs.lemmas.Bool.Decides.{nat_tests}
-use Rattle.std.proofs.lemmas.Str.Parse.{IsNumeralModel, numerals_by_value, parse_gives}
-use Rattle.fts_tables.specs.Names.{is_digit}
 use Rattle.fts_words.specs.Words.{number_of, within, given_by, given_to_client}
 use Rattle.fts_words.specs.declared.asked.Command.{Command}
 use Rattle.fts_words.specs.declared.asked.Command.TheVariants.{Session, Show, Load, Serve, Submit, Query, Delete, Follow}
@@ -14,12 +9,6 @@ use Rattle.fts_words.specs.declared.options.Given.{Given}
 use Rattle.fts_words.specs.declared.options.Given.TheVariants.{Port, Lanes, Connections, Number, Tries}
 use Rattle.fts_words.proofs.options.of_number.Goals as goal
 use Rattle.fts_tables.specs.declared.limits.TheConstants.{MAX_LANES}
-
-own : IsNumeralModel (λ (ds : List ℕ). list_all is_digit ds ≡ true) (digits_value 10)
-own = numerals_by_value (λ (ds : List ℕ). list_all is_digit ds ≡ true) (search rules)
-
-number-there : (value : List ℕ) → 1 ≤ length value → length value ≤ 20 → list_all is_digit value ≡ true → number_of value ≡ Some (digits_value 10 value)
-number-there value some short digits = grind (arith, nat_tests)
 
 above : (low high : ℕ) (given : ℕ → Given) (number : ℕ) → high < number → within low high given number ≡ None
 above low high given number over = grind (arith, nat_tests)
@@ -47,14 +36,14 @@ in-no-range Query name number over = client-in-no-range name number over
 in-no-range Delete name number over = refl
 in-no-range Follow name number over = client-in-no-range name number over
 
-pub returns-in-Err : goal.returns-in-Err
-returns-in-Err c =
-    let some = eqb-false (length c.as_bytes-bytes.result.now) 0 (sym c.is_empty.ensures ∙ c.if-is_empty.false) in
-    let same : length c.args.value.now ≡ length c.as_bytes-bytes.result.now = search rules in
-    let digits : list_all is_digit c.args.value.now ≡ true = search rules in
-    let read : digits_value 10 c.args.value.now < 2 ^ 64 → c.parse.result ≡ Ok (digits_value 10 c.args.value.now)
-    = λ below. parse_gives own 64 c.args.value.now c.parse.result c.parse.ensures.value.0 digits (omega arith) below in
-    let never : digits_value 10 c.args.value.now < 2 ^ 64 → ⊥ = λ below. let is = sym c.in-Err.is ∙ read below in cc in
-    let over : 18446744073709551615 < digits_value 10 c.args.value.now = omega (arith, never) in
-    sym (ap (λ (o : Option ℕ). option_and_then (given_by c.args.command c.args.name.now) o)
-    (number-there c.args.value.now (omega arith) (omega arith) digits) ∙ in-no-range c.args.command c.args.name.now (digits_value 10 c.args.value.now) over)
+-- a value whose number no `u64` holds gives no option
+over-gives-none : (command : Command) (name : List ℕ) (number : Option ℕ) → IfSome number (λ n. 18446744073709551615 < n) → option_and_then (given_by command name) number ≡ None
+over-gives-none command name None over = refl
+over-gives-none command name (Some number) over = in-no-range command name number over
+
+pub returns-in-None : goal.returns-in-None
+returns-in-None c = sym (over-gives-none c.args.command c.args.name.now (number_of c.args.value.now) (c.number_of.ensures.none c.in-None.is))
+
+pub returns-in-Some : goal.returns-in-Some
+returns-in-Some c =
+    c.by_name.ensures ∙ ap (λ (o : Option ℕ). option_and_then (given_by c.args.command c.args.name.now) o) (sym c.in-Some.ensures.number)
