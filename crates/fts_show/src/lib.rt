@@ -2,6 +2,7 @@
 //! Keeps: what is written is the text of the definitions, whole or, where a write failed, a part of it (`send_tables`; `specs/Shown.antt`).
 #![tactic(auto)]
 
+mod gathered;
 mod shown;
 
 pub use shown::send_tables;
