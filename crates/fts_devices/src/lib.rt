@@ -7,7 +7,7 @@
 #![tactic(auto)]
 
 mod accepting;
-mod command_line;
+mod arguments;
 mod hands;
 mod lanes;
 mod outside;
@@ -20,7 +20,7 @@ mod tcp_link;
 mod threads;
 
 pub use accepting::{Listens, next_line};
-pub use command_line::command_line;
+pub use arguments::command_line;
 pub use hands::{SystemHand, hands_over};
 pub use lanes::{SystemLane, closed_doors, lanes_over};
 pub use outside::{OpenedFile, PcgWords, SystemClock};
