@@ -1,0 +1,50 @@
+-- What one entry more adds to what a list of entries tells.
+use Rattle.std.proofs.Common.{◌≡◌, ℕ, List, [], ◌∷◌, ◌++◌, Option, Some, None, refl, ap, ◌∙◌, append-nil}
+use Rattle.std.specs.Prelude.{map, option_to_list, unwrap_or}
+use Rattle.std.specs.List.{cons_option, filter_map, last_or}
+use Rattle.std.proofs.lemmas.List.{map-append}
+use Rattle.std.proofs.lemmas.List.Elements.{filter_map-append}
+use Rattle.fts_tables.specs.declared.commands.Entry.{Entry}
+use Rattle.fts_chronicle.specs.Chronicle.{now_of, restart_by, report_by, moment_of, restart_of, chronicle_of, chronicle_with}
+
+-- the last of a list with one item more is that item
+last_or-more : {Item : Type 0} (before : Option Item) (items : List Item) (item : Item) → last_or before (items ++ item ∷ []) ≡ Some item
+last_or-more before [] item = refl
+last_or-more before (first ∷ items) item = last_or-more (Some first) items item
+
+-- an item or none, before nothing
+alone : {Item : Type 0} (found : Option Item) → cons_option found [] ≡ option_to_list found
+alone None = refl
+alone (Some item) = refl
+
+-- what is read of a list with one item more
+filter_map-more : {Item Read : Type 0} (read : Item → Option Read) (items : List Item) (item : Item)
+    → filter_map read (items ++ item ∷ []) ≡ filter_map read items ++ option_to_list (read item)
+filter_map-more {Read = Read} read items item =
+    filter_map-append read items (item ∷ []) ∙ ap (λ (rest : List Read). filter_map read items ++ rest) (alone (read item))
+
+-- the last one read, where the item behind may have none
+last_read : (moments : List ℕ) (found : Option ℕ)
+    → unwrap_or (last_or None (moments ++ option_to_list found)) 0 ≡ unwrap_or found (unwrap_or (last_or None moments) 0)
+last_read moments None = ap (λ (moments : List ℕ). unwrap_or (last_or None moments) 0) (append-nil moments)
+last_read moments (Some moment) = ap (λ (found : Option ℕ). unwrap_or found 0) (last_or-more None moments moment)
+
+-- the last moment is that of the entry more
+moment_of-more : (entries : List Entry) (next : Entry) → moment_of (entries ++ next ∷ []) ≡ now_of next.command
+moment_of-more entries next =
+    ap (λ (moments : List ℕ). unwrap_or (last_or None moments) 0) (map-append (λ (entry : Entry). now_of entry.command) entries (next ∷ []))
+    ∙ last_read (map (λ (entry : Entry). now_of entry.command) entries) (Some (now_of next.command))
+
+-- the last restart is the entry more, or the one before
+restart_of-more : (entries : List Entry) (next : Entry) → restart_of (entries ++ next ∷ []) ≡ unwrap_or (restart_by next.command) (restart_of entries)
+restart_of-more entries next =
+    ap (λ (moments : List ℕ). unwrap_or (last_or None moments) 0) (filter_map-more (λ (entry : Entry). restart_by entry.command) entries next)
+    ∙ last_read (filter_map (λ (entry : Entry). restart_by entry.command) entries) (restart_by next.command)
+
+-- all that one entry more adds
+pub chronicle_of-more : (entries : List Entry) (next : Entry) → chronicle_of (entries ++ next ∷ []) ≡ chronicle_with (chronicle_of entries) next.command
+chronicle_of-more entries next = λ i. record {
+  moment = moment_of-more entries next i;
+  restart = restart_of-more entries next i;
+  reports = filter_map-more (λ (entry : Entry). report_by entry.command) entries next i;
+}

@@ -1,0 +1,15 @@
+-- What a chronicle's fields mean, and what it keeps true of them.
+use Rattle.std.specs.Prelude.{◌<◌, length, vec_capacity, IsTrue}
+use Rattle.fts_chronicle.specs.Chronicle.{KeptChronicle}
+use Rattle.fts_chronicle.specs.declared.chronicle.Chronicle.TheInside.{Inside}
+
+-- what contracts see of these fields
+abbrev pub kept_chronicle : Inside → KeptChronicle
+kept_chronicle inside = record {
+  told = record { moment = inside.moment; restart = inside.restart; reports = inside.reports.items };
+  ready = inside.ready;
+}
+
+-- where there is room for one report more, there is memory for it
+pub record IsChronicle (inside : Inside) : Type 0 where
+  pub room : IsTrue inside.ready → length inside.reports.items < vec_capacity inside.reports
