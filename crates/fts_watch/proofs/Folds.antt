@@ -8,6 +8,7 @@ use Rattle.fts_tables.specs.Step.{Outcomes, step}
 use Rattle.fts_tables.specs.History.{tables_after, IsAccepted}
 use Rattle.fts_tables.specs.declared.commands.Answer.{Answer}
 use Rattle.fts_tables.specs.declared.commands.Entry.{Entry}
+use Rattle.fts_chronicle.specs.Chronicle.{ChronicleData, chronicle_of, chronicle_with}
 use Rattle.fts_record.specs.Spelling.{spelled}
 use Rattle.fts_record.specs.Proper.{IsProper}
 use Rattle.fts_disk.specs.Disk.{DiskState, IsTold}
@@ -48,21 +49,27 @@ step_done : (before after : Tables) (answer : Answer) (came : Outcomes) → came
 step_done before after answer (Ok done) is = (tt, ap (λ (d : Tables × Answer). d.0) (let same : done ≡ (after, answer) = cc in same))
 step_done before after answer (Err refusal) is = absurd cc
 
+-- one entry more adds what its command tells
+abbrev pub AreGrowing : Type 0
+AreGrowing = (entries : List Entry) (next : Entry) → chronicle_of (entries ++ next ∷ []) ≡ chronicle_with (chronicle_of entries) next.command
+
 module _ {D : Type 0} (state : D → DiskState) (old new : MonitorData D) (entries : List Entry) (so_far : IsFoldOf state old entries) where
   -- the list is the same where nothing but the disk is new, and what was passed stays so
-  pub fold_same : new.tables ≡ old.tables → new.commands ≡ old.commands → HasPassed (state new.disk) new.used (bodies_of entries) → IsFoldOf state new entries
-  fold_same tables commands passed = record {
+  pub fold_same : new.tables ≡ old.tables → new.commands ≡ old.commands → new.chronicle ≡ old.chronicle → HasPassed (state new.disk) new.used (bodies_of entries) → IsFoldOf state new entries
+  fold_same tables commands told passed = record {
     folded = tables ∙ so_far.folded;
     legal = so_far.legal;
     proper = so_far.proper;
     counted = commands ∙ so_far.counted;
+    chronicled = told ∙ so_far.chronicled;
     passed = passed;
   }
 
   -- one entry more
   pub fold_more : (body : List ℕ) (takes : TakesEntry old.tables body new.tables) → new.commands ≡ old.commands + 1
+      → new.chronicle ≡ chronicle_with old.chronicle takes.entry.command → AreGrowing
       → HasPassed (state new.disk) new.used (bodies_of entries ++ body ∷ []) → IsFoldOf state new (entries ++ takes.entry ∷ [])
-  fold_more body takes commands passed =
+  fold_more body takes commands told growing passed =
       let done = step_done old.tables new.tables takes.answer (step old.tables takes.entry.command) takes.stepped in
       record {
         folded = sym done.1 ∙ ap (λ t. tables_after t (step t takes.entry.command)) so_far.folded
@@ -70,6 +77,7 @@ module _ {D : Type 0} (state : D → DiskState) (old new : MonitorData D) (entri
         legal = legal_more empty_tables entries takes.entry so_far.legal (subst (λ t. IsAccepted (step t takes.entry.command)) so_far.folded done.0);
         proper = All-push IsProper entries takes.entry so_far.proper takes.proper;
         counted = omega (arith, commands, so_far.counted, length-append entries (takes.entry ∷ []));
+        chronicled = told ∙ ap (λ (before : ChronicleData). chronicle_with before takes.entry.command) so_far.chronicled ∙ sym (growing entries takes.entry);
         passed = subst (λ bodies. HasPassed (state new.disk) new.used bodies)
             (ap (λ b. bodies_of entries ++ b ∷ []) takes.spells ∙ sym (bodies_more entries takes.entry)) passed;
       }
@@ -151,27 +159,29 @@ pub on_err : {T : Type 0} (result : Result T MonitorFault) (fault : MonitorFault
 on_err (Ok value) fault P is p = tt
 on_err (Err error) fault P is p = subst P (sym is) p
 
--- a monitor by its desk and its tail
-abbrev pub view_of : {D : Type 0} → DeskData → TailData D → MonitorData D
-view_of desk tail = record { tables = desk.tables; commands = desk.commands; used = tail.used; disk = tail.disk }
+-- a monitor by its desk, its chronicle and its tail
+abbrev pub view_of : {D : Type 0} → DeskData → ChronicleData → TailData D → MonitorData D
+view_of desk told tail = record { tables = desk.tables; commands = desk.commands; chronicle = told; used = tail.used; disk = tail.disk }
 
 -- where only the tail looked the lists go on by nothing
-pub looked_on : {D : Type 0} (state : D → DiskState) (desk after : DeskData) (old new : TailData D) → after.tables ≡ desk.tables
-    → after.commands ≡ desk.commands
+pub looked_on : {D : Type 0} (state : D → DiskState) (desk after : DeskData) (told then : ChronicleData) (old new : TailData D)
+    → after.tables ≡ desk.tables → after.commands ≡ desk.commands → then ≡ told
     → ((bodies : List (List ℕ)) → HasPassed (state old.disk) old.used bodies → HasPassed (state new.disk) new.used bodies)
-    → GoesOn state (view_of desk old) (view_of after new)
-looked_on state desk after old new tables commands passed = goes_nowhere state (view_of desk old) (view_of after new)
-    (λ entries fold. fold_same state (view_of desk old) (view_of after new) entries fold tables commands (passed (bodies_of entries) fold.passed))
+    → GoesOn state (view_of desk told old) (view_of after then new)
+looked_on state desk after told then old new tables commands same passed = goes_nowhere state (view_of desk told old) (view_of after then new)
+    (λ entries fold. fold_same state (view_of desk told old) (view_of after then new) entries fold tables commands same (passed (bodies_of entries) fold.passed))
 
 -- where an entry was done, and its body passed, they go on by it
-pub took_on : {D : Type 0} (state : D → DiskState) (desk after : DeskData) (old mid new : TailData D) (body : List ℕ)
+pub took_on : {D : Type 0} (state : D → DiskState) (desk after : DeskData) (told next_told : ChronicleData) (old mid new : TailData D) (body : List ℕ)
     → ((bodies : List (List ℕ)) → HasPassed (state old.disk) old.used bodies → HasPassed (state mid.disk) mid.used bodies)
     → mid.next ≡ Some body → TakesEntry desk.tables body after.tables → after.commands ≡ desk.commands + 1
+    → ((entry : Entry) → IsProper entry → body ≡ spelled entry → next_told ≡ chronicle_with told entry.command) → AreGrowing
     → ((bodies : List (List ℕ)) → HasPassed (state mid.disk) mid.used bodies → HasPassed (state new.disk) new.used (bodies_with bodies mid.next))
-    → GoesOn state (view_of desk old) (view_of after new)
-took_on state desk after old mid new body passed next takes commands then = record {
+    → GoesOn state (view_of desk told old) (view_of after next_told new)
+took_on state desk after told next_told old mid new body passed next takes commands tells growing then = record {
   added = takes.entry ∷ [];
-  each = λ entries fold. fold_more state (view_of desk old) (view_of after new) entries fold body takes commands
+  each = λ entries fold. fold_more state (view_of desk told old) (view_of after next_told new) entries fold body takes commands
+      (tells takes.entry takes.proper takes.spells) growing
       (subst (λ o. HasPassed (state new.disk) new.used (bodies_with (bodies_of entries) o)) next
       (then (bodies_of entries) (passed (bodies_of entries) fold.passed)));
 }

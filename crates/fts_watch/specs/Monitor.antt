@@ -6,6 +6,7 @@ use Rattle.fts_tables.specs.Step.{step}
 use Rattle.fts_tables.specs.History.{tables_of, IsLegal}
 use Rattle.fts_tables.specs.declared.commands.Answer.{Answer}
 use Rattle.fts_tables.specs.declared.commands.Entry.{Entry}
+use Rattle.fts_chronicle.specs.Chronicle.{ChronicleData, chronicle_of}
 use Rattle.fts_record.specs.Proper.{IsProper}
 use Rattle.fts_record.specs.Reading.{entry_in}
 use Rattle.fts_record.specs.Spelling.{spelled}
@@ -18,20 +19,23 @@ use Rattle.fts_tail.specs.Tail.{HasPassed}
 use Rattle.fts_watch.specs.declared.fault.MonitorFault.{MonitorFault}
 use Rattle.fts_watch.specs.declared.fault.MonitorFault.TheVariants.{DiskFailed, Damaged, Changed, Memory}
 
--- what contracts see of a monitor: the tables, how many entries made them, the offset of the gate behind the last of these, and the disk
+-- what contracts see of a monitor: the tables, how many entries made them, what these told beside, the offset of the gate behind the last of them,
+-- and the disk
 pub record MonitorData (D : Type 0) : Type 0 where
   pub tables : Tables
   pub commands : ℕ
+  pub chronicle : ChronicleData
   pub used : ℕ
   pub disk : D
 
--- The tables are those of this list, which is legal, and its spellings are the bodies up to the gate: over a disk that tells its contents those that
--- stand there.
+-- The tables are those of this list, which is legal, the chronicle is what it told, and its spellings are the bodies up to the gate: over a disk that
+-- tells its contents those that stand there.
 pub record IsFoldOf {D : Type 0} (state : D → DiskState) (monitor : MonitorData D) (entries : List Entry) : Type 0 where
   pub folded : monitor.tables ≡ tables_of entries
   pub legal : IsLegal entries
   pub proper : All IsProper entries
   pub counted : monitor.commands ≡ length entries
+  pub chronicled : monitor.chronicle ≡ chronicle_of entries
   pub passed : HasPassed (state monitor.disk) monitor.used (bodies_of entries)
 
 -- there is such a list

@@ -1,11 +1,17 @@
-//! The monitor: the desk that a journal's entries make, and how far the journal was passed.
-//! Keeps: the tables are those of a legal list, whose spellings are the bodies up to the gate (`IsMonitor`).
-//! Order: a look takes the bodies behind the gate one by one: each is read, done by the desk, and only then passed. So where it stops, what was folded
-//! stays on view, and the next look goes on from there.
+//! The monitor: the desk that a journal's entries make, the chronicle of what they told beside, and how far the journal was passed.
+//! Keeps: the tables are those of a legal list, whose spellings are the bodies up to the gate, and the chronicle is that list's (`IsMonitor`).
+//! Order: a look takes the bodies behind the gate one by one: each is read, there is made room for what it tells, it is done by the desk and told, and
+//! only then passed. So where it stops, what was folded stays on view, and the next look goes on from there.
 ghost use Rattle.std.specs.Prelude.{◌≡◌, ◌<◌, ◌+◌, ◌^◌, OnOk, OnErr};
+ghost use Rattle.fts_tables.specs.declared.commands.Entry.{Entry};
+ghost use Rattle.fts_chronicle.specs.Chronicle.{chronicle_with};
+ghost use Rattle.fts_record.specs.Proper.{IsProper};
+ghost use Rattle.fts_record.specs.Spelling.{spelled};
 ghost use Rattle.fts_watch.specs.Monitor.{Takes};
 
 use crate::MonitorFault;
+use fts_chronicle::Chronicle;
+use fts_chronicle::laws::chronicles_grow_by_entries;
 use fts_desk::{Desk, DeskFault};
 use fts_disk::Disk;
 use fts_journal::FRONT_BYTES;
@@ -14,11 +20,12 @@ use fts_tail::Tail;
 use std::alloc::Global;
 use std::marker::Model;
 
-/// The tables of a journal, as far as it was looked at. Contracts see them, the number of entries that made them, the offset of the gate behind the last of
-/// these, and the disk.
+/// The tables of a journal, as far as it was looked at. Contracts see them, the number of entries that made them, what these told beside, the offset of the
+/// gate behind the last of them, and the disk.
 pub struct Monitor<D: Disk> {
     alloc: Global,
     desk: Desk,
+    chronicle: Chronicle,
     tail: Tail<D>,
 }
 
@@ -27,6 +34,7 @@ impl<D: Disk + Drop> Drop for Monitor<D> {
         let Monitor {
             alloc: _,
             desk: _,
+            chronicle: _,
             tail: _,
         } = self;
     }
@@ -37,9 +45,21 @@ impl<D: Disk> Model for Monitor<D> {
 
     ghost Value = { MonitorData D };
 
-    ghost view = { λ m. record { tables = m.desk.tables; commands = m.desk.commands; used = m.tail.used; disk = m.tail.disk } };
+    ghost view = { λ m. record {
+      tables = m.desk.tables;
+      commands = m.desk.commands;
+      chronicle = m.chronicle.told;
+      used = m.tail.used;
+      disk = m.tail.disk;
+    } };
 
-    ghost invariant = { λ m. IsMonitor D.state (record { tables = m.desk.tables; commands = m.desk.commands; used = m.tail.used; disk = m.tail.disk }) };
+    ghost invariant = { λ m. IsMonitor D.state (record {
+      tables = m.desk.tables;
+      commands = m.desk.commands;
+      chronicle = m.chronicle.told;
+      used = m.tail.used;
+      disk = m.tail.disk;
+    }) };
 }
 
 impl<D: Disk> Monitor<D> {
@@ -57,6 +77,7 @@ impl<D: Disk> Monitor<D> {
             Ok(tail) => Ok(Monitor {
                 alloc,
                 desk: Desk::empty(alloc),
+                chronicle: Chronicle::new(alloc),
                 tail,
             }),
             Err((fault, disk)) => Err((fault.into(), disk)),
@@ -88,11 +109,18 @@ impl<D: Disk> Monitor<D> {
         ensures further { IfOk result (λ more. more ≡ true → self.old.used < self.new.used) }
         ensures cause { IfErr result (LookFault D.state D.faults self.old self.new) }
     {
+        chronicles_grow_by_entries();
         if !self.tail.look()? {
             return Ok(false);
         }
         let gate = self.tail.used();
-        take_entry(self.alloc, &mut self.desk, self.tail.body(), gate)?;
+        take_entry(
+            self.alloc,
+            &mut self.desk,
+            &mut self.chronicle,
+            self.tail.body(),
+            gate,
+        )?;
         self.tail.pass();
         Ok(true)
     }
@@ -104,6 +132,14 @@ impl<D: Disk> Monitor<D> {
         ensures fold { IsMonitor D.state self.now }
     {
         &self.desk
+    }
+
+    /// What the entries that were folded told beside the tables.
+    pub fn chronicle(&self) -> &Chronicle
+        ensures told { result.now.told ≡ self.now.chronicle }
+        ensures fold { IsMonitor D.state self.now }
+    {
+        &self.chronicle
     }
 
     /// The offset of the gate behind the entries that were folded, in bytes.
@@ -120,20 +156,30 @@ impl<D: Disk> Monitor<D> {
         let Monitor {
             alloc: _,
             desk: _,
+            chronicle: _,
             tail,
         } = self;
         tail.close()
     }
 }
 
-// Does the entry that a body spells. Its gate is at this offset, in bytes.
-fn take_entry(alloc: Global, desk: &mut Desk, body: &[u8], gate: u64) -> Result<(), MonitorFault>
+// Does the entry that a body spells, and tells it. Its gate is at this offset, in bytes.
+fn take_entry(
+    alloc: Global,
+    desk: &mut Desk,
+    chronicle: &mut Chronicle,
+    body: &[u8],
+    gate: u64,
+) -> Result<(), MonitorFault>
     requires few { desk.old.commands < 4294967295 }
     requires low { gate < 2 ^ 62 }
     ensures takes { Takes desk.old.tables gate body.now desk.new.tables result }
     ensures commands { OnOk result (desk.new.commands ≡ desk.old.commands + 1) }
     ensures kept { OnErr result (desk.new.tables ≡ desk.old.tables) }
     ensures counted { OnErr result (desk.new.commands ≡ desk.old.commands) }
+    ensures told { OnOk result ((entry : Entry) → IsProper entry → body.now ≡ spelled entry
+        → chronicle.new.told ≡ chronicle_with chronicle.old.told entry.command) }
+    ensures untold { OnErr result (chronicle.new.told ≡ chronicle.old.told) }
 {
     let entry = match read_entry(alloc, body) {
         Ok(entry) => entry,
@@ -143,9 +189,13 @@ fn take_entry(alloc: Global, desk: &mut Desk, body: &[u8], gate: u64) -> Result<
         }
         Err(ReadFault::Memory) => return Err(MonitorFault::Memory),
     };
+    if chronicle.make_room().is_err() {
+        return Err(MonitorFault::Memory);
+    }
     match desk.prepare(&entry.command) {
         Ok(plan) => {
             desk.commit(plan);
+            chronicle.add(&entry.command);
             Ok(())
         }
         Err(DeskFault::Rule(_)) => Err(MonitorFault::Damaged { offset: gate }),
