@@ -58,7 +58,7 @@ listed_at (first ∷ endpoints) (suc place) endpoint inside at =
     or_right (bytes_eq first.name endpoint.name) _ (listed_at endpoints place endpoint (omega arith) at)
 
 -- so its place tells a listed name from all others
-same_place : (endpoints : List Endpoint) (other name : List ℕ) → is_listed endpoints name ≡ true
+pub same_place : (endpoints : List Endpoint) (other name : List ℕ) → is_listed endpoints name ≡ true
     → (place_among endpoints other == place_among endpoints name) ≡ bytes_eq other name
 same_place endpoints other name listed = same_from_decides _ _
     (Decides-like _ (placed_alike endpoints other name listed) (ap (place_among endpoints)) (Decides-eqb (place_among endpoints other) (place_among endpoints name)))

@@ -1,16 +1,21 @@
 -- The metrics of tables: which samples there are, and what each counts.
-use Rattle.std.specs.Prelude.{ℕ, Bool, false, ◌&&◌, ◌==◌, if◌then◌else◌, Option, Some, None, List, [], ◌++◌, length, codes, count_by}
+use Rattle.std.specs.Prelude.{ℕ, Bool, false, ◌&&◌, ◌==◌, bytes_eq, if◌then◌else◌, Option, Some, None, List, [], ◌∷◌, ◌++◌, length, codes, filter, count_by, sum_by}
 use Rattle.std.specs.List.{flat_map, list_any}
 use Rattle.std.specs.Option.{option_map_or}
 use Rattle.fts_tables.specs.SettingsData.{SettingsData}
 use Rattle.fts_tables.specs.Tables.{Tables, is_submitted, is_active, is_finished, is_failed, is_canceled, is_not_used}
 use Rattle.fts_tables.specs.Limits.{is_on_link, held, out_of, into}
+use Rattle.fts_tables.specs.History.{is_file_on_link}
 use Rattle.fts_tables.specs.declared.limits.TheConstants.{JOURNAL_END}
 use Rattle.fts_tables.specs.declared.rows.FileRow.{FileRow}
 use Rattle.fts_tables.specs.declared.rows.FileState.{FileState}
 use Rattle.fts_tables.specs.declared.rows.JobRow.{JobRow}
 use Rattle.fts_tables.specs.declared.rows.JobState.{JobState}
 use Rattle.fts_tables.specs.declared.rows.JobState.TheVariants.{FinishedDirty, Submitted as JobSubmitted, Active as JobActive, Finished as JobFinished, Failed as JobFailed, Canceled as JobCanceled}
+use Rattle.fts_tables.specs.declared.rows.Outcome.{Outcome}
+use Rattle.fts_tables.specs.declared.rows.Outcome.TheVariants.{Verified, SourceMissing, DestinationExists, SourceSize, SourceDigest, ReadBackDiffers, StoreFailed, Stopped}
+use Rattle.fts_chronicle.specs.Chronicle.{ChronicleData}
+use Rattle.fts_chronicle.specs.declared.chronicle.CopyReport.{CopyReport}
 use Rattle.fts_desk.specs.DeskData.{state_at}
 use Rattle.fts_tables.specs.declared.settings.Endpoint.{Endpoint}
 use Rattle.fts_tables.specs.declared.settings.LinkRule.{LinkRule}
@@ -137,6 +142,95 @@ jobs_text tables =
     ++ jobs_sample (codes "FAILED") (jobs_in tables JobFailed)
     ++ jobs_sample (codes "CANCELED") (jobs_in tables JobCanceled)
 
+-- the samples of a link that has a row
+unfoldable pub link_where : (List ℕ → List ℕ → List ℕ) → List FileRow → List ℕ → List ℕ → List ℕ
+link_where samples rows source dest = if list_any (is_on_link source dest) rows then samples source dest else []
+
+-- those of the links from one endpoint
+abbrev pub links_from : (List ℕ → List ℕ → List ℕ) → List FileRow → List Endpoint → List ℕ → List ℕ
+links_from samples rows endpoints source = flat_map (λ (endpoint : Endpoint). link_where samples rows source endpoint.name) endpoints
+
+-- the samples of each link between listed endpoints that has a row
+abbrev pub each_link : (List ℕ → List ℕ → List ℕ) → List FileRow → List Endpoint → List ℕ
+each_link samples rows endpoints = flat_map (λ (endpoint : Endpoint). links_from samples rows endpoints endpoint.name) endpoints
+
+-- the reports of a link's files; a file without a row is on none
+abbrev pub reports_on : Tables → List CopyReport → List ℕ → List ℕ → List CopyReport
+reports_on tables reports source dest = filter (λ report. is_file_on_link source dest tables report.file) reports
+
+-- the bytes of a copy that was verified, and 0 of any other
+abbrev pub bytes_of : Outcome → ℕ
+bytes_of (Verified size digest) = size
+bytes_of SourceMissing = 0
+bytes_of DestinationExists = 0
+bytes_of (SourceSize seen) = 0
+bytes_of (SourceDigest seen) = 0
+bytes_of (ReadBackDiffers at) = 0
+bytes_of StoreFailed = 0
+bytes_of Stopped = 0
+
+-- the bytes of a link's copies that were verified
+abbrev pub copied_on : Tables → List CopyReport → List ℕ → List ℕ → ℕ
+copied_on tables reports source dest = sum_by (λ report. bytes_of report.outcome) (reports_on tables reports source dest)
+
+-- a sample of them
+abbrev pub copied_sample : Tables → List CopyReport → List ℕ → List ℕ → List ℕ
+copied_sample tables reports source dest =
+    sample (codes "fts_copied_bytes_total") (link_labels source dest) (copied_on tables reports source dest)
+
+-- fts_copied_bytes_total: the bytes of each link's copies that were verified
+abbrev pub copied_text : Tables → List CopyReport → List Endpoint → List ℕ
+copied_text tables reports endpoints =
+    head (codes "fts_copied_bytes_total") (codes "Bytes of verified copies over each link.") (codes "counter")
+    ++ each_link (copied_sample tables reports) tables.rows endpoints
+
+-- an outcome in a word
+abbrev pub word_of : Outcome → List ℕ
+word_of (Verified size digest) = codes "verified"
+word_of SourceMissing = codes "source_missing"
+word_of DestinationExists = codes "destination_exists"
+word_of (SourceSize seen) = codes "source_size"
+word_of (SourceDigest seen) = codes "source_digest"
+word_of (ReadBackDiffers at) = codes "read_back_differs"
+word_of StoreFailed = codes "store_failed"
+word_of Stopped = codes "stopped"
+
+-- how many reports have an outcome of this word
+abbrev pub reports_of_word : List CopyReport → List ℕ → ℕ
+reports_of_word reports word = count_by (λ report. bytes_eq (word_of report.outcome) word) reports
+
+-- a sample of a link's reports by their outcome
+abbrev pub outcome_sample : List ℕ → List CopyReport → List ℕ → List ℕ
+outcome_sample labels reports word = sample (codes "fts_reports_total") (two_labels labels (label (codes "outcome") word)) (reports_of_word reports word)
+
+-- the samples of some reports, an outcome each
+unfoldable pub outcome_samples : List ℕ → List CopyReport → List ℕ
+outcome_samples labels reports =
+    outcome_sample labels reports (codes "verified")
+    ++ outcome_sample labels reports (codes "source_missing")
+    ++ outcome_sample labels reports (codes "destination_exists")
+    ++ outcome_sample labels reports (codes "source_size")
+    ++ outcome_sample labels reports (codes "source_digest")
+    ++ outcome_sample labels reports (codes "read_back_differs")
+    ++ outcome_sample labels reports (codes "store_failed")
+    ++ outcome_sample labels reports (codes "stopped")
+
+-- those of a link's reports
+abbrev pub reports_samples : Tables → List CopyReport → List ℕ → List ℕ → List ℕ
+reports_samples tables reports source dest = outcome_samples (link_labels source dest) (reports_on tables reports source dest)
+
+-- fts_reports_total: the reports of each link's files, by their outcome
+abbrev pub reports_text : Tables → List CopyReport → List Endpoint → List ℕ
+reports_text tables reports endpoints =
+    head (codes "fts_reports_total") (codes "Reports of copies over each link by outcome.") (codes "counter")
+    ++ each_link (reports_samples tables reports) tables.rows endpoints
+
+-- fts_last_entry_timestamp_seconds: the moment of the last entry
+unfoldable pub last_entry_text : ℕ → List ℕ
+last_entry_text moment =
+    head (codes "fts_last_entry_timestamp_seconds") (codes "Moment of the last entry in seconds since 1970.") (codes "gauge")
+    ++ plain_sample (codes "fts_last_entry_timestamp_seconds") moment
+
 -- fts_rows, fts_journal_bytes, fts_journal_limit_bytes: the rows, the bytes of the journal up to its last gate, and where it ends
 unfoldable pub sizes_text : List FileRow → ℕ → List ℕ
 sizes_text rows used =
@@ -158,12 +252,15 @@ links_of None = []
 links_of (Some settings) = settings.links
 
 -- all of them
-abbrev pub metrics_text : Tables → ℕ → List ℕ
-metrics_text tables used =
+abbrev pub metrics_text : Tables → ChronicleData → ℕ → List ℕ
+metrics_text tables told used =
     jobs_text tables
     ++ files_text tables.rows (endpoints_of tables.settings)
+    ++ copied_text tables told.reports (endpoints_of tables.settings)
+    ++ reports_text tables told.reports (endpoints_of tables.settings)
     ++ link_active_text tables.rows (links_of tables.settings)
     ++ link_limit_text (links_of tables.settings)
     ++ endpoint_active_text tables.rows (endpoints_of tables.settings)
     ++ endpoint_limit_text (endpoints_of tables.settings)
     ++ sizes_text tables.rows used
+    ++ last_entry_text told.moment

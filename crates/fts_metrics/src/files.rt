@@ -1,30 +1,32 @@
 //! `fts_files`: the file rows of each link between listed endpoints, by state. A link without rows has no samples.
 //! The rows of a link are found by the places of its endpoints (`goings.rt`), and their states are counted.
-ghost use Rattle.std.specs.Prelude.{◌≡◌, ◌++◌, List, true, OnOk};
+ghost use Rattle.std.specs.Prelude.{◌≡◌, ◌≤◌, ◌++◌, List, true, length, map, OnOk};
+ghost use Rattle.fts_tables.specs.declared.limits.TheConstants.{MAX_ENDPOINTS};
 ghost use Rattle.fts_tables.specs.SettingsData.{is_listed};
 ghost use Rattle.fts_tables.specs.declared.rows.FileRow.{FileRow};
-ghost use Rattle.fts_metrics.specs.Goings.{goings_from, states_on};
+ghost use Rattle.fts_metrics.specs.Goings.{going_of, goings_from, states_on};
 ghost use Rattle.fts_metrics.specs.Metrics.{files_sample, files_on, files_where, files_from, files_text};
 
-use crate::goings::{Going, count_in, from_place, goings_of, place_among, states_to};
+use crate::goings::{Going, count_in, from_place, place_among, states_to};
 use crate::lines::{labels_of, labels_with, put_head, put_sample};
-use fts_tables::{Endpoint, FileRow, FileState, Memory};
+use fts_tables::{Endpoint, FileState, Memory};
 use std::alloc::Global;
 
 /// What there is of `fts_files`.
 pub fn put_files(
     alloc: Global,
     text: &mut Vec<u8>,
-    rows: &[FileRow],
+    goings: &[Going],
     endpoints: &[Endpoint],
 ) -> Result<(), Memory>
-    ensures { OnOk result (text.new.items ≡ text.old.items ++ files_text rows.now endpoints.now) }
+    requires few { length endpoints.now ≤ MAX_ENDPOINTS }
+    ensures { (rows : List FileRow) → goings.now ≡ map (going_of endpoints.now) rows
+        → OnOk result (text.new.items ≡ text.old.items ++ files_text rows endpoints.now) }
 {
     put_head(text, "fts_files", "Files of each link by state.", "gauge")?;
-    let goings = goings_of(alloc, endpoints, rows)?;
     for endpoint in endpoints {
         let source = endpoint.name.as_str();
-        let away = from_place(alloc, &goings, place_among(endpoints, source))?;
+        let away = from_place(alloc, goings, place_among(endpoints, source))?;
         put_files_from(alloc, text, &away, endpoints, source)?;
     }
     Ok(())
@@ -38,6 +40,7 @@ fn put_files_from(
     endpoints: &[Endpoint],
     source: &str,
 ) -> Result<(), Memory>
+    requires few { length endpoints.now ≤ MAX_ENDPOINTS }
     ensures { (rows : List FileRow) → is_listed endpoints.now source.now ≡ true → away.now ≡ goings_from endpoints.now source.now rows
         → OnOk result (text.new.items ≡ text.old.items ++ files_from rows endpoints.now source.now) }
 {

@@ -1,6 +1,7 @@
 //! Where the rows go, by the places of their endpoints among the listed ones: names are looked up where a row's link is not that of the row before it.
 //! A link's states are then found by comparing numbers alone (`specs/Goings.antt`).
-ghost use Rattle.std.specs.Prelude.{◌≡◌, ◌==◌, bytes_eq, map, filter, count_by, position, IfOk};
+ghost use Rattle.std.specs.Prelude.{◌≡◌, ◌≤◌, ◌==◌, bytes_eq, length, map, filter, count_by, position, IfOk};
+ghost use Rattle.fts_tables.specs.declared.limits.TheConstants.{MAX_ENDPOINTS};
 ghost use Rattle.fts_metrics.specs.Goings.{place_among, going_of, states_to, test_of};
 
 use fts_tables::{Endpoint, FileRow, FileState, Memory};
@@ -9,16 +10,17 @@ use std::alloc::Global;
 /// Where a row goes: the places of its endpoints, and their number where one isn't listed.
 #[derive(Clone, Copy)]
 pub struct Going {
-    pub source: usize,
-    pub dest: usize,
+    pub source: u16,
+    pub dest: u16,
     pub state: FileState,
 }
 
 /// The place of the first endpoint of a name, and their number where none has it.
-pub fn place_among(endpoints: &[Endpoint], name: &str) -> usize
+pub fn place_among(endpoints: &[Endpoint], name: &str) -> u16
+    requires few { length endpoints.now ≤ MAX_ENDPOINTS }
     ensures { result ≡ place_among endpoints.now name.now }
 {
-    first_named(endpoints, name).unwrap_or(endpoints.len())
+    first_named(endpoints, name).unwrap_or(endpoints.len()) as u16
 }
 
 fn first_named(endpoints: &[Endpoint], name: &str) -> Option<usize>
@@ -30,6 +32,7 @@ fn first_named(endpoints: &[Endpoint], name: &str) -> Option<usize>
 }
 
 fn going_of(endpoints: &[Endpoint], row: &FileRow) -> Going
+    requires few { length endpoints.now ≤ MAX_ENDPOINTS }
     ensures { result ≡ going_of endpoints.now row.now }
 {
     Going {
@@ -41,7 +44,8 @@ fn going_of(endpoints: &[Endpoint], row: &FileRow) -> Going
 
 // Where a row goes, beside one of which it is known.
 fn going_beside(endpoints: &[Endpoint], row: &FileRow, other: &FileRow, going: Going) -> Going
-    requires { going ≡ going_of endpoints.now other.now }
+    requires few { length endpoints.now ≤ MAX_ENDPOINTS }
+    requires beside { going ≡ going_of endpoints.now other.now }
     ensures { result ≡ going_of endpoints.now row.now }
 {
     if row.is_same_link(other) {
@@ -60,6 +64,7 @@ pub fn goings_of(
     endpoints: &[Endpoint],
     rows: &[FileRow],
 ) -> Result<Vec<Going>, Memory>
+    requires few { length endpoints.now ≤ MAX_ENDPOINTS }
     ensures { IfOk result (λ goings. goings.items ≡ map (going_of endpoints.now) rows.now) }
 {
     let mut goings = Vec::with_capacity(alloc, rows.len())?;
@@ -76,7 +81,7 @@ pub fn goings_of(
 }
 
 /// Those that come from a place.
-pub fn from_place(alloc: Global, goings: &[Going], source: usize) -> Result<Vec<Going>, Memory>
+pub fn from_place(alloc: Global, goings: &[Going], source: u16) -> Result<Vec<Going>, Memory>
     ensures { IfOk result (λ from. from.items ≡ filter (λ going. going.source == source) goings.now) }
 {
     let from = goings
@@ -88,7 +93,7 @@ pub fn from_place(alloc: Global, goings: &[Going], source: usize) -> Result<Vec<
 }
 
 /// The states of those that go to a place.
-pub fn states_to(alloc: Global, goings: &[Going], dest: usize) -> Result<Vec<FileState>, Memory>
+pub fn states_to(alloc: Global, goings: &[Going], dest: u16) -> Result<Vec<FileState>, Memory>
     ensures { IfOk result (λ states. states.items ≡ states_to dest goings.now) }
 {
     let states = goings

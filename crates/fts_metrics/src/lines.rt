@@ -84,6 +84,26 @@ pub fn put_sample(text: &mut Vec<u8>, name: &str, labels: &[u8], number: u64) ->
     )
 }
 
+/// As `put_sample`, of a number that 64 bits may not hold.
+#[tactic(auto, unfolding(crate::specs::Form::sample))]
+pub fn put_total(text: &mut Vec<u8>, name: &str, labels: &[u8], number: u128) -> Result<(), Memory>
+    ensures { OnOk result (text.new.items ≡ text.old.items ++ sample name.now labels.now number) }
+{
+    let mut digits = Buffer::new();
+    let digits = digits.format(number);
+    put_parts(
+        text,
+        &[
+            name.as_bytes(),
+            b"{",
+            labels,
+            b"} ",
+            digits.as_bytes(),
+            b"\n",
+        ],
+    )
+}
+
 // What stands before a label's value.
 fn put_opening(text: &mut Vec<u8>, name: &str) -> Result<(), Memory>
     ensures { OnOk result (text.new.items ≡ text.old.items ++ (name.now ++ codes "=\"")) }

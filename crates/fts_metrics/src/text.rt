@@ -1,40 +1,57 @@
 //! All metrics, in one text.
 ghost use Rattle.std.specs.Prelude.{◌≡◌, ◌++◌, ◌≤◌, length, OnOk, IfOk, option_map};
-ghost use Rattle.fts_metrics.specs.Metrics.{endpoints_of, links_of, sizes_text, metrics_text};
+ghost use Rattle.fts_tables.specs.declared.limits.TheConstants.{MAX_ENDPOINTS};
+ghost use Rattle.fts_metrics.specs.Metrics.{endpoints_of, links_of, last_entry_text, sizes_text, metrics_text};
 
+use crate::copies::{put_copied, put_reports};
 use crate::files::put_files;
+use crate::goings::goings_of;
 use crate::jobs::put_jobs;
 use crate::lines::{put_head, put_plain};
 use crate::slots::{
     active_rows, put_endpoint_active, put_endpoint_limit, put_link_active, put_link_limit,
 };
+use crate::totals::totals_of;
+use fts_chronicle::Chronicle;
 use fts_desk::Desk;
 use fts_tables::limits::JOURNAL_END;
 use fts_tables::{Endpoint, FileRow, LinkRule, Memory, Settings};
 use std::alloc::Global;
 
-/// The text of the metrics of a desk's tables, of whose journal so many bytes are used. It fails for want of memory alone.
-pub fn metrics(alloc: Global, desk: &Desk, used: u64) -> Result<Vec<u8>, Memory>
-    ensures { IfOk result (λ text. text.items ≡ metrics_text desk.now.tables used) }
+/// The text of the metrics of a desk's tables, of what the entries that made them told beside, and of how many bytes of their journal are used.
+/// It fails for want of memory alone.
+pub fn metrics(
+    alloc: Global,
+    desk: &Desk,
+    chronicle: &Chronicle,
+    used: u64,
+) -> Result<Vec<u8>, Memory>
+    ensures { IfOk result (λ text. text.items ≡ metrics_text desk.now.tables chronicle.now.told used) }
 {
     let mut text = Vec::new(alloc);
     let rows = desk.rows();
     let endpoints = endpoints_of(desk.settings());
     let links = links_of(desk.settings());
+    let goings = goings_of(alloc, endpoints, rows)?;
+    let totals = totals_of(alloc, desk, endpoints, &goings, chronicle.reports())?;
     put_jobs(alloc, &mut text, desk)?;
-    put_files(alloc, &mut text, rows, endpoints)?;
+    put_files(alloc, &mut text, &goings, endpoints)?;
+    put_copied(alloc, &mut text, &totals, endpoints)?;
+    put_reports(alloc, &mut text, &totals, endpoints)?;
     let active = active_rows(alloc, rows)?;
     put_link_active(alloc, &mut text, &active, links)?;
     put_link_limit(alloc, &mut text, links)?;
     put_endpoint_active(alloc, &mut text, &active, endpoints)?;
     put_endpoint_limit(alloc, &mut text, endpoints)?;
     put_sizes(&mut text, rows, used)?;
+    put_last_entry(&mut text, chronicle.moment())?;
     Ok(text)
 }
 
 // The endpoints that settings list.
 fn endpoints_of(settings: Option<&Settings>) -> &[Endpoint]
-    ensures { result.now ≡ endpoints_of (option_map (λ settings. settings.now) settings.entry) }
+    ensures few { length result.now ≤ MAX_ENDPOINTS }
+    ensures listed { result.now ≡ endpoints_of (option_map (λ settings. settings.now) settings.entry) }
 {
     match settings {
         Some(settings) => settings.endpoints.as_slice(),
@@ -50,6 +67,20 @@ fn links_of(settings: Option<&Settings>) -> &[LinkRule]
         Some(settings) => settings.links.as_slice(),
         None => &[],
     }
+}
+
+// What there is of the last entry.
+fn put_last_entry(text: &mut Vec<u8>, moment: u64) -> Result<(), Memory>
+    ensures { OnOk result (text.new.items ≡ text.old.items ++ last_entry_text moment) }
+{
+    put_head(
+        text,
+        "fts_last_entry_timestamp_seconds",
+        "Moment of the last entry in seconds since 1970.",
+        "gauge",
+    )?;
+    put_plain(text, "fts_last_entry_timestamp_seconds", moment)?;
+    Ok(())
 }
 
 // What there is of rows, and of the journal.
