@@ -1,0 +1,5 @@
+pub mod Behind
+pub mod Order
+pub mod Floats
+pub mod Turns
+pub mod Parts

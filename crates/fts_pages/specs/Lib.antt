@@ -1,0 +1,4 @@
+pub mod Pages
+pub mod Places
+pub mod States
+pub mod Walk

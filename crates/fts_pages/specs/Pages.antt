@@ -1,0 +1,130 @@
+-- Pages of jobs: which jobs match, in which order, how many are shown, and how they are shown.
+use Rattle.std.specs.Prelude.{ℕ, ◌-◌, Bool, true, ◌&&◌, ◌||◌, nat_lt, nat_le, if◌then◌else◌, bytes_eq, List, [], ◌∷◌, length, reverse, take, filter, count_by, slice_get, Option, Some, None, option_map, string_bytes, codes}
+use Rattle.std.specs.List.{list_any}
+use Rattle.serde_json.specs.Data.{Data, null, boolean, number, string, array, object, put}
+use Rattle.fts_tables.specs.Tables.{Tables, rows_of_job, is_submitted, is_active, is_finished, is_failed, is_canceled, is_not_used}
+use Rattle.fts_tables.specs.declared.rows.FileRow.{FileRow}
+use Rattle.fts_tables.specs.declared.rows.FileState.{FileState}
+use Rattle.fts_tables.specs.declared.rows.JobRow.{JobRow}
+use Rattle.fts_tables.specs.declared.rows.JobState.{JobState}
+use Rattle.fts_routes.specs.Json.{object_of, array_of, whole_number, id_text, body_of}
+use Rattle.fts_routes.specs.Objects.{job_object, file_object, job_state_text, state_in}
+use Rattle.fts_pages.specs.declared.asked.PageAsked.{PageAsked}
+
+-- what is asked of the jobs: those in a state, of which a file comes from a source and goes to a destination, behind the one of a number, where they are
+-- named; whether the greatest number comes first; and how many at most
+pub record JobsQuestion : Type 0 where
+  pub state : Option JobState
+  pub source : Option (List ℕ)
+  pub destination : Option (List ℕ)
+  pub after : Option ℕ
+  pub newest : Bool
+  pub limit : ℕ
+
+-- the same of what the code is asked
+abbrev pub question_of : PageAsked → JobsQuestion
+question_of asked = record {
+  state = asked.state;
+  source = option_map string_bytes asked.source;
+  destination = option_map string_bytes asked.destination;
+  after = asked.after;
+  newest = asked.newest;
+  limit = asked.limit;
+}
+
+-- whether a state is the one that is asked for
+abbrev pub is_in : Option JobState → JobState → Bool
+is_in None state = true
+is_in (Some wanted) state = bytes_eq (job_state_text wanted) (job_state_text state)
+
+-- whether an endpoint is the one that is asked for
+abbrev pub is_at : Option (List ℕ) → List ℕ → Bool
+is_at None endpoint = true
+is_at (Some wanted) endpoint = bytes_eq wanted endpoint
+
+-- whether a file comes from the source and goes to the destination that are asked for
+abbrev pub is_on : JobsQuestion → FileRow → Bool
+is_on asked row = is_at asked.source row.source.endpoint && is_at asked.destination row.dest.endpoint
+
+-- whether a job matches: it is in the state, and a file of it is on the way, that are asked for
+abbrev pub is_asked : Tables → JobsQuestion → JobRow → Bool
+is_asked tables asked job = is_in asked.state (state_in tables job) && list_any (is_on asked) (rows_of_job tables.rows job.number)
+
+-- whether a job comes behind that of a number
+abbrev pub is_behind : Bool → Option ℕ → JobRow → Bool
+is_behind newest None job = true
+is_behind newest (Some after) job = if newest then nat_lt job.number after else nat_lt after job.number
+
+-- jobs in the order asked for, of those in order of number
+abbrev pub in_order : Bool → List JobRow → List JobRow
+in_order newest jobs = if newest then reverse jobs else jobs
+
+-- the jobs behind the one that is asked for, in the order asked for
+abbrev pub jobs_behind : Tables → JobsQuestion → List JobRow
+jobs_behind tables asked = in_order asked.newest (filter (is_behind asked.newest asked.after) tables.jobs)
+
+-- of the first so many of these jobs, those that match
+abbrev pub matching : ℕ → Tables → JobsQuestion → List JobRow → List JobRow
+matching most tables asked jobs = filter (is_asked tables asked) (take most jobs)
+
+-- whether one more of them matches than may be shown
+abbrev pub has_more : ℕ → Tables → JobsQuestion → List JobRow → Bool
+has_more most tables asked jobs = nat_lt asked.limit (length (matching most tables asked jobs))
+
+-- the job to go on behind: the last that was looked at, where others stand behind it and no further one is known to match
+abbrev pub goes_on : ℕ → Bool → List JobRow → Option JobRow
+goes_on most more jobs = if more || nat_le (length jobs) most then None else slice_get jobs (most - 1)
+
+-- an object with a member more, or with another value of that member
+abbrev pub with_member : List ℕ → Data → Data → Data
+with_member key value null = null
+with_member key value (boolean flag) = boolean flag
+with_member key value (number n) = number n
+with_member key value (string text) = string text
+with_member key value (array items) = array items
+with_member key value (object members) = object (put key value members)
+
+-- how many of these files are in a state
+abbrev pub count_in : (FileState → Bool) → List FileRow → ℕ
+count_in is_state rows = count_by (λ row. is_state row.state) rows
+
+-- how many files are in each state
+abbrev pub counts_object : List FileRow → Data
+counts_object rows = object_of (
+    (codes "ACTIVE", whole_number (count_in is_active rows))
+    ∷ (codes "CANCELED", whole_number (count_in is_canceled rows))
+    ∷ (codes "FAILED", whole_number (count_in is_failed rows))
+    ∷ (codes "FINISHED", whole_number (count_in is_finished rows))
+    ∷ (codes "NOT_USED", whole_number (count_in is_not_used rows))
+    ∷ (codes "SUBMITTED", whole_number (count_in is_submitted rows))
+    ∷ [])
+
+-- a job: the service's object of it, and how many of its files are in each state
+abbrev pub job_shown : Tables → JobRow → Data
+job_shown tables job = with_member (codes "files_by_state") (counts_object (rows_of_job tables.rows job.number)) (job_object tables job)
+
+-- a job and its files, in order of id
+abbrev pub job_with_files : Tables → JobRow → Data
+job_with_files tables job = with_member (codes "files") (array_of file_object (rows_of_job tables.rows job.number)) (job_shown tables job)
+
+-- the id of a job, where there is one
+abbrev pub id_of : Option JobRow → Data
+id_of None = null
+id_of (Some job) = string (id_text job.id)
+
+-- a page by its parts
+abbrev pub page_by : Data → Bool → Data → Data
+page_by jobs more next = object_of ((codes "jobs", jobs) ∷ (codes "more", boolean more) ∷ (codes "next", next) ∷ [])
+
+-- a page by the jobs behind the one that is asked for, of which so many are looked at
+abbrev pub page_of : ℕ → Tables → JobsQuestion → List JobRow → Data
+page_of most tables asked jobs = page_by (array_of (job_shown tables) (take asked.limit (matching most tables asked jobs)))
+    (has_more most tables asked jobs) (id_of (goes_on most (has_more most tables asked jobs) jobs))
+
+-- the text of a page, where so many jobs are looked at
+abbrev pub page_text : ℕ → Tables → JobsQuestion → List ℕ
+page_text most tables asked = body_of (page_of most tables asked (jobs_behind tables asked))
+
+-- the text of a job and its files
+abbrev pub job_text : Tables → JobRow → List ℕ
+job_text tables job = body_of (job_with_files tables job)
