@@ -1,5 +1,5 @@
 -- What is said by a reply, or by that for want of memory in its place.
-use Rattle.std.proofs.Common.{◌≡◌, inl, inr, refl, ap, sym, ◌∙◌, subst, ℕ, Bool, true, false, List, [], ◌++◌, ◌+◌, length, Option, Some, Result, append-nil, length-append}
+use Rattle.std.proofs.Common.{◌≡◌, inl, inr, refl, ap, sym, ◌∙◌, subst, ℕ, Bool, true, false, List, [], ◌++◌, ◌+◌, length, Option, Some, None, Result, append-nil, length-append}
 use Rattle.std.specs.Prelude.{IsTrue}
 use Rattle.fts_tables.specs.Counts.{CountsFaults}
 use Rattle.fts_wire.specs.Faults.{status_of}
@@ -11,7 +11,12 @@ use Rattle.fts_wire.specs.declared.response.Allow.TheVariants.{None as NoMethods
 use Rattle.fts_wire.specs.declared.response.Reply.{Reply}
 use Rattle.fts_watch.specs.declared.fault.MonitorFault.{MonitorFault}
 use Rattle.fts_watch.specs.declared.fault.MonitorFault.TheVariants.{DiskFailed, Damaged, Changed, Memory}
-use Rattle.fts_panel.specs.Responses.{Says, IsOrNoMemory, no_memory, refusal_of, refusal_response, reply_to, text_head, text_response}
+use Rattle.fts_watch.specs.Monitor.{MonitorData}
+use Rattle.fts_panel.specs.declared.asked.Topic.{Topic}
+use Rattle.fts_panel.specs.declared.asked.Topic.TheVariants.{Snapshot, History, Jobs, Job}
+use Rattle.fts_panel.specs.declared.view.View.{View}
+use Rattle.fts_panel.specs.declared.view.View.TheVariants.{Shown, Unread, Shut}
+use Rattle.fts_panel.specs.Responses.{Says, IsOrNoMemory, no_memory, no_job, bad_query, refusal_of, refusal_response, reply_to, reply_by, reply_on, reply_of_view, text_head, text_response}
 
 -- a response can be written of a reply
 pub record CanBeSent (reply : Reply) : Type 0 where
@@ -23,12 +28,32 @@ pub can_be_sent : (reply wanted : Reply) → CanBeSent wanted → IsOrNoMemory r
 can_be_sent reply wanted can (inl e) = subst CanBeSent (sym e) can
 can_be_sent reply wanted can (inr e) = subst CanBeSent (sym e) (record { phrase = refl; methods = refl })
 
--- of why there are no metrics
+-- of why nothing is shown
 pub fault_can_be_sent : (fault : MonitorFault) → CanBeSent (reply_to fault)
 fault_can_be_sent DiskFailed = record { phrase = refl; methods = refl }
 fault_can_be_sent (Damaged offset) = record { phrase = refl; methods = refl }
 fault_can_be_sent Changed = record { phrase = refl; methods = refl }
 fault_can_be_sent Memory = record { phrase = refl; methods = refl }
+
+-- of a text, or of another reply in its place
+by_can_be_sent : (other : Reply) (text : Option (List ℕ)) → CanBeSent other → CanBeSent (reply_by other text)
+by_can_be_sent other None can = can
+by_can_be_sent other (Some text) can = record { phrase = refl; methods = refl }
+
+-- of what is replied on a topic
+topic_can_be_sent : {D : Type 0} (topic : Topic) (path : List ℕ) (query : Option (List ℕ)) (now : ℕ) (monitor : MonitorData D) (began : ℕ) (damage : Option ℕ)
+    → CanBeSent (reply_on topic path query now monitor began damage)
+topic_can_be_sent Snapshot path query now monitor began damage = record { phrase = refl; methods = refl }
+topic_can_be_sent History path query now monitor began damage = by_can_be_sent bad_query _ (record { phrase = refl; methods = refl })
+topic_can_be_sent Jobs path query now monitor began damage = by_can_be_sent bad_query _ (record { phrase = refl; methods = refl })
+topic_can_be_sent Job path query now monitor began damage = by_can_be_sent no_job _ (record { phrase = refl; methods = refl })
+
+-- and of what is replied by a view
+pub view_can_be_sent : {D : Type 0} (topic : Topic) (path : List ℕ) (query : Option (List ℕ)) (now : ℕ) (view : View D)
+    → CanBeSent (reply_of_view topic path query now view)
+view_can_be_sent topic path query now (Shown monitor began damage) = topic_can_be_sent topic path query now monitor began damage
+view_can_be_sent topic path query now (Unread monitor began fault) = fault_can_be_sent fault
+view_can_be_sent topic path query now (Shut disk fault) = fault_can_be_sent fault
 
 -- of the refusal of a fault of the framing
 pub bytes_can_be_sent : (fault : WireFault) (message : List ℕ) (rule status : ℕ) → status_of fault ≡ Some status → CanBeSent (refusal_of message rule status NoMethods)

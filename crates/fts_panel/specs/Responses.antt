@@ -1,5 +1,6 @@
 -- What a monitor answers: which request asks for what, and the bytes of the response by the view (HTTP/1.1, RFC 9112, section 4; Prometheus' text form, version 0.0.4).
-use Rattle.std.specs.Prelude.{◌≡◌, ◌⊎◌, ℕ, Bool, true, false, if◌then◌else◌, Option, Some, List, [], ◌++◌, length, codes, decimal, bytes_eq, Result}
+use Rattle.std.specs.Prelude.{◌≡◌, ◌⊎◌, ℕ, Bool, true, false, if◌then◌else◌, Option, Some, None, option_map, option_and_then, List, [], ◌++◌, length, codes, decimal, bytes_eq, is_some, Result}
+use Rattle.std.specs.Option.{option_map_or}
 use Rattle.fts_tables.specs.Counts.{CountsFaults}
 use Rattle.fts_tables.specs.Tables.{Tables}
 use Rattle.fts_wire.specs.RequestData.{RequestData}
@@ -10,18 +11,50 @@ use Rattle.fts_wire.specs.declared.outside.SinkFailed.{SinkFailed}
 use Rattle.fts_wire.specs.declared.response.Allow.{Allow}
 use Rattle.fts_wire.specs.declared.response.Allow.TheVariants.{None as NoMethods, Get}
 use Rattle.fts_wire.specs.declared.response.Reply.{Reply}
+use Rattle.fts_chronicle.specs.Chronicle.{ChronicleData}
 use Rattle.fts_metrics.specs.Metrics.{metrics_text}
+use Rattle.fts_board.specs.History.{history_text}
+use Rattle.fts_board.specs.Snapshot.{snapshot_text}
+use Rattle.fts_board.specs.declared.snapshots.Shown.{Shown as SnapshotShown}
+use Rattle.fts_pages.specs.Pages.{page_text, job_text}
+use Rattle.fts_pages.specs.declared.pages.TheConstants.{MAX_LOOKED_AT}
+use Rattle.fts_routes.specs.Routes.{job_named}
+use Rattle.fts_page.specs.declared.page.TheConstants.{PAGE, POLICY}
+use Rattle.fts_watch.specs.Monitor.{MonitorData}
 use Rattle.fts_watch.specs.declared.fault.MonitorFault.{MonitorFault}
 use Rattle.fts_watch.specs.declared.fault.MonitorFault.TheVariants.{DiskFailed, Damaged, Changed, Memory}
 use Rattle.fts_panel.specs.declared.asked.Asked.{Asked}
-use Rattle.fts_panel.specs.declared.asked.Asked.TheVariants.{Metrics, OtherMethod, Nothing}
+use Rattle.fts_panel.specs.declared.asked.Asked.TheVariants.{Page, Metrics, About, OtherMethod, Nothing}
+use Rattle.fts_panel.specs.declared.asked.Topic.{Topic}
+use Rattle.fts_panel.specs.declared.asked.Topic.TheVariants.{Snapshot, History, Jobs, Job}
+use Rattle.fts_panel.specs.Queries.{history_asked, jobs_asked, id_in}
 use Rattle.fts_panel.specs.declared.view.View.{View}
 use Rattle.fts_panel.specs.declared.view.View.TheVariants.{Shown, Unread, Shut}
 
--- what a request asks for: GET /metrics alone is there, and its query is passed over
+-- what is had at a path
+abbrev pub asked_at : List ℕ → Option Asked
+asked_at path =
+    if bytes_eq path (codes "/") then Some Page
+    else if bytes_eq path (codes "/metrics") then Some Metrics
+    else if bytes_eq path (codes "/snapshot") then Some (About Snapshot)
+    else if bytes_eq path (codes "/history") then Some (About History)
+    else if bytes_eq path (codes "/jobs") then Some (About Jobs)
+    else option_map (λ id. About Job) (id_in path)
+
+-- what a request asks for: all that is there has the method GET alone
 abbrev pub asked_by : RequestData → Asked
-asked_by request =
-    if bytes_eq request.path (codes "/metrics") then (if bytes_eq request.method (codes "GET") then Metrics else OtherMethod) else Nothing
+asked_by request = option_map_or (λ asked. if bytes_eq request.method (codes "GET") then asked else OtherMethod) (asked_at request.path) Nothing
+
+-- the head of the page, of n bytes: a browser runs its own style and script alone, takes it for nothing else, and keeps none
+abbrev pub page_head : ℕ → List ℕ
+page_head n =
+    codes "HTTP/1.1 200 OK\r\nContent-Type: text/html; charset=utf-8\r\nContent-Security-Policy: " ++ POLICY.now
+    ++ codes "\r\nX-Content-Type-Options: nosniff\r\nReferrer-Policy: no-referrer\r\nCache-Control: no-store\r\nContent-Length: "
+    ++ decimal n ++ codes "\r\nConnection: close\r\n\r\n"
+
+-- the response that is the page
+abbrev pub page_response : List ℕ
+page_response = page_head (length PAGE.now) ++ PAGE.now
 
 -- the head of a text of n bytes
 abbrev pub text_head : ℕ → List ℕ
@@ -39,9 +72,9 @@ damage_text false =
 damage_text true =
     codes "# HELP fts_journal_damaged Whether the journal is damaged behind what is counted.\n# TYPE fts_journal_damaged gauge\nfts_journal_damaged 1\n"
 
--- the response with the metrics of tables, of whose journal so many bytes are used
-abbrev pub metrics_response : Tables → ℕ → Bool → List ℕ
-metrics_response tables used is_damaged = text_response (metrics_text tables used ++ damage_text is_damaged)
+-- the response with the metrics of tables, of what their entries tell besides, and of how many bytes their journal has
+abbrev pub metrics_response : Tables → ChronicleData → ℕ → Bool → List ℕ
+metrics_response tables told used is_damaged = text_response (metrics_text tables told used ++ damage_text is_damaged)
 
 -- the body of a refusal, in the form of the service's
 abbrev pub refusal_body : List ℕ → ℕ → ℕ → List ℕ
@@ -60,9 +93,26 @@ no_memory = record { status = 500; allow = NoMethods; body = [] }
 abbrev pub no_route : Reply
 no_route = refusal_of (codes "no route") 30 404 NoMethods
 
--- the metrics haven't the method, but GET
+-- what is there hasn't the method, but GET
 abbrev pub no_method : Reply
 no_method = refusal_of (codes "no such method") 33 405 Get
+
+-- no job has the id
+abbrev pub no_job : Reply
+no_job = refusal_of (codes "no job") 31 404 NoMethods
+
+-- the query asks for nothing that there is
+abbrev pub bad_query : Reply
+bad_query = refusal_of (codes "bad query") 50 400 NoMethods
+
+-- a JSON text
+abbrev pub shows : List ℕ → Reply
+shows text = record { status = 200; allow = NoMethods; body = text }
+
+-- the reply that shows a text, or another one where there is none
+abbrev pub reply_by : Reply → Option (List ℕ) → Reply
+reply_by other None = other
+reply_by other (Some text) = shows text
 
 -- a call of the disk failed
 abbrev pub disk_failed : Reply
@@ -72,7 +122,7 @@ disk_failed = refusal_of (codes "disk failed") 35 503 NoMethods
 abbrev pub journal_changed : Reply
 journal_changed = refusal_of (codes "journal changed") 49 503 NoMethods
 
--- why there are no metrics
+-- why nothing is shown
 abbrev pub reply_to : MonitorFault → Reply
 reply_to DiskFailed = disk_failed
 reply_to (Damaged offset) = journal_changed
@@ -88,24 +138,53 @@ abbrev pub refusal_response : Reply → Bool → List ℕ
 refusal_response reply head_only = response_of reply head_only true
 
 -- the response to a request for the metrics, by the view that its look left
-abbrev pub response_of_view : {D : Type 0} → View D → List ℕ
-response_of_view (Shown monitor is_damaged) = metrics_response monitor.tables monitor.used is_damaged
-response_of_view (Unread monitor fault) = refusal_response (reply_to fault) false
-response_of_view (Shut disk fault) = refusal_response (reply_to fault) false
+abbrev pub metrics_of_view : {D : Type 0} → View D → List ℕ
+metrics_of_view (Shown monitor began damage) = metrics_response monitor.tables monitor.chronicle monitor.used (is_some damage)
+metrics_of_view (Unread monitor began fault) = refusal_response (reply_to fault) false
+metrics_of_view (Shut disk fault) = refusal_response (reply_to fault) false
 
--- the response to what was asked for, and whether that was by HEAD
-abbrev pub response_for : {D : Type 0} → Asked → Bool → View D → List ℕ
-response_for Metrics head_only view = response_of_view view
-response_for OtherMethod head_only view = refusal_response no_method head_only
-response_for Nothing head_only view = refusal_response no_route head_only
+-- what a snapshot shows besides, of what was folded since a moment, and which may be damaged behind that
+abbrev pub shown_at : {D : Type 0} → ℕ → MonitorData D → ℕ → Option ℕ → SnapshotShown
+shown_at now monitor began damage = record {
+  now = now;
+  fold_time = began;
+  last_entry_time = monitor.chronicle.moment;
+  restart_time = monitor.chronicle.restart;
+  used = monitor.used;
+  damage = damage;
+}
+
+-- the reply on a topic, by the path and the query that ask, over what was folded since a moment, and which may be damaged behind that
+abbrev pub reply_on : {D : Type 0} → Topic → List ℕ → Option (List ℕ) → ℕ → MonitorData D → ℕ → Option ℕ → Reply
+reply_on Snapshot path query now monitor began damage =
+    shows (snapshot_text monitor.tables monitor.commands monitor.chronicle.reports (shown_at now monitor began damage))
+reply_on History path query now monitor began damage =
+    reply_by bad_query (option_map (λ asked. history_text monitor.tables.rows monitor.chronicle.reports asked now) (history_asked query))
+reply_on Jobs path query now monitor began damage = reply_by bad_query (option_map (page_text MAX_LOOKED_AT monitor.tables) (jobs_asked monitor.tables query))
+reply_on Job path query now monitor began damage =
+    reply_by no_job (option_map (job_text monitor.tables) (option_and_then (job_named monitor.tables) (id_in path)))
+
+-- the reply to a request about a topic at a moment, by the view that its look left
+abbrev pub reply_of_view : {D : Type 0} → Topic → List ℕ → Option (List ℕ) → ℕ → View D → Reply
+reply_of_view topic path query now (Shown monitor began damage) = reply_on topic path query now monitor began damage
+reply_of_view topic path query now (Unread monitor began fault) = reply_to fault
+reply_of_view topic path query now (Shut disk fault) = reply_to fault
 
 -- whether a request asks for a head alone
 abbrev pub is_head : RequestData → Bool
 is_head request = bytes_eq request.method (codes "HEAD")
 
--- the response to a request
-abbrev pub response_to : {D : Type 0} → RequestData → View D → List ℕ
-response_to request view = response_for (asked_by request) (is_head request) view
+-- the response to a request for what it asks for
+abbrev pub response_for : {D : Type 0} → Asked → RequestData → ℕ → View D → List ℕ
+response_for Page request now view = page_response
+response_for Metrics request now view = metrics_of_view view
+response_for (About topic) request now view = refusal_response (reply_of_view topic request.path request.query now view) false
+response_for OtherMethod request now view = refusal_response no_method (is_head request)
+response_for Nothing request now view = refusal_response no_route (is_head request)
+
+-- the response to a request at a moment, by the view that its look left
+abbrev pub response_to : {D : Type 0} → RequestData → ℕ → View D → List ℕ
+response_to request now view = response_for (asked_by request) request now view
 
 -- This response, or that for want of memory in its place, was written; or a part of it, where the sink counted a failure.
 pub record Says (held now : Option (List ℕ)) (old new : ℕ) (wanted : List ℕ) : Type 0 where

@@ -1,5 +1,5 @@
 -- What a look at a journal makes of a view: it goes on behind what was folded, or begins anew.
-use Rattle.std.specs.Prelude.{◌≡◌, ◌⊎◌, ℕ, true, false, [], Option, Some, None, Result, Ok, Err, OnOk, IfErr}
+use Rattle.std.specs.Prelude.{◌≡◌, ◌⊎◌, ℕ, [], Option, Some, None, Result, Ok, Err, OnOk, IfErr}
 use Rattle.fts_disk.specs.Disk.{DiskState}
 use Rattle.fts_watch.specs.Monitor.{MonitorData, IsFoldOf, GoesOn, IsAll, LookFault, OnlyLooks, OpenFault}
 use Rattle.fts_watch.specs.declared.fault.MonitorFault.{MonitorFault}
@@ -7,18 +7,18 @@ use Rattle.fts_watch.specs.declared.fault.MonitorFault.TheVariants.{DiskFailed, 
 use Rattle.fts_panel.specs.declared.view.View.{View}
 use Rattle.fts_panel.specs.declared.view.View.TheVariants.{Shown, Unread, Shut}
 
--- the view behind a look that found this: damage is shown with what stands before it
-abbrev pub seen_by : {D : Type 0} → MonitorData D → Result (Unit {0}) MonitorFault → View D
-seen_by monitor (Ok done) = Shown monitor false
-seen_by monitor (Err (Damaged offset)) = Shown monitor true
-seen_by monitor (Err DiskFailed) = Unread monitor DiskFailed
-seen_by monitor (Err Changed) = Unread monitor Changed
-seen_by monitor (Err Memory) = Unread monitor Memory
+-- the view behind a look that found this, of a journal that was opened at a moment: damage is shown with what stands before it
+abbrev pub seen_by : {D : Type 0} → MonitorData D → ℕ → Result (Unit {0}) MonitorFault → View D
+seen_by monitor began (Ok done) = Shown monitor began None
+seen_by monitor began (Err (Damaged offset)) = Shown monitor began (Some offset)
+seen_by monitor began (Err DiskFailed) = Unread monitor began DiskFailed
+seen_by monitor began (Err Changed) = Unread monitor began Changed
+seen_by monitor began (Err Memory) = Unread monitor began Memory
 
 -- why the last look wasn't done
 abbrev pub fault_in : {D : Type 0} → View D → Option MonitorFault
-fault_in (Shown monitor is_damaged) = None
-fault_in (Unread monitor fault) = Some fault
+fault_in (Shown monitor began damage) = None
+fault_in (Unread monitor began fault) = Some fault
 fault_in (Shut disk fault) = Some fault
 
 module _ {D : Type 0} (state : D → DiskState) (faults : D → ℕ) where
@@ -29,19 +29,19 @@ module _ {D : Type 0} (state : D → DiskState) (faults : D → ℕ) where
     pub all : OnOk found (IsAll state after)
     pub cause : IfErr found (LookFault state faults before after)
 
-  -- a look from these tables on found this, and left this view
-  pub record IsSeen (before : MonitorData D) (found : Result (Unit {0}) MonitorFault) (view : View D) : Type 0 where
+  -- a look from these tables on, which were begun at a moment, found this, and left this view
+  pub record IsSeen (began : ℕ) (before : MonitorData D) (found : Result (Unit {0}) MonitorFault) (view : View D) : Type 0 where
     pub after : MonitorData D
     pub folds : Folds before after found
-    pub is : view ≡ seen_by after found
+    pub is : view ≡ seen_by after began found
 
-  -- the journal of a disk was opened, with nothing folded, and looked at
-  pub record OpensAndSees (disk : D) (view : View D) : Type 0 where
+  -- the journal of a disk was opened now, with nothing folded, and looked at
+  pub record OpensAndSees (now : ℕ) (disk : D) (view : View D) : Type 0 where
     pub opened : MonitorData D
     pub looks : OnlyLooks state faults disk opened.disk
     pub none : IsFoldOf state opened []
     pub found : Result (Unit {0}) MonitorFault
-    pub seen : IsSeen opened found view
+    pub seen : IsSeen now opened found view
 
   -- it couldn't be opened
   pub record IsShut (disk : D) (view : View D) : Type 0 where
@@ -52,29 +52,29 @@ module _ {D : Type 0} (state : D → DiskState) (faults : D → ℕ) where
     pub is : view ≡ Shut after fault
 
   -- the journal of a disk was opened, or couldn't be
-  abbrev pub Opens : D → View D → Type 0
-  Opens disk view = OpensAndSees disk view ⊎ IsShut disk view
+  abbrev pub Opens : ℕ → D → View D → Type 0
+  Opens now disk view = OpensAndSees now disk view ⊎ IsShut disk view
 
   -- what was folded last no longer stands there, and the journal was opened anew
-  pub record IsSeenAnew (before : MonitorData D) (view : View D) : Type 0 where
+  pub record IsSeenAnew (now : ℕ) (before : MonitorData D) (view : View D) : Type 0 where
     pub changed : MonitorData D
     pub folds : Folds before changed (Err Changed)
-    pub opens : Opens changed.disk view
+    pub opens : Opens now changed.disk view
 
   -- what follows of what a look found: its view, or where what was folded no longer stands there an opening
-  abbrev pub LooksBy : Result (Unit {0}) MonitorFault → MonitorData D → View D → Type 0
-  LooksBy (Ok done) before view = IsSeen before (Ok done) view
-  LooksBy (Err DiskFailed) before view = IsSeen before (Err DiskFailed) view
-  LooksBy (Err (Damaged offset)) before view = IsSeen before (Err (Damaged offset)) view
-  LooksBy (Err Changed) before view = IsSeenAnew before view
-  LooksBy (Err Memory) before view = IsSeen before (Err Memory) view
+  abbrev pub LooksBy : Result (Unit {0}) MonitorFault → ℕ → ℕ → MonitorData D → View D → Type 0
+  LooksBy (Ok done) now began before view = IsSeen began before (Ok done) view
+  LooksBy (Err DiskFailed) now began before view = IsSeen began before (Err DiskFailed) view
+  LooksBy (Err (Damaged offset)) now began before view = IsSeen began before (Err (Damaged offset)) view
+  LooksBy (Err Changed) now began before view = IsSeenAnew now before view
+  LooksBy (Err Memory) now began before view = IsSeen began before (Err Memory) view
 
-  -- a look behind what was folded
-  abbrev pub LooksOn : MonitorData D → View D → Type 0
-  LooksOn before view = (found : Result (Unit {0}) MonitorFault) × LooksBy found before view
+  -- a look behind what was folded since a moment
+  abbrev pub LooksOn : ℕ → ℕ → MonitorData D → View D → Type 0
+  LooksOn now began before view = (found : Result (Unit {0}) MonitorFault) × LooksBy found now began before view
 
-  -- a look, from a view to the next one
-  abbrev pub Looks : View D → View D → Type 0
-  Looks (Shown monitor is_damaged) next = LooksOn monitor next
-  Looks (Unread monitor fault) next = LooksOn monitor next
-  Looks (Shut disk fault) next = Opens disk next
+  -- a look at a moment, from a view to the next one
+  abbrev pub Looks : ℕ → View D → View D → Type 0
+  Looks now (Shown monitor began damage) next = LooksOn now began monitor next
+  Looks now (Unread monitor began fault) next = LooksOn now began monitor next
+  Looks now (Shut disk fault) next = Opens now disk next

@@ -1,18 +1,20 @@
-//! The responses of a monitor: the metrics of a view, and what is refused. Each says close.
+//! The responses of a monitor: the page, the topics of a view, and what is refused. Each says close.
 //! Keeps: what is written is the definition's response, or that for want of memory; a part of it, where the sink counted a failure (`Says`).
 //! A client that is gone is no fault of the monitor: how a write ended is counted by the sink, and not told.
 //! Form of the metrics: Prometheus' text form, version 0.0.4.
-ghost use Rattle.std.specs.Prelude.{◌≡◌, ◌++◌, false, IsSome};
+ghost use Rattle.std.specs.Prelude.{◌≡◌, ◌++◌, false, IsSome, option_copied};
 ghost use Rattle.fts_tables.specs.Counts.{CountsFaults};
 ghost use Rattle.fts_wire.specs.Faults.{status_of};
 ghost use Rattle.fts_wire.specs.Response.{Sends};
-ghost use Rattle.fts_panel.specs.Responses.{Says, IsRefused, text_head, text_response, damage_text, metrics_response, refusal_response, reply_to, no_route, no_method, response_of_view};
+ghost use Rattle.fts_panel.specs.Responses.{Says, IsRefused, text_head, text_response, page_head, page_response, damage_text, metrics_response, refusal_response, reply_to, no_route, no_method, metrics_of_view, reply_of_view};
 
 use crate::refusals::{no_memory, no_method, no_route, refusal, reply_to};
+use crate::topics::{Question, reply_of_view};
 use crate::view::View;
 use arrayvec::ArrayString;
 use fts_disk::Disk;
 use fts_metrics::metrics;
+use fts_page::{PAGE, POLICY};
 use fts_tables::Memory;
 use fts_watch::{Monitor, MonitorFault};
 use fts_wire::{Allow, Sink, SinkFailed, WireFault, send_parts, write_response};
@@ -22,6 +24,9 @@ use std::alloc::Global;
 /// More than the longest head of metrics.
 const HEAD_BYTES: usize = 200;
 
+/// More than the head of the page.
+const PAGE_HEAD_BYTES: usize = 600;
+
 /// What is told behind the metrics of a journal that isn't damaged.
 const NOT_DAMAGED: &str =
     "# HELP fts_journal_damaged Whether the journal is damaged behind what is counted.\n# TYPE fts_journal_damaged gauge\nfts_journal_damaged 0\n";
@@ -30,19 +35,67 @@ const NOT_DAMAGED: &str =
 const DAMAGED: &str =
     "# HELP fts_journal_damaged Whether the journal is damaged behind what is counted.\n# TYPE fts_journal_damaged gauge\nfts_journal_damaged 1\n";
 
+/// Writes the page.
+pub fn write_page<K: Sink>(sink: &mut K)
+    ensures says { Says (K.held sink.old) (K.held sink.new) (K.faults sink.old) (K.faults sink.new) page_response }
+    ensures beside { K.beside sink.new ≡ K.beside sink.old }
+{
+    let head = page_head(PAGE.len());
+    let _sent = send_parts(sink, &[head.as_str().as_bytes(), PAGE.as_bytes()]);
+}
+
+/// The head of a page of this length.
+fn page_head(n: usize) -> ArrayString<PAGE_HEAD_BYTES>
+    ensures { result.bytes ≡ page_head n }
+{
+    let mut head = ArrayString::new();
+    let mut digits = Buffer::new();
+    head.push_str(
+        "HTTP/1.1 200 OK\r\nContent-Type: text/html; charset=utf-8\r\nContent-Security-Policy: ",
+    );
+    head.push_str(POLICY);
+    head.push_str(
+        "\r\nX-Content-Type-Options: nosniff\r\nReferrer-Policy: no-referrer\r\nCache-Control: no-store\r\nContent-Length: ",
+    );
+    head.push_str(digits.format(n));
+    head.push_str("\r\nConnection: close\r\n\r\n");
+    head
+}
+
 /// Writes the metrics of a view, or why there are none.
 pub fn write_view<D: Disk, K: Sink>(alloc: Global, sink: &mut K, view: &View<D>)
-    ensures says { Says (K.held sink.old) (K.held sink.new) (K.faults sink.old) (K.faults sink.new) (response_of_view view.now) }
+    ensures says { Says (K.held sink.old) (K.held sink.new) (K.faults sink.old) (K.faults sink.new) (metrics_of_view view.now) }
     ensures beside { K.beside sink.new ≡ K.beside sink.old }
 {
     match view {
         View::Shown {
             monitor,
-            is_damaged,
-        } => write_metrics(alloc, sink, monitor, *is_damaged),
-        View::Unread { monitor: _, fault } => write_fault(alloc, sink, *fault),
+            began: _,
+            damage,
+        } => write_metrics(alloc, sink, monitor, damage.is_some()),
+        View::Unread {
+            monitor: _,
+            began: _,
+            fault,
+        } => write_fault(alloc, sink, *fault),
         View::Shut { disk: _, fault } => write_fault(alloc, sink, *fault),
     }
+}
+
+/// Writes the reply to what is asked about a topic at a moment, by a view.
+pub fn write_topic<D: Disk, K: Sink>(
+    alloc: Global,
+    sink: &mut K,
+    question: Question<'_>,
+    now: u64,
+    view: &View<D>,
+)
+    ensures says { Says (K.held sink.old) (K.held sink.new) (K.faults sink.old) (K.faults sink.new)
+        (refusal_response (reply_of_view question.entry.topic question.entry.path.now (option_copied question.entry.query) now view.now) false) }
+    ensures beside { K.beside sink.new ≡ K.beside sink.old }
+{
+    let reply = reply_of_view(alloc, question, now, view);
+    let _sent = write_response(sink, false, true, &reply);
 }
 
 /// Writes the metrics of what a monitor has folded.
@@ -53,10 +106,10 @@ fn write_metrics<D: Disk, K: Sink>(
     is_damaged: bool,
 )
     ensures says { Says (K.held sink.old) (K.held sink.new) (K.faults sink.old) (K.faults sink.new)
-        (metrics_response monitor.now.tables monitor.now.used is_damaged) }
+        (metrics_response monitor.now.tables monitor.now.chronicle monitor.now.used is_damaged) }
     ensures beside { K.beside sink.new ≡ K.beside sink.old }
 {
-    match metrics(alloc, monitor.desk(), monitor.used()) {
+    match metrics(alloc, monitor.desk(), monitor.chronicle(), monitor.used()) {
         Ok(text) => {
             let _sent = write_text(sink, text.as_slice(), damage_text(is_damaged));
         }
@@ -95,7 +148,7 @@ fn text_head(n: usize) -> ArrayString<HEAD_BYTES>
     head
 }
 
-/// Writes why there are no metrics.
+/// Writes why nothing is shown.
 fn write_fault<K: Sink>(alloc: Global, sink: &mut K, fault: MonitorFault)
     ensures says { Says (K.held sink.old) (K.held sink.new) (K.faults sink.old) (K.faults sink.new) (refusal_response (reply_to fault) false) }
     ensures beside { K.beside sink.new ≡ K.beside sink.old }
@@ -111,7 +164,7 @@ pub fn refuse_path<K: Sink>(alloc: Global, sink: &mut K, head_only: bool)
     let _sent = write_response(sink, head_only, true, &no_route(alloc));
 }
 
-/// Refuses a request for the metrics by a method that they haven't.
+/// Refuses a request by a method that what it names hasn't.
 pub fn refuse_method<K: Sink>(alloc: Global, sink: &mut K, head_only: bool)
     ensures says { Says (K.held sink.old) (K.held sink.new) (K.faults sink.old) (K.faults sink.new) (refusal_response no_method head_only) }
     ensures beside { K.beside sink.new ≡ K.beside sink.old }

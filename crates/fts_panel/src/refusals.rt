@@ -3,7 +3,7 @@
 ghost use Rattle.std.specs.Prelude.{◌≡◌, IfOk, map};
 ghost use Rattle.std.specs.List.{concat};
 ghost use Rattle.fts_wire.specs.declared.response.Allow.TheVariants.{Get as GetAlone, None as NoMethods};
-ghost use Rattle.fts_panel.specs.Responses.{IsOrNoMemory, refusal_body, refusal_of, no_memory, no_route, no_method, reply_to};
+ghost use Rattle.fts_panel.specs.Responses.{IsOrNoMemory, refusal_body, refusal_of, no_memory, no_route, no_job, no_method, bad_query, reply_to};
 
 use fts_tables::{Items, Memory};
 use fts_watch::MonitorFault;
@@ -14,6 +14,9 @@ use std::alloc::Global;
 /// The rule that a path has a route, as the service has it.
 const NO_ROUTE: u16 = 30;
 
+/// The rule that a job has the id, as the service has it.
+const NO_JOB: u16 = 31;
+
 /// The rule that the route has the method, as the service has it.
 const NO_METHOD: u16 = 33;
 
@@ -22,6 +25,9 @@ const DISK_FAILED: u16 = 35;
 
 /// The rule that the journal is the one that was opened.
 const JOURNAL_CHANGED: u16 = 49;
+
+/// The rule that a query asks for something that there is.
+const BAD_QUERY: u16 = 50;
 
 /// These parts, one behind the other.
 fn joined(alloc: Global, parts: &[&[u8]]) -> Result<Vec<u8>, Memory>
@@ -89,7 +95,7 @@ pub fn no_route(alloc: Global) -> Reply
     refusal(alloc, "no route", NO_ROUTE, status, Allow::None)
 }
 
-/// The metrics haven't the method, but GET.
+/// What is there hasn't the method, but GET.
 pub fn no_method(alloc: Global) -> Reply
     ensures { IsOrNoMemory result no_method }
 {
@@ -97,7 +103,23 @@ pub fn no_method(alloc: Global) -> Reply
     refusal(alloc, "no such method", NO_METHOD, status, Allow::Get)
 }
 
-/// Why there are no metrics.
+/// No job has the id.
+pub fn no_job(alloc: Global) -> Reply
+    ensures { IsOrNoMemory result no_job }
+{
+    let status = statuses::NOT_FOUND;
+    refusal(alloc, "no job", NO_JOB, status, Allow::None)
+}
+
+/// The query asks for nothing that there is.
+pub fn bad_query(alloc: Global) -> Reply
+    ensures { IsOrNoMemory result bad_query }
+{
+    let status = statuses::BAD_REQUEST;
+    refusal(alloc, "bad query", BAD_QUERY, status, Allow::None)
+}
+
+/// Why nothing is shown.
 pub fn reply_to(alloc: Global, fault: MonitorFault) -> Reply
     ensures { IsOrNoMemory result (reply_to fault) }
 {

@@ -1,5 +1,5 @@
 -- The metrics of what was folded, or want of memory.
-use Rattle.std.proofs.Common.{inl, inr, ap, ap₂, ◌∙◌, ◌++◌, ℕ, List}
+use Rattle.std.proofs.Common.{◌≡◌, inl, inr, ap, ap₂, ◌∙◌, ◌++◌, ℕ, List}
 use Rattle.std.specs.Prelude.{true, false}
 use Rattle.fts_wire.specs.Response.{response_of}
 use Rattle.fts_wire.specs.declared.response.Reply.{Reply}
@@ -9,7 +9,8 @@ use Rattle.fts_panel.proofs.answers.write_metrics.Goals as goal
 
 pub returns-in-Ok-clause-says : goal.returns-in-Ok-clause-says
 returns-in-Ok-clause-says g c =
-    let text = c.as_slice.ensures.value ∙ c.in-Ok.ensures ∙ ap₂ metrics_text c.desk.ensures.tables c.used.ensures in
+    let told : c.chronicle.result.now.told ≡ c.args.monitor.now.chronicle = c.chronicle.ensures.told in
+    let text = c.as_slice.ensures.value ∙ c.in-Ok.ensures ∙ (λ i. metrics_text (c.desk.ensures.tables i) (told i) (c.used.ensures i)) in
     record {
       response = text_response (c.as_slice.result.now ++ c.damage_text.result.now);
       is = inl (ap₂ (λ (a b : List ℕ). text_response (a ++ b)) text c.damage_text.ensures);

@@ -11,7 +11,7 @@ returns-in-Err-Changed g c =
       record {
         changed = c.look.new.self;
         folds = record { goes_on = c.look.ensures.goes_on; looks = c.look.ensures.looks; all = was.all; cause = was.cause };
-        opens = subst (λ d. Opens g.D.Disk.state g.D.Disk.faults d c.open_view.result) c.close.ensures c.open_view.ensures;
+        opens = subst (λ d. Opens g.D.Disk.state g.D.Disk.faults c.args.now d c.open_view.result) c.close.ensures c.open_view.ensures;
       },
     )
 
