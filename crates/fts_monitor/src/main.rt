@@ -1,45 +1,24 @@
-//! The program `fts_monitor STAND --port PORT`: it answers on a port of 127.0.0.1 what stands in the journal of a stand, for Prometheus.
+//! The program `fts_monitor STAND --port PORT`: it answers on a port of 127.0.0.1 what stands in the journal of a stand, for a browser and for Prometheus.
 //! It opens the file `fts.journal` of the folder STAND for reading, takes no lock, and writes nothing. Which command lines are accepted stands in
 //! `specs/CommandLine.antt`; what is answered, `fts_panel` decides.
 #![tactic(auto)]
 
 ghost use Rattle.std.specs.Prelude.{◌≡◌, map, string_bytes, option_and_then};
-ghost use Rattle.std.specs.List.{list_all};
-ghost use Rattle.fts_tables.specs.Names.{is_digit};
 ghost use Rattle.fts_words.specs.Words.{number_of};
 ghost use Rattle.fts_disk.specs.File.{IsReadOnly};
 ghost use Rattle.fts_monitor.specs.CommandLine.{port_by, port_in, port_named, status_of};
 
-use fts_devices::{LineLimits, StopFile, TcpDoors};
+use fts_devices::{LineLimits, StopFile, SystemClock, TcpDoors, command_line};
 use fts_disk::{Disk, FileDisk, SystemDisk};
 use fts_panel::{View, open_view, serve_line};
 use fts_service::{Doors, DoorsFailed};
-use fts_tables::Memory;
+use fts_tables::{Clock, Memory};
 use fts_watch::MonitorFault;
 use fts_wire::{Room, Sink, StdSink};
+use fts_words::number_of;
 use std::alloc::Global;
 use std::process::ExitCode;
 use std::sync::Wait;
-use std::{env, io};
-
-/// The most decimal digits of a port.
-const MAX_DIGITS: usize = 20;
-
-/// The words of the command line behind the program's name; none where one of them is no UTF-8.
-fn command_line(rt: &HostRuntime) -> Result<Vec<String>, Memory> {
-    let mut line = Vec::new(rt.alloc());
-    let args = match env::args(rt) {
-        Ok(args) => args,
-        Err(e) if e.kind() == io::ErrorKind::OutOfMemory => return Err(Memory),
-        Err(_) => return Ok(line),
-    };
-    for word in args {
-        if line.push(word).is_err() {
-            return Err(Memory);
-        }
-    }
-    Ok(line)
-}
 
 /// The port that the words behind the stand name; none where they are not accepted.
 fn port_in(words: &[String]) -> Option<u16>
@@ -70,20 +49,10 @@ fn port_named(name: &str, value: &str) -> Option<u16>
 fn port_of(value: &str) -> Option<u16>
     ensures { result ≡ option_and_then port_by (number_of value.now) }
 {
-    let bytes = value.as_bytes();
-    if bytes.is_empty() || bytes.len() > MAX_DIGITS || !are_digits(bytes) {
-        return None;
+    match number_of(value) {
+        Some(number) => port_by(number),
+        None => None,
     }
-    match value.parse() {
-        Ok(number) => port_by(number),
-        Err(_) => None,
-    }
-}
-
-fn are_digits(bytes: &[u8]) -> bool
-    ensures { result ≡ list_all is_digit bytes.now }
-{
-    bytes.iter().all(|byte| 0x30 <= *byte && *byte <= 0x39)
 }
 
 /// A number that a port may have.
@@ -125,15 +94,16 @@ fn note_of(fault: MonitorFault) -> &'static str {
 }
 
 /// Serves the next line of the doors, and gives the view behind it; none where no line comes any more.
-fn serve_next<D: Disk + Drop, A: Doors>(
+fn serve_next<D: Disk + Drop, C: Clock, A: Doors>(
     alloc: Global,
     view: View<D>,
+    clock: &mut C,
     doors: &mut A,
     room: &mut Room,
 ) -> Option<View<D>> {
     match doors.next() {
         Ok(Some(mut line)) => {
-            let view = serve_line(alloc, view, &mut line, room);
+            let view = serve_line(alloc, view, clock, &mut line, room);
             doors.done(line);
             Some(view)
         }
@@ -142,16 +112,17 @@ fn serve_next<D: Disk + Drop, A: Doors>(
 }
 
 /// Serves lines for ever, one at a time, or until none comes any more.
-fn serve_lines<R: Wait, D: Disk + Drop, A: Doors>(
+fn serve_lines<R: Wait, D: Disk + Drop, C: Clock, A: Doors>(
     waits: &R,
     alloc: Global,
     view: View<D>,
+    clock: &mut C,
     doors: &mut A,
     room: &mut Room,
 ) {
     let mut view = view;
     for _ in waits.forever() {
-        match serve_next(alloc, view, doors, room) {
+        match serve_next(alloc, view, clock, doors, room) {
             Some(next) => view = next,
             None => return,
         }
@@ -165,7 +136,7 @@ fn journal_at<'a>(rt: &'a HostRuntime, path: &str) -> SystemDisk<&'a HostRuntime
     FileDisk::view(rt, path)
 }
 
-/// Serves the metrics of a journal on a port, and gives the status where that ends.
+/// Serves what stands in a journal on a port, and gives the status where that ends.
 fn serve_journal<R: Wait, D: Disk + Drop>(
     rt: &HostRuntime,
     waits: &R,
@@ -173,19 +144,20 @@ fn serve_journal<R: Wait, D: Disk + Drop>(
     port: u16,
 ) -> Result<u8, Memory> {
     let alloc = rt.alloc();
-    let view = open_view(alloc, journal);
+    let mut clock = SystemClock::new(rt);
+    let view = open_view(alloc, journal, clock.now());
     if let Some(fault) = view.fault() {
         return Ok(tell(rt, status_of(fault), note_of(fault)));
     }
     let mut room = Room::new(alloc)?;
     let mut doors = TcpDoors::new(rt, alloc, LineLimits::of_service(), StopFile::none());
     if doors.listen(port).is_ok() {
-        serve_lines(waits, alloc, view, &mut doors, &mut room);
+        serve_lines(waits, alloc, view, &mut clock, &mut doors, &mut room);
     }
     Ok(tell(rt, 9, "fts_monitor: doors failed\n"))
 }
 
-/// Serves the metrics of a stand on a port, and gives the status where that ends.
+/// Serves what stands in the journal of a stand on a port, and gives the status where that ends.
 fn serve<R: Wait>(rt: &HostRuntime, waits: &R, stand: &str, port: u16) -> Result<u8, Memory> {
     let path = format!(in rt.alloc(); "{stand}/fts.journal")?;
     serve_journal(rt, waits, journal_at(rt, path.as_str()), port)

@@ -2,10 +2,12 @@
 //! Opening a journal with one entry takes five reads, and a look that finds nothing new takes one.
 use crate::disk::Changing;
 use crate::texts::{
-    AFTER_THE_CLAIM, AFTER_THE_START, BEFORE_DAMAGE, CLAIMED, DAMAGED, DISK_FAILED, EMPTY,
-    FOREIGN_ORIGIN, NO_METHOD, NO_METHOD_TO_HEAD, NO_ROUTE, NOTHING, OTHER, STARTED,
+    AFTER_THE_CLAIM, AFTER_THE_REPORT, AFTER_THE_START, BAD_QUERY, BEFORE_DAMAGE, CLAIMED, DAMAGED,
+    DISK_FAILED, EMPTY, FOREIGN_ORIGIN, HISTORY, JOB, JOBS, NO_JOB, NO_JOBS, NO_METHOD,
+    NO_METHOD_TO_HEAD, NO_ROUTE, NOTHING, OTHER, REPORTED, SNAPSHOT, STARTED,
 };
 use fts_panel::{View, open_view, serve_line};
+use fts_tables::{Clock, ListClock};
 use fts_wire::{MemoryLine, MemorySink, MemorySource, Room};
 use std::alloc::Global;
 
@@ -22,9 +24,12 @@ struct Row {
     want_then: &'static str,
 }
 
+/// When the journal of a row is opened, in seconds since 1970.
+const OPENED: u64 = 1_700_000_010;
+
 const METRICS: &str = "GET /metrics HTTP/1.1\r\nHost: m\r\n\r\n";
 
-const ROWS: [Row; 9] = [
+const ROWS: [Row; 15] = [
     Row {
         case: "nothing at all",
         bytes: EMPTY,
@@ -46,6 +51,17 @@ const ROWS: [Row; 9] = [
         want: AFTER_THE_START,
         asks_then: METRICS,
         want_then: AFTER_THE_CLAIM,
+    },
+    Row {
+        case: "a copy that was reported",
+        bytes: REPORTED,
+        later: REPORTED,
+        from: 0,
+        fail: 0,
+        asks: METRICS,
+        want: AFTER_THE_REPORT,
+        asks_then: METRICS,
+        want_then: AFTER_THE_REPORT,
     },
     Row {
         case: "what stands before damage stays on view",
@@ -86,7 +102,7 @@ const ROWS: [Row; 9] = [
         later: STARTED,
         from: 0,
         fail: 0,
-        asks: "GET / HTTP/1.1\r\n\r\n",
+        asks: "GET /nothing HTTP/1.1\r\n\r\n",
         want: NO_ROUTE,
         asks_then: "POST /metrics HTTP/1.1\r\nContent-Length: 2\r\n\r\n{}",
         want_then: NO_METHOD,
@@ -112,6 +128,61 @@ const ROWS: [Row; 9] = [
         want: AFTER_THE_START,
         asks_then: "GET /metrics HTTP/1.1\r\nOrigin: https://a.example\r\n\r\n",
         want_then: FOREIGN_ORIGIN,
+    },
+    Row {
+        case: "a snapshot, and the last two minutes",
+        bytes: REPORTED,
+        later: REPORTED,
+        from: 0,
+        fail: 0,
+        asks: "GET /snapshot HTTP/1.1\r\n\r\n",
+        want: SNAPSHOT,
+        asks_then: "GET /history?step=60&count=2 HTTP/1.1\r\n\r\n",
+        want_then: HISTORY,
+    },
+    Row {
+        case: "jobs of a state to a storage whose name holds a backslash, and of a state that none has",
+        bytes: REPORTED,
+        later: REPORTED,
+        from: 0,
+        fail: 0,
+        asks: "GET /jobs?state=FINISHED&destination=b%3A%2F%2Fb%5Cc&newest=true&after= HTTP/1.1\r\n\r\n",
+        want: JOBS,
+        asks_then: "GET /jobs?state=FAILED HTTP/1.1\r\n\r\n",
+        want_then: NO_JOBS,
+    },
+    Row {
+        case: "a job, and an id that no job has",
+        bytes: REPORTED,
+        later: REPORTED,
+        from: 0,
+        fail: 0,
+        asks: "GET /jobs/00000000-0000-4000-8000-000000000001 HTTP/1.1\r\n\r\n",
+        want: JOB,
+        asks_then: "GET /jobs/00000000-0000-4000-8000-000000000002 HTTP/1.1\r\n\r\n",
+        want_then: NO_JOB,
+    },
+    Row {
+        case: "steps of no length, and too many",
+        bytes: REPORTED,
+        later: REPORTED,
+        from: 0,
+        fail: 0,
+        asks: "GET /history?step=61 HTTP/1.1\r\n\r\n",
+        want: BAD_QUERY,
+        asks_then: "GET /history?count=241 HTTP/1.1\r\n\r\n",
+        want_then: BAD_QUERY,
+    },
+    Row {
+        case: "behind the last job, and behind one that there is not",
+        bytes: REPORTED,
+        later: REPORTED,
+        from: 0,
+        fail: 0,
+        asks: "GET /jobs?after=00000000-0000-4000-8000-000000000001 HTTP/1.1\r\n\r\n",
+        want: NO_JOBS,
+        asks_then: "GET /jobs?after=x HTTP/1.1\r\n\r\n",
+        want_then: BAD_QUERY,
     },
     Row {
         case: "no request, and a part of one",
@@ -143,17 +214,26 @@ fn is_answered(alloc: Global, row: &Row) -> bool {
         reads: 0,
         faults: 0,
     };
-    let view = open_view(alloc, disk);
-    let (view, first) = exchange(alloc, view, row.asks, row.want);
-    let (_view, second) = exchange(alloc, view, row.asks_then, row.want_then);
+    let Some(mut clock) = clock(alloc) else {
+        return false;
+    };
+    let view = open_view(alloc, disk, clock.now());
+    let (view, first) = exchange(alloc, view, &mut clock, row.asks, row.want);
+    let (_view, second) = exchange(alloc, view, &mut clock, row.asks_then, row.want_then);
     first && second
 }
 
 /// Whether a request on a line of its own is answered so; and the view behind it.
-fn exchange(alloc: Global, view: View<Changing>, asks: &str, want: &str) -> (View<Changing>, bool) {
+fn exchange(
+    alloc: Global,
+    view: View<Changing>,
+    clock: &mut ListClock,
+    asks: &str,
+    want: &str,
+) -> (View<Changing>, bool) {
     match (line(alloc, asks), Room::new(alloc)) {
         (Some(mut line), Ok(mut room)) => {
-            let view = serve_line(alloc, view, &mut line, &mut room);
+            let view = serve_line(alloc, view, clock, &mut line, &mut room);
             (view, line.bytes() == want.as_bytes())
         }
         (None, _) | (_, Err(_)) => (view, false),
@@ -165,4 +245,10 @@ fn line(alloc: Global, asks: &str) -> Option<MemoryLine> {
     let bytes = asks.as_bytes().to_vec(alloc).ok()?;
     let source = MemorySource::new(bytes, Vec::new(alloc));
     Some(MemoryLine::new(source, MemorySink::new(alloc, Vec::new(alloc))))
+}
+
+/// The clock of a row: a minute goes by from each moment to the next.
+fn clock(alloc: Global) -> Option<ListClock> {
+    let moments = [OPENED, OPENED + 60, OPENED + 120].to_vec(alloc).ok()?;
+    Some(ListClock::new(moments))
 }

@@ -18,6 +18,13 @@ pub const CLAIMED: &[u8] =
      \0\0\x03\0\0\0\x01\0\x07a://a\"q\x02f1\x07b://b\\c\x02f1\0\0\x07default\x01\x0f\0\0\0\0\x06\x80\xe2\xcf\
      \xaa\x06\0\0\0\0\0\0\0\0\0";
 
+/// Behind the claim the report of its copy, a minute later: verified, with 12,345 bytes.
+pub const REPORTED: &[u8] =
+    b"FTS3JRN1\x01A\0\0\0\0\x01\x80\xe2\xcf\xaa\x06\x04demo\x02\x07\x02\x07a://a\"q\x03\x04\x07b://b\\c\x05\
+     \x06\x01\x01l\x07a://a\"q\x07b://b\\c\x09\x01\x07default\x01\x010\0\0\0\x01\x02\x80\xe2\xcf\xaa\x06\0\
+     \0\0\x03\0\0\0\x01\0\x07a://a\"q\x02f1\x07b://b\\c\x02f1\0\0\x07default\x01\x0f\0\0\0\0\x06\x80\xe2\xcf\
+     \xaa\x06\0\0\0\0\0\0\0\0\x01\x1c\x00\x00\x00\x00\x07\xbc\xe2\xcf\xaa\x06\x01\x01\x00\xb9`0123456789abcdef\0";
+
 /// Behind the start a body that is no entry.
 pub const DAMAGED: &[u8] =
     b"FTS3JRN1\x01A\0\0\0\0\x01\x80\xe2\xcf\xaa\x06\x04demo\x02\x07\x02\x07a://a\"q\x03\x04\x07b://b\\c\x05\x06\x01\x01l\x07a://a\"q\x07b://b\\c\x09\x01\x07default\x01\x01\x01\0\0\0\x07\0";
@@ -25,7 +32,7 @@ pub const DAMAGED: &[u8] =
 /// The metrics of no entry.
 pub const NOTHING: &str = "HTTP/1.1 200 OK\r\n\
      Content-Type: text/plain; version=0.0.4\r\n\
-     Content-Length: 1167\r\n\
+     Content-Length: 1548\r\n\
      Connection: close\r\n\r\n\
      # HELP fts_jobs Jobs by state.\n\
      # TYPE fts_jobs gauge\n\
@@ -37,6 +44,10 @@ pub const NOTHING: &str = "HTTP/1.1 200 OK\r\n\
      fts_jobs{state=\"CANCELED\"} 0\n\
      # HELP fts_files Files of each link by state.\n\
      # TYPE fts_files gauge\n\
+     # HELP fts_copied_bytes_total Bytes of verified copies over each link.\n\
+     # TYPE fts_copied_bytes_total counter\n\
+     # HELP fts_reports_total Reports of copies over each link by outcome.\n\
+     # TYPE fts_reports_total counter\n\
      # HELP fts_link_active Files that are being copied over a listed link.\n\
      # TYPE fts_link_active gauge\n\
      # HELP fts_link_limit How many files may be copied at once over a listed link.\n\
@@ -54,6 +65,9 @@ pub const NOTHING: &str = "HTTP/1.1 200 OK\r\n\
      # HELP fts_journal_limit_bytes How many bytes the journal may have.\n\
      # TYPE fts_journal_limit_bytes gauge\n\
      fts_journal_limit_bytes 1073741824\n\
+     # HELP fts_last_entry_timestamp_seconds Moment of the last entry in seconds since 1970.\n\
+     # TYPE fts_last_entry_timestamp_seconds gauge\n\
+     fts_last_entry_timestamp_seconds 0\n\
      # HELP fts_journal_damaged Whether the journal is damaged behind what is counted.\n\
      # TYPE fts_journal_damaged gauge\n\
      fts_journal_damaged 0\n";
@@ -61,7 +75,7 @@ pub const NOTHING: &str = "HTTP/1.1 200 OK\r\n\
 /// Those of the start.
 pub const AFTER_THE_START: &str = "HTTP/1.1 200 OK\r\n\
      Content-Type: text/plain; version=0.0.4\r\n\
-     Content-Length: 1791\r\n\
+     Content-Length: 2181\r\n\
      Connection: close\r\n\r\n\
      # HELP fts_jobs Jobs by state.\n\
      # TYPE fts_jobs gauge\n\
@@ -73,6 +87,10 @@ pub const AFTER_THE_START: &str = "HTTP/1.1 200 OK\r\n\
      fts_jobs{state=\"CANCELED\"} 0\n\
      # HELP fts_files Files of each link by state.\n\
      # TYPE fts_files gauge\n\
+     # HELP fts_copied_bytes_total Bytes of verified copies over each link.\n\
+     # TYPE fts_copied_bytes_total counter\n\
+     # HELP fts_reports_total Reports of copies over each link by outcome.\n\
+     # TYPE fts_reports_total counter\n\
      # HELP fts_link_active Files that are being copied over a listed link.\n\
      # TYPE fts_link_active gauge\n\
      fts_link_active{source=\"a://a\\\"q\",destination=\"b://b\\\\c\"} 0\n\
@@ -100,6 +118,9 @@ pub const AFTER_THE_START: &str = "HTTP/1.1 200 OK\r\n\
      # HELP fts_journal_limit_bytes How many bytes the journal may have.\n\
      # TYPE fts_journal_limit_bytes gauge\n\
      fts_journal_limit_bytes 1073741824\n\
+     # HELP fts_last_entry_timestamp_seconds Moment of the last entry in seconds since 1970.\n\
+     # TYPE fts_last_entry_timestamp_seconds gauge\n\
+     fts_last_entry_timestamp_seconds 1700000000\n\
      # HELP fts_journal_damaged Whether the journal is damaged behind what is counted.\n\
      # TYPE fts_journal_damaged gauge\n\
      fts_journal_damaged 0\n";
@@ -107,7 +128,7 @@ pub const AFTER_THE_START: &str = "HTTP/1.1 200 OK\r\n\
 /// Those behind the claim.
 pub const AFTER_THE_CLAIM: &str = "HTTP/1.1 200 OK\r\n\
      Content-Type: text/plain; version=0.0.4\r\n\
-     Content-Length: 2215\r\n\
+     Content-Length: 3356\r\n\
      Connection: close\r\n\r\n\
      # HELP fts_jobs Jobs by state.\n\
      # TYPE fts_jobs gauge\n\
@@ -125,6 +146,19 @@ pub const AFTER_THE_CLAIM: &str = "HTTP/1.1 200 OK\r\n\
      fts_files{source=\"a://a\\\"q\",destination=\"b://b\\\\c\",state=\"FAILED\"} 0\n\
      fts_files{source=\"a://a\\\"q\",destination=\"b://b\\\\c\",state=\"CANCELED\"} 0\n\
      fts_files{source=\"a://a\\\"q\",destination=\"b://b\\\\c\",state=\"NOT_USED\"} 0\n\
+     # HELP fts_copied_bytes_total Bytes of verified copies over each link.\n\
+     # TYPE fts_copied_bytes_total counter\n\
+     fts_copied_bytes_total{source=\"a://a\\\"q\",destination=\"b://b\\\\c\"} 0\n\
+     # HELP fts_reports_total Reports of copies over each link by outcome.\n\
+     # TYPE fts_reports_total counter\n\
+     fts_reports_total{source=\"a://a\\\"q\",destination=\"b://b\\\\c\",outcome=\"verified\"} 0\n\
+     fts_reports_total{source=\"a://a\\\"q\",destination=\"b://b\\\\c\",outcome=\"source_missing\"} 0\n\
+     fts_reports_total{source=\"a://a\\\"q\",destination=\"b://b\\\\c\",outcome=\"destination_exists\"} 0\n\
+     fts_reports_total{source=\"a://a\\\"q\",destination=\"b://b\\\\c\",outcome=\"source_size\"} 0\n\
+     fts_reports_total{source=\"a://a\\\"q\",destination=\"b://b\\\\c\",outcome=\"source_digest\"} 0\n\
+     fts_reports_total{source=\"a://a\\\"q\",destination=\"b://b\\\\c\",outcome=\"read_back_differs\"} 0\n\
+     fts_reports_total{source=\"a://a\\\"q\",destination=\"b://b\\\\c\",outcome=\"store_failed\"} 0\n\
+     fts_reports_total{source=\"a://a\\\"q\",destination=\"b://b\\\\c\",outcome=\"stopped\"} 0\n\
      # HELP fts_link_active Files that are being copied over a listed link.\n\
      # TYPE fts_link_active gauge\n\
      fts_link_active{source=\"a://a\\\"q\",destination=\"b://b\\\\c\"} 1\n\
@@ -152,6 +186,77 @@ pub const AFTER_THE_CLAIM: &str = "HTTP/1.1 200 OK\r\n\
      # HELP fts_journal_limit_bytes How many bytes the journal may have.\n\
      # TYPE fts_journal_limit_bytes gauge\n\
      fts_journal_limit_bytes 1073741824\n\
+     # HELP fts_last_entry_timestamp_seconds Moment of the last entry in seconds since 1970.\n\
+     # TYPE fts_last_entry_timestamp_seconds gauge\n\
+     fts_last_entry_timestamp_seconds 1700000000\n\
+     # HELP fts_journal_damaged Whether the journal is damaged behind what is counted.\n\
+     # TYPE fts_journal_damaged gauge\n\
+     fts_journal_damaged 0\n";
+
+/// Those behind the report.
+pub const AFTER_THE_REPORT: &str = "HTTP/1.1 200 OK\r\n\
+     Content-Type: text/plain; version=0.0.4\r\n\
+     Content-Length: 3360\r\n\
+     Connection: close\r\n\r\n\
+     # HELP fts_jobs Jobs by state.\n\
+     # TYPE fts_jobs gauge\n\
+     fts_jobs{state=\"SUBMITTED\"} 0\n\
+     fts_jobs{state=\"ACTIVE\"} 0\n\
+     fts_jobs{state=\"FINISHED\"} 1\n\
+     fts_jobs{state=\"FINISHEDDIRTY\"} 0\n\
+     fts_jobs{state=\"FAILED\"} 0\n\
+     fts_jobs{state=\"CANCELED\"} 0\n\
+     # HELP fts_files Files of each link by state.\n\
+     # TYPE fts_files gauge\n\
+     fts_files{source=\"a://a\\\"q\",destination=\"b://b\\\\c\",state=\"SUBMITTED\"} 0\n\
+     fts_files{source=\"a://a\\\"q\",destination=\"b://b\\\\c\",state=\"ACTIVE\"} 0\n\
+     fts_files{source=\"a://a\\\"q\",destination=\"b://b\\\\c\",state=\"FINISHED\"} 1\n\
+     fts_files{source=\"a://a\\\"q\",destination=\"b://b\\\\c\",state=\"FAILED\"} 0\n\
+     fts_files{source=\"a://a\\\"q\",destination=\"b://b\\\\c\",state=\"CANCELED\"} 0\n\
+     fts_files{source=\"a://a\\\"q\",destination=\"b://b\\\\c\",state=\"NOT_USED\"} 0\n\
+     # HELP fts_copied_bytes_total Bytes of verified copies over each link.\n\
+     # TYPE fts_copied_bytes_total counter\n\
+     fts_copied_bytes_total{source=\"a://a\\\"q\",destination=\"b://b\\\\c\"} 12345\n\
+     # HELP fts_reports_total Reports of copies over each link by outcome.\n\
+     # TYPE fts_reports_total counter\n\
+     fts_reports_total{source=\"a://a\\\"q\",destination=\"b://b\\\\c\",outcome=\"verified\"} 1\n\
+     fts_reports_total{source=\"a://a\\\"q\",destination=\"b://b\\\\c\",outcome=\"source_missing\"} 0\n\
+     fts_reports_total{source=\"a://a\\\"q\",destination=\"b://b\\\\c\",outcome=\"destination_exists\"} 0\n\
+     fts_reports_total{source=\"a://a\\\"q\",destination=\"b://b\\\\c\",outcome=\"source_size\"} 0\n\
+     fts_reports_total{source=\"a://a\\\"q\",destination=\"b://b\\\\c\",outcome=\"source_digest\"} 0\n\
+     fts_reports_total{source=\"a://a\\\"q\",destination=\"b://b\\\\c\",outcome=\"read_back_differs\"} 0\n\
+     fts_reports_total{source=\"a://a\\\"q\",destination=\"b://b\\\\c\",outcome=\"store_failed\"} 0\n\
+     fts_reports_total{source=\"a://a\\\"q\",destination=\"b://b\\\\c\",outcome=\"stopped\"} 0\n\
+     # HELP fts_link_active Files that are being copied over a listed link.\n\
+     # TYPE fts_link_active gauge\n\
+     fts_link_active{source=\"a://a\\\"q\",destination=\"b://b\\\\c\"} 0\n\
+     # HELP fts_link_limit How many files may be copied at once over a listed link.\n\
+     # TYPE fts_link_limit gauge\n\
+     fts_link_limit{source=\"a://a\\\"q\",destination=\"b://b\\\\c\"} 9\n\
+     # HELP fts_endpoint_active Files that are being copied to or from a storage.\n\
+     # TYPE fts_endpoint_active gauge\n\
+     fts_endpoint_active{endpoint=\"a://a\\\"q\",direction=\"inbound\"} 0\n\
+     fts_endpoint_active{endpoint=\"a://a\\\"q\",direction=\"outbound\"} 0\n\
+     fts_endpoint_active{endpoint=\"b://b\\\\c\",direction=\"inbound\"} 0\n\
+     fts_endpoint_active{endpoint=\"b://b\\\\c\",direction=\"outbound\"} 0\n\
+     # HELP fts_endpoint_limit How many files may be copied at once to or from a storage.\n\
+     # TYPE fts_endpoint_limit gauge\n\
+     fts_endpoint_limit{endpoint=\"a://a\\\"q\",direction=\"inbound\"} 3\n\
+     fts_endpoint_limit{endpoint=\"a://a\\\"q\",direction=\"outbound\"} 4\n\
+     fts_endpoint_limit{endpoint=\"b://b\\\\c\",direction=\"inbound\"} 5\n\
+     fts_endpoint_limit{endpoint=\"b://b\\\\c\",direction=\"outbound\"} 6\n\
+     # HELP fts_rows File rows.\n\
+     # TYPE fts_rows gauge\n\
+     fts_rows 1\n\
+     # HELP fts_journal_bytes Bytes of the journal.\n\
+     # TYPE fts_journal_bytes gauge\n\
+     fts_journal_bytes 184\n\
+     # HELP fts_journal_limit_bytes How many bytes the journal may have.\n\
+     # TYPE fts_journal_limit_bytes gauge\n\
+     fts_journal_limit_bytes 1073741824\n\
+     # HELP fts_last_entry_timestamp_seconds Moment of the last entry in seconds since 1970.\n\
+     # TYPE fts_last_entry_timestamp_seconds gauge\n\
+     fts_last_entry_timestamp_seconds 1700000060\n\
      # HELP fts_journal_damaged Whether the journal is damaged behind what is counted.\n\
      # TYPE fts_journal_damaged gauge\n\
      fts_journal_damaged 0\n";
@@ -159,7 +264,7 @@ pub const AFTER_THE_CLAIM: &str = "HTTP/1.1 200 OK\r\n\
 /// Those of the start, behind which there is damage.
 pub const BEFORE_DAMAGE: &str = "HTTP/1.1 200 OK\r\n\
      Content-Type: text/plain; version=0.0.4\r\n\
-     Content-Length: 1791\r\n\
+     Content-Length: 2181\r\n\
      Connection: close\r\n\r\n\
      # HELP fts_jobs Jobs by state.\n\
      # TYPE fts_jobs gauge\n\
@@ -171,6 +276,10 @@ pub const BEFORE_DAMAGE: &str = "HTTP/1.1 200 OK\r\n\
      fts_jobs{state=\"CANCELED\"} 0\n\
      # HELP fts_files Files of each link by state.\n\
      # TYPE fts_files gauge\n\
+     # HELP fts_copied_bytes_total Bytes of verified copies over each link.\n\
+     # TYPE fts_copied_bytes_total counter\n\
+     # HELP fts_reports_total Reports of copies over each link by outcome.\n\
+     # TYPE fts_reports_total counter\n\
      # HELP fts_link_active Files that are being copied over a listed link.\n\
      # TYPE fts_link_active gauge\n\
      fts_link_active{source=\"a://a\\\"q\",destination=\"b://b\\\\c\"} 0\n\
@@ -198,6 +307,9 @@ pub const BEFORE_DAMAGE: &str = "HTTP/1.1 200 OK\r\n\
      # HELP fts_journal_limit_bytes How many bytes the journal may have.\n\
      # TYPE fts_journal_limit_bytes gauge\n\
      fts_journal_limit_bytes 1073741824\n\
+     # HELP fts_last_entry_timestamp_seconds Moment of the last entry in seconds since 1970.\n\
+     # TYPE fts_last_entry_timestamp_seconds gauge\n\
+     fts_last_entry_timestamp_seconds 1700000000\n\
      # HELP fts_journal_damaged Whether the journal is damaged behind what is counted.\n\
      # TYPE fts_journal_damaged gauge\n\
      fts_journal_damaged 1\n";
@@ -220,3 +332,66 @@ pub const FOREIGN_ORIGIN: &str =
 
 pub const DISK_FAILED: &str =
     "HTTP/1.1 503 Service Unavailable\r\nContent-Type: application/json\r\nContent-Length: 48\r\nConnection: close\r\n\r\n{\"message\":\"disk failed\",\"rule\":35,\"status\":503}";
+
+/// What stands behind the report, a minute after the journal was opened.
+pub const SNAPSHOT: &str = "HTTP/1.1 200 OK\r\n\
+     Content-Type: application/json\r\n\
+     Content-Length: 923\r\n\
+     Connection: close\r\n\r\n\
+     {\"damage\":null,\"entries\":4,\"failures\":[],\"files_by_state\":{\"ACTIVE\":0,\"CANCELED\":0,\"FAILED\":0,\"FINISHED\":1,\
+     \"NOT_USED\":0,\"SUBMITTED\":0},\"fold_time\":1700000010,\"jobs\":1,\"jobs_by_state\":{\"ACTIVE\":0,\"CANCELED\":0,\"FAILED\":0,\
+     \"FINISHED\":1,\"FINISHEDDIRTY\":0,\"SUBMITTED\":0},\"jobs_limit\":100000,\"journal_bytes\":184,\
+     \"journal_limit_bytes\":1073741824,\"last_entry_time\":1700000060,\"links\":[{\"active\":0,\"canceled\":0,\"copied_bytes\":12345,\
+     \"destination\":\"b://b\\\\c\",\"failed\":0,\"finished\":1,\"last_report_time\":1700000060,\"max_active\":9,\
+     \"source\":\"a://a\\\"q\",\"submitted\":0,\"symbolicname\":\"l\"}],\"links_left_out\":0,\"now\":1700000070,\
+     \"restart_time\":1700000000,\"rows\":1,\"rows_limit\":400000,\"storages\":[{\"inbound_active\":0,\"inbound_max_active\":3,\
+     \"outbound_active\":0,\"outbound_max_active\":4,\"storage\":\"a://a\\\"q\"},{\"inbound_active\":0,\"inbound_max_active\":5,\
+     \"outbound_active\":0,\"outbound_max_active\":6,\"storage\":\"b://b\\\\c\"}],\"vo_name\":\"demo\",\"whole\":true}";
+
+/// The last two minutes, a minute later.
+pub const HISTORY: &str = "HTTP/1.1 200 OK\r\n\
+     Content-Type: application/json\r\n\
+     Content-Length: 79\r\n\
+     Connection: close\r\n\r\n\
+     {\"bytes\":[12345,0],\"failed\":[0,0],\"finished\":[1,0],\"from\":1700000040,\"step\":60}";
+
+/// The job of that report.
+pub const JOBS: &str = "HTTP/1.1 200 OK\r\n\
+     Content-Type: application/json\r\n\
+     Content-Length: 298\r\n\
+     Connection: close\r\n\r\n\
+     {\"jobs\":[{\"files_by_state\":{\"ACTIVE\":0,\"CANCELED\":0,\"FAILED\":0,\"FINISHED\":1,\"NOT_USED\":0,\"SUBMITTED\":0},\
+     \"job_id\":\"00000000-0000-4000-8000-000000000001\",\"job_state\":\"FINISHED\",\"kind\":\"plain\",\"priority\":3,\"retry\":0,\
+     \"retry_delay\":0,\"submit_time\":1700000000,\"vo_name\":\"demo\"}],\"more\":false,\"next\":null}";
+
+/// No job.
+pub const NO_JOBS: &str = "HTTP/1.1 200 OK\r\n\
+     Content-Type: application/json\r\n\
+     Content-Length: 36\r\n\
+     Connection: close\r\n\r\n\
+     {\"jobs\":[],\"more\":false,\"next\":null}";
+
+/// The job with its file.
+pub const JOB: &str = "HTTP/1.1 200 OK\r\n\
+     Content-Type: application/json\r\n\
+     Content-Length: 535\r\n\
+     Connection: close\r\n\r\n\
+     {\"files\":[{\"activity\":\"default\",\"attempt\":1,\"cancel_asked\":false,\"checksum\":\"\",\"dest_surl\":\"b://b\\\\c/f1\",\
+     \"digest\":\"30313233343536373839616263646566\",\"file_id\":1,\"file_index\":0,\"file_state\":\"FINISHED\",\"filesize\":12345,\
+     \"not_before\":0,\"reason\":\"\",\"source_surl\":\"a://a\\\"q/f1\"}],\"files_by_state\":{\"ACTIVE\":0,\"CANCELED\":0,\"FAILED\":0,\
+     \"FINISHED\":1,\"NOT_USED\":0,\"SUBMITTED\":0},\"job_id\":\"00000000-0000-4000-8000-000000000001\",\"job_state\":\"FINISHED\",\
+     \"kind\":\"plain\",\"priority\":3,\"retry\":0,\"retry_delay\":0,\"submit_time\":1700000000,\"vo_name\":\"demo\"}";
+
+/// No job has the id.
+pub const NO_JOB: &str = "HTTP/1.1 404 Not Found\r\n\
+     Content-Type: application/json\r\n\
+     Content-Length: 43\r\n\
+     Connection: close\r\n\r\n\
+     {\"message\":\"no job\",\"rule\":31,\"status\":404}";
+
+/// A query that asks for nothing that there is.
+pub const BAD_QUERY: &str = "HTTP/1.1 400 Bad Request\r\n\
+     Content-Type: application/json\r\n\
+     Content-Length: 46\r\n\
+     Connection: close\r\n\r\n\
+     {\"message\":\"bad query\",\"rule\":50,\"status\":400}";

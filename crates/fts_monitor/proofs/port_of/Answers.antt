@@ -1,33 +1,20 @@
--- Digits alone are read as their number; where no `u64` holds it, it is no port.
-use Rattle.std.proofs.Common.{◌≡◌, ℕ, ◌≤◌, ◌<◌, ◌^◌, true, List, length, Option, Some, None, Ok, ◌∙◌, ap, sym, rules, arith}
-use Rattle.std.specs.Prelude.{option_and_then}
-use Rattle.std.specs.List.{list_all}
-use Rattle.std.specs.Str.Parse.{digits_value}
-use Rattle.std.proofs.lemmas.Bool.{eqb-false}
+-- A value whose number no `u64` holds is no port.
+use Rattle.std.proofs.Common.{◌≡◌, ℕ, ◌<◌, Option, Some, None, refl, ◌∙◌, ap, sym, arith}
+use Rattle.std.specs.Prelude.{IfSome, option_and_then}
 use Rattle.std.proofs.lemmas.Bool.Decides.{nat_tests}
-use Rattle.std.proofs.lemmas.Str.Parse.{IsNumeralModel, numerals_by_value, parse_gives}
-use Rattle.fts_tables.specs.Names.{is_digit}
 use Rattle.fts_words.specs.Words.{number_of}
 use Rattle.fts_monitor.specs.CommandLine.{port_by}
 use Rattle.fts_monitor.proofs.port_of.Goals as goal
 
-own : IsNumeralModel (λ (ds : List ℕ). list_all is_digit ds ≡ true) (digits_value 10)
-own = numerals_by_value (λ (ds : List ℕ). list_all is_digit ds ≡ true) (search rules)
-
-number-there : (value : List ℕ) → 1 ≤ length value → length value ≤ 20 → list_all is_digit value ≡ true → number_of value ≡ Some (digits_value 10 value)
-number-there value some short digits = grind (arith, nat_tests)
-
 above : (number : ℕ) → 18446744073709551615 < number → port_by number ≡ None
 above number over = grind (arith, nat_tests)
 
-pub returns-in-Err : goal.returns-in-Err
-returns-in-Err c =
-    let some = eqb-false (length c.as_bytes-bytes.result.now) 0 (sym c.is_empty.ensures ∙ c.if-is_empty.false) in
-    let same : length c.args.value.now ≡ length c.as_bytes-bytes.result.now = search rules in
-    let digits : list_all is_digit c.args.value.now ≡ true = search rules in
-    let read : digits_value 10 c.args.value.now < 2 ^ 64 → c.parse.result ≡ Ok (digits_value 10 c.args.value.now)
-    = λ below. parse_gives own 64 c.args.value.now c.parse.result c.parse.ensures.value.0 digits (omega arith) below in
-    let never : digits_value 10 c.args.value.now < 2 ^ 64 → ⊥ = λ below. let is = sym c.in-Err.is ∙ read below in cc in
-    let over : 18446744073709551615 < digits_value 10 c.args.value.now = omega (arith, never) in
-    sym (ap (λ (o : Option ℕ). option_and_then port_by o) (number-there c.args.value.now (omega arith) (omega arith) digits)
-    ∙ above (digits_value 10 c.args.value.now) over)
+over-is-none : (number : Option ℕ) → IfSome number (λ n. 18446744073709551615 < n) → option_and_then port_by number ≡ None
+over-is-none None over = refl
+over-is-none (Some number) over = above number over
+
+pub returns-in-None : goal.returns-in-None
+returns-in-None c = sym (over-is-none (number_of c.args.value.now) (c.number_of.ensures.none c.in-None.is))
+
+pub returns-in-Some : goal.returns-in-Some
+returns-in-Some c = c.port_by.ensures ∙ ap (λ (o : Option ℕ). option_and_then port_by o) (sym c.in-Some.ensures.number)
