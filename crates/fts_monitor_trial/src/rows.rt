@@ -29,7 +29,8 @@ const OPENED: u64 = 1_700_000_010;
 
 const METRICS: &str = "GET /metrics HTTP/1.1\r\nHost: m\r\n\r\n";
 
-const ROWS: [Row; 15] = [
+/// What the metrics tell.
+const METRICS_ROWS: [Row; 5] = [
     Row {
         case: "nothing at all",
         bytes: EMPTY,
@@ -85,6 +86,10 @@ const ROWS: [Row; 15] = [
         asks_then: METRICS,
         want_then: AFTER_THE_START,
     },
+];
+
+/// What is not told, and requests that are none.
+const OTHER_ROWS: [Row; 5] = [
     Row {
         case: "a look that fails once",
         bytes: STARTED,
@@ -129,6 +134,21 @@ const ROWS: [Row; 15] = [
         asks_then: "GET /metrics HTTP/1.1\r\nOrigin: https://a.example\r\n\r\n",
         want_then: FOREIGN_ORIGIN,
     },
+    Row {
+        case: "no request, and a part of one",
+        bytes: STARTED,
+        later: STARTED,
+        from: 0,
+        fail: 0,
+        asks: "",
+        want: "",
+        asks_then: "GET /metrics HTTP/1.1\r\n",
+        want_then: "",
+    },
+];
+
+/// What is told as JSON.
+const JSON_ROWS: [Row; 5] = [
     Row {
         case: "a snapshot, and the last two minutes",
         bytes: REPORTED,
@@ -184,22 +204,25 @@ const ROWS: [Row; 15] = [
         asks_then: "GET /jobs?after=x HTTP/1.1\r\n\r\n",
         want_then: BAD_QUERY,
     },
-    Row {
-        case: "no request, and a part of one",
-        bytes: STARTED,
-        later: STARTED,
-        from: 0,
-        fail: 0,
-        asks: "",
-        want: "",
-        asks_then: "GET /metrics HTTP/1.1\r\n",
-        want_then: "",
-    },
 ];
 
 #[test]
-fn a_monitor_answers_what_stands_in_a_journal(rt: HostRuntime) {
-    for row in &ROWS {
+fn metrics_tell_what_stands_in_a_journal(rt: HostRuntime) {
+    for row in &METRICS_ROWS {
+        assert!(rt; is_answered(rt.alloc(), row), "{}", row.case);
+    }
+}
+
+#[test]
+fn what_there_is_not_is_refused(rt: HostRuntime) {
+    for row in &OTHER_ROWS {
+        assert!(rt; is_answered(rt.alloc(), row), "{}", row.case);
+    }
+}
+
+#[test]
+fn json_tells_what_stands_in_a_journal(rt: HostRuntime) {
+    for row in &JSON_ROWS {
         assert!(rt; is_answered(rt.alloc(), row), "{}", row.case);
     }
 }
