@@ -10,9 +10,11 @@ pub const PAGE: &str = r#"<!doctype html>
 <link rel="icon" href="data:,">
 <style>
 :root{color-scheme:light dark;--bg:#fff;--fg:#1b1f23;--soft:#575e66;--line:#d3d8de;--panel:#f5f7f9;--track:#dde2e8;--use:#0072b2;--full:#a85b00;--bad:#b83a00;--mark:#fff3d6}
-@media(prefers-color-scheme:dark){:root{--bg:#14171a;--fg:#e7eaed;--soft:#a3abb3;--line:#343b42;--panel:#1c2126;--track:#333b43;--use:#56b4e9;--full:#e69f00;--bad:#ff8f57;--mark:#3a2f14}}
+@media(prefers-color-scheme:dark){:root{--bg:#14171a;--fg:#e7eaed;--soft:#a3abb3;--line:#343b42;--panel:#1c2126;--track:#333b43;--use:#56b4e9;--full:#e69f00;--bad:#ff8f57;
+--mark:#3a2f14}}
 *{box-sizing:border-box}
-body{margin:0 auto;max-width:1280px;padding:12px 16px 48px;background:var(--bg);color:var(--fg);font:15px/1.4 system-ui,sans-serif;font-variant-numeric:tabular-nums;overflow-wrap:anywhere}
+body{margin:0 auto;max-width:1280px;padding:12px 16px 48px;background:var(--bg);color:var(--fg);font:15px/1.4 system-ui,sans-serif;font-variant-numeric:tabular-nums;
+overflow-wrap:anywhere}
 h1{font-size:20px;margin:0}h2{font-size:16px;margin:0}
 header,.head{display:flex;flex-wrap:wrap;gap:4px 14px;align-items:baseline;margin-bottom:8px}
 summary h2{display:inline}.soft{color:var(--soft);font-size:13px}
@@ -72,14 +74,16 @@ thead:not(#lsort){display:none}
 <table><thead id="lsort"><tr></tr></thead><tbody id="links"></tbody></table><button id="more" hidden></button></section>
 <section id="jobpart" hidden><div class="head"><h2 id="oh" tabindex="-1"></h2><button id="close">Close (Esc)</button></div>
 <div id="facts"></div><table><tbody id="files"></tbody></table><div id="nojob" class="soft"></div></section>
-<section><div class="head"><h2>Jobs</h2><span id="chosen"></span><button id="nofilter">No filter</button><button id="newest">Newest</button><button id="newer">Newer</button><button id="older">Older</button></div>
+<section><div class="head"><h2>Jobs</h2><span id="chosen"></span>
+<button id="nofilter">No filter</button><button id="newest">Newest</button><button id="newer">Newer</button><button id="older">Older</button></div>
 <table><tbody id="jobs"></tbody></table><div id="nojobs" class="soft"></div></section>
 <section><details id="storages"><summary><h2>Storages</h2></summary>
 <table><tbody id="ends"></tbody></table></details></section>
 </main>
 <script>
 'use strict';
-const $ = Object.fromEntries([...document.querySelectorAll('[id]')].map(e => [e.id, e])), {floor, max, min} = Math, focused = () => document.activeElement, EVERY = 2000, JOBS = 25, FIRST = 20, MORE = 100;
+const $ = Object.fromEntries([...document.querySelectorAll('[id]')].map(e => [e.id, e])), {floor, max, min} = Math, focused = () => document.activeElement, EVERY = 2000,
+  JOBS = 25, FIRST = 20, MORE = 100;
 const MARK = {SUBMITTED: '○', ACTIVE: '▶', FINISHED: '✓', FINISHEDDIRTY: '◐', FAILED: '✕', CANCELED: '⊘', NOT_USED: '–'}, STATES = Object.keys(MARK).slice(0, 6);
 const state = s => MARK[s] + ' ' + s;
 // What is looked at. It stands in the address, so a reload keeps it.
@@ -89,12 +93,14 @@ const query = o => new URLSearchParams(Object.entries(o).filter(e => e[1] !== ''
 const keep = () => history.replaceState(null, '', '#' + query(view));
 
 // Texts, numbers, times. A name stands isolated, its slashes from left to right; a control or direction sign in it is shown by its number.
-const name = t => t && '\u2068' + t.replace(/[\u0000-\u001f\u007f-\u009f\u061c\u200b-\u200f\u2028-\u202e\u2060-\u2069\ufeff]/g, c => '\\u{' + c.charCodeAt(0).toString(16) + '}').replace(/\//g, '/\u200e') + '\u2069';
+const name = t => t && '\u2068' + t.replace(/[\u0000-\u001f\u007f-\u009f\u061c\u200b-\u200f\u2028-\u202e\u2060-\u2069\ufeff]/g,
+  c => '\\u{' + c.charCodeAt(0).toString(16) + '}').replace(/\//g, '/\u200e') + '\u2069';
 const arrow = l => name(l.source) + ' → ' + name(l.destination);
 const count = new Intl.NumberFormat('en-US', {maximumFractionDigits: 1}).format;
 const bytes = n => { let i = 0; while (n >= 1023.95 && i < 6) { n /= 1024; i++; } return (i ? n.toFixed(1) : Math.round(n)) + ' ' + 'B KiB MiB GiB TiB PiB EiB'.split(' ')[i]; };
 const two = n => String(floor(n)).padStart(2, '0');
-const time = t => { if (!t || t > 8e12) return '–'; const d = new Date(t * 1000); return new Date(d - d.getTimezoneOffset() * 60000).toISOString().slice(0, 19).replace('T', ' '); };
+const time = t => { if (!t || t > 8e12) return '–'; const d = new Date(t * 1000); return new Date(d - d.getTimezoneOffset() * 60000).toISOString().slice(0, 19).replace('T', ' ');
+  };
 const age = s => s < 120 ? max(0, s) + ' s' : s < 7200 ? floor(s / 60) + ' min' : s < 172800 ? floor(s / 3600) + ' h ' + two(s / 60 % 60) + ' min' : floor(s / 86400) + ' d';
 const percent = (a, b) => b > 0 ? min(100, 100 * a / b) : 0;
 
@@ -108,7 +114,8 @@ function bar() { const e = el('span'); e.n = el('span'); e.b = el('span', 'bar')
 function fillBar(e, a, limit, text, full) { put(e.n, text); const w = percent(a, limit).toFixed(1) + '%'; if (e.i.style.width !== w) e.i.style.width = w; flag(e.b, 'full', full); }
 const slots = (e, a, limit) => fillBar(e, a, limit, a + ' / ' + limit + (a >= limit ? ' full' : ''), a >= limit);
 // A table's columns: key, heading, class, and what stands inside a cell.
-function row(cols) { const r = el('tr'); r.p = {}; for (const [k, h, cls, inner] of cols) { const d = r.appendChild(el('td', cls)); if (cls !== 'wide') d.dataset.h = h; r.p[k] = inner ? d.appendChild(inner()) : d; } return r; }
+function row(cols) { const r = el('tr'); r.p = {}; for (const [k, h, cls, inner] of cols) { const d = r.appendChild(el('td', cls)); if (cls !== 'wide') d.dataset.h = h;
+  r.p[k] = inner ? d.appendChild(inner()) : d; } return r; }
 // Draws a list by keys: nodes that stay are kept, so focus, selection and scroll stay too.
 function list(parent, items, key, make, fill) {
   const old = parent.kept || new Map(), now = new Map(), focus = focused();
@@ -125,15 +132,18 @@ function list(parent, items, key, make, fill) {
 
 // The top: when the service last wrote, alerts, states, room.
 let snap = null, lost = 0, links = new Map(), storages = new Map();
-const rooms = () => [['Journal', snap.journal_bytes, snap.journal_limit_bytes, bytes], ['File rows', snap.rows, snap.rows_limit, count], ['Jobs', snap.jobs, snap.jobs_limit, count]];
+const rooms = () => [['Journal', snap.journal_bytes, snap.journal_limit_bytes, bytes], ['File rows', snap.rows, snap.rows_limit, count], ['Jobs', snap.jobs, snap.jobs_limit,
+  count]];
 function drawAlerts() {
   const a = [];
   if (lost) a.push(['bad', 'fts_monitor has not answered since ' + time(lost) + '. This is from before.']);
   if (snap) {
     const quiet = snap.now - snap.last_entry_time, {ACTIVE: run, SUBMITTED: wait} = snap.files_by_state;
     if (snap.damage) a.push(['bad', 'The journal is damaged at byte ' + count(snap.damage.offset) + '. Only what stood before it is shown.']);
-    if (run + wait && quiet >= 120) a.push([quiet >= 600 ? 'bad' : '', 'The service has not written for ' + age(quiet) + ', though ' + count(run) + ' files are active and ' + count(wait) + ' wait.']);
-    for (const [what, n, limit, show] of rooms()) { const p = percent(n, limit); if (p >= 80) a.push([p >= 95 ? 'bad' : '', what + ' at ' + floor(p) + ' percent: ' + show(max(0, limit - n)) + ' left. When full, ' + (what === 'Journal' ? 'nothing can be recorded.' : 'submissions are refused.')]); }
+    if (run + wait && quiet >= 120) a.push([quiet >= 600 ? 'bad' : '',
+      'The service has not written for ' + age(quiet) + ', though ' + count(run) + ' files are active and ' + count(wait) + ' wait.']);
+    for (const [what, n, limit, show] of rooms()) { const p = percent(n, limit); if (p >= 80) a.push([p >= 95 ? 'bad' : '', what + ' at ' + floor(p) + ' percent: ' + show(max(0,
+      limit - n)) + ' left. When full, ' + (what === 'Journal' ? 'nothing can be recorded.' : 'submissions are refused.')]); }
   }
   list($.alerts, a, x => x[1].slice(0, 24), () => el('li'), (li, x) => { li.className = x[0]; put(li, (x[0] ? '✕ ' : '! ') + x[1]); });
   document.title = (a.length ? '(' + a.length + ') ' : '') + 'File transfers';
@@ -150,18 +160,21 @@ function drawTop() {
 }
 
 // Links and storages.
-const LINK = [['link', 'Link', 'wide', press], ['active', 'Slots in use', 'use', bar], ['submitted', 'Waiting', 'n'], ['finished', 'Finished', 'n'], ['failed', 'Failed', 'n'], ['canceled', 'Canceled', 'n'], ['copied_bytes', 'Copied', 'n'], ['last_report_time', 'Last report', 'n']];
+const LINK = [['link', 'Link', 'wide', press], ['active', 'Slots in use', 'use', bar], ['submitted', 'Waiting', 'n'], ['finished', 'Finished', 'n'], ['failed', 'Failed', 'n'],
+  ['canceled', 'Canceled', 'n'], ['copied_bytes', 'Copied', 'n'], ['last_report_time', 'Last report', 'n']];
 const STORAGE = [['storage', 'Storage', 'wide'], ['outbound', 'Outbound', 'use', bar], ['inbound', 'Inbound', 'use', bar]];
 const NO_LINK = {source: '', destination: ''};
 let order = [], rows = FIRST;
 const chosen = l => view.source === l.source && view.destination === l.destination;
 function arrange() {
   const q = view.q.toLowerCase(), k = view.sort, s = view.up ? 1 : -1, text = (a, b) => a.key < b.key ? -1 : 1;
-  order = [...links.values()].filter(l => !q || l.find.includes(q)).sort(k === 'link' ? (a, b) => -s * text(a, b) : (a, b) => s * (a[k] - b[k]) || b.submitted - a.submitted || text(a, b));
+  order = [...links.values()].filter(l => !q || l.find.includes(q)).sort(k === 'link' ? (a, b) => -s * text(a, b) : (a,
+    b) => s * (a[k] - b[k]) || b.submitted - a.submitted || text(a, b));
 }
 function fillLink(r, l) {
   const p = r.p, a = storages.get(l.source), b = storages.get(l.destination), on = chosen(l), wait = l.submitted && l.active < l.max_active;
-  const why = !a || !b ? 'a storage is not in the settings' : wait && a.outbound_active >= a.outbound_max_active ? 'source is full' : wait && b.inbound_active >= b.inbound_max_active ? 'destination is full' : '';
+  const why = !a || !b ? 'a storage is not in the settings'
+    : wait && a.outbound_active >= a.outbound_max_active ? 'source is full' : wait && b.inbound_active >= b.inbound_max_active ? 'destination is full' : '';
   p.link.ariaPressed = on; put(r.why, ' ' + words([name(l.symbolicname), why], ' · '));
   slots(p.active, l.active, l.max_active);
   for (const k of ['submitted', 'finished', 'failed', 'canceled']) put(p[k], count(l[k]));
@@ -172,14 +185,20 @@ function drawLinks(sort) {
   // The order rests while pointer or focus is in the table: no row moves away from under a hand.
   const rest = !sort && order.length && ($.links.matches(':hover') || $.links.contains(focused()));
   if (rest) order = order.map(l => links.get(l.key)).filter(Boolean); else arrange();
-  list($.lsort.rows[0], LINK, c => c[0], ([k, h, cls]) => { const e = el('th', cls); e.b = e.appendChild(el('button')); e.b.onclick = () => { view.up = view.sort === k && !view.up ? '1' : ''; view.sort = k; keep(); drawLinks(true); }; return e; },
-    (e, [k, h]) => { const on = view.sort === k, up = (k === 'link') !== !!view.up; put(e.b, h + (on ? up ? ' ▲' : ' ▼' : '')); e.ariaSort = !on ? 'none' : up ? 'ascending' : 'descending'; });
-  list($.links, order.slice(0, rows), l => l.key, l => { const r = row(LINK), b = r.p.link; put(b, arrow(l)); b.onclick = () => pick(chosen(l) ? NO_LINK : {source: l.source, destination: l.destination}); r.why = b.parentNode.appendChild(el('span', 'soft')); return r; }, fillLink);
-  const n = order.length; put($.shown, links.size ? min(rows, n) + ' of ' + count(n) + (view.q ? ' that match, of ' + links.size : '') + (snap.links_left_out ? '; ' + count(snap.links_left_out) + ' more are not sent' : '') + (rest ? '; order rests' : '') : 'No link is listed and none has a file.');
+  list($.lsort.rows[0], LINK, c => c[0], ([k, h, cls]) => { const e = el('th', cls); e.b = e.appendChild(el('button'));
+    e.b.onclick = () => { view.up = view.sort === k && !view.up ? '1' : ''; view.sort = k; keep(); drawLinks(true); }; return e; },
+    (e, [k, h]) => { const on = view.sort === k, up = (k === 'link') !== !!view.up; put(e.b, h + (on ? up ? ' ▲' : ' ▼' : ''));
+      e.ariaSort = !on ? 'none' : up ? 'ascending' : 'descending'; });
+  list($.links, order.slice(0, rows), l => l.key, l => { const r = row(LINK), b = r.p.link; put(b, arrow(l)); b.onclick = () => pick(chosen(l) ? NO_LINK : {source: l.source,
+    destination: l.destination}); r.why = b.parentNode.appendChild(el('span', 'soft')); return r; }, fillLink);
+  const n = order.length; put($.shown, links.size ? min(rows,
+    n) + ' of ' + count(n) + (view.q ? ' that match, of ' + links.size : '')
+    + (snap.links_left_out ? '; ' + count(snap.links_left_out) + ' more are not sent' : '') + (rest ? '; order rests' : '') : 'No link is listed and none has a file.');
   $.more.hidden = n <= rows; put($.more, 'Show ' + min(MORE, n - rows) + ' more');
 }
 function drawStorages() {
-  if ($.storages.open) list($.ends, snap.storages, s => s.storage, () => row(STORAGE), ({p}, s) => { put(p.storage, name(s.storage)); for (const d of ['outbound', 'inbound']) slots(p[d], s[d + '_active'], s[d + '_max_active']); });
+  if ($.storages.open) list($.ends, snap.storages, s => s.storage, () => row(STORAGE), ({p}, s) => { put(p.storage, name(s.storage)); for (const d of ['outbound',
+    'inbound']) slots(p[d], s[d + '_active'], s[d + '_max_active']); });
 }
 
 // Failures.
@@ -194,7 +213,8 @@ function drawFailures() {
 // The plot.
 let hist = null, cursor = 0;
 const LEFT = 76, HIGH = 105, at = i => hist.from + i * hist.step, inside = i => max(0, min(hist.n - 1, i)), place = t => inside(Math.round((t - hist.from) / hist.step));
-const SVG = (p, tag, attrs, text = '') => { const e = document.createElementNS('http://www.w3.org/2000/svg', tag); for (const k in attrs) e.setAttribute(k, attrs[k]); e.textContent = text; p.append(e); return e; };
+const SVG = (p, tag, attrs, text = '') => { const e = document.createElementNS('http://www.w3.org/2000/svg', tag); for (const k in attrs) e.setAttribute(k, attrs[k]);
+  e.textContent = text; p.append(e); return e; };
 function nice(n, base) { let u = 1; while (u * base <= n) u *= base; return u * [1, 2, 5, 10, 20, 50, 100, 200, 500, 1024].find(m => u * m >= n); }
 function drawPlot() {
   put($.which, view.source ? arrow(view) : 'all links'); $.every.hidden = !view.source;
@@ -202,24 +222,31 @@ function drawPlot() {
   const {n} = hist, per = 60 / hist.step, wide = (w - LEFT - 8) / n, svg = SVG(box, 'svg', {viewBox: `0 0 ${w} 300`});
   const panel = (top, title, most, show, stacks) => {
     SVG(svg, 'text', {x: LEFT, y: top - 6}, title);
-    for (const f of [0, .5, 1]) { const y = top + HIGH * (1 - f); SVG(svg, 'line', {class: 'grid', x1: LEFT, x2: w - 8, y1: y, y2: y}); SVG(svg, 'text', {x: LEFT - 6, y: y + 4, 'text-anchor': 'end'}, show(most * f)); }
-    for (let i = 0; i < n; i++) { let y = top + HIGH; for (const [cls, v] of stacks) if (v[i]) { const height = max(1, v[i] * per / most * HIGH); SVG(svg, 'rect', {class: cls, x: LEFT + i * wide, width: max(1, wide - 1), y: y -= height, height, opacity: i < n - 1 ? 1 : .55}); } }
+    for (const f of [0, .5, 1]) { const y = top + HIGH * (1 - f); SVG(svg, 'line', {class: 'grid', x1: LEFT, x2: w - 8, y1: y, y2: y}); SVG(svg, 'text', {x: LEFT - 6, y: y + 4,
+      'text-anchor': 'end'}, show(most * f)); }
+    for (let i = 0; i < n; i++) { let y = top + HIGH; for (const [cls, v] of stacks) if (v[i]) { const height = max(1, v[i] * per / most * HIGH); SVG(svg, 'rect', {class: cls,
+      x: LEFT + i * wide, width: max(1, wide - 1), y: y -= height, height, opacity: i < n - 1 ? 1 : .55}); } }
   };
   const peak = v => per * max(...v);
   panel(24, 'Bytes verified per minute', nice(max(1024, peak(hist.bytes)), 1024), bytes, [['use', hist.bytes]]);
-  panel(164, 'Files ended per minute (failed on top)', nice(max(2, peak(hist.finished.map((v, i) => v + hist.failed[i]))), 10), count, [['use', hist.finished], ['bad', hist.failed]]);
-  for (let i = n - 1; i >= 0; i -= Math.ceil(n / max(2, floor(w / 110)))) SVG(svg, 'text', {x: LEFT + (i + .5) * wide, y: 290, 'text-anchor': i > n - 3 ? 'end' : 'middle'}, hist.step < 3600 ? time(at(i)).slice(11, 16) : time(at(i)).slice(5, 10));
+  panel(164, 'Files ended per minute (failed on top)', nice(max(2, peak(hist.finished.map((v, i) => v + hist.failed[i]))), 10), count, [['use', hist.finished], ['bad',
+    hist.failed]]);
+  for (let i = n - 1; i >= 0; i -= Math.ceil(n / max(2, floor(w / 110)))) SVG(svg, 'text', {x: LEFT + (i + .5) * wide, y: 290, 'text-anchor': i > n - 3 ? 'end' : 'middle'},
+    hist.step < 3600 ? time(at(i)).slice(11, 16) : time(at(i)).slice(5, 10));
   const i = cursor ? place(cursor) : n - 2, x = LEFT + (i + .5) * wide;
   if (cursor) SVG(svg, 'line', {class: 'at', x1: x, x2: x, y1: 20, y2: 270});
-  put($.read, time(at(i)).slice(0, 16) + ': ' + bytes(hist.bytes[i] * per) + '/min, ' + count(hist.finished[i] * per) + ' finished/min, ' + count(hist.failed[i] * per) + ' failed/min. Left and Right move.');
+  put($.read, time(at(i)).slice(0,
+    16) + ': ' + bytes(hist.bytes[i] * per) + '/min, ' + count(hist.finished[i] * per) + ' finished/min, ' + count(hist.failed[i] * per) + ' failed/min. Left and Right move.');
 }
 function move(i) { cursor = at(inside(i)); drawPlot(); }
 $.plot.onkeydown = e => { const d = {ArrowLeft: -1, ArrowRight: 1}[e.key]; if (d && hist) { e.preventDefault(); move((cursor ? place(cursor) : hist.n - 1) + d); } };
 $.plot.onpointerdown = e => { if (hist) { const b = $.plot.getBoundingClientRect(); move(floor((e.clientX - b.left - LEFT) * hist.n / (b.width - LEFT - 8))); } };
 
 // Jobs, and one job's files.
-const JOB = [['job', 'Job', 'wide', press], ['state', 'State', 'st'], ['kind', 'Kind'], ['priority', 'Priority', 'n'], ['done', 'Files done', 'use', bar], ['failed', 'Failed', 'n'], ['submit', 'Submitted']];
-const FILE = [['id', 'File', 'n'], ['state', 'State', 'st'], ['size', 'Size', 'n'], ['what', 'Source, destination, what happened', 'wide', () => { const e = el('div'); e.s = el('div'); e.d = el('span'); e.a = el('span', 'soft'); e.o = el('ol'); e.append(e.s, e.d, e.a, e.o); return e; }]];
+const JOB = [['job', 'Job', 'wide', press], ['state', 'State', 'st'], ['kind', 'Kind'], ['priority', 'Priority', 'n'], ['done', 'Files done', 'use', bar], ['failed', 'Failed',
+  'n'], ['submit', 'Submitted']];
+const FILE = [['id', 'File', 'n'], ['state', 'State', 'st'], ['size', 'Size', 'n'], ['what', 'Source, destination, what happened', 'wide', () => { const e = el('div');
+  e.s = el('div'); e.d = el('span'); e.a = el('span', 'soft'); e.o = el('ol'); e.append(e.s, e.d, e.a, e.o); return e; }]];
 let page = null, job = null, back = [], opener = null;
 function drawJobs() {
   if (!page) return;
@@ -237,36 +264,44 @@ function drawJob() {
   put($.facts, j ? words([state(j.job_state), j.kind, 'priority ' + j.priority, 'retries ' + j.retry, 'submitted ' + time(j.submit_time)], ' · ') : '');
   list($.files, j ? j.files : [], f => f.file_id, () => row(FILE), ({p}, f) => {
     const what = [[0, f.attempt ? 'attempt ' + f.attempt : ''], [1, name(f.reason)]].filter(x => x[1]);
-    put(p.id, f.file_id); put(p.state, state(f.file_state)); put(p.size, f.filesize ? bytes(f.filesize) : 'not told'); put(p.what.s, name(f.source_surl)); put(p.what.d, '→ ' + name(f.dest_surl));
-    put(p.what.a, ' ' + words([name(f.activity), f.cancel_asked && 'cancel asked', f.file_state === 'SUBMITTED' && f.not_before > snap.now && 'not before ' + time(f.not_before)], ', '));
+    put(p.id, f.file_id); put(p.state, state(f.file_state)); put(p.size, f.filesize ? bytes(f.filesize) : 'not told'); put(p.what.s, name(f.source_surl)); put(p.what.d,
+      '→ ' + name(f.dest_surl));
+    put(p.what.a, ' ' + words([name(f.activity), f.cancel_asked && 'cancel asked', f.file_state === 'SUBMITTED' && f.not_before > snap.now && 'not before ' + time(f.not_before)],
+      ', '));
     list(p.what.o, what, x => x[0], () => el('li'), (li, x) => { li.className = x[0] ? 'failed' : ''; put(li, x[1]); }); });
 }
-async function openJob(i) { opener = focused(); view.job = i; job = null; asked.job = ''; keep(); drawJob(); drawJobs(); await look(); $.oh.focus({preventScroll: true}); $.jobpart.scrollIntoView(); }
+async function openJob(i) { opener = focused(); view.job = i; job = null; asked.job = ''; keep(); drawJob(); drawJobs(); await look(); $.oh.focus({preventScroll: true});
+  $.jobpart.scrollIntoView(); }
 function closeJob() { view.job = ''; keep(); drawJob(); drawJobs(); if (opener && opener.isConnected) opener.focus(); }
 function pick(change) { Object.assign(view, {after: ''}, change); back = []; keep(); if (snap) drawAll(); look(); }
 
 // Asking: the snapshot each time, the rest only where the journal grew or the question changed.
 const asked = {};
 async function ask(path) { const r = await fetch(path, {signal: AbortSignal.timeout(10000)}); if (r.status === 404) return 0; if (!r.ok) throw r; return r.json(); }
-async function renew(what, path, take, also = '') { const key = [path, snap.fold_time, snap.entries, also].join(' '); if (asked[what] !== key) { const got = await ask(path); asked[what] = key; take(got); } }
+async function renew(what, path, take, also = '') { const key = [path, snap.fold_time, snap.entries, also].join(' '); if (asked[what] !== key) { const got = await ask(path);
+  asked[what] = key; take(got); } }
 async function round() {
   const {source, destination, after, span} = view, s = await ask('snapshot');
   links = new Map();
-  for (const l of s.links) { l.key = JSON.stringify([l.source, l.destination]); l.find = [l.source, '→', l.destination, l.symbolicname].join(' ').toLowerCase(); links.set(l.key, l); }
+  for (const l of s.links) { l.key = JSON.stringify([l.source, l.destination]); l.find = [l.source, '→', l.destination, l.symbolicname].join(' ').toLowerCase(); links.set(l.key,
+    l); }
   storages = new Map(s.storages.map(x => [x.storage, x])); snap = s; lost = 0; drawAll();
-  await renew('history', 'history?' + query({source, destination, step: span, count: {600: 144, 3600: 168}[span] || 60}), h => { hist = h; h.n = h.bytes.length; drawPlot(); }, floor(s.now / span));
+  await renew('history', 'history?' + query({source, destination, step: span, count: {600: 144, 3600: 168}[span] || 60}), h => { hist = h; h.n = h.bytes.length; drawPlot(); },
+    floor(s.now / span));
   await renew('jobs', 'jobs?' + query({state: view.state, source, destination, after, newest: 'true', limit: JOBS}), p => { page = p; drawJobs(); });
   if (view.job) await renew('job', 'jobs/' + encodeURIComponent(view.job), j => { job = j; drawJob(); });
 }
 let going = null, again = false;
 function look() {
   again = true;
-  return going = going || (async () => { while (again) { again = false; try { await round(); } catch (e) { lost = lost || (snap ? snap.now : Date.now() / 1000); drawAlerts(); } } going = null; })();
+  return going = going || (async () => { while (again) { again = false; try { await round(); } catch (e) { lost = lost || (snap ? snap.now : Date.now() / 1000); drawAlerts();
+    } } going = null; })();
 }
 function drawAll() { drawTop(); drawAlerts(); drawLinks(); drawStorages(); drawFailures(); drawJobs(); drawJob(); }
 const next = async () => { if (!document.hidden) await look(); setTimeout(next, EVERY); };
 
-for (const [body, cols] of [['failures', FAILURE], ['jobs', JOB], ['files', FILE], ['ends', STORAGE]]) { const r = $[body].parentNode.createTHead().insertRow(); for (const [, h, cls] of cols) r.append(el('th', cls, h)); }
+for (const [body, cols] of [['failures', FAILURE], ['jobs', JOB], ['files', FILE], ['ends', STORAGE]]) { const r = $[body].parentNode.createTHead().insertRow(); for (const [, h,
+  cls] of cols) r.append(el('th', cls, h)); }
 $.filter.value = view.q; $.filter.oninput = () => { view.q = $.filter.value; rows = FIRST; keep(); drawLinks(true); };
 $.span.value = view.span; $.span.onchange = () => { view.span = $.span.value; cursor = 0; keep(); look(); };
 $.more.onclick = () => { rows += MORE; drawLinks(true); };
@@ -288,5 +323,5 @@ next();
 
 /// What a browser may do with it (Content Security Policy Level 3): its one style and its one script, by their SHA-256, and requests to where it
 /// comes from. A change of either has another digest.
-pub const POLICY: &str =
-    "default-src 'none'; connect-src 'self'; img-src data:; base-uri 'none'; form-action 'none'; frame-ancestors 'none'; style-src 'sha256-VnkFXFuzLhFRN/yWUzPUJMLp+JZFHDJshtnac11FiSA='; script-src 'sha256-q7jEpZPV2C2DPywR2AG/o90k12n/mBWJP74jGMeatq0='";
+pub const POLICY: &str = "default-src 'none'; connect-src 'self'; img-src data:; base-uri 'none'; \
+     form-action 'none'; frame-ancestors 'none'; style-src 'sha256-OywGh4PgH2AI8mr04h/HDPkKoyvevLCVavUskfEFPr4='; script-src 'sha256-l1DJ+gLKtGsuVZsVDdVxOwHyqm4NPVQkI+gadrPD7/w='";
