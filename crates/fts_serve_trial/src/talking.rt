@@ -210,7 +210,7 @@ impl<'a> Doors for TalkingDoors<'a> {
 
     ghost line = { Prim.search rules };
 
-    fn listen(&mut self, _port: u16) -> Result<(), DoorsFailed> {
+    fn listen(&mut self, _port: Option<u16>) -> Result<(), DoorsFailed> {
         Ok(())
     }
 

@@ -29,8 +29,8 @@ pub trait Doors {
     /// Whether they have a listener, from which connections are taken.
     ghost listens: { Self → Bool };
 
-    /// Begins to take connections on a port.
-    fn listen(&mut self, port: u16) -> Result<(), DoorsFailed>
+    /// Begins to take connections on a port, or, where none is named, at a socket of their own.
+    fn listen(&mut self, port: Option<u16>) -> Result<(), DoorsFailed>
         ensures same { doors self.new ≡ doors self.old }
         ensures open { IsOk result → IsTrue (listens self.new) }
         ensures cause { CountsFaults (faults self.old) (faults self.new) result };

@@ -116,7 +116,7 @@ impl Doors for MemoryDoors {
 
     ghost line = { Prim.search rules };
 
-    fn listen(&mut self, _port: u16) -> Result<(), DoorsFailed>
+    fn listen(&mut self, _port: Option<u16>) -> Result<(), DoorsFailed>
         ensures same { self.new.doors ≡ self.old.doors }
         ensures cause { CountsFaults self.old.faults self.new.faults result }
         ensures fails { IsErr result ↔ IsTrue (is_listed self.old.fail self.new.calls) }

@@ -41,12 +41,12 @@ pub fn make_benches(alloc: Global, count: u32) -> Result<Vec<Bench>, Memory>
     Ok(benches)
 }
 
-/// Opens the doors of the first lanes, so many: the first one listens on a port, and the others take connections from where it does.
+/// Opens the doors of the first lanes, so many: the first one listens on a port or at its own socket, and the others take connections from where it does.
 #[tactic(auto, using(crate::proofs::Opened::opened_none))]
 pub fn open_doors<A: Doors, C: Clock>(
     lanes: &mut [Lane<A, C>],
     count: usize,
-    port: u16,
+    port: Option<u16>,
 ) -> Result<(), DoorsFailed>
     requires some { 1 ≤ count }
     ensures opened { AreOpened A.Doors count lanes.old lanes.new }

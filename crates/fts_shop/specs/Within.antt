@@ -10,7 +10,7 @@ use Rattle.fts_turnstile.specs.Passes.{Appends}
 use Rattle.fts_keep.specs.Keeps.{IsKeep}
 use Rattle.fts_keep.specs.Applied.{Applied, entry_by}
 use Rattle.fts_keep.specs.declared.fault.KeepFault.{KeepFault}
-use Rattle.fts_workers.specs.Copies.{order_in}
+use Rattle.fts_workers.specs.Copies.{job_id_of, order_in}
 use Rattle.fts_workers.specs.ClaimSteps.{IsClaimStep}
 use Rattle.fts_shop.specs.Shops.{ShopData, KeepsDisk, shop_entries, writer_of}
 use Rattle.fts_disk.specs.declared.disk.Disk as disk
@@ -50,6 +50,19 @@ order_claimed tables (Ok (Banned cancelled)) = None
 order_claimed tables (Ok Unbanned) = None
 order_claimed tables (Ok (Expired cancelled)) = None
 order_claimed tables (Err fault) = None
+
+-- the id of the job of a claimed file, by the answer to the claim
+abbrev pub job_claimed : Tables → Result Answer KeepFault → Option ℕ
+job_claimed tables (Ok (Claimed file attempt)) = job_id_of tables file
+job_claimed tables (Ok (Restarted released)) = None
+job_claimed tables (Ok (Submitted job id)) = None
+job_claimed tables (Ok (Cancelled job)) = None
+job_claimed tables (Ok (PrioritySet job)) = None
+job_claimed tables (Ok (Reported file state)) = None
+job_claimed tables (Ok (Banned cancelled)) = None
+job_claimed tables (Ok Unbanned) = None
+job_claimed tables (Ok (Expired cancelled)) = None
+job_claimed tables (Err fault) = None
 
 -- an order comes with a claimed file
 abbrev pub HasOrder : Result Answer KeepFault → Option Order → Type 0

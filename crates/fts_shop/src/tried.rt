@@ -7,7 +7,7 @@ ghost use Rattle.fts_record.specs.Proper.{has_priority};
 ghost use Rattle.fts_copy.specs.Copy.{StaysInside};
 ghost use Rattle.fts_workers.specs.ClaimSteps.{AnswersClaim};
 ghost use Rattle.fts_shop.specs.Shops.{step_answer};
-ghost use Rattle.fts_shop.specs.Within.{TriesIn, StepsIn, HasOrder, IsLookIn, order_claimed};
+ghost use Rattle.fts_shop.specs.Within.{TriesIn, StepsIn, HasOrder, IsLookIn, job_claimed, order_claimed};
 
 use crate::Shop;
 use fts_copy::Loaded;
@@ -15,7 +15,7 @@ use fts_disk::Disk;
 use fts_keep::KeepFault;
 use fts_tables::laws::{claimed_files_were_in, tables_are_well_formed};
 use fts_tables::{Answer, Command};
-use fts_workers::{ClaimStep, claim_step, order_of_file};
+use fts_workers::{ClaimStep, claim_step, job_of_file, order_of_file};
 
 /// What a command came to in a turn.
 #[derive(Drop)]
@@ -35,6 +35,8 @@ pub struct ClaimTried {
     pub lanes: u32,
     /// What the copy of the claimed file is asked for; none where no file was claimed.
     pub order: Option<Loaded>,
+    /// The id of the claimed file's job; none where no file was claimed.
+    pub job: Option<u128>,
 }
 
 /// Tries a command of a writer.
@@ -80,6 +82,17 @@ pub fn answer_of(step: ClaimStep) -> Result<Answer, KeepFault>
     }
 }
 
+// The id of the job of a claimed file, by the answer to the claim.
+fn job_claimed<D: Disk>(shop: &mut Shop<D>, answer: Result<Answer, KeepFault>) -> Option<u128>
+    ensures job { result ≡ job_claimed shop.old.keep.tables answer }
+    ensures same { shop.new ≡ shop.old }
+{
+    match answer {
+        Ok(Answer::Claimed { file, attempt: _ }) => job_of_file(shop.keep().desk(), file),
+        Ok(_) | Err(_) => None,
+    }
+}
+
 /// Tries an expiry and a claim of a writer at one moment, the claim unless the expiry met a fault, and brings the order of the claimed file's copy.
 pub fn claim_in<D: Disk>(shop: &mut Shop<D>, writer: u32, now: u64, word: u64) -> ClaimTried
     ensures steps { StepsIn D.Disk writer now word shop.old shop.new result.step.expiry result.step.claim result.lanes }
@@ -87,6 +100,7 @@ pub fn claim_in<D: Disk>(shop: &mut Shop<D>, writer: u32, now: u64, word: u64) -
     ensures order { result.order ≡ order_claimed shop.new.keep.tables (step_answer result.step.expiry result.step.claim) }
     ensures some { HasOrder (step_answer result.step.expiry result.step.claim) result.order }
     ensures inside { IfSome result.order StaysInside }
+    ensures job { result.job ≡ job_claimed shop.new.keep.tables (step_answer result.step.expiry result.step.claim) }
 {
     tables_are_well_formed();
     claimed_files_were_in();
@@ -95,7 +109,13 @@ pub fn claim_in<D: Disk>(shop: &mut Shop<D>, writer: u32, now: u64, word: u64) -
         Ok(Answer::Claimed { file, attempt: _ }) => order_of_file(shop.keep().desk(), file),
         Ok(_) | Err(_) => None,
     };
-    ClaimTried { step, lanes, order }
+    let job = job_claimed(shop, answer_of(step));
+    ClaimTried {
+        step,
+        lanes,
+        order,
+        job,
+    }
 }
 
 /// Looks whether cancel was asked of a file.

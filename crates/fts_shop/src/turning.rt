@@ -2,7 +2,7 @@
 //! turn, and reported.
 //! Keeps: the bench holds one file at most, whose copy has ended (`IsReady`).
 //! Order: the expiry and a claim in one turn of the lock, the gate, the copy with its looks, each in a turn of its own, the removal of its part where
-//! it wasn't verified, and the report in one turn. Both commands of the first turn have one moment, and the claim's word is taken before it.
+//! it wasn't verified, the gate again, and the report in one turn. Both commands of the first turn have one moment, and the claim's word is taken before it.
 //! What a turn is, by its commands, their answers and its end, is `IsTurn` of `specs/Turns.antt`.
 ghost use Rattle.std.specs.Prelude.{◌≡◌, ◌≢◌, [], Some, Ok, option_map};
 ghost use Rattle.fts_tables.specs.History.{tables_of};
@@ -25,28 +25,31 @@ use fts_disk::Disk;
 use fts_store::Store;
 use fts_tables::{Answer, Clock, Command, Outcome, Words};
 use fts_turnstile::{Pass, Turnstile};
-use fts_workers::{Bench, Gate, Hand, Held};
+use fts_workers::{Beginning, Bench, Gate, Hand, Held};
 use std::sync::Wait;
 
 // A claimed file, and what its copy is asked for.
 #[derive(Drop)]
 struct Claimed {
+    job: Option<u128>,
     file: u32,
     attempt: u32,
     order: Loaded,
 }
 
 // The file that a claim was answered with.
-fn claimed_of(answer: Answer, order: Option<Loaded>) -> Claimed
+fn claimed_of(answer: Answer, order: Option<Loaded>, job: Option<u128>) -> Claimed
     requires claim { AnswersClaim (Ok answer) }
     requires some { HasOrder (Ok answer) order }
     ensures answer { answer ≡ Answer.Claimed result.file result.attempt }
     ensures order { order ≡ Some result.order }
+    ensures job { result.job ≡ job }
 {
     match answer {
         Answer::Claimed { file, attempt } => {
             let Some(order) = order else { unreachable!() };
             Claimed {
+                job,
                 file,
                 attempt,
                 order,
@@ -134,13 +137,14 @@ fn report<D: Disk, C: Clock, R: Wait>(
     end_of_report(held.file, answer, lanes)
 }
 
-// Copies a claimed file, holds it, and reports it.
-fn work_on<D: Disk, E: Store, C: Clock, W: Words, R: Wait>(
+// Copies a claimed file, of which the gate is told, holds it, and reports it.
+fn work_on<D: Disk, E: Store, C: Clock, W: Words, G: Gate, R: Wait>(
     rt: &R,
     shop: &Turnstile<Shop<D>>,
     pass: &mut Pass<Shop<D>>,
     hand: &mut Hand<E, C, W>,
     bench: &mut Bench,
+    gate: &G,
     claimed: Claimed,
 ) -> Turn
     requires own { IsOf shop.now pass.old }
@@ -155,11 +159,19 @@ fn work_on<D: Disk, E: Store, C: Clock, W: Words, R: Wait>(
 {
     let _none = bench.held();
     let Claimed {
+        job,
         file,
         attempt,
         order,
     } = claimed;
+    let note = gate.begun(Beginning {
+        job,
+        file,
+        attempt,
+        order: &order,
+    });
     let outcome = copy_order(rt, shop, pass, bench, &mut hand.store, file, order);
+    gate.ended(note, outcome);
     size_fits(outcome);
     bench.hold(Held {
         file,
@@ -170,8 +182,8 @@ fn work_on<D: Disk, E: Store, C: Clock, W: Words, R: Wait>(
 }
 
 /// A turn of a worker, which writes with its pass's number. A file that is held from before is reported; else the files that are overdue are cancelled
-/// and one is claimed in one turn of the lock, at one moment, the gate is told, the file is copied and reported. Where the claim was tried, no row was
-/// overdue in the tables that it met. A file is held behind the turn only after a report that met a fault.
+/// and one is claimed in one turn of the lock, at one moment, and it is copied, of which the gate is told before and behind it, and reported. Where the
+/// claim was tried, no row was overdue in the tables that it met. A file is held behind the turn only after a report that met a fault.
 /// `Idle` and `Stopping` come exactly where no row was eligible, with a lane left and without; `Stale` exactly where the desk refuses the report;
 /// `DiskFailed` only where the disk counted a failure in the turn that tried the command, an expiry, a claim or a report; `JournalFull` exactly by
 /// the limit; `Memory` freely. An expiry that met one of these faults ends the turn, and its claim's word is used up.
@@ -196,12 +208,16 @@ pub fn turn<D: Disk, E: Store, C: Clock, W: Words, G: Gate, R: Wait>(
     }
     let now = hand.clock.now();
     let word = hand.words.next();
-    let ClaimTried { step, lanes, order } = try_claim(rt, shop, pass, now, word);
+    let ClaimTried {
+        step,
+        lanes,
+        order,
+        job,
+    } = try_claim(rt, shop, pass, now, word);
     match answer_of(step) {
         Ok(answer) => {
-            let claimed = claimed_of(answer, order);
-            gate.begun(claimed.file);
-            work_on(rt, shop, pass, hand, bench, claimed)
+            let claimed = claimed_of(answer, order, job);
+            work_on(rt, shop, pass, hand, bench, gate, claimed)
         }
         Err(fault) => end_of_claim(fault, lanes),
     }

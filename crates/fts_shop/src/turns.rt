@@ -7,7 +7,7 @@ ghost use Rattle.fts_copy.specs.Copy.{StaysInside};
 ghost use Rattle.fts_turnstile.specs.Passes.{IsOf, seen_list};
 ghost use Rattle.fts_workers.specs.ClaimSteps.{AnswersClaim};
 ghost use Rattle.fts_shop.specs.Shops.{LaneEnds, StepInTurn, TriedInTurn, step_answer};
-ghost use Rattle.fts_shop.specs.Within.{HasOrder, order_claimed};
+ghost use Rattle.fts_shop.specs.Within.{HasOrder, job_claimed, order_claimed};
 
 use crate::shop::Shop;
 use crate::tried::{ClaimTried, Tried, claim_in, try_in};
@@ -52,6 +52,7 @@ pub fn try_claim<D: Disk, R: Wait>(
     ensures order { result.order ≡ order_claimed (tables_of (seen_list pass.new)) (step_answer result.step.expiry result.step.claim) }
     ensures some { HasOrder (step_answer result.step.expiry result.step.claim) result.order }
     ensures inside { IfSome result.order StaysInside }
+    ensures job { result.job ≡ job_claimed (tables_of (seen_list pass.new)) (step_answer result.step.expiry result.step.claim) }
 {
     let writer = pass.number();
     shop.with_turn(

@@ -1,8 +1,8 @@
 //! What holds a copy: a gate, until two copies have begun, and a store, before its first append, until a flag is raised.
 //! Both give up after a number of looks, with a yield each, so that a test ends whatever the threads do.
 use fts_store::{MemoryStore, Store, StoreFailed};
-use fts_tables::PlaceRef;
-use fts_workers::Gate;
+use fts_tables::{Outcome, PlaceRef};
+use fts_workers::{Beginning, Gate};
 use std::sync::atomic::{AtomicU64, Ordering};
 use std::thread::yield_now;
 
@@ -55,17 +55,28 @@ impl Raised {
 pub struct BothBegin {
     pub begun: Raised,
     pub late: Raised,
+    /// How many copies of file 1 or 2 ended as verified, with 3 bytes.
+    pub ended: Raised,
 }
 
 impl Gate for BothBegin {
     ghost use Rattle.std.specs.Prelude.{false};
 
+    type Note = u32;
+
     ghost closes = { λ _. false };
 
-    fn begun(&self, _file: u32) {
+    fn begun(&self, copy: Beginning<'_>) -> u32 {
         self.begun.raise();
         if !self.begun.wait_for(2) {
             self.late.raise();
+        }
+        copy.file
+    }
+
+    fn ended(&self, file: u32, outcome: Outcome) {
+        if let (1..=2, Outcome::Verified { size: 3, digest: _ }) = (file, outcome) {
+            self.ended.raise();
         }
     }
 
@@ -84,11 +95,15 @@ pub struct ClosesBehind {
 impl Gate for ClosesBehind {
     ghost use Rattle.std.specs.Prelude.{true};
 
+    type Note = ();
+
     ghost closes = { λ _. true };
 
-    fn begun(&self, _file: u32) {
+    fn begun(&self, _copy: Beginning<'_>) {
         self.begun.raise();
     }
+
+    fn ended(&self, _note: (), _outcome: Outcome) {}
 
     fn is_closed(&self) -> bool {
         self.begun.count() >= self.most

@@ -1,4 +1,4 @@
-//! A run that serves: lanes take connections on a port, and workers copy, at the same time and over one keep.
+//! A run that serves: lanes take connections on a port or at a socket, and workers copy, at the same time and over one keep.
 //! Order: the words are taken, the settings are read, memory is taken for lanes and workers, a keep is started on the disk, which has a Restart with
 //! the settings accepted, the keep goes behind a lock, the doors are opened, lanes and workers run to their end, and the lock is closed.
 //! Keeps: what each lane and each worker did, over one list (`IsServingRun` of `specs/Serves.antt`).
@@ -42,10 +42,11 @@ use std::alloc::Global;
 use std::sync::Wait;
 use std::thread::Threads;
 
-/// How a run is to serve: on this port, in so many lanes, 1 to `MAX_LANES`, each of which takes so many connections, or as many as come.
+/// How a run is to serve: on this port, or at the socket that its doors have where none is named, in so many lanes, 1 to `MAX_LANES`, each of which takes
+/// so many connections, or as many as come.
 #[derive(Clone, Copy)]
 pub struct Order {
-    pub port: u16,
+    pub port: Option<u16>,
     pub lanes: u32,
     pub connections: Option<u32>,
 }

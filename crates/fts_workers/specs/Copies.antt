@@ -1,5 +1,5 @@
 -- The copies that reports stand for, and how a store's files, its calls and its count of faults follow from them.
-use Rattle.std.specs.Prelude.{◌≡◌, ℕ, ◌≤◌, Bool, false, if◌then◌else◌, List, [], ◌∷◌, ◌++◌, Option, None, option_map, option_to_list}
+use Rattle.std.specs.Prelude.{◌≡◌, ℕ, ◌≤◌, Bool, false, if◌then◌else◌, List, [], ◌∷◌, ◌++◌, Option, None, option_and_then, option_map, option_to_list}
 use Rattle.std.specs.Option.{option_map_or}
 use Rattle.fts_tables.specs.Counts.{Rose}
 use Rattle.fts_tables.specs.Tables.{Tables, row_at, job_at}
@@ -30,6 +30,10 @@ overwrites tables row = option_map_or (λ job. job.overwrite) (job_at tables.job
 -- what the copy of a row is asked for
 abbrev pub order_in : Tables → FileRow → Order
 order_in tables row = order_of row (overwrites tables row)
+
+-- the id of the job of a file, by its row
+abbrev pub job_id_of : Tables → ℕ → Option ℕ
+job_id_of tables file = option_and_then (λ row. option_map (λ job. job.id) (job_at tables.jobs row.job)) (row_at tables.rows file)
 
 -- the copy of a file that ended so, as its row asks for it
 abbrev pub copies_of_file : Tables → ℕ → Outcome → List Copy

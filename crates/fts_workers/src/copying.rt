@@ -9,7 +9,7 @@ ghost use Rattle.fts_copy.specs.Copy.{StaysInside};
 ghost use Rattle.fts_workers.specs.Benches.{is_stopped};
 ghost use Rattle.fts_copy.specs.Script.{log_of};
 ghost use Rattle.fts_copy.specs.Watch.{NoesBy, VerifiedAsks};
-ghost use Rattle.fts_workers.specs.Copies.{IsCopied, IsMadeAndTidied, order_in};
+ghost use Rattle.fts_workers.specs.Copies.{IsCopied, IsMadeAndTidied, job_id_of, order_in};
 
 use crate::watch::AlwaysWanted;
 use fts_copy::{CopyRoom, Loaded, Watch, copy_verified, remove_part};
@@ -58,6 +58,15 @@ pub fn order_of_file(desk: &Desk, file: u32) -> Option<Loaded>
     let row = desk.row(file)?;
     let job = find_job(desk, row);
     Some(Loaded::of(row, job.overwrite))
+}
+
+/// The id of the job of a file, by its row. None exactly where the file has no row.
+pub fn job_of_file(desk: &Desk, file: u32) -> Option<u128>
+    ensures { result ≡ job_id_of desk.now.tables file }
+{
+    desk.standing();
+    let row = desk.row(file)?;
+    Some(find_job(desk, row).id)
 }
 
 /// Copies what was loaded, to its end, and behind it removes its part, where the copy ended otherwise than verified: the file's bytes take no room
