@@ -14,18 +14,20 @@ ghost use Rattle.fts_words.specs.Words.{asked_in};
 ghost use Rattle.fts.specs.CommandLine.{stand_of, words_of, asks_service, exit_status_of, LooksAtMost, DeletesNothing};
 
 use fts_devices::{
-    LinkLimits, OpenedFile, StopFile, SystemClock, TcpLink, can_begin, closed_doors, command_line,
-    hands_over, lanes_over,
+    LinkLimits, OpenedFile, ServiceGate, StopFile, SystemClock, SystemLog, TcpLink, can_begin,
+    closed_doors, command_line, hands_over, lanes_over,
 };
-use fts_disk::{Disk, FileDisk, MemoryDisk, SystemDisk};
+use fts_disk::{Disk, FileDisk, MemoryDisk};
 use fts_files::{FileSystem, SystemFiles};
+use fts_log::{Event, Log, LoggedFiles};
 use fts_store::{FolderStore, MemoryStore, Store, StoredFile};
 use fts_tables::limits::MAX_WORKERS;
 use fts_tables::{EndpointName, Items, Memory, PathKey, Place};
 use fts_top::{Doors, Ending, Outside, run};
 use fts_wire::{MemorySource, Sink, Source, StdSink, StdSource};
-use fts_words::{Asked, read_words};
-use fts_workers::{Gate, NoGate};
+use fts_words::{Asked, log_of, read_words, socket_of};
+use fts_workers::Gate;
+use std::io;
 use std::process::ExitCode;
 use std::sync::Wait;
 use std::thread::Threads;
@@ -33,6 +35,9 @@ use std::thread::Threads;
 /// The settings of the stand `-`.
 const STAND_SETTINGS: &str =
     "vo = \"demo\"\nworkers = 2\n[[storage]]\nurl = \"https://a.example\"\n[[storage]]\nurl = \"https://b.example\"\n";
+
+/// The status of a process for which there is no memory, no thread or no log.
+const NO_MEMORY: u8 = 1;
 
 /// How many hands a run has.
 const HANDS: usize = MAX_WORKERS as usize;
@@ -67,8 +72,28 @@ fn exit_status(ended: Result<Ending, Memory>) -> u8
     }
 }
 
+/// The files of the machine, whose refused calls a log is told.
+type LoggedSystem<'a> = LoggedFiles<'a, SystemFiles<&'a HostRuntime>, SystemLog<'a>>;
+
 /// A store in a folder of the machine.
-type GridStore<'a> = FolderStore<SystemFiles<&'a HostRuntime>>;
+type GridStore<'a> = FolderStore<LoggedSystem<'a>>;
+
+/// A journal in a file of the machine.
+type LoggedDisk<'a> = FileDisk<LoggedSystem<'a>>;
+
+/// What a run has of the machine.
+#[derive(Clone, Copy)]
+struct Machine<'a> {
+    rt: &'a HostRuntime,
+    log: &'a SystemLog<'a>,
+}
+
+impl<'a> Machine<'a> {
+    /// Its files.
+    fn files(self) -> LoggedSystem<'a> {
+        LoggedFiles::new(SystemFiles::new(self.rt), self.log)
+    }
+}
 
 /// A link to services of this machine, for one request or, where a standby follows, for many.
 fn link_for<'a>(rt: &'a HostRuntime, words: &[String]) -> TcpLink<&'a HostRuntime> {
@@ -164,28 +189,30 @@ fn stand_stores(rt: &HostRuntime) -> Result<Vec<MemoryStore>, Memory>
 
 /// Runs the command in memory, with the stand's settings.
 fn run_in_memory<R: Threads + Wait + Sync>(
-    rt: &HostRuntime,
+    machine: Machine<'_>,
     threads: &R,
     words: &[String],
 ) -> Result<Ending, Memory> {
+    let Machine { rt, log } = machine;
     let alloc = rt.alloc();
     let text = Vec::from_slice(alloc, STAND_SETTINGS.as_bytes())?;
     let settings = MemorySource::new(text, Vec::new(alloc));
     let journal = MemoryDisk::new(alloc, Vec::new(alloc));
     let deletes = MemoryDisk::new(alloc, Vec::new(alloc));
     let stores = stand_stores(rt)?;
-    let doors = closed_doors(rt, alloc, StopFile::none())?;
+    let doors = closed_doors(rt, alloc, StopFile::none(), log, socket_of(words))?;
+    let gate = ServiceGate::new(rt, StopFile::none(), log);
     run_over(
-        rt, threads, words, settings, journal, deletes, stores, doors, NoGate,
+        rt, threads, words, settings, journal, deletes, stores, doors, gate,
     )
 }
 
 /// A store in a folder of files, for what the words ask for: deletions, or copies.
-fn store_for<'a>(rt: &'a HostRuntime, words: &[String], grid: String) -> GridStore<'a>
+fn store_for<'a>(machine: Machine<'a>, words: &[String], grid: String) -> GridStore<'a>
     ensures deletes { DeletesNothing (asked_in (map string_bytes words.now)) → is_deleting result ≡ false }
     ensures copies { is_deleting result ≡ false → DeletesNothing (asked_in (map string_bytes words.now)) }
 {
-    let store = FolderStore::new(rt, rt.alloc(), grid);
+    let store = FolderStore::over(machine.files(), machine.rt.alloc(), grid);
     match read_words(words) {
         Some(Asked::Delete) => store.for_deletions(),
         Some(
@@ -203,17 +230,17 @@ fn store_for<'a>(rt: &'a HostRuntime, words: &[String], grid: String) -> GridSto
 
 /// A store in a stand's folder for each hand, for what the words ask for.
 fn folder_stores<'a>(
-    rt: &'a HostRuntime,
+    machine: Machine<'a>,
     words: &[String],
     folder: &str,
 ) -> Result<Vec<GridStore<'a>>, Memory>
     ensures { IfOk result (λ stores. length stores.items ≡ MAX_WORKERS) }
 {
-    let alloc = rt.alloc();
+    let alloc = machine.rt.alloc();
     let mut stores = Vec::new(alloc);
     for _ in 0..HANDS {
         let grid = format!(in alloc; "{folder}/grid")?;
-        if stores.push(store_for(rt, words, grid)).is_err() {
+        if stores.push(store_for(machine, words, grid)).is_err() {
             return Err(Memory);
         }
     }
@@ -222,29 +249,31 @@ fn folder_stores<'a>(
 
 /// Runs the command in a folder.
 fn run_in_folder<R: Threads + Wait + Sync>(
-    rt: &HostRuntime,
+    machine: Machine<'_>,
     threads: &R,
     folder: &str,
     words: &[String],
 ) -> Result<Ending, Memory> {
+    let Machine { rt, log } = machine;
     let alloc = rt.alloc();
     let settings = format!(in alloc; "{folder}/fts.toml")?;
     let journal = format!(in alloc; "{folder}/fts.journal")?;
     let deletes = format!(in alloc; "{folder}/fts.deletes")?;
     let stop = format!(in alloc; "{folder}/fts.stop")?;
     let stop = StopFile::at(rt, stop.as_str());
-    let mut stores = folder_stores(rt, words, folder)?;
+    let mut stores = folder_stores(machine, words, folder)?;
     let settings = StdSource::new(OpenedFile::open(rt, settings.as_str()));
-    let mut journal = disk_for(rt, words, journal.as_str());
-    let deletes = deletes_for(rt, words, deletes.as_str());
+    let mut journal = disk_for(machine, words, journal.as_str());
+    let deletes = deletes_for(machine, words, deletes.as_str());
     if asks_service(words) && journal.len().is_ok() {
         stop.clear();
-        sweep_parts(rt, folder)?;
+        sweep_parts(machine, folder)?;
         meet_endpoints(&mut stores)?;
     }
-    let doors = closed_doors(rt, alloc, stop)?;
+    let doors = closed_doors(rt, alloc, stop, log, socket_of(words))?;
+    let gate = ServiceGate::new(rt, stop, log);
     run_over(
-        rt, threads, words, settings, journal, deletes, stores, doors, stop,
+        rt, threads, words, settings, journal, deletes, stores, doors, gate,
     )
 }
 
@@ -266,10 +295,10 @@ fn asks_service(words: &[String]) -> bool
 }
 
 /// Takes away what earlier services left of their parts in a stand's folder. One that another service holds stays.
-fn sweep_parts(rt: &HostRuntime, folder: &str) -> Result<(), Memory> {
-    let alloc = rt.alloc();
+fn sweep_parts(machine: Machine<'_>, folder: &str) -> Result<(), Memory> {
+    let alloc = machine.rt.alloc();
     let grid = format!(in alloc; "{folder}/grid")?;
-    let mut store = FolderStore::new(rt, alloc, grid);
+    let mut store = FolderStore::over(machine.files(), alloc, grid);
     match store.sweep() {
         Ok(()) => Ok(()),
         Err(_) => Err(Memory),
@@ -288,23 +317,23 @@ fn meet_endpoints<F: FileSystem + Drop>(stores: &mut [FolderStore<F>]) -> Result
 
 /// The journal's file, opened for what the words ask for: made and locked for a service and for a standby, and only looked at for other commands and
 /// for words that are none, which leave it as it is.
-fn disk_for<'a>(rt: &'a HostRuntime, words: &[String], path: &str) -> SystemDisk<&'a HostRuntime>
+fn disk_for<'a>(machine: Machine<'a>, words: &[String], path: &str) -> LoggedDisk<'a>
     ensures { LooksAtMost (asked_in (map string_bytes words.now)) → IsReadOnly result }
 {
     match read_words(words) {
         Some(Asked::Session | Asked::Load { .. } | Asked::Serve { .. } | Asked::Follow { .. }) =>
-            FileDisk::open(rt, path),
+            FileDisk::serve(machine.files(), path),
         Some(Asked::Show | Asked::Submit { .. } | Asked::Query { .. } | Asked::Delete) | None =>
-            FileDisk::view(rt, path),
+            FileDisk::look_at(machine.files(), path),
     }
 }
 
 /// The file of the deletions' journal: made and locked for a deletion, and left as it is by all else.
-fn deletes_for<'a>(rt: &'a HostRuntime, words: &[String], path: &str) -> SystemDisk<&'a HostRuntime>
+fn deletes_for<'a>(machine: Machine<'a>, words: &[String], path: &str) -> LoggedDisk<'a>
     ensures { DeletesNothing (asked_in (map string_bytes words.now)) → IsReadOnly result }
 {
     match read_words(words) {
-        Some(Asked::Delete) => FileDisk::open(rt, path),
+        Some(Asked::Delete) => FileDisk::serve(machine.files(), path),
         Some(
             Asked::Session
             | Asked::Show
@@ -314,7 +343,7 @@ fn deletes_for<'a>(rt: &'a HostRuntime, words: &[String], path: &str) -> SystemD
             | Asked::Query { .. }
             | Asked::Follow { .. },
         )
-        | None => FileDisk::view(rt, path),
+        | None => FileDisk::look_at(machine.files(), path),
     }
 }
 
@@ -340,21 +369,69 @@ fn has_threads<R: Threads + Wait + Sync>(rt: &HostRuntime, threads: &R, words: &
     }
 }
 
-/// Makes the outside of the stand that the command line names, and runs the command in it.
-fn run_stand<R: Threads + Wait + Sync>(rt: &HostRuntime, threads: &R) -> Result<Ending, Memory> {
-    let line = command_line(rt)?;
-    let words = command_words(line.as_slice());
-    if !has_threads(rt, threads, words) {
-        // Where nobody reads it, the status tells it.
-        let _told = StdSink::new(rt.stderr()).write(b"fts: no thread can be made\n");
-        return Err(Memory);
-    }
-    match stand(line.as_slice()) {
-        "-" => run_in_memory(rt, threads, words),
-        folder => run_in_folder(rt, threads, folder, words),
+/// The log of what the words ask for: that of a service goes to the file that they name, or to the standard error; other commands have a silent one.
+fn log_for<'a>(rt: &'a HostRuntime, words: &[String]) -> io::Result<SystemLog<'a>> {
+    match read_words(words) {
+        Some(Asked::Serve { .. }) => match log_of(words) {
+            Some(path) => SystemLog::in_file(rt, path),
+            None => Ok(SystemLog::on_standard_error(rt)),
+        },
+        Some(
+            Asked::Session
+            | Asked::Show
+            | Asked::Load { .. }
+            | Asked::Submit { .. }
+            | Asked::Query { .. }
+            | Asked::Delete
+            | Asked::Follow { .. },
+        )
+        | None => Ok(SystemLog::silent(rt)),
     }
 }
 
+/// Says why a run can't begin. Where nobody reads it, the status tells it.
+fn say(rt: &HostRuntime, text: &str) {
+    let _told = StdSink::new(rt.stderr()).write(text.as_bytes());
+}
+
+/// Makes the outside of a stand, runs the command in it, and tells the log its end.
+fn run_logged<R: Threads + Wait + Sync>(
+    machine: Machine<'_>,
+    threads: &R,
+    stand: &str,
+    words: &[String],
+) -> u8 {
+    let ended = match stand {
+        "-" => run_in_memory(machine, threads, words),
+        folder => run_in_folder(machine, threads, folder, words),
+    };
+    let status = exit_status(ended);
+    let lost = machine.log.lost();
+    machine.log.tell(&Event::Ends { status, lost });
+    status
+}
+
+/// Runs the command in the stand that the command line names. Gives the status of the process.
+fn run_stand<R: Threads + Wait + Sync>(rt: &HostRuntime, threads: &R) -> Result<u8, Memory> {
+    let line = command_line(rt)?;
+    let words = command_words(line.as_slice());
+    if !has_threads(rt, threads, words) {
+        say(rt, "fts: no thread can be made\n");
+        return Err(Memory);
+    }
+    let Ok(log) = log_for(rt, words) else {
+        say(rt, "fts: the log cannot be opened\n");
+        return Err(Memory);
+    };
+    let machine = Machine { rt, log: &log };
+    Ok(run_logged(
+        machine,
+        threads,
+        stand(line.as_slice()),
+        words,
+    ))
+}
+
 fn main(rt: HostRuntime) -> ExitCode {
-    ExitCode::from(exit_status(run_stand(&rt, &rt)))
+    ExitCode::from(run_stand(&rt, &rt).unwrap_or(NO_MEMORY))
 }

@@ -8,8 +8,10 @@
 
 mod accepting;
 mod arguments;
+mod gate;
 mod hands;
 mod lanes;
+mod log;
 mod outside;
 mod relief;
 mod steps;
@@ -21,8 +23,10 @@ mod threads;
 
 pub use accepting::{Listens, next_line};
 pub use arguments::command_line;
+pub use gate::{CopyNote, ServiceGate};
 pub use hands::{SystemHand, hands_over};
 pub use lanes::{SystemLane, closed_doors, lanes_over};
+pub use log::SystemLog;
 pub use outside::{OpenedFile, PcgWords, SystemClock};
 pub use stop::StopFile;
 pub use tcp_doors::TcpDoors;

@@ -53,6 +53,7 @@ struct Seen {
     finished: usize,
     each: bool,
     begun: u64,
+    ended: u64,
     late: bool,
 }
 
@@ -70,6 +71,7 @@ fn two_workers<R: Threads + Wait + Sync>(rt: &R, alloc: Global) -> Result<Seen, 
     let gate = BothBegin {
         begun: Raised::new(),
         late: Raised::new(),
+        ended: Raised::new(),
     };
     run_workers(rt, &lock, &mut stations, &gate);
     let finished = lock.with_turn(
@@ -79,11 +81,13 @@ fn two_workers<R: Threads + Wait + Sync>(rt: &R, alloc: Global) -> Result<Seen, 
     );
     let each = each_copied_one(&mut stations);
     let begun = gate.begun.count();
+    let ended = gate.ended.count();
     let late = gate.late.is_raised();
     Ok(Seen {
         finished,
         each,
         begun,
+        ended,
         late,
     })
 }
@@ -95,7 +99,11 @@ fn two_workers_copy_a_file_each_at_once(rt: HostRuntime) -> Result<(), Fail> {
         seen.finished == 2,
         "both files are FINISHED at their first attempt"
     );
-    assert!(rt; seen.begun == 2, "the gate was told twice");
+    assert!(rt; seen.begun == 2, "the gate was told of two begins");
+    assert!(rt;
+        seen.ended == 2,
+        "and of two ends, each of a verified copy of 3 bytes"
+    );
     assert!(rt;
         seen.each,
         "each worker drained, and its store holds one of them"
