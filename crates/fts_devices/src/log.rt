@@ -1,13 +1,21 @@
-//! The log of a service: each line goes out in one write, on the standard error or behind what stands in a file, and what can't be written is counted.
-//! Keeps: it never fails, so nothing that is told of it can change what a service does. After a write that failed the next line begins a line of its own.
-//! Handed to the doors, the gate and the file systems of a run that serves; all other runs have a silent one. `fts_log` spells the lines.
+//! The log of a service: a line for each event, on the standard error or behind what stands in a file. What can't be written at once is lost and counted.
+//! Keeps: it never fails and never waits for a reader, so nothing that is told of it can change or slow what a service does: before each piece of a line
+//! that is no longer than a pipe takes whole the system is asked whether there is room. Behind a line that was cut off the next one begins anew.
+//! Handed to the doors, the gate and the file systems of a run that serves; other runs have a silent one. `fts_log` spells the lines.
 use fts_log::{Event, Log, line_of};
 use fts_tables::Memory;
+use libc::net::{POLLOUT, poll};
+use libc::types::pollfd;
 use std::alloc::Global;
 use std::fs::{File, OpenOptions};
-use std::io::{self, Write};
-use std::sync::atomic::{AtomicBool, AtomicU64, Ordering};
+use std::io::{self, ErrorKind, Write};
+use std::os::fd::{AsRawFd, RawFd};
+use std::sync::Mutex;
+use std::sync::atomic::{AtomicU64, Ordering};
 use std::time::{SystemTime, UNIX_EPOCH};
+
+/// So many bytes a pipe takes whole, where it has room (PIPE_BUF of Linux).
+const PIECE_BYTES: usize = 4_096;
 
 /// Where lines go.
 #[derive(Drop)]
@@ -21,12 +29,11 @@ enum Target {
 #[derive(Drop)]
 pub struct SystemLog<'a> {
     rt: &'a HostRuntime,
-    alloc: Global,
     target: Target,
     /// How many lines were lost.
     lost: AtomicU64,
-    /// Whether the last write may have left a part of a line.
-    is_torn: AtomicBool,
+    /// Whether the last line may have been cut off. Who writes a line has the lock.
+    is_cut: Mutex<bool>,
 }
 
 impl<'a> SystemLog<'a> {
@@ -34,10 +41,9 @@ impl<'a> SystemLog<'a> {
     fn to(rt: &'a HostRuntime, target: Target) -> SystemLog<'a> {
         SystemLog {
             rt,
-            alloc: rt.alloc(),
             target,
             lost: AtomicU64::new(0),
-            is_torn: AtomicBool::new(false),
+            is_cut: Mutex::new(false),
         }
     }
 
@@ -60,37 +66,63 @@ impl<'a> SystemLog<'a> {
         Ok(SystemLog::to(rt, Target::Behind(file)))
     }
 
-    /// How many lines were lost so far: want of memory, or a write that failed.
+    /// How many lines were lost so far: memory was wanting, there was no room, or a write failed.
     pub fn lost(&self) -> u64 {
         self.lost.load(Ordering::SeqCst)
     }
 
-    /// Writes a line to where lines go.
-    fn write(&self, line: &[u8]) -> io::Result<()> {
+    /// Writes bytes to where lines go.
+    fn write(&self, bytes: &[u8]) -> io::Result<()> {
         match &self.target {
             Target::Nobody => Ok(()),
-            Target::StandardError => self.rt.stderr().write_all(line),
+            Target::StandardError => {
+                let mut stream = self.rt.stderr();
+                write_at_once(stream.as_raw_fd(), &mut stream, bytes)
+            }
             Target::Behind(file) => {
-                let mut file = file;
-                file.write_all(line)
+                let mut behind = file;
+                write_at_once(file.as_raw_fd(), &mut behind, bytes)
             }
         }
     }
 
-    /// Writes a line, behind the end of one that was cut off.
-    fn write_apart(&self, line: &[u8]) -> io::Result<()> {
-        if self.is_torn.swap(true, Ordering::SeqCst) {
+    /// Writes a line, apart from one before it that was cut off.
+    fn write_line(&self, line: &[u8]) -> io::Result<()> {
+        let mut is_cut = self.is_cut.lock(self.rt);
+        if *is_cut {
             self.write(b"\n")?;
         }
+        *is_cut = true;
         self.write(line)?;
-        self.is_torn.store(false, Ordering::SeqCst);
+        *is_cut = false;
         Ok(())
     }
 
     /// The line of an event at this moment.
     fn line(&self, event: &Event<'_>) -> Result<Vec<u8>, Memory> {
-        line_of(self.alloc, seconds(self.rt), event)
+        line_of(self.rt.alloc(), seconds(self.rt), event)
     }
+}
+
+/// Writes bytes in pieces, each of them only where there is room for it.
+fn write_at_once<W: Write>(fd: RawFd, stream: &mut W, bytes: &[u8]) -> io::Result<()> {
+    for piece in bytes.chunks(PIECE_BYTES) {
+        if !has_room(fd) {
+            return Err(io::Error::from(ErrorKind::WouldBlock));
+        }
+        stream.write_all(piece)?;
+    }
+    Ok(())
+}
+
+/// Whether a piece can be written without waiting, and somebody is there to read it.
+fn has_room(fd: RawFd) -> bool {
+    let mut asked = [pollfd {
+        fd,
+        events: POLLOUT,
+        revents: 0,
+    }];
+    poll(&mut asked, 0) == 1 && asked[0].revents == POLLOUT
 }
 
 /// The time of the system in whole seconds since 1970, and 0 where it can't be had.
@@ -110,7 +142,7 @@ impl Log for SystemLog<'_> {
             return;
         }
         let is_written = match self.line(event) {
-            Ok(line) => self.write_apart(line.as_slice()).is_ok(),
+            Ok(line) => self.write_line(line.as_slice()).is_ok(),
             Err(Memory) => false,
         };
         if !is_written {
