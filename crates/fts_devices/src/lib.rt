@@ -23,7 +23,7 @@ mod threads;
 
 pub use accepting::{Listens, next_line};
 pub use arguments::command_line;
-pub use gate::{CopyNote, ServiceGate};
+pub use gate::ServiceGate;
 pub use hands::{SystemHand, hands_over};
 pub use lanes::{SystemLane, closed_doors, lanes_over};
 pub use log::SystemLog;

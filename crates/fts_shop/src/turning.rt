@@ -25,7 +25,7 @@ use fts_disk::Disk;
 use fts_store::Store;
 use fts_tables::{Answer, Clock, Command, Outcome, Words};
 use fts_turnstile::{Pass, Turnstile};
-use fts_workers::{Beginning, Bench, Gate, Hand, Held};
+use fts_workers::{Bench, CopyNote, Gate, Hand, Held};
 use std::sync::Wait;
 
 // A claimed file, and what its copy is asked for.
@@ -164,14 +164,10 @@ fn work_on<D: Disk, E: Store, C: Clock, W: Words, G: Gate, R: Wait>(
         attempt,
         order,
     } = claimed;
-    let note = gate.begun(Beginning {
-        job,
-        file,
-        attempt,
-        order: &order,
-    });
+    let note = CopyNote::of(job, file, attempt, &order);
+    let begun = gate.begun(file);
     let outcome = copy_order(rt, shop, pass, bench, &mut hand.store, file, order);
-    gate.ended(note, outcome);
+    gate.ended(&note, begun, outcome);
     size_fits(outcome);
     bench.hold(Held {
         file,

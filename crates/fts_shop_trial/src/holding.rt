@@ -2,7 +2,7 @@
 //! Both give up after a number of looks, with a yield each, so that a test ends whatever the threads do.
 use fts_store::{MemoryStore, Store, StoreFailed};
 use fts_tables::{Outcome, PlaceRef};
-use fts_workers::{Beginning, Gate};
+use fts_workers::{CopyNote, Gate};
 use std::sync::atomic::{AtomicU64, Ordering};
 use std::thread::yield_now;
 
@@ -55,27 +55,26 @@ impl Raised {
 pub struct BothBegin {
     pub begun: Raised,
     pub late: Raised,
-    /// How many copies of file 1 or 2 ended as verified, with 3 bytes.
+    /// How many copies ended as verified at their first attempt, with 3 bytes and the number that their begin was answered with.
     pub ended: Raised,
 }
 
 impl Gate for BothBegin {
     ghost use Rattle.std.specs.Prelude.{false};
 
-    type Note = u32;
-
     ghost closes = { λ _. false };
 
-    fn begun(&self, copy: Beginning<'_>) -> u32 {
+    fn begun(&self, file: u32) -> u64 {
         self.begun.raise();
         if !self.begun.wait_for(2) {
             self.late.raise();
         }
-        copy.file
+        u64::from(file)
     }
 
-    fn ended(&self, file: u32, outcome: Outcome) {
-        if let (1..=2, Outcome::Verified { size: 3, digest: _ }) = (file, outcome) {
+    fn ended(&self, copy: &CopyNote, begun: u64, outcome: Outcome) {
+        let is_own = begun == u64::from(copy.file) && copy.attempt == 1;
+        if let (true, Outcome::Verified { size: 3, digest: _ }) = (is_own, outcome) {
             self.ended.raise();
         }
     }
@@ -95,15 +94,14 @@ pub struct ClosesBehind {
 impl Gate for ClosesBehind {
     ghost use Rattle.std.specs.Prelude.{true};
 
-    type Note = ();
-
     ghost closes = { λ _. true };
 
-    fn begun(&self, _copy: Beginning<'_>) {
+    fn begun(&self, _file: u32) -> u64 {
         self.begun.raise();
+        0
     }
 
-    fn ended(&self, _note: (), _outcome: Outcome) {}
+    fn ended(&self, _copy: &CopyNote, _begun: u64, _outcome: Outcome) {}
 
     fn is_closed(&self) -> bool {
         self.begun.count() >= self.most

@@ -102,7 +102,7 @@ fn two_workers_copy_a_file_each_at_once(rt: HostRuntime) -> Result<(), Fail> {
     assert!(rt; seen.begun == 2, "the gate was told of two begins");
     assert!(rt;
         seen.ended == 2,
-        "and of two ends, each of a verified copy of 3 bytes"
+        "and of two ends, each of the copy that began, with its 3 bytes"
     );
     assert!(rt;
         seen.each,

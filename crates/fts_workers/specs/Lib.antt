@@ -8,3 +8,4 @@ pub mod Wanted
 pub mod Steps
 pub mod Stops
 pub mod Requests
+pub mod Notes

@@ -18,7 +18,7 @@ pub use bench::Bench;
 pub use claiming::{ClaimStep, claim_step};
 pub use copying::{job_of_file, order_of_file};
 pub use ends::RoundEnd;
-pub use gate::{Beginning, Gate, NoGate};
+pub use gate::{CopyNote, Gate, NoGate, NoteName, PlaceNote};
 pub use hand::Hand;
 pub use held::Held;
 pub use laws::{benches_stay_over_lists, requests_leave_the_bench};
