@@ -14,7 +14,7 @@ ghost use Rattle.fts_words.specs.Words.{asked_in};
 ghost use Rattle.fts.specs.CommandLine.{stand_of, words_of, asks_service, exit_status_of, LooksAtMost, DeletesNothing};
 
 use fts_devices::{
-    LinkLimits, OpenedFile, ServiceGate, StopFile, SystemClock, SystemLog, TcpLink, can_begin,
+    LinkLimits, OpenedFile, ReadyError, ServiceGate, StopFile, SystemClock, SystemLog, TcpLink, can_begin,
     closed_doors, command_line, hands_over, lanes_over,
 };
 use fts_disk::{Disk, FileDisk, MemoryDisk};
@@ -91,7 +91,7 @@ struct Machine<'a> {
 impl<'a> Machine<'a> {
     /// Its files.
     fn files(self) -> LoggedSystem<'a> {
-        LoggedFiles::new(SystemFiles::new(self.rt), self.log)
+        LoggedFiles::over(SystemFiles::new(self.rt), self.log)
     }
 }
 
@@ -143,7 +143,7 @@ where
         settings,
         input: StdSource::new(rt.stdin()),
         output: StdSink::new(rt.stdout()),
-        notes: StdSink::new(rt.stderr()),
+        notes: StdSink::new(ReadyError::new(rt)),
         disk: Some(journal),
         deletes: Some(deletes),
         clock: SystemClock::new(rt),

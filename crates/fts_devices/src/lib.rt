@@ -26,7 +26,7 @@ pub use arguments::command_line;
 pub use gate::ServiceGate;
 pub use hands::{SystemHand, hands_over};
 pub use lanes::{SystemLane, closed_doors, lanes_over};
-pub use log::SystemLog;
+pub use log::{ReadyError, SystemLog};
 pub use outside::{OpenedFile, PcgWords, SystemClock};
 pub use stop::StopFile;
 pub use tcp_doors::TcpDoors;

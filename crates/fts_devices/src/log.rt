@@ -125,6 +125,33 @@ fn has_room(fd: RawFd) -> bool {
     poll(&mut asked, 0) == 1 && asked[0].revents == POLLOUT
 }
 
+/// The standard error, to which nothing is written that would wait for a reader.
+#[derive(Drop)]
+pub struct ReadyError<'a> {
+    rt: &'a HostRuntime,
+}
+
+impl<'a> ReadyError<'a> {
+    /// That of this process.
+    pub fn new(rt: &'a HostRuntime) -> ReadyError<'a> {
+        ReadyError { rt }
+    }
+}
+
+impl Write for ReadyError<'_> {
+    fn write(&mut self, bytes: &[u8]) -> io::Result<usize> {
+        let mut stream = self.rt.stderr();
+        if !has_room(stream.as_raw_fd()) {
+            return Err(io::Error::from(ErrorKind::WouldBlock));
+        }
+        stream.write(&bytes[..bytes.len().min(PIECE_BYTES)])
+    }
+
+    fn flush(&mut self) -> io::Result<()> {
+        self.rt.stderr().flush()
+    }
+}
+
 /// The time of the system in whole seconds since 1970, and 0 where it can't be had.
 fn seconds(rt: &HostRuntime) -> u64 {
     match SystemTime::now(rt) {
