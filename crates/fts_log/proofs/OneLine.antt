@@ -13,7 +13,7 @@ use Rattle.fts_log.specs.declared.events.LineFault.{LineFault}
 use Rattle.fts_log.specs.declared.events.LineFault.TheVariants.{SlowToSend, SlowToTake, StreamFailed}
 use Rattle.fts_log.specs.Quoting.{is_control, hex_digit, escaped_byte, escaped, quoted, is_shown, IsLine}
 use Rattle.fts_log.specs.Errnos.{errno_name}
-use Rattle.fts_log.specs.EventLines.{call_word, fault_word, id_text, place_text, bytes_of, outcome_text, field, copy_fields, call_fields, event_fields, event_line}
+use Rattle.fts_log.specs.EventLines.{call_word, fault_word, id_text, place_text, bytes_of, outcome_text, field, copy_fields, copy_fields_with, call_fields, event_fields, event_line}
 
 -- none of these bytes is below 32
 abbrev pub AreShown : List ℕ → Type 0
@@ -85,7 +85,7 @@ quoted_shown text = both_shown (escaped text) (codes "\"") (escaped_shown text) 
 -- a field
 field_shown : (name value : List ℕ) → AreShown name → AreShown value → AreShown (field name value)
 unfolding field
-field_shown name value named held = both_shown name (codes "=" ++ value) named held
+field_shown name value named held = both_shown (name ++ codes "=") value (both_shown name (codes "=") named refl) held
 
 -- the word of a call
 call_shown : (call : FileCall) → AreShown (call_word call)
@@ -113,47 +113,54 @@ fault_shown SlowToSend = refl
 fault_shown SlowToTake = refl
 fault_shown StreamFailed = refl
 
--- a field of a quoted text, or of a number
+-- a field of a quoted text
 text_shown : (name text : List ℕ) → AreShown name → AreShown (field name (quoted text))
 text_shown name text named = field_shown name (quoted text) named (quoted_shown text)
 
+-- a field of a number
 number_shown : (name : List ℕ) (number : ℕ) → AreShown name → AreShown (field name (decimal number))
 number_shown name number named = field_shown name (decimal number) named (decimal_shown number)
 
--- a field, and those behind it
-then_shown : (first rest : List ℕ) → AreShown first → AreShown rest → AreShown (first ++ rest)
-then_shown = both_shown
+-- the fields of a copy that ended
+copy_shown : (copy : EndedCopy) → AreShown (copy_fields copy)
+unfolding copy_fields_with
+copy_shown copy =
+    let job = both_shown _ _ (field_shown (codes "event") (codes "copy") refl refl) (text_shown (codes "job") (id_text copy.job) refl) in
+    let file = both_shown _ _ job (number_shown (codes "file") copy.file refl) in
+    let attempt = both_shown _ _ file (number_shown (codes "attempt") copy.attempt refl) in
+    let source = both_shown _ _ attempt (text_shown (codes "source") (place_text copy.source) refl) in
+    let dest = both_shown _ _ source (text_shown (codes "dest") (place_text copy.dest) refl) in
+    let bytes = both_shown _ _ dest (number_shown (codes "bytes") (bytes_of copy.outcome) refl) in
+    let millis = both_shown _ _ bytes (number_shown (codes "millis") copy.millis refl) in
+    both_shown _ _ millis (text_shown (codes "outcome") (outcome_text copy.outcome) refl)
+
+-- the fields of a call that failed
+failure_shown : (call : FileCall) (path : List ℕ) (errno : ℕ) → AreShown (call_fields call path errno)
+unfolding call_fields
+failure_shown call path errno =
+    let called = both_shown _ _ (field_shown (codes "event") (codes "call") refl refl) (field_shown (codes "call") (call_word call) refl (call_shown call)) in
+    let named = both_shown _ _ called (text_shown (codes "path") path refl) in
+    let told = both_shown _ _ named (text_shown (codes "error") (errno_name errno) refl) in
+    both_shown _ _ told (number_shown (codes "errno") errno refl)
 
 -- the fields of an event
 fields_shown : (event : Event) → AreShown (event_fields event)
-unfolding event_fields, copy_fields, call_fields
-fields_shown (Listens at) = both_shown _ _ (field_shown _ _ refl refl) (text_shown _ _ refl)
-fields_shown (CopyEnded copy) =
-    both_shown _ _ (field_shown _ _ refl refl)
-    (both_shown _ _ (text_shown _ (id_text copy.job) refl)
-    (both_shown _ _ (number_shown _ copy.file refl)
-    (both_shown _ _ (number_shown _ copy.attempt refl)
-    (both_shown _ _ (text_shown _ (place_text copy.source) refl)
-    (both_shown _ _ (text_shown _ (place_text copy.dest) refl)
-    (both_shown _ _ (number_shown _ (bytes_of copy.outcome) refl)
-    (both_shown _ _ (number_shown _ copy.millis refl) (text_shown _ (outcome_text copy.outcome) refl))))))))
-fields_shown (CallFailed call path errno) =
-    both_shown _ _ (field_shown _ _ refl refl)
-    (both_shown _ _ (field_shown _ (call_word call) refl (call_shown call))
-    (both_shown _ _ (text_shown _ path.now refl)
-    (both_shown _ _ (text_shown _ (errno_name errno) refl) (number_shown _ errno refl))))
-fields_shown (LineEnded cause) = both_shown _ _ (field_shown _ _ refl refl) (field_shown _ (fault_word cause) refl (fault_shown cause))
-fields_shown (Ends status lost) =
-    both_shown _ _ (field_shown _ _ refl refl) (both_shown _ _ (number_shown _ status refl) (number_shown _ lost refl))
+unfolding event_fields
+fields_shown (Listens at) = both_shown _ _ (field_shown (codes "event") (codes "listens") refl refl) (text_shown (codes "at") at.now refl)
+fields_shown (CopyEnded copy) = copy_shown copy
+fields_shown (CallFailed call path errno) = failure_shown call path.now errno
+fields_shown (LineEnded cause) = both_shown _ _ (field_shown (codes "event") (codes "line") refl refl) (field_shown (codes "cause") (fault_word cause) refl (fault_shown cause))
+fields_shown (Ends status lost) = both_shown _ _ (both_shown _ _ (field_shown (codes "event") (codes "ends") refl refl) (number_shown (codes "status") status refl)) (number_shown (codes "lost") lost refl)
 
 -- a line up to its line feed
 abbrev front : ℕ → Event → List ℕ
-front moment event = codes "time=" ++ (decimal moment ++ event_fields event)
+front moment event = codes "time=" ++ decimal moment ++ event_fields event
 
 -- each event's line is one line
 pub event_line_IsLine : (moment : ℕ) (event : Event) → IsLine (event_line moment event)
 event_line_IsLine moment event =
+    let time : AreShown (codes "time=" ++ decimal moment) = both_shown (codes "time=") (decimal moment) refl (decimal_shown moment) in
     ( front moment event
-    , ap (λ (l : List ℕ). codes "time=" ++ l) (sym (append_assoc (decimal moment) (event_fields event) (codes "\n")))
-    , both_shown (decimal moment) (event_fields event) (decimal_shown moment) (fields_shown event)
+    , refl
+    , both_shown (codes "time=" ++ decimal moment) (event_fields event) time (fields_shown event)
     )

@@ -76,18 +76,22 @@ outcome_text Stopped = codes "stopped"
 unfoldable pub field : List ℕ → List ℕ → List ℕ
 field name value = codes " " ++ name ++ codes "=" ++ value
 
--- the fields of a copy that ended
-unfoldable pub copy_fields : EndedCopy → List ℕ
-copy_fields copy =
+-- the fields of a copy that ended, with the texts of its job, its places and its outcome
+unfoldable pub copy_fields_with : List ℕ → List ℕ → List ℕ → List ℕ → EndedCopy → List ℕ
+copy_fields_with job source dest outcome copy =
     field (codes "event") (codes "copy")
-    ++ field (codes "job") (quoted (id_text copy.job))
+    ++ field (codes "job") (quoted job)
     ++ field (codes "file") (decimal copy.file)
     ++ field (codes "attempt") (decimal copy.attempt)
-    ++ field (codes "source") (quoted (place_text copy.source))
-    ++ field (codes "dest") (quoted (place_text copy.dest))
+    ++ field (codes "source") (quoted source)
+    ++ field (codes "dest") (quoted dest)
     ++ field (codes "bytes") (decimal (bytes_of copy.outcome))
     ++ field (codes "millis") (decimal copy.millis)
-    ++ field (codes "outcome") (quoted (outcome_text copy.outcome))
+    ++ field (codes "outcome") (quoted outcome)
+
+-- the fields of a copy that ended
+abbrev pub copy_fields : EndedCopy → List ℕ
+copy_fields copy = copy_fields_with (id_text copy.job) (place_text copy.source) (place_text copy.dest) (outcome_text copy.outcome) copy
 
 -- the fields of a call that failed, of a path, with a number
 unfoldable pub call_fields : FileCall → List ℕ → ℕ → List ℕ

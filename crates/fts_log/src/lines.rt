@@ -1,7 +1,7 @@
 //! The line of an event: its moment, and its fields (`specs/EventLines.antt`).
 //! Only want of memory keeps one from being made.
 ghost use Rattle.std.specs.Prelude.{◌≡◌, ◌++◌, ◌≤◌, length, OnOk, IfOk};
-ghost use Rattle.fts_log.specs.EventLines.{id_text, outcome_text, place_text, copy_fields, call_fields, event_fields, event_line};
+ghost use Rattle.fts_log.specs.EventLines.{id_text, place_text, copy_fields, copy_fields_with, call_fields, event_fields, event_line};
 
 use crate::errnos::errno_name;
 use crate::events::{EndedCopy, Event, FileCall};
@@ -76,7 +76,7 @@ fn id_text(job: u128, buffer: &mut [u8]) -> &str
 }
 
 /// The fields of a copy with its texts, which are the id of its job, its places and its outcome.
-#[tactic(auto, unfolding(crate::specs::EventLines::copy_fields))]
+#[tactic(auto, unfolding(crate::specs::EventLines::copy_fields_with))]
 fn put_copy_texts<'a>(
     line: &mut Vec<u8>,
     copy: &EndedCopy<'_>,
@@ -85,11 +85,7 @@ fn put_copy_texts<'a>(
     dest: &'a [u8],
     ended: &'a [u8],
 ) -> Result<(), Memory>
-    requires id { id.now ≡ id_text copy.now.job }
-    requires source { source.now ≡ place_text copy.now.source }
-    requires dest { dest.now ≡ place_text copy.now.dest }
-    requires ended { ended.now ≡ outcome_text copy.now.outcome }
-    ensures { OnOk result (line.new.items ≡ line.old.items ++ copy_fields copy.now) }
+    ensures { OnOk result (line.new.items ≡ line.old.items ++ copy_fields_with id.now source.now dest.now ended.now copy.now) }
 {
     put_fields(
         line,
