@@ -113,44 +113,56 @@ fault_shown SlowToSend = refl
 fault_shown SlowToTake = refl
 fault_shown StreamFailed = refl
 
+-- these bytes are among those of a line
+record AreOfLine (bytes : List ℕ) : Type 0 where
+  shown : AreShown bytes
+
+-- two parts of a line
+both : {first rest : List ℕ} → AreOfLine first → AreOfLine rest → AreOfLine (first ++ rest)
+both {first} {rest} one other = record { shown = both_shown first rest one.shown other.shown }
+
+-- a field of a word
+word_field : (name word : List ℕ) → AreShown name → AreShown word → AreOfLine (field name word)
+word_field name word named held = record { shown = field_shown name word named held }
+
 -- a field of a quoted text
-text_shown : (name text : List ℕ) → AreShown name → AreShown (field name (quoted text))
-text_shown name text named = field_shown name (quoted text) named (quoted_shown text)
+text_field : (name text : List ℕ) → AreShown name → AreOfLine (field name (quoted text))
+text_field name text named = word_field name (quoted text) named (quoted_shown text)
 
 -- a field of a number
-number_shown : (name : List ℕ) (number : ℕ) → AreShown name → AreShown (field name (decimal number))
-number_shown name number named = field_shown name (decimal number) named (decimal_shown number)
+number_field : (name : List ℕ) (number : ℕ) → AreShown name → AreOfLine (field name (decimal number))
+number_field name number named = word_field name (decimal number) named (decimal_shown number)
 
 -- the fields of a copy that ended
-copy_shown : (copy : EndedCopy) → AreShown (copy_fields copy)
+copy_shown : (copy : EndedCopy) → AreOfLine (copy_fields copy)
 unfolding copy_fields_with
 copy_shown copy =
-    let job = both_shown _ _ (field_shown (codes "event") (codes "copy") refl refl) (text_shown (codes "job") (id_text copy.job) refl) in
-    let file = both_shown _ _ job (number_shown (codes "file") copy.file refl) in
-    let attempt = both_shown _ _ file (number_shown (codes "attempt") copy.attempt refl) in
-    let source = both_shown _ _ attempt (text_shown (codes "source") (place_text copy.source) refl) in
-    let dest = both_shown _ _ source (text_shown (codes "dest") (place_text copy.dest) refl) in
-    let bytes = both_shown _ _ dest (number_shown (codes "bytes") (bytes_of copy.outcome) refl) in
-    let millis = both_shown _ _ bytes (number_shown (codes "millis") copy.millis refl) in
-    both_shown _ _ millis (text_shown (codes "outcome") (outcome_text copy.outcome) refl)
+    let job = both (word_field (codes "event") (codes "copy") refl refl) (text_field (codes "job") (id_text copy.job) refl) in
+    let file = both job (number_field (codes "file") copy.file refl) in
+    let attempt = both file (number_field (codes "attempt") copy.attempt refl) in
+    let source = both attempt (text_field (codes "source") (place_text copy.source) refl) in
+    let dest = both source (text_field (codes "dest") (place_text copy.dest) refl) in
+    let bytes = both dest (number_field (codes "bytes") (bytes_of copy.outcome) refl) in
+    let millis = both bytes (number_field (codes "millis") copy.millis refl) in
+    both millis (text_field (codes "outcome") (outcome_text copy.outcome) refl)
 
 -- the fields of a call that failed
-failure_shown : (call : FileCall) (path : List ℕ) (errno : ℕ) → AreShown (call_fields call path errno)
+failure_shown : (call : FileCall) (path : List ℕ) (errno : ℕ) → AreOfLine (call_fields call path errno)
 unfolding call_fields
 failure_shown call path errno =
-    let called = both_shown _ _ (field_shown (codes "event") (codes "call") refl refl) (field_shown (codes "call") (call_word call) refl (call_shown call)) in
-    let named = both_shown _ _ called (text_shown (codes "path") path refl) in
-    let told = both_shown _ _ named (text_shown (codes "error") (errno_name errno) refl) in
-    both_shown _ _ told (number_shown (codes "errno") errno refl)
+    let called = both (word_field (codes "event") (codes "call") refl refl) (word_field (codes "call") (call_word call) refl (call_shown call)) in
+    let named = both called (text_field (codes "path") path refl) in
+    let told = both named (text_field (codes "error") (errno_name errno) refl) in
+    both told (number_field (codes "errno") errno refl)
 
 -- the fields of an event
-fields_shown : (event : Event) → AreShown (event_fields event)
+fields_shown : (event : Event) → AreOfLine (event_fields event)
 unfolding event_fields
-fields_shown (Listens at) = both_shown _ _ (field_shown (codes "event") (codes "listens") refl refl) (text_shown (codes "at") at.now refl)
+fields_shown (Listens at) = both (word_field (codes "event") (codes "listens") refl refl) (text_field (codes "at") at.now refl)
 fields_shown (CopyEnded copy) = copy_shown copy
 fields_shown (CallFailed call path errno) = failure_shown call path.now errno
-fields_shown (LineEnded cause) = both_shown _ _ (field_shown (codes "event") (codes "line") refl refl) (field_shown (codes "cause") (fault_word cause) refl (fault_shown cause))
-fields_shown (Ends status lost) = both_shown _ _ (both_shown _ _ (field_shown (codes "event") (codes "ends") refl refl) (number_shown (codes "status") status refl)) (number_shown (codes "lost") lost refl)
+fields_shown (LineEnded cause) = both (word_field (codes "event") (codes "line") refl refl) (word_field (codes "cause") (fault_word cause) refl (fault_shown cause))
+fields_shown (Ends status lost) = both (both (word_field (codes "event") (codes "ends") refl refl) (number_field (codes "status") status refl)) (number_field (codes "lost") lost refl)
 
 -- a line up to its line feed
 abbrev front : ℕ → Event → List ℕ
@@ -162,5 +174,5 @@ event_line_IsLine moment event =
     let time : AreShown (codes "time=" ++ decimal moment) = both_shown (codes "time=") (decimal moment) refl (decimal_shown moment) in
     ( front moment event
     , refl
-    , both_shown (codes "time=" ++ decimal moment) (event_fields event) time (fields_shown event)
+    , both_shown (codes "time=" ++ decimal moment) (event_fields event) time (fields_shown event).shown
     )
