@@ -1,0 +1,5 @@
+pub mod Quoting
+pub mod Errnos
+pub mod Answers
+pub mod EventLines
+pub mod Fields

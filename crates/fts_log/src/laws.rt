@@ -1,0 +1,16 @@
+//! What is so of each line, and of each text in one.
+//! A law is a function without parameters that does nothing: its clause speaks of every event or text. A crate above cites it by calling it.
+ghost use Rattle.std.specs.Prelude.{◌≡◌, ℕ, List, ◌++◌, Some};
+ghost use Rattle.fts_log.specs.Quoting.{quoted, unquoted, IsLine};
+ghost use Rattle.fts_log.specs.EventLines.{event_line};
+ghost use Rattle.fts_log.specs.declared.events.Event.{Event};
+
+/// The line of each event is one line, whatever its names hold: its only byte below 32 is the line feed at its end.
+pub fn each_event_is_one_line()
+    ensures line { (moment : ℕ) (event : Event) → IsLine (event_line moment event) }
+{}
+
+/// A quoted text ends at its own last quote, whatever it holds and whatever stands behind it: what is read there is the text.
+pub fn quoted_texts_are_read_back()
+    ensures back { (text rest : List ℕ) → unquoted (quoted text ++ rest) ≡ Some (text, rest) }
+{}

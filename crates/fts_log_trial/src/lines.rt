@@ -1,0 +1,233 @@
+//! The line of each event, to the byte: that it is made with ample memory, and that it says what an operator looks for.
+//! Wanted lines were written by hand.
+use fts_log::{EndedCopy, Event, FileCall, LineFault, line_of};
+use fts_tables::{Outcome, PlaceRef};
+use std::alloc::Global;
+
+/// Whether the line of an event at moment 5 is this one, behind its moment.
+fn is_line(alloc: Global, event: &Event<'_>, want: &str) -> bool {
+    match line_of(alloc, 5, event) {
+        Ok(line) => {
+            line.len() == want.len() + 7
+                && line.starts_with(b"time=5 ")
+                && line.ends_with(want.as_bytes())
+        }
+        Err(_) => false,
+    }
+}
+
+#[test]
+fn each_event_has_its_line(rt: HostRuntime) {
+    for (case, event, want) in [
+        (
+            "a port",
+            Event::Listens {
+                at: "127.0.0.1:8080",
+            },
+            "event=listens at=\"127.0.0.1:8080\"\n",
+        ),
+        (
+            "a client that sends too slowly",
+            Event::LineEnded {
+                cause: LineFault::SlowToSend,
+            },
+            "event=line cause=slow_to_send\n",
+        ),
+        (
+            "one that takes too slowly",
+            Event::LineEnded {
+                cause: LineFault::SlowToTake,
+            },
+            "event=line cause=slow_to_take\n",
+        ),
+        (
+            "a stream that failed",
+            Event::LineEnded {
+                cause: LineFault::StreamFailed,
+            },
+            "event=line cause=stream_failed\n",
+        ),
+        (
+            "the end of a run",
+            Event::Ends { status: 3, lost: 0 },
+            "event=ends status=3 lost=0\n",
+        ),
+        (
+            "the largest numbers",
+            Event::Ends {
+                status: 255,
+                lost: 18446744073709551615,
+            },
+            "event=ends status=255 lost=18446744073709551615\n",
+        ),
+    ] {
+        assert!(rt; is_line(rt.alloc(), &event, want), "{case}");
+    }
+}
+
+#[test]
+fn the_moment_is_in_seconds_since_1970(rt: HostRuntime) {
+    let event = Event::Ends { status: 0, lost: 0 };
+    let want = "time=1796047360 event=ends status=0 lost=0\n";
+    let is_so = match line_of(rt.alloc(), 1796047360, &event) {
+        Ok(line) => line.as_slice() == want.as_bytes(),
+        Err(_) => false,
+    };
+    assert!(rt; is_so, "half past three");
+}
+
+/// A copy of file 12 that ended so.
+fn copy_that(outcome: Outcome) -> Event<'static> {
+    Event::CopyEnded(EndedCopy {
+        job: 0x8b35c5cc_0011_2233_4455_66778899aabb,
+        file: 12,
+        attempt: 1,
+        source: PlaceRef {
+            endpoint: "https://a.example",
+            path: "data/f1",
+        },
+        dest: PlaceRef {
+            endpoint: "https://b.example",
+            path: "data/\"f1\"",
+        },
+        millis: 34,
+        outcome,
+    })
+}
+
+/// Whether the line of such a copy has these bytes, and this outcome.
+fn is_copy_line(alloc: Global, outcome: Outcome, want: &str) -> bool {
+    let front = "time=5 event=copy job=\"8b35c5cc-0011-2233-4455-66778899aabb\" file=12 attempt=1 source=\"https://a.example/data/f1\" dest=\"https://b.example/data/\\\"f1\\\"\" ";
+    match line_of(alloc, 5, &copy_that(outcome)) {
+        Ok(line) => {
+            line.len() == front.len() + want.len()
+                && line.starts_with(front.as_bytes())
+                && line.ends_with(want.as_bytes())
+        }
+        Err(_) => false,
+    }
+}
+
+#[test]
+fn each_outcome_has_its_text(rt: HostRuntime) {
+    for (case, outcome, want) in [
+        (
+            "verified",
+            Outcome::Verified {
+                size: 3,
+                digest: [0; 16],
+            },
+            "bytes=3 millis=34 outcome=\"verified\"\n",
+        ),
+        (
+            "no source",
+            Outcome::SourceMissing,
+            "bytes=0 millis=34 outcome=\"source missing\"\n",
+        ),
+        (
+            "something is there",
+            Outcome::DestinationExists,
+            "bytes=0 millis=34 outcome=\"destination exists\"\n",
+        ),
+        (
+            "another size",
+            Outcome::SourceSize { seen: 40 },
+            "bytes=0 millis=34 outcome=\"source size 40\"\n",
+        ),
+        (
+            "another digest",
+            Outcome::SourceDigest { seen: [0xa5; 16] },
+            "bytes=0 millis=34 outcome=\"source digest a5a5a5a5a5a5a5a5a5a5a5a5a5a5a5a5\"\n",
+        ),
+        (
+            "another byte",
+            Outcome::ReadBackDiffers { at: 7 },
+            "bytes=0 millis=34 outcome=\"read back differs at 7\"\n",
+        ),
+        (
+            "a store",
+            Outcome::StoreFailed,
+            "bytes=0 millis=34 outcome=\"store failed\"\n",
+        ),
+        (
+            "a stop",
+            Outcome::Stopped,
+            "bytes=0 millis=34 outcome=\"stopped\"\n",
+        ),
+    ] {
+        assert!(rt; is_copy_line(rt.alloc(), outcome, want), "{case}");
+    }
+}
+
+/// A refusal to open a path.
+fn refused(path: &str, errno: u32) -> Event<'_> {
+    Event::CallFailed {
+        call: FileCall::Open,
+        path,
+        errno,
+    }
+}
+
+#[test]
+fn no_name_forges_a_line_or_a_field(rt: HostRuntime) {
+    for (case, path, want) in [
+        (
+            "a plain path",
+            "/stand/grid/f1",
+            "event=call call=open path=\"/stand/grid/f1\" error=\"EACCES\" errno=13\n",
+        ),
+        (
+            "none",
+            "",
+            "event=call call=open path=\"\" error=\"EACCES\" errno=13\n",
+        ),
+        (
+            "a quote and a field",
+            "f\" error=\"none",
+            "event=call call=open path=\"f\\\" error=\\\"none\" error=\"EACCES\" errno=13\n",
+        ),
+        (
+            "a backslash before a quote",
+            "f\\\"",
+            "event=call call=open path=\"f\\\\\\\"\" error=\"EACCES\" errno=13\n",
+        ),
+        (
+            "a line feed and a line",
+            "f\ntime=6 event=ends",
+            "event=call call=open path=\"f\\x0atime=6 event=ends\" error=\"EACCES\" errno=13\n",
+        ),
+        (
+            "other controls",
+            "\u{0}\t\r\u{1b}[2J\u{1f}\u{7f}",
+            "event=call call=open path=\"\\x00\\x09\\x0d\\x1b[2J\\x1f\\x7f\" error=\"EACCES\" errno=13\n",
+        ),
+        (
+            "letters beyond ASCII",
+            "größe",
+            "event=call call=open path=\"größe\" error=\"EACCES\" errno=13\n",
+        ),
+    ] {
+        assert!(rt; is_line(rt.alloc(), &refused(path, 13), want), "{case}");
+    }
+}
+
+/// Whether this number has this name.
+fn is_named(alloc: Global, errno: u32, want: &str) -> bool {
+    is_line(alloc, &refused("f", errno), want)
+}
+
+#[test]
+fn numbers_have_the_names_of_linux(rt: HostRuntime) {
+    for (errno, want) in [
+        (0, "event=call call=open path=\"f\" error=\"E?\" errno=0\n"),
+        (1, "event=call call=open path=\"f\" error=\"EPERM\" errno=1\n"),
+        (5, "event=call call=open path=\"f\" error=\"EIO\" errno=5\n"),
+        (28, "event=call call=open path=\"f\" error=\"ENOSPC\" errno=28\n"),
+        (30, "event=call call=open path=\"f\" error=\"EROFS\" errno=30\n"),
+        (40, "event=call call=open path=\"f\" error=\"ELOOP\" errno=40\n"),
+        (122, "event=call call=open path=\"f\" error=\"EDQUOT\" errno=122\n"),
+        (123, "event=call call=open path=\"f\" error=\"E?\" errno=123\n"),
+    ] {
+        assert!(rt; is_named(rt.alloc(), errno, want), "{errno}");
+    }
+}
