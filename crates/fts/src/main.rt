@@ -73,7 +73,7 @@ fn exit_status(ended: Result<Ending, Memory>) -> u8
 }
 
 /// The files of the machine, whose refused calls a log is told.
-type LoggedSystem<'a> = LoggedFiles<'a, SystemFiles<&'a HostRuntime>, SystemLog<'a>>;
+type LoggedSystem<'a> = LoggedFiles<SystemFiles<&'a HostRuntime>, &'a SystemLog<'a>>;
 
 /// A store in a folder of the machine.
 type GridStore<'a> = FolderStore<LoggedSystem<'a>>;
@@ -91,7 +91,7 @@ struct Machine<'a> {
 impl<'a> Machine<'a> {
     /// Its files.
     fn files(self) -> LoggedSystem<'a> {
-        LoggedFiles::over(SystemFiles::new(self.rt), self.log)
+        LoggedFiles::over(SystemFiles::new(self.rt), self.log, self.rt.alloc())
     }
 }
 
