@@ -72,7 +72,8 @@ fn words_with_path(alloc: Global, options: &str, length: usize) -> Result<Vec<St
 fn a_path_has_at_most_so_many_bytes(rt: HostRuntime) {
     for (options, length, is_accepted) in LENGTHS {
         let words = must(&rt, words_with_path(rt.alloc(), options, *length), options);
-        let is_asked = take_words(rt.alloc(), words.as_slice()).is_ok_and(|asked| asked.is_some() == *is_accepted);
+        let is_asked = take_words(rt.alloc(), words.as_slice()).is_ok_and(|asked| asked.is_some()
+            == *is_accepted);
         check(&rt, is_asked, options);
     }
 }

@@ -335,7 +335,12 @@ pub const PATHS: &[(&str, Option<Asked>, Option<&str>, Option<&str>)] = &[
         Some("ä"),
     ),
     ("serve --port 8080", Some(AT_PORT), None, None),
-    ("query --port 1 --job 00000000-0000-4000-8000-000000000001", Some(ASKED), None, None),
+    (
+        "query --port 1 --job 00000000-0000-4000-8000-000000000001",
+        Some(ASKED),
+        None,
+        None,
+    ),
 ];
 
 /// Words that are not accepted, and so have no path.

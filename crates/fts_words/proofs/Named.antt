@@ -1,6 +1,7 @@
 -- The paths that accepted words name: a socket is named exactly where there is its option, and the words that are left are read one after another.
-use Rattle.std.proofs.Common.{◌≡◌, ℕ, ◌+◌, ◌<◌, arith, Bor, Global, String, string_bytes, map, drop, length, get_or, Bool, true, false, ◌||◌, not, if◌then◌else◌, List, [], ◌∷◌, Option, Some, None, refl, ap, sym, ◌∙◌, subst}
+use Rattle.std.proofs.Common.{◌≡◌, ℕ, ◌+◌, ◌<◌, ◌≤◌, arith, Bor, Global, String, string_bytes, map, drop, length, get_or, Bool, true, false, ◌||◌, not, if◌then◌else◌, List, [], ◌∷◌, Option, Some, None, refl, ap, sym, ◌∙◌, subst}
 use Rattle.std.proofs.lemmas.Bool.Decides.{nat_tests}
+use Rattle.std.proofs.lemmas.List.{length-map, drop_all}
 use Rattle.std.specs.Option.{option_copied}
 use Rattle.std.specs.Prelude.{IfSome, is_some, codes, bytes_eq, option_map, option_and_then}
 use Rattle.std.specs.List.{list_any, position_or_len, before_first, after_first}
@@ -187,3 +188,11 @@ module _ (wanted : List ℕ) (all : List (String Global)) (i : ℕ) (word : Stri
 
       pub passed_joined : bytes_eq name wanted ≡ false → value_behind wanted None (map string_bytes all) ≡ value_behind wanted None rest
       passed_joined apart = with_value ∙ ap (λ (b : Bool). if b then Some value else value_behind wanted None rest) apart
+
+-- no word is left
+pub ended : (wanted : List ℕ) (all : List (String Global)) (i : ℕ) (waiting : Option (Bor (List ℕ))) → length all ≤ i
+    → value_behind wanted None (map string_bytes all) ≡ value_behind wanted (option_copied waiting) (drop i (map string_bytes all))
+    → None ≡ value_behind wanted None (map string_bytes all)
+ended wanted all i waiting over so_far =
+    let none : drop i (map string_bytes all) ≡ [] = drop_all i (map string_bytes all) (omega (arith, length-map all string_bytes, over)) in
+    sym (so_far ∙ ap (value_behind wanted (option_copied waiting)) none)

@@ -7,7 +7,6 @@ ghost use Rattle.fts_words.specs.Words.{asked_in, socket_in, log_in, accepted_va
 use crate::reader::read_words;
 
 /// The path of the socket that accepted words name, 1 to 107 bytes. None where they name none, or are not accepted.
-#[tactic(auto, using(crate::proofs::Named::served_as))]
 pub fn socket_of(words: &[String]) -> Option<&str>
     ensures path { option_copied result ≡ socket_in (map string_bytes words.now) }
     ensures port { IfSome (asked_in (map string_bytes words.now)) (IsServedAt (is_some result)) }
