@@ -1,8 +1,8 @@
 //! Of `fts_words`: that the definition means what the rows of `words_cases` say, and that `clap` takes a list of every shape that is accepted, with the same
-//! values.
+//! values; and which paths they name.
 use crate::checks::{check, must};
-use crate::words_cases::{OPTIONS, WORDS};
-use fts_words::{Asked, read_words, take_words};
+use crate::words_cases::{LENGTHS, NO_PATHS, OPTIONS, PATHS, WORDS};
+use fts_words::{Asked, log_of, read_words, socket_of, take_words};
 use std::alloc::{AllocError, Global};
 
 /// The words of a text with single spaces between them.
@@ -34,5 +34,46 @@ fn clap_takes_options_of_every_shape(rt: HostRuntime) {
     for (text, asked) in OPTIONS {
         let words = must(&rt, words_of(rt.alloc(), text), text);
         check(&rt, are_read(rt.alloc(), words.as_slice(), *asked), text);
+    }
+}
+
+#[test]
+fn accepted_words_name_their_paths(rt: HostRuntime) {
+    for (text, asked, socket, log) in PATHS {
+        let words = must(&rt, words_of(rt.alloc(), text), text);
+        check(&rt, are_read(rt.alloc(), words.as_slice(), *asked), text);
+        check(&rt, socket_of(words.as_slice()) == *socket, text);
+        check(&rt, log_of(words.as_slice()) == *log, text);
+    }
+}
+
+#[test]
+fn words_that_are_not_accepted_name_no_path(rt: HostRuntime) {
+    for text in NO_PATHS {
+        let words = must(&rt, words_of(rt.alloc(), text), text);
+        check(&rt, are_read(rt.alloc(), words.as_slice(), None), text);
+        check(&rt, socket_of(words.as_slice()) == None, text);
+        check(&rt, log_of(words.as_slice()) == None, text);
+    }
+}
+
+/// The words of a service whose last option is a path of so many bytes.
+fn words_with_path(alloc: Global, options: &str, length: usize) -> Result<Vec<String>, AllocError> {
+    let mut text = String::new(alloc);
+    text.push_str("serve ")?;
+    text.push_str(options)?;
+    for _ in 0..length {
+        text.push('p')?;
+    }
+    words_of(alloc, text.as_str())
+}
+
+#[test]
+fn a_path_has_at_most_so_many_bytes(rt: HostRuntime) {
+    for (options, length, is_accepted) in LENGTHS {
+        let words = must(&rt, words_with_path(rt.alloc(), options, *length), options);
+        let is_asked = take_words(rt.alloc(), words.as_slice()).is_ok_and(|asked| asked.is_some()
+            == *is_accepted);
+        check(&rt, is_asked, options);
     }
 }

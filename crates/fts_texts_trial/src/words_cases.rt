@@ -13,7 +13,7 @@ pub const WORDS: &[(&str, Option<Asked>)] = &[
     (
         "serve --port 8080",
         Some(Asked::Serve {
-            port: 8080,
+            port: Some(8080),
             lanes: 4,
             connections: None,
         }),
@@ -90,7 +90,7 @@ pub const OPTIONS: &[(&str, Option<Asked>)] = &[
     (
         "serve --port 8080",
         Some(Asked::Serve {
-            port: 8080,
+            port: Some(8080),
             lanes: 4,
             connections: None,
         }),
@@ -98,7 +98,7 @@ pub const OPTIONS: &[(&str, Option<Asked>)] = &[
     (
         "serve --port=65535",
         Some(Asked::Serve {
-            port: 65_535,
+            port: Some(65_535),
             lanes: 4,
             connections: None,
         }),
@@ -106,7 +106,7 @@ pub const OPTIONS: &[(&str, Option<Asked>)] = &[
     (
         "serve --lanes 8 --port 1",
         Some(Asked::Serve {
-            port: 1,
+            port: Some(1),
             lanes: 8,
             connections: None,
         }),
@@ -114,7 +114,7 @@ pub const OPTIONS: &[(&str, Option<Asked>)] = &[
     (
         "serve --port=1 --lanes=1",
         Some(Asked::Serve {
-            port: 1,
+            port: Some(1),
             lanes: 1,
             connections: None,
         }),
@@ -122,7 +122,7 @@ pub const OPTIONS: &[(&str, Option<Asked>)] = &[
     (
         "serve --connections 1000000 --port 1",
         Some(Asked::Serve {
-            port: 1,
+            port: Some(1),
             lanes: 4,
             connections: Some(1_000_000),
         }),
@@ -130,7 +130,7 @@ pub const OPTIONS: &[(&str, Option<Asked>)] = &[
     (
         "serve --port 1 --lanes=2 --connections 3",
         Some(Asked::Serve {
-            port: 1,
+            port: Some(1),
             lanes: 2,
             connections: Some(3),
         }),
@@ -138,7 +138,7 @@ pub const OPTIONS: &[(&str, Option<Asked>)] = &[
     (
         "serve --port=1 --connections=3 --lanes 2",
         Some(Asked::Serve {
-            port: 1,
+            port: Some(1),
             lanes: 2,
             connections: Some(3),
         }),
@@ -146,7 +146,7 @@ pub const OPTIONS: &[(&str, Option<Asked>)] = &[
     (
         "serve --lanes 2 --port 1 --connections 3",
         Some(Asked::Serve {
-            port: 1,
+            port: Some(1),
             lanes: 2,
             connections: Some(3),
         }),
@@ -154,7 +154,7 @@ pub const OPTIONS: &[(&str, Option<Asked>)] = &[
     (
         "serve --lanes=2 --connections 3 --port=1",
         Some(Asked::Serve {
-            port: 1,
+            port: Some(1),
             lanes: 2,
             connections: Some(3),
         }),
@@ -162,7 +162,7 @@ pub const OPTIONS: &[(&str, Option<Asked>)] = &[
     (
         "serve --connections 3 --port=1 --lanes 2",
         Some(Asked::Serve {
-            port: 1,
+            port: Some(1),
             lanes: 2,
             connections: Some(3),
         }),
@@ -170,7 +170,7 @@ pub const OPTIONS: &[(&str, Option<Asked>)] = &[
     (
         "serve --connections=3 --lanes=2 --port 1",
         Some(Asked::Serve {
-            port: 1,
+            port: Some(1),
             lanes: 2,
             connections: Some(3),
         }),
@@ -281,4 +281,123 @@ pub const OPTIONS: &[(&str, Option<Asked>)] = &[
     ),
     ("follow --tries 4", None),
     ("follow --port 1 --tries 11", None),
+];
+
+/// What words that name paths ask for, and the paths of the socket and of the log.
+pub const PATHS: &[(&str, Option<Asked>, Option<&str>, Option<&str>)] = &[
+    (
+        "serve --socket /run/fts.socket",
+        Some(AT_SOCKET),
+        Some("/run/fts.socket"),
+        None,
+    ),
+    (
+        "serve --socket=/run/fts.socket",
+        Some(AT_SOCKET),
+        Some("/run/fts.socket"),
+        None,
+    ),
+    (
+        "serve --port 8080 --log fts.log",
+        Some(AT_PORT),
+        None,
+        Some("fts.log"),
+    ),
+    (
+        "serve --log=fts.log --port=8080",
+        Some(AT_PORT),
+        None,
+        Some("fts.log"),
+    ),
+    (
+        "serve --log l --lanes 4 --socket s",
+        Some(AT_SOCKET),
+        Some("s"),
+        Some("l"),
+    ),
+    // A value may have an equals sign, be an option's or a command's name without hyphens, and be of more than seven bits a byte.
+    (
+        "serve --log=a=b --socket c=d",
+        Some(AT_SOCKET),
+        Some("c=d"),
+        Some("a=b"),
+    ),
+    (
+        "serve --log socket --socket serve",
+        Some(AT_SOCKET),
+        Some("serve"),
+        Some("socket"),
+    ),
+    (
+        "serve --socket ./-s --log=ä",
+        Some(AT_SOCKET),
+        Some("./-s"),
+        Some("ä"),
+    ),
+    ("serve --port 8080", Some(AT_PORT), None, None),
+    (
+        "query --port 1 --job 00000000-0000-4000-8000-000000000001",
+        Some(ASKED),
+        None,
+        None,
+    ),
+];
+
+/// Words that are not accepted, and so have no path.
+pub const NO_PATHS: &[&str] = &[
+    // A port and a socket, in either order; neither.
+    "serve --port 8080 --socket /run/fts.socket",
+    "serve --socket=/run/fts.socket --port=8080",
+    "serve --log fts.log",
+    "serve",
+    // Nothing; a zero byte; a hyphen first, as where the value was left out.
+    "serve --socket=",
+    "serve --socket ",
+    "serve --port 1 --log=",
+    "serve --port 1 --log ",
+    "serve --socket",
+    "serve --port 1 --log",
+    "serve --socket a\0b",
+    "serve --port 1 --log=a\0",
+    "serve --socket --log=a",
+    "serve --log --port=1 --socket a",
+    "serve --socket=-a",
+    // Twice; another command's; another name.
+    "serve --socket a --socket a",
+    "serve --port 1 --log a --log=b",
+    "submit --port 1 --socket a",
+    "query --socket a --job 00000000-0000-4000-8000-000000000001",
+    "follow --port 1 --log a",
+    "session --log a",
+    "serve --sockets a",
+    "serve -socket a",
+];
+
+const AT_SOCKET: Asked = Asked::Serve {
+    port: None,
+    lanes: 4,
+    connections: None,
+};
+
+const AT_PORT: Asked = Asked::Serve {
+    port: Some(8080),
+    lanes: 4,
+    connections: None,
+};
+
+const ASKED: Asked = Asked::Query {
+    port: 1,
+    job: ONE,
+    tries: 3,
+};
+
+/// How many bytes a path has behind its option, and whether it is accepted.
+pub const LENGTHS: &[(&str, usize, bool)] = &[
+    ("--socket=", 1, true),
+    ("--socket=", 107, true),
+    ("--socket=", 108, false),
+    ("--port=1 --log=", 1, true),
+    ("--port=1 --log=", 108, true),
+    ("--port=1 --log=", 4095, true),
+    ("--port=1 --log=", 4096, false),
 ];

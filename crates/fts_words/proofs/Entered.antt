@@ -1,6 +1,7 @@
 -- The whole command line: `clap` takes each list that the definition accepts, and has the values of its options.
 use Rattle.std.proofs.Common.{◌≡◌, refl, ap, sym, ◌∙◌, subst, ◌&&◌, Bool, true, false, not, inl, inr, List, [], ◌∷◌, ◌++◌, Option, Some, None, Ok, Err}
-use Rattle.std.specs.Prelude.{codes, fold, option_and_then, bytes_eq, if◌then◌else◌}
+use Rattle.std.specs.Prelude.{codes, fold, option_and_then, is_some, bytes_eq, if◌then◌else◌}
+use Rattle.std.specs.List.{list_any}
 use Rattle.std.proofs.Common.{append_assoc, append-nil}
 use Rattle.std.proofs.lemmas.Slice.Eq.{bytes_eq-Decides}
 use Rattle.clap.specs.Words.{Row, Shape, Text, first_value, rows_of, takes, subcommand_of}
@@ -19,8 +20,8 @@ use Rattle.fts_words.specs.declared.asked.Asked.{Asked}
 use Rattle.fts_words.specs.declared.asked.Command.{Command}
 use Rattle.fts_words.specs.declared.asked.Command.TheVariants.{Session, Show, Load, Serve, Submit, Query, Delete, Follow}
 use Rattle.fts_words.specs.declared.options.Given.{Given}
-use Rattle.fts_words.specs.declared.options.Given.TheVariants.{Port, Lanes, Connections, Number, Tries, Job}
-use Rattle.fts_words.proofs.Taking.{Name, ThePort, TheLanes, TheConnections, TheNumber, TheTries, TheJob, shape_of_command, rules_of_command, at}
+use Rattle.fts_words.specs.declared.options.Given.TheVariants.{Port, Lanes, Connections, Number, Tries, Job, Socket, Log}
+use Rattle.fts_words.proofs.Taking.{Name, ThePort, TheLanes, TheConnections, TheNumber, TheTries, TheJob, TheSocket, TheLog, shape_of_command, rules_of_command, at}
 use Rattle.fts_words.proofs.Walked.{given_as, or_else, value_at, Goes, goes_on}
 
 -- a command's name
@@ -35,13 +36,13 @@ name_of Delete = codes "delete"
 name_of Follow = codes "follow"
 
 -- the options that are left of an accepted list are each once
-record AreOnce (command : Command) (words : List Text) (asked : Asked) : Type 0 where
+pub record AreOnce (command : Command) (words : List Text) (asked : Asked) : Type 0 where
   pub options : List Given
   pub are : options_behind command None words ≡ Some options
   pub apart : are_apart is_same_option options ≡ true
   pub with : asked_with command (numbers_of options) ≡ Some asked
 
-are_once : (command : Command) (words : List Text) (asked : Asked) → asked_of command words ≡ Some asked → AreOnce command words asked
+pub are_once : (command : Command) (words : List Text) (asked : Asked) → asked_of command words ≡ Some asked → AreOnce command words asked
 are_once command words asked found = by_options (options_behind command None words) refl found
   where
     by_apart : (options : List Given) (b : Bool) → are_apart is_same_option options ≡ b → options_behind command None words ≡ Some options
@@ -87,11 +88,15 @@ kept_two id other rows = ap (kept other) (kept_one id rows) ∙ kept_one other r
 kept_three : (id other third : Text) (rows : List Row) → kept third (kept other (kept id rows)) ≡ rows
 kept_three id other third rows = ap (kept third) (kept_two id other rows) ∙ kept_one third rows
 
+kept_five : (id other third fourth fifth : Text) (rows : List Row) → kept fifth (kept fourth (kept third (kept other (kept id rows)))) ≡ rows
+kept_five id other third fourth fifth rows =
+    ap (λ (l : List Row). kept fifth (kept fourth l)) (kept_three id other third rows) ∙ kept_two fourth fifth rows
+
 finished_is : (command : Command) (held : Held) → finished (rules_of_command command) held ≡ (settled (rules_of_command command) held).rows
 finished_is Session held = refl
 finished_is Show held = refl
 finished_is Load held = kept_one (codes "number") (settled (rules_of_command Load) held).rows
-finished_is Serve held = kept_three (codes "port") (codes "lanes") (codes "connections") (settled (rules_of_command Serve) held).rows
+finished_is Serve held = kept_five (codes "port") (codes "lanes") (codes "connections") (codes "socket") (codes "log") (settled (rules_of_command Serve) held).rows
 finished_is Submit held = kept_two (codes "port") (codes "tries") (settled (rules_of_command Submit) held).rows
 finished_is Query held = kept_three (codes "job") (codes "port") (codes "tries") (settled (rules_of_command Query) held).rows
 finished_is Delete held = refl
@@ -191,6 +196,8 @@ ports (Connections n ∷ options) = ports options
 ports (Number n ∷ options) = ports options
 ports (Tries n ∷ options) = ports options
 ports (Job n ∷ options) = ports options
+ports (Socket ∷ options) = ports options
+ports (Log ∷ options) = ports options
 
 lanes : (options : List Given) → option_and_then lanes_of (given_as TheLanes options) ≡ first_number lanes_of options
 lanes [] = refl
@@ -200,6 +207,8 @@ lanes (Connections n ∷ options) = lanes options
 lanes (Number n ∷ options) = lanes options
 lanes (Tries n ∷ options) = lanes options
 lanes (Job n ∷ options) = lanes options
+lanes (Socket ∷ options) = lanes options
+lanes (Log ∷ options) = lanes options
 
 connections : (options : List Given) → option_and_then connections_of (given_as TheConnections options) ≡ first_number connections_of options
 connections [] = refl
@@ -209,6 +218,8 @@ connections (Connections n ∷ options) = refl
 connections (Number n ∷ options) = connections options
 connections (Tries n ∷ options) = connections options
 connections (Job n ∷ options) = connections options
+connections (Socket ∷ options) = connections options
+connections (Log ∷ options) = connections options
 
 numbers : (options : List Given) → option_and_then number_given (given_as TheNumber options) ≡ first_number number_given options
 numbers [] = refl
@@ -218,6 +229,8 @@ numbers (Connections n ∷ options) = numbers options
 numbers (Number n ∷ options) = refl
 numbers (Tries n ∷ options) = numbers options
 numbers (Job n ∷ options) = numbers options
+numbers (Socket ∷ options) = numbers options
+numbers (Log ∷ options) = numbers options
 
 tries : (options : List Given) → option_and_then tries_of (given_as TheTries options) ≡ first_number tries_of options
 tries [] = refl
@@ -227,6 +240,8 @@ tries (Connections n ∷ options) = tries options
 tries (Number n ∷ options) = tries options
 tries (Tries n ∷ options) = refl
 tries (Job n ∷ options) = tries options
+tries (Socket ∷ options) = tries options
+tries (Log ∷ options) = tries options
 
 jobs : (options : List Given) → option_and_then job_of (given_as TheJob options) ≡ first_number job_of options
 jobs [] = refl
@@ -236,6 +251,30 @@ jobs (Connections n ∷ options) = jobs options
 jobs (Number n ∷ options) = jobs options
 jobs (Tries n ∷ options) = jobs options
 jobs (Job n ∷ options) = refl
+jobs (Socket ∷ options) = jobs options
+jobs (Log ∷ options) = jobs options
+
+sockets : (options : List Given) → is_some (given_as TheSocket options) ≡ list_any (is_same_option Socket) options
+sockets [] = refl
+sockets (Port n ∷ options) = sockets options
+sockets (Lanes n ∷ options) = sockets options
+sockets (Connections n ∷ options) = sockets options
+sockets (Number n ∷ options) = sockets options
+sockets (Tries n ∷ options) = sockets options
+sockets (Job n ∷ options) = sockets options
+sockets (Socket ∷ options) = refl
+sockets (Log ∷ options) = sockets options
+
+logs : (options : List Given) → is_some (given_as TheLog options) ≡ list_any (is_same_option Log) options
+logs [] = refl
+logs (Port n ∷ options) = logs options
+logs (Lanes n ∷ options) = logs options
+logs (Connections n ∷ options) = logs options
+logs (Number n ∷ options) = logs options
+logs (Tries n ∷ options) = logs options
+logs (Job n ∷ options) = logs options
+logs (Socket ∷ options) = logs options
+logs (Log ∷ options) = refl
 
 values_are : (command : Command) (words : List Text) (options : List Given) → Goes command (at [] None) words options []
     → values_in command (rows_after (rules_of_command command) [] words) ≡ numbers_of options
@@ -250,7 +289,9 @@ values_are command words options goes =
     let n = ap (option_and_then number_given) (value TheNumber) ∙ numbers options in
     let t = ap (option_and_then tries_of) (value TheTries) ∙ tries options in
     let j = ap (option_and_then job_of) (value TheJob) ∙ jobs options in
-    rw (p, l, c, n, t, j) refl
+    let s = ap (λ (o : Option Given). is_some o) (value TheSocket) ∙ sockets options in
+    let g = ap (λ (o : Option Given). is_some o) (value TheLog) ∙ logs options in
+    rw (p, l, c, n, t, j, s, g) refl
 
 -- a name is that of its command
 of_names : (name : Text) (command one : Command) (others : Option Command) → (others ≡ Some command → name ≡ name_of command)

@@ -1,10 +1,11 @@
 -- The numbers of options, with one option more.
-use Rattle.std.proofs.Common.{◌≡◌, ℕ, Bool, true, if◌then◌else◌, List, [], ◌∷◌, ◌++◌, Option, Some, None, refl, ap, sym, subst, ◌∙◌}
+use Rattle.std.proofs.Common.{◌≡◌, ℕ, Bool, true, false, ◌||◌, if◌then◌else◌, List, [], ◌∷◌, ◌++◌, Option, Some, None, refl, ap, sym, subst, ◌∙◌}
 use Rattle.std.specs.Prelude.{is_some, unwrap_or, option_map}
 use Rattle.std.specs.List.{list_any}
+use Rattle.std.proofs.lemmas.List.Folds.{list_any-append}
 use Rattle.fts_words.specs.Words.{port_of, lanes_of, connections_of, number_given, tries_of, job_of, first_of, numbers_of, is_same_option}
 use Rattle.fts_words.specs.declared.options.Given.{Given}
-use Rattle.fts_words.specs.declared.options.Given.TheVariants.{Port, Lanes, Connections, Number, Tries, Job}
+use Rattle.fts_words.specs.declared.options.Given.TheVariants.{Port, Lanes, Connections, Number, Tries, Job, Socket, Log}
 use Rattle.fts_words.specs.declared.options.Numbers.{Numbers}
 
 -- the first that there is stays the first
@@ -33,6 +34,8 @@ any_port number (Connections n ∷ before) = any_port number before
 any_port number (Number n ∷ before) = any_port number before
 any_port number (Tries n ∷ before) = any_port number before
 any_port number (Job n ∷ before) = any_port number before
+any_port number (Socket ∷ before) = any_port number before
+any_port number (Log ∷ before) = any_port number before
 
 any_lanes : (number : ℕ) (before : List Given) → list_any (is_same_option (Lanes number)) before ≡ is_some (first_of lanes_of before)
 any_lanes number [] = refl
@@ -42,6 +45,8 @@ any_lanes number (Connections n ∷ before) = any_lanes number before
 any_lanes number (Number n ∷ before) = any_lanes number before
 any_lanes number (Tries n ∷ before) = any_lanes number before
 any_lanes number (Job n ∷ before) = any_lanes number before
+any_lanes number (Socket ∷ before) = any_lanes number before
+any_lanes number (Log ∷ before) = any_lanes number before
 
 any_connections : (number : ℕ) (before : List Given) → list_any (is_same_option (Connections number)) before ≡ is_some (first_of connections_of before)
 any_connections number [] = refl
@@ -51,6 +56,8 @@ any_connections number (Connections n ∷ before) = refl
 any_connections number (Number n ∷ before) = any_connections number before
 any_connections number (Tries n ∷ before) = any_connections number before
 any_connections number (Job n ∷ before) = any_connections number before
+any_connections number (Socket ∷ before) = any_connections number before
+any_connections number (Log ∷ before) = any_connections number before
 
 any_number : (number : ℕ) (before : List Given) → list_any (is_same_option (Number number)) before ≡ is_some (first_of number_given before)
 any_number number [] = refl
@@ -60,6 +67,8 @@ any_number number (Connections n ∷ before) = any_number number before
 any_number number (Number n ∷ before) = refl
 any_number number (Tries n ∷ before) = any_number number before
 any_number number (Job n ∷ before) = any_number number before
+any_number number (Socket ∷ before) = any_number number before
+any_number number (Log ∷ before) = any_number number before
 
 any_tries : (number : ℕ) (before : List Given) → list_any (is_same_option (Tries number)) before ≡ is_some (first_of tries_of before)
 any_tries number [] = refl
@@ -69,6 +78,8 @@ any_tries number (Connections n ∷ before) = any_tries number before
 any_tries number (Number n ∷ before) = any_tries number before
 any_tries number (Tries n ∷ before) = refl
 any_tries number (Job n ∷ before) = any_tries number before
+any_tries number (Socket ∷ before) = any_tries number before
+any_tries number (Log ∷ before) = any_tries number before
 
 any_job : (number : ℕ) (before : List Given) → list_any (is_same_option (Job number)) before ≡ is_some (first_of job_of before)
 any_job number [] = refl
@@ -78,6 +89,27 @@ any_job number (Connections n ∷ before) = any_job number before
 any_job number (Number n ∷ before) = any_job number before
 any_job number (Tries n ∷ before) = any_job number before
 any_job number (Job n ∷ before) = refl
+any_job number (Socket ∷ before) = any_job number before
+any_job number (Log ∷ before) = any_job number before
+
+or_none : (b : Bool) → (b || (false || false)) ≡ b
+or_none true = refl
+or_none false = refl
+
+or_one : (b : Bool) → (b || (true || false)) ≡ true
+or_one true = refl
+or_one false = refl
+
+-- whether there is one of a name stays so with another behind, and there is one with itself
+any_stays : (variant : Given) (before : List Given) (option : Given) → is_same_option variant option ≡ false
+    → list_any (is_same_option variant) (before ++ option ∷ []) ≡ list_any (is_same_option variant) before
+any_stays variant before option apart = list_any-append (is_same_option variant) before (option ∷ [])
+    ∙ ap (λ b. list_any (is_same_option variant) before || (b || false)) apart ∙ or_none (list_any (is_same_option variant) before)
+
+any_new : (variant : Given) (before : List Given) (option : Given) → is_same_option variant option ≡ true
+    → list_any (is_same_option variant) (before ++ option ∷ []) ≡ true
+any_new variant before option same = list_any-append (is_same_option variant) before (option ∷ [])
+    ∙ ap (λ b. list_any (is_same_option variant) before || (b || false)) same ∙ or_one (list_any (is_same_option variant) before)
 
 -- what comes of a value of which one may be given
 abbrev pub Once : Option ℕ → ℕ → Option ℕ → Type 0
@@ -114,13 +146,13 @@ fresh before option found result any is same =
     ap (λ (n : Numbers). Some n) same ∙ ap (λ (b : Bool). if b then None else Some (numbers_of (before ++ option ∷ []))) (sym (any ∙ ap (λ (o : Option ℕ). is_some o) is))
 
 -- numbers by their parts
-abbrev record_of : Option ℕ → Option ℕ → Option ℕ → Option ℕ → Option ℕ → Option ℕ → Numbers
-record_of port lanes connections number tries job =
-    record { port = port; lanes = lanes; connections = connections; number = number; tries = tries; job = job }
+abbrev record_of : Option ℕ → Option ℕ → Option ℕ → Option ℕ → Option ℕ → Option ℕ → Bool → Bool → Numbers
+record_of port lanes connections number tries job socket log =
+    record { port = port; lanes = lanes; connections = connections; number = number; tries = tries; job = job; socket = socket; log = log }
 
-same_numbers : {a b c d e f p q r s t u : Option ℕ} → a ≡ p → b ≡ q → c ≡ r → d ≡ s → e ≡ t → f ≡ u
-    → record_of a b c d e f ≡ record_of p q r s t u
-same_numbers one two three four five six = cc
+same_numbers : {a b c d e f p q r s t u : Option ℕ} {g h v w : Bool} → a ≡ p → b ≡ q → c ≡ r → d ≡ s → e ≡ t → f ≡ u → g ≡ v → h ≡ w
+    → record_of a b c d e f g h ≡ record_of p q r s t u v w
+same_numbers one two three four five six seven eight = cc
 
 -- the option by its variant
 at_variant : (before : List Given) (option variant : Given) (result : Option Numbers) → option ≡ variant → Taken before variant result → Taken before option result
@@ -170,7 +202,9 @@ module _ (self : Numbers) (before : List Given) (are : self ≡ numbers_of befor
       (ap (λ (n : Numbers). n.connections) are ∙ sym (first_stays connections_of before (Port number) refl))
       (ap (λ (n : Numbers). n.number) are ∙ sym (first_stays number_given before (Port number) refl))
       (ap (λ (n : Numbers). n.tries) are ∙ sym (first_stays tries_of before (Port number) refl))
-      (ap (λ (n : Numbers). n.job) are ∙ sym (first_stays job_of before (Port number) refl))))
+      (ap (λ (n : Numbers). n.job) are ∙ sym (first_stays job_of before (Port number) refl))
+      (ap (λ (n : Numbers). n.socket) are ∙ sym (any_stays Socket before (Port number) refl))
+      (ap (λ (n : Numbers). n.log) are ∙ sym (any_stays Log before (Port number) refl))))
 
   pub lanes_fresh : (result : ℕ) → option ≡ Lanes number → Once self.lanes number (Some result)
       → Taken before option (Some (record self { lanes = Some result }))
@@ -185,7 +219,9 @@ module _ (self : Numbers) (before : List Given) (are : self ≡ numbers_of befor
       (ap (λ (n : Numbers). n.connections) are ∙ sym (first_stays connections_of before (Lanes number) refl))
       (ap (λ (n : Numbers). n.number) are ∙ sym (first_stays number_given before (Lanes number) refl))
       (ap (λ (n : Numbers). n.tries) are ∙ sym (first_stays tries_of before (Lanes number) refl))
-      (ap (λ (n : Numbers). n.job) are ∙ sym (first_stays job_of before (Lanes number) refl))))
+      (ap (λ (n : Numbers). n.job) are ∙ sym (first_stays job_of before (Lanes number) refl))
+      (ap (λ (n : Numbers). n.socket) are ∙ sym (any_stays Socket before (Lanes number) refl))
+      (ap (λ (n : Numbers). n.log) are ∙ sym (any_stays Log before (Lanes number) refl))))
 
   pub connections_fresh : (result : ℕ) → option ≡ Connections number → Once self.connections number (Some result)
       → Taken before option (Some (record self { connections = Some result }))
@@ -200,7 +236,9 @@ module _ (self : Numbers) (before : List Given) (are : self ≡ numbers_of befor
       (sym (first_new connections_of before (Connections number) number none refl))
       (ap (λ (n : Numbers). n.number) are ∙ sym (first_stays number_given before (Connections number) refl))
       (ap (λ (n : Numbers). n.tries) are ∙ sym (first_stays tries_of before (Connections number) refl))
-      (ap (λ (n : Numbers). n.job) are ∙ sym (first_stays job_of before (Connections number) refl))))
+      (ap (λ (n : Numbers). n.job) are ∙ sym (first_stays job_of before (Connections number) refl))
+      (ap (λ (n : Numbers). n.socket) are ∙ sym (any_stays Socket before (Connections number) refl))
+      (ap (λ (n : Numbers). n.log) are ∙ sym (any_stays Log before (Connections number) refl))))
 
   pub number_fresh : (result : ℕ) → option ≡ Number number → Once self.number number (Some result)
       → Taken before option (Some (record self { number = Some result }))
@@ -215,7 +253,9 @@ module _ (self : Numbers) (before : List Given) (are : self ≡ numbers_of befor
       (ap (λ (n : Numbers). n.connections) are ∙ sym (first_stays connections_of before (Number number) refl))
       (sym (first_new number_given before (Number number) number none refl))
       (ap (λ (n : Numbers). n.tries) are ∙ sym (first_stays tries_of before (Number number) refl))
-      (ap (λ (n : Numbers). n.job) are ∙ sym (first_stays job_of before (Number number) refl))))
+      (ap (λ (n : Numbers). n.job) are ∙ sym (first_stays job_of before (Number number) refl))
+      (ap (λ (n : Numbers). n.socket) are ∙ sym (any_stays Socket before (Number number) refl))
+      (ap (λ (n : Numbers). n.log) are ∙ sym (any_stays Log before (Number number) refl))))
 
   pub tries_fresh : (result : ℕ) → option ≡ Tries number → Once self.tries number (Some result)
       → Taken before option (Some (record self { tries = Some result }))
@@ -230,7 +270,9 @@ module _ (self : Numbers) (before : List Given) (are : self ≡ numbers_of befor
       (ap (λ (n : Numbers). n.connections) are ∙ sym (first_stays connections_of before (Tries number) refl))
       (ap (λ (n : Numbers). n.number) are ∙ sym (first_stays number_given before (Tries number) refl))
       (sym (first_new tries_of before (Tries number) number none refl))
-      (ap (λ (n : Numbers). n.job) are ∙ sym (first_stays job_of before (Tries number) refl))))
+      (ap (λ (n : Numbers). n.job) are ∙ sym (first_stays job_of before (Tries number) refl))
+      (ap (λ (n : Numbers). n.socket) are ∙ sym (any_stays Socket before (Tries number) refl))
+      (ap (λ (n : Numbers). n.log) are ∙ sym (any_stays Log before (Tries number) refl))))
 
   pub job_fresh : (result : ℕ) → option ≡ Job number → Once self.job number (Some result)
       → Taken before option (Some (record self { job = Some result }))
@@ -245,4 +287,42 @@ module _ (self : Numbers) (before : List Given) (are : self ≡ numbers_of befor
       (ap (λ (n : Numbers). n.connections) are ∙ sym (first_stays connections_of before (Job number) refl))
       (ap (λ (n : Numbers). n.number) are ∙ sym (first_stays number_given before (Job number) refl))
       (ap (λ (n : Numbers). n.tries) are ∙ sym (first_stays tries_of before (Job number) refl))
-      (sym (first_new job_of before (Job number) number none refl))))
+      (sym (first_new job_of before (Job number) number none refl))
+      (ap (λ (n : Numbers). n.socket) are ∙ sym (any_stays Socket before (Job number) refl))
+      (ap (λ (n : Numbers). n.log) are ∙ sym (any_stays Log before (Job number) refl))))
+
+-- an option of a path, which is given once
+module _ (self : Numbers) (before : List Given) (are : self ≡ numbers_of before) (option : Given) where
+  pub socket_once : (result : Option Numbers) → option ≡ Socket → result ≡ (if self.socket then None else Some (record self { socket = true })) → Taken before option result
+  socket_once result one is = at_variant before option Socket result one (by_test self.socket refl is)
+    where
+      by_test : (b : Bool) → self.socket ≡ b → result ≡ (if b then None else Some (record self { socket = true })) → Taken before Socket result
+      by_test true given taken = taken ∙ ap (λ (b : Bool). if b then None else Some (numbers_of (before ++ Socket ∷ []))) (sym given ∙ ap (λ (n : Numbers). n.socket) are)
+      by_test false given taken = taken
+          ∙ ap (λ (n : Numbers). Some n) (same_numbers
+          (ap (λ (n : Numbers). n.port) are ∙ sym (first_stays port_of before Socket refl))
+          (ap (λ (n : Numbers). n.lanes) are ∙ sym (first_stays lanes_of before Socket refl))
+          (ap (λ (n : Numbers). n.connections) are ∙ sym (first_stays connections_of before Socket refl))
+          (ap (λ (n : Numbers). n.number) are ∙ sym (first_stays number_given before Socket refl))
+          (ap (λ (n : Numbers). n.tries) are ∙ sym (first_stays tries_of before Socket refl))
+          (ap (λ (n : Numbers). n.job) are ∙ sym (first_stays job_of before Socket refl))
+          (sym (any_new Socket before Socket refl))
+          (ap (λ (n : Numbers). n.log) are ∙ sym (any_stays Log before Socket refl)))
+          ∙ ap (λ (b : Bool). if b then None else Some (numbers_of (before ++ Socket ∷ []))) (sym given ∙ ap (λ (n : Numbers). n.socket) are)
+
+  pub log_once : (result : Option Numbers) → option ≡ Log → result ≡ (if self.log then None else Some (record self { log = true })) → Taken before option result
+  log_once result one is = at_variant before option Log result one (by_test self.log refl is)
+    where
+      by_test : (b : Bool) → self.log ≡ b → result ≡ (if b then None else Some (record self { log = true })) → Taken before Log result
+      by_test true given taken = taken ∙ ap (λ (b : Bool). if b then None else Some (numbers_of (before ++ Log ∷ []))) (sym given ∙ ap (λ (n : Numbers). n.log) are)
+      by_test false given taken = taken
+          ∙ ap (λ (n : Numbers). Some n) (same_numbers
+          (ap (λ (n : Numbers). n.port) are ∙ sym (first_stays port_of before Log refl))
+          (ap (λ (n : Numbers). n.lanes) are ∙ sym (first_stays lanes_of before Log refl))
+          (ap (λ (n : Numbers). n.connections) are ∙ sym (first_stays connections_of before Log refl))
+          (ap (λ (n : Numbers). n.number) are ∙ sym (first_stays number_given before Log refl))
+          (ap (λ (n : Numbers). n.tries) are ∙ sym (first_stays tries_of before Log refl))
+          (ap (λ (n : Numbers). n.job) are ∙ sym (first_stays job_of before Log refl))
+          (ap (λ (n : Numbers). n.socket) are ∙ sym (any_stays Socket before Log refl))
+          (sym (any_new Log before Log refl)))
+          ∙ ap (λ (b : Bool). if b then None else Some (numbers_of (before ++ Log ∷ []))) (sym given ∙ ap (λ (n : Numbers). n.log) are)

@@ -5,3 +5,4 @@ mod Ids
 mod Taking
 mod Walked
 pub mod Entered
+mod Named

@@ -11,7 +11,7 @@ use Rattle.fts_tables.specs.SettingsData.{are_apart}
 use Rattle.fts_words.specs.Words.{option_of, options_behind, before_others, has_value, is_equals, is_same_option, each_once, numbers_of, asked_with, asked_of}
 use Rattle.fts_words.specs.declared.asked.Command.{Command}
 use Rattle.fts_words.specs.declared.options.Given.{Given}
-use Rattle.fts_words.specs.declared.options.Given.TheVariants.{Port, Lanes, Connections, Number, Tries, Job}
+use Rattle.fts_words.specs.declared.options.Given.TheVariants.{Port, Lanes, Connections, Number, Tries, Job, Socket, Log}
 use Rattle.fts_words.specs.declared.options.Numbers.{Numbers}
 use Rattle.fts_words.proofs.Given.{Taken}
 
@@ -40,36 +40,64 @@ same_option (Port a) (Connections b) = refl
 same_option (Port a) (Number b) = refl
 same_option (Port a) (Tries b) = refl
 same_option (Port a) (Job b) = refl
+same_option (Port a) Socket = refl
+same_option (Port a) Log = refl
 same_option (Lanes a) (Port b) = refl
 same_option (Lanes a) (Lanes b) = refl
 same_option (Lanes a) (Connections b) = refl
 same_option (Lanes a) (Number b) = refl
 same_option (Lanes a) (Tries b) = refl
 same_option (Lanes a) (Job b) = refl
+same_option (Lanes a) Socket = refl
+same_option (Lanes a) Log = refl
 same_option (Connections a) (Port b) = refl
 same_option (Connections a) (Lanes b) = refl
 same_option (Connections a) (Connections b) = refl
 same_option (Connections a) (Number b) = refl
 same_option (Connections a) (Tries b) = refl
 same_option (Connections a) (Job b) = refl
+same_option (Connections a) Socket = refl
+same_option (Connections a) Log = refl
 same_option (Number a) (Port b) = refl
 same_option (Number a) (Lanes b) = refl
 same_option (Number a) (Connections b) = refl
 same_option (Number a) (Number b) = refl
 same_option (Number a) (Tries b) = refl
 same_option (Number a) (Job b) = refl
+same_option (Number a) Socket = refl
+same_option (Number a) Log = refl
 same_option (Tries a) (Port b) = refl
 same_option (Tries a) (Lanes b) = refl
 same_option (Tries a) (Connections b) = refl
 same_option (Tries a) (Number b) = refl
 same_option (Tries a) (Tries b) = refl
 same_option (Tries a) (Job b) = refl
+same_option (Tries a) Socket = refl
+same_option (Tries a) Log = refl
 same_option (Job a) (Port b) = refl
 same_option (Job a) (Lanes b) = refl
 same_option (Job a) (Connections b) = refl
 same_option (Job a) (Number b) = refl
 same_option (Job a) (Tries b) = refl
 same_option (Job a) (Job b) = refl
+same_option (Job a) Socket = refl
+same_option (Job a) Log = refl
+same_option Socket (Port b) = refl
+same_option Socket (Lanes b) = refl
+same_option Socket (Connections b) = refl
+same_option Socket (Number b) = refl
+same_option Socket (Tries b) = refl
+same_option Socket (Job b) = refl
+same_option Socket Socket = refl
+same_option Socket Log = refl
+same_option Log (Port b) = refl
+same_option Log (Lanes b) = refl
+same_option Log (Connections b) = refl
+same_option Log (Number b) = refl
+same_option Log (Tries b) = refl
+same_option Log (Job b) = refl
+same_option Log Socket = refl
+same_option Log Log = refl
 
 -- one that is told apart from all before it
 any_back : (option : Given) (done : List Given) → list_any (λ one. is_same_option one option) done ≡ list_any (is_same_option option) done
@@ -204,18 +232,20 @@ module _ (command : Command) (words : List (List ℕ)) where
     pub ends : SoFar command words [] None numbers → asked_with command numbers ≡ asked_of command words
     ends so_far = sym (asked_by (Some (so_far.done ++ [])) so_far.joins ∙ rw (append-nil so_far.done, so_far.apart, ← so_far.are) refl)
 
-module _ (command : Command) (all : List (String Global)) (i : ℕ) (word : String Global) (inside : i < length all) (is : word ≡ get_or all i word) (numbers : Numbers) where
-  dropped : drop i (map string_bytes all) ≡ string_bytes word ∷ drop (i + 1) (map string_bytes all)
-  dropped =
-      let within : i < length (map string_bytes all) = omega (arith, length-map all string_bytes, inside) in
-      drop-cons (map string_bytes all) i (string_bytes word) within
-      ∙ rw (get_or-map string_bytes all i word, ← is, ← add-one) refl
+-- the words that are left begin with this one
+pub dropped : (all : List (String Global)) (i : ℕ) (word : String Global) → i < length all → word ≡ get_or all i word
+    → drop i (map string_bytes all) ≡ string_bytes word ∷ drop (i + 1) (map string_bytes all)
+dropped all i word inside is =
+    let within : i < length (map string_bytes all) = omega (arith, length-map all string_bytes, inside) in
+    drop-cons (map string_bytes all) i (string_bytes word) within
+    ∙ rw (get_or-map string_bytes all i word, ← is, ← add-one) refl
 
+module _ (command : Command) (all : List (String Global)) (i : ℕ) (word : String Global) (inside : i < length all) (is : word ≡ get_or all i word) (numbers : Numbers) where
   module _ (waiting : Option (Bor (List ℕ))) (so_far : SoFar command (map string_bytes all) (drop i (map string_bytes all)) (option_copied waiting) numbers)
       (text : List ℕ) (reads : text ≡ string_bytes word) where
     here : SoFar command (map string_bytes all) (text ∷ drop (i + 1) (map string_bytes all)) (option_copied waiting) numbers
     here = subst (λ (l : List (List ℕ)). SoFar command (map string_bytes all) l (option_copied waiting) numbers)
-        (dropped ∙ ap (λ (t : List ℕ). t ∷ drop (i + 1) (map string_bytes all)) (sym reads)) so_far
+        (dropped all i word inside is ∙ ap (λ (t : List ℕ). t ∷ drop (i + 1) (map string_bytes all)) (sym reads)) so_far
 
     -- a name waited for this word
     pub reads_waiting : (name : Bor (List ℕ)) (next : Option Given) → waiting ≡ Some name → next ≡ option_of command name.now text

@@ -21,6 +21,8 @@ pub data Name : Type 0 where
   TheNumber : Name
   TheTries : Name
   TheJob : Name
+  TheSocket : Name
+  TheLog : Name
 
 abbrev pub id_of : Name → Text
 id_of ThePort = codes "port"
@@ -29,6 +31,8 @@ id_of TheConnections = codes "connections"
 id_of TheNumber = codes "number"
 id_of TheTries = codes "tries"
 id_of TheJob = codes "job"
+id_of TheSocket = codes "socket"
+id_of TheLog = codes "log"
 
 -- the option as a word
 abbrev pub word_of : Name → Text
@@ -44,24 +48,32 @@ Has Load TheConnections = ⊥
 Has Load TheNumber = Unit {0}
 Has Load TheTries = ⊥
 Has Load TheJob = ⊥
+Has Load TheSocket = ⊥
+Has Load TheLog = ⊥
 Has Serve ThePort = Unit {0}
 Has Serve TheLanes = Unit {0}
 Has Serve TheConnections = Unit {0}
 Has Serve TheNumber = ⊥
 Has Serve TheTries = ⊥
 Has Serve TheJob = ⊥
+Has Serve TheSocket = Unit {0}
+Has Serve TheLog = Unit {0}
 Has Submit ThePort = Unit {0}
 Has Submit TheLanes = ⊥
 Has Submit TheConnections = ⊥
 Has Submit TheNumber = ⊥
 Has Submit TheTries = Unit {0}
 Has Submit TheJob = ⊥
+Has Submit TheSocket = ⊥
+Has Submit TheLog = ⊥
 Has Query ThePort = Unit {0}
 Has Query TheLanes = ⊥
 Has Query TheConnections = ⊥
 Has Query TheNumber = ⊥
 Has Query TheTries = Unit {0}
 Has Query TheJob = Unit {0}
+Has Query TheSocket = ⊥
+Has Query TheLog = ⊥
 Has Delete name = ⊥
 Has Follow ThePort = Unit {0}
 Has Follow TheLanes = ⊥
@@ -69,6 +81,8 @@ Has Follow TheConnections = ⊥
 Has Follow TheNumber = ⊥
 Has Follow TheTries = Unit {0}
 Has Follow TheJob = ⊥
+Has Follow TheSocket = ⊥
+Has Follow TheLog = ⊥
 
 -- what holds of each option of each command
 pub of_each : (P : Command → Name → Type 0)
@@ -76,6 +90,8 @@ pub of_each : (P : Command → Name → Type 0)
     → P Serve ThePort
     → P Serve TheLanes
     → P Serve TheConnections
+    → P Serve TheSocket
+    → P Serve TheLog
     → P Submit ThePort
     → P Submit TheTries
     → P Query ThePort
@@ -84,39 +100,49 @@ pub of_each : (P : Command → Name → Type 0)
     → P Follow ThePort
     → P Follow TheTries
     → (command : Command) (name : Name) → Has command name → P command name
-of_each P load_number serve_port serve_lanes serve_connections submit_port submit_tries query_port query_tries query_job follow_port follow_tries Session name has = absurd has
-of_each P load_number serve_port serve_lanes serve_connections submit_port submit_tries query_port query_tries query_job follow_port follow_tries Show name has = absurd has
-of_each P load_number serve_port serve_lanes serve_connections submit_port submit_tries query_port query_tries query_job follow_port follow_tries Load ThePort has = absurd has
-of_each P load_number serve_port serve_lanes serve_connections submit_port submit_tries query_port query_tries query_job follow_port follow_tries Load TheLanes has = absurd has
-of_each P load_number serve_port serve_lanes serve_connections submit_port submit_tries query_port query_tries query_job follow_port follow_tries Load TheConnections has = absurd has
-of_each P load_number serve_port serve_lanes serve_connections submit_port submit_tries query_port query_tries query_job follow_port follow_tries Load TheNumber has = load_number
-of_each P load_number serve_port serve_lanes serve_connections submit_port submit_tries query_port query_tries query_job follow_port follow_tries Load TheTries has = absurd has
-of_each P load_number serve_port serve_lanes serve_connections submit_port submit_tries query_port query_tries query_job follow_port follow_tries Load TheJob has = absurd has
-of_each P load_number serve_port serve_lanes serve_connections submit_port submit_tries query_port query_tries query_job follow_port follow_tries Serve ThePort has = serve_port
-of_each P load_number serve_port serve_lanes serve_connections submit_port submit_tries query_port query_tries query_job follow_port follow_tries Serve TheLanes has = serve_lanes
-of_each P load_number serve_port serve_lanes serve_connections submit_port submit_tries query_port query_tries query_job follow_port follow_tries Serve TheConnections has = serve_connections
-of_each P load_number serve_port serve_lanes serve_connections submit_port submit_tries query_port query_tries query_job follow_port follow_tries Serve TheNumber has = absurd has
-of_each P load_number serve_port serve_lanes serve_connections submit_port submit_tries query_port query_tries query_job follow_port follow_tries Serve TheTries has = absurd has
-of_each P load_number serve_port serve_lanes serve_connections submit_port submit_tries query_port query_tries query_job follow_port follow_tries Serve TheJob has = absurd has
-of_each P load_number serve_port serve_lanes serve_connections submit_port submit_tries query_port query_tries query_job follow_port follow_tries Submit ThePort has = submit_port
-of_each P load_number serve_port serve_lanes serve_connections submit_port submit_tries query_port query_tries query_job follow_port follow_tries Submit TheLanes has = absurd has
-of_each P load_number serve_port serve_lanes serve_connections submit_port submit_tries query_port query_tries query_job follow_port follow_tries Submit TheConnections has = absurd has
-of_each P load_number serve_port serve_lanes serve_connections submit_port submit_tries query_port query_tries query_job follow_port follow_tries Submit TheNumber has = absurd has
-of_each P load_number serve_port serve_lanes serve_connections submit_port submit_tries query_port query_tries query_job follow_port follow_tries Submit TheTries has = submit_tries
-of_each P load_number serve_port serve_lanes serve_connections submit_port submit_tries query_port query_tries query_job follow_port follow_tries Submit TheJob has = absurd has
-of_each P load_number serve_port serve_lanes serve_connections submit_port submit_tries query_port query_tries query_job follow_port follow_tries Query ThePort has = query_port
-of_each P load_number serve_port serve_lanes serve_connections submit_port submit_tries query_port query_tries query_job follow_port follow_tries Query TheLanes has = absurd has
-of_each P load_number serve_port serve_lanes serve_connections submit_port submit_tries query_port query_tries query_job follow_port follow_tries Query TheConnections has = absurd has
-of_each P load_number serve_port serve_lanes serve_connections submit_port submit_tries query_port query_tries query_job follow_port follow_tries Query TheNumber has = absurd has
-of_each P load_number serve_port serve_lanes serve_connections submit_port submit_tries query_port query_tries query_job follow_port follow_tries Query TheTries has = query_tries
-of_each P load_number serve_port serve_lanes serve_connections submit_port submit_tries query_port query_tries query_job follow_port follow_tries Query TheJob has = query_job
-of_each P load_number serve_port serve_lanes serve_connections submit_port submit_tries query_port query_tries query_job follow_port follow_tries Delete name has = absurd has
-of_each P load_number serve_port serve_lanes serve_connections submit_port submit_tries query_port query_tries query_job follow_port follow_tries Follow ThePort has = follow_port
-of_each P load_number serve_port serve_lanes serve_connections submit_port submit_tries query_port query_tries query_job follow_port follow_tries Follow TheLanes has = absurd has
-of_each P load_number serve_port serve_lanes serve_connections submit_port submit_tries query_port query_tries query_job follow_port follow_tries Follow TheConnections has = absurd has
-of_each P load_number serve_port serve_lanes serve_connections submit_port submit_tries query_port query_tries query_job follow_port follow_tries Follow TheNumber has = absurd has
-of_each P load_number serve_port serve_lanes serve_connections submit_port submit_tries query_port query_tries query_job follow_port follow_tries Follow TheTries has = follow_tries
-of_each P load_number serve_port serve_lanes serve_connections submit_port submit_tries query_port query_tries query_job follow_port follow_tries Follow TheJob has = absurd has
+of_each P load_number serve_port serve_lanes serve_connections serve_socket serve_log submit_port submit_tries query_port query_tries query_job follow_port follow_tries Session name has = absurd has
+of_each P load_number serve_port serve_lanes serve_connections serve_socket serve_log submit_port submit_tries query_port query_tries query_job follow_port follow_tries Show name has = absurd has
+of_each P load_number serve_port serve_lanes serve_connections serve_socket serve_log submit_port submit_tries query_port query_tries query_job follow_port follow_tries Load ThePort has = absurd has
+of_each P load_number serve_port serve_lanes serve_connections serve_socket serve_log submit_port submit_tries query_port query_tries query_job follow_port follow_tries Load TheLanes has = absurd has
+of_each P load_number serve_port serve_lanes serve_connections serve_socket serve_log submit_port submit_tries query_port query_tries query_job follow_port follow_tries Load TheConnections has = absurd has
+of_each P load_number serve_port serve_lanes serve_connections serve_socket serve_log submit_port submit_tries query_port query_tries query_job follow_port follow_tries Load TheNumber has = load_number
+of_each P load_number serve_port serve_lanes serve_connections serve_socket serve_log submit_port submit_tries query_port query_tries query_job follow_port follow_tries Load TheTries has = absurd has
+of_each P load_number serve_port serve_lanes serve_connections serve_socket serve_log submit_port submit_tries query_port query_tries query_job follow_port follow_tries Load TheJob has = absurd has
+of_each P load_number serve_port serve_lanes serve_connections serve_socket serve_log submit_port submit_tries query_port query_tries query_job follow_port follow_tries Load TheSocket has = absurd has
+of_each P load_number serve_port serve_lanes serve_connections serve_socket serve_log submit_port submit_tries query_port query_tries query_job follow_port follow_tries Load TheLog has = absurd has
+of_each P load_number serve_port serve_lanes serve_connections serve_socket serve_log submit_port submit_tries query_port query_tries query_job follow_port follow_tries Serve ThePort has = serve_port
+of_each P load_number serve_port serve_lanes serve_connections serve_socket serve_log submit_port submit_tries query_port query_tries query_job follow_port follow_tries Serve TheLanes has = serve_lanes
+of_each P load_number serve_port serve_lanes serve_connections serve_socket serve_log submit_port submit_tries query_port query_tries query_job follow_port follow_tries Serve TheConnections has = serve_connections
+of_each P load_number serve_port serve_lanes serve_connections serve_socket serve_log submit_port submit_tries query_port query_tries query_job follow_port follow_tries Serve TheNumber has = absurd has
+of_each P load_number serve_port serve_lanes serve_connections serve_socket serve_log submit_port submit_tries query_port query_tries query_job follow_port follow_tries Serve TheTries has = absurd has
+of_each P load_number serve_port serve_lanes serve_connections serve_socket serve_log submit_port submit_tries query_port query_tries query_job follow_port follow_tries Serve TheJob has = absurd has
+of_each P load_number serve_port serve_lanes serve_connections serve_socket serve_log submit_port submit_tries query_port query_tries query_job follow_port follow_tries Serve TheSocket has = serve_socket
+of_each P load_number serve_port serve_lanes serve_connections serve_socket serve_log submit_port submit_tries query_port query_tries query_job follow_port follow_tries Serve TheLog has = serve_log
+of_each P load_number serve_port serve_lanes serve_connections serve_socket serve_log submit_port submit_tries query_port query_tries query_job follow_port follow_tries Submit ThePort has = submit_port
+of_each P load_number serve_port serve_lanes serve_connections serve_socket serve_log submit_port submit_tries query_port query_tries query_job follow_port follow_tries Submit TheLanes has = absurd has
+of_each P load_number serve_port serve_lanes serve_connections serve_socket serve_log submit_port submit_tries query_port query_tries query_job follow_port follow_tries Submit TheConnections has = absurd has
+of_each P load_number serve_port serve_lanes serve_connections serve_socket serve_log submit_port submit_tries query_port query_tries query_job follow_port follow_tries Submit TheNumber has = absurd has
+of_each P load_number serve_port serve_lanes serve_connections serve_socket serve_log submit_port submit_tries query_port query_tries query_job follow_port follow_tries Submit TheTries has = submit_tries
+of_each P load_number serve_port serve_lanes serve_connections serve_socket serve_log submit_port submit_tries query_port query_tries query_job follow_port follow_tries Submit TheJob has = absurd has
+of_each P load_number serve_port serve_lanes serve_connections serve_socket serve_log submit_port submit_tries query_port query_tries query_job follow_port follow_tries Submit TheSocket has = absurd has
+of_each P load_number serve_port serve_lanes serve_connections serve_socket serve_log submit_port submit_tries query_port query_tries query_job follow_port follow_tries Submit TheLog has = absurd has
+of_each P load_number serve_port serve_lanes serve_connections serve_socket serve_log submit_port submit_tries query_port query_tries query_job follow_port follow_tries Query ThePort has = query_port
+of_each P load_number serve_port serve_lanes serve_connections serve_socket serve_log submit_port submit_tries query_port query_tries query_job follow_port follow_tries Query TheLanes has = absurd has
+of_each P load_number serve_port serve_lanes serve_connections serve_socket serve_log submit_port submit_tries query_port query_tries query_job follow_port follow_tries Query TheConnections has = absurd has
+of_each P load_number serve_port serve_lanes serve_connections serve_socket serve_log submit_port submit_tries query_port query_tries query_job follow_port follow_tries Query TheNumber has = absurd has
+of_each P load_number serve_port serve_lanes serve_connections serve_socket serve_log submit_port submit_tries query_port query_tries query_job follow_port follow_tries Query TheTries has = query_tries
+of_each P load_number serve_port serve_lanes serve_connections serve_socket serve_log submit_port submit_tries query_port query_tries query_job follow_port follow_tries Query TheJob has = query_job
+of_each P load_number serve_port serve_lanes serve_connections serve_socket serve_log submit_port submit_tries query_port query_tries query_job follow_port follow_tries Query TheSocket has = absurd has
+of_each P load_number serve_port serve_lanes serve_connections serve_socket serve_log submit_port submit_tries query_port query_tries query_job follow_port follow_tries Query TheLog has = absurd has
+of_each P load_number serve_port serve_lanes serve_connections serve_socket serve_log submit_port submit_tries query_port query_tries query_job follow_port follow_tries Delete name has = absurd has
+of_each P load_number serve_port serve_lanes serve_connections serve_socket serve_log submit_port submit_tries query_port query_tries query_job follow_port follow_tries Follow ThePort has = follow_port
+of_each P load_number serve_port serve_lanes serve_connections serve_socket serve_log submit_port submit_tries query_port query_tries query_job follow_port follow_tries Follow TheLanes has = absurd has
+of_each P load_number serve_port serve_lanes serve_connections serve_socket serve_log submit_port submit_tries query_port query_tries query_job follow_port follow_tries Follow TheConnections has = absurd has
+of_each P load_number serve_port serve_lanes serve_connections serve_socket serve_log submit_port submit_tries query_port query_tries query_job follow_port follow_tries Follow TheNumber has = absurd has
+of_each P load_number serve_port serve_lanes serve_connections serve_socket serve_log submit_port submit_tries query_port query_tries query_job follow_port follow_tries Follow TheTries has = follow_tries
+of_each P load_number serve_port serve_lanes serve_connections serve_socket serve_log submit_port submit_tries query_port query_tries query_job follow_port follow_tries Follow TheJob has = absurd has
+of_each P load_number serve_port serve_lanes serve_connections serve_socket serve_log submit_port submit_tries query_port query_tries query_job follow_port follow_tries Follow TheSocket has = absurd has
+of_each P load_number serve_port serve_lanes serve_connections serve_socket serve_log submit_port submit_tries query_port query_tries query_job follow_port follow_tries Follow TheLog has = absurd has
 
 -- the names are apart
 abbrev pub same_name : Name → Name → Bool
@@ -126,6 +152,8 @@ same_name TheConnections TheConnections = true
 same_name TheNumber TheNumber = true
 same_name TheTries TheTries = true
 same_name TheJob TheJob = true
+same_name TheSocket TheSocket = true
+same_name TheLog TheLog = true
 same_name one other = false
 
 pub same_id : (one other : Name) → bytes_eq (id_of one) (id_of other) ≡ same_name one other
@@ -135,36 +163,64 @@ same_id ThePort TheConnections = refl
 same_id ThePort TheNumber = refl
 same_id ThePort TheTries = refl
 same_id ThePort TheJob = refl
+same_id ThePort TheSocket = refl
+same_id ThePort TheLog = refl
 same_id TheLanes ThePort = refl
 same_id TheLanes TheLanes = refl
 same_id TheLanes TheConnections = refl
 same_id TheLanes TheNumber = refl
 same_id TheLanes TheTries = refl
 same_id TheLanes TheJob = refl
+same_id TheLanes TheSocket = refl
+same_id TheLanes TheLog = refl
 same_id TheConnections ThePort = refl
 same_id TheConnections TheLanes = refl
 same_id TheConnections TheConnections = refl
 same_id TheConnections TheNumber = refl
 same_id TheConnections TheTries = refl
 same_id TheConnections TheJob = refl
+same_id TheConnections TheSocket = refl
+same_id TheConnections TheLog = refl
 same_id TheNumber ThePort = refl
 same_id TheNumber TheLanes = refl
 same_id TheNumber TheConnections = refl
 same_id TheNumber TheNumber = refl
 same_id TheNumber TheTries = refl
 same_id TheNumber TheJob = refl
+same_id TheNumber TheSocket = refl
+same_id TheNumber TheLog = refl
 same_id TheTries ThePort = refl
 same_id TheTries TheLanes = refl
 same_id TheTries TheConnections = refl
 same_id TheTries TheNumber = refl
 same_id TheTries TheTries = refl
 same_id TheTries TheJob = refl
+same_id TheTries TheSocket = refl
+same_id TheTries TheLog = refl
 same_id TheJob ThePort = refl
 same_id TheJob TheLanes = refl
 same_id TheJob TheConnections = refl
 same_id TheJob TheNumber = refl
 same_id TheJob TheTries = refl
 same_id TheJob TheJob = refl
+same_id TheJob TheSocket = refl
+same_id TheJob TheLog = refl
+same_id TheSocket ThePort = refl
+same_id TheSocket TheLanes = refl
+same_id TheSocket TheConnections = refl
+same_id TheSocket TheNumber = refl
+same_id TheSocket TheTries = refl
+same_id TheSocket TheJob = refl
+same_id TheSocket TheSocket = refl
+same_id TheSocket TheLog = refl
+same_id TheLog ThePort = refl
+same_id TheLog TheLanes = refl
+same_id TheLog TheConnections = refl
+same_id TheLog TheNumber = refl
+same_id TheLog TheTries = refl
+same_id TheLog TheJob = refl
+same_id TheLog TheSocket = refl
+same_id TheLog TheLog = refl
 
 -- a command as it is built
 abbrev pub built_one : App → Shape
@@ -236,7 +292,7 @@ pub met_joined : (command : Command) (name : Name) → Has command name → Meet
 unfolding clap_on_literals
 met_joined = of_each MeetsJoined
     (λ v vs rows pending. refl) (λ v vs rows pending. refl) (λ v vs rows pending. refl) (λ v vs rows pending. refl) (λ v vs rows pending. refl) (λ v vs rows pending. refl)
-    (λ v vs rows pending. refl) (λ v vs rows pending. refl) (λ v vs rows pending. refl) (λ v vs rows pending. refl) (λ v vs rows pending. refl)
+    (λ v vs rows pending. refl) (λ v vs rows pending. refl) (λ v vs rows pending. refl) (λ v vs rows pending. refl) (λ v vs rows pending. refl) (λ v vs rows pending. refl) (λ v vs rows pending. refl)
 
 -- its name alone
 abbrev pub MeetsName : Command → Name → Type 0
@@ -247,7 +303,7 @@ pub met_name : (command : Command) (name : Name) → Has command name → MeetsN
 unfolding clap_on_literals
 met_name = of_each MeetsName
     (λ rows pending. refl) (λ rows pending. refl) (λ rows pending. refl) (λ rows pending. refl) (λ rows pending. refl) (λ rows pending. refl)
-    (λ rows pending. refl) (λ rows pending. refl) (λ rows pending. refl) (λ rows pending. refl) (λ rows pending. refl)
+    (λ rows pending. refl) (λ rows pending. refl) (λ rows pending. refl) (λ rows pending. refl) (λ rows pending. refl) (λ rows pending. refl) (λ rows pending. refl)
 
 -- a word that begins with no hyphen is no option
 module _ (v : ℕ) (vs : List ℕ) (plain : (v == 45) ≡ false) where
@@ -293,7 +349,7 @@ KeepsValue command name = (word : Text) (rows : List Row)
 keeps_value : (command : Command) (name : Name) → Has command name → KeepsValue command name
 keeps_value = of_each KeepsValue
     (λ word rows. refl) (λ word rows. refl) (λ word rows. refl) (λ word rows. refl) (λ word rows. refl) (λ word rows. refl)
-    (λ word rows. refl) (λ word rows. refl) (λ word rows. refl) (λ word rows. refl) (λ word rows. refl)
+    (λ word rows. refl) (λ word rows. refl) (λ word rows. refl) (λ word rows. refl) (λ word rows. refl) (λ word rows. refl) (λ word rows. refl)
 
 pub met_value : (command : Command) (name : Name) → Has command name → MeetsValue command name
 met_value command name has v vs rows plain = met_word v vs plain (rules_of_command command) (id_of name) rows ∙ keeps_value command name has (v ∷ vs) rows
@@ -310,7 +366,7 @@ pub name_passes : (command : Command) (name : Name) → Has command name → Nam
 unfolding clap_on_literals
 name_passes = of_each NamePasses
     (λ rows pending so. rw so refl) (λ rows pending so. rw so refl) (λ rows pending so. rw so refl) (λ rows pending so. rw so refl) (λ rows pending so. rw so refl) (λ rows pending so. rw so refl)
-    (λ rows pending so. rw so refl) (λ rows pending so. rw so refl) (λ rows pending so. rw so refl) (λ rows pending so. rw so refl) (λ rows pending so. rw so refl)
+    (λ rows pending so. rw so refl) (λ rows pending so. rw so refl) (λ rows pending so. rw so refl) (λ rows pending so. rw so refl) (λ rows pending so. rw so refl) (λ rows pending so. rw so refl) (λ rows pending so. rw so refl)
 
 abbrev pub JoinedPasses : Command → Name → Type 0
 JoinedPasses command name = (v : ℕ) (vs : List ℕ) (rows : List Row) (pending : Option (Text × List Text)) → settles command rows pending ≡ true
@@ -321,7 +377,7 @@ pub joined_passes : (command : Command) (name : Name) → Has command name → J
 unfolding clap_on_literals
 joined_passes = of_each JoinedPasses
     (λ v vs rows pending so new. rw (so, new) refl) (λ v vs rows pending so new. rw (so, new) refl) (λ v vs rows pending so new. rw (so, new) refl) (λ v vs rows pending so new. rw (so, new) refl) (λ v vs rows pending so new. rw (so, new) refl) (λ v vs rows pending so new. rw (so, new) refl)
-    (λ v vs rows pending so new. rw (so, new) refl) (λ v vs rows pending so new. rw (so, new) refl) (λ v vs rows pending so new. rw (so, new) refl) (λ v vs rows pending so new. rw (so, new) refl) (λ v vs rows pending so new. rw (so, new) refl)
+    (λ v vs rows pending so new. rw (so, new) refl) (λ v vs rows pending so new. rw (so, new) refl) (λ v vs rows pending so new. rw (so, new) refl) (λ v vs rows pending so new. rw (so, new) refl) (λ v vs rows pending so new. rw (so, new) refl) (λ v vs rows pending so new. rw (so, new) refl) (λ v vs rows pending so new. rw (so, new) refl)
 
 abbrev pub ValuePasses : Command → Name → Type 0
 ValuePasses command name = (v : ℕ) (vs : List ℕ) (rows : List Row) → (v == 45) ≡ false
@@ -337,7 +393,7 @@ PendingSettles command name = (value : Text) (rows : List Row) → has_row (id_o
 pub pending_settles : (command : Command) (name : Name) → Has command name → PendingSettles command name
 pending_settles = of_each PendingSettles
     (λ value rows new. rw new refl) (λ value rows new. rw new refl) (λ value rows new. rw new refl) (λ value rows new. rw new refl) (λ value rows new. rw new refl) (λ value rows new. rw new refl)
-    (λ value rows new. rw new refl) (λ value rows new. rw new refl) (λ value rows new. rw new refl) (λ value rows new. rw new refl) (λ value rows new. rw new refl)
+    (λ value rows new. rw new refl) (λ value rows new. rw new refl) (λ value rows new. rw new refl) (λ value rows new. rw new refl) (λ value rows new. rw new refl) (λ value rows new. rw new refl) (λ value rows new. rw new refl)
 
 abbrev pub PendingLeaves : Command → Name → Type 0
 PendingLeaves command name = (value : Text) (rows : List Row)
@@ -346,7 +402,7 @@ PendingLeaves command name = (value : Text) (rows : List Row)
 pub pending_leaves : (command : Command) (name : Name) → Has command name → PendingLeaves command name
 pending_leaves = of_each PendingLeaves
     (λ value rows. refl) (λ value rows. refl) (λ value rows. refl) (λ value rows. refl) (λ value rows. refl) (λ value rows. refl)
-    (λ value rows. refl) (λ value rows. refl) (λ value rows. refl) (λ value rows. refl) (λ value rows. refl)
+    (λ value rows. refl) (λ value rows. refl) (λ value rows. refl) (λ value rows. refl) (λ value rows. refl) (λ value rows. refl) (λ value rows. refl)
 
 -- the row of a new option stands behind the others
 pub row_behind : (name : Name) (value : Text) (rows : List Row) → has_row (id_of name) rows ≡ false

@@ -14,12 +14,12 @@ use Rattle.clap.specs.Walk.{Walk, walked, settled, settled_rows, has_row, with_v
 use Rattle.clap.specs.declared.parser.matches.ValueSource.TheVariants.{CommandLine}
 use Rattle.fts_tables.specs.Names.{is_digit}
 use Rattle.fts_tables.specs.SettingsData.{are_apart, is_within}
-use Rattle.fts_words.specs.Words.{number_of, within, given_by, given_to_client, job_named, option_of, before_others, options_behind, has_value, is_equals, is_same_option}
+use Rattle.fts_words.specs.Words.{number_of, within, given_by, given_to_client, job_named, is_path, is_no_zero, begins_plainly, path_given, path_named, option_of, before_others, options_behind, has_value, is_equals, is_same_option}
 use Rattle.fts_words.specs.declared.asked.Command.{Command}
 use Rattle.fts_words.specs.declared.asked.Command.TheVariants.{Session, Show, Load, Serve, Submit, Query, Delete, Follow}
 use Rattle.fts_words.specs.declared.options.Given.{Given}
-use Rattle.fts_words.specs.declared.options.Given.TheVariants.{Port, Lanes, Connections, Number, Tries, Job}
-use Rattle.fts_words.proofs.Taking.{Name, ThePort, TheLanes, TheConnections, TheNumber, TheTries, TheJob, id_of, word_of, Has, same_name, same_id, shape_of_command, rules_of_command, at, waiting_at, row_with, settles, met_joined, met_name, met_value, name_passes, joined_passes, value_passes, pending_settles, pending_leaves, row_behind}
+use Rattle.fts_words.specs.declared.options.Given.TheVariants.{Port, Lanes, Connections, Number, Tries, Job, Socket, Log}
+use Rattle.fts_words.proofs.Taking.{Name, ThePort, TheLanes, TheConnections, TheNumber, TheTries, TheJob, TheSocket, TheLog, id_of, word_of, Has, same_name, same_id, shape_of_command, rules_of_command, at, waiting_at, row_with, settles, met_joined, met_name, met_value, name_passes, joined_passes, value_passes, pending_settles, pending_leaves, row_behind}
 use Rattle.fts_tables.specs.declared.limits.TheConstants.{MAX_LANES}
 use Rattle.uuid.specs.Text.{parsed}
 use Rattle.fts_words.proofs.Ids.{parsed_hyphen}
@@ -47,6 +47,8 @@ name_of_given (Connections n) = TheConnections
 name_of_given (Number n) = TheNumber
 name_of_given (Tries n) = TheTries
 name_of_given (Job n) = TheJob
+name_of_given Socket = TheSocket
+name_of_given Log = TheLog
 
 same_by_name : (one other : Given) → is_same_option one other ≡ same_name (name_of_given other) (name_of_given one)
 same_by_name (Port a) (Port b) = refl
@@ -55,36 +57,64 @@ same_by_name (Port a) (Connections b) = refl
 same_by_name (Port a) (Number b) = refl
 same_by_name (Port a) (Tries b) = refl
 same_by_name (Port a) (Job b) = refl
+same_by_name (Port a) Socket = refl
+same_by_name (Port a) Log = refl
 same_by_name (Lanes a) (Port b) = refl
 same_by_name (Lanes a) (Lanes b) = refl
 same_by_name (Lanes a) (Connections b) = refl
 same_by_name (Lanes a) (Number b) = refl
 same_by_name (Lanes a) (Tries b) = refl
 same_by_name (Lanes a) (Job b) = refl
+same_by_name (Lanes a) Socket = refl
+same_by_name (Lanes a) Log = refl
 same_by_name (Connections a) (Port b) = refl
 same_by_name (Connections a) (Lanes b) = refl
 same_by_name (Connections a) (Connections b) = refl
 same_by_name (Connections a) (Number b) = refl
 same_by_name (Connections a) (Tries b) = refl
 same_by_name (Connections a) (Job b) = refl
+same_by_name (Connections a) Socket = refl
+same_by_name (Connections a) Log = refl
 same_by_name (Number a) (Port b) = refl
 same_by_name (Number a) (Lanes b) = refl
 same_by_name (Number a) (Connections b) = refl
 same_by_name (Number a) (Number b) = refl
 same_by_name (Number a) (Tries b) = refl
 same_by_name (Number a) (Job b) = refl
+same_by_name (Number a) Socket = refl
+same_by_name (Number a) Log = refl
 same_by_name (Tries a) (Port b) = refl
 same_by_name (Tries a) (Lanes b) = refl
 same_by_name (Tries a) (Connections b) = refl
 same_by_name (Tries a) (Number b) = refl
 same_by_name (Tries a) (Tries b) = refl
 same_by_name (Tries a) (Job b) = refl
+same_by_name (Tries a) Socket = refl
+same_by_name (Tries a) Log = refl
 same_by_name (Job a) (Port b) = refl
 same_by_name (Job a) (Lanes b) = refl
 same_by_name (Job a) (Connections b) = refl
 same_by_name (Job a) (Number b) = refl
 same_by_name (Job a) (Tries b) = refl
 same_by_name (Job a) (Job b) = refl
+same_by_name (Job a) Socket = refl
+same_by_name (Job a) Log = refl
+same_by_name Socket (Port b) = refl
+same_by_name Socket (Lanes b) = refl
+same_by_name Socket (Connections b) = refl
+same_by_name Socket (Number b) = refl
+same_by_name Socket (Tries b) = refl
+same_by_name Socket (Job b) = refl
+same_by_name Socket Socket = refl
+same_by_name Socket Log = refl
+same_by_name Log (Port b) = refl
+same_by_name Log (Lanes b) = refl
+same_by_name Log (Connections b) = refl
+same_by_name Log (Number b) = refl
+same_by_name Log (Tries b) = refl
+same_by_name Log (Job b) = refl
+same_by_name Log Socket = refl
+same_by_name Log Log = refl
 
 same_self : (one : Name) → same_name one one ≡ true
 same_self ThePort = refl
@@ -93,6 +123,8 @@ same_self TheConnections = refl
 same_self TheNumber = refl
 same_self TheTries = refl
 same_self TheJob = refl
+same_self TheSocket = refl
+same_self TheLog = refl
 
 name_is : (one other : Name) → same_name one other ≡ true → one ≡ other
 name_is ThePort ThePort is = refl
@@ -101,36 +133,64 @@ name_is ThePort TheConnections is = absurd cc
 name_is ThePort TheNumber is = absurd cc
 name_is ThePort TheTries is = absurd cc
 name_is ThePort TheJob is = absurd cc
+name_is ThePort TheSocket is = absurd cc
+name_is ThePort TheLog is = absurd cc
 name_is TheLanes ThePort is = absurd cc
 name_is TheLanes TheLanes is = refl
 name_is TheLanes TheConnections is = absurd cc
 name_is TheLanes TheNumber is = absurd cc
 name_is TheLanes TheTries is = absurd cc
 name_is TheLanes TheJob is = absurd cc
+name_is TheLanes TheSocket is = absurd cc
+name_is TheLanes TheLog is = absurd cc
 name_is TheConnections ThePort is = absurd cc
 name_is TheConnections TheLanes is = absurd cc
 name_is TheConnections TheConnections is = refl
 name_is TheConnections TheNumber is = absurd cc
 name_is TheConnections TheTries is = absurd cc
 name_is TheConnections TheJob is = absurd cc
+name_is TheConnections TheSocket is = absurd cc
+name_is TheConnections TheLog is = absurd cc
 name_is TheNumber ThePort is = absurd cc
 name_is TheNumber TheLanes is = absurd cc
 name_is TheNumber TheConnections is = absurd cc
 name_is TheNumber TheNumber is = refl
 name_is TheNumber TheTries is = absurd cc
 name_is TheNumber TheJob is = absurd cc
+name_is TheNumber TheSocket is = absurd cc
+name_is TheNumber TheLog is = absurd cc
 name_is TheTries ThePort is = absurd cc
 name_is TheTries TheLanes is = absurd cc
 name_is TheTries TheConnections is = absurd cc
 name_is TheTries TheNumber is = absurd cc
 name_is TheTries TheTries is = refl
 name_is TheTries TheJob is = absurd cc
+name_is TheTries TheSocket is = absurd cc
+name_is TheTries TheLog is = absurd cc
 name_is TheJob ThePort is = absurd cc
 name_is TheJob TheLanes is = absurd cc
 name_is TheJob TheConnections is = absurd cc
 name_is TheJob TheNumber is = absurd cc
 name_is TheJob TheTries is = absurd cc
 name_is TheJob TheJob is = refl
+name_is TheJob TheSocket is = absurd cc
+name_is TheJob TheLog is = absurd cc
+name_is TheSocket ThePort is = absurd cc
+name_is TheSocket TheLanes is = absurd cc
+name_is TheSocket TheConnections is = absurd cc
+name_is TheSocket TheNumber is = absurd cc
+name_is TheSocket TheTries is = absurd cc
+name_is TheSocket TheJob is = absurd cc
+name_is TheSocket TheSocket is = refl
+name_is TheSocket TheLog is = absurd cc
+name_is TheLog ThePort is = absurd cc
+name_is TheLog TheLanes is = absurd cc
+name_is TheLog TheConnections is = absurd cc
+name_is TheLog TheNumber is = absurd cc
+name_is TheLog TheTries is = absurd cc
+name_is TheLog TheJob is = absurd cc
+name_is TheLog TheSocket is = absurd cc
+name_is TheLog TheLog is = refl
 
 -- the option of a name, where it was given
 abbrev pub given_as : Name → List Given → Option Given
@@ -146,7 +206,7 @@ abbrev pub value_at : Command → Name → List Row → Option Given
 value_at command name rows = option_and_then (option_of command (word_of name)) (first_of (id_of name) rows)
 
 -- a value that begins with no hyphen
-record BeginsPlainly (value : Text) : Type 0 where
+pub record BeginsPlainly (value : Text) : Type 0 where
   pub first : ℕ
   pub more : List ℕ
   pub plain : (first == 45) ≡ false
@@ -180,8 +240,13 @@ id_first (d ∷ ds) id is = record { first = d; more = ds; plain = by_test (d ==
         let none = parsed_hyphen ds in
         let found = subst (λ x. parsed (x ∷ ds) ≡ Some id) hyphen is in absurd cc
 
+-- and a path
+path_first : (value : Text) → begins_plainly value ≡ true → BeginsPlainly value
+path_first [] is = absurd cc
+path_first (d ∷ ds) is = record { first = d; more = ds; plain = is_not (d == 45) is; is = refl }
+
 -- an option of a command has one of its names
-record IsNamed (command : Command) (word : Text) (option : Given) : Type 0 where
+pub record IsNamed (command : Command) (word : Text) (option : Given) : Type 0 where
   pub has : Has command (name_of_given option)
   pub named : word ≡ word_of (name_of_given option)
 
@@ -262,7 +327,7 @@ named_by Query word number option is = by_client Query word number option tt tt 
 named_by Delete word number option is = absurd cc
 named_by Follow word number option is = by_client Follow word number option tt tt is
 
-record IsOption (command : Command) (word value : Text) (option : Given) : Type 0 where
+pub record IsOption (command : Command) (word value : Text) (option : Given) : Type 0 where
   pub named : IsNamed command word option
   pub begins : BeginsPlainly value
 
@@ -287,11 +352,40 @@ by_job : (word value : Text) (option : Given) (b : Bool) → (b ≡ true → wor
 by_job word value option true same found = job_is word value option (same refl) found
 by_job word value option false same found = number_is Query word value option found
 
-option_is : (command : Command) (word value : Text) (option : Given) → option_of command word value ≡ Some option → IsOption command word value option
+path_is : (word value : Text) (given option : Given) (most : ℕ) → IsNamed Serve word given → path_given given most value ≡ Some option → IsOption Serve word value option
+path_is word value given option most named is = by_test (is_path most value) refl is
+  where
+    by_test : (b : Bool) → is_path most value ≡ b → (if b then Some given else None) ≡ Some option → IsOption Serve word value option
+    by_test false same found = absurd cc
+    by_test true same found =
+        let behind = (both (is_within 1 most (length value)) (begins_plainly value && list_all is_no_zero value) same).1 in
+        let plain = (both (begins_plainly value) (list_all is_no_zero value) behind).0 in
+        subst (IsOption Serve word value) (in_range true given option found) (record { named = named; begins = path_first value plain })
+
+abbrev log_or : Text → Bool → Option Given
+log_or value b = if b then path_given Log 4095 value else None
+
+abbrev socket_or : Text → Text → Bool → Option Given
+socket_or word value b = if b then path_given Socket 107 value else log_or value (bytes_eq word (codes "--log"))
+
+by_log : (word value : Text) (option : Given) (b : Bool) → (b ≡ true → word ≡ codes "--log") → log_or value b ≡ Some option → IsOption Serve word value option
+by_log word value option false same found = absurd cc
+by_log word value option true same found = path_is word value Log option 4095 (record { has = tt; named = same refl }) found
+
+by_socket : (word value : Text) (option : Given) (b : Bool) → (b ≡ true → word ≡ codes "--socket") → socket_or word value b ≡ Some option → IsOption Serve word value option
+by_socket word value option false same found = by_log word value option (bytes_eq word (codes "--log")) (bytes_eq-Decides word (codes "--log")).0 found
+by_socket word value option true same found = path_is word value Socket option 107 (record { has = tt; named = same refl }) found
+
+by_path : (word value : Text) (option : Given) (b : Bool) → (if b then path_named word value else option_and_then (given_by Serve word) (number_of value)) ≡ Some option
+    → IsOption Serve word value option
+by_path word value option true found = by_socket word value option (bytes_eq word (codes "--socket")) (bytes_eq-Decides word (codes "--socket")).0 found
+by_path word value option false found = number_is Serve word value option found
+
+pub option_is : (command : Command) (word value : Text) (option : Given) → option_of command word value ≡ Some option → IsOption command word value option
 option_is Session word value option is = number_is Session word value option is
 option_is Show word value option is = number_is Show word value option is
 option_is Load word value option is = number_is Load word value option is
-option_is Serve word value option is = number_is Serve word value option is
+option_is Serve word value option is = by_path word value option (bytes_eq word (codes "--socket") || bytes_eq word (codes "--log")) is
 option_is Submit word value option is = number_is Submit word value option is
 option_is Query word value option is = by_job word value option (bytes_eq word (codes "--job")) (bytes_eq-Decides word (codes "--job")).0 is
 option_is Delete word value option is = number_is Delete word value option is
@@ -412,14 +506,14 @@ goes_more command walk words option options value rows rows2 same is apart new g
         ∙ ap (λ b. or_else (if b then Some option else given_as name options) (value_at command name rows)) (sym named)
 
 -- the first option of a list, and those behind it
-record Opens (command : Command) (word value : Text) (behind : List Text) (options : List Given) : Type 0 where
+pub record Opens (command : Command) (word value : Text) (behind : List Text) (options : List Given) : Type 0 where
   pub option : Given
   pub more : List Given
   pub is : option_of command word value ≡ Some option
   pub rest : options_behind command None behind ≡ Some more
   pub all : options ≡ option ∷ more
 
-opens : (command : Command) (word value : Text) (behind : List Text) (options : List Given)
+pub opens : (command : Command) (word value : Text) (behind : List Text) (options : List Given)
     → option_and_then (before_others (options_behind command None behind)) (option_of command word value) ≡ Some options → Opens command word value behind options
 opens command word value behind options found = by_parts (option_of command word value) (options_behind command None behind) refl refl found
   where

@@ -1,5 +1,5 @@
 -- The command line as `clap` has it: one subcommand for each command, whose options take one value each.
-use Rattle.std.specs.Prelude.{◌≡◌, ◌⊎◌, true, ℕ, List, [], ◌∷◌, Option, Some, None, option_and_then, codes, Result, Ok, Err}
+use Rattle.std.specs.Prelude.{◌≡◌, ◌⊎◌, true, ℕ, List, [], ◌∷◌, Option, Some, None, option_and_then, is_some, codes, Result, Ok, Err}
 use Rattle.clap.specs.Words.{App, Row, Rule, first_of, new_app, new_rule, with_rule, with_subcommand}
 use Rattle.clap.specs.declared.builder.action.ArgAction.TheVariants.{Set}
 use Rattle.clap.specs.declared.error.kind.ErrorKind.{ErrorKind}
@@ -21,8 +21,13 @@ bare_command name = record { top = record (new_app name).top { disable_help_flag
 abbrev pub load_command : App
 load_command = with_rule (bare_command (codes "load")) (option_rule (codes "number"))
 
+-- the command that serves, with the options whose values are numbers
+abbrev pub bare_serve : App
+bare_serve = with_rule (with_rule (with_rule (bare_command (codes "serve")) (option_rule (codes "port"))) (option_rule (codes "lanes"))) (option_rule (codes "connections"))
+
+-- and with those whose values are paths
 abbrev pub serve_command : App
-serve_command = with_rule (with_rule (with_rule (bare_command (codes "serve")) (option_rule (codes "port"))) (option_rule (codes "lanes"))) (option_rule (codes "connections"))
+serve_command = with_rule (with_rule bare_serve (option_rule (codes "socket"))) (option_rule (codes "log"))
 
 -- the options of a client, behind those that a command has
 abbrev pub with_client_options : App → App
@@ -52,7 +57,7 @@ command_line = with_subcommand (with_subcommand (with_subcommand (with_subcomman
 abbrev pub value_in : Command → List ℕ → List ℕ → List Row → Option Given
 value_in command id name rows = option_and_then (option_of command name) (first_of id rows)
 
--- the numbers of the options that rows have
+-- the numbers of the options that rows have, and whether they have paths
 abbrev pub values_in : Command → List Row → Numbers
 values_in command rows = record {
   port = option_and_then port_of (value_in command (codes "port") (codes "--port") rows);
@@ -61,6 +66,8 @@ values_in command rows = record {
   number = option_and_then number_given (value_in command (codes "number") (codes "--number") rows);
   tries = option_and_then tries_of (value_in command (codes "tries") (codes "--tries") rows);
   job = option_and_then job_of (value_in command (codes "job") (codes "--job") rows);
+  socket = is_some (value_in command (codes "socket") (codes "--socket") rows);
+  log = is_some (value_in command (codes "log") (codes "--log") rows);
 }
 
 -- what words ask for, by the name that is the first of them

@@ -1,8 +1,8 @@
 -- Which words are a command, and what they ask for: the first is a command's name, and the rest are its options, in any order and each at most once.
 -- An option is `--name` and its value in the next word, or `--name=value` in one. A value is 1 to 20 decimal digits, with a number in its range; that of
--- `--job` is the text of a UUID (RFC 9562).
-use Rattle.std.specs.Prelude.{ℕ, ◌≤◌, IfSome, ◌==◌, ◌&&◌, Bool, true, false, if◌then◌else◌, nat_lt, List, [], ◌∷◌, length, Option, Some, None, option_and_then, option_map, unwrap_or, bytes_eq, codes}
-use Rattle.std.specs.List.{list_all, position_or_len, before_first, after_first}
+-- `--job` is the text of a UUID (RFC 9562), and those of `--socket` and `--log` are paths.
+use Rattle.std.specs.Prelude.{ℕ, ◌≤◌, IfSome, ◌≡◌, ◌==◌, ◌&&◌, ◌||◌, not, Bool, true, false, if◌then◌else◌, nat_lt, is_some, List, [], ◌∷◌, length, Option, Some, None, option_and_then, option_map, unwrap_or, bytes_eq, codes}
+use Rattle.std.specs.List.{list_all, list_any, position_or_len, before_first, after_first}
 use Rattle.std.specs.Str.Parse.{digits_value}
 use Rattle.std.specs.Int.{from_be_bytes, w128}
 use Rattle.uuid.specs.Text.{parsed}
@@ -14,7 +14,7 @@ use Rattle.fts_words.specs.declared.asked.Asked.TheVariants as asks
 use Rattle.fts_words.specs.declared.asked.Command.{Command}
 use Rattle.fts_words.specs.declared.asked.Command.TheVariants.{Session, Show, Load, Serve, Submit, Query, Delete, Follow}
 use Rattle.fts_words.specs.declared.options.Given.{Given}
-use Rattle.fts_words.specs.declared.options.Given.TheVariants.{Port, Lanes, Connections, Number, Tries, Job}
+use Rattle.fts_words.specs.declared.options.Given.TheVariants.{Port, Lanes, Connections, Number, Tries, Job, Socket, Log}
 use Rattle.fts_words.specs.declared.options.Numbers.{Numbers}
 
 -- the command of a name
@@ -56,12 +56,16 @@ IsToServe (Some (asks.Follow port tries)) = ⊥
 abbrev pub AreTries : ℕ → Type 0
 AreTries tries = (1 ≤ tries) × (tries ≤ 10)
 
--- the lanes, connections and tries that are asked for are in their ranges
+-- the port, where there is one, is 1 to 65535
+abbrev pub IsPort : Option ℕ → Type 0
+IsPort port = IfSome port (λ number. (1 ≤ number) × (number ≤ 65535))
+
+-- the lanes, connections and tries that are asked for are in their ranges, and so is the port that is to be served
 abbrev pub IsInRange : Asked → Type 0
 IsInRange asks.Session = Unit {0}
 IsInRange asks.Show = Unit {0}
 IsInRange (asks.Load number) = Unit {0}
-IsInRange (asks.Serve port lanes connections) = (1 ≤ lanes) × ((lanes ≤ MAX_LANES) × IfSome connections (λ most. 1 ≤ most))
+IsInRange (asks.Serve port lanes connections) = (1 ≤ lanes) × ((lanes ≤ MAX_LANES) × (IfSome connections (λ most. 1 ≤ most) × IsPort port))
 IsInRange (asks.Submit port tries) = AreTries tries
 IsInRange (asks.Query port job tries) = AreTries tries
 IsInRange asks.Delete = Unit {0}
@@ -118,9 +122,49 @@ names_job Follow name = false
 abbrev pub job_named : List ℕ → Option Given
 job_named value = option_map (λ id. Job (from_be_bytes w128 id)) (parsed value)
 
+-- whether a command has options whose values are paths
+abbrev pub has_paths : Command → Bool
+has_paths Session = false
+has_paths Show = false
+has_paths Load = false
+has_paths Serve = true
+has_paths Submit = false
+has_paths Query = false
+has_paths Delete = false
+has_paths Follow = false
+
+-- whether a byte is not zero
+abbrev pub is_no_zero : ℕ → Bool
+is_no_zero byte = not (byte == 0)
+
+-- whether a value begins with another byte than a hyphen: one that begins so is an option whose own value was left out
+abbrev pub begins_plainly : List ℕ → Bool
+begins_plainly [] = false
+begins_plainly (first ∷ rest) = not (first == 45)
+
+-- whether a value is a path of 1 to so many bytes, of which none is zero
+abbrev pub is_path : ℕ → List ℕ → Bool
+is_path most value = is_within 1 most (length value) && (begins_plainly value && list_all is_no_zero value)
+
+-- an option whose value is a path of at most so many bytes
+abbrev pub path_given : Given → ℕ → List ℕ → Option Given
+path_given option most value = if is_path most value then Some option else None
+
+-- the option by its name, where the command has those of paths. The address of a socket has room for 107 bytes and a zero, and a path for 4095 and a zero
+abbrev pub path_named : List ℕ → List ℕ → Option Given
+path_named name value =
+    if bytes_eq name (codes "--socket") then path_given Socket 107 value else
+    if bytes_eq name (codes "--log") then path_given Log 4095 value else None
+
+-- whether a name is that of an option whose value is a path
+abbrev pub names_path : Command → List ℕ → Bool
+names_path command name = has_paths command && (bytes_eq name (codes "--socket") || bytes_eq name (codes "--log"))
+
 -- the option of a command by its name and its value
 abbrev pub option_of : Command → List ℕ → List ℕ → Option Given
-option_of command name value = if names_job command name then job_named value else option_and_then (given_by command name) (number_of value)
+option_of command name value =
+    if names_job command name then job_named value else
+    if names_path command name then path_named name value else option_and_then (given_by command name) (number_of value)
 
 -- an option before others
 abbrev pub before_others : Option (List Given) → Given → Option (List Given)
@@ -143,6 +187,8 @@ is_same_option (Connections one) (Connections other) = true
 is_same_option (Number one) (Number other) = true
 is_same_option (Tries one) (Tries other) = true
 is_same_option (Job one) (Job other) = true
+is_same_option Socket Socket = true
+is_same_option Log Log = true
 is_same_option one other = false
 
 -- the options, where none stands twice
@@ -179,7 +225,7 @@ abbrev pub first_of : (Given → Option ℕ) → List Given → Option ℕ
 first_of part [] = None
 first_of part (option ∷ options) = unwrap_or (option_map Some (part option)) (first_of part options)
 
--- the numbers of options
+-- the numbers of options, and whether there are paths
 abbrev pub numbers_of : List Given → Numbers
 numbers_of options = record {
   port = first_of port_of options;
@@ -188,7 +234,16 @@ numbers_of options = record {
   number = first_of number_given options;
   tries = first_of tries_of options;
   job = first_of job_of options;
+  socket = list_any (is_same_option Socket) options;
+  log = list_any (is_same_option Log) options;
 }
+
+-- what it is to serve: connections at a port or at a socket, at one of the two
+abbrev pub serve_with : ℕ → Option ℕ → Option ℕ → Bool → Option Asked
+serve_with lanes connections None false = None
+serve_with lanes connections None true = Some (asks.Serve None lanes connections)
+serve_with lanes connections (Some port) false = Some (asks.Serve (Some port) lanes connections)
+serve_with lanes connections (Some port) true = None
 
 -- what a command asks for with these numbers: a port, a number and a job have to be there where they are the command's; there are 4 lanes where none are
 -- named, and 3 tries
@@ -196,7 +251,7 @@ abbrev pub asked_with : Command → Numbers → Option Asked
 asked_with Session numbers = Some asks.Session
 asked_with Show numbers = Some asks.Show
 asked_with Load numbers = option_map asks.Load numbers.number
-asked_with Serve numbers = option_map (λ port. asks.Serve port (unwrap_or numbers.lanes 4) numbers.connections) numbers.port
+asked_with Serve numbers = serve_with (unwrap_or numbers.lanes 4) numbers.connections numbers.port numbers.socket
 asked_with Submit numbers = option_map (λ port. asks.Submit port (unwrap_or numbers.tries 3)) numbers.port
 asked_with Query numbers = option_and_then (λ port. option_map (λ job. asks.Query port job (unwrap_or numbers.tries 3)) numbers.job) numbers.port
 asked_with Delete numbers = Some asks.Delete
@@ -210,3 +265,39 @@ asked_of command words = option_and_then (λ options. asked_with command (number
 abbrev pub asked_in : List (List ℕ) → Option Asked
 asked_in [] = None
 asked_in (name ∷ words) = option_and_then (λ command. asked_of command words) (command_named name)
+
+-- the value that words have for an option, by its name; a word that waits is a name whose value comes next
+abbrev pub value_behind : List ℕ → Option (List ℕ) → List (List ℕ) → Option (List ℕ)
+value_behind wanted waiting [] = None
+value_behind wanted (Some name) (word ∷ words) = if bytes_eq name wanted then Some word else value_behind wanted None words
+value_behind wanted None (word ∷ words) =
+    if has_value word then (if bytes_eq (before_first is_equals word) wanted then Some (after_first is_equals word) else value_behind wanted None words)
+    else value_behind wanted (Some word) words
+
+-- the value that words have for an option, behind a command's name
+abbrev pub value_named : List ℕ → List (List ℕ) → Option (List ℕ)
+value_named wanted [] = None
+value_named wanted (name ∷ words) = value_behind wanted None words
+
+-- the value of an option of words that are accepted
+abbrev pub accepted_value : List ℕ → List (List ℕ) → Option (List ℕ)
+accepted_value wanted words = option_and_then (λ asked. value_named wanted words) (asked_in words)
+
+-- the path of the socket that accepted words name
+abbrev pub socket_in : List (List ℕ) → Option (List ℕ)
+socket_in words = accepted_value (codes "--socket") words
+
+-- the path of the log that accepted words name
+abbrev pub log_in : List (List ℕ) → Option (List ℕ)
+log_in words = accepted_value (codes "--log") words
+
+-- where it is to serve that is asked for, connections come at a port exactly where no socket is named
+abbrev pub IsServedAt : Bool → Asked → Type 0
+IsServedAt named asks.Session = Unit {0}
+IsServedAt named asks.Show = Unit {0}
+IsServedAt named (asks.Load number) = Unit {0}
+IsServedAt named (asks.Serve port lanes connections) = named ≡ not (is_some port)
+IsServedAt named (asks.Submit port tries) = Unit {0}
+IsServedAt named (asks.Query port job tries) = Unit {0}
+IsServedAt named asks.Delete = Unit {0}
+IsServedAt named (asks.Follow port tries) = Unit {0}

@@ -13,9 +13,10 @@ pub enum Asked {
     Load {
         number: u64,
     },
-    /// Connections on this port, in 1 to 8 lanes, each of which takes so many, 1 to 1,000,000, or as many as come.
+    /// Connections on this port, in 1 to 8 lanes, each of which takes so many, 1 to 1,000,000, or as many as come. There is no port where they come at
+    /// the socket that the words name.
     Serve {
-        port: u16,
+        port: Option<u16>,
         lanes: u32,
         connections: Option<u32>,
     },

@@ -8,9 +8,11 @@ mod asked;
 mod numbers;
 mod options;
 mod parser;
+mod paths;
 mod reader;
 
 pub use asked::Asked;
 pub use numbers::number_of;
 pub use parser::take_words;
+pub use paths::{log_of, socket_of};
 pub use reader::read_words;

@@ -1,8 +1,9 @@
 //! One option of a command, and the options that were given so far, each at most once (`specs/Words.antt`).
-//! A value is read as 1 to 20 decimal digits; a number that no `u64` holds is in no range. That of `--job` is read as the text of a UUID.
-ghost use Rattle.std.specs.Prelude.{◌≡◌, List, [], ◌∷◌, ◌++◌, Option, Some, None, if◌then◌else◌, ◌&&◌, nat_le, length, IfSome, is_some, option_and_then};
-ghost use Rattle.std.specs.List.{list_any};
-ghost use Rattle.fts_words.specs.Words.{option_of, given_by, given_to_client, names_job, job_named, number_of, numbers_of, is_same_option, asked_with, command_of};
+//! A value is read as 1 to 20 decimal digits; a number that no `u64` holds is in no range. That of `--job` is read as the text of a UUID,
+//! and those of `--socket` and `--log` stay in their words: an option keeps that they are paths, and that they were given.
+ghost use Rattle.std.specs.Prelude.{◌≡◌, List, [], ◌∷◌, ◌++◌, Option, Some, None, true, if◌then◌else◌, ◌&&◌, nat_le, length, IfSome, is_some, option_and_then};
+ghost use Rattle.std.specs.List.{list_all, list_any};
+ghost use Rattle.fts_words.specs.Words.{option_of, given_by, given_to_client, names_job, job_named, names_path, path_named, path_given, begins_plainly, is_no_zero, number_of, numbers_of, is_same_option, asked_with, command_of};
 
 use crate::Asked;
 use crate::asked::Command;
@@ -19,7 +20,13 @@ const DEFAULT_TRIES: u32 = 3;
 /// The most tries.
 const MAX_TRIES: u64 = 10;
 
-/// An option that was given, with its number.
+/// The most bytes of a socket's path: the system's address of a socket holds them and a zero.
+const MAX_SOCKET_PATH: usize = 107;
+
+/// The most bytes of a log's path.
+const MAX_LOG_PATH: usize = 4095;
+
+/// An option that was given, with its number. That of a path has none.
 #[derive(Clone, Copy, Debug, PartialEq, Eq)]
 pub enum Given {
     Port(u16),
@@ -28,15 +35,19 @@ pub enum Given {
     Number(u64),
     Tries(u32),
     Job(u128),
+    Socket,
+    Log,
 }
 
 impl Given {
-    /// The option of a command by its name and its value; none where the command hasn't it, or its value isn't a number in its range, or no id.
+    /// The option of a command by its name and its value; none where the command hasn't it, or its value isn't a number in its range, or no id, or no path.
     pub fn read(command: Command, name: &str, value: &str) -> Option<Given>
         ensures { result ≡ option_of command name.now value.now }
     {
         if is_job(command, name) {
             of_id(value)
+        } else if is_path(command, name) {
+            of_path(name, value)
         } else {
             of_number(command, name, value)
         }
@@ -52,6 +63,59 @@ fn is_job(command: Command, name: &str) -> bool
         Command::Query => name == "--job",
         Command::Submit | Command::Delete | Command::Follow => false,
     }
+}
+
+/// Whether a name is that of an option whose value is a path.
+fn is_path(command: Command, name: &str) -> bool
+    ensures { result ≡ names_path command name.now }
+{
+    let has_paths = match command {
+        Command::Session | Command::Show | Command::Load => false,
+        Command::Serve => true,
+        Command::Submit | Command::Query | Command::Delete | Command::Follow => false,
+    };
+    has_paths && (name == "--socket" || name == "--log")
+}
+
+/// The option whose value is a path, by its name.
+fn of_path(name: &str, value: &str) -> Option<Given>
+    ensures { result ≡ path_named name.now value.now }
+{
+    if name == "--socket" {
+        path_given(Given::Socket, MAX_SOCKET_PATH, value)
+    } else if name == "--log" {
+        path_given(Given::Log, MAX_LOG_PATH, value)
+    } else {
+        None
+    }
+}
+
+/// An option, where its value is a path of at most so many bytes.
+fn path_given(option: Given, most: usize, value: &str) -> Option<Given>
+    ensures { result ≡ path_given option most value.now }
+{
+    let bytes = value.as_bytes();
+    if 1 <= bytes.len() && bytes.len() <= most && begins_plainly(bytes) && has_no_zero(bytes) {
+        Some(option)
+    } else {
+        None
+    }
+}
+
+/// Whether bytes begin with another than a hyphen.
+fn begins_plainly(bytes: &[u8]) -> bool
+    ensures { result ≡ begins_plainly bytes.now }
+{
+    match bytes {
+        [] => false,
+        [first, ..] => *first != 0x2d,
+    }
+}
+
+fn has_no_zero(bytes: &[u8]) -> bool
+    ensures { result ≡ list_all is_no_zero bytes.now }
+{
+    bytes.iter().all(|byte| *byte != 0)
 }
 
 /// The job whose id a value is the text of.
@@ -148,7 +212,7 @@ fn first<T: Copy>(given: Option<T>, value: T) -> Option<T>
     }
 }
 
-/// The numbers of options, each where it was given.
+/// The numbers of options, each where it was given, and whether those of paths were.
 #[derive(Clone, Copy, Debug, PartialEq, Eq)]
 pub struct Numbers {
     pub port: Option<u16>,
@@ -157,6 +221,8 @@ pub struct Numbers {
     pub number: Option<u64>,
     pub tries: Option<u32>,
     pub job: Option<u128>,
+    pub socket: bool,
+    pub log: bool,
 }
 
 impl Numbers {
@@ -168,6 +234,8 @@ impl Numbers {
         number: None,
         tries: None,
         job: None,
+        socket: false,
+        log: false,
     };
 
     /// With one option more; none where it was given already.
@@ -199,7 +267,49 @@ impl Numbers {
                 job: Some(first(self.job, id)?),
                 ..self
             }),
+            Given::Socket => self.with_socket(),
+            Given::Log => self.with_log(),
         }
+    }
+
+    /// With a socket; none where it was given already.
+    fn with_socket(self) -> Option<Numbers>
+        ensures { result ≡ (if self.socket then None else Some (record self { socket = true })) }
+    {
+        if self.socket {
+            None
+        } else {
+            Some(Numbers {
+                socket: true,
+                ..self
+            })
+        }
+    }
+
+    /// With a log; none where it was given already.
+    fn with_log(self) -> Option<Numbers>
+        ensures { result ≡ (if self.log then None else Some (record self { log = true })) }
+    {
+        if self.log {
+            None
+        } else {
+            Some(Numbers { log: true, ..self })
+        }
+    }
+
+    /// What it is to serve with these: connections at a port or at a socket, at one of the two.
+    fn served(self) -> Option<Asked>
+        ensures asked { result ≡ asked_with Command.Serve self }
+        ensures command { IfSome result (λ asked. command_of asked ≡ Command.Serve) }
+    {
+        if self.port.is_some() == self.socket {
+            return None;
+        }
+        Some(Asked::Serve {
+            port: self.port,
+            lanes: self.lanes.unwrap_or(DEFAULT_LANES),
+            connections: self.connections,
+        })
     }
 
     /// What a command asks for with these.
@@ -214,14 +324,7 @@ impl Numbers {
                 Some(number) => Some(Asked::Load { number }),
                 None => None,
             },
-            Command::Serve => match self.port {
-                Some(port) => Some(Asked::Serve {
-                    port,
-                    lanes: self.lanes.unwrap_or(DEFAULT_LANES),
-                    connections: self.connections,
-                }),
-                None => None,
-            },
+            Command::Serve => self.served(),
             Command::Submit => match self.port {
                 Some(port) => Some(Asked::Submit {
                     port,

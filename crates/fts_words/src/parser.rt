@@ -3,7 +3,7 @@
 ghost use Rattle.std.specs.Prelude.{◌≡◌, ◌↔◌, Ok, None, true, false, IfOk, IfSome, map, string_bytes, codes, option_and_then};
 ghost use Rattle.clap.specs.Words.{app_of, found_of, rows_of, rule_of, subcommand_rows_of};
 ghost use Rattle.fts_words.specs.Words.{asked_in, IsInRange, port_of, lanes_of, connections_of, number_given, tries_of, job_of};
-ghost use Rattle.fts_words.specs.CommandLine.{option_rule, bare_command, serve_command, query_command, with_client_options, service_line, command_line, value_in, values_in, asked_by, asked_entered, IsTaken};
+ghost use Rattle.fts_words.specs.CommandLine.{option_rule, bare_command, bare_serve, serve_command, query_command, with_client_options, service_line, command_line, value_in, values_in, asked_by, asked_entered, IsTaken};
 
 use crate::asked::{Asked, Command as Name};
 use crate::options::{Given, Numbers};
@@ -62,13 +62,23 @@ fn bare_command<'a>(alloc: Global, name: &'a str) -> Command<'a>
     Command::new(alloc, name).disable_help_flag(true)
 }
 
-fn serve<'a>(alloc: Global) -> Result<Command<'a>, AllocError>
-    ensures { IfOk result (λ serve. app_of serve ≡ serve_command) }
+/// The command that serves, with the options of numbers.
+fn bare_serve<'a>(alloc: Global) -> Result<Command<'a>, AllocError>
+    ensures { IfOk result (λ serve. app_of serve ≡ bare_serve) }
 {
     bare_command(alloc, "serve")
         .arg(option(alloc, "port"))?
         .arg(option(alloc, "lanes"))?
         .arg(option(alloc, "connections"))
+}
+
+/// The command that serves, with the options of paths behind the others.
+fn serve<'a>(alloc: Global) -> Result<Command<'a>, AllocError>
+    ensures { IfOk result (λ serve. app_of serve ≡ serve_command) }
+{
+    bare_serve(alloc)?
+        .arg(option(alloc, "socket"))?
+        .arg(option(alloc, "log"))
 }
 
 fn query<'a>(alloc: Global) -> Result<Command<'a>, AllocError>
@@ -118,7 +128,7 @@ fn asked_entered(matches: &ArgMatches<'_>) -> Option<Asked>
     values_in(command, values).asked(command)
 }
 
-/// The numbers of the options that a command was given.
+/// The numbers of the options that a command was given, and whether it was given paths.
 fn values_in(command: Name, values: &ArgMatches<'_>) -> Numbers
     ensures { result ≡ values_in command (rows_of (found_of values.now)) }
 {
@@ -129,6 +139,8 @@ fn values_in(command: Name, values: &ArgMatches<'_>) -> Numbers
         number: number_in(command, values),
         tries: tries_in(command, values),
         job: job_in(command, values),
+        socket: value_in(command, "socket", "--socket", values).is_some(),
+        log: value_in(command, "log", "--log", values).is_some(),
     }
 }
 

@@ -1,6 +1,6 @@
 -- One option more, by its name: it was given already, or it is new.
 use Rattle.std.proofs.Common.{◌∙◌}
-use Rattle.fts_words.proofs.Given.{port_there, lanes_there, connections_there, number_there, tries_there, job_there, port_fresh, lanes_fresh, connections_fresh, number_fresh, tries_fresh, job_fresh}
+use Rattle.fts_words.proofs.Given.{port_there, lanes_there, connections_there, number_there, tries_there, job_there, port_fresh, lanes_fresh, connections_fresh, number_fresh, tries_fresh, job_fresh, socket_once, log_once}
 use Rattle.fts_words.proofs.options.Numbers.with.Goals as goal
 
 pub returns-in_err-first-in-Port : goal.returns-in_err-first-in-Port
@@ -50,3 +50,9 @@ returns-in_err-first-in-Job c = λ before are.
 pub returns-in_ok-first-in-Job : goal.returns-in_ok-first-in-Job
 returns-in_ok-first-in-Job c = λ before are.
     job_fresh c.args.self before are c.args.option c.in-Job.id c.in_ok-first-in-Job.field-0 c.in-Job.is c.in_ok-first-in-Job.ensures
+
+pub returns-in-Socket : goal.returns-in-Socket
+returns-in-Socket c = λ before are. socket_once c.args.self before are c.args.option c.with_socket.result c.in-Socket.is c.with_socket.ensures
+
+pub returns-in-Log : goal.returns-in-Log
+returns-in-Log c = λ before are. log_once c.args.self before are c.args.option c.with_log.result c.in-Log.is c.with_log.ensures
