@@ -31,8 +31,18 @@ chooses_serving (Some (asks.Query port job tries)) alone serves more goes does =
 chooses_serving (Some asks.Delete) alone serves more goes does = absurd does
 chooses_serving (Some (asks.Follow port tries)) alone serves more goes does = absurd does
 
--- what follows from what is so of two disks
-pub over_disks : {D : Type 0} (disk left : Option D) (P Q : D → D → Type 0) → ((one other : D) → P one other → Q one other) → OverDisks disk left P → OverDisks disk left Q
-over_disks None left P Q goes over = tt
-over_disks (Some disk) None P Q goes over = absurd over
-over_disks (Some disk) (Some left) P Q goes over = goes disk left over
+-- and what is left as it was beside it
+pub chooses_beside : (asked : Option Asked) (alone : Type 0) (serves : ℕ → Option ℕ → Type 0) (one two three four : Type 0) → one → two → three → four
+    → DoesOrServes asked ⊥ serves → DoesOrServes asked alone (λ lanes connections. serves lanes connections × one × two × three × four)
+chooses_beside asked alone serves one two three four first second third fourth does =
+    chooses_serving asked alone serves (λ lanes connections. serves lanes connections × one × two × three × four)
+    (λ lanes connections served. (served, first, second, third, fourth)) does
+
+-- the same over two disks
+pub serves_over : {D : Type 0} (disk left : Option D) (asked : Option Asked) (alone : D → D → Type 0) (serves : D → D → ℕ → Option ℕ → Type 0) (one two three four : Type 0)
+    → one → two → three → four → OverDisks disk left (λ from to. DoesOrServes asked ⊥ (serves from to))
+    → OverDisks disk left (λ from to. DoesOrServes asked (alone from to) (λ lanes connections. serves from to lanes connections × one × two × three × four))
+serves_over None left asked alone serves one two three four first second third fourth over = tt
+serves_over (Some disk) None asked alone serves one two three four first second third fourth over = absurd over
+serves_over (Some disk) (Some left) asked alone serves one two three four first second third fourth over =
+    chooses_beside asked (alone disk left) (serves disk left) one two three four first second third fourth over
