@@ -1,6 +1,6 @@
 -- No event's line has a byte below 32 but the line feed at its end.
-use Rattle.std.proofs.Common.{◌≡◌, ℕ, zero, suc, ◌+◌, ◌/◌, ◌%◌, ◌<◌, Bool, true, false, nat_lt, List, [], ◌∷◌, ◌++◌, refl, ap, sym, ◌∙◌, append_assoc, eqb-true, arith, tests, codes}
-use Rattle.std.specs.Prelude.{decimal, ◌==◌, ◌&&◌, not, if◌then◌else◌}
+use Rattle.std.proofs.Common.{◌≡◌, ℕ, zero, suc, ◌+◌, ◌/◌, ◌%◌, Bool, true, false, nat_lt, List, [], ◌∷◌, ◌++◌, refl, ◌∙◌, arith, tests, codes}
+use Rattle.std.specs.Prelude.{decimal, ◌==◌, if◌then◌else◌}
 use Rattle.std.specs.Fmt.{digits, digits_onto, digit_glyph}
 use Rattle.std.specs.List.{list_all}
 use Rattle.std.proofs.lemmas.List.Folds.{list_all-append}
@@ -34,9 +34,9 @@ letter_shown digit = grind (arith, tests)
 -- a digit in lower case to the base 16
 hex_shown : (digit : ℕ) → is_shown (hex_digit digit) ≡ true
 hex_shown digit = elim (nat_lt digit 10) as (λ (low : Bool). is_shown (if low then 48 + digit else 87 + digit) ≡ true) [
-      true ↦ digit_shown digit
-    | false ↦ letter_shown digit
-    ]
+  | true ↦ digit_shown digit
+  | false ↦ letter_shown digit
+]
 
 -- the digits of a number, in front of what is shown
 digits_shown : (most number : ℕ) (rest : List ℕ) → AreShown rest → AreShown (digits_onto most 10 false number rest)
@@ -45,8 +45,8 @@ digits_shown (suc most) number rest shown =
     let first : is_shown (digit_glyph false (number % 10)) ≡ true = hex_shown (number % 10) in
     let more : AreShown (digit_glyph false (number % 10) ∷ rest) = rw first shown in
     elim (number / 10 == 0) as (λ (last : Bool). AreShown (if last then digit_glyph false (number % 10) ∷ rest else digits_onto most 10 false (number / 10) (digit_glyph false (number % 10) ∷ rest))) [
-      true ↦ more
-    | false ↦ digits_shown most (number / 10) (digit_glyph false (number % 10) ∷ rest) more
+      | true ↦ more
+      | false ↦ digits_shown most (number / 10) (digit_glyph false (number % 10) ∷ rest) more
     ]
 
 -- a number
@@ -65,11 +65,11 @@ byte_shown : (byte : ℕ) → AreShown (escaped_byte byte)
 byte_shown byte =
     let other : List ℕ = if is_control byte then 92 ∷ 120 ∷ hex_digit (byte / 16) ∷ hex_digit (byte % 16) ∷ [] else byte ∷ [] in
     elim (byte == 34) as (λ (quote : Bool). AreShown (if quote then 92 ∷ 34 ∷ [] else (if byte == 92 then 92 ∷ 92 ∷ [] else other))) [
-      true ↦ refl
-    | false ↦ elim (byte == 92) as (λ (slash : Bool). AreShown (if slash then 92 ∷ 92 ∷ [] else other)) [
-          true ↦ refl
+      | true ↦ refl
+      | false ↦ elim (byte == 92) as (λ (slash : Bool). AreShown (if slash then 92 ∷ 92 ∷ [] else other)) [
+        | true ↦ refl
         | false ↦ other_shown byte (is_control byte) refl
-        ]
+      ]
     ]
 
 -- the bytes of a quoted text
@@ -171,8 +171,8 @@ front moment event = codes "time=" ++ decimal moment ++ event_fields event
 -- each event's line is one line
 pub event_line_IsLine : (moment : ℕ) (event : Event) → IsLine (event_line moment event)
 event_line_IsLine moment event =
-    let time : AreShown (codes "time=" ++ decimal moment) = both_shown (codes "time=") (decimal moment) refl (decimal_shown moment) in
-    ( front moment event
-    , refl
-    , both_shown (codes "time=" ++ decimal moment) (event_fields event) time (fields_shown event).shown
+    let time : AreShown (codes "time=" ++ decimal moment) = both_shown (codes "time=") (decimal moment) refl (decimal_shown moment) in (
+      front moment event,
+      refl,
+      both_shown (codes "time=" ++ decimal moment) (event_fields event) time (fields_shown event).shown,
     )

@@ -1,7 +1,7 @@
 -- A quoted text is read back as it was.
-use Rattle.std.proofs.Common.{◌≡◌, ℕ, ◌+◌, ◌-◌, ◌*◌, ◌/◌, ◌%◌, ◌<◌, Bool, true, false, nat_lt, List, [], ◌∷◌, ◌++◌, refl, ap, sym, ◌∙◌, append_assoc, eqb-true, arith, tests, codes}
-use Rattle.std.specs.Prelude.{◌==◌, if◌then◌else◌, Option, Some, None, option_map}
-use Rattle.fts_log.specs.Quoting.{is_control, hex_digit, escaped_byte, escaped, quoted, Reading, Plain, Escape, High, Low, digit_value, with_byte, unquoted_in, unquoted}
+use Rattle.std.proofs.Common.{◌≡◌, ℕ, ◌+◌, ◌*◌, ◌/◌, ◌%◌, Bool, true, false, List, [], ◌∷◌, ◌++◌, refl, ap, sym, ◌∙◌, append_assoc, eqb-true, arith, tests, codes}
+use Rattle.std.specs.Prelude.{◌==◌, if◌then◌else◌, Some}
+use Rattle.fts_log.specs.Quoting.{is_control, hex_digit, escaped_byte, escaped, quoted, Plain, digit_value, with_byte, unquoted_in, unquoted}
 
 -- a digit stands for its value
 value-hex_digit : (digit : ℕ) → digit_value (hex_digit digit) ≡ digit

@@ -1,5 +1,5 @@
 -- The lines of the log, in the form of logfmt: the moment, what happened, and then a field each for what belongs to it.
-use Rattle.std.specs.Prelude.{ℕ, List, [], ◌++◌, codes, decimal}
+use Rattle.std.specs.Prelude.{ℕ, List, ◌++◌, codes, decimal}
 use Rattle.std.specs.Int.{to_be_bytes, w128}
 use Rattle.uuid.specs.Text.{hyphenated_text, lower}
 use Rattle.hex.specs.Hex.{encode_lower}

@@ -59,7 +59,9 @@ pub struct EndedCopy<'a> {
 #[derive(Clone, Copy)]
 pub enum Event<'a> {
     /// The service listens at an address with its port, or at a socket's path.
-    Listens { at: &'a str },
+    Listens {
+        at: &'a str,
+    },
     /// An attempt to copy a file has ended.
     CopyEnded(EndedCopy<'a>),
     /// A call of the system was refused, with the system's own number; 0 where it gave none.
@@ -69,9 +71,14 @@ pub enum Event<'a> {
         errno: u32,
     },
     /// A connection was ended for its fault.
-    LineEnded { cause: LineFault },
+    LineEnded {
+        cause: LineFault,
+    },
     /// The run ends with this status. So many lines of its log could not be written.
-    Ends { status: u8, lost: u64 },
+    Ends {
+        status: u8,
+        lost: u64,
+    },
 }
 
 /// Who is told, by any thread. It gives no answer: what can't be told is lost, and whoever tells goes on.

@@ -97,7 +97,8 @@ fn copy_that(outcome: Outcome) -> Event<'static> {
 
 /// Whether the line of such a copy has these bytes, and this outcome.
 fn is_copy_line(alloc: Global, outcome: Outcome, want: &str) -> bool {
-    let front = "time=5 event=copy job=\"8b35c5cc-0011-2233-4455-66778899aabb\" file=12 attempt=1 source=\"https://a.example/data/f1\" dest=\"https://b.example/data/\\\"f1\\\"\" ";
+    let front =
+        "time=5 event=copy job=\"8b35c5cc-0011-2233-4455-66778899aabb\" file=12 attempt=1 source=\"https://a.example/data/f1\" dest=\"https://b.example/data/\\\"f1\\\"\" ";
     match line_of(alloc, 5, &copy_that(outcome)) {
         Ok(line) => {
             line.len() == front.len() + want.len()
@@ -220,13 +221,31 @@ fn is_named(alloc: Global, errno: u32, want: &str) -> bool {
 fn numbers_have_the_names_of_linux(rt: HostRuntime) {
     for (errno, want) in [
         (0, "event=call call=open path=\"f\" error=\"E?\" errno=0\n"),
-        (1, "event=call call=open path=\"f\" error=\"EPERM\" errno=1\n"),
+        (
+            1,
+            "event=call call=open path=\"f\" error=\"EPERM\" errno=1\n",
+        ),
         (5, "event=call call=open path=\"f\" error=\"EIO\" errno=5\n"),
-        (28, "event=call call=open path=\"f\" error=\"ENOSPC\" errno=28\n"),
-        (30, "event=call call=open path=\"f\" error=\"EROFS\" errno=30\n"),
-        (40, "event=call call=open path=\"f\" error=\"ELOOP\" errno=40\n"),
-        (122, "event=call call=open path=\"f\" error=\"EDQUOT\" errno=122\n"),
-        (123, "event=call call=open path=\"f\" error=\"E?\" errno=123\n"),
+        (
+            28,
+            "event=call call=open path=\"f\" error=\"ENOSPC\" errno=28\n",
+        ),
+        (
+            30,
+            "event=call call=open path=\"f\" error=\"EROFS\" errno=30\n",
+        ),
+        (
+            40,
+            "event=call call=open path=\"f\" error=\"ELOOP\" errno=40\n",
+        ),
+        (
+            122,
+            "event=call call=open path=\"f\" error=\"EDQUOT\" errno=122\n",
+        ),
+        (
+            123,
+            "event=call call=open path=\"f\" error=\"E?\" errno=123\n",
+        ),
     ] {
         assert!(rt; is_named(rt.alloc(), errno, want), "{errno}");
     }
