@@ -12,10 +12,11 @@ opening_call ToRead = Open
 opening_call ToWrite = Open
 opening_call New = Make
 
--- whether a refusal with this number answers the call: nothing has the name that was asked for, or something has one that was to be free
+-- whether a refusal with this number answers the call: nothing has the name that was asked for,
+-- something has one that was to be free, or the folders above one that is to be made have to be made first
 abbrev pub is_answer : FileCall → ℕ → Bool
 is_answer Open errno = is_missing errno
-is_answer Make errno = is_missing errno || is_taken errno
+is_answer Make errno = is_taken errno
 is_answer Look errno = is_missing errno
 is_answer LookAtName errno = is_missing errno
 is_answer LookAtOpen errno = false
@@ -28,6 +29,6 @@ is_answer Forget errno = false
 is_answer Link errno = is_taken errno
 is_answer Rename errno = false
 is_answer Unlink errno = is_missing errno
-is_answer MakeFolder errno = is_taken errno
+is_answer MakeFolder errno = is_taken errno || is_missing errno
 is_answer SetMode errno = false
 is_answer Names errno = is_missing errno

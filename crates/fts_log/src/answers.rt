@@ -17,7 +17,8 @@ impl FileCall {
         }
     }
 
-    /// Whether a refusal answers this call: nothing has the name that was asked for, or something has one that was to be free.
+    /// Whether a refusal answers this call: nothing has the name that was asked for, something has one that was to be free, or the folders above one
+    /// that is to be made have to be made first.
     pub fn is_answer(self, refused: Refused) -> bool
         ensures { result ≡ is_answer self refused.errno }
     {
@@ -27,8 +28,8 @@ impl FileCall {
             | FileCall::LookAtName
             | FileCall::Unlink
             | FileCall::Names => refused.is_missing(),
-            FileCall::Make => refused.is_missing() || refused.is_taken(),
-            FileCall::Link | FileCall::MakeFolder => refused.is_taken(),
+            FileCall::Make | FileCall::Link => refused.is_taken(),
+            FileCall::MakeFolder => refused.is_taken() || refused.is_missing(),
             FileCall::LookAtOpen
             | FileCall::Read
             | FileCall::Write

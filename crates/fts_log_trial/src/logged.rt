@@ -124,8 +124,8 @@ const BY_NAME: [Row; 9] = [
     ),
     (
         FileCall::Make,
-        28,
-        "time=5 event=call call=creat path=\"/stand/grid/a\" error=\"ENOSPC\" errno=28\n",
+        2,
+        "time=5 event=call call=creat path=\"/stand/grid/a\" error=\"ENOENT\" errno=2\n",
     ),
     (
         FileCall::Look,
@@ -154,8 +154,8 @@ const BY_NAME: [Row; 9] = [
     ),
     (
         FileCall::MakeFolder,
-        2,
-        "time=5 event=call call=mkdir path=\"/stand/grid/a\" error=\"ENOENT\" errno=2\n",
+        13,
+        "time=5 event=call call=mkdir path=\"/stand/grid/a\" error=\"EACCES\" errno=13\n",
     ),
     (
         FileCall::Names,
@@ -225,10 +225,10 @@ fn an_answer_is_not_told(rt: HostRuntime) {
         ("a look at a name", FileCall::LookAtName, 2),
         ("an opening", FileCall::Open, 2),
         ("a making where there is something", FileCall::Make, 17),
-        ("or no folder", FileCall::Make, 2),
         ("a name that is gone", FileCall::Unlink, 2),
         ("a name that is taken", FileCall::Link, 17),
         ("a folder that is there", FileCall::MakeFolder, 17),
+        ("folders are missing above it", FileCall::MakeFolder, 2),
         ("a folder that isn't", FileCall::Names, 2),
     ] {
         assert!(rt; is_told(rt.alloc(), call, errno, ""), "{case}");
