@@ -17,14 +17,10 @@ fn refusing(refuses_at: usize, errno: u32) -> RefusingFiles {
     }
 }
 
-/// What is told where a store looks for the size of a file and its call of this number is refused.
-fn told_of_store(
-    alloc: Global,
-    refuses_at: usize,
-    errno: u32,
-) -> Result<(bool, Vec<u8>), AllocError> {
+/// What is told where a store looks for the size of a file and its first call is refused, and whether that fails.
+fn told_of_store(alloc: Global, errno: u32) -> Result<(bool, Vec<u8>), AllocError> {
     let log = KeptLog::new(alloc);
-    let files = LoggedFiles::over(refusing(refuses_at, errno), &log, alloc);
+    let files = LoggedFiles::over(refusing(1, errno), &log, alloc);
     let mut store = FolderStore::over(files, alloc, String::from_str(alloc, "/stand/grid")?);
     let at = PlaceRef {
         endpoint: "https://a.example",
@@ -39,23 +35,21 @@ fn a_store_over_it_tells_what_failed(rt: HostRuntime) {
     for (case, errno, fails, want) in [
         ("nothing is there", 2, false, ""),
         (
-            "a device fails",
+            "a look at the endpoint's folder fails",
             5,
             true,
-            "time=5 event=call call=stat path=\"/stand/grid/https:,,a.example/data/f1\" error=\"EIO\" errno=5\n",
+            "time=5 event=call call=stat path=\"/stand/grid/https:,,a.example\" error=\"EIO\" errno=5\n",
         ),
     ] {
-        let is_so = match told_of_store(rt.alloc(), 1, errno) {
-            Ok((is_failed, told)) => {
-                is_failed == fails && told.as_slice() == want.as_bytes()
-            }
+        let is_so = match told_of_store(rt.alloc(), errno) {
+            Ok((is_failed, told)) => is_failed == fails && told.as_slice() == want.as_bytes(),
             Err(_) => false,
         };
         assert!(rt; is_so, "{case}");
     }
 }
 
-/// What is told where a disk for a service is opened and its call of this number is refused.
+/// What is told where a disk for a service is opened and its call of this number is refused, and whether that fails.
 fn told_of_disk(alloc: Global, refuses_at: usize, errno: u32) -> (bool, Vec<u8>) {
     let log = KeptLog::new(alloc);
     let files = LoggedFiles::over(refusing(refuses_at, errno), &log, alloc);
@@ -95,9 +89,5 @@ fn sends<T: Send>(_: &T) {}
 #[test]
 fn it_goes_to_another_thread(rt: HostRuntime) {
     let log = NoLog;
-    sends(&LoggedFiles::over(
-        SystemFiles::new(&rt),
-        &log,
-        rt.alloc(),
-    ));
+    sends(&LoggedFiles::over(SystemFiles::new(&rt), &log, rt.alloc()));
 }
