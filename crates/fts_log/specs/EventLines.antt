@@ -15,6 +15,7 @@ use Rattle.fts_log.specs.declared.events.LineFault.{LineFault}
 use Rattle.fts_log.specs.declared.events.LineFault.TheVariants.{SlowToSend, SlowToTake, StreamFailed}
 use Rattle.fts_log.specs.Quoting.{quoted}
 use Rattle.fts_log.specs.Errnos.{errno_name}
+use Rattle.fts_log.specs.Moments.{moment_text}
 
 -- the system's own name of a call
 abbrev pub call_word : FileCall → List ℕ
@@ -115,4 +116,4 @@ event_fields (Ends status lost) =
 
 -- the line of an event at a moment in seconds since 1970
 abbrev pub event_line : ℕ → Event → List ℕ
-event_line moment event = codes "time=" ++ decimal moment ++ event_fields event ++ codes "\n"
+event_line moment event = codes "time=" ++ moment_text moment ++ event_fields event ++ codes "\n"

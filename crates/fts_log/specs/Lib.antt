@@ -4,3 +4,4 @@ pub mod Answers
 pub mod EventLines
 pub mod Fields
 pub mod Logged
+pub mod Moments

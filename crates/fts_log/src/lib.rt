@@ -11,6 +11,7 @@ mod fields;
 pub mod laws;
 mod lines;
 mod logged;
+mod moments;
 mod outcomes;
 
 pub use events::{EndedCopy, Event, FileCall, LineFault, Log, NoLog};
