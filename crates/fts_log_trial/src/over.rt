@@ -38,7 +38,7 @@ fn a_store_over_it_tells_what_failed(rt: HostRuntime) {
             "a look at the endpoint's folder fails",
             5,
             true,
-            "time=5 event=call call=stat path=\"/stand/grid/https:,,a.example\" error=\"EIO\" errno=5\n",
+            "time=1970-01-01T00:00:05Z event=call call=stat path=\"/stand/grid/https:,,a.example\" error=\"EIO\" errno=5\n",
         ),
     ] {
         let is_so = match told_of_store(rt.alloc(), errno) {
@@ -67,14 +67,14 @@ fn a_disk_over_it_tells_what_failed(rt: HostRuntime) {
             1,
             13,
             true,
-            "time=5 event=call call=open path=\"/stand/fts.journal\" error=\"EACCES\" errno=13\n",
+            "time=1970-01-01T00:00:05Z event=call call=open path=\"/stand/fts.journal\" error=\"EACCES\" errno=13\n",
         ),
         (
             "another service holds it",
             3,
             11,
             true,
-            "time=5 event=call call=flock path=\"/stand/fts.journal\" error=\"EAGAIN\" errno=11\n",
+            "time=1970-01-01T00:00:05Z event=call call=flock path=\"/stand/fts.journal\" error=\"EAGAIN\" errno=11\n",
         ),
     ] {
         let (is_failed, told) = told_of_disk(rt.alloc(), refuses_at, errno);
