@@ -1,5 +1,5 @@
 -- A moment as a date and a time of day in UTC, by the Gregorian calendar (RFC 3339).
-use Rattle.std.specs.Prelude.{ℕ, zero, suc, ◌+◌, ◌-◌, ◌*◌, ◌/◌, ◌%◌, min, nat_lt, if◌then◌else◌, List, [], ◌∷◌, ◌++◌, slice_index, codes}
+use Rattle.std.specs.Prelude.{◌<◌, ◌≤◌, ℕ, zero, suc, ◌+◌, ◌-◌, ◌*◌, ◌/◌, ◌%◌, min, nat_lt, if◌then◌else◌, List, [], ◌∷◌, ◌++◌, slice_index, codes}
 
 -- the leap days from year 1 to the one before this: each fourth year has one, of the hundredth years only each fourth
 abbrev pub leap_days_before : ℕ → ℕ
@@ -14,14 +14,18 @@ unfoldable pub first_from : (ℕ → ℕ) → ℕ → ℕ → ℕ → ℕ
 first_from begins zero this day = this
 first_from begins (suc more) this day = if nat_lt day (begins (this + 1)) then this else first_from begins more (this + 1) day
 
+-- a day lies in a year or month: this one has begun by then, and the next one hasn't
+abbrev pub LiesIn : (ℕ → ℕ) → ℕ → ℕ → Type 0
+LiesIn begins this day = (begins this ≤ day) × (day < begins (this + 1))
+
 -- the year of a day since 1970, and 9999 of one behind it
 unfoldable pub year_of : ℕ → ℕ
 year_of day = first_from days_before 8029 1970 day
 
--- the days of a year before a month, where it has so many leap days
+-- the days of a year before a month, where it has so many leap days; month 13 is the end
 unfoldable pub days_before_month : ℕ → ℕ → ℕ
 days_before_month leap month =
-    slice_index (0 ∷ 0 ∷ 31 ∷ 59 ∷ 90 ∷ 120 ∷ 151 ∷ 181 ∷ 212 ∷ 243 ∷ 273 ∷ 304 ∷ 334 ∷ []) month
+    slice_index (0 ∷ 0 ∷ 31 ∷ 59 ∷ 90 ∷ 120 ∷ 151 ∷ 181 ∷ 212 ∷ 243 ∷ 273 ∷ 304 ∷ 334 ∷ 365 ∷ []) month
     + (if nat_lt 2 month then leap else 0)
 
 -- the month of a day of the year, counted from 0

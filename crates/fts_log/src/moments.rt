@@ -9,8 +9,8 @@ use fts_tables::Memory;
 /// The last second of the year 9999.
 const LAST_SECOND: u64 = 253_402_300_799;
 
-/// The days of a year without a leap day before each month, from 1.
-const BEFORE_MONTH: [u64; 13] = [0, 0, 31, 59, 90, 120, 151, 181, 212, 243, 273, 304, 334];
+/// The days of a year without a leap day before each month, from 1, and before the end.
+const BEFORE_MONTH: [u64; 14] = [0, 0, 31, 59, 90, 120, 151, 181, 212, 243, 273, 304, 334, 365];
 
 /// The leap days of the years before one, from year 1 on.
 fn leap_days_before(year: u64) -> u64
