@@ -10,7 +10,9 @@ use fts_tables::Memory;
 const LAST_SECOND: u64 = 253_402_300_799;
 
 /// The days of a year without a leap day before each month, from 1, and before the end.
-const BEFORE_MONTH: [u64; 14] = [0, 0, 31, 59, 90, 120, 151, 181, 212, 243, 273, 304, 334, 365];
+const BEFORE_MONTH: [u64; 14] = [
+    0, 0, 31, 59, 90, 120, 151, 181, 212, 243, 273, 304, 334, 365,
+];
 
 /// The leap days of the years before one, from year 1 on.
 fn leap_days_before(year: u64) -> u64
@@ -75,10 +77,7 @@ fn month_of(leap: u64, day: u64) -> u64
 fn two_digits(number: u64) -> [u8; 2]
     ensures { result ≡ two_digits number }
 {
-    [
-        b'0' + (number / 10 % 10) as u8,
-        b'0' + (number % 10) as u8,
-    ]
+    [b'0' + (number / 10 % 10) as u8, b'0' + (number % 10) as u8]
 }
 
 /// A date.
@@ -124,7 +123,9 @@ fn put_since_1970(line: &mut Vec<u8>, day: u64) -> Result<(), Memory>
 {
     let year = year_of(day);
     let first = days_before(year);
-    let leap = days_before(year + 1).saturating_sub(first).saturating_sub(365);
+    let leap = days_before(year + 1)
+        .saturating_sub(first)
+        .saturating_sub(365);
     put_day(line, year, leap, day.saturating_sub(first))
 }
 

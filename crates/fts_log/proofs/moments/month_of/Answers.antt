@@ -1,5 +1,5 @@
 -- The month is the first that ends behind the day.
-use Rattle.std.proofs.Common.{◌≡◌, ℕ, ◌+◌, ◌<◌, ◌≤◌, sym, subst, ◌∙◌, arith}
+use Rattle.std.proofs.Common.{ℕ, ◌+◌, ◌<◌, ◌≤◌, sym, subst, ◌∙◌, arith}
 use Rattle.fts_log.specs.Moments.{days_before_month, month_of}
 use Rattle.fts_log.proofs.Calendars.{goes_on, ends_here, ends_last}
 use Rattle.fts_log.proofs.moments.month_of.Goals as goal
