@@ -45,7 +45,9 @@ digits_shown zero number rest shown = shown
 digits_shown (suc most) number rest shown =
     let first : is_shown (digit_glyph false (number % 10)) ≡ true = hex_shown (number % 10) in
     let more : AreShown (digit_glyph false (number % 10) ∷ rest) = rw first shown in
-    elim (number / 10 == 0) as (λ (last : Bool). AreShown (if last then digit_glyph false (number % 10) ∷ rest else digits_onto most 10 false (number / 10) (digit_glyph false (number % 10) ∷ rest))) [
+    elim (number / 10 == 0) as (λ (last : Bool). AreShown (
+    if last then digit_glyph false (number % 10) ∷ rest
+    else digits_onto most 10 false (number / 10) (digit_glyph false (number % 10) ∷ rest))) [
       | true ↦ more
       | false ↦ digits_shown most (number / 10) (digit_glyph false (number % 10) ∷ rest) more
     ]
@@ -162,8 +164,10 @@ unfolding event_fields
 fields_shown (Listens at) = both (word_field (codes "event") (codes "listens") refl refl) (text_field (codes "at") at.now refl)
 fields_shown (CopyEnded copy) = copy_shown copy
 fields_shown (CallFailed call path errno) = failure_shown call path.now errno
-fields_shown (LineEnded cause) = both (word_field (codes "event") (codes "line") refl refl) (word_field (codes "cause") (fault_word cause) refl (fault_shown cause))
-fields_shown (Ends status lost) = both (both (word_field (codes "event") (codes "ends") refl refl) (number_field (codes "status") status refl)) (number_field (codes "lost") lost refl)
+fields_shown (LineEnded cause) =
+    both (word_field (codes "event") (codes "line") refl refl) (word_field (codes "cause") (fault_word cause) refl (fault_shown cause))
+fields_shown (Ends status lost) =
+    both (both (word_field (codes "event") (codes "ends") refl refl) (number_field (codes "status") status refl)) (number_field (codes "lost") lost refl)
 
 -- the last two digits of a number
 two_shown : (number : ℕ) → AreOfLine (two_digits number)

@@ -29,7 +29,8 @@ other_back byte rest false no_quote no_slash = plain_back byte rest no_quote no_
 
 -- a backslash, or a byte that is none and no quote
 slash_back : (byte : ℕ) (rest : List ℕ) (slash : Bool) → (byte == 34) ≡ false → (byte == 92) ≡ slash
-    → unquoted_in Plain ((if slash then 92 ∷ 92 ∷ [] else (if is_control byte then 92 ∷ 120 ∷ hex_digit (byte / 16) ∷ hex_digit (byte % 16) ∷ [] else byte ∷ [])) ++ rest)
+    → unquoted_in Plain ((if slash then 92 ∷ 92 ∷ []
+    else (if is_control byte then 92 ∷ 120 ∷ hex_digit (byte / 16) ∷ hex_digit (byte % 16) ∷ [] else byte ∷ [])) ++ rest)
     ≡ with_byte byte (unquoted_in Plain rest)
 slash_back byte rest true no_quote is =
     let same : 92 ≡ byte = sym (eqb-true byte 92 is) in
@@ -39,7 +40,8 @@ slash_back byte rest false no_quote is = other_back byte rest (is_control byte) 
 -- a quote, or a byte that is none
 quote_back : (byte : ℕ) (rest : List ℕ) (quote : Bool) → (byte == 34) ≡ quote
     → unquoted_in Plain ((if quote then 92 ∷ 34 ∷ []
-    else (if byte == 92 then 92 ∷ 92 ∷ [] else (if is_control byte then 92 ∷ 120 ∷ hex_digit (byte / 16) ∷ hex_digit (byte % 16) ∷ [] else byte ∷ []))) ++ rest)
+    else (if byte == 92 then 92 ∷ 92 ∷ []
+    else (if is_control byte then 92 ∷ 120 ∷ hex_digit (byte / 16) ∷ hex_digit (byte % 16) ∷ [] else byte ∷ []))) ++ rest)
     ≡ with_byte byte (unquoted_in Plain rest)
 quote_back byte rest true is =
     let same : 34 ≡ byte = sym (eqb-true byte 34 is) in
