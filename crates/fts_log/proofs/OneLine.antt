@@ -1,6 +1,6 @@
 -- No event's line has a byte below 32 but the line feed at its end.
-use Rattle.std.proofs.Common.{◌≡◌, ℕ, zero, suc, ◌+◌, ◌/◌, ◌%◌, ◌<◌, Bool, true, false, nat_lt, List, [], ◌∷◌, ◌++◌, refl, ap, sym, ◌∙◌, append_assoc, eqb-true, arith, tests, codes}
-use Rattle.std.specs.Prelude.{decimal, ◌==◌, ◌&&◌, not, if◌then◌else◌}
+use Rattle.std.proofs.Common.{◌≡◌, ℕ, zero, suc, ◌+◌, ◌-◌, ◌/◌, ◌%◌, Bool, true, false, nat_lt, List, [], ◌∷◌, ◌++◌, refl, ◌∙◌, arith, tests, codes}
+use Rattle.std.specs.Prelude.{min, decimal, ◌==◌, if◌then◌else◌}
 use Rattle.std.specs.Fmt.{digits, digits_onto, digit_glyph}
 use Rattle.std.specs.List.{list_all}
 use Rattle.std.proofs.lemmas.List.Folds.{list_all-append}
@@ -13,6 +13,7 @@ use Rattle.fts_log.specs.declared.events.LineFault.{LineFault}
 use Rattle.fts_log.specs.declared.events.LineFault.TheVariants.{SlowToSend, SlowToTake, StreamFailed}
 use Rattle.fts_log.specs.Quoting.{is_control, hex_digit, escaped_byte, escaped, quoted, is_shown, IsLine}
 use Rattle.fts_log.specs.Errnos.{errno_name}
+use Rattle.fts_log.specs.Moments.{days_before, year_of, days_before_month, month_of, two_digits, date_text, time_text, day_text, since_1970, moment_text}
 use Rattle.fts_log.specs.EventLines.{call_word, fault_word, kind_text, id_text, place_text, bytes_of, outcome_text, field, copy_fields, copy_fields_with, call_fields, event_fields, event_line}
 
 -- none of these bytes is below 32
@@ -44,7 +45,9 @@ digits_shown zero number rest shown = shown
 digits_shown (suc most) number rest shown =
     let first : is_shown (digit_glyph false (number % 10)) ≡ true = hex_shown (number % 10) in
     let more : AreShown (digit_glyph false (number % 10) ∷ rest) = rw first shown in
-    elim (number / 10 == 0) as (λ (last : Bool). AreShown (if last then digit_glyph false (number % 10) ∷ rest else digits_onto most 10 false (number / 10) (digit_glyph false (number % 10) ∷ rest))) [
+    elim (number / 10 == 0) as (λ (last : Bool). AreShown (
+    if last then digit_glyph false (number % 10) ∷ rest
+    else digits_onto most 10 false (number / 10) (digit_glyph false (number % 10) ∷ rest))) [
       | true ↦ more
       | false ↦ digits_shown most (number / 10) (digit_glyph false (number % 10) ∷ rest) more
     ]
@@ -163,18 +166,50 @@ fields_shown (CopyEnded copy) = copy_shown copy
 fields_shown (CallFailed call path errno) = failure_shown call path.now errno
 fields_shown (FoundOther path kind) =
     both (both (word_field (codes "event") (codes "found") refl refl) (text_field (codes "path") path.now refl)) (text_field (codes "error") (kind_text kind) refl)
-fields_shown (LineEnded cause) = both (word_field (codes "event") (codes "line") refl refl) (word_field (codes "cause") (fault_word cause) refl (fault_shown cause))
-fields_shown (Ends status lost) = both (both (word_field (codes "event") (codes "ends") refl refl) (number_field (codes "status") status refl)) (number_field (codes "lost") lost refl)
+fields_shown (LineEnded cause) =
+    both (word_field (codes "event") (codes "line") refl refl) (word_field (codes "cause") (fault_word cause) refl (fault_shown cause))
+fields_shown (Ends status lost) =
+    both (both (word_field (codes "event") (codes "ends") refl refl) (number_field (codes "status") status refl)) (number_field (codes "lost") lost refl)
+
+-- the last two digits of a number
+two_shown : (number : ℕ) → AreOfLine (two_digits number)
+two_shown number = record { shown = rw (digit_shown (number / 10 % 10)) (rw (digit_shown (number % 10)) refl) }
+
+-- a letter between digits
+letter : (byte : ℕ) → is_shown byte ≡ true → AreOfLine (byte ∷ [])
+letter byte shown = record { shown = rw shown refl }
+
+-- a date
+date_shown : (year month day : ℕ) → AreOfLine (date_text year month day)
+date_shown year month day =
+    both (both (both (both (both (two_shown (year / 100)) (two_shown year)) (letter 45 refl)) (two_shown month)) (letter 45 refl)) (two_shown day)
+
+-- a time of day
+time_shown : (second : ℕ) → AreOfLine (time_text second)
+time_shown second =
+    both (both (both (both (two_shown (second / 3600)) (letter 58 refl)) (two_shown (second / 60 % 60))) (letter 58 refl)) (two_shown (second % 60))
+
+-- a moment
+moment_shown : (moment : ℕ) → AreShown (moment_text moment)
+unfolding moment_text since_1970 day_text
+moment_shown moment =
+    let day = min moment 253402300799 / 86400 in
+    let second = min moment 253402300799 % 86400 in
+    let year = year_of day in
+    let leap = days_before (year + 1) - days_before year - 365 in
+    let month = month_of leap (day - days_before year) in
+    let date = date_shown year month (day - days_before year - days_before_month leap month + 1) in
+    (both (both (both date (letter 84 refl)) (time_shown second)) (letter 90 refl)).shown
 
 -- a line up to its line feed
 abbrev front : ℕ → Event → List ℕ
-front moment event = codes "time=" ++ decimal moment ++ event_fields event
+front moment event = codes "time=" ++ moment_text moment ++ event_fields event
 
 -- each event's line is one line
 pub event_line_IsLine : (moment : ℕ) (event : Event) → IsLine (event_line moment event)
 event_line_IsLine moment event =
-    let time : AreShown (codes "time=" ++ decimal moment) = both_shown (codes "time=") (decimal moment) refl (decimal_shown moment) in (
+    let time : AreShown (codes "time=" ++ moment_text moment) = both_shown (codes "time=") (moment_text moment) refl (moment_shown moment) in (
       front moment event,
       refl,
-      both_shown (codes "time=" ++ decimal moment) (event_fields event) time (fields_shown event).shown,
+      both_shown (codes "time=" ++ moment_text moment) (event_fields event) time (fields_shown event).shown,
     )

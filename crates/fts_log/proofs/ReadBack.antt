@@ -1,7 +1,7 @@
 -- A quoted text is read back as it was.
-use Rattle.std.proofs.Common.{◌≡◌, ℕ, ◌+◌, ◌-◌, ◌*◌, ◌/◌, ◌%◌, ◌<◌, Bool, true, false, nat_lt, List, [], ◌∷◌, ◌++◌, refl, ap, sym, ◌∙◌, append_assoc, eqb-true, arith, tests, codes}
-use Rattle.std.specs.Prelude.{◌==◌, if◌then◌else◌, Option, Some, None, option_map}
-use Rattle.fts_log.specs.Quoting.{is_control, hex_digit, escaped_byte, escaped, quoted, Reading, Plain, Escape, High, Low, digit_value, with_byte, unquoted_in, unquoted}
+use Rattle.std.proofs.Common.{◌≡◌, ℕ, ◌+◌, ◌*◌, ◌/◌, ◌%◌, Bool, true, false, List, [], ◌∷◌, ◌++◌, refl, ap, sym, ◌∙◌, append_assoc, eqb-true, arith, tests, codes}
+use Rattle.std.specs.Prelude.{◌==◌, if◌then◌else◌, Some}
+use Rattle.fts_log.specs.Quoting.{is_control, hex_digit, escaped_byte, escaped, quoted, Plain, digit_value, with_byte, unquoted_in, unquoted}
 
 -- a digit stands for its value
 value-hex_digit : (digit : ℕ) → digit_value (hex_digit digit) ≡ digit
@@ -29,7 +29,8 @@ other_back byte rest false no_quote no_slash = plain_back byte rest no_quote no_
 
 -- a backslash, or a byte that is none and no quote
 slash_back : (byte : ℕ) (rest : List ℕ) (slash : Bool) → (byte == 34) ≡ false → (byte == 92) ≡ slash
-    → unquoted_in Plain ((if slash then 92 ∷ 92 ∷ [] else (if is_control byte then 92 ∷ 120 ∷ hex_digit (byte / 16) ∷ hex_digit (byte % 16) ∷ [] else byte ∷ [])) ++ rest)
+    → unquoted_in Plain ((if slash then 92 ∷ 92 ∷ []
+    else (if is_control byte then 92 ∷ 120 ∷ hex_digit (byte / 16) ∷ hex_digit (byte % 16) ∷ [] else byte ∷ [])) ++ rest)
     ≡ with_byte byte (unquoted_in Plain rest)
 slash_back byte rest true no_quote is =
     let same : 92 ≡ byte = sym (eqb-true byte 92 is) in
@@ -39,7 +40,8 @@ slash_back byte rest false no_quote is = other_back byte rest (is_control byte) 
 -- a quote, or a byte that is none
 quote_back : (byte : ℕ) (rest : List ℕ) (quote : Bool) → (byte == 34) ≡ quote
     → unquoted_in Plain ((if quote then 92 ∷ 34 ∷ []
-    else (if byte == 92 then 92 ∷ 92 ∷ [] else (if is_control byte then 92 ∷ 120 ∷ hex_digit (byte / 16) ∷ hex_digit (byte % 16) ∷ [] else byte ∷ []))) ++ rest)
+    else (if byte == 92 then 92 ∷ 92 ∷ []
+    else (if is_control byte then 92 ∷ 120 ∷ hex_digit (byte / 16) ∷ hex_digit (byte % 16) ∷ [] else byte ∷ []))) ++ rest)
     ≡ with_byte byte (unquoted_in Plain rest)
 quote_back byte rest true is =
     let same : 34 ≡ byte = sym (eqb-true byte 34 is) in

@@ -1,5 +1,5 @@
 -- The lines of the log, in the form of logfmt: the moment, what happened, and then a field each for what belongs to it.
-use Rattle.std.specs.Prelude.{ℕ, List, [], ◌++◌, codes, decimal}
+use Rattle.std.specs.Prelude.{ℕ, List, ◌++◌, codes, decimal}
 use Rattle.std.specs.Int.{to_be_bytes, w128}
 use Rattle.uuid.specs.Text.{hyphenated_text, lower}
 use Rattle.hex.specs.Hex.{encode_lower}
@@ -17,6 +17,7 @@ use Rattle.fts_files.specs.declared.files.Kind.{Kind}
 use Rattle.fts_files.specs.declared.files.Kind.TheVariants.{File, Folder, Other}
 use Rattle.fts_log.specs.Quoting.{quoted}
 use Rattle.fts_log.specs.Errnos.{errno_name}
+use Rattle.fts_log.specs.Moments.{moment_text}
 
 -- the system's own name of a call
 abbrev pub call_word : FileCall → List ℕ
@@ -125,4 +126,4 @@ event_fields (Ends status lost) =
 
 -- the line of an event at a moment in seconds since 1970
 abbrev pub event_line : ℕ → Event → List ℕ
-event_line moment event = codes "time=" ++ decimal moment ++ event_fields event ++ codes "\n"
+event_line moment event = codes "time=" ++ moment_text moment ++ event_fields event ++ codes "\n"

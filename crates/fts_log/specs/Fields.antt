@@ -1,5 +1,5 @@
 -- The fields that code writes, as a list.
-use Rattle.std.specs.Prelude.{ℕ, List, [], decimal}
+use Rattle.std.specs.Prelude.{ℕ, List, decimal}
 use Rattle.fts_log.specs.declared.fields.Field.{Field}
 use Rattle.fts_log.specs.declared.fields.Field.TheVariants.{Word, Number, Text}
 use Rattle.fts_log.specs.Quoting.{quoted}

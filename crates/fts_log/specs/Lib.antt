@@ -3,3 +3,5 @@ pub mod Errnos
 pub mod Answers
 pub mod EventLines
 pub mod Fields
+pub mod Logged
+pub mod Moments

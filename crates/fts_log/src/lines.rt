@@ -5,7 +5,8 @@ ghost use Rattle.fts_log.specs.EventLines.{id_text, place_text, copy_fields, cop
 
 use crate::errnos::errno_name;
 use crate::events::{EndedCopy, Event, FileCall, kind_text};
-use crate::fields::{Field, put_fields, put_number};
+use crate::fields::{Field, put_fields};
+use crate::moments::put_moment;
 use crate::outcomes::{bytes_of, outcome_text};
 use fts_tables::{Memory, PlaceRef};
 use std::alloc::Global;
@@ -16,7 +17,7 @@ pub fn line_of(alloc: Global, moment: u64, event: &Event<'_>) -> Result<Vec<u8>,
     ensures { IfOk result (λ line. line.items ≡ event_line moment event.now) }
 {
     let mut line = Vec::from_slice(alloc, b"time=")?;
-    put_number(&mut line, moment)?;
+    put_moment(&mut line, moment)?;
     put_event(alloc, &mut line, event)?;
     line.extend_from_slice(b"\n")?;
     Ok(line)

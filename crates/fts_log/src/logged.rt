@@ -5,7 +5,9 @@
 //! A refusal that is an answer isn't told (`FileCall::is_answer`); what a look finds that is no plain file is (`tell_other`). Of two paths the new one is
 //! told. Made by the program, for stores and disks.
 ghost use Rattle.std.specs.Prelude.{◌≡◌};
+ghost use Rattle.fts_log.specs.Logged.{files_below};
 
+use crate::answers::failure;
 use crate::events::{Event, FileCall, Log};
 use fts_files::{FileSystem, Kind, Refused, Seen, Way};
 use std::alloc::Global;
@@ -39,19 +41,15 @@ fn is_endpoints(path: &str) -> bool {
 impl<F: FileSystem + Drop, L: Log + Drop> LoggedFiles<F, L> {
     /// These files, whose failed calls this log is told. The paths of open files take their memory from `alloc`.
     pub fn over(files: F, log: L, alloc: Global) -> LoggedFiles<F, L>
-        ensures { result ≡ record { files = files; log = log; alloc = alloc } }
+        ensures { files_below result ≡ files }
     {
         LoggedFiles { files, log, alloc }
     }
 
     /// Tells a refusal that is no answer.
     fn tell(&self, call: FileCall, path: &str, refused: Refused) {
-        if !call.is_answer(refused) {
-            self.log.tell(&Event::CallFailed {
-                call,
-                path,
-                errno: refused.errno,
-            });
+        if let Some(event) = failure(call, path, refused) {
+            self.log.tell(&event);
         }
     }
 
@@ -95,11 +93,13 @@ impl<F: FileSystem + Drop, L: Log + Drop> LoggedFiles<F, L> {
 }
 
 impl<F: FileSystem + Drop, L: Log + Drop> FileSystem for LoggedFiles<F, L> {
+    ghost use Rattle.fts_log.specs.Logged.{files_below, file_below};
+
     type Handle = LoggedHandle<F::Handle>;
 
-    ghost calls = { λ logged. F.calls logged.files };
+    ghost calls = { λ logged. F.calls (files_below logged) };
 
-    ghost number = { λ file. F.number file.handle };
+    ghost number = { λ file. F.number (file_below file) };
 
     fn open(&mut self, path: &str, way: Way) -> Result<LoggedHandle<F::Handle>, Refused> {
         match self.files.open(path, way) {

@@ -8,8 +8,8 @@ use std::alloc::Global;
 fn is_line(alloc: Global, event: &Event<'_>, want: &str) -> bool {
     match line_of(alloc, 5, event) {
         Ok(line) => {
-            line.len() == want.len() + 7
-                && line.starts_with(b"time=5 ")
+            line.len() == want.len() + 26
+                && line.starts_with(b"time=1970-01-01T00:00:05Z ")
                 && line.ends_with(want.as_bytes())
         }
         Err(_) => false,
@@ -65,15 +65,44 @@ fn each_event_has_its_line(rt: HostRuntime) {
     }
 }
 
-#[test]
-fn the_moment_is_in_seconds_since_1970(rt: HostRuntime) {
+/// Whether a line of a moment begins with this text of it.
+fn is_at(alloc: Global, moment: u64, want: &str) -> bool {
     let event = Event::Ends { status: 0, lost: 0 };
-    let want = "time=1796047360 event=ends status=0 lost=0\n";
-    let is_so = match line_of(rt.alloc(), 1796047360, &event) {
-        Ok(line) => line.as_slice() == want.as_bytes(),
+    match line_of(alloc, moment, &event) {
+        Ok(line) => line.starts_with(b"time=") && line[5..].starts_with(want.as_bytes()),
         Err(_) => false,
-    };
-    assert!(rt; is_so, "half past three");
+    }
+}
+
+// What is wanted is what GNU date writes.
+#[test]
+fn a_moment_is_a_date_in_utc(rt: HostRuntime) {
+    for (moment, want) in [
+        (0, "1970-01-01T00:00:00Z event"),
+        (68169599, "1972-02-28T23:59:59Z event"),
+        (68169600, "1972-02-29T00:00:00Z event"),
+        (94651200, "1972-12-31T12:00:00Z event"),
+        (946684799, "1999-12-31T23:59:59Z event"),
+        (951804428, "2000-02-29T06:07:08Z event"),
+        (978307199, "2000-12-31T23:59:59Z event"),
+        (1796047360, "2026-11-30T14:02:40Z event"),
+    ] {
+        assert!(rt; is_at(rt.alloc(), moment, want), "{want}");
+    }
+}
+
+#[test]
+fn the_last_second_of_9999_stands_for_later_ones(rt: HostRuntime) {
+    for (case, moment, want) in [
+        ("no leap year", 4107542399, "2100-02-28T23:59:59Z event"),
+        ("its next day", 4107542400, "2100-03-01T00:00:00Z event"),
+        ("a leap year", 13574646000, "2400-02-29T23:00:00Z event"),
+        ("the last", 253402300799, "9999-12-31T23:59:59Z event"),
+        ("a later one", 253402300800, "9999-12-31T23:59:59Z event"),
+        ("the latest", u64::MAX, "9999-12-31T23:59:59Z event"),
+    ] {
+        assert!(rt; is_at(rt.alloc(), moment, want), "{case}");
+    }
 }
 
 /// A copy of file 12 that ended so.
@@ -97,7 +126,8 @@ fn copy_that(outcome: Outcome) -> Event<'static> {
 
 /// Whether the line of such a copy has these bytes, and this outcome.
 fn is_copy_line(alloc: Global, outcome: Outcome, want: &str) -> bool {
-    let front = "time=5 event=copy job=\"8b35c5cc-0011-2233-4455-66778899aabb\" file=12 attempt=1 source=\"https://a.example/data/f1\" dest=\"https://b.example/data/\\\"f1\\\"\" ";
+    let front =
+        "time=1970-01-01T00:00:05Z event=copy job=\"8b35c5cc-0011-2233-4455-66778899aabb\" file=12 attempt=1 source=\"https://a.example/data/f1\" dest=\"https://b.example/data/\\\"f1\\\"\" ";
     match line_of(alloc, 5, &copy_that(outcome)) {
         Ok(line) => {
             line.len() == front.len() + want.len()
@@ -220,13 +250,31 @@ fn is_named(alloc: Global, errno: u32, want: &str) -> bool {
 fn numbers_have_the_names_of_linux(rt: HostRuntime) {
     for (errno, want) in [
         (0, "event=call call=open path=\"f\" error=\"E?\" errno=0\n"),
-        (1, "event=call call=open path=\"f\" error=\"EPERM\" errno=1\n"),
+        (
+            1,
+            "event=call call=open path=\"f\" error=\"EPERM\" errno=1\n",
+        ),
         (5, "event=call call=open path=\"f\" error=\"EIO\" errno=5\n"),
-        (28, "event=call call=open path=\"f\" error=\"ENOSPC\" errno=28\n"),
-        (30, "event=call call=open path=\"f\" error=\"EROFS\" errno=30\n"),
-        (40, "event=call call=open path=\"f\" error=\"ELOOP\" errno=40\n"),
-        (122, "event=call call=open path=\"f\" error=\"EDQUOT\" errno=122\n"),
-        (123, "event=call call=open path=\"f\" error=\"E?\" errno=123\n"),
+        (
+            28,
+            "event=call call=open path=\"f\" error=\"ENOSPC\" errno=28\n",
+        ),
+        (
+            30,
+            "event=call call=open path=\"f\" error=\"EROFS\" errno=30\n",
+        ),
+        (
+            40,
+            "event=call call=open path=\"f\" error=\"ELOOP\" errno=40\n",
+        ),
+        (
+            122,
+            "event=call call=open path=\"f\" error=\"EDQUOT\" errno=122\n",
+        ),
+        (
+            123,
+            "event=call call=open path=\"f\" error=\"E?\" errno=123\n",
+        ),
     ] {
         assert!(rt; is_named(rt.alloc(), errno, want), "{errno}");
     }

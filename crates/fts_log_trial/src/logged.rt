@@ -120,47 +120,47 @@ const BY_NAME: [Row; 9] = [
     (
         FileCall::Open,
         13,
-        "time=5 event=call call=open path=\"/stand/grid/a\" error=\"EACCES\" errno=13\n",
+        "time=1970-01-01T00:00:05Z event=call call=open path=\"/stand/grid/a\" error=\"EACCES\" errno=13\n",
     ),
     (
         FileCall::Make,
-        28,
-        "time=5 event=call call=creat path=\"/stand/grid/a\" error=\"ENOSPC\" errno=28\n",
+        2,
+        "time=1970-01-01T00:00:05Z event=call call=creat path=\"/stand/grid/a\" error=\"ENOENT\" errno=2\n",
     ),
     (
         FileCall::Look,
         5,
-        "time=5 event=call call=stat path=\"/stand/grid/a\" error=\"EIO\" errno=5\n",
+        "time=1970-01-01T00:00:05Z event=call call=stat path=\"/stand/grid/a\" error=\"EIO\" errno=5\n",
     ),
     (
         FileCall::LookAtName,
         116,
-        "time=5 event=call call=lstat path=\"/stand/grid/a\" error=\"ESTALE\" errno=116\n",
+        "time=1970-01-01T00:00:05Z event=call call=lstat path=\"/stand/grid/a\" error=\"ESTALE\" errno=116\n",
     ),
     (
         FileCall::Link,
         1,
-        "time=5 event=call call=link path=\"/stand/grid/b\" error=\"EPERM\" errno=1\n",
+        "time=1970-01-01T00:00:05Z event=call call=link path=\"/stand/grid/b\" error=\"EPERM\" errno=1\n",
     ),
     (
         FileCall::Rename,
         2,
-        "time=5 event=call call=rename path=\"/stand/grid/b\" error=\"ENOENT\" errno=2\n",
+        "time=1970-01-01T00:00:05Z event=call call=rename path=\"/stand/grid/b\" error=\"ENOENT\" errno=2\n",
     ),
     (
         FileCall::Unlink,
         21,
-        "time=5 event=call call=unlink path=\"/stand/grid/a\" error=\"EISDIR\" errno=21\n",
+        "time=1970-01-01T00:00:05Z event=call call=unlink path=\"/stand/grid/a\" error=\"EISDIR\" errno=21\n",
     ),
     (
         FileCall::MakeFolder,
-        2,
-        "time=5 event=call call=mkdir path=\"/stand/grid/a\" error=\"ENOENT\" errno=2\n",
+        13,
+        "time=1970-01-01T00:00:05Z event=call call=mkdir path=\"/stand/grid/a\" error=\"EACCES\" errno=13\n",
     ),
     (
         FileCall::Names,
         24,
-        "time=5 event=call call=readdir path=\"/stand/grid/a\" error=\"EMFILE\" errno=24\n",
+        "time=1970-01-01T00:00:05Z event=call call=readdir path=\"/stand/grid/a\" error=\"EMFILE\" errno=24\n",
     ),
 ];
 
@@ -173,42 +173,42 @@ const ON_OPEN: [Row; 8] = [
     (
         FileCall::LookAtOpen,
         9,
-        "time=5 event=call call=fstat path=\"/stand/grid/a\" error=\"EBADF\" errno=9\n",
+        "time=1970-01-01T00:00:05Z event=call call=fstat path=\"/stand/grid/a\" error=\"EBADF\" errno=9\n",
     ),
     (
         FileCall::Read,
         5,
-        "time=5 event=call call=pread path=\"/stand/grid/a\" error=\"EIO\" errno=5\n",
+        "time=1970-01-01T00:00:05Z event=call call=pread path=\"/stand/grid/a\" error=\"EIO\" errno=5\n",
     ),
     (
         FileCall::Write,
         28,
-        "time=5 event=call call=pwrite path=\"/stand/grid/a\" error=\"ENOSPC\" errno=28\n",
+        "time=1970-01-01T00:00:05Z event=call call=pwrite path=\"/stand/grid/a\" error=\"ENOSPC\" errno=28\n",
     ),
     (
         FileCall::SyncData,
         122,
-        "time=5 event=call call=fdatasync path=\"/stand/grid/a\" error=\"EDQUOT\" errno=122\n",
+        "time=1970-01-01T00:00:05Z event=call call=fdatasync path=\"/stand/grid/a\" error=\"EDQUOT\" errno=122\n",
     ),
     (
         FileCall::SyncAll,
         22,
-        "time=5 event=call call=fsync path=\"/stand/grid/a\" error=\"EINVAL\" errno=22\n",
+        "time=1970-01-01T00:00:05Z event=call call=fsync path=\"/stand/grid/a\" error=\"EINVAL\" errno=22\n",
     ),
     (
         FileCall::Lock,
         11,
-        "time=5 event=call call=flock path=\"/stand/grid/a\" error=\"EAGAIN\" errno=11\n",
+        "time=1970-01-01T00:00:05Z event=call call=flock path=\"/stand/grid/a\" error=\"EAGAIN\" errno=11\n",
     ),
     (
         FileCall::Forget,
         29,
-        "time=5 event=call call=posix_fadvise path=\"/stand/grid/a\" error=\"ESPIPE\" errno=29\n",
+        "time=1970-01-01T00:00:05Z event=call call=posix_fadvise path=\"/stand/grid/a\" error=\"ESPIPE\" errno=29\n",
     ),
     (
         FileCall::SetMode,
         30,
-        "time=5 event=call call=fchmod path=\"/stand/grid/a\" error=\"EROFS\" errno=30\n",
+        "time=1970-01-01T00:00:05Z event=call call=fchmod path=\"/stand/grid/a\" error=\"EROFS\" errno=30\n",
     ),
 ];
 
@@ -225,10 +225,10 @@ fn an_answer_is_not_told(rt: HostRuntime) {
         ("a look at a name", FileCall::LookAtName, 2),
         ("an opening", FileCall::Open, 2),
         ("a making where there is something", FileCall::Make, 17),
-        ("or no folder", FileCall::Make, 2),
         ("a name that is gone", FileCall::Unlink, 2),
         ("a name that is taken", FileCall::Link, 17),
         ("a folder that is there", FileCall::MakeFolder, 17),
+        ("folders are missing above it", FileCall::MakeFolder, 2),
         ("a folder that isn't", FileCall::Names, 2),
     ] {
         assert!(rt; is_told(rt.alloc(), call, errno, ""), "{case}");
@@ -269,7 +269,8 @@ fn a_full_device_is_told(rt: HostRuntime) {
     let log = KeptLog::new(rt.alloc());
     let mut files = LoggedFiles::over(SystemFiles::new(&rt), &log, rt.alloc());
     let answered = ask_open(&mut files, "/dev/full", FileCall::Write);
-    let want = "time=5 event=call call=pwrite path=\"/dev/full\" error=\"ENOSPC\" errno=28\n";
+    let want =
+        "time=1970-01-01T00:00:05Z event=call call=pwrite path=\"/dev/full\" error=\"ENOSPC\" errno=28\n";
     let is_so = answered == 28 && log.take().as_slice() == want.as_bytes();
     assert!(rt; is_so, "no room");
 }
