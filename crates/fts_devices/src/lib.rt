@@ -1,5 +1,5 @@
-//! The real devices, as the service sees them: the system's clock, words by PCG, the file of a folder's settings, doors of a port of 127.0.0.1 with
-//! their lines, a client's link to such a port, the file that stops a service, whether threads can be begun, a program's command line, and the hands and lanes that
+//! The real devices, as the service sees them: the system's clock, words by PCG, the file of a folder's settings, doors of a port of 127.0.0.1 or of a
+//! socket with their lines, a client's link to such a port, the file that stops a service, whether threads can be begun, a program's command line, and the hands and lanes that
 //! are made of them.
 //! Keeps: each device counts its failures at the call that answers them, and tells nothing of contents. What doors and lines decide by an answer of the
 //! system is one function each, with an equation over the system's own numbers (`specs/Steps.antt`); the loops over sockets carry it out.
@@ -14,6 +14,7 @@ mod lanes;
 mod log;
 mod outside;
 mod relief;
+mod sockets;
 mod steps;
 mod stop;
 mod tcp_doors;

@@ -34,7 +34,7 @@ fn short_limits() -> LineLimits {
 /// Doors that listen on a free port, and the port.
 fn open_doors(rt: &HostRuntime, limits: LineLimits) -> Result<(Opened<'_>, u16), Fail> {
     let mut doors = TcpDoors::new(rt, rt.alloc(), limits, StopFile::none());
-    match (doors.listen(0), doors.place()) {
+    match (doors.listen(Some(0)), doors.place()) {
         (Ok(()), Some(place)) => Ok((doors, place.port())),
         _ => Err(Fail::new("no port")),
     }
@@ -247,7 +247,7 @@ fn a_client_that_closes_in_the_middle_harms_no_other(rt: HostRuntime) -> Result<
     let (mut first, port) = open_doors(&rt, LineLimits::of_service())?;
     let mut doors = TcpDoors::new(&rt, rt.alloc(), LineLimits::of_service(), StopFile::none());
     assert!(rt;
-        doors.listen(port) == Err(DoorsFailed),
+        doors.listen(Some(port)) == Err(DoorsFailed),
         "the port is in use"
     );
     assert!(rt; doors.share(&first).is_ok(), "it is shared");

@@ -151,7 +151,7 @@ fn serve_journal<R: Wait, D: Disk + Drop>(
     }
     let mut room = Room::new(alloc)?;
     let mut doors = TcpDoors::new(rt, alloc, LineLimits::of_service(), StopFile::none());
-    if doors.listen(port).is_ok() {
+    if doors.listen(Some(port)).is_ok() {
         serve_lines(waits, alloc, view, &mut clock, &mut doors, &mut room);
     }
     Ok(tell(rt, 9, "fts_monitor: doors failed\n"))
