@@ -6,14 +6,14 @@ use Rattle.std.specs.List.{list_all}
 use Rattle.std.proofs.lemmas.List.Folds.{list_all-append}
 use Rattle.fts_log.specs.declared.events.EndedCopy.{EndedCopy}
 use Rattle.fts_log.specs.declared.events.Event.{Event}
-use Rattle.fts_log.specs.declared.events.Event.TheVariants.{Listens, CopyEnded, CallFailed, LineEnded, Ends}
+use Rattle.fts_log.specs.declared.events.Event.TheVariants.{Listens, CopyEnded, CallFailed, FoundOther, LineEnded, Ends}
 use Rattle.fts_log.specs.declared.events.FileCall.{FileCall}
 use Rattle.fts_log.specs.declared.events.FileCall.TheVariants.{Open, Make, Look, LookAtName, LookAtOpen, Read, Write, SyncData, SyncAll, Lock, Forget, Link, Rename, Unlink, MakeFolder, SetMode, Names}
 use Rattle.fts_log.specs.declared.events.LineFault.{LineFault}
 use Rattle.fts_log.specs.declared.events.LineFault.TheVariants.{SlowToSend, SlowToTake, StreamFailed}
 use Rattle.fts_log.specs.Quoting.{is_control, hex_digit, escaped_byte, escaped, quoted, is_shown, IsLine}
 use Rattle.fts_log.specs.Errnos.{errno_name}
-use Rattle.fts_log.specs.EventLines.{call_word, fault_word, id_text, place_text, bytes_of, outcome_text, field, copy_fields, copy_fields_with, call_fields, event_fields, event_line}
+use Rattle.fts_log.specs.EventLines.{call_word, fault_word, kind_text, id_text, place_text, bytes_of, outcome_text, field, copy_fields, copy_fields_with, call_fields, event_fields, event_line}
 
 -- none of these bytes is below 32
 abbrev pub AreShown : List ℕ → Type 0
@@ -34,9 +34,9 @@ letter_shown digit = grind (arith, tests)
 -- a digit in lower case to the base 16
 hex_shown : (digit : ℕ) → is_shown (hex_digit digit) ≡ true
 hex_shown digit = elim (nat_lt digit 10) as (λ (low : Bool). is_shown (if low then 48 + digit else 87 + digit) ≡ true) [
-      true ↦ digit_shown digit
-    | false ↦ letter_shown digit
-    ]
+  | true ↦ digit_shown digit
+  | false ↦ letter_shown digit
+]
 
 -- the digits of a number, in front of what is shown
 digits_shown : (most number : ℕ) (rest : List ℕ) → AreShown rest → AreShown (digits_onto most 10 false number rest)
@@ -45,8 +45,8 @@ digits_shown (suc most) number rest shown =
     let first : is_shown (digit_glyph false (number % 10)) ≡ true = hex_shown (number % 10) in
     let more : AreShown (digit_glyph false (number % 10) ∷ rest) = rw first shown in
     elim (number / 10 == 0) as (λ (last : Bool). AreShown (if last then digit_glyph false (number % 10) ∷ rest else digits_onto most 10 false (number / 10) (digit_glyph false (number % 10) ∷ rest))) [
-      true ↦ more
-    | false ↦ digits_shown most (number / 10) (digit_glyph false (number % 10) ∷ rest) more
+      | true ↦ more
+      | false ↦ digits_shown most (number / 10) (digit_glyph false (number % 10) ∷ rest) more
     ]
 
 -- a number
@@ -65,11 +65,11 @@ byte_shown : (byte : ℕ) → AreShown (escaped_byte byte)
 byte_shown byte =
     let other : List ℕ = if is_control byte then 92 ∷ 120 ∷ hex_digit (byte / 16) ∷ hex_digit (byte % 16) ∷ [] else byte ∷ [] in
     elim (byte == 34) as (λ (quote : Bool). AreShown (if quote then 92 ∷ 34 ∷ [] else (if byte == 92 then 92 ∷ 92 ∷ [] else other))) [
-      true ↦ refl
-    | false ↦ elim (byte == 92) as (λ (slash : Bool). AreShown (if slash then 92 ∷ 92 ∷ [] else other)) [
-          true ↦ refl
+      | true ↦ refl
+      | false ↦ elim (byte == 92) as (λ (slash : Bool). AreShown (if slash then 92 ∷ 92 ∷ [] else other)) [
+        | true ↦ refl
         | false ↦ other_shown byte (is_control byte) refl
-        ]
+      ]
     ]
 
 -- the bytes of a quoted text
@@ -161,6 +161,8 @@ unfolding event_fields
 fields_shown (Listens at) = both (word_field (codes "event") (codes "listens") refl refl) (text_field (codes "at") at.now refl)
 fields_shown (CopyEnded copy) = copy_shown copy
 fields_shown (CallFailed call path errno) = failure_shown call path.now errno
+fields_shown (FoundOther path kind) =
+    both (both (word_field (codes "event") (codes "found") refl refl) (text_field (codes "path") path.now refl)) (text_field (codes "error") (kind_text kind) refl)
 fields_shown (LineEnded cause) = both (word_field (codes "event") (codes "line") refl refl) (word_field (codes "cause") (fault_word cause) refl (fault_shown cause))
 fields_shown (Ends status lost) = both (both (word_field (codes "event") (codes "ends") refl refl) (number_field (codes "status") status refl)) (number_field (codes "lost") lost refl)
 
@@ -171,8 +173,8 @@ front moment event = codes "time=" ++ decimal moment ++ event_fields event
 -- each event's line is one line
 pub event_line_IsLine : (moment : ℕ) (event : Event) → IsLine (event_line moment event)
 event_line_IsLine moment event =
-    let time : AreShown (codes "time=" ++ decimal moment) = both_shown (codes "time=") (decimal moment) refl (decimal_shown moment) in
-    ( front moment event
-    , refl
-    , both_shown (codes "time=" ++ decimal moment) (event_fields event) time (fields_shown event).shown
+    let time : AreShown (codes "time=" ++ decimal moment) = both_shown (codes "time=") (decimal moment) refl (decimal_shown moment) in (
+      front moment event,
+      refl,
+      both_shown (codes "time=" ++ decimal moment) (event_fields event) time (fields_shown event).shown,
     )

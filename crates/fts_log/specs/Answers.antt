@@ -1,10 +1,11 @@
 -- Which refusals of the system's calls are answers, and no failures.
 use Rattle.std.specs.Prelude.{ℕ, ◌||◌, Bool, false}
-use Rattle.fts_files.specs.Errno.{is_missing, is_taken}
+use Rattle.fts_files.specs.Errno.{is_missing, is_taken, lacks_links}
 use Rattle.fts_log.specs.declared.events.FileCall.{FileCall}
 use Rattle.fts_log.specs.declared.events.FileCall.TheVariants.{Open, Make, Look, LookAtName, LookAtOpen, Read, Write, SyncData, SyncAll, Lock, Forget, Link, Rename, Unlink, MakeFolder, SetMode, Names}
 
--- whether a refusal with this number answers the call: nothing has the name that was asked for, or something has one that was to be free
+-- whether a refusal with this number answers the call: nothing has the name that was asked for, something has one that was to be free, or the file system
+-- gives no second names, and the file gets its name otherwise
 abbrev pub is_answer : FileCall → ℕ → Bool
 is_answer Open errno = is_missing errno
 is_answer Make errno = is_missing errno || is_taken errno
@@ -17,7 +18,7 @@ is_answer SyncData errno = false
 is_answer SyncAll errno = false
 is_answer Lock errno = false
 is_answer Forget errno = false
-is_answer Link errno = is_taken errno
+is_answer Link errno = is_taken errno || lacks_links errno
 is_answer Rename errno = false
 is_answer Unlink errno = is_missing errno
 is_answer MakeFolder errno = is_taken errno

@@ -8,11 +8,13 @@ use Rattle.fts_tables.specs.declared.rows.Outcome.{Outcome}
 use Rattle.fts_tables.specs.declared.rows.Outcome.TheVariants.{Verified, SourceMissing, DestinationExists, SourceSize, SourceDigest, ReadBackDiffers, StoreFailed, Stopped}
 use Rattle.fts_log.specs.declared.events.EndedCopy.{EndedCopy}
 use Rattle.fts_log.specs.declared.events.Event.{Event}
-use Rattle.fts_log.specs.declared.events.Event.TheVariants.{Listens, CopyEnded, CallFailed, LineEnded, Ends}
+use Rattle.fts_log.specs.declared.events.Event.TheVariants.{Listens, CopyEnded, CallFailed, FoundOther, LineEnded, Ends}
 use Rattle.fts_log.specs.declared.events.FileCall.{FileCall}
 use Rattle.fts_log.specs.declared.events.FileCall.TheVariants.{Open, Make, Look, LookAtName, LookAtOpen, Read, Write, SyncData, SyncAll, Lock, Forget, Link, Rename, Unlink, MakeFolder, SetMode, Names}
 use Rattle.fts_log.specs.declared.events.LineFault.{LineFault}
 use Rattle.fts_log.specs.declared.events.LineFault.TheVariants.{SlowToSend, SlowToTake, StreamFailed}
+use Rattle.fts_files.specs.declared.files.Kind.{Kind}
+use Rattle.fts_files.specs.declared.files.Kind.TheVariants.{File, Folder, Other}
 use Rattle.fts_log.specs.Quoting.{quoted}
 use Rattle.fts_log.specs.Errnos.{errno_name}
 
@@ -41,6 +43,12 @@ abbrev pub fault_word : LineFault → List ℕ
 fault_word SlowToSend = codes "slow_to_send"
 fault_word SlowToTake = codes "slow_to_take"
 fault_word StreamFailed = codes "stream_failed"
+
+-- what has a name, in words: those of the system where a folder was to be read as a file (EISDIR)
+abbrev pub kind_text : Kind → List ℕ
+kind_text File = codes "a plain file"
+kind_text Folder = codes "Is a directory"
+kind_text Other = codes "not a plain file"
 
 -- a job's id as a UUID in lower case (RFC 9562)
 unfoldable pub id_text : ℕ → List ℕ
@@ -107,6 +115,8 @@ unfoldable pub event_fields : Event → List ℕ
 event_fields (Listens at) = field (codes "event") (codes "listens") ++ field (codes "at") (quoted at.now)
 event_fields (CopyEnded copy) = copy_fields copy
 event_fields (CallFailed call path errno) = call_fields call path.now errno
+event_fields (FoundOther path kind) =
+    field (codes "event") (codes "found") ++ field (codes "path") (quoted path.now) ++ field (codes "error") (quoted (kind_text kind))
 event_fields (LineEnded cause) = field (codes "event") (codes "line") ++ field (codes "cause") (fault_word cause)
 event_fields (Ends status lost) =
     field (codes "event") (codes "ends")

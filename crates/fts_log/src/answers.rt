@@ -25,7 +25,8 @@ impl FileCall {
             | FileCall::Unlink
             | FileCall::Names => refused.is_missing(),
             FileCall::Make => refused.is_missing() || refused.is_taken(),
-            FileCall::Link | FileCall::MakeFolder => refused.is_taken(),
+            FileCall::Link => refused.is_taken() || refused.lacks_links(),
+            FileCall::MakeFolder => refused.is_taken(),
             FileCall::LookAtOpen
             | FileCall::Read
             | FileCall::Write

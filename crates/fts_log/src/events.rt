@@ -2,8 +2,9 @@
 //! The word of a call or of a fault is decided here alone (`specs/EventLines.antt`).
 //! Whoever copies, listens, ends a line or asks the system tells; a log never fails, and whoever tells goes on as without it.
 ghost use Rattle.std.specs.Prelude.{◌≡◌};
-ghost use Rattle.fts_log.specs.EventLines.{call_word, fault_word};
+ghost use Rattle.fts_log.specs.EventLines.{call_word, fault_word, kind_text};
 
+use fts_files::Kind;
 use fts_tables::{Outcome, PlaceRef};
 
 /// A call of the system on files and folders, as `fts_files::FileSystem` has them.
@@ -59,7 +60,9 @@ pub struct EndedCopy<'a> {
 #[derive(Clone, Copy)]
 pub enum Event<'a> {
     /// The service listens at an address with its port, or at a socket's path.
-    Listens { at: &'a str },
+    Listens {
+        at: &'a str,
+    },
     /// An attempt to copy a file has ended.
     CopyEnded(EndedCopy<'a>),
     /// A call of the system was refused, with the system's own number; 0 where it gave none.
@@ -68,10 +71,20 @@ pub enum Event<'a> {
         path: &'a str,
         errno: u32,
     },
+    /// What has this path is no plain file, where one was asked for.
+    FoundOther {
+        path: &'a str,
+        kind: Kind,
+    },
     /// A connection was ended for its fault.
-    LineEnded { cause: LineFault },
+    LineEnded {
+        cause: LineFault,
+    },
     /// The run ends with this status. So many lines of its log could not be written.
-    Ends { status: u8, lost: u64 },
+    Ends {
+        status: u8,
+        lost: u64,
+    },
 }
 
 /// Who is told, by any thread. It gives no answer: what can't be told is lost, and whoever tells goes on.
@@ -131,5 +144,16 @@ impl LineFault {
             LineFault::SlowToTake => "slow_to_take",
             LineFault::StreamFailed => "stream_failed",
         }
+    }
+}
+
+/// What has a name, in words: those of the system where a folder was to be read as a file (EISDIR).
+pub(crate) fn kind_text(kind: Kind) -> &'static str
+    ensures { result.now ≡ kind_text kind }
+{
+    match kind {
+        Kind::File => "a plain file",
+        Kind::Folder => "Is a directory",
+        Kind::Other => "not a plain file",
     }
 }

@@ -4,7 +4,7 @@ ghost use Rattle.std.specs.Prelude.{◌≡◌, ◌++◌, ◌≤◌, length, OnOk
 ghost use Rattle.fts_log.specs.EventLines.{id_text, place_text, copy_fields, copy_fields_with, call_fields, event_fields, event_line};
 
 use crate::errnos::errno_name;
-use crate::events::{EndedCopy, Event, FileCall};
+use crate::events::{EndedCopy, Event, FileCall, kind_text};
 use crate::fields::{Field, put_fields, put_number};
 use crate::outcomes::{bytes_of, outcome_text};
 use fts_tables::{Memory, PlaceRef};
@@ -37,6 +37,14 @@ fn put_event(alloc: Global, line: &mut Vec<u8>, event: &Event<'_>) -> Result<(),
         ),
         Event::CopyEnded(copy) => put_copy(alloc, line, &copy),
         Event::CallFailed { call, path, errno } => put_call(line, call, path, errno),
+        Event::FoundOther { path, kind } => put_fields(
+            line,
+            &[
+                Field::Word("event", "found"),
+                Field::Text("path", path.as_bytes()),
+                Field::Text("error", kind_text(kind).as_bytes()),
+            ],
+        ),
         Event::LineEnded { cause } => put_fields(
             line,
             &[
