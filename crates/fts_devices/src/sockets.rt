@@ -32,7 +32,10 @@ pub enum Listener {
 
 impl Listener {
     /// A listener at this port of 127.0.0.1. An error of the system where it can't be had.
-    pub fn at_port<R: Net<Listener = TcpListener>>(rt: &R, port: u16) -> io::Result<Listener> {
+    pub fn at_port<R>(rt: &R, port: u16) -> io::Result<Listener>
+    where
+        R: Net<Listener = TcpListener, Stream = TcpStream>,
+    {
         let listener = TcpListener::bind(rt, (address(), port))?;
         Ok(Listener::AtPort(listener))
     }
