@@ -10,12 +10,16 @@ use std::alloc::Global;
 use std::fs::{File, OpenOptions};
 use std::io::{self, ErrorKind, Write};
 use std::os::fd::{AsRawFd, RawFd};
-use std::sync::Mutex;
 use std::sync::atomic::{AtomicU64, Ordering};
+use std::sync::{Mutex, MutexGuard};
+use std::thread::yield_now;
 use std::time::{SystemTime, UNIX_EPOCH};
 
 /// So many bytes a pipe takes whole, where it has room (PIPE_BUF of Linux).
 const PIECE_BYTES: usize = 4_096;
+
+/// How often a thread looks whether the lock is free, before its line is lost. Who has it writes at most a few pieces.
+const MAX_LOOKS: u32 = 1_000_000;
 
 /// Where lines go.
 #[derive(Drop)]
@@ -86,9 +90,22 @@ impl<'a> SystemLog<'a> {
         }
     }
 
+    /// The lock of who writes a line; none where others hold it for too long.
+    fn lock(&self) -> Option<MutexGuard<'_, bool>> {
+        for _ in 0..MAX_LOOKS {
+            if let Some(is_cut) = self.is_cut.try_lock() {
+                return Some(is_cut);
+            }
+            yield_now();
+        }
+        None
+    }
+
     /// Writes a line, apart from one before it that was cut off.
     fn write_line(&self, line: &[u8]) -> io::Result<()> {
-        let mut is_cut = self.is_cut.lock(self.rt);
+        let Some(mut is_cut) = self.lock() else {
+            return Err(io::Error::from(ErrorKind::WouldBlock));
+        };
         if *is_cut {
             self.write(b"\n")?;
         }

@@ -1,8 +1,7 @@
 //! The stop file of a stand's folder: while it stands there, a service is to stop.
 //! Keeps: nothing of files but that looks change none, and that `clear` takes away that one alone.
-//! As a gate it is closed while the file stands, so workers claim no more; doors and lines look at it between two connections and two requests.
+//! The service's gate is closed while the file stands, so workers claim no more; doors and lines look at it between two connections and two requests.
 //! A look that fails says that the file doesn't stand.
-use fts_workers::Gate;
 use std::fs;
 
 /// A stop file, or none that could ever stand.
@@ -38,17 +37,5 @@ impl<'a> StopFile<'a> {
             // Whether it was there, and whether it could be removed, is seen by the next look.
             let _removed = fs::remove_file(rt, path);
         }
-    }
-}
-
-impl Gate for StopFile<'_> {
-    ghost use Rattle.std.specs.Prelude.{true};
-
-    ghost closes = { λ _. true };
-
-    fn begun(&self, _file: u32) {}
-
-    fn is_closed(&self) -> bool {
-        self.stands()
     }
 }
