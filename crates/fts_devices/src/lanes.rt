@@ -7,9 +7,9 @@ ghost use Rattle.fts_tables.specs.declared.limits.TheConstants.{MAX_LANES};
 ghost use Rattle.fts_devices.specs.Lanes.{IsClosed};
 
 use crate::outside::SystemClock;
+use crate::socket_doors::SocketDoors;
+use crate::socket_line::LineLimits;
 use crate::stop::StopFile;
-use crate::tcp_doors::TcpDoors;
-use crate::tcp_line::LineLimits;
 use fts_service::{Doors, Lane};
 use fts_tables::Memory;
 use fts_tables::limits::MAX_LANES;
@@ -26,12 +26,15 @@ pub type SystemLane<A, R> = Lane<A, SystemClock<R>>;
 
 /// Doors for each lane of a service, `MAX_LANES` of them, which don't listen yet, give no line any more once this stop file stands, and listen
 /// at this socket where one is named. An error where memory is wanting.
-pub fn closed_doors<'a, R: Net<Listener = TcpListener, Stream = TcpStream> + Files + SystemTimes + Copy>(
+pub fn closed_doors<
+    'a,
+    R: Net<Listener = TcpListener, Stream = TcpStream> + Files + SystemTimes + Copy,
+>(
     rt: R,
     alloc: Global,
     stop: StopFile<'a>,
     socket: Option<&'a str>,
-) -> Result<Vec<TcpDoors<'a, R>>, Memory>
+) -> Result<Vec<SocketDoors<'a, R>>, Memory>
     ensures count { IfOk result (λ doors. length doors.items ≡ MAX_LANES) }
     ensures closed { IfOk result (λ doors. All (IsClosed (option_copied socket.entry)) doors.items) }
 {
@@ -45,15 +48,13 @@ pub fn closed_doors<'a, R: Net<Listener = TcpListener, Stream = TcpStream> + Fil
 }
 
 /// Doors that don't listen yet, at a socket where one is named, whose lines have a service's limits.
-fn service_doors<'a, R: Net<Listener = TcpListener, Stream = TcpStream> + Files + SystemTimes + Copy>(
-    rt: R,
-    alloc: Global,
-    stop: StopFile<'a>,
-    socket: Option<&'a str>,
-) -> TcpDoors<'a, R>
+fn service_doors<
+    'a,
+    R: Net<Listener = TcpListener, Stream = TcpStream> + Files + SystemTimes + Copy,
+>(rt: R, alloc: Global, stop: StopFile<'a>, socket: Option<&'a str>) -> SocketDoors<'a, R>
     ensures { IsClosed (option_copied socket.entry) result }
 {
-    TcpDoors::new(rt, alloc, LineLimits::of_service(), stop).at_socket(socket)
+    SocketDoors::new(rt, alloc, LineLimits::of_service(), stop).at_socket(socket)
 }
 
 /// The lanes at these doors, in their order, each with the system's clock. An error where memory is wanting.

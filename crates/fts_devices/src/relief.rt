@@ -4,7 +4,7 @@
 //! Order of giving way: a connection waits; another lane that is free has `PAUSE_MILLIS` to take it, and the line's client to go on; then it is taken.
 //! A client that went on while the connection still waited has one request more: where one waits behind that too, no pause is made.
 //! Where the service is to stop, a line gives way as soon as its input could end.
-//! `TcpDoors` hands it from line to line, and takes the connection out.
+//! `SocketDoors` hands it from line to line, and takes the connection out.
 ghost use Rattle.std.specs.Prelude.{◌≡◌, true};
 ghost use Rattle.fts_wire.specs.Requests.{next_of, Closed};
 

@@ -2,7 +2,7 @@
 //! Each test has a path of its own in the folder that it runs in.
 ghost use Rattle.std.specs.Prelude.{◌<◌, IfOk};
 
-use fts_devices::{LineLimits, StopFile, TcpDoors, TcpLine};
+use fts_devices::{LineLimits, StopFile, SocketDoors, SocketLine};
 use fts_service::{Doors, DoorsFailed};
 use fts_wire::{Room, Sink, Source, WireFault};
 use std::io::{Read, Write};
@@ -13,7 +13,7 @@ use std::time::Duration;
 use std::fs;
 
 /// Doors at a socket.
-type Opened<'a> = TcpDoors<'a, &'a HostRuntime>;
+type Opened<'a> = SocketDoors<'a, &'a HostRuntime>;
 
 const GET: &[u8] = b"GET /jobs HTTP/1.1\r\n\r\n";
 
@@ -29,7 +29,7 @@ fn short_limits() -> LineLimits {
 
 /// Doors at the socket of a path, which don't listen yet.
 fn doors_at<'a>(rt: &'a HostRuntime, path: &'a str) -> Opened<'a> {
-    TcpDoors::new(rt, rt.alloc(), short_limits(), StopFile::none()).at_socket(Some(path))
+    SocketDoors::new(rt, rt.alloc(), short_limits(), StopFile::none()).at_socket(Some(path))
 }
 
 /// Doors that listen at a path, at which nothing stood.
@@ -43,7 +43,7 @@ fn open_doors<'a>(rt: &'a HostRuntime, path: &'a str) -> Result<Opened<'a>, Fail
 }
 
 /// The next line of the doors.
-fn next_line<'a>(doors: &mut Opened<'a>) -> Result<TcpLine<'a, &'a HostRuntime>, Fail>
+fn next_line<'a>(doors: &mut Opened<'a>) -> Result<SocketLine<'a, &'a HostRuntime>, Fail>
     ensures { IfOk result (λ _. 0 < doors.new.out) }
 {
     match doors.next() {
@@ -193,7 +193,7 @@ fn doors_listen_at_what_they_have(rt: HostRuntime) -> Result<(), Fail> {
     let mut at_socket = doors_at(&rt, path);
     assert!(rt; at_socket.listen(Some(0)) == Err(DoorsFailed), "they have no port");
     assert!(rt; fs::symlink_metadata(&rt, path).is_err(), "and made no socket");
-    let mut at_port = TcpDoors::new(&rt, rt.alloc(), short_limits(), StopFile::none());
+    let mut at_port = SocketDoors::new(&rt, rt.alloc(), short_limits(), StopFile::none());
     assert!(rt; at_port.listen(None) == Err(DoorsFailed), "they have no socket");
     assert!(rt; are_refused(&rt, "./no-folder/a.socket"), "there is no such folder");
     Ok(())

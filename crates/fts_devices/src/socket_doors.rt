@@ -3,32 +3,35 @@
 //! that no client ends a lane. Only a listener that can't be had or isn't one makes a call fail, and each such failure is counted.
 //! Each line gets the doors' relief: while it is silent between two requests its lane takes the connection that waits, which then is the next one.
 //! Doors that wait for a connection sleep in the system, and look every half second whether the service is to stop: then no more connections come, and
-//! what had come is closed. They tell nothing of lines. What follows of an
-//! error of an accept is in `accepting`, which address is listened on in `steps`, and what a listener is in `sockets`.
+//! what had come is closed. They tell nothing of lines. What follows of an error of an accept is in `accepting`, which address is listened on in
+//! `steps`, and what a listener is in `sockets`.
 ghost use Rattle.std.specs.Prelude.{◌≡◌, ◌↔◌, None, IfOk, IsOk, IsSome, is_some, not};
 ghost use Rattle.std.specs.Option.{option_copied};
 ghost use Rattle.fts_tables.specs.Counts.{CountsFaults};
 
 use crate::accepting::{Listens, next_line};
 use crate::relief::{Relief, glance, look_at_listener};
+use crate::socket_line::{LineLimits, SocketLine};
 use crate::sockets::{Listener, Stream, errno_of};
 use crate::steps::Seen;
 use crate::stop::StopFile;
-use crate::tcp_line::{LineLimits, TcpLine};
 use fts_service::{Doors, DoorsFailed};
 use std::alloc::Global;
 use std::fs::Files;
 use std::net::{Net, SocketAddr, TcpListener, TcpStream};
 use std::rt::Clock as SystemTimes;
-use std::time::Duration;
 use std::thread;
+use std::time::Duration;
 
 /// How long doors rest where a connection can't be taken yet, in milliseconds.
 const REST_MILLIS: u64 = 100;
 
 /// Doors of a port, or of a socket.
 #[derive(Drop)]
-pub struct TcpDoors<'a, R: Net<Listener = TcpListener, Stream = TcpStream> + Files + SystemTimes + Copy> {
+pub struct SocketDoors<
+    'a,
+    R: Net<Listener = TcpListener, Stream = TcpStream> + Files + SystemTimes + Copy,
+> {
     rt: R,
     alloc: Global,
     limits: LineLimits,
@@ -85,13 +88,13 @@ impl<R: SystemTimes + Copy> Listening<'_, '_, R> {
 impl<'a, R: SystemTimes + Copy> Listens for Listening<'_, 'a, R> {
     ghost use Rattle.std.specs.Prelude.{None};
 
-    type Line = TcpLine<'a, R>;
+    type Line = SocketLine<'a, R>;
 
     ghost answers = { λ _. None };
 
-    fn take(&mut self) -> Result<TcpLine<'a, R>, u32> {
+    fn take(&mut self) -> Result<SocketLine<'a, R>, u32> {
         let stream = self.stream()?;
-        TcpLine::over(self.rt, stream, self.limits).map_err(|_| ABORTED)
+        SocketLine::over(self.rt, stream, self.limits).map_err(|_| ABORTED)
     }
 
     fn rest(&mut self) {
@@ -99,12 +102,15 @@ impl<'a, R: SystemTimes + Copy> Listens for Listening<'_, 'a, R> {
     }
 }
 
-impl<'a, R: Net<Listener = TcpListener, Stream = TcpStream> + Files + SystemTimes + Copy> TcpDoors<'a, R> {
+impl<
+    'a,
+    R: Net<Listener = TcpListener, Stream = TcpStream> + Files + SystemTimes + Copy,
+> SocketDoors<'a, R> {
     /// Doors that don't listen yet, whose lines have these limits. They give no line any more once this stop file stands.
-    pub fn new(rt: R, alloc: Global, limits: LineLimits, stop: StopFile<'a>) -> TcpDoors<'a, R>
+    pub fn new(rt: R, alloc: Global, limits: LineLimits, stop: StopFile<'a>) -> SocketDoors<'a, R>
         ensures { result ≡ record { rt = rt; alloc = alloc; limits = limits; path = None; listener = None; relief = None; stop = stop.exit; out = 0; faults = 0 } }
     {
-        TcpDoors {
+        SocketDoors {
             rt,
             alloc,
             limits,
@@ -118,7 +124,7 @@ impl<'a, R: Net<Listener = TcpListener, Stream = TcpStream> + Files + SystemTime
     }
 
     /// The same doors, which listen at the socket of this path in the place of a port.
-    pub fn at_socket(mut self, path: Option<&'a str>) -> TcpDoors<'a, R>
+    pub fn at_socket(mut self, path: Option<&'a str>) -> SocketDoors<'a, R>
         ensures path { option_copied result.path ≡ option_copied path.entry }
         ensures same { (result.limits ≡ self.entry.limits) × (result.listener ≡ self.entry.listener) × (result.relief ≡ self.entry.relief) }
         ensures counts { (result.out ≡ self.entry.out) × (result.faults ≡ self.entry.faults) }
@@ -174,7 +180,7 @@ impl<'a, R: Net<Listener = TcpListener, Stream = TcpStream> + Files + SystemTime
     }
 
     /// Waits for a connection, if none was taken already.
-    fn accept(&mut self) -> Option<TcpLine<'a, R>>
+    fn accept(&mut self) -> Option<SocketLine<'a, R>>
         ensures same { (self.new.out ≡ self.old.out) × (self.new.faults ≡ self.old.faults) × (self.new.listener ≡ self.old.listener) }
     {
         let listener = self.listener.as_ref()?;
@@ -194,11 +200,11 @@ impl<'a, R: Net<Listener = TcpListener, Stream = TcpStream> + Files + SystemTime
 }
 
 impl<'a, R: Net<Listener = TcpListener, Stream = TcpStream> + Files + SystemTimes + Copy> Doors
-    for TcpDoors<'a, R> {
+    for SocketDoors<'a, R> {
     ghost use Rattle.std.specs.Prelude.{None, is_some};
     ghost use Rattle.std.proofs.Common.{rules};
 
-    type Line = TcpLine<'a, R>;
+    type Line = SocketLine<'a, R>;
 
     ghost doors = { λ d. record { coming = None; back = None; out = d.out } };
 
@@ -214,7 +220,7 @@ impl<'a, R: Net<Listener = TcpListener, Stream = TcpStream> + Files + SystemTime
         self.take(listener)
     }
 
-    fn share(&mut self, first: &TcpDoors<'a, R>) -> Result<(), DoorsFailed> {
+    fn share(&mut self, first: &SocketDoors<'a, R>) -> Result<(), DoorsFailed> {
         let listener = match &first.listener {
             Some(listener) => listener.try_clone().ok(),
             None => None,
@@ -223,7 +229,7 @@ impl<'a, R: Net<Listener = TcpListener, Stream = TcpStream> + Files + SystemTime
         self.take(listener)
     }
 
-    fn next(&mut self) -> Result<Option<TcpLine<'a, R>>, DoorsFailed> {
+    fn next(&mut self) -> Result<Option<SocketLine<'a, R>>, DoorsFailed> {
         if let (Some(line), Some(out)) = (self.accept(), self.out.checked_add(1)) {
             self.out = out;
             return Ok(Some(line));
@@ -235,7 +241,7 @@ impl<'a, R: Net<Listener = TcpListener, Stream = TcpStream> + Files + SystemTime
         Err(DoorsFailed)
     }
 
-    fn done(&mut self, line: TcpLine<'a, R>) {
+    fn done(&mut self, line: SocketLine<'a, R>) {
         self.out -= 1;
         self.relief = line.end();
     }

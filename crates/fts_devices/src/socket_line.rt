@@ -6,7 +6,7 @@
 //! before its first request it has a time of its own. `relief` has how the connection is taken.
 //! Order of an end: where the client may still be sending, the writing side is shut, and what comes is taken in for a while; then it is closed.
 //! Else unread bytes would make the system reset the connection, and the last response could be lost.
-//! Made by `TcpDoors`, and for a client by `TcpLink`. It tells nothing of bytes.
+//! Made by `SocketDoors`, and for a client by `TcpLink`. It tells nothing of bytes.
 ghost use Rattle.std.specs.Prelude.{◌≡◌, ◌≤◌, ◌<◌, length, None, true, false, IfOk, IsErr};
 ghost use Rattle.fts_tables.specs.Counts.{CountsFaults};
 ghost use Rattle.fts_wire.specs.Outside.{Reads, Writes, raised};
@@ -74,7 +74,7 @@ impl LineLimits {
 
 /// One connection of a client.
 #[derive(Drop)]
-pub struct TcpLine<'a, R: SystemTimes + Copy> {
+pub struct SocketLine<'a, R: SystemTimes + Copy> {
     rt: R,
     stream: Stream,
     limits: LineLimits,
@@ -93,19 +93,19 @@ pub struct TcpLine<'a, R: SystemTimes + Copy> {
     write_faults: u64,
 }
 
-impl<'a, R: SystemTimes + Copy> TcpLine<'a, R> {
+impl<'a, R: SystemTimes + Copy> SocketLine<'a, R> {
     /// A line over a new connection, from which nothing was read and to which nothing was written. Small pieces are sent at once.
     /// An error of the system where the connection can't be set up, or the time can't be had.
-    pub fn new(rt: R, stream: TcpStream, limits: LineLimits) -> io::Result<TcpLine<'a, R>>
+    pub fn new(rt: R, stream: TcpStream, limits: LineLimits) -> io::Result<SocketLine<'a, R>>
         ensures fresh { IfOk result (λ line. (line.read_faults ≡ 0) × (line.write_faults ≡ 0)) }
         ensures new { IfOk result (λ line. (line.limits ≡ limits) × (line.has_answered ≡ false) × (line.is_asked ≡ false) × (line.relief ≡ None)
             × (line.is_at_end ≡ false) × (line.reads ≡ 0)) }
     {
-        TcpLine::over(rt, Stream::OfPort(stream), limits)
+        SocketLine::over(rt, Stream::OfPort(stream), limits)
     }
 
     /// The same over a connection of either kind.
-    pub(crate) fn over(rt: R, stream: Stream, limits: LineLimits) -> io::Result<TcpLine<'a, R>>
+    pub(crate) fn over(rt: R, stream: Stream, limits: LineLimits) -> io::Result<SocketLine<'a, R>>
         ensures fresh { IfOk result (λ line. (line.read_faults ≡ 0) × (line.write_faults ≡ 0)) }
         ensures new { IfOk result (λ line. (line.limits ≡ limits) × (line.has_answered ≡ false) × (line.is_asked ≡ false) × (line.relief ≡ None)
             × (line.is_at_end ≡ false) × (line.reads ≡ 0)) }
@@ -113,7 +113,7 @@ impl<'a, R: SystemTimes + Copy> TcpLine<'a, R> {
         stream.set_prompt()?;
         stream.set_write_timeout(limits.wait)?;
         let since = Instant::now(&rt)?;
-        Ok(TcpLine {
+        Ok(SocketLine {
             rt,
             stream,
             limits,
@@ -129,7 +129,7 @@ impl<'a, R: SystemTimes + Copy> TcpLine<'a, R> {
     }
 
     /// The same line, which gives way to connections that wait at this relief's listener.
-    pub(crate) fn relieved_by(mut self, relief: Option<Relief<'a>>) -> TcpLine<'a, R> {
+    pub(crate) fn relieved_by(mut self, relief: Option<Relief<'a>>) -> SocketLine<'a, R> {
         self.relief = relief;
         if let Some(relief) = &mut self.relief {
             relief.begin();
@@ -217,8 +217,7 @@ impl<'a, R: SystemTimes + Copy> TcpLine<'a, R> {
         ensures since { self.new.since ≡ self.old.since }
     {
         let left = time_left(self.limits.request, self.since.elapsed(&self.rt)?)?;
-        self.stream
-            .set_read_timeout(left.min(self.limits.wait))?;
+        self.stream.set_read_timeout(left.min(self.limits.wait))?;
         let n = read_once(&mut self.stream, into)?;
         self.is_asked = self.is_asked || n > 0;
         if let Some(relief) = &mut self.relief {
@@ -314,7 +313,7 @@ fn write_once(stream: &mut Stream, bytes: &[u8]) -> io::Result<usize>
     Err(io::Error::from(ErrorKind::Interrupted))
 }
 
-impl<R: SystemTimes + Copy> Source for TcpLine<'_, R> {
+impl<R: SystemTimes + Copy> Source for SocketLine<'_, R> {
     ghost use Rattle.std.specs.Prelude.{None};
 
     ghost left = { λ _. None };
@@ -344,7 +343,7 @@ impl<R: SystemTimes + Copy> Source for TcpLine<'_, R> {
     }
 }
 
-impl<R: SystemTimes + Copy> Sink for TcpLine<'_, R> {
+impl<R: SystemTimes + Copy> Sink for SocketLine<'_, R> {
     ghost use Rattle.std.specs.Prelude.{None};
 
     ghost held = { λ _. None };
