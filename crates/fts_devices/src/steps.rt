@@ -41,7 +41,8 @@ pub fn address() -> Ipv4Addr
 }
 
 /// Whether what stands at a path is a dead socket, that of a service which has ended: a bind there was refused because the path is in use, it is a
-/// socket, and a connection is refused since nobody listens. The refusals are the system's numbers (errno of POSIX, as Linux numbers it; 0 where there was none).
+/// socket, and a connection is refused since nobody listens. The refusals are the system's numbers (errno of POSIX, as Linux numbers it; 0 where there
+/// was none).
 pub fn is_dead(bind: u32, is_socket: bool, connect: u32) -> bool
     ensures { result ≡ is_dead bind is_socket connect }
 {
