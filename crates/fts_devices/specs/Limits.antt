@@ -2,7 +2,7 @@
 use Rattle.std.specs.Prelude.{◌≡◌, ℕ, ◌*◌}
 use Rattle.std.specs.Duration.{as_nanos}
 use Rattle.std.specs.declared.time.Duration.{Duration}
-use Rattle.fts_devices.specs.declared.tcp_line.LineLimits.{LineLimits}
+use Rattle.fts_devices.specs.declared.socket_line.LineLimits.{LineLimits}
 use Rattle.fts_devices.specs.declared.tcp_link.LinkLimits.{LinkLimits}
 
 -- a time of so many seconds

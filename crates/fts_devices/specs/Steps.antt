@@ -1,5 +1,5 @@
 -- What doors and lines decide, by what the system answered them.
-use Rattle.std.specs.Prelude.{◌≡◌, ℕ, zero, ◌+◌, ◌<◌, ◌≤◌, ◌==◌, ◌||◌, nat_lt, Bool, true, false, if◌then◌else◌, ℤ, pos, negsuc, ◌/◌, min, List, [], ◌∷◌, Option, Some, None, Result, Ok, Err}
+use Rattle.std.specs.Prelude.{◌≡◌, ℕ, zero, ◌+◌, ◌<◌, ◌≤◌, ◌==◌, ◌||◌, ◌&&◌, nat_lt, Bool, true, false, if◌then◌else◌, ℤ, pos, negsuc, ◌/◌, min, List, [], ◌∷◌, Option, Some, None, Result, Ok, Err}
 use Rattle.std.specs.Duration.{as_nanos}
 use Rattle.std.specs.declared.time.Duration.{Duration}
 use Rattle.fts_devices.specs.declared.steps.Seen.{Seen}
@@ -22,6 +22,10 @@ untaken_by errno = if is_gone errno then Gone else if lacks_listener errno then 
 -- the octets of the address that a service listens on: this machine's own, 127.0.0.1 (RFC 1122, 3.2.1.3)
 abbrev pub loopback : List ℕ
 loopback = 127 ∷ 0 ∷ 0 ∷ 1 ∷ []
+
+-- what stands at a path is a dead socket: the path is in use (EADDRINUSE) by a socket at which nobody listens (ECONNREFUSED)
+abbrev pub is_dead : ℕ → Bool → ℕ → Bool
+is_dead bind is_socket connect = (bind == 98) && (is_socket && (connect == 111))
 
 -- what is left of a time, where some of it is
 abbrev pub IsLeft : {E : Type 0} → Duration → Duration → Result Duration E → Type 0

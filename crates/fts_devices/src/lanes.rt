@@ -2,17 +2,19 @@
 //! Keeps: there is a lane for each of the doors, in their order (`lanes_over`, clause `doors`); doors that were just made have no listener, and no line
 //! of theirs is out (`closed_doors`).
 ghost use Rattle.std.specs.Prelude.{◌≡◌, length, map, All, IfOk};
+ghost use Rattle.std.specs.Option.{option_copied};
 ghost use Rattle.fts_tables.specs.declared.limits.TheConstants.{MAX_LANES};
 ghost use Rattle.fts_devices.specs.Lanes.{IsClosed};
 
 use crate::outside::SystemClock;
+use crate::socket_doors::SocketDoors;
+use crate::socket_line::LineLimits;
 use crate::stop::StopFile;
-use crate::tcp_doors::TcpDoors;
-use crate::tcp_line::LineLimits;
 use fts_service::{Doors, Lane};
 use fts_tables::Memory;
 use fts_tables::limits::MAX_LANES;
 use std::alloc::Global;
+use std::fs::Files;
 use std::net::{Net, TcpListener, TcpStream};
 use std::rt::Clock as SystemTimes;
 
@@ -22,33 +24,37 @@ const LANES: usize = MAX_LANES as usize;
 /// A lane with the system's clock.
 pub type SystemLane<A, R> = Lane<A, SystemClock<R>>;
 
-/// Doors for each lane of a service, `MAX_LANES` of them, which don't listen yet, and give no line any more once this stop file stands. An error where memory is wanting.
-pub fn closed_doors<'a, R: Net<Listener = TcpListener, Stream = TcpStream> + SystemTimes + Copy>(
+/// Doors for each lane of a service, `MAX_LANES` of them, which don't listen yet, give no line any more once this stop file stands, and listen
+/// at this socket where one is named. An error where memory is wanting.
+pub fn closed_doors<
+    'a,
+    R: Net<Listener = TcpListener, Stream = TcpStream> + Files + SystemTimes + Copy,
+>(
     rt: R,
     alloc: Global,
     stop: StopFile<'a>,
-) -> Result<Vec<TcpDoors<'a, R>>, Memory>
+    socket: Option<&'a str>,
+) -> Result<Vec<SocketDoors<'a, R>>, Memory>
     ensures count { IfOk result (λ doors. length doors.items ≡ MAX_LANES) }
-    ensures closed { IfOk result (λ doors. All IsClosed doors.items) }
+    ensures closed { IfOk result (λ doors. All (IsClosed (option_copied socket.entry)) doors.items) }
 {
     let mut doors = Vec::new(alloc);
     for _ in 0..LANES {
-        if doors.push(service_doors(rt, alloc, stop)).is_err() {
+        if doors.push(service_doors(rt, alloc, stop, socket)).is_err() {
             return Err(Memory);
         }
     }
     Ok(doors)
 }
 
-/// Doors that don't listen yet, whose lines have a service's limits.
-fn service_doors<'a, R: Net<Listener = TcpListener, Stream = TcpStream> + SystemTimes + Copy>(
-    rt: R,
-    alloc: Global,
-    stop: StopFile<'a>,
-) -> TcpDoors<'a, R>
-    ensures { IsClosed result }
+/// Doors that don't listen yet, at a socket where one is named, whose lines have a service's limits.
+fn service_doors<
+    'a,
+    R: Net<Listener = TcpListener, Stream = TcpStream> + Files + SystemTimes + Copy,
+>(rt: R, alloc: Global, stop: StopFile<'a>, socket: Option<&'a str>) -> SocketDoors<'a, R>
+    ensures { IsClosed (option_copied socket.entry) result }
 {
-    TcpDoors::new(rt, alloc, LineLimits::of_service(), stop)
+    SocketDoors::new(rt, alloc, LineLimits::of_service(), stop).at_socket(socket)
 }
 
 /// The lanes at these doors, in their order, each with the system's clock. An error where memory is wanting.

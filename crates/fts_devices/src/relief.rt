@@ -4,10 +4,11 @@
 //! Order of giving way: a connection waits; another lane that is free has `PAUSE_MILLIS` to take it, and the line's client to go on; then it is taken.
 //! A client that went on while the connection still waited has one request more: where one waits behind that too, no pause is made.
 //! Where the service is to stop, a line gives way as soon as its input could end.
-//! `TcpDoors` hands it from line to line, and takes the connection out.
+//! `SocketDoors` hands it from line to line, and takes the connection out.
 ghost use Rattle.std.specs.Prelude.{◌≡◌, true};
 ghost use Rattle.fts_wire.specs.Requests.{next_of, Closed};
 
+use crate::sockets::{Listener, Stream};
 use crate::steps::{Seen, poll_millis, seen_by};
 use crate::stop::StopFile;
 use fts_tables::Memory;
@@ -15,8 +16,7 @@ use fts_wire::{Room, Source, SourceFailed};
 use libc::net::{POLLIN, poll};
 use libc::types::pollfd;
 use std::alloc::Global;
-use std::net::{TcpListener, TcpStream};
-use std::os::fd::{AsRawFd, RawFd};
+use std::os::fd::RawFd;
 use std::time::Duration;
 
 /// How long a free lane has to take a connection, and a client to go on, before a line gives way, in milliseconds.
@@ -42,11 +42,11 @@ pub enum Met {
 /// What a lane has for its silent line.
 #[derive(Drop)]
 pub struct Relief<'a> {
-    listener: TcpListener,
+    listener: Listener,
     /// Where what comes of the line is framed, as the lane frames it.
     room: Room,
     /// The connection that was taken, and is served next.
-    next: Option<TcpStream>,
+    next: Option<Stream>,
     /// Whether the client went on while a connection waited still, the last time that it did.
     has_gone_on: bool,
     /// What says that the service is to stop.
@@ -57,7 +57,7 @@ impl<'a> Relief<'a> {
     /// Relief at this listener, in which nobody waits.
     pub fn new(
         alloc: Global,
-        listener: TcpListener,
+        listener: Listener,
         stop: StopFile<'a>,
     ) -> Result<Relief<'a>, Memory> {
         let room = Room::new(alloc)?;
@@ -104,7 +104,7 @@ impl<'a> Relief<'a> {
 
     /// Waits so long at most until the line has something, or a connection waits.
     pub fn look(&mut self, line: RawFd, wait: Duration) -> Seen {
-        let seen = look_at(line, self.listener.as_raw_fd(), wait);
+        let seen = look_at(line, self.listener.handle(), wait);
         if seen == Seen::Line {
             self.has_gone_on = false;
         }
@@ -122,7 +122,7 @@ impl<'a> Relief<'a> {
         }
         self.has_gone_on = false;
         match self.listener.accept() {
-            Ok((stream, _)) => {
+            Ok(stream) => {
                 self.next = Some(stream);
                 Met::Taken
             }
@@ -131,7 +131,7 @@ impl<'a> Relief<'a> {
     }
 
     /// The connection that was taken, which is the caller's now.
-    pub fn take_next(&mut self) -> Option<TcpStream> {
+    pub fn take_next(&mut self) -> Option<Stream> {
         self.next.take()
     }
 }
@@ -147,13 +147,13 @@ pub fn look_at_line(line: RawFd, wait: Duration) -> Seen {
 }
 
 /// Waits so long at most until a connection waits at this listener.
-pub fn look_at_listener(listener: &TcpListener, wait: Duration) -> Seen {
-    look_at(NO_HANDLE, listener.as_raw_fd(), wait)
+pub fn look_at_listener(listener: &Listener, wait: Duration) -> Seen {
+    look_at(NO_HANDLE, listener.handle(), wait)
 }
 
 /// Whether a connection waits at this listener now.
-fn waits_at(listener: &TcpListener) -> bool {
-    poll(&mut [asking(listener.as_raw_fd())], 0) > 0
+fn waits_at(listener: &Listener) -> bool {
+    poll(&mut [asking(listener.handle())], 0) > 0
 }
 
 /// What is asked of the system about a handle: whether there is something to be read, or a connection.

@@ -3,7 +3,7 @@
 ghost use Rattle.std.specs.Prelude.{◌≡◌, pos};
 ghost use Rattle.std.specs.Duration.{as_nanos};
 ghost use Rattle.std.specs.Net.Addr.{ipv4_octets};
-ghost use Rattle.fts_devices.specs.Steps.{IsLeft, IsOwnTime, drains_on, is_end, loopback, may_send, poll_millis, seen_by, untaken_by};
+ghost use Rattle.fts_devices.specs.Steps.{IsLeft, IsOwnTime, drains_on, is_dead, is_end, loopback, may_send, poll_millis, seen_by, untaken_by};
 
 use libc::net::POLLIN;
 use std::io::{self, ErrorKind};
@@ -38,6 +38,15 @@ pub fn address() -> Ipv4Addr
     ensures { ipv4_octets result ≡ loopback }
 {
     Ipv4Addr::new(127, 0, 0, 1)
+}
+
+/// Whether what stands at a path is a dead socket, that of a service which has ended: a bind there was refused because the path is in use, it is a
+/// socket, and a connection is refused since nobody listens. The refusals are the system's numbers (errno of POSIX, as Linux numbers it; 0 where there
+/// was none).
+pub fn is_dead(bind: u32, is_socket: bool, connect: u32) -> bool
+    ensures { result ≡ is_dead bind is_socket connect }
+{
+    bind == 98 && is_socket && connect == 111
 }
 
 /// What is left of a time, which is not 0. An error of its own kind, `TimedOut`, where nothing is left.

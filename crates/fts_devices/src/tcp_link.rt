@@ -9,8 +9,8 @@ ghost use Rattle.std.specs.Net.Socket.{socket_ip, socket_port};
 ghost use Rattle.fts_devices.specs.Dialing.{IsOwn, rest_behind};
 ghost use Rattle.fts_devices.specs.Limits.{IsOfClient};
 
+use crate::socket_line::{LineLimits, SocketLine};
 use crate::steps::address;
-use crate::tcp_line::{LineLimits, TcpLine};
 use fts_client::{Link, LinkFailed};
 use std::net::{IpAddr, Net, SocketAddr, TcpStream};
 use std::rt::Clock as SystemTimes;
@@ -126,11 +126,11 @@ impl<R: Net<Stream = TcpStream> + SystemTimes + Copy> TcpLink<R> {
     }
 
     /// A line to a port of this machine, where somebody listens there.
-    fn connect(&self, port: u16) -> Option<TcpLine<'static, R>>
+    fn connect(&self, port: u16) -> Option<SocketLine<'static, R>>
         ensures fresh { IfSome result (λ line. (line.read_faults ≡ 0) × (line.write_faults ≡ 0)) }
     {
         let stream = TcpStream::connect_timeout(&self.rt, &place(port), self.limits.connect).ok()?;
-        TcpLine::new(self.rt, stream, self.limits.line).ok()
+        SocketLine::new(self.rt, stream, self.limits.line).ok()
     }
 }
 
@@ -138,7 +138,7 @@ impl<R: Net<Stream = TcpStream> + SystemTimes + Copy> Link for TcpLink<R> {
     ghost use Rattle.std.specs.Prelude.{None};
     ghost use Rattle.std.proofs.Common.{rules};
 
-    type Line = TcpLine<'static, R>;
+    type Line = SocketLine<'static, R>;
 
     ghost link = { λ l. record { coming = None; back = None; out = l.out; dials = l.dials; port = l.port; is_given = l.is_given } };
 
@@ -146,7 +146,7 @@ impl<R: Net<Stream = TcpStream> + SystemTimes + Copy> Link for TcpLink<R> {
 
     ghost line = { Prim.search rules };
 
-    fn dial(&mut self, port: u16) -> Result<TcpLine<'static, R>, LinkFailed> {
+    fn dial(&mut self, port: u16) -> Result<SocketLine<'static, R>, LinkFailed> {
         self.rest();
         self.dials = self.dials.saturating_add(1);
         self.port = Some(port);
@@ -160,7 +160,7 @@ impl<R: Net<Stream = TcpStream> + SystemTimes + Copy> Link for TcpLink<R> {
         Err(LinkFailed)
     }
 
-    fn done(&mut self, line: TcpLine<'static, R>) {
+    fn done(&mut self, line: SocketLine<'static, R>) {
         self.out -= 1;
         if line.has_failed() {
             self.faults = self.faults.saturating_add(1);

@@ -10,6 +10,8 @@ mod folders;
 #[cfg(test)]
 mod outside;
 #[cfg(test)]
+mod paths;
+#[cfg(test)]
 mod sockets;
 #[cfg(test)]
 mod stand;

@@ -4,7 +4,7 @@ ghost use Rattle.std.specs.Prelude.{◌<◌, IfOk, IsTrue};
 ghost use Rattle.fts_wire.specs.Response.{has_phrase, has_methods};
 
 use fts_client::Link;
-use fts_devices::{LineLimits, LinkLimits, StopFile, TcpDoors, TcpLine, TcpLink};
+use fts_devices::{LineLimits, LinkLimits, StopFile, SocketDoors, SocketLine, TcpLink};
 use fts_service::{Doors, DoorsFailed};
 use fts_tables::Items;
 use fts_wire::{
@@ -19,7 +19,7 @@ use std::time::Duration;
 use std::{io, thread};
 
 /// Doors of a free port.
-type Opened<'a> = TcpDoors<'a, &'a HostRuntime>;
+type Opened<'a> = SocketDoors<'a, &'a HostRuntime>;
 
 /// Limits under which a client is soon let go.
 fn short_limits() -> LineLimits {
@@ -33,8 +33,8 @@ fn short_limits() -> LineLimits {
 
 /// Doors that listen on a free port, and the port.
 fn open_doors(rt: &HostRuntime, limits: LineLimits) -> Result<(Opened<'_>, u16), Fail> {
-    let mut doors = TcpDoors::new(rt, rt.alloc(), limits, StopFile::none());
-    match (doors.listen(0), doors.place()) {
+    let mut doors = SocketDoors::new(rt, rt.alloc(), limits, StopFile::none());
+    match (doors.listen(Some(0)), doors.place()) {
         (Ok(()), Some(place)) => Ok((doors, place.port())),
         _ => Err(Fail::new("no port")),
     }
@@ -46,7 +46,7 @@ fn connect(rt: &HostRuntime, port: u16) -> io::Result<TcpStream> {
 }
 
 /// The next line of the doors.
-fn next_line<'a>(doors: &mut Opened<'a>) -> Result<TcpLine<'a, &'a HostRuntime>, Fail>
+fn next_line<'a>(doors: &mut Opened<'a>) -> Result<SocketLine<'a, &'a HostRuntime>, Fail>
     ensures { IfOk result (λ _. 0 < doors.new.out) }
 {
     match doors.next() {
@@ -207,7 +207,7 @@ fn is_read(
     clock: &SetClock,
     seconds: u64,
     client: &mut TcpStream,
-    line: &mut TcpLine<'_, &SetClock>,
+    line: &mut SocketLine<'_, &SetClock>,
 ) -> io::Result<bool> {
     clock.seconds.store(seconds, Ordering::SeqCst);
     client.write_all(b"GET /jobs HTTP/1.1\r\n\r\n")?;
@@ -223,7 +223,7 @@ fn a_kept_line_is_served_beyond_its_first_limit(rt: HostRuntime) -> Result<(), F
     let clock = SetClock {
         seconds: AtomicU64::new(1_000),
     };
-    let mut line = TcpLine::new(&clock, stream, LineLimits::of_service())?;
+    let mut line = SocketLine::new(&clock, stream, LineLimits::of_service())?;
     let first = is_read(&clock, 1_040, &mut client, &mut line)?;
     assert!(rt; first, "40 seconds behind its beginning");
     assert!(rt; line.write(b"x").is_ok(), "its response");
@@ -245,9 +245,9 @@ fn a_kept_line_is_served_beyond_its_first_limit(rt: HostRuntime) -> Result<(), F
 #[test]
 fn a_client_that_closes_in_the_middle_harms_no_other(rt: HostRuntime) -> Result<(), Fail> {
     let (mut first, port) = open_doors(&rt, LineLimits::of_service())?;
-    let mut doors = TcpDoors::new(&rt, rt.alloc(), LineLimits::of_service(), StopFile::none());
+    let mut doors = SocketDoors::new(&rt, rt.alloc(), LineLimits::of_service(), StopFile::none());
     assert!(rt;
-        doors.listen(port) == Err(DoorsFailed),
+        doors.listen(Some(port)) == Err(DoorsFailed),
         "the port is in use"
     );
     assert!(rt; doors.share(&first).is_ok(), "it is shared");

@@ -8,7 +8,7 @@ ghost use Rattle.fts_words.specs.Words.{number_of};
 ghost use Rattle.fts_disk.specs.File.{IsReadOnly};
 ghost use Rattle.fts_monitor.specs.CommandLine.{port_by, port_in, port_named, status_of};
 
-use fts_devices::{LineLimits, StopFile, SystemClock, TcpDoors, command_line};
+use fts_devices::{LineLimits, StopFile, SystemClock, SocketDoors, command_line};
 use fts_disk::{Disk, FileDisk, SystemDisk};
 use fts_panel::{View, open_view, serve_line};
 use fts_service::{Doors, DoorsFailed};
@@ -150,8 +150,8 @@ fn serve_journal<R: Wait, D: Disk + Drop>(
         return Ok(tell(rt, status_of(fault), note_of(fault)));
     }
     let mut room = Room::new(alloc)?;
-    let mut doors = TcpDoors::new(rt, alloc, LineLimits::of_service(), StopFile::none());
-    if doors.listen(port).is_ok() {
+    let mut doors = SocketDoors::new(rt, alloc, LineLimits::of_service(), StopFile::none());
+    if doors.listen(Some(port)).is_ok() {
         serve_lines(waits, alloc, view, &mut clock, &mut doors, &mut room);
     }
     Ok(tell(rt, 9, "fts_monitor: doors failed\n"))

@@ -6,7 +6,7 @@
 //! before its first request it has a time of its own. `relief` has how the connection is taken.
 //! Order of an end: where the client may still be sending, the writing side is shut, and what comes is taken in for a while; then it is closed.
 //! Else unread bytes would make the system reset the connection, and the last response could be lost.
-//! Made by `TcpDoors`, and for a client by `TcpLink`. It tells nothing of bytes.
+//! Made by `SocketDoors`, and for a client by `TcpLink`. It tells nothing of bytes.
 ghost use Rattle.std.specs.Prelude.{◌≡◌, ◌≤◌, ◌<◌, length, None, true, false, IfOk, IsErr};
 ghost use Rattle.fts_tables.specs.Counts.{CountsFaults};
 ghost use Rattle.fts_wire.specs.Outside.{Reads, Writes, raised};
@@ -15,12 +15,12 @@ ghost use Rattle.fts_devices.specs.Limits.{IsOfService};
 ghost use Rattle.fts_devices.specs.Steps.{has_failed, is_answered, is_end};
 
 use crate::relief::{Met, Relief, glance, look_at_line};
+use crate::sockets::Stream;
 use crate::steps::{Seen, drains_on, is_end, may_send, own_time, time_left};
 use fts_wire::{Sink, SinkFailed, Source, SourceFailed};
 use std::io;
-use std::io::{ErrorKind, Read, Write};
-use std::net::{Shutdown, TcpStream};
-use std::os::fd::AsRawFd;
+use std::io::ErrorKind;
+use std::net::TcpStream;
 use std::rt::Clock as SystemTimes;
 use std::time::{Duration, Instant};
 
@@ -74,9 +74,9 @@ impl LineLimits {
 
 /// One connection of a client.
 #[derive(Drop)]
-pub struct TcpLine<'a, R: SystemTimes + Copy> {
+pub struct SocketLine<'a, R: SystemTimes + Copy> {
     rt: R,
-    stream: TcpStream,
+    stream: Stream,
     limits: LineLimits,
     /// When its last response was written, or when it began.
     since: Instant,
@@ -93,18 +93,27 @@ pub struct TcpLine<'a, R: SystemTimes + Copy> {
     write_faults: u64,
 }
 
-impl<'a, R: SystemTimes + Copy> TcpLine<'a, R> {
+impl<'a, R: SystemTimes + Copy> SocketLine<'a, R> {
     /// A line over a new connection, from which nothing was read and to which nothing was written. Small pieces are sent at once.
     /// An error of the system where the connection can't be set up, or the time can't be had.
-    pub fn new(rt: R, stream: TcpStream, limits: LineLimits) -> io::Result<TcpLine<'a, R>>
+    pub fn new(rt: R, stream: TcpStream, limits: LineLimits) -> io::Result<SocketLine<'a, R>>
         ensures fresh { IfOk result (λ line. (line.read_faults ≡ 0) × (line.write_faults ≡ 0)) }
         ensures new { IfOk result (λ line. (line.limits ≡ limits) × (line.has_answered ≡ false) × (line.is_asked ≡ false) × (line.relief ≡ None)
             × (line.is_at_end ≡ false) × (line.reads ≡ 0)) }
     {
-        stream.set_nodelay(true)?;
-        stream.set_write_timeout(Some(limits.wait))?;
+        SocketLine::over(rt, Stream::OfPort(stream), limits)
+    }
+
+    /// The same over a connection of either kind.
+    pub(crate) fn over(rt: R, stream: Stream, limits: LineLimits) -> io::Result<SocketLine<'a, R>>
+        ensures fresh { IfOk result (λ line. (line.read_faults ≡ 0) × (line.write_faults ≡ 0)) }
+        ensures new { IfOk result (λ line. (line.limits ≡ limits) × (line.has_answered ≡ false) × (line.is_asked ≡ false) × (line.relief ≡ None)
+            × (line.is_at_end ≡ false) × (line.reads ≡ 0)) }
+    {
+        stream.set_prompt()?;
+        stream.set_write_timeout(limits.wait)?;
         let since = Instant::now(&rt)?;
-        Ok(TcpLine {
+        Ok(SocketLine {
             rt,
             stream,
             limits,
@@ -120,7 +129,7 @@ impl<'a, R: SystemTimes + Copy> TcpLine<'a, R> {
     }
 
     /// The same line, which gives way to connections that wait at this relief's listener.
-    pub(crate) fn relieved_by(mut self, relief: Option<Relief<'a>>) -> TcpLine<'a, R> {
+    pub(crate) fn relieved_by(mut self, relief: Option<Relief<'a>>) -> SocketLine<'a, R> {
         self.relief = relief;
         if let Some(relief) = &mut self.relief {
             relief.begin();
@@ -157,7 +166,7 @@ impl<'a, R: SystemTimes + Copy> TcpLine<'a, R> {
         if relief.is_stopped() {
             return Ok(true);
         }
-        let (line, limits) = (self.stream.as_raw_fd(), self.limits);
+        let (line, limits) = (self.stream.handle(), self.limits);
         let start = Instant::now(&self.rt)?;
         for _ in 0..u64::MAX {
             let silent = start.elapsed(&self.rt)?;
@@ -208,8 +217,7 @@ impl<'a, R: SystemTimes + Copy> TcpLine<'a, R> {
         ensures since { self.new.since ≡ self.old.since }
     {
         let left = time_left(self.limits.request, self.since.elapsed(&self.rt)?)?;
-        self.stream
-            .set_read_timeout(Some(left.min(self.limits.wait)))?;
+        self.stream.set_read_timeout(left.min(self.limits.wait))?;
         let n = read_once(&mut self.stream, into)?;
         self.is_asked = self.is_asked || n > 0;
         if let Some(relief) = &mut self.relief {
@@ -242,13 +250,13 @@ impl<'a, R: SystemTimes + Copy> TcpLine<'a, R> {
 
     /// Shuts the writing side, and takes in what comes until the client ends too, for a bounded time and number of bytes.
     fn drain(&mut self) -> io::Result<()> {
-        self.stream.shutdown(Shutdown::Write)?;
+        self.stream.end_writing()?;
         let start = Instant::now(&self.rt)?;
         let mut piece = [0; DRAIN_PIECE_BYTES];
         let mut taken = 0;
         for _ in 0..u64::MAX {
             let left = time_left(self.limits.drain, start.elapsed(&self.rt)?)?;
-            self.stream.set_read_timeout(Some(left))?;
+            self.stream.set_read_timeout(left)?;
             let n = read_once(&mut self.stream, &mut piece)?;
             taken = usize::saturating_add(taken, n);
             if !drains_on(n, taken, self.limits.drain_bytes) {
@@ -260,7 +268,7 @@ impl<'a, R: SystemTimes + Copy> TcpLine<'a, R> {
 }
 
 /// One read, tried again where a signal came between.
-fn read_once(stream: &mut TcpStream, into: &mut [u8]) -> io::Result<usize>
+fn read_once(stream: &mut Stream, into: &mut [u8]) -> io::Result<usize>
     ensures bound { IfOk result (λ n. n ≤ length into.new) }
 {
     for _ in 0..u64::MAX {
@@ -275,7 +283,7 @@ fn read_once(stream: &mut TcpStream, into: &mut [u8]) -> io::Result<usize>
 /// Writes all of the bytes, within this time.
 fn write_whole<R: SystemTimes>(
     rt: &R,
-    stream: &mut TcpStream,
+    stream: &mut Stream,
     bytes: &[u8],
     wait: Duration,
 ) -> io::Result<()> {
@@ -293,7 +301,7 @@ fn write_whole<R: SystemTimes>(
 }
 
 /// One write, tried again where a signal came between.
-fn write_once(stream: &mut TcpStream, bytes: &[u8]) -> io::Result<usize>
+fn write_once(stream: &mut Stream, bytes: &[u8]) -> io::Result<usize>
     ensures bound { IfOk result (λ n. n ≤ length bytes.now) }
 {
     for _ in 0..u64::MAX {
@@ -305,7 +313,7 @@ fn write_once(stream: &mut TcpStream, bytes: &[u8]) -> io::Result<usize>
     Err(io::Error::from(ErrorKind::Interrupted))
 }
 
-impl<R: SystemTimes + Copy> Source for TcpLine<'_, R> {
+impl<R: SystemTimes + Copy> Source for SocketLine<'_, R> {
     ghost use Rattle.std.specs.Prelude.{None};
 
     ghost left = { λ _. None };
@@ -335,7 +343,7 @@ impl<R: SystemTimes + Copy> Source for TcpLine<'_, R> {
     }
 }
 
-impl<R: SystemTimes + Copy> Sink for TcpLine<'_, R> {
+impl<R: SystemTimes + Copy> Sink for SocketLine<'_, R> {
     ghost use Rattle.std.specs.Prelude.{None};
 
     ghost held = { λ _. None };
