@@ -14,8 +14,8 @@ ghost use Rattle.fts_words.specs.Words.{asked_in};
 ghost use Rattle.fts.specs.CommandLine.{stand_of, words_of, asks_service, exit_status_of, LooksAtMost, DeletesNothing};
 
 use fts_devices::{
-    LinkLimits, OpenedFile, ReadyError, ServiceGate, StopFile, SystemClock, SystemLog, TcpLink, can_begin,
-    closed_doors, command_line, hands_over, lanes_over,
+    LinkLimits, OpenedFile, ReadyError, ServiceGate, StopFile, SystemClock, SystemLog, TcpLink,
+    can_begin, closed_doors, command_line, hands_over, lanes_over,
 };
 use fts_disk::{Disk, FileDisk, MemoryDisk};
 use fts_files::{FileSystem, SystemFiles};
@@ -424,12 +424,7 @@ fn run_stand<R: Threads + Wait + Sync>(rt: &HostRuntime, threads: &R) -> Result<
         return Err(Memory);
     };
     let machine = Machine { rt, log: &log };
-    Ok(run_logged(
-        machine,
-        threads,
-        stand(line.as_slice()),
-        words,
-    ))
+    Ok(run_logged(machine, threads, stand(line.as_slice()), words))
 }
 
 fn main(rt: HostRuntime) -> ExitCode {

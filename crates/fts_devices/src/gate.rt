@@ -1,12 +1,11 @@
 //! The gate of a service: closed while its stop file stands, and a line of the log for each copy that ended.
 //! Keeps: it is closed exactly where the stop file stands (`is_closed`). The time of a copy goes from its begin to its end, without its claim and its report.
+use crate::log::SystemLog;
+use crate::stop::StopFile;
 use fts_log::{EndedCopy, Event, Log};
 use fts_tables::{Outcome, PlaceRef};
 use fts_workers::{CopyNote, Gate, PlaceNote};
 use std::time::{SystemTime, UNIX_EPOCH};
-
-use crate::log::SystemLog;
-use crate::stop::StopFile;
 
 /// A gate with a stop file and a log.
 #[derive(Clone, Copy, Drop)]
@@ -18,11 +17,7 @@ pub struct ServiceGate<'a> {
 
 impl<'a> ServiceGate<'a> {
     /// The gate that closes by this stop file and tells this log.
-    pub fn new(
-        rt: &'a HostRuntime,
-        stop: StopFile<'a>,
-        log: &'a SystemLog<'a>,
-    ) -> ServiceGate<'a> {
+    pub fn new(rt: &'a HostRuntime, stop: StopFile<'a>, log: &'a SystemLog<'a>) -> ServiceGate<'a> {
         ServiceGate { rt, stop, log }
     }
 }

@@ -2,15 +2,15 @@
 //! Each test has a path of its own in the folder that it runs in.
 ghost use Rattle.std.specs.Prelude.{◌<◌, IfOk};
 
-use fts_devices::{LineLimits, StopFile, SocketDoors, SocketLine};
+use fts_devices::{LineLimits, SocketDoors, SocketLine, StopFile};
 use fts_service::{Doors, DoorsFailed};
 use fts_wire::{Room, Sink, Source, WireFault};
+use std::fs;
 use std::io::{Read, Write};
 use std::os::unix::fs::{FileTypeExt, symlink};
 use std::os::unix::net::{UnixListener, UnixStream};
 use std::test::Fail;
 use std::time::Duration;
-use std::fs;
 
 /// Doors at a socket.
 type Opened<'a> = SocketDoors<'a, &'a HostRuntime>;
@@ -83,7 +83,10 @@ fn a_client_of_a_socket_is_answered(rt: HostRuntime) -> Result<(), Fail> {
     doors.done(line);
     let mut answer = Vec::new(rt.alloc());
     client.read_to_end(&mut answer)?;
-    assert!(rt; answer.as_slice() == b"cde".as_slice(), "and reads to its end");
+    assert!(rt;
+        answer.as_slice() == b"cde".as_slice(),
+        "and reads to its end"
+    );
     fs::remove_file(&rt, path)?;
     Ok(())
 }
@@ -116,7 +119,10 @@ fn a_silent_line_of_a_socket_gives_way(rt: HostRuntime) -> Result<(), Fail> {
     assert!(rt; found == Ok(false), "the silent line is at its end");
     doors.done(line);
     let next = load_next(&rt, &mut doors)?;
-    assert!(rt; next == Ok(true), "and the connection that waited is the next one");
+    assert!(rt;
+        next == Ok(true),
+        "and the connection that waited is the next one"
+    );
     drop(kept);
     fs::remove_file(&rt, path)?;
     Ok(())
@@ -132,9 +138,15 @@ fn a_socket_at_which_a_service_listens_is_its_own(rt: HostRuntime) -> Result<(),
     // The look at it was a connection, which sent nothing.
     let look = load_next(&rt, &mut first)?;
     assert!(rt; look == Ok(false), "a look at it");
-    assert!(rt; is_served(&rt, path, &mut first)?, "its clients still reach it");
+    assert!(rt;
+        is_served(&rt, path, &mut first)?,
+        "its clients still reach it"
+    );
     assert!(rt; doors.share(&first).is_ok(), "it is shared");
-    assert!(rt; is_served(&rt, path, &mut doors)?, "by the doors that share");
+    assert!(rt;
+        is_served(&rt, path, &mut doors)?,
+        "by the doors that share"
+    );
     fs::remove_file(&rt, path)?;
     Ok(())
 }
@@ -144,11 +156,20 @@ fn the_socket_of_a_service_that_has_ended_is_replaced(rt: HostRuntime) -> Result
     let path = "./dead.socket";
     let first = open_doors(&rt, path)?;
     drop(first);
-    assert!(rt; UnixStream::connect(&rt, path).is_err(), "nobody listens at it");
-    assert!(rt; fs::symlink_metadata(&rt, path).is_ok(), "and it stands there");
+    assert!(rt;
+        UnixStream::connect(&rt, path).is_err(),
+        "nobody listens at it"
+    );
+    assert!(rt;
+        fs::symlink_metadata(&rt, path).is_ok(),
+        "and it stands there"
+    );
     let mut doors = doors_at(&rt, path);
     assert!(rt; doors.listen(None).is_ok(), "it is replaced");
-    assert!(rt; is_served(&rt, path, &mut doors)?, "clients reach the new one");
+    assert!(rt;
+        is_served(&rt, path, &mut doors)?,
+        "clients reach the new one"
+    );
     fs::remove_file(&rt, path)?;
     Ok(())
 }
@@ -170,7 +191,10 @@ fn what_is_no_socket_stays(rt: HostRuntime) -> Result<(), Fail> {
     );
     fs::write(&rt, file, b"ab")?;
     assert!(rt; are_refused(&rt, file), "a plain file");
-    assert!(rt; fs::read(&rt, file)?.as_slice() == b"ab".as_slice(), "as it was");
+    assert!(rt;
+        fs::read(&rt, file)?.as_slice() == b"ab".as_slice(),
+        "as it was"
+    );
     fs::create_dir(&rt, folder)?;
     assert!(rt; are_refused(&rt, folder), "a folder");
     assert!(rt; fs::metadata(&rt, folder)?.is_dir(), "as it was");
@@ -191,10 +215,22 @@ fn what_is_no_socket_stays(rt: HostRuntime) -> Result<(), Fail> {
 fn doors_listen_at_what_they_have(rt: HostRuntime) -> Result<(), Fail> {
     let path = "./other.socket";
     let mut at_socket = doors_at(&rt, path);
-    assert!(rt; at_socket.listen(Some(0)) == Err(DoorsFailed), "they have no port");
-    assert!(rt; fs::symlink_metadata(&rt, path).is_err(), "and made no socket");
+    assert!(rt;
+        at_socket.listen(Some(0)) == Err(DoorsFailed),
+        "they have no port"
+    );
+    assert!(rt;
+        fs::symlink_metadata(&rt, path).is_err(),
+        "and made no socket"
+    );
     let mut at_port = SocketDoors::new(&rt, rt.alloc(), short_limits(), StopFile::none());
-    assert!(rt; at_port.listen(None) == Err(DoorsFailed), "they have no socket");
-    assert!(rt; are_refused(&rt, "./no-folder/a.socket"), "there is no such folder");
+    assert!(rt;
+        at_port.listen(None) == Err(DoorsFailed),
+        "they have no socket"
+    );
+    assert!(rt;
+        are_refused(&rt, "./no-folder/a.socket"),
+        "there is no such folder"
+    );
     Ok(())
 }

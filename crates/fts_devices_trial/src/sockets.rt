@@ -4,7 +4,7 @@ ghost use Rattle.std.specs.Prelude.{◌<◌, IfOk, IsTrue};
 ghost use Rattle.fts_wire.specs.Response.{has_phrase, has_methods};
 
 use fts_client::Link;
-use fts_devices::{LineLimits, LinkLimits, StopFile, SocketDoors, SocketLine, TcpLink};
+use fts_devices::{LineLimits, LinkLimits, SocketDoors, SocketLine, StopFile, TcpLink};
 use fts_service::{Doors, DoorsFailed};
 use fts_tables::Items;
 use fts_wire::{

@@ -8,7 +8,7 @@ ghost use Rattle.fts_words.specs.Words.{number_of};
 ghost use Rattle.fts_disk.specs.File.{IsReadOnly};
 ghost use Rattle.fts_monitor.specs.CommandLine.{port_by, port_in, port_named, status_of};
 
-use fts_devices::{LineLimits, StopFile, SystemClock, SocketDoors, command_line};
+use fts_devices::{LineLimits, SocketDoors, StopFile, SystemClock, command_line};
 use fts_disk::{Disk, FileDisk, SystemDisk};
 use fts_panel::{View, open_view, serve_line};
 use fts_service::{Doors, DoorsFailed};
