@@ -200,7 +200,7 @@ fn run_in_memory<R: Threads + Wait + Sync>(
     let journal = MemoryDisk::new(alloc, Vec::new(alloc));
     let deletes = MemoryDisk::new(alloc, Vec::new(alloc));
     let stores = stand_stores(rt)?;
-    let doors = closed_doors(rt, alloc, StopFile::none(), log, socket_of(words))?;
+    let doors = closed_doors(rt, alloc, StopFile::none(), socket_of(words), Some(log))?;
     let gate = ServiceGate::new(rt, StopFile::none(), log);
     run_over(
         rt, threads, words, settings, journal, deletes, stores, doors, gate,
@@ -270,7 +270,7 @@ fn run_in_folder<R: Threads + Wait + Sync>(
         sweep_parts(machine, folder)?;
         meet_endpoints(&mut stores)?;
     }
-    let doors = closed_doors(rt, alloc, stop, log, socket_of(words))?;
+    let doors = closed_doors(rt, alloc, stop, socket_of(words), Some(log))?;
     let gate = ServiceGate::new(rt, stop, log);
     run_over(
         rt, threads, words, settings, journal, deletes, stores, doors, gate,

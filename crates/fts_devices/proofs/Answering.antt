@@ -1,7 +1,7 @@
 -- What follows from one answer of a listener more.
 use Rattle.std.proofs.Common.{◌≡◌, refl, sym, ap, ◌∙◌, subst, ℕ, zero, suc, List, [], ◌∷◌, Option, Some, None, Result, Ok, Err}
 use Rattle.fts_devices.specs.declared.steps.Untaken.{Untaken}
-use Rattle.fts_devices.specs.declared.steps.Untaken.TheVariants.{Gone, NotYet, NoListener}
+use Rattle.fts_devices.specs.declared.steps.Untaken.TheVariants.{NoListener}
 use Rattle.fts_devices.specs.Steps.{untaken_by}
 use Rattle.fts_devices.specs.Accepting.{Answers, FollowsRefusal, GivesFirstOf, GivesLine}
 

@@ -6,6 +6,7 @@ ghost use Rattle.std.specs.Option.{option_copied};
 ghost use Rattle.fts_tables.specs.declared.limits.TheConstants.{MAX_LANES};
 ghost use Rattle.fts_devices.specs.Lanes.{IsClosed};
 
+use crate::log::SystemLog;
 use crate::outside::SystemClock;
 use crate::socket_doors::SocketDoors;
 use crate::socket_line::LineLimits;
@@ -24,8 +25,8 @@ const LANES: usize = MAX_LANES as usize;
 /// A lane with the system's clock.
 pub type SystemLane<A, R> = Lane<A, SystemClock<R>>;
 
-/// Doors for each lane of a service, `MAX_LANES` of them, which don't listen yet, give no line any more once this stop file stands, and listen
-/// at this socket where one is named. An error where memory is wanting.
+/// Doors for each lane of a service, `MAX_LANES` of them, which don't listen yet, give no line any more once this stop file stands, listen
+/// at this socket where one is named, and tell this log where there is one. An error where memory is wanting.
 pub fn closed_doors<
     'a,
     R: Net<Listener = TcpListener, Stream = TcpStream> + Files + SystemTimes + Copy,
@@ -34,13 +35,17 @@ pub fn closed_doors<
     alloc: Global,
     stop: StopFile<'a>,
     socket: Option<&'a str>,
+    log: Option<&'a SystemLog<'a>>,
 ) -> Result<Vec<SocketDoors<'a, R>>, Memory>
     ensures count { IfOk result (λ doors. length doors.items ≡ MAX_LANES) }
     ensures closed { IfOk result (λ doors. All (IsClosed (option_copied socket.entry)) doors.items) }
 {
     let mut doors = Vec::new(alloc);
     for _ in 0..LANES {
-        if doors.push(service_doors(rt, alloc, stop, socket)).is_err() {
+        if doors
+            .push(service_doors(rt, alloc, stop, socket, log))
+            .is_err()
+        {
             return Err(Memory);
         }
     }
@@ -51,10 +56,18 @@ pub fn closed_doors<
 fn service_doors<
     'a,
     R: Net<Listener = TcpListener, Stream = TcpStream> + Files + SystemTimes + Copy,
->(rt: R, alloc: Global, stop: StopFile<'a>, socket: Option<&'a str>) -> SocketDoors<'a, R>
+>(
+    rt: R,
+    alloc: Global,
+    stop: StopFile<'a>,
+    socket: Option<&'a str>,
+    log: Option<&'a SystemLog<'a>>,
+) -> SocketDoors<'a, R>
     ensures { IsClosed (option_copied socket.entry) result }
 {
-    SocketDoors::new(rt, alloc, LineLimits::of_service(), stop).at_socket(socket)
+    SocketDoors::new(rt, alloc, LineLimits::of_service(), stop)
+        .at_socket(socket)
+        .telling(log)
 }
 
 /// The lanes at these doors, in their order, each with the system's clock. An error where memory is wanting.

@@ -10,11 +10,13 @@ ghost use Rattle.std.specs.Option.{option_copied};
 ghost use Rattle.fts_tables.specs.Counts.{CountsFaults};
 
 use crate::accepting::{Listens, next_line};
+use crate::log::SystemLog;
 use crate::relief::{Relief, glance, look_at_listener};
 use crate::socket_line::{LineLimits, SocketLine};
 use crate::sockets::{Listener, Stream, errno_of};
 use crate::steps::Seen;
 use crate::stop::StopFile;
+use fts_log::{Event, Log};
 use fts_service::{Doors, DoorsFailed};
 use std::alloc::Global;
 use std::fs::Files;
@@ -42,6 +44,8 @@ pub struct SocketDoors<
     relief: Option<Relief<'a>>,
     /// What says that the service is to stop.
     stop: StopFile<'a>,
+    /// Who is told where they listen, and which lines are ended for a fault.
+    log: Option<&'a SystemLog<'a>>,
     out: u64,
     faults: u64,
 }
@@ -108,7 +112,7 @@ impl<
 > SocketDoors<'a, R> {
     /// Doors that don't listen yet, whose lines have these limits. They give no line any more once this stop file stands.
     pub fn new(rt: R, alloc: Global, limits: LineLimits, stop: StopFile<'a>) -> SocketDoors<'a, R>
-        ensures { result ≡ record { rt = rt; alloc = alloc; limits = limits; path = None; listener = None; relief = None; stop = stop.exit; out = 0; faults = 0 } }
+        ensures { result ≡ record { rt = rt; alloc = alloc; limits = limits; path = None; listener = None; relief = None; stop = stop.exit; log = None; out = 0; faults = 0 } }
     {
         SocketDoors {
             rt,
@@ -118,6 +122,7 @@ impl<
             listener: None,
             relief: None,
             stop,
+            log: None,
             out: 0,
             faults: 0,
         }
@@ -131,6 +136,35 @@ impl<
     {
         self.path = path;
         self
+    }
+
+    /// The same doors, which tell this log, where there is one, at which place they listen, and which lines are ended for a fault.
+    pub fn telling(mut self, log: Option<&'a SystemLog<'a>>) -> SocketDoors<'a, R>
+        ensures path { option_copied result.path ≡ option_copied self.entry.path }
+        ensures same { (result.limits ≡ self.entry.limits) × (result.listener ≡ self.entry.listener) × (result.relief ≡ self.entry.relief) }
+        ensures counts { (result.out ≡ self.entry.out) × (result.faults ≡ self.entry.faults) }
+    {
+        self.log = log;
+        self
+    }
+
+    /// Tells the log an event, where there is one.
+    fn tell(&self, event: &Event<'_>) {
+        if let Some(log) = self.log {
+            log.tell(event);
+        }
+    }
+
+    /// Tells where they listen: the path of a socket, or the address and the port.
+    fn tell_place(&self) {
+        if let (None, Some(path)) = (self.place(), self.path) {
+            self.tell(&Event::Listens { at: path });
+        }
+        if let Some(place) = self.place() {
+            if let Ok(at) = format!(in self.alloc; "{place}") {
+                self.tell(&Event::Listens { at: at.as_str() });
+            }
+        }
     }
 
     /// The address and the port that they listen on, as the system says; none where they don't listen on one, or where it can't say.
@@ -217,7 +251,9 @@ impl<'a, R: Net<Listener = TcpListener, Stream = TcpStream> + Files + SystemTime
     fn listen(&mut self, port: Option<u16>) -> Result<(), DoorsFailed> {
         let listener = self.bound(port);
         let listener = self.ready(listener);
-        self.take(listener)
+        self.take(listener)?;
+        self.tell_place();
+        Ok(())
     }
 
     fn share(&mut self, first: &SocketDoors<'a, R>) -> Result<(), DoorsFailed> {
@@ -242,6 +278,9 @@ impl<'a, R: Net<Listener = TcpListener, Stream = TcpStream> + Files + SystemTime
     }
 
     fn done(&mut self, line: SocketLine<'a, R>) {
+        if let Some(cause) = line.fault() {
+            self.tell(&Event::LineEnded { cause });
+        }
         self.out -= 1;
         self.relief = line.end();
     }

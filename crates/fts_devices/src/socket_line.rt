@@ -17,6 +17,7 @@ ghost use Rattle.fts_devices.specs.Steps.{has_failed, is_answered, is_end};
 use crate::relief::{Met, Relief, glance, look_at_line};
 use crate::sockets::Stream;
 use crate::steps::{Seen, drains_on, is_end, may_send, own_time, time_left};
+use fts_log::LineFault;
 use fts_wire::{Sink, SinkFailed, Source, SourceFailed};
 use std::io;
 use std::io::ErrorKind;
@@ -88,9 +89,33 @@ pub struct SocketLine<'a, R: SystemTimes + Copy> {
     relief: Option<Relief<'a>>,
     /// Whether its input has ended.
     is_at_end: bool,
+    /// Why it is ended, where that is a fault: the last one.
+    fault: Option<LineFault>,
     reads: u64,
     read_faults: u64,
     write_faults: u64,
+}
+
+/// Why a line is ended whose read was refused so: its request was too slow, or it failed. None where no byte of a request had come: a kept connection that
+/// falls silent, or goes away, is none.
+fn read_fault(is_asked: bool, error: &io::Error) -> Option<LineFault>
+    ensures silent { is_asked ≡ false → result ≡ None }
+{
+    if !is_asked {
+        return None;
+    }
+    match error.kind() {
+        ErrorKind::TimedOut | ErrorKind::WouldBlock => Some(LineFault::SlowToSend),
+        _ => Some(LineFault::StreamFailed),
+    }
+}
+
+/// Why a line is ended whose write was refused so.
+fn write_fault(error: &io::Error) -> LineFault {
+    match error.kind() {
+        ErrorKind::TimedOut | ErrorKind::WouldBlock => LineFault::SlowToTake,
+        _ => LineFault::StreamFailed,
+    }
 }
 
 impl<'a, R: SystemTimes + Copy> SocketLine<'a, R> {
@@ -122,6 +147,7 @@ impl<'a, R: SystemTimes + Copy> SocketLine<'a, R> {
             is_asked: false,
             relief: None,
             is_at_end: false,
+            fault: None,
             reads: 0,
             read_faults: 0,
             write_faults: 0,
@@ -135,6 +161,11 @@ impl<'a, R: SystemTimes + Copy> SocketLine<'a, R> {
             relief.begin();
         }
         self
+    }
+
+    /// Why it is ended, where that is a fault.
+    pub(crate) fn fault(&self) -> Option<LineFault> {
+        self.fault
     }
 
     /// Whether a read or a write of it has failed.
@@ -335,7 +366,8 @@ impl<R: SystemTimes + Copy> Source for SocketLine<'_, R> {
         self.reads = self.reads.saturating_add(1);
         match self.read_in_time(into) {
             Ok(n) => Ok(n),
-            Err(_) => {
+            Err(error) => {
+                self.fault = read_fault(self.is_asked, &error);
                 self.read_faults = self.read_faults.saturating_add(1);
                 Err(SourceFailed)
             }
@@ -362,7 +394,8 @@ impl<R: SystemTimes + Copy> Sink for SocketLine<'_, R> {
     {
         match self.write_in_time(bytes) {
             Ok(_) => Ok(bytes.len()),
-            Err(_) => {
+            Err(error) => {
+                self.fault = Some(write_fault(&error));
                 self.write_faults = self.write_faults.saturating_add(1);
                 Err(SinkFailed)
             }

@@ -108,7 +108,7 @@ fn status_over<R: Threads + Wait + Sync>(
         MemoryDisk::new(alloc, Vec::new(alloc)),
         MemoryDisk::new(alloc, Vec::new(alloc)),
         memory_stores(alloc)?,
-        closed_doors(rt, alloc, StopFile::none(), None)?,
+        closed_doors(rt, alloc, StopFile::none(), None, None)?,
     )?;
     Ok(ended.status)
 }

@@ -105,6 +105,6 @@ pub fn run_in_folder<R: Threads + Wait + Sync>(
         FileDisk::open(rt, journal.as_str()),
         FileDisk::view(rt, deletes.as_str()),
         stores,
-        closed_doors(rt, alloc, StopFile::none(), None)?,
+        closed_doors(rt, alloc, StopFile::none(), None, None)?,
     )
 }

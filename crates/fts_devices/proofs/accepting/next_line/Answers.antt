@@ -1,7 +1,7 @@
 -- Each answer is one more of those that are taken.
 use Rattle.std.proofs.Common.{subst, ℕ, suc, Option, Some, None, List, Result, ◌+◌, ◌-◌, arith}
 use Rattle.fts_devices.specs.Accepting.{GivesLine}
-use Rattle.fts_devices.specs.declared.steps.Untaken.TheVariants.{Gone, NotYet, NoListener}
+use Rattle.fts_devices.specs.declared.steps.Untaken.TheVariants.{Gone, NotYet}
 use Rattle.fts_devices.proofs.Answering.{by_line, by_end, by_refusal}
 use Rattle.fts_devices.proofs.accepting.next_line.Goals.{in-Gone, in-NotYet}
 use Rattle.fts_devices.proofs.accepting.next_line.Goals as goal
