@@ -1,10 +1,18 @@
--- What a list of entries tells that the tables don't keep: the reports of copies, the last moment, and that of the last restart.
-use Rattle.std.specs.Prelude.{ℕ, Bool, List, ◌++◌, map, Option, None, Some, option_to_list, unwrap_or}
+-- What a list of entries tells that the tables don't keep: the reports of copies, what was done to files by name, the last moment, and that of the last restart.
+use Rattle.std.specs.Prelude.{ℕ, Bool, List, [], ◌∷◌, ◌++◌, map, Option, None, Some, option_to_list, unwrap_or, Ok, Err}
 use Rattle.std.specs.List.{filter_map, last_or}
+use Rattle.fts_tables.specs.Tables.{Tables, empty_tables}
+use Rattle.fts_tables.specs.Step.{Outcomes, step}
+use Rattle.fts_tables.specs.History.{tables_after}
+use Rattle.fts_tables.specs.declared.commands.Answer.{Answer}
+use Rattle.fts_tables.specs.declared.commands.Answer.TheVariants.{Restarted, Submitted, Cancelled, PrioritySet, Claimed, Reported, Banned, Unbanned, Expired}
 use Rattle.fts_tables.specs.declared.commands.Entry.{Entry}
 use Rattle.fts_tables.specs.declared.commands.Command.{Command}
 use Rattle.fts_tables.specs.declared.commands.Command.TheVariants.{Restart, Submit, CancelJob, CancelFile, SetPriority, Claim, Report, Ban, Unban, Expire}
+use Rattle.fts_tables.specs.declared.rows.FileState.{FileState}
 use Rattle.fts_chronicle.specs.declared.chronicle.CopyReport.{CopyReport}
+use Rattle.fts_chronicle.specs.declared.events.FileEvent.{FileEvent}
+use Rattle.fts_chronicle.specs.declared.events.FileEvent.TheVariants.{Claimed as FileClaimed, Reported as FileReported, JobCancelled, FileCancelled}
 
 -- the moment that a command carries
 abbrev pub now_of : Command → ℕ
@@ -49,6 +57,59 @@ report_by (Expire now) = None
 abbrev pub reports_of : List Entry → List CopyReport
 reports_of entries = filter_map (λ entry. report_by entry.command) entries
 
+-- the claim that an answer names, at a moment
+abbrev pub claim_by : ℕ → Answer → Option FileEvent
+claim_by now (Restarted released) = None
+claim_by now (Submitted job id) = None
+claim_by now (Cancelled job) = None
+claim_by now (PrioritySet job) = None
+claim_by now (Claimed file attempt) = Some (FileClaimed now file attempt)
+claim_by now (Reported file state) = None
+claim_by now (Banned cancelled) = None
+claim_by now Unbanned = None
+claim_by now (Expired cancelled) = None
+
+-- a report, and the state of its file that an answer names
+abbrev pub ending_by : CopyReport → Answer → Option FileEvent
+ending_by report (Restarted released) = None
+ending_by report (Submitted job id) = None
+ending_by report (Cancelled job) = None
+ending_by report (PrioritySet job) = None
+ending_by report (Claimed file attempt) = None
+ending_by report (Reported file state) = Some (FileReported report state)
+ending_by report (Banned cancelled) = None
+ending_by report Unbanned = None
+ending_by report (Expired cancelled) = None
+
+-- what a command that was answered so did to a file, or to a job's files: a claim, the end of a copy, or a cancellation, which names a job or a file
+abbrev pub event_by : Command → Answer → Option FileEvent
+event_by (Restart now settings) answer = None
+event_by (Submit now job) answer = None
+event_by (CancelJob now job) answer = Some (JobCancelled now job)
+event_by (CancelFile now job file) answer = Some (FileCancelled now job file)
+event_by (SetPriority now job priority) answer = None
+event_by (Claim now word) answer = claim_by now answer
+event_by (Report now file attempt outcome) answer = ending_by (record { moment = now; file = file; attempt = attempt; outcome = outcome }) answer
+event_by (Ban now storage cancel) answer = None
+event_by (Unban now storage) answer = None
+event_by (Expire now) answer = None
+
+-- what a step did to a file: nothing, where it was refused
+abbrev pub event_of_step : Command → Outcomes → Option FileEvent
+event_of_step command (Ok done) = event_by command done.1
+event_of_step command (Err refusal) = None
+
+-- what entries did to files, one after the other, from some tables on
+abbrev pub events_from : Tables → List Entry → List FileEvent
+events_from tables [] = []
+events_from tables (entry ∷ entries) =
+    option_to_list (event_of_step entry.command (step tables entry.command))
+    ++ events_from (tables_after tables (step tables entry.command)) entries
+
+-- what the entries did to files, in their order
+abbrev pub events_of : List Entry → List FileEvent
+events_of entries = events_from empty_tables entries
+
 -- the moment of the last entry's command, and 0 where there is none
 abbrev pub moment_of : List Entry → ℕ
 moment_of entries = unwrap_or (last_or None (map (λ entry. now_of entry.command) entries)) 0
@@ -57,25 +118,28 @@ moment_of entries = unwrap_or (last_or None (map (λ entry. now_of entry.command
 abbrev pub restart_of : List Entry → ℕ
 restart_of entries = unwrap_or (last_or None (filter_map (λ entry. restart_by entry.command) entries)) 0
 
--- what entries told: the last moment, that of the last restart, and the reports
+-- what entries told: the last moment, that of the last restart, the reports, and what was done to files
 pub record ChronicleData : Type 0 where
   pub moment : ℕ
   pub restart : ℕ
   pub reports : List CopyReport
+  pub events : List FileEvent
 
 -- what these entries told
 abbrev pub chronicle_of : List Entry → ChronicleData
-chronicle_of entries = record { moment = moment_of entries; restart = restart_of entries; reports = reports_of entries }
+chronicle_of entries =
+    record { moment = moment_of entries; restart = restart_of entries; reports = reports_of entries; events = events_of entries }
 
--- what they told, and what a further command tells
-abbrev pub chronicle_with : ChronicleData → Command → ChronicleData
-chronicle_with before command = record {
+-- what they told, and what a further command tells that is answered so
+abbrev pub chronicle_with : ChronicleData → Command → Answer → ChronicleData
+chronicle_with before command answer = record {
   moment = now_of command;
   restart = unwrap_or (restart_by command) before.restart;
   reports = before.reports ++ option_to_list (report_by command);
+  events = before.events ++ option_to_list (event_by command answer);
 }
 
--- what contracts see of a chronicle: what the entries told, and whether there is room for one report more
+-- what contracts see of a chronicle: what the entries told, and whether there is room for one entry more
 pub record KeptChronicle : Type 0 where
   pub told : ChronicleData
   pub ready : Bool
