@@ -74,9 +74,7 @@ pub fn events_of_row(
 ) -> Result<Vec<EventShown>, AllocError>
     ensures { IfOk result (λ shown. shown.items ≡ events_of_row job.now row.now events.now) }
 {
-    let done = events
-        .iter()
-        .filter_map(|event| event_of(job, row, *event));
+    let done = events.iter().filter_map(|event| event_of(job, row, *event));
     iter::once(submission_of(job)).chain(done).collect(alloc)
 }
 

@@ -78,11 +78,7 @@ fn file_shown(
 }
 
 /// A file as it stands, with its newest events.
-fn file_with_events(
-    alloc: Global,
-    row: &FileRow,
-    events: &[EventShown],
-) -> Result<Value, Memory>
+fn file_with_events(alloc: Global, row: &FileRow, events: &[EventShown]) -> Result<Value, Memory>
     ensures { IfOk result (λ value. view value ≡ file_with_events row.now events.now) }
 {
     let left_out = events.len().saturating_sub(MAX_EVENTS);
