@@ -87,11 +87,11 @@ impl Chronicle {
         if let Some(moment) = restart_by(command) {
             self.restart = moment;
         }
+        if let Some(event) = event_by(self.reports.as_slice().len(), command, answer) {
+            self.events.push_reserved(event);
+        }
         if let Some(report) = report_by(command) {
             self.reports.push_reserved(report);
-        }
-        if let Some(event) = event_by(command, answer) {
-            self.events.push_reserved(event);
         }
     }
 

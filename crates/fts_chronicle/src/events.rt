@@ -2,7 +2,6 @@
 ghost use Rattle.std.specs.Prelude.{◌≡◌};
 ghost use Rattle.fts_chronicle.specs.Chronicle.{claim_by, ending_by, event_by};
 
-use crate::CopyReport;
 use fts_tables::{Answer, Command, FileState};
 
 /// What was done to a file, or asked for the files of a job. Moments are in seconds since 1970.
@@ -14,9 +13,9 @@ pub enum FileEvent {
         file: u32,
         attempt: u32,
     },
-    /// A copy ended, and its file stood in this state then.
+    /// A copy ended, and its file stood in this state then. The report is that of this place among all, from 0.
     Reported {
-        report: CopyReport,
+        place: usize,
         state: FileState,
     },
     /// The cancellation of a job was accepted.
@@ -32,9 +31,9 @@ pub enum FileEvent {
     },
 }
 
-/// What a command that was answered so did to a file; none where no file or job is named.
-pub fn event_by(command: &Command, answer: Answer) -> Option<FileEvent>
-    ensures { result ≡ event_by command.now answer }
+/// What a command that was answered so, behind so many reports, did to a file; none where no file or job is named.
+pub fn event_by(place: usize, command: &Command, answer: Answer) -> Option<FileEvent>
+    ensures { result ≡ event_by place command.now answer }
 {
     match command {
         Command::Restart {
@@ -58,19 +57,11 @@ pub fn event_by(command: &Command, answer: Answer) -> Option<FileEvent>
         } => None,
         Command::Claim { now, word: _ } => claim_by(*now, answer),
         Command::Report {
-            now,
-            file,
-            attempt,
-            outcome,
-        } => {
-            let report = CopyReport {
-                moment: *now,
-                file: *file,
-                attempt: *attempt,
-                outcome: *outcome,
-            };
-            ending_by(report, answer)
-        }
+            now: _,
+            file: _,
+            attempt: _,
+            outcome: _,
+        } => ending_by(place, answer),
         Command::Ban {
             now: _,
             storage: _,
@@ -102,12 +93,12 @@ fn claim_by(now: u64, answer: Answer) -> Option<FileEvent>
     }
 }
 
-/// A report, and the state of its file that an answer names.
-fn ending_by(report: CopyReport, answer: Answer) -> Option<FileEvent>
-    ensures { result ≡ ending_by report answer }
+/// The report of this place, and the state of its file that an answer names.
+fn ending_by(place: usize, answer: Answer) -> Option<FileEvent>
+    ensures { result ≡ ending_by place answer }
 {
     match answer {
-        Answer::Reported { file: _, state } => Some(FileEvent::Reported { report, state }),
+        Answer::Reported { file: _, state } => Some(FileEvent::Reported { place, state }),
         Answer::Restarted { released: _ }
         | Answer::Submitted { job: _, id: _ }
         | Answer::Cancelled { job: _ }

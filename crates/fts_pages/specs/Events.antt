@@ -1,5 +1,5 @@
 -- What happened to a file, as its job's page shows it: its submission, and what the journal's entries did to it by name.
-use Rattle.std.specs.Prelude.{ℕ, ◌+◌, ◌-◌, ◌==◌, ◌&&◌, ◌||◌, Bool, true, false, if◌then◌else◌, nat_lt, nat_le, List, ◌∷◌, length, drop, filter, Option, Some, None, codes}
+use Rattle.std.specs.Prelude.{ℕ, ◌+◌, ◌-◌, ◌==◌, ◌&&◌, ◌||◌, Bool, true, false, if◌then◌else◌, nat_lt, nat_le, List, ◌∷◌, length, drop, filter, slice_get, Option, Some, None, codes}
 use Rattle.std.specs.List.{filter_map}
 use Rattle.serde_json.specs.Data.{Data, null}
 use Rattle.fts_tables.specs.Tables.{is_canceled}
@@ -26,16 +26,21 @@ use Rattle.fts_pages.specs.declared.events.Happening.TheVariants.{Submission, Cl
 abbrev pub is_file_of : JobRow → ℕ → Bool
 is_file_of job file = nat_le job.first file && nat_lt file (job.first + job.count)
 
--- whether an event is of a job or of a file of it
-abbrev pub is_event_of : JobRow → FileEvent → Bool
-is_event_of job (FileClaimed moment file attempt) = is_file_of job file
-is_event_of job (FileReported report state) = is_file_of job report.file
-is_event_of job (JobCancelled moment number) = number == job.number
-is_event_of job (FileCancelled moment number file) = number == job.number
+-- whether a report, where there is one, is of a file of a job
+abbrev pub is_report_of : JobRow → Option CopyReport → Bool
+is_report_of job None = false
+is_report_of job (Some report) = is_file_of job report.file
 
--- the events of a job
-abbrev pub events_of_job : JobRow → List FileEvent → List FileEvent
-events_of_job job events = filter (is_event_of job) events
+-- whether an event is of a job or of a file of it, by the reports
+abbrev pub is_event_of : List CopyReport → JobRow → FileEvent → Bool
+is_event_of reports job (FileClaimed moment file attempt) = is_file_of job file
+is_event_of reports job (FileReported place state) = is_report_of job (slice_get reports place)
+is_event_of reports job (JobCancelled moment number) = number == job.number
+is_event_of reports job (FileCancelled moment number file) = number == job.number
+
+-- the events of a job, by the reports
+abbrev pub events_of_job : List CopyReport → JobRow → List FileEvent → List FileEvent
+events_of_job reports job events = filter (is_event_of reports job) events
 
 -- what a report made of its file, by the state behind it; none leaves a file ACTIVE or NOT_USED
 abbrev pub happening_by : FileState → Happening
@@ -118,17 +123,22 @@ is_joint Plain = false
 is_joint Replica = true
 is_joint Multihop = true
 
--- what an event did to a row of a job
-abbrev pub event_of : JobRow → FileRow → FileEvent → Option EventShown
-event_of job row (FileClaimed moment file attempt) = if file == row.id then Some (claim_event moment attempt) else None
-event_of job row (FileReported report state) = if report.file == row.id then Some (report_event report state) else None
-event_of job row (JobCancelled moment number) = if number == job.number then cancel_event row moment else None
-event_of job row (FileCancelled moment number file) =
+-- what a report, where there is one, made of a row, by the state behind it
+abbrev pub ending_of : FileRow → FileState → Option CopyReport → Option EventShown
+ending_of row state None = None
+ending_of row state (Some report) = if report.file == row.id then Some (report_event report state) else None
+
+-- what an event did to a row of a job, by the reports
+abbrev pub event_of : List CopyReport → JobRow → FileRow → FileEvent → Option EventShown
+event_of reports job row (FileClaimed moment file attempt) = if file == row.id then Some (claim_event moment attempt) else None
+event_of reports job row (FileReported place state) = ending_of row state (slice_get reports place)
+event_of reports job row (JobCancelled moment number) = if number == job.number then cancel_event row moment else None
+event_of reports job row (FileCancelled moment number file) =
     if number == job.number && (file == row.id || is_joint job.kind) then cancel_event row moment else None
 
--- what happened to a row, oldest first: it was submitted, and then what these events did to it
-abbrev pub events_of_row : JobRow → FileRow → List FileEvent → List EventShown
-events_of_row job row events = submission_of job ∷ filter_map (event_of job row) events
+-- what happened to a row, oldest first: it was submitted, and then what these events did to it, by the reports
+abbrev pub events_of_row : List CopyReport → JobRow → FileRow → List FileEvent → List EventShown
+events_of_row reports job row events = submission_of job ∷ filter_map (event_of reports job row) events
 
 -- how many of so many events are left out
 abbrev pub left_out : ℕ → ℕ

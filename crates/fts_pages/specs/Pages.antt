@@ -7,6 +7,8 @@ use Rattle.fts_tables.specs.declared.rows.FileRow.{FileRow}
 use Rattle.fts_tables.specs.declared.rows.FileState.{FileState}
 use Rattle.fts_tables.specs.declared.rows.JobRow.{JobRow}
 use Rattle.fts_tables.specs.declared.rows.JobState.{JobState}
+use Rattle.fts_chronicle.specs.Chronicle.{ChronicleData}
+use Rattle.fts_chronicle.specs.declared.chronicle.CopyReport.{CopyReport}
 use Rattle.fts_chronicle.specs.declared.events.FileEvent.{FileEvent}
 use Rattle.fts_routes.specs.Json.{object_of, array_of, whole_number, id_text, body_of}
 use Rattle.fts_routes.specs.Objects.{job_object, file_object, job_state_text, state_in, reason_text}
@@ -129,14 +131,14 @@ abbrev pub file_with_events : FileRow → List EventShown → Data
 file_with_events row events = with_member (codes "events_left_out") (whole_number (left_out (length events)))
     (with_member (codes "events") (array_of event_object (newest events)) (file_object row))
 
--- a file of a job, by the job's events
-abbrev pub file_shown : JobRow → List FileEvent → FileRow → Data
-file_shown job events row = file_with_events row (events_of_row job row events)
+-- a file of a job, by the job's events and the reports
+abbrev pub file_shown : List CopyReport → JobRow → List FileEvent → FileRow → Data
+file_shown reports job events row = file_with_events row (events_of_row reports job row events)
 
--- a job and its files, in order of id, by what entries did to files
-abbrev pub job_with_files : Tables → List FileEvent → JobRow → Data
-job_with_files tables events job =
-    with_member (codes "files") (array_of (file_shown job (events_of_job job events)) (rows_of_job tables.rows job.number)) (job_shown tables job)
+-- a job and its files, in order of id, by what entries told
+abbrev pub job_with_files : Tables → ChronicleData → JobRow → Data
+job_with_files tables told job = with_member (codes "files")
+    (array_of (file_shown told.reports job (events_of_job told.reports job told.events)) (rows_of_job tables.rows job.number)) (job_shown tables job)
 
 -- the id of a job, where there is one
 abbrev pub id_of : Option JobRow → Data
@@ -156,6 +158,6 @@ page_of most tables asked jobs = page_by (array_of (job_shown tables) (take aske
 abbrev pub page_text : ℕ → Tables → JobsQuestion → List ℕ
 page_text most tables asked = body_of (page_of most tables asked (jobs_behind tables asked))
 
--- the text of a job and its files, by what entries did to files
-abbrev pub job_text : Tables → List FileEvent → JobRow → List ℕ
-job_text tables events job = body_of (job_with_files tables events job)
+-- the text of a job and its files, by what entries told
+abbrev pub job_text : Tables → ChronicleData → JobRow → List ℕ
+job_text tables told job = body_of (job_with_files tables told job)

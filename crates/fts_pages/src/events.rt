@@ -3,7 +3,7 @@
 ghost use Rattle.std.specs.Prelude.{◌≡◌, IfOk, map, filter};
 ghost use Rattle.std.specs.List.{filter_map};
 ghost use Rattle.serde_json.specs.View.{view};
-ghost use Rattle.fts_pages.specs.Events.{is_file_of, is_event_of, events_of_job, happening_by, reason_by, size_of, bytes_by, plain_event, submission_of, claim_event, report_event, is_cancelled, cancel_event, is_joint, event_of, events_of_row, happening_text, bytes_data};
+ghost use Rattle.fts_pages.specs.Events.{is_file_of, is_report_of, is_event_of, events_of_job, happening_by, reason_by, size_of, bytes_by, plain_event, submission_of, claim_event, report_event, is_cancelled, cancel_event, is_joint, ending_of, event_of, events_of_row, happening_text, bytes_data};
 ghost use Rattle.fts_pages.specs.Pages.{event_object};
 ghost use Rattle.fts_pages.specs.EventFloats.{event_no_float};
 
@@ -50,31 +50,33 @@ pub struct EventShown {
     pub bytes: Option<u64>,
 }
 
-/// The events of a job and of its files, of those that entries told.
+/// The events of a job and of its files, of those that entries told, by the reports.
 pub fn events_of_job(
     alloc: Global,
+    reports: &[CopyReport],
     job: &JobRow,
     events: &[FileEvent],
 ) -> Result<Vec<FileEvent>, AllocError>
-    ensures { IfOk result (λ found. found.items ≡ events_of_job job.now events.now) }
+    ensures { IfOk result (λ found. found.items ≡ events_of_job reports.now job.now events.now) }
 {
     events
         .iter()
-        .filter(|event| is_event_of(job, **event))
+        .filter(|event| is_event_of(reports, job, **event))
         .copied()
         .collect(alloc)
 }
 
-/// What happened to a row of a job, oldest first, by the events of the job.
+/// What happened to a row of a job, oldest first, by the events of the job and the reports.
 pub fn events_of_row(
     alloc: Global,
+    reports: &[CopyReport],
     job: &JobRow,
     row: &FileRow,
     events: &[FileEvent],
 ) -> Result<Vec<EventShown>, AllocError>
-    ensures { IfOk result (λ shown. shown.items ≡ events_of_row job.now row.now events.now) }
+    ensures { IfOk result (λ shown. shown.items ≡ events_of_row reports.now job.now row.now events.now) }
 {
-    let done = events.iter().filter_map(|event| event_of(job, row, *event));
+    let done = events.iter().filter_map(|event| event_of(reports, job, row, *event));
     iter::once(submission_of(job)).chain(done).collect(alloc)
 }
 
@@ -85,9 +87,19 @@ fn is_file_of(job: &JobRow, file: u32) -> bool
     job.first <= file && u64::from(file) < u64::from(job.first) + u64::from(job.count)
 }
 
-/// Whether an event is of a job or of a file of it.
-fn is_event_of(job: &JobRow, event: FileEvent) -> bool
-    ensures { result ≡ is_event_of job.now event }
+/// Whether a report, where there is one, is of a file of a job.
+fn is_report_of(job: &JobRow, report: Option<CopyReport>) -> bool
+    ensures { result ≡ is_report_of job.now report }
+{
+    match report {
+        None => false,
+        Some(report) => is_file_of(job, report.file),
+    }
+}
+
+/// Whether an event is of a job or of a file of it, by the reports.
+fn is_event_of(reports: &[CopyReport], job: &JobRow, event: FileEvent) -> bool
+    ensures { result ≡ is_event_of reports.now job.now event }
 {
     match event {
         FileEvent::Claimed {
@@ -95,7 +107,7 @@ fn is_event_of(job: &JobRow, event: FileEvent) -> bool
             file,
             attempt: _,
         } => is_file_of(job, file),
-        FileEvent::Reported { report, state: _ } => is_file_of(job, report.file),
+        FileEvent::Reported { place, state: _ } => is_report_of(job, reports.get(place).copied()),
         FileEvent::JobCancelled {
             moment: _,
             job: number,
@@ -108,9 +120,24 @@ fn is_event_of(job: &JobRow, event: FileEvent) -> bool
     }
 }
 
-/// What an event did to a row of a job.
-fn event_of(job: &JobRow, row: &FileRow, event: FileEvent) -> Option<EventShown>
-    ensures { result ≡ event_of job.now row.now event }
+/// What a report, where there is one, made of a row, by the state behind it.
+fn ending_of(row: &FileRow, state: FileState, report: Option<CopyReport>) -> Option<EventShown>
+    ensures { result ≡ ending_of row.now state report }
+{
+    match report {
+        Some(report) if report.file == row.id => Some(report_event(report, state)),
+        Some(_) | None => None,
+    }
+}
+
+/// What an event did to a row of a job, by the reports.
+fn event_of(
+    reports: &[CopyReport],
+    job: &JobRow,
+    row: &FileRow,
+    event: FileEvent,
+) -> Option<EventShown>
+    ensures { result ≡ event_of reports.now job.now row.now event }
 {
     match event {
         FileEvent::Claimed {
@@ -124,13 +151,7 @@ fn event_of(job: &JobRow, row: &FileRow, event: FileEvent) -> Option<EventShown>
                 None
             }
         }
-        FileEvent::Reported { report, state } => {
-            if report.file == row.id {
-                Some(report_event(report, state))
-            } else {
-                None
-            }
-        }
+        FileEvent::Reported { place, state } => ending_of(row, state, reports.get(place).copied()),
         FileEvent::JobCancelled {
             moment,
             job: number,

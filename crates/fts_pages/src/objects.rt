@@ -11,7 +11,7 @@ ghost use Rattle.fts_pages.specs.Pages.{with_member, count_in, counts_object, jo
 ghost use Rattle.fts_pages.specs.States.{test_of};
 
 use crate::events::{EventShown, MAX_EVENTS, events_of_job, events_of_row};
-use fts_chronicle::FileEvent;
+use fts_chronicle::{Chronicle, CopyReport, FileEvent};
 use fts_desk::Desk;
 use fts_routes::{Shown, array_value, job_value, state_of};
 use fts_tables::{FileRow, FileState, JobRow, Memory};
@@ -29,34 +29,36 @@ pub fn job_shown(alloc: Global, desk: &Desk, job: &JobRow) -> Result<Value, Memo
     with_member(alloc, value, "files_by_state", counts)
 }
 
-/// A job as it stands, with its files, by what entries did to files.
+/// A job as it stands, with its files, by what entries told.
 pub fn job_with_files(
     alloc: Global,
     desk: &Desk,
-    events: &[FileEvent],
+    chronicle: &Chronicle,
     job: &JobRow,
 ) -> Result<Value, Memory>
     requires { job_at desk.now.tables.jobs job.now.number ≡ Some job.now }
-    ensures { IfOk result (λ value. view value ≡ job_with_files desk.now.tables events.now job.now) }
+    ensures { IfOk result (λ value. view value ≡ job_with_files desk.now.tables chronicle.now.told job.now) }
 {
     let value = job_shown(alloc, desk, job)?;
-    let events = events_of_job(alloc, job, events)?;
-    let files = files_value(alloc, job, &events, desk.job_rows(job.number))?;
+    let reports = chronicle.reports();
+    let events = events_of_job(alloc, reports, job, chronicle.events())?;
+    let files = files_value(alloc, reports, job, &events, desk.job_rows(job.number))?;
     with_member(alloc, value, "files", files)
 }
 
-/// Rows of a job, by the job's events.
+/// Rows of a job, by the job's events and the reports.
 fn files_value(
     alloc: Global,
+    reports: &[CopyReport],
     job: &JobRow,
     events: &[FileEvent],
     rows: &[FileRow],
 ) -> Result<Value, Memory>
-    ensures { IfOk result (λ value. view value ≡ array_of (file_shown job.now events.now) rows.now) }
+    ensures { IfOk result (λ value. view value ≡ array_of (file_shown reports.now job.now events.now) rows.now) }
 {
     let mut list = Vec::new(alloc);
     for row in rows {
-        let value = file_shown(alloc, job, events, row)?;
+        let value = file_shown(alloc, reports, job, events, row)?;
         if list.push(value).is_err() {
             return Err(Memory);
         }
@@ -64,16 +66,17 @@ fn files_value(
     Ok(Value::Array(list))
 }
 
-/// A row of a job, by the job's events.
+/// A row of a job, by the job's events and the reports.
 fn file_shown(
     alloc: Global,
+    reports: &[CopyReport],
     job: &JobRow,
     events: &[FileEvent],
     row: &FileRow,
 ) -> Result<Value, Memory>
-    ensures { IfOk result (λ value. view value ≡ file_shown job.now events.now row.now) }
+    ensures { IfOk result (λ value. view value ≡ file_shown reports.now job.now events.now row.now) }
 {
-    let events = events_of_row(alloc, job, row, events)?;
+    let events = events_of_row(alloc, reports, job, row, events)?;
     file_with_events(alloc, row, &events)
 }
 

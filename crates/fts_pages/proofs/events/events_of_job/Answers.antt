@@ -7,5 +7,5 @@ use Rattle.fts_pages.proofs.events.events_of_job.Goals as goal
 
 pub returns : goal.returns
 returns c = items_from_collect _ c.collect.ensures.ran
-    (YieldsList-from_copied (YieldsList-at c.copied.ensures.source (YieldsList-from_filter _ (is_event_of c.args.job.now) (YieldsList-from_slice c.args.events.now cc) c.filter.ensures.closure
+    (YieldsList-from_copied (YieldsList-at c.copied.ensures.source (YieldsList-from_filter _ (is_event_of c.args.reports.now c.args.job.now) (YieldsList-from_slice c.args.events.now cc) c.filter.ensures.closure
     (λ x b q k. search (rules, tests)))))

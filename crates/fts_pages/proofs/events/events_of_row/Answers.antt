@@ -10,6 +10,6 @@ pub returns : goal.returns
 returns c = items_from_collect _ c.collect.ensures.ran
     (YieldsList-from_chain (YieldsList-at c.chain.ensures.first (YieldsList-from_once (Some (submission_of c.args.job.now)) (search (rules, tests))))
     (YieldsList-at c.chain.ensures.second
-    (YieldsList-from_filter_map _ (event_of c.args.job.now c.args.row.now) (YieldsList-from_slice c.args.events.now cc) c.filter_map-done.ensures.closure
+    (YieldsList-from_filter_map _ (event_of c.args.reports.now c.args.job.now c.args.row.now) (YieldsList-from_slice c.args.events.now cc) c.filter_map-done.ensures.closure
     (λ x r q k. search (rules, tests))))
     c.chain.ensures.first_done c.chain.ensures.second_done)

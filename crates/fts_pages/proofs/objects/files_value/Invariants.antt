@@ -5,4 +5,4 @@ use Rattle.fts_pages.specs.Pages.{file_shown}
 use Rattle.fts_pages.proofs.objects.files_value.Given as goal
 
 abbrev pub invariant-loop-row : goal.invariant-loop-row
-invariant-loop-row l = map view l.list.items ≡ map (file_shown l.job l.events) (take l.row-index l.rows)
+invariant-loop-row l = map view l.list.items ≡ map (file_shown l.reports l.job l.events) (take l.row-index l.rows)
