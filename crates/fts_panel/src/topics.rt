@@ -161,10 +161,10 @@ fn jobs_text(alloc: Global, desk: &Desk, query: Option<&str>) -> Result<Option<V
 /// The job that a path names, its files, and what happened to them.
 fn job_reply<D: Disk>(alloc: Global, monitor: &Monitor<D>, path: &str) -> Reply
     ensures { IsOrNoMemory result (reply_by no_job
-        (option_map (job_text monitor.now.tables monitor.now.chronicle.events) (option_and_then (job_named monitor.now.tables) (id_in path.now)))) }
+        (option_map (job_text monitor.now.tables monitor.now.chronicle) (option_and_then (job_named monitor.now.tables) (id_in path.now)))) }
 {
     match id_in(path) {
-        Some(id) => match job_page(alloc, monitor.desk(), monitor.chronicle().events(), id) {
+        Some(id) => match job_page(alloc, monitor.desk(), monitor.chronicle(), id) {
             Ok(Some(text)) => shows(text),
             Ok(None) => no_job(alloc),
             Err(Memory) => no_memory(alloc),
