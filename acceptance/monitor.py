@@ -8,8 +8,10 @@ and with this clock: each figure is counted anew here. A line that is otherwise 
 import base64
 import hashlib
 import http.client
+import importlib.util
 import json
 import os
+import pathlib
 import re
 import socket
 import subprocess
@@ -19,6 +21,7 @@ import time
 from serving import A, B, Service, free_port, wrong_in
 
 LISTENS = 20
+DESCRIPTION = pathlib.Path(__file__).resolve().parent.parent / "docs" / "openapi-monitor.yaml"
 
 
 class Monitor:
@@ -113,6 +116,45 @@ def page(monitor):
     yield f"the page: {status}, {fields['Content-Type']}, {len(body)} bytes, links to elsewhere {outside}", status == 200 and not outside and "default-src 'none'" in policy
 
 
+def reasons(service, monitor):
+    """Jobs by the reason of a file, and what happened to files, beside what the service says of them."""
+    jobs = service.ask("GET", "/jobs?limit=1000")[1]
+    files = {job["job_id"]: service.ask("GET", f"/jobs/{job['job_id']}/files")[1] for job in jobs}
+    for reason in ("source missing", "store failed"):
+        wanted = [id for id, rows in files.items() if any(row["reason"] == reason for row in rows)]
+        for word in (reason.replace(" ", "%20"), reason.replace(" ", "+")):
+            found = [job["job_id"] for job in monitor.json(f"/jobs?limit=200&reason={word}")["jobs"]]
+            yield f"jobs by reason={word}: {len(found)}, by the service {len(wanted)}", found == wanted
+    yield "jobs by a reason that is none: 400", monitor.json("/jobs?reason=missing") == 400
+    for id, rows in files.items():
+        told = {row["file_id"]: row for row in monitor.json(f"/jobs/{id}")["files"]}
+        for row in rows:
+            events, verified = told[row["file_id"]]["events"], row["file_state"] == "FINISHED"
+            words, last = [event["event"] for event in events], events[-1]
+            ends = last["bytes"] == row["filesize"] if verified else last["reason"] == row["reason"]
+            ordered = [event["time"] for event in events] == sorted(event["time"] for event in events)
+            yield f"events of file {row['file_id']}: {words}", words == ["submitted", "claimed", "finished" if verified else "failed"] and ends and ordered
+
+
+def described(monitor):
+    """Replies in JSON by docs/openapi-monitor.yaml; nothing is tried where PyYAML or jsonschema are missing."""
+    if not all(importlib.util.find_spec(name) for name in ("yaml", "jsonschema")):
+        return
+    import jsonschema
+    import yaml
+
+    api = yaml.safe_load(DESCRIPTION.read_text())
+    job = monitor.json("/jobs?limit=1")["jobs"][0]["job_id"]
+    for path in ("/snapshot", "/history", "/jobs", f"/jobs/{job}", "/jobs?reason=none", "/jobs/none"):
+        status, _, body = monitor.ask(path)
+        template = "/jobs/{id}" if path.startswith("/jobs/") else path.split("?")[0]
+        response = api["paths"][template]["get"]["responses"][str(status)]
+        if "$ref" in response:
+            response = api["components"]["responses"][response["$ref"].rsplit("/", 1)[1]]
+        schema = {**response["content"]["application/json"]["schema"], "components": api["components"]}
+        yield f"{path}: {status}, a body of its schema", jsonschema.Draft202012Validator(schema).is_valid(json.loads(body))
+
+
 def refusals(monitor):
     for path, method, fields, wanted in (
         ("/metrics", "POST", (), 405),
@@ -139,7 +181,8 @@ def main(words):
     sizes = copies(service)
     monitor = Monitor(words[1], service.path)
     try:
-        wrong = sum(wrong_in(lines) for lines in (counts(service, monitor, sizes), history(monitor, sizes), page(monitor), refusals(monitor), beside(service, monitor)))
+        before = counts(service, monitor, sizes), history(monitor, sizes), page(monitor), reasons(service, monitor), described(monitor), refusals(monitor)
+        wrong = sum(wrong_in(lines) for lines in (*before, beside(service, monitor)))
     finally:
         monitor.stop()
         service.process.kill()

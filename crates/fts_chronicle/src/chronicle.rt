@@ -1,11 +1,12 @@
-//! The chronicle of a list of entries: each report of a copy, the last moment, and that of the last restart.
-//! Contracts see what the entries told, and whether there is room for one report more. Kept in its type (`IsChronicle`): where there is, there is memory.
+//! The chronicle of a list of entries: each report of a copy, what was done to files by name, the last moment, and that of the last restart.
+//! Contracts see what the entries told, and whether there is room for one entry more. Kept in its type (`IsChronicle`): where there is, there is memory.
 //! Order: `make_room` before `add`, which takes no memory.
 ghost use Rattle.std.specs.Prelude.{◌≡◌, [], true, false, IsTrue, OnOk, OnErr};
 ghost use Rattle.fts_chronicle.specs.Chronicle.{chronicle_of, chronicle_with};
 
+use crate::events::{FileEvent, event_by};
 use crate::telling::{now_of, report_by, restart_by};
-use fts_tables::{Command, Memory, Outcome};
+use fts_tables::{Answer, Command, Memory, Outcome};
 use std::alloc::Global;
 use std::marker::Model;
 
@@ -23,6 +24,7 @@ pub struct Chronicle {
     moment: u64,
     restart: u64,
     reports: Vec<CopyReport>,
+    events: Vec<FileEvent>,
     ready: bool,
 }
 
@@ -32,6 +34,7 @@ impl Drop for Chronicle {
             moment: _,
             restart: _,
             reports: _,
+            events: _,
             ready: _,
         } = self;
     }
@@ -58,29 +61,34 @@ impl Chronicle {
             moment: 0,
             restart: 0,
             reports: Vec::new(alloc),
+            events: Vec::new(alloc),
             ready: false,
         }
     }
 
-    /// Makes room for one report more, where there is none. At an `Err` all stays as it is.
+    /// Makes room for what one entry more tells, where there is none. At an `Err` all stays as it is.
     pub fn make_room(&mut self) -> Result<(), Memory>
         ensures ok { OnOk result (self.new ≡ record self.old { ready = true }) }
         ensures err { OnErr result (self.new ≡ self.old) }
     {
         self.reports.reserve(1)?;
+        self.events.reserve(1)?;
         self.ready = true;
         Ok(())
     }
 
-    /// Adds what the next entry's command tells, in room that is there. It takes no memory and can't fail.
-    pub fn add(&mut self, command: &Command)
+    /// Adds what the next entry tells, by its command and the answer, in room that is there. It takes no memory and can't fail.
+    pub fn add(&mut self, command: &Command, answer: Answer)
         requires room { IsTrue self.old.ready }
-        ensures { self.new ≡ record { told = chronicle_with self.old.told command.now; ready = false } }
+        ensures { self.new ≡ record { told = chronicle_with self.old.told command.now answer; ready = false } }
     {
         self.ready = false;
         self.moment = now_of(command);
         if let Some(moment) = restart_by(command) {
             self.restart = moment;
+        }
+        if let Some(event) = event_by(self.reports.as_slice().len(), command, answer) {
+            self.events.push_reserved(event);
         }
         if let Some(report) = report_by(command) {
             self.reports.push_reserved(report);
@@ -106,5 +114,12 @@ impl Chronicle {
         ensures { result.now ≡ self.now.told.reports }
     {
         &self.reports
+    }
+
+    /// What the entries did to files, in their order.
+    pub fn events(&self) -> &[FileEvent]
+        ensures { result.now ≡ self.now.told.events }
+    {
+        &self.events
     }
 }

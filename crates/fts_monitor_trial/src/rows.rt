@@ -3,8 +3,9 @@
 use crate::disk::Changing;
 use crate::texts::{
     AFTER_THE_CLAIM, AFTER_THE_REPORT, AFTER_THE_START, BAD_QUERY, BEFORE_DAMAGE, CLAIMED, DAMAGED,
-    DISK_FAILED, EMPTY, FOREIGN_ORIGIN, HISTORY, JOB, JOBS, NO_JOB, NO_JOBS, NO_METHOD,
-    NO_METHOD_TO_HEAD, NO_ROUTE, NOTHING, OTHER, REPORTED, SNAPSHOT, STARTED,
+    DISK_FAILED, EMPTY, FAILED, FAILED_JOB, FAILED_JOBS, FOREIGN_ORIGIN, HISTORY, JOB, JOBS,
+    NO_JOB, NO_JOBS, NO_METHOD, NO_METHOD_TO_HEAD, NO_ROUTE, NOTHING, OTHER, REPORTED, SNAPSHOT,
+    STARTED,
 };
 use fts_panel::{View, open_view, serve_line};
 use fts_tables::{Clock, ListClock};
@@ -206,6 +207,54 @@ const JSON_ROWS: [Row; 5] = [
     },
 ];
 
+/// What is told of a file's reason, and of what happened to it.
+const REASON_ROWS: [Row; 4] = [
+    Row {
+        case: "jobs by a reason whose blank is spelled in either way",
+        bytes: FAILED,
+        later: FAILED,
+        from: 0,
+        fail: 0,
+        asks: "GET /jobs?reason=store%20failed HTTP/1.1\r\n\r\n",
+        want: FAILED_JOBS,
+        asks_then: "GET /jobs?reason=store+failed&limit=1 HTTP/1.1\r\n\r\n",
+        want_then: FAILED_JOBS,
+    },
+    Row {
+        case: "one file is on the way, and another has the reason",
+        bytes: FAILED,
+        later: FAILED,
+        from: 0,
+        fail: 0,
+        asks: "GET /jobs?reason=cancelled&source=a%3A%2F%2Fa%22q HTTP/1.1\r\n\r\n",
+        want: FAILED_JOBS,
+        asks_then: "GET /jobs?reason=cancelled&source=b%3A%2F%2Fb%5Cc HTTP/1.1\r\n\r\n",
+        want_then: NO_JOBS,
+    },
+    Row {
+        case: "a reason that no file has, and a word that is none",
+        bytes: FAILED,
+        later: FAILED,
+        from: 0,
+        fail: 0,
+        asks: "GET /jobs?reason=source%20missing HTTP/1.1\r\n\r\n",
+        want: NO_JOBS,
+        asks_then: "GET /jobs?reason=store HTTP/1.1\r\n\r\n",
+        want_then: BAD_QUERY,
+    },
+    Row {
+        case: "what happened to files, and a reason in a state that no job has",
+        bytes: FAILED,
+        later: FAILED,
+        from: 0,
+        fail: 0,
+        asks: "GET /jobs/00000000-0000-4000-8000-000000000001 HTTP/1.1\r\n\r\n",
+        want: FAILED_JOB,
+        asks_then: "GET /jobs?state=FINISHED&reason=store%20failed HTTP/1.1\r\n\r\n",
+        want_then: NO_JOBS,
+    },
+];
+
 #[test]
 fn metrics_tell_what_stands_in_a_journal(rt: HostRuntime) {
     for row in &METRICS_ROWS {
@@ -223,6 +272,13 @@ fn what_there_is_not_is_refused(rt: HostRuntime) {
 #[test]
 fn json_tells_what_stands_in_a_journal(rt: HostRuntime) {
     for row in &JSON_ROWS {
+        assert!(rt; is_answered(rt.alloc(), row), "{}", row.case);
+    }
+}
+
+#[test]
+fn reasons_and_events_of_files_are_told(rt: HostRuntime) {
+    for row in &REASON_ROWS {
         assert!(rt; is_answered(rt.alloc(), row), "{}", row.case);
     }
 }

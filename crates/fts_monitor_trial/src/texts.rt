@@ -25,6 +25,16 @@ pub const REPORTED: &[u8] =
      \0\0\x03\0\0\0\x01\0\x07a://a\"q\x02f1\x07b://b\\c\x02f1\0\0\x07default\x01\x0f\0\0\0\0\x06\x80\xe2\xcf\
      \xaa\x06\0\0\0\0\0\0\0\0\x01\x1c\x00\x00\x00\x00\x07\xbc\xe2\xcf\xaa\x06\x01\x01\x00\xb9`0123456789abcdef\0";
 
+/// Behind the start a job of two files with one retry: the second is cancelled, the copy of the first fails twice, ten seconds each from one to the next.
+pub const FAILED: &[u8] =
+    b"FTS3JRN1\x01A\0\0\0\0\x01\x80\xe2\xcf\xaa\x06\x04demo\x02\x07\x02\x07a://a\"q\x03\x04\x07b://b\\c\x05\x06\x01\x01l\x07a://a\"q\x07b://b\\c\x09\x01\x07default\x01\
+     \x01Q\0\0\0\x01\x02\x80\xe2\xcf\xaa\x06\0\0\0\x03\x01\0\0\x02\0\x07a://a\"q\x02f1\x07b://b\\c\x02f1\0\0\x07default\x01\x07a://a\"q\x02f2\x07b://b\\c\x02f2\0\0\x07default\
+     \x01\x09\0\0\0\x01\x04\x8a\xe2\xcf\xaa\x06\x01\x02\
+     \x01\x0f\0\0\0\0\x06\x94\xe2\xcf\xaa\x06\0\0\0\0\0\0\0\0\
+     \x01\x0a\0\0\0\0\x07\x9e\xe2\xcf\xaa\x06\x01\x01\x06\
+     \x01\x0f\0\0\0\0\x06\xa8\xe2\xcf\xaa\x06\0\0\0\0\0\0\0\0\
+     \x01\x0a\0\0\0\0\x07\xb2\xe2\xcf\xaa\x06\x01\x02\x06\0";
+
 /// Behind the start a body that is no entry.
 pub const DAMAGED: &[u8] =
     b"FTS3JRN1\x01A\0\0\0\0\x01\x80\xe2\xcf\xaa\x06\x04demo\x02\x07\x02\x07a://a\"q\x03\x04\x07b://b\\c\x05\x06\x01\x01l\x07a://a\"q\x07b://b\\c\x09\x01\x07default\x01\x01\x01\0\0\0\x07\0";
@@ -371,16 +381,50 @@ pub const NO_JOBS: &str = "HTTP/1.1 200 OK\r\n\
      Connection: close\r\n\r\n\
      {\"jobs\":[],\"more\":false,\"next\":null}";
 
-/// The job with its file.
+/// The job with its file, and what happened to it.
 pub const JOB: &str = "HTTP/1.1 200 OK\r\n\
      Content-Type: application/json\r\n\
-     Content-Length: 535\r\n\
+     Content-Length: 795\r\n\
      Connection: close\r\n\r\n\
-     {\"files\":[{\"activity\":\"default\",\"attempt\":1,\"cancel_asked\":false,\"checksum\":\"\",\"dest_surl\":\"b://b\\\\c/f1\",\
-     \"digest\":\"30313233343536373839616263646566\",\"file_id\":1,\"file_index\":0,\"file_state\":\"FINISHED\",\"filesize\":12345,\
-     \"not_before\":0,\"reason\":\"\",\"source_surl\":\"a://a\\\"q/f1\"}],\"files_by_state\":{\"ACTIVE\":0,\"CANCELED\":0,\"FAILED\":0,\
-     \"FINISHED\":1,\"NOT_USED\":0,\"SUBMITTED\":0},\"job_id\":\"00000000-0000-4000-8000-000000000001\",\"job_state\":\"FINISHED\",\
-     \"kind\":\"plain\",\"priority\":3,\"retry\":0,\"retry_delay\":0,\"submit_time\":1700000000,\"vo_name\":\"demo\"}";
+     {\"files\":[{\"activity\":\"default\",\"attempt\":1,\"cancel_asked\":false,\"checksum\":\"\",\
+     \"dest_surl\":\"b://b\\\\c/f1\",\"digest\":\"30313233343536373839616263646566\",\"events\":[{\"attempt\":0,\
+     \"bytes\":null,\"event\":\"submitted\",\"reason\":\"\",\"time\":1700000000},{\"attempt\":1,\"bytes\":null,\
+     \"event\":\"claimed\",\"reason\":\"\",\"time\":1700000000},{\"attempt\":1,\"bytes\":12345,\"event\":\"finished\",\
+     \"reason\":\"\",\"time\":1700000060}],\"events_left_out\":0,\"file_id\":1,\"file_index\":0,\"file_state\":\"FINISHED\",\
+     \"filesize\":12345,\"not_before\":0,\"reason\":\"\",\"source_surl\":\"a://a\\\"q/f1\"}],\
+     \"files_by_state\":{\"ACTIVE\":0,\"CANCELED\":0,\"FAILED\":0,\"FINISHED\":1,\"NOT_USED\":0,\"SUBMITTED\":0},\
+     \"job_id\":\"00000000-0000-4000-8000-000000000001\",\"job_state\":\"FINISHED\",\"kind\":\"plain\",\"priority\":3,\
+     \"retry\":0,\"retry_delay\":0,\"submit_time\":1700000000,\"vo_name\":\"demo\"}";
+
+/// A job of which one file failed and the other was cancelled.
+pub const FAILED_JOBS: &str = "HTTP/1.1 200 OK\r\n\
+     Content-Type: application/json\r\n\
+     Content-Length: 298\r\n\
+     Connection: close\r\n\r\n\
+     {\"jobs\":[{\"files_by_state\":{\"ACTIVE\":0,\"CANCELED\":1,\"FAILED\":1,\"FINISHED\":0,\"NOT_USED\":0,\"SUBMITTED\":0},\
+     \"job_id\":\"00000000-0000-4000-8000-000000000001\",\"job_state\":\"CANCELED\",\"kind\":\"plain\",\"priority\":3,\
+     \"retry\":1,\"retry_delay\":0,\"submit_time\":1700000000,\"vo_name\":\"demo\"}],\"more\":false,\"next\":null}";
+
+/// That job with its files: one was tried twice, the other cancelled while it waited.
+pub const FAILED_JOB: &str = "HTTP/1.1 200 OK\r\n\
+     Content-Type: application/json\r\n\
+     Content-Length: 1396\r\n\
+     Connection: close\r\n\r\n\
+     {\"files\":[{\"activity\":\"default\",\"attempt\":2,\"cancel_asked\":false,\"checksum\":\"\",\
+     \"dest_surl\":\"b://b\\\\c/f1\",\"digest\":\"\",\"events\":[{\"attempt\":0,\"bytes\":null,\"event\":\"submitted\",\
+     \"reason\":\"\",\"time\":1700000000},{\"attempt\":1,\"bytes\":null,\"event\":\"claimed\",\"reason\":\"\",\
+     \"time\":1700000020},{\"attempt\":1,\"bytes\":null,\"event\":\"failed, to be tried again\",\"reason\":\"store failed\",\
+     \"time\":1700000030},{\"attempt\":2,\"bytes\":null,\"event\":\"claimed\",\"reason\":\"\",\"time\":1700000040},\
+     {\"attempt\":2,\"bytes\":null,\"event\":\"failed\",\"reason\":\"store failed\",\"time\":1700000050}],\
+     \"events_left_out\":0,\"file_id\":1,\"file_index\":0,\"file_state\":\"FAILED\",\"filesize\":0,\"not_before\":1700000030,\
+     \"reason\":\"store failed\",\"source_surl\":\"a://a\\\"q/f1\"},{\"activity\":\"default\",\"attempt\":0,\
+     \"cancel_asked\":false,\"checksum\":\"\",\"dest_surl\":\"b://b\\\\c/f2\",\"digest\":\"\",\"events\":[{\"attempt\":0,\
+     \"bytes\":null,\"event\":\"submitted\",\"reason\":\"\",\"time\":1700000000},{\"attempt\":0,\"bytes\":null,\
+     \"event\":\"canceled\",\"reason\":\"cancelled\",\"time\":1700000010}],\"events_left_out\":0,\"file_id\":2,\
+     \"file_index\":1,\"file_state\":\"CANCELED\",\"filesize\":0,\"not_before\":0,\"reason\":\"cancelled\",\
+     \"source_surl\":\"a://a\\\"q/f2\"}],\"files_by_state\":{\"ACTIVE\":0,\"CANCELED\":1,\"FAILED\":1,\"FINISHED\":0,\
+     \"NOT_USED\":0,\"SUBMITTED\":0},\"job_id\":\"00000000-0000-4000-8000-000000000001\",\"job_state\":\"CANCELED\",\
+     \"kind\":\"plain\",\"priority\":3,\"retry\":1,\"retry_delay\":0,\"submit_time\":1700000000,\"vo_name\":\"demo\"}";
 
 /// No job has the id.
 pub const NO_JOB: &str = "HTTP/1.1 404 Not Found\r\n\

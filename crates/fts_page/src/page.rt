@@ -87,7 +87,7 @@ const $ = Object.fromEntries([...document.querySelectorAll('[id]')].map(e => [e.
 const MARK = {SUBMITTED: '○', ACTIVE: '▶', FINISHED: '✓', FINISHEDDIRTY: '◐', FAILED: '✕', CANCELED: '⊘', NOT_USED: '–'}, STATES = Object.keys(MARK).slice(0, 6);
 const state = s => MARK[s] + ' ' + s;
 // What is looked at. It stands in the address, so a reload keeps it.
-const view = {source: '', destination: '', state: '', after: '', job: '', span: '60', q: '', sort: 'active', up: ''};
+const view = {source: '', destination: '', state: '', reason: '', after: '', job: '', span: '60', q: '', sort: 'active', up: ''};
 for (const [k, v] of new URLSearchParams(location.hash.slice(1))) if (k in view) view[k] = v;
 const query = o => new URLSearchParams(Object.entries(o).filter(e => e[1] !== ''));
 const keep = () => history.replaceState(null, '', '#' + query(view));
@@ -202,12 +202,14 @@ function drawStorages() {
 }
 
 // Failures.
-const FAILURE = [['reason', 'Reason', 'wide'], ['files', 'Files', 'n'], ['reports', 'Reports', 'n'], ['newest', 'Newest', '', press]];
+const FAILURE = [['reason', 'Reason', 'wide', press], ['files', 'Files', 'n'], ['reports', 'Reports', 'n'], ['newest', 'Newest', '', press]];
 function drawFailures() {
   const f = [...snap.failures].sort((a, b) => b.last_time - a.last_time);
-  list($.failures, f, g => g.reason, g => { const r = row(FAILURE), n = r.p.newest; n.onclick = () => openJob(n.job); return r; },
-    ({p}, g) => { put(p.reason, name(g.reason)); put(p.files, count(g.files)); put(p.reports, count(g.reports)); p.newest.job = g.job_id; put(p.newest, time(g.last_time)); });
-  put($.nofail, f.length ? 'Files: stand FAILED now. Reports: all, tried again or not. A time opens its job.' : 'No copy has failed.');
+  list($.failures, f, g => g.reason, g => { const r = row(FAILURE), n = r.p.newest; n.onclick = () => openJob(n.job);
+    r.p.reason.onclick = () => pick({reason: view.reason === g.reason ? '' : g.reason}); return r; },
+    ({p}, g) => { put(p.reason, name(g.reason)); p.reason.ariaPressed = view.reason === g.reason; put(p.files, count(g.files));
+      put(p.reports, count(g.reports)); p.newest.job = g.job_id; put(p.newest, time(g.last_time)); });
+  put($.nofail, f.length ? 'Files: stand FAILED now. Reports: all, tried again or not. A reason chooses its jobs, a time opens one.' : 'No copy has failed.');
 }
 
 // The plot.
@@ -254,21 +256,25 @@ function drawJobs() {
     const p = r.p, f = j.files_by_state, all = Object.values(f).reduce((a, b) => a + b, 0), end = [f.FINISHED, f.FAILED];
     flag(r, 'on', view.job === j.job_id); put(p.state, state(j.job_state)); put(p.kind, j.kind); put(p.priority, j.priority);
     fillBar(p.done, end[0], all, end[0] + ' / ' + all, false); put(p.failed, end[1]); flag(p.failed, 'failed', end[1]); put(p.submit, time(j.submit_time)); });
-  put($.chosen, words([view.state, view.source && arrow(view)], ', ') || 'all, newest first');
+  put($.chosen, words([view.state, view.source && arrow(view), view.reason && name(view.reason)], ', ') || 'all, newest first');
   put($.nojobs, page.jobs.length ? '' : page.next ? 'No job among those that were looked at; older ones stand behind them.' : view.after ? 'No older job.' : 'No job.');
-  $.nofilter.hidden = !(view.state || view.source); $.newest.disabled = $.newer.disabled = !view.after; $.older.disabled = !page.more && !page.next;
+  $.nofilter.hidden = !(view.state || view.source || view.reason); $.newest.disabled = $.newer.disabled = !view.after; $.older.disabled = !page.more && !page.next;
 }
 function drawJob() {
   const j = job && job.job_id === view.job ? job : null;
   $.jobpart.hidden = !view.job; put($.oh, 'Job ' + name(view.job)); put($.nojob, job === 0 ? 'No job has this id.' : j ? '' : 'Asking …');
   put($.facts, j ? words([state(j.job_state), j.kind, 'priority ' + j.priority, 'retries ' + j.retry, 'submitted ' + time(j.submit_time)], ' · ') : '');
   list($.files, j ? j.files : [], f => f.file_id, () => row(FILE), ({p}, f) => {
-    const what = [[0, f.attempt ? 'attempt ' + f.attempt : ''], [1, name(f.reason)]].filter(x => x[1]);
+    // What happened, and why the file stands as it does where no event says it.
+    const what = f.events.map((e, i) => [f.events_left_out + i, words([time(e.time), e.event, e.attempt && 'attempt ' + e.attempt, e.bytes !== null && bytes(e.bytes),
+      name(e.reason)], ' · '), e.event.startsWith('failed')]), last = f.events[f.events.length - 1];
+    if (f.events_left_out) what.unshift(['older', count(f.events_left_out) + ' older events are not sent', false]);
+    if (f.reason && f.reason !== last.reason) what.push(['stands', name(f.reason), true]);
     put(p.id, f.file_id); put(p.state, state(f.file_state)); put(p.size, f.filesize ? bytes(f.filesize) : 'not told'); put(p.what.s, name(f.source_surl)); put(p.what.d,
       '→ ' + name(f.dest_surl));
     put(p.what.a, ' ' + words([name(f.activity), f.cancel_asked && 'cancel asked', f.file_state === 'SUBMITTED' && f.not_before > snap.now && 'not before ' + time(f.not_before)],
       ', '));
-    list(p.what.o, what, x => x[0], () => el('li'), (li, x) => { li.className = x[0] ? 'failed' : ''; put(li, x[1]); }); });
+    list(p.what.o, what, x => x[0], () => el('li'), (li, x) => { li.className = x[2] ? 'failed' : ''; put(li, x[1]); }); });
 }
 async function openJob(i) { opener = focused(); view.job = i; job = null; asked.job = ''; keep(); drawJob(); drawJobs(); await look(); $.oh.focus({preventScroll: true});
   $.jobpart.scrollIntoView(); }
@@ -288,7 +294,7 @@ async function round() {
   storages = new Map(s.storages.map(x => [x.storage, x])); snap = s; lost = 0; drawAll();
   await renew('history', 'history?' + query({source, destination, step: span, count: {600: 144, 3600: 168}[span] || 60}), h => { hist = h; h.n = h.bytes.length; drawPlot(); },
     floor(s.now / span));
-  await renew('jobs', 'jobs?' + query({state: view.state, source, destination, after, newest: 'true', limit: JOBS}), p => { page = p; drawJobs(); });
+  await renew('jobs', 'jobs?' + query({state: view.state, source, destination, reason: view.reason, after, newest: 'true', limit: JOBS}), p => { page = p; drawJobs(); });
   if (view.job) await renew('job', 'jobs/' + encodeURIComponent(view.job), j => { job = j; drawJob(); });
 }
 let going = null, again = false;
@@ -306,7 +312,7 @@ $.filter.value = view.q; $.filter.oninput = () => { view.q = $.filter.value; row
 $.span.value = view.span; $.span.onchange = () => { view.span = $.span.value; cursor = 0; keep(); look(); };
 $.more.onclick = () => { rows += MORE; drawLinks(true); };
 $.every.onclick = () => pick(NO_LINK);
-$.nofilter.onclick = () => pick({...NO_LINK, state: ''});
+$.nofilter.onclick = () => pick({...NO_LINK, state: '', reason: ''});
 $.newest.onclick = () => pick({});
 const walk = to => { view.after = to || ''; keep(); look(); };
 $.newer.onclick = () => walk(back.pop());
@@ -324,4 +330,4 @@ next();
 /// What a browser may do with it (Content Security Policy Level 3): its one style and its one script, by their SHA-256, and requests to where it
 /// comes from. A change of either has another digest.
 pub const POLICY: &str = "default-src 'none'; connect-src 'self'; img-src data:; base-uri 'none'; \
-     form-action 'none'; frame-ancestors 'none'; style-src 'sha256-OywGh4PgH2AI8mr04h/HDPkKoyvevLCVavUskfEFPr4='; script-src 'sha256-l1DJ+gLKtGsuVZsVDdVxOwHyqm4NPVQkI+gadrPD7/w='";
+     form-action 'none'; frame-ancestors 'none'; style-src 'sha256-OywGh4PgH2AI8mr04h/HDPkKoyvevLCVavUskfEFPr4='; script-src 'sha256-tNxZwEjjJFDSU4WHefJ3TJ3NZf72SCrEyqaoW7VvSAw='";

@@ -7,16 +7,23 @@ use Rattle.fts_tables.specs.declared.rows.FileRow.{FileRow}
 use Rattle.fts_tables.specs.declared.rows.FileState.{FileState}
 use Rattle.fts_tables.specs.declared.rows.JobRow.{JobRow}
 use Rattle.fts_tables.specs.declared.rows.JobState.{JobState}
+use Rattle.fts_chronicle.specs.Chronicle.{ChronicleData}
+use Rattle.fts_chronicle.specs.declared.chronicle.CopyReport.{CopyReport}
+use Rattle.fts_chronicle.specs.declared.events.FileEvent.{FileEvent}
 use Rattle.fts_routes.specs.Json.{object_of, array_of, whole_number, id_text, body_of}
-use Rattle.fts_routes.specs.Objects.{job_object, file_object, job_state_text, state_in}
+use Rattle.fts_routes.specs.Objects.{job_object, file_object, job_state_text, state_in, reason_text}
+use Rattle.fts_pages.specs.Events.{events_of_job, events_of_row, newest, left_out, happening_text, bytes_data}
+use Rattle.fts_pages.specs.Groups.{group_of}
 use Rattle.fts_pages.specs.declared.asked.PageAsked.{PageAsked}
+use Rattle.fts_pages.specs.declared.events.EventShown.{EventShown}
 
--- what is asked of the jobs: those in a state, of which a file comes from a source and goes to a destination, behind the one of a number, where they are
--- named; whether the greatest number comes first; and how many at most
+-- what is asked of the jobs: those in a state, of which a file comes from a source and goes to a destination, and a file stands with a reason of a group,
+-- behind the one of a number, where they are named; whether the greatest number comes first; and how many at most
 pub record JobsQuestion : Type 0 where
   pub state : Option JobState
   pub source : Option (List ℕ)
   pub destination : Option (List ℕ)
+  pub reason : Option (List ℕ)
   pub after : Option ℕ
   pub newest : Bool
   pub limit : ℕ
@@ -27,6 +34,7 @@ question_of asked = record {
   state = asked.state;
   source = option_map string_bytes asked.source;
   destination = option_map string_bytes asked.destination;
+  reason = option_map string_bytes asked.reason;
   after = asked.after;
   newest = asked.newest;
   limit = asked.limit;
@@ -37,18 +45,24 @@ abbrev pub is_in : Option JobState → JobState → Bool
 is_in None state = true
 is_in (Some wanted) state = bytes_eq (job_state_text wanted) (job_state_text state)
 
--- whether an endpoint is the one that is asked for
+-- whether a name is the one that is asked for
 abbrev pub is_at : Option (List ℕ) → List ℕ → Bool
-is_at None endpoint = true
-is_at (Some wanted) endpoint = bytes_eq wanted endpoint
+is_at None name = true
+is_at (Some wanted) name = bytes_eq wanted name
 
 -- whether a file comes from the source and goes to the destination that are asked for
 abbrev pub is_on : JobsQuestion → FileRow → Bool
 is_on asked row = is_at asked.source row.source.endpoint && is_at asked.destination row.dest.endpoint
 
--- whether a job matches: it is in the state, and a file of it is on the way, that are asked for
+-- whether a file stands with a reason of the group that is asked for
+abbrev pub has_reason : JobsQuestion → FileRow → Bool
+has_reason asked row = is_at asked.reason (group_of row.reason)
+
+-- whether a job matches: it is in the state, a file of it is on the way, and one has the reason, that are asked for
 abbrev pub is_asked : Tables → JobsQuestion → JobRow → Bool
-is_asked tables asked job = is_in asked.state (state_in tables job) && list_any (is_on asked) (rows_of_job tables.rows job.number)
+is_asked tables asked job =
+    is_in asked.state (state_in tables job)
+    && (list_any (is_on asked) (rows_of_job tables.rows job.number) && list_any (has_reason asked) (rows_of_job tables.rows job.number))
 
 -- whether a job comes behind that of a number
 abbrev pub is_behind : Bool → Option ℕ → JobRow → Bool
@@ -103,9 +117,28 @@ counts_object rows = object_of (
 abbrev pub job_shown : Tables → JobRow → Data
 job_shown tables job = with_member (codes "files_by_state") (counts_object (rows_of_job tables.rows job.number)) (job_object tables job)
 
--- a job and its files, in order of id
-abbrev pub job_with_files : Tables → JobRow → Data
-job_with_files tables job = with_member (codes "files") (array_of file_object (rows_of_job tables.rows job.number)) (job_shown tables job)
+-- an event as it is shown
+abbrev pub event_object : EventShown → Data
+event_object shown = with_member (codes "bytes") (bytes_data shown.bytes) (object_of (
+    (codes "attempt", whole_number shown.attempt)
+    ∷ (codes "event", string (happening_text shown.happening))
+    ∷ (codes "reason", string (reason_text shown.reason))
+    ∷ (codes "time", whole_number shown.moment)
+    ∷ []))
+
+-- a file with its newest events, oldest first, and how many older ones there are
+abbrev pub file_with_events : FileRow → List EventShown → Data
+file_with_events row events = with_member (codes "events_left_out") (whole_number (left_out (length events)))
+    (with_member (codes "events") (array_of event_object (newest events)) (file_object row))
+
+-- a file of a job, by the job's events and the reports
+abbrev pub file_shown : List CopyReport → JobRow → List FileEvent → FileRow → Data
+file_shown reports job events row = file_with_events row (events_of_row reports job row events)
+
+-- a job and its files, in order of id, by what entries told
+abbrev pub job_with_files : Tables → ChronicleData → JobRow → Data
+job_with_files tables told job = with_member (codes "files")
+    (array_of (file_shown told.reports job (events_of_job told.reports job told.events)) (rows_of_job tables.rows job.number)) (job_shown tables job)
 
 -- the id of a job, where there is one
 abbrev pub id_of : Option JobRow → Data
@@ -125,6 +158,6 @@ page_of most tables asked jobs = page_by (array_of (job_shown tables) (take aske
 abbrev pub page_text : ℕ → Tables → JobsQuestion → List ℕ
 page_text most tables asked = body_of (page_of most tables asked (jobs_behind tables asked))
 
--- the text of a job and its files
-abbrev pub job_text : Tables → JobRow → List ℕ
-job_text tables job = body_of (job_with_files tables job)
+-- the text of a job and its files, by what entries told
+abbrev pub job_text : Tables → ChronicleData → JobRow → List ℕ
+job_text tables told job = body_of (job_with_files tables told job)

@@ -10,6 +10,8 @@ pub struct PageAsked {
     pub source: Option<String>,
     /// The jobs of which a file goes to this endpoint.
     pub destination: Option<String>,
+    /// The jobs of which a file stands with a reason of this group. It need not be on the way that is asked for.
+    pub reason: Option<String>,
     /// The jobs behind the one of this number, in the order asked for, and without it. It need not match, nor be there.
     pub after: Option<u32>,
     /// Whether the greatest number comes first, and not the least.

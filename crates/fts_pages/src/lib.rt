@@ -3,10 +3,13 @@
 #![tactic(auto)]
 
 mod asked;
+mod events;
+mod groups;
 mod objects;
 mod pages;
 mod places;
 mod walk;
 
 pub use asked::PageAsked;
+pub use groups::is_group;
 pub use pages::{MAX_LOOKED_AT, job_page, jobs_page};

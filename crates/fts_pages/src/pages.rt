@@ -13,6 +13,7 @@ use crate::asked::PageAsked;
 use crate::objects::job_with_files;
 use crate::places::{Places, place_at, places_behind};
 use crate::walk::list_matching;
+use fts_chronicle::Chronicle;
 use fts_desk::Desk;
 use fts_routes::job_named;
 use fts_tables::{JobRow, Memory};
@@ -32,14 +33,21 @@ pub fn jobs_page(alloc: Global, desk: &Desk, asked: &PageAsked) -> Result<Vec<u8
     text_of(alloc, &value)
 }
 
-/// The page of the job that a text names by its id, as JSON, with its files; none where no job has the id. It fails for want of memory alone.
-pub fn job_page(alloc: Global, desk: &Desk, id: &str) -> Result<Option<Vec<u8>>, Memory>
-    ensures { IfOk result (λ page. option_map (λ text. text.items) page ≡ option_map (job_text desk.now.tables) (job_named desk.now.tables id.now)) }
+/// The page of the job that a text names by its id, as JSON, with its files and what happened to them, by what entries told; none where no job has
+/// the id. It fails for want of memory alone.
+pub fn job_page(
+    alloc: Global,
+    desk: &Desk,
+    chronicle: &Chronicle,
+    id: &str,
+) -> Result<Option<Vec<u8>>, Memory>
+    ensures { IfOk result (λ page. option_map (λ text. text.items) page
+        ≡ option_map (job_text desk.now.tables chronicle.now.told) (job_named desk.now.tables id.now)) }
 {
     match job_named(desk, id) {
         None => Ok(None),
         Some(job) => {
-            let value = job_with_files(alloc, desk, &job)?;
+            let value = job_with_files(alloc, desk, chronicle, &job)?;
             let text = text_of(alloc, &value)?;
             Ok(Some(text))
         }

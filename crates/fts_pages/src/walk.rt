@@ -5,10 +5,11 @@ ghost use Rattle.std.specs.Option.{option_to_list};
 ghost use Rattle.std.specs.List.{list_any, slice_range};
 ghost use Rattle.serde_json.specs.View.{view};
 ghost use Rattle.fts_tables.specs.Tables.{job_at};
-ghost use Rattle.fts_pages.specs.Pages.{question_of, is_in, is_at, is_on, is_asked, in_order, matching, job_shown};
+ghost use Rattle.fts_pages.specs.Pages.{question_of, is_in, is_at, is_on, has_reason, is_asked, in_order, matching, job_shown};
 ghost use Rattle.fts_pages.specs.Walk.{shown_if_asked};
 
 use crate::asked::PageAsked;
+use crate::groups::group_of;
 use crate::objects::job_shown;
 use crate::places::{Places, place_at};
 use fts_desk::Desk;
@@ -82,7 +83,9 @@ fn is_asked(desk: &Desk, asked: &PageAsked, job: &JobRow) -> bool
     requires { job_at desk.now.tables.jobs job.now.number ≡ Some job.now }
     ensures { result ≡ is_asked desk.now.tables (question_of asked.now) job.now }
 {
-    is_in(asked.state, state_of(desk, job)) && any_on(asked, desk.job_rows(job.number))
+    is_in(asked.state, state_of(desk, job))
+        && any_on(asked, desk.job_rows(job.number))
+        && any_has_reason(asked, desk.job_rows(job.number))
 }
 
 /// Whether a state is the one that is asked for.
@@ -110,12 +113,26 @@ fn is_on(asked: &PageAsked, row: &FileRow) -> bool
         && is_at(&asked.destination, row.dest.endpoint.as_str())
 }
 
-/// Whether an endpoint is the one that is asked for.
-fn is_at(wanted: &Option<String>, endpoint: &str) -> bool
-    ensures { result ≡ is_at (option_map string_bytes wanted.now) endpoint.now }
+/// Whether one of these files stands with a reason of the group that is asked for.
+fn any_has_reason(asked: &PageAsked, rows: &[FileRow]) -> bool
+    ensures { result ≡ list_any (has_reason (question_of asked.now)) rows.now }
+{
+    rows.iter().any(|row| has_reason(asked, row))
+}
+
+/// Whether a file stands with a reason of the group that is asked for.
+fn has_reason(asked: &PageAsked, row: &FileRow) -> bool
+    ensures { result ≡ has_reason (question_of asked.now) row.now }
+{
+    is_at(&asked.reason, group_of(row.reason))
+}
+
+/// Whether a name is the one that is asked for.
+fn is_at(wanted: &Option<String>, name: &str) -> bool
+    ensures { result ≡ is_at (option_map string_bytes wanted.now) name.now }
 {
     match wanted {
         None => true,
-        Some(wanted) => wanted.as_str() == endpoint,
+        Some(wanted) => wanted.as_str() == name,
     }
 }

@@ -11,6 +11,7 @@ use Rattle.fts_routes.specs.Routes.{job_named}
 use Rattle.fts_board.specs.History.{HistoryQuestion}
 use Rattle.fts_board.specs.declared.histories.StepLength.{StepLength}
 use Rattle.fts_board.specs.declared.histories.StepLength.TheVariants.{Minute, TenMinutes, Hour}
+use Rattle.fts_pages.specs.Groups.{is_group}
 use Rattle.fts_pages.specs.Pages.{JobsQuestion}
 
 -- a value that isn't empty
@@ -71,23 +72,29 @@ abbrev pub newest_in : Option (List ℕ) → Option Bool
 newest_in None = Some false
 newest_in (Some text) = if bytes_eq text (codes "true") then Some true else if bytes_eq text (codes "false") then Some false else None
 
--- jobs of a state, behind a job, in an order, at most so many, of the source and the destination that are named
-abbrev pub jobs_of : Option (List ℕ) → Option JobState → Option ℕ → Bool → ℕ → JobsQuestion
-jobs_of query state after newest limit = record {
+-- the group of reasons that a word names
+abbrev pub group_named : List ℕ → Option (List ℕ)
+group_named word = if is_group word then Some word else None
+
+-- jobs of a state and with a reason, behind a job, in an order, at most so many, of the source and the destination that are named
+abbrev pub jobs_of : Option (List ℕ) → Option JobState → Option (List ℕ) → Option ℕ → Bool → ℕ → JobsQuestion
+jobs_of query state reason after newest limit = record {
   state = state;
   source = given (codes "source") query;
   destination = given (codes "destination") query;
+  reason = reason;
   after = after;
   newest = newest;
   limit = limit;
 }
 
--- the jobs that a query asks for: of one state, behind the job of an id, and 1 to 200 of them, 25 where no number is named
+-- the jobs that a query asks for: of one state, of a group of reasons, behind the job of an id, and 1 to 200 of them, 25 where no number is named
 abbrev pub jobs_asked : Tables → Option (List ℕ) → Option JobsQuestion
 jobs_asked tables query =
-    option_and_then (λ state. option_and_then (λ after. option_and_then (λ newest. option_map (jobs_of query state after newest)
+    option_and_then (λ state. option_and_then (λ reason. option_and_then (λ after. option_and_then (λ newest. option_map (jobs_of query state reason after newest)
     (count_in 25 200 (given (codes "limit") query))) (newest_in (given (codes "newest") query)))
-    (optional (number_named tables) (given (codes "after") query))) (optional state_named (given (codes "state") query))
+    (optional (number_named tables) (given (codes "after") query))) (optional group_named (given (codes "reason") query)))
+    (optional state_named (given (codes "state") query))
 
 -- whether a byte is a slash
 abbrev pub is_slash : ℕ → Bool

@@ -162,7 +162,7 @@ reply_on History path query now monitor began damage =
     reply_by bad_query (option_map (λ asked. history_text monitor.tables.rows monitor.chronicle.reports asked now) (history_asked query))
 reply_on Jobs path query now monitor began damage = reply_by bad_query (option_map (page_text MAX_LOOKED_AT monitor.tables) (jobs_asked monitor.tables query))
 reply_on Job path query now monitor began damage =
-    reply_by no_job (option_map (job_text monitor.tables) (option_and_then (job_named monitor.tables) (id_in path)))
+    reply_by no_job (option_map (job_text monitor.tables monitor.chronicle) (option_and_then (job_named monitor.tables) (id_in path)))
 
 -- the reply to a request about a topic at a moment, by the view that its look left
 abbrev pub reply_of_view : {D : Type 0} → Topic → List ℕ → Option (List ℕ) → ℕ → View D → Reply

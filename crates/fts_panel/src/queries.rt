@@ -4,12 +4,12 @@ ghost use Rattle.std.specs.Prelude.{◌≡◌, IfOk, option_map, option_copied, 
 ghost use Rattle.std.specs.Cow.{cow_str_bytes};
 ghost use Rattle.fts_board.specs.History.{history_text};
 ghost use Rattle.fts_pages.specs.Pages.{question_of as jobs_question_of};
-ghost use Rattle.fts_panel.specs.Queries.{given, step_by, step_in, count_in, history_asked, state_named, number_named, newest_in, optional, jobs_asked, id_in};
+ghost use Rattle.fts_panel.specs.Queries.{given, step_by, step_in, count_in, history_asked, state_named, number_named, newest_in, optional, group_named, jobs_asked, id_in};
 
 use fts_board::{HistoryAsked, StepLength, history};
 use fts_chronicle::CopyReport;
 use fts_desk::Desk;
-use fts_pages::PageAsked;
+use fts_pages::{PageAsked, is_group};
 use fts_routes::{bytes_of, first_value, job_named, number_in};
 use fts_tables::{JobState, Memory};
 use std::alloc::Global;
@@ -104,6 +104,22 @@ fn state_in(text: &Option<CowStr<'_>>) -> Option<Option<JobState>>
     }
 }
 
+/// What is read of a group of reasons that may be absent; `Ok(None)` exactly where it is there and is none.
+fn group_in(alloc: Global, text: &Option<CowStr<'_>>) -> Result<Option<Option<String>>, Memory>
+    ensures { IfOk result (λ group. option_map (option_map string_bytes) group ≡ optional group_named (option_map cow_str_bytes text.now)) }
+{
+    match text {
+        None => Ok(Some(None)),
+        Some(word) => {
+            if is_group(word.as_str()) {
+                Ok(Some(Some(String::from_str(alloc, word.as_str())?)))
+            } else {
+                Ok(None)
+            }
+        }
+    }
+}
+
 /// The number of the job that an id names, where one is named; none where no job has the id.
 fn after_in(desk: &Desk, text: &Option<CowStr<'_>>) -> Option<Option<u32>>
     ensures { result ≡ optional (number_named desk.now.tables) (option_map cow_str_bytes text.now) }
@@ -153,6 +169,9 @@ pub fn jobs_asked(
     let Some(state) = state_in(&given(alloc, query, "state")?) else {
         return Ok(None);
     };
+    let Some(reason) = group_in(alloc, &given(alloc, query, "reason")?)? else {
+        return Ok(None);
+    };
     let Some(after) = after_in(desk, &given(alloc, query, "after")?) else {
         return Ok(None);
     };
@@ -166,6 +185,7 @@ pub fn jobs_asked(
         state,
         source: owned(alloc, &given(alloc, query, "source")?)?,
         destination: owned(alloc, &given(alloc, query, "destination")?)?,
+        reason,
         after,
         newest,
         limit: limit as usize,

@@ -69,7 +69,7 @@ fn reply_on<D: Disk>(
         Topic::Snapshot => snapshot_reply(alloc, monitor, now, began, damage),
         Topic::History => history_reply(alloc, monitor, question.query, now),
         Topic::Jobs => jobs_reply(alloc, monitor.desk(), question.query),
-        Topic::Job => job_reply(alloc, monitor.desk(), question.path),
+        Topic::Job => job_reply(alloc, monitor, question.path),
     }
 }
 
@@ -158,12 +158,13 @@ fn jobs_text(alloc: Global, desk: &Desk, query: Option<&str>) -> Result<Option<V
     }
 }
 
-/// The job that a path names, and its files.
-fn job_reply(alloc: Global, desk: &Desk, path: &str) -> Reply
-    ensures { IsOrNoMemory result (reply_by no_job (option_map (job_text desk.now.tables) (option_and_then (job_named desk.now.tables) (id_in path.now)))) }
+/// The job that a path names, its files, and what happened to them.
+fn job_reply<D: Disk>(alloc: Global, monitor: &Monitor<D>, path: &str) -> Reply
+    ensures { IsOrNoMemory result (reply_by no_job
+        (option_map (job_text monitor.now.tables monitor.now.chronicle) (option_and_then (job_named monitor.now.tables) (id_in path.now)))) }
 {
     match id_in(path) {
-        Some(id) => match job_page(alloc, desk, id) {
+        Some(id) => match job_page(alloc, monitor.desk(), monitor.chronicle(), id) {
             Ok(Some(text)) => shows(text),
             Ok(None) => no_job(alloc),
             Err(Memory) => no_memory(alloc),

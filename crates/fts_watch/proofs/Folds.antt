@@ -5,7 +5,7 @@ use Rattle.std.specs.Result.{IsErrAnd}
 use Rattle.std.proofs.lemmas.List.Elements.{All-head, All-tail, All-push}
 use Rattle.fts_tables.specs.Tables.{Tables, empty_tables}
 use Rattle.fts_tables.specs.Step.{Outcomes, step}
-use Rattle.fts_tables.specs.History.{tables_after, IsAccepted}
+use Rattle.fts_tables.specs.History.{tables_after, tables_of, IsAccepted}
 use Rattle.fts_tables.specs.declared.commands.Answer.{Answer}
 use Rattle.fts_tables.specs.declared.commands.Entry.{Entry}
 use Rattle.fts_chronicle.specs.Chronicle.{ChronicleData, chronicle_of, chronicle_with}
@@ -49,9 +49,10 @@ step_done : (before after : Tables) (answer : Answer) (came : Outcomes) → came
 step_done before after answer (Ok done) is = (tt, ap (λ (d : Tables × Answer). d.0) (let same : done ≡ (after, answer) = cc in same))
 step_done before after answer (Err refusal) is = absurd cc
 
--- one entry more adds what its command tells
+-- one entry more adds what its command and its answer tell
 abbrev pub AreGrowing : Type 0
-AreGrowing = (entries : List Entry) (next : Entry) → chronicle_of (entries ++ next ∷ []) ≡ chronicle_with (chronicle_of entries) next.command
+AreGrowing = (entries : List Entry) (next : Entry) (after : Tables) (answer : Answer) → step (tables_of entries) next.command ≡ Ok (after, answer)
+    → chronicle_of (entries ++ next ∷ []) ≡ chronicle_with (chronicle_of entries) next.command answer
 
 module _ {D : Type 0} (state : D → DiskState) (old new : MonitorData D) (entries : List Entry) (so_far : IsFoldOf state old entries) where
   -- the list is the same where nothing but the disk is new, and what was passed stays so
@@ -67,7 +68,7 @@ module _ {D : Type 0} (state : D → DiskState) (old new : MonitorData D) (entri
 
   -- one entry more
   pub fold_more : (body : List ℕ) (takes : TakesEntry old.tables body new.tables) → new.commands ≡ old.commands + 1
-      → new.chronicle ≡ chronicle_with old.chronicle takes.entry.command → AreGrowing
+      → new.chronicle ≡ chronicle_with old.chronicle takes.entry.command takes.answer → AreGrowing
       → HasPassed (state new.disk) new.used (bodies_of entries ++ body ∷ []) → IsFoldOf state new (entries ++ takes.entry ∷ [])
   fold_more body takes commands told growing passed =
       let done = step_done old.tables new.tables takes.answer (step old.tables takes.entry.command) takes.stepped in
@@ -77,7 +78,9 @@ module _ {D : Type 0} (state : D → DiskState) (old new : MonitorData D) (entri
         legal = legal_more empty_tables entries takes.entry so_far.legal (subst (λ t. IsAccepted (step t takes.entry.command)) so_far.folded done.0);
         proper = All-push IsProper entries takes.entry so_far.proper takes.proper;
         counted = omega (arith, commands, so_far.counted, length-append entries (takes.entry ∷ []));
-        chronicled = told ∙ ap (λ (before : ChronicleData). chronicle_with before takes.entry.command) so_far.chronicled ∙ sym (growing entries takes.entry);
+        chronicled = told ∙ ap (λ (before : ChronicleData). chronicle_with before takes.entry.command takes.answer) so_far.chronicled
+            ∙ sym (growing entries takes.entry new.tables takes.answer
+            (subst (λ t. step t takes.entry.command ≡ Ok (new.tables, takes.answer)) so_far.folded takes.stepped));
         passed = subst (λ bodies. HasPassed (state new.disk) new.used bodies)
             (ap (λ b. bodies_of entries ++ b ∷ []) takes.spells ∙ sym (bodies_more entries takes.entry)) passed;
       }
@@ -175,13 +178,14 @@ looked_on state desk after told then old new tables commands same passed = goes_
 pub took_on : {D : Type 0} (state : D → DiskState) (desk after : DeskData) (told next_told : ChronicleData) (old mid new : TailData D) (body : List ℕ)
     → ((bodies : List (List ℕ)) → HasPassed (state old.disk) old.used bodies → HasPassed (state mid.disk) mid.used bodies)
     → mid.next ≡ Some body → TakesEntry desk.tables body after.tables → after.commands ≡ desk.commands + 1
-    → ((entry : Entry) → IsProper entry → body ≡ spelled entry → next_told ≡ chronicle_with told entry.command) → AreGrowing
+    → ((entry : Entry) (answer : Answer) → IsProper entry → body ≡ spelled entry → step desk.tables entry.command ≡ Ok (after.tables, answer)
+    → next_told ≡ chronicle_with told entry.command answer) → AreGrowing
     → ((bodies : List (List ℕ)) → HasPassed (state mid.disk) mid.used bodies → HasPassed (state new.disk) new.used (bodies_with bodies mid.next))
     → GoesOn state (view_of desk told old) (view_of after next_told new)
 took_on state desk after told next_told old mid new body passed next takes commands tells growing then = record {
   added = takes.entry ∷ [];
   each = λ entries fold. fold_more state (view_of desk told old) (view_of after next_told new) entries fold body takes commands
-      (tells takes.entry takes.proper takes.spells) growing
+      (tells takes.entry takes.answer takes.proper takes.spells takes.stepped) growing
       (subst (λ o. HasPassed (state new.disk) new.used (bodies_with (bodies_of entries) o)) next
       (then (bodies_of entries) (passed (bodies_of entries) fold.passed)));
 }

@@ -2,7 +2,9 @@
 //! Keeps: the tables are those of a legal list, whose spellings are the bodies up to the gate, and the chronicle is that list's (`IsMonitor`).
 //! Order: a look takes the bodies behind the gate one by one: each is read, there is made room for what it tells, it is done by the desk and told, and
 //! only then passed. So where it stops, what was folded stays on view, and the next look goes on from there.
-ghost use Rattle.std.specs.Prelude.{◌≡◌, ◌<◌, ◌+◌, ◌^◌, OnOk, OnErr};
+ghost use Rattle.std.specs.Prelude.{◌≡◌, ◌<◌, ◌+◌, ◌^◌, Ok, OnOk, OnErr};
+ghost use Rattle.fts_tables.specs.Step.{step};
+ghost use Rattle.fts_tables.specs.declared.commands.Answer.{Answer};
 ghost use Rattle.fts_tables.specs.declared.commands.Entry.{Entry};
 ghost use Rattle.fts_chronicle.specs.Chronicle.{chronicle_with};
 ghost use Rattle.fts_record.specs.Proper.{IsProper};
@@ -177,8 +179,9 @@ fn take_entry(
     ensures commands { OnOk result (desk.new.commands ≡ desk.old.commands + 1) }
     ensures kept { OnErr result (desk.new.tables ≡ desk.old.tables) }
     ensures counted { OnErr result (desk.new.commands ≡ desk.old.commands) }
-    ensures told { OnOk result ((entry : Entry) → IsProper entry → body.now ≡ spelled entry
-        → chronicle.new.told ≡ chronicle_with chronicle.old.told entry.command) }
+    ensures told { OnOk result ((entry : Entry) (answer : Answer) → IsProper entry → body.now ≡ spelled entry
+        → step desk.old.tables entry.command ≡ Ok (desk.new.tables, answer)
+        → chronicle.new.told ≡ chronicle_with chronicle.old.told entry.command answer) }
     ensures untold { OnErr result (chronicle.new.told ≡ chronicle.old.told) }
 {
     let entry = match read_entry(alloc, body) {
@@ -194,8 +197,8 @@ fn take_entry(
     }
     match desk.prepare(&entry.command) {
         Ok(plan) => {
-            desk.commit(plan);
-            chronicle.add(&entry.command);
+            let answer = desk.commit(plan);
+            chronicle.add(&entry.command, answer);
             Ok(())
         }
         Err(DeskFault::Rule(_)) => Err(MonitorFault::Damaged { offset: gate }),
