@@ -139,8 +139,8 @@ const BY_NAME: [Row; 9] = [
     ),
     (
         FileCall::Link,
-        1,
-        "time=1970-01-01T00:00:05Z event=call call=link path=\"/stand/grid/b\" error=\"EPERM\" errno=1\n",
+        18,
+        "time=1970-01-01T00:00:05Z event=call call=link path=\"/stand/grid/b\" error=\"EXDEV\" errno=18\n",
     ),
     (
         FileCall::Rename,
@@ -227,6 +227,7 @@ fn an_answer_is_not_told(rt: HostRuntime) {
         ("a making where there is something", FileCall::Make, 17),
         ("a name that is gone", FileCall::Unlink, 2),
         ("a name that is taken", FileCall::Link, 17),
+        ("no second names on this file system", FileCall::Link, 95),
         ("a folder that is there", FileCall::MakeFolder, 17),
         ("folders are missing above it", FileCall::MakeFolder, 2),
         ("a folder that isn't", FileCall::Names, 2),
