@@ -16,51 +16,54 @@ fn is_line(alloc: Global, event: &Event<'_>, want: &str) -> bool {
     }
 }
 
+/// Events, each with its line behind the moment.
+const EVENT_ROWS: [(&str, Event<'static>, &str); 6] = [
+    (
+        "a port",
+        Event::Listens {
+            at: "127.0.0.1:8080",
+        },
+        "event=listens at=\"127.0.0.1:8080\"\n",
+    ),
+    (
+        "a client that sends too slowly",
+        Event::LineEnded {
+            cause: LineFault::SlowToSend,
+        },
+        "event=line cause=slow_to_send\n",
+    ),
+    (
+        "one that takes too slowly",
+        Event::LineEnded {
+            cause: LineFault::SlowToTake,
+        },
+        "event=line cause=slow_to_take\n",
+    ),
+    (
+        "a stream that failed",
+        Event::LineEnded {
+            cause: LineFault::StreamFailed,
+        },
+        "event=line cause=stream_failed\n",
+    ),
+    (
+        "the end of a run",
+        Event::Ends { status: 3, lost: 0 },
+        "event=ends status=3 lost=0\n",
+    ),
+    (
+        "the largest numbers",
+        Event::Ends {
+            status: 255,
+            lost: 18446744073709551615,
+        },
+        "event=ends status=255 lost=18446744073709551615\n",
+    ),
+];
+
 #[test]
 fn each_event_has_its_line(rt: HostRuntime) {
-    for (case, event, want) in [
-        (
-            "a port",
-            Event::Listens {
-                at: "127.0.0.1:8080",
-            },
-            "event=listens at=\"127.0.0.1:8080\"\n",
-        ),
-        (
-            "a client that sends too slowly",
-            Event::LineEnded {
-                cause: LineFault::SlowToSend,
-            },
-            "event=line cause=slow_to_send\n",
-        ),
-        (
-            "one that takes too slowly",
-            Event::LineEnded {
-                cause: LineFault::SlowToTake,
-            },
-            "event=line cause=slow_to_take\n",
-        ),
-        (
-            "a stream that failed",
-            Event::LineEnded {
-                cause: LineFault::StreamFailed,
-            },
-            "event=line cause=stream_failed\n",
-        ),
-        (
-            "the end of a run",
-            Event::Ends { status: 3, lost: 0 },
-            "event=ends status=3 lost=0\n",
-        ),
-        (
-            "the largest numbers",
-            Event::Ends {
-                status: 255,
-                lost: 18446744073709551615,
-            },
-            "event=ends status=255 lost=18446744073709551615\n",
-        ),
-    ] {
+    for (case, event, want) in EVENT_ROWS {
         assert!(rt; is_line(rt.alloc(), &event, want), "{case}");
     }
 }
@@ -138,53 +141,56 @@ fn is_copy_line(alloc: Global, outcome: Outcome, want: &str) -> bool {
     }
 }
 
+/// How copies end, each with what stands behind a line's places.
+const OUTCOME_ROWS: [(&str, Outcome, &str); 8] = [
+    (
+        "verified",
+        Outcome::Verified {
+            size: 3,
+            digest: [0; 16],
+        },
+        "bytes=3 millis=34 outcome=\"verified\"\n",
+    ),
+    (
+        "no source",
+        Outcome::SourceMissing,
+        "bytes=0 millis=34 outcome=\"source missing\"\n",
+    ),
+    (
+        "something is there",
+        Outcome::DestinationExists,
+        "bytes=0 millis=34 outcome=\"destination exists\"\n",
+    ),
+    (
+        "another size",
+        Outcome::SourceSize { seen: 40 },
+        "bytes=0 millis=34 outcome=\"source size 40\"\n",
+    ),
+    (
+        "another digest",
+        Outcome::SourceDigest { seen: [0xa5; 16] },
+        "bytes=0 millis=34 outcome=\"source digest a5a5a5a5a5a5a5a5a5a5a5a5a5a5a5a5\"\n",
+    ),
+    (
+        "another byte",
+        Outcome::ReadBackDiffers { at: 7 },
+        "bytes=0 millis=34 outcome=\"read back differs at 7\"\n",
+    ),
+    (
+        "a store",
+        Outcome::StoreFailed,
+        "bytes=0 millis=34 outcome=\"store failed\"\n",
+    ),
+    (
+        "a stop",
+        Outcome::Stopped,
+        "bytes=0 millis=34 outcome=\"stopped\"\n",
+    ),
+];
+
 #[test]
 fn each_outcome_has_its_text(rt: HostRuntime) {
-    for (case, outcome, want) in [
-        (
-            "verified",
-            Outcome::Verified {
-                size: 3,
-                digest: [0; 16],
-            },
-            "bytes=3 millis=34 outcome=\"verified\"\n",
-        ),
-        (
-            "no source",
-            Outcome::SourceMissing,
-            "bytes=0 millis=34 outcome=\"source missing\"\n",
-        ),
-        (
-            "something is there",
-            Outcome::DestinationExists,
-            "bytes=0 millis=34 outcome=\"destination exists\"\n",
-        ),
-        (
-            "another size",
-            Outcome::SourceSize { seen: 40 },
-            "bytes=0 millis=34 outcome=\"source size 40\"\n",
-        ),
-        (
-            "another digest",
-            Outcome::SourceDigest { seen: [0xa5; 16] },
-            "bytes=0 millis=34 outcome=\"source digest a5a5a5a5a5a5a5a5a5a5a5a5a5a5a5a5\"\n",
-        ),
-        (
-            "another byte",
-            Outcome::ReadBackDiffers { at: 7 },
-            "bytes=0 millis=34 outcome=\"read back differs at 7\"\n",
-        ),
-        (
-            "a store",
-            Outcome::StoreFailed,
-            "bytes=0 millis=34 outcome=\"store failed\"\n",
-        ),
-        (
-            "a stop",
-            Outcome::Stopped,
-            "bytes=0 millis=34 outcome=\"stopped\"\n",
-        ),
-    ] {
+    for (case, outcome, want) in OUTCOME_ROWS {
         assert!(rt; is_copy_line(rt.alloc(), outcome, want), "{case}");
     }
 }
