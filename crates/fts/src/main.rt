@@ -201,7 +201,7 @@ fn run_in_memory<R: Threads + Wait + Sync>(
     let deletes = MemoryDisk::new(alloc, Vec::new(alloc));
     let stores = stand_stores(rt)?;
     let doors = closed_doors(rt, alloc, StopFile::none(), socket_of(words), Some(log))?;
-    let gate = ServiceGate::new(rt, StopFile::none(), log);
+    let gate = ServiceGate::new(rt, StopFile::none(), log, None);
     run_over(
         rt, threads, words, settings, journal, deletes, stores, doors, gate,
     )
@@ -260,6 +260,7 @@ fn run_in_folder<R: Threads + Wait + Sync>(
     let journal = format!(in alloc; "{folder}/fts.journal")?;
     let deletes = format!(in alloc; "{folder}/fts.deletes")?;
     let stop = format!(in alloc; "{folder}/fts.stop")?;
+    let grid = format!(in alloc; "{folder}/grid")?;
     let stop = StopFile::at(rt, stop.as_str());
     let mut stores = folder_stores(machine, words, folder)?;
     let settings = StdSource::new(OpenedFile::open(rt, settings.as_str()));
@@ -271,7 +272,7 @@ fn run_in_folder<R: Threads + Wait + Sync>(
         meet_endpoints(&mut stores)?;
     }
     let doors = closed_doors(rt, alloc, stop, socket_of(words), Some(log))?;
-    let gate = ServiceGate::new(rt, stop, log);
+    let gate = ServiceGate::new(rt, stop, log, Some(grid.as_str()));
     run_over(
         rt, threads, words, settings, journal, deletes, stores, doors, gate,
     )

@@ -1,10 +1,13 @@
-//! The gate of a service: closed while its stop file stands, and a line of the log for each copy that ended.
+//! The gate of a service: closed while its stop file stands, and a line of the log for each copy that ended. Behind a copy that the store failed it looks
+//! what stands at both ends: a source or a destination that is no plain file fails without a call that is refused.
 //! Keeps: it is closed exactly where the stop file stands (`is_closed`). The time of a copy goes from its begin to its end, without its claim and its report.
 use crate::log::SystemLog;
 use crate::stop::StopFile;
+use fts_files::{FileSystem, Kind, Seen, SystemFiles};
 use fts_log::{EndedCopy, Event, Log};
 use fts_tables::{Outcome, PlaceRef};
 use fts_workers::{CopyNote, Gate, PlaceNote};
+use std::alloc::{AllocError, Global};
 use std::time::{SystemTime, UNIX_EPOCH};
 
 /// A gate with a stop file and a log.
@@ -13,13 +16,52 @@ pub struct ServiceGate<'a> {
     rt: &'a HostRuntime,
     stop: StopFile<'a>,
     log: &'a SystemLog<'a>,
+    /// The folder of the endpoints, where they are in one.
+    grid: Option<&'a str>,
 }
 
 impl<'a> ServiceGate<'a> {
-    /// The gate that closes by this stop file and tells this log.
-    pub fn new(rt: &'a HostRuntime, stop: StopFile<'a>, log: &'a SystemLog<'a>) -> ServiceGate<'a> {
-        ServiceGate { rt, stop, log }
+    /// The gate that closes by this stop file and tells this log of copies between endpoints in this folder, or in memory.
+    pub fn new(
+        rt: &'a HostRuntime,
+        stop: StopFile<'a>,
+        log: &'a SystemLog<'a>,
+        grid: Option<&'a str>,
+    ) -> ServiceGate<'a> {
+        ServiceGate {
+            rt,
+            stop,
+            log,
+            grid,
+        }
     }
+
+    /// Tells what stands at an end of a copy, where that is no plain file.
+    fn tell_end(&self, end: &PlaceNote) {
+        let Some(grid) = self.grid else { return };
+        let Ok(path) = path_of(self.rt.alloc(), grid, end) else {
+            return;
+        };
+        let path = path.as_str();
+        if let Ok(Seen { kind, .. }) = SystemFiles::new(self.rt).look(path) {
+            match kind {
+                Kind::File => {}
+                Kind::Folder | Kind::Other => self.log.tell(&Event::FoundOther { path, kind }),
+            }
+        }
+    }
+}
+
+/// The path of a place below a folder, as a store in it has it: the endpoint's name with each slash as a comma, and the place's path.
+fn path_of(alloc: Global, grid: &str, place: &PlaceNote) -> Result<String, AllocError> {
+    let mut path = String::from_str(alloc, grid)?;
+    path.push('/')?;
+    for letter in place.endpoint.as_str().chars() {
+        path.push(if letter == '/' { ',' } else { letter })?;
+    }
+    path.push('/')?;
+    path.push_str(place.path.as_str())?;
+    Ok(path)
 }
 
 /// The time of the system in milliseconds since 1970, and 0 where it can't be had.
@@ -51,6 +93,10 @@ impl Gate for ServiceGate<'_> {
     }
 
     fn ended(&self, copy: &CopyNote, begun: u64, outcome: Outcome) {
+        if let Outcome::StoreFailed = outcome {
+            self.tell_end(&copy.source);
+            self.tell_end(&copy.dest);
+        }
         self.log.tell(&Event::CopyEnded(EndedCopy {
             job: copy.job.unwrap_or(0),
             file: copy.file,

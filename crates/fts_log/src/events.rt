@@ -71,7 +71,7 @@ pub enum Event<'a> {
         path: &'a str,
         errno: u32,
     },
-    /// What has this path is no plain file, where one was asked for.
+    /// What has this path is no plain file, and stands at an end of a copy that failed.
     FoundOther {
         path: &'a str,
         kind: Kind,

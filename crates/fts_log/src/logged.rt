@@ -2,14 +2,13 @@
 //! Keeps: each call is made once on the file system below, and has its answer. So the calls that are told by it, and the numbers of its open files,
 //! are those of the one below (`calls`, `number`), and what stores and disks promise over any file system they promise over this one.
 //! An open file keeps the path that it was opened by, for the log alone: with no memory for it the path is empty, and the call goes on.
-//! A refusal that is an answer isn't told (`FileCall::is_answer`); what a look finds that is no plain file is (`tell_other`). Of two paths the new one is
-//! told. Made by the program, for stores and disks.
+//! A refusal that is an answer isn't told (`FileCall::is_answer`). Of two paths the new one is told. Made by the program, for stores and disks.
 ghost use Rattle.std.specs.Prelude.{◌≡◌};
 ghost use Rattle.fts_log.specs.Logged.{files_below};
 
 use crate::answers::failure;
-use crate::events::{Event, FileCall, Log};
-use fts_files::{FileSystem, Kind, Refused, Seen, Way};
+use crate::events::{FileCall, Log};
+use fts_files::{FileSystem, Refused, Seen, Way};
 use std::alloc::Global;
 
 /// Files whose failed calls are told.
@@ -27,17 +26,6 @@ pub struct LoggedHandle<H: Drop> {
     path: String,
 }
 
-/// What stands in the name of an endpoint's own folder behind its scheme, in the place of `://`.
-const ENDPOINT_MARK: &str = ":,,";
-
-/// Whether a path is that of an endpoint's own folder, by its last name.
-fn is_endpoints(path: &str) -> bool {
-    match path.rsplit_once('/') {
-        Some((_, name)) => name.contains(ENDPOINT_MARK),
-        None => path.contains(ENDPOINT_MARK),
-    }
-}
-
 impl<F: FileSystem + Drop, L: Log + Drop> LoggedFiles<F, L> {
     /// These files, whose failed calls this log is told. The paths of open files take their memory from `alloc`.
     pub fn over(files: F, log: L, alloc: Global) -> LoggedFiles<F, L>
@@ -50,18 +38,6 @@ impl<F: FileSystem + Drop, L: Log + Drop> LoggedFiles<F, L> {
     fn tell(&self, call: FileCall, path: &str, refused: Refused) {
         if let Some(event) = failure(call, path, refused) {
             self.log.tell(&event);
-        }
-    }
-
-    /// Tells what a look found that is no plain file, where one was asked for: only an endpoint's own folder is looked at as a folder.
-    fn tell_other(&self, path: &str, kind: Kind) {
-        let is_wanted = match kind {
-            Kind::File => true,
-            Kind::Folder => is_endpoints(path),
-            Kind::Other => false,
-        };
-        if !is_wanted {
-            self.log.tell(&Event::FoundOther { path, kind });
         }
     }
 
@@ -116,9 +92,6 @@ impl<F: FileSystem + Drop, L: Log + Drop> FileSystem for LoggedFiles<F, L> {
 
     fn look(&mut self, path: &str) -> Result<Seen, Refused> {
         let answer = self.files.look(path);
-        if let Ok(seen) = &answer {
-            self.tell_other(path, seen.kind);
-        }
         self.told(FileCall::Look, path, answer)
     }
 

@@ -1,5 +1,6 @@
 //! The line of each event, to the byte: that it is made with ample memory, and that it says what an operator looks for.
 //! Wanted lines were written by hand.
+use fts_files::Kind;
 use fts_log::{EndedCopy, Event, FileCall, LineFault, line_of};
 use fts_tables::{Outcome, PlaceRef};
 use std::alloc::Global;
@@ -17,13 +18,29 @@ fn is_line(alloc: Global, event: &Event<'_>, want: &str) -> bool {
 }
 
 /// Events, each with its line behind the moment.
-const EVENT_ROWS: [(&str, Event<'static>, &str); 6] = [
+const EVENT_ROWS: [(&str, Event<'static>, &str); 8] = [
     (
         "a port",
         Event::Listens {
             at: "127.0.0.1:8080",
         },
         "event=listens at=\"127.0.0.1:8080\"\n",
+    ),
+    (
+        "a folder in the place of a source",
+        Event::FoundOther {
+            path: "/stand/grid/https:,,a.example/f",
+            kind: Kind::Folder,
+        },
+        "event=found path=\"/stand/grid/https:,,a.example/f\" error=\"Is a directory\"\n",
+    ),
+    (
+        "a pipe",
+        Event::FoundOther {
+            path: "/stand/p",
+            kind: Kind::Other,
+        },
+        "event=found path=\"/stand/p\" error=\"not a plain file\"\n",
     ),
     (
         "a client that sends too slowly",

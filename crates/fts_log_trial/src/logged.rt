@@ -264,43 +264,6 @@ fn what_is_done_is_not_told(rt: HostRuntime) {
     }
 }
 
-/// What is told of a look at this path.
-fn told_of_look(alloc: Global, path: &str) -> Vec<u8> {
-    let log = KeptLog::new(alloc);
-    let below = RefusingFiles {
-        refuses_at: 0,
-        errno: 5,
-        calls: 0,
-    };
-    let looked = LoggedFiles::over(below, &log, alloc).look(path);
-    if looked.is_ok() {
-        log.take()
-    } else {
-        Vec::new(alloc)
-    }
-}
-
-#[test]
-fn what_is_no_plain_file_is_told(rt: HostRuntime) {
-    for (path, want) in [
-        ("/grid/https:,,a.example/file", ""),
-        (
-            "/grid/https:,,a.example/pipe",
-            "event=found path=\"/grid/https:,,a.example/pipe\" error=\"not a plain file\"\n",
-        ),
-        (
-            "/grid/https:,,a.example/folder",
-            "event=found path=\"/grid/https:,,a.example/folder\" error=\"Is a directory\"\n",
-        ),
-        // An endpoint's own folder is looked at as one.
-        ("/grid/https:,,a.example", ""),
-    ] {
-        let told = told_of_look(rt.alloc(), path);
-        assert!(rt; told.as_slice().ends_with(want.as_bytes()), "{path}");
-        assert!(rt; want.is_empty() == told.is_empty(), "{path}");
-    }
-}
-
 // A full device of the system: the file that was opened has its path in the line.
 #[test]
 fn a_full_device_is_told(rt: HostRuntime) {
