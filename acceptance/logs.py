@@ -85,28 +85,34 @@ class Stand:
 
 
 def tells(program, folder):
-    stand, log = Stand(program, folder / "tells"), folder / "tells.log"
+    stand, log = Stand(program, folder / 'a "b"\nevent=ends c\\d'), folder / "tells.log"
     stand.source("f", b"abc")
-    stand.source('a"b\\c', b"four")
+    (stand.path / "grid" / "https:,,a.example" / "folder").mkdir()
+    os.mkfifo(stand.path / "grid" / "https:,,a.example" / "pipe")
     stand.start("--log", str(log), stderr=subprocess.DEVNULL)
-    jobs = [stand.submit([("f", "f")]), stand.submit([("%61%22b%5Cc", "x%0Aevent=ends%22")]), stand.submit([("nothing", "y")]), stand.submit([("f", "f/below")])]
-    states = [stand.settle(job) for job in jobs]
-    yield f"files: {states}", states == [["FINISHED"], ["FINISHED"], ["FAILED"], ["FAILED"]]
+    pairs = [("f", "f"), ("nothing", "y"), ("f", "f/below"), ("folder", "z"), ("pipe", "z")]
+    jobs = [stand.submit([pairs[0]])]
+    states = [stand.settle(jobs[0])]
+    jobs += [stand.submit([pair]) for pair in pairs[1:]]
+    states += [stand.settle(job) for job in jobs[1:]]
+    yield f"files: {states}", states == [["FINISHED"], ["FAILED"], ["FAILED"], ["FAILED"], ["FAILED"]]
     yield f"a stop: status {stand.stop()}", stand.process.returncode == 23
     told = lines(log)
     yield f"the first line: {told[0]}", told[0]["event"] == "listens" and told[0]["at"] == str(stand.socket)
     yield f"the last line: {told[-1]}", (told[-1]["event"], told[-1]["status"], told[-1]["lost"]) == ("ends", "23", "0")
     copies = {line["job"]: line for line in told if line["event"] == "copy"}
-    wanted = {jobs[0]: ("f", "f", "3", "verified"), jobs[2]: ("nothing", "y", "0", "source missing"), jobs[3]: ("f", "f/below", "0", "store failed")}
-    for job, (source, dest, size, outcome) in wanted.items():
+    outcomes = ["verified", "source missing", "store failed", "store failed", "store failed"]
+    for job, (source, dest), outcome in zip(jobs, pairs, outcomes):
+        size = "3" if outcome == "verified" else "0"
         line = copies.get(job, {})
         seen = tuple(line.get(name) for name in ("source", "dest", "bytes", "outcome", "attempt"))
         yield f"the copy's line: {seen}", seen == (f"{A}/{source}", f"{B}/{dest}", size, outcome, "1") and line["millis"].isdigit() and line["file"].isdigit()
-    odd = copies.get(jobs[1], {})
-    yield f"names with quotes and controls: {odd.get('source')!r}, {odd.get('dest')!r}", odd.get("outcome") == "verified" and odd.get("bytes") == "4" and len(copies) == 4
+    yield f"{len(copies)} lines of copies", len(copies) == len(pairs)
     calls = [line for line in told if line["event"] == "call"]
-    yield f"a call that was refused, and no other: {calls}", len(calls) >= 1 and all("f/below" in line["path"] and line["error"] == "ENOTDIR" for line in calls)
-    yield "moments do not fall", [int(line["time"]) for line in told] == sorted(int(line["time"]) for line in told)
+    yield f"calls that were refused: {[(line['call'], line['error']) for line in calls]}", len(calls) >= 1 and all(line["path"].startswith(f"{stand.path}/grid/") and line["error"] == "ENOTDIR" for line in calls)
+    found = {line["path"].rsplit("/", 1)[1]: line["error"] for line in told if line["event"] == "found"}
+    yield f"what is no plain file: {found}", found == {"folder": "Is a directory", "pipe": "not a plain file"}
+    yield "moments do not fall", [line["time"] for line in told] == sorted(line["time"] for line in told)
 
 
 def goes_behind(program, folder):

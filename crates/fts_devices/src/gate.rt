@@ -1,14 +1,17 @@
 //! The gate of a service: closed while its stop file stands, and a line of the log for each copy that ended. Behind a copy that the store failed it looks
-//! what stands at both ends: a source or a destination that is no plain file fails without a call that is refused.
+//! what stands at both ends: what is no plain file, or lies below one, fails a copy without a call that is refused.
 //! Keeps: it is closed exactly where the stop file stands (`is_closed`). The time of a copy goes from its begin to its end, without its claim and its report.
 use crate::log::SystemLog;
 use crate::stop::StopFile;
-use fts_files::{FileSystem, Kind, Seen, SystemFiles};
-use fts_log::{EndedCopy, Event, Log};
+use fts_files::{FileSystem, Kind, Refused, SystemFiles};
+use fts_log::{EndedCopy, Event, FileCall, Log};
 use fts_tables::{Outcome, PlaceRef};
 use fts_workers::{CopyNote, Gate, PlaceNote};
 use std::alloc::{AllocError, Global};
 use std::time::{SystemTime, UNIX_EPOCH};
+
+/// Nothing has a name, in the system's numbers (ENOENT).
+const ABSENT: u32 = 2;
 
 /// A gate with a stop file and a log.
 #[derive(Clone, Copy, Drop)]
@@ -36,18 +39,26 @@ impl<'a> ServiceGate<'a> {
         }
     }
 
-    /// Tells what stands at an end of a copy, where that is no plain file.
+    /// Tells what stands at an end of a copy, where that is no plain file, and why it can't be looked at, where something is in the way.
     fn tell_end(&self, end: &PlaceNote) {
         let Some(grid) = self.grid else { return };
         let Ok(path) = path_of(self.rt.alloc(), grid, end) else {
             return;
         };
         let path = path.as_str();
-        if let Ok(Seen { kind, .. }) = SystemFiles::new(self.rt).look(path) {
-            match kind {
+        match SystemFiles::new(self.rt).look(path) {
+            Ok(seen) => match seen.kind {
                 Kind::File => {}
-                Kind::Folder | Kind::Other => self.log.tell(&Event::FoundOther { path, kind }),
-            }
+                kind @ (Kind::Folder | Kind::Other) => {
+                    self.log.tell(&Event::FoundOther { path, kind })
+                }
+            },
+            Err(Refused { errno: ABSENT }) => {}
+            Err(Refused { errno }) => self.log.tell(&Event::CallFailed {
+                call: FileCall::Look,
+                path,
+                errno,
+            }),
         }
     }
 }
