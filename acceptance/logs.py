@@ -18,7 +18,7 @@ from sockets import ask
 FIELD = re.compile(r'([a-z]+)=("(?:[^"\\]|\\.)*"|[^ "]+)(?: |$)')
 ESCAPE = re.compile(r"\\(x[0-9a-f]{2}|.)")
 # more than a pipe holds, by far
-MANY = 3000
+MANY = 1000
 
 
 def fields(line):
