@@ -27,7 +27,7 @@ import sys
 import tempfile
 import time
 
-from serving import Service, free_port, wrong_in
+from serving import Service, free_port, notes_in, wrong_in
 
 TOP = pathlib.Path(__file__).resolve().parent.parent
 EXAMPLES = TOP / "examples"
@@ -247,7 +247,7 @@ def stops_as_the_unit(service, command):
     except subprocess.TimeoutExpired:
         service.process.kill()
         _, note = service.process.communicate()
-    return stop.wait(30), service.process.returncode, note.decode()
+    return stop.wait(30), service.process.returncode, notes_in(note)
 
 
 def serves_as_the_unit(program):

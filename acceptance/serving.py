@@ -32,6 +32,11 @@ def free_port():
         return server.getsockname()[1]
 
 
+def notes_in(errors):
+    """What a run says of its end on its standard error, without the lines of its log."""
+    return "".join(line for line in errors.decode().splitlines(keepends=True) if line.startswith("fts: "))
+
+
 class Service:
     """A folder and the service over it. The folder is the system's choice where none is named."""
 
@@ -178,7 +183,7 @@ def shares_no_port(service):
         (pathlib.Path(folder) / "fts.toml").write_text(SETTINGS)
         words = [service.program, folder, "serve", "--port", str(service.port)]
         ended = subprocess.run(words, stdin=subprocess.DEVNULL, capture_output=True)
-    notes = ended.stderr.decode().strip()
+    notes = notes_in(ended.stderr).strip()
     yield f"a port in use: status {ended.returncode}, {notes!r}", (ended.returncode, notes) == (9, "fts: doors failed")
 
 

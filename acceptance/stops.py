@@ -14,7 +14,7 @@ import subprocess
 import sys
 import time
 
-from serving import A, B, Service, wrong_in
+from serving import A, B, Service, notes_in, wrong_in
 
 # files of a load, how many of them a job has, and bytes of each
 FILES, EACH, BYTES = 1600, 100, 2000
@@ -33,7 +33,7 @@ def told_to_stop(service):
     except subprocess.TimeoutExpired:
         service.process.kill()
         _, note = service.process.communicate()
-    return service.process.returncode, note.decode(), time.monotonic() - begun
+    return service.process.returncode, notes_in(note), time.monotonic() - begun
 
 
 def job_of(names, turn):
