@@ -1,8 +1,6 @@
 -- One job more is seen at each turn.
-use Rattle.std.proofs.Common.{◌≡◌, ℕ, ◌+◌, false, arith, refl, sym, ap, ◌∙◌}
-use Rattle.std.specs.Prelude.{nat_le}
+use Rattle.std.proofs.Common.{arith, sym}
 use Rattle.std.proofs.lemmas.Bool.{lt-leb}
-use Rattle.fts_chronicle.specs.Finishes.{finishes_seen}
 use Rattle.fts_chronicle.proofs.Seen.{none_seen, next_seen}
 use Rattle.fts_chronicle.proofs.finishes.see_all.Goals as goal
 

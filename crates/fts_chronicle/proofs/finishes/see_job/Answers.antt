@@ -1,5 +1,5 @@
 -- One number passes, or none where there is no such job.
-use Rattle.std.proofs.Common.{◌≡◌, ℕ, ◌+◌, ◌-◌, ◌<◌, false, length, arith, refl, sym, ap, ◌∙◌}
+use Rattle.std.proofs.Common.{◌-◌, arith, sym}
 use Rattle.std.proofs.lemmas.Bool.{ne_eqb}
 use Rattle.fts_chronicle.proofs.Seen.{none_seen, one_seen}
 use Rattle.fts_chronicle.proofs.finishes.see_job.Goals as goal

@@ -1,5 +1,5 @@
 -- Where there is no such file no number passes.
-use Rattle.std.proofs.Common.{◌≡◌, false, Option, None, refl, sym, subst}
+use Rattle.std.proofs.Common.{◌≡◌, Option, None, refl, sym, subst}
 use Rattle.fts_tables.specs.declared.rows.FileRow.{FileRow}
 use Rattle.fts_chronicle.specs.Finishes.{is_owner, finishes_seen}
 use Rattle.fts_chronicle.proofs.Seen.{none_seen}
