@@ -76,7 +76,9 @@ pub fn events_of_row(
 ) -> Result<Vec<EventShown>, AllocError>
     ensures { IfOk result (λ shown. shown.items ≡ events_of_row reports.now job.now row.now events.now) }
 {
-    let done = events.iter().filter_map(|event| event_of(reports, job, row, *event));
+    let done = events
+        .iter()
+        .filter_map(|event| event_of(reports, job, row, *event));
     iter::once(submission_of(job)).chain(done).collect(alloc)
 }
 

@@ -69,12 +69,7 @@ fn reply_on<D: Disk>(
     match question.topic {
         Topic::Snapshot => snapshot_reply(alloc, monitor, now, began, damage),
         Topic::History => history_reply(alloc, monitor, question.query, now),
-        Topic::Jobs => jobs_reply(
-            alloc,
-            monitor.desk(),
-            monitor.chronicle(),
-            question.query,
-        ),
+        Topic::Jobs => jobs_reply(alloc, monitor.desk(), monitor.chronicle(), question.query),
         Topic::Job => job_reply(alloc, monitor, question.path),
     }
 }
