@@ -12,6 +12,7 @@ use Rattle.fts_tables.specs.declared.commands.Entry.{Entry}
 use Rattle.fts_chronicle.specs.declared.chronicle.CopyReport.{CopyReport}
 use Rattle.fts_chronicle.specs.declared.events.FileEvent.{FileEvent}
 use Rattle.fts_chronicle.specs.Chronicle.{now_of, restart_by, report_by, reports_of, event_of_step, events_from, events_of, event_by, moment_of, restart_of, chronicle_of, chronicle_with}
+use Rattle.fts_chronicle.specs.Finishes.{finishes_with, finishes_after, finishes_from, finishes_of}
 
 -- the last of a list with one item more is that item
 last_or-more : {Item : Type 0} (before : Option Item) (items : List Item) (item : Item) → last_or before (items ++ item ∷ []) ≡ Some item
@@ -83,12 +84,26 @@ events_of-more entries next after answer stepped =
     ∙ ap (λ (n : ℕ). events_of entries ++ option_to_list (event_of_step n next.command (step (tables_of entries) next.command))) none
     ∙ ap (λ (came : Outcomes). events_of entries ++ option_to_list (event_of_step (length (reports_of entries)) next.command came)) stepped
 
+-- the finishes behind one entry more
+finishes_from-more : (tables : Tables) (finishes : List ℕ) (entries : List Entry) (next : Entry) → finishes_from tables finishes (entries ++ next ∷ [])
+    ≡ finishes_after (finishes_from tables finishes entries) next.command (step (tables_from tables entries) next.command)
+finishes_from-more tables finishes [] next = refl
+finishes_from-more tables finishes (entry ∷ entries) next =
+    finishes_from-more (tables_after tables (step tables entry.command)) (finishes_after finishes entry.command (step tables entry.command)) entries next
+
+-- are those by its command and the tables behind it
+finishes_of-more : (entries : List Entry) (next : Entry) (after : Tables) (answer : Answer) → step (tables_of entries) next.command ≡ Ok (after, answer)
+    → finishes_of (entries ++ next ∷ []) ≡ finishes_with (finishes_of entries) next.command after
+finishes_of-more entries next after answer stepped =
+    finishes_from-more empty_tables [] entries next ∙ ap (λ (came : Outcomes). finishes_after (finishes_of entries) next.command came) stepped
+
 -- all that one entry more adds
 pub chronicle_of-more : (entries : List Entry) (next : Entry) (after : Tables) (answer : Answer) → step (tables_of entries) next.command ≡ Ok (after, answer)
-    → chronicle_of (entries ++ next ∷ []) ≡ chronicle_with (chronicle_of entries) next.command answer
+    → chronicle_of (entries ++ next ∷ []) ≡ chronicle_with (chronicle_of entries) next.command answer after
 chronicle_of-more entries next after answer stepped = λ i. record {
   moment = moment_of-more entries next i;
   restart = restart_of-more entries next i;
   reports = filter_map-more (λ (entry : Entry). report_by entry.command) entries next i;
   events = events_of-more entries next after answer stepped i;
+  finishes = finishes_of-more entries next after answer stepped i;
 }

@@ -1,4 +1,5 @@
--- What a list of entries tells that the tables don't keep: the reports of copies, what was done to files by name, the last moment, and that of the last restart.
+-- What a list of entries tells that the tables don't keep: the reports of copies, what was done to files by name, when jobs were settled, the last moment,
+-- and that of the last restart.
 use Rattle.std.specs.Prelude.{ℕ, ◌+◌, Bool, List, [], ◌∷◌, ◌++◌, map, length, Option, None, Some, option_to_list, unwrap_or, Ok, Err}
 use Rattle.std.specs.List.{filter_map, last_or}
 use Rattle.fts_tables.specs.Tables.{Tables, empty_tables}
@@ -9,6 +10,7 @@ use Rattle.fts_tables.specs.declared.commands.Answer.TheVariants.{Restarted, Sub
 use Rattle.fts_tables.specs.declared.commands.Entry.{Entry}
 use Rattle.fts_tables.specs.declared.commands.Command.{Command}
 use Rattle.fts_tables.specs.declared.commands.Command.TheVariants.{Restart, Submit, CancelJob, CancelFile, SetPriority, Claim, Report, Ban, Unban, Expire}
+use Rattle.fts_chronicle.specs.Finishes.{finishes_with, finishes_of}
 use Rattle.fts_chronicle.specs.declared.chronicle.CopyReport.{CopyReport}
 use Rattle.fts_chronicle.specs.declared.events.FileEvent.{FileEvent}
 use Rattle.fts_chronicle.specs.declared.events.FileEvent.TheVariants.{Claimed as FileClaimed, Reported as FileReported, JobCancelled, FileCancelled}
@@ -118,25 +120,33 @@ moment_of entries = unwrap_or (last_or None (map (λ entry. now_of entry.command
 abbrev pub restart_of : List Entry → ℕ
 restart_of entries = unwrap_or (last_or None (filter_map (λ entry. restart_by entry.command) entries)) 0
 
--- what entries told: the last moment, that of the last restart, the reports, and what was done to files
+-- what entries told: the last moment, that of the last restart, the reports, what was done to files, and when each job was settled, in order of number
 pub record ChronicleData : Type 0 where
   pub moment : ℕ
   pub restart : ℕ
   pub reports : List CopyReport
   pub events : List FileEvent
+  pub finishes : List ℕ
 
 -- what these entries told
 abbrev pub chronicle_of : List Entry → ChronicleData
 chronicle_of entries =
-    record { moment = moment_of entries; restart = restart_of entries; reports = reports_of entries; events = events_of entries }
+    record {
+      moment = moment_of entries;
+      restart = restart_of entries;
+      reports = reports_of entries;
+      events = events_of entries;
+      finishes = finishes_of entries;
+    }
 
--- what they told, and what a further command tells that is answered so
-abbrev pub chronicle_with : ChronicleData → Command → Answer → ChronicleData
-chronicle_with before command answer = record {
+-- what they told, and what a further command tells that is answered so and leaves these tables
+abbrev pub chronicle_with : ChronicleData → Command → Answer → Tables → ChronicleData
+chronicle_with before command answer tables = record {
   moment = now_of command;
   restart = unwrap_or (restart_by command) before.restart;
   reports = before.reports ++ option_to_list (report_by command);
   events = before.events ++ option_to_list (event_by (length before.reports) command answer);
+  finishes = finishes_with before.finishes command tables;
 }
 
 -- what contracts see of a chronicle: what the entries told, and whether there is room for one entry more

@@ -1,2 +1,3 @@
 pub mod Chronicle
+pub mod Finishes
 pub mod Kept

@@ -1,11 +1,15 @@
-//! The chronicle of a list of entries: each report of a copy, what was done to files by name, the last moment, and that of the last restart.
+//! The chronicle of a list of entries: each report of a copy, what was done to files by name, when jobs were settled, the last moment, and that of the
+//! last restart.
 //! Contracts see what the entries told, and whether there is room for one entry more. Kept in its type (`IsChronicle`): where there is, there is memory.
 //! Order: `make_room` before `add`, which takes no memory.
 ghost use Rattle.std.specs.Prelude.{◌≡◌, [], true, false, IsTrue, OnOk, OnErr};
 ghost use Rattle.fts_chronicle.specs.Chronicle.{chronicle_of, chronicle_with};
+ghost use Rattle.fts_chronicle.specs.Finishes.{finish_at};
 
 use crate::events::{FileEvent, event_by};
+use crate::finishes::add_finishes;
 use crate::telling::{now_of, report_by, restart_by};
+use fts_desk::Desk;
 use fts_tables::{Answer, Command, Memory, Outcome};
 use std::alloc::Global;
 use std::marker::Model;
@@ -25,6 +29,7 @@ pub struct Chronicle {
     restart: u64,
     reports: Vec<CopyReport>,
     events: Vec<FileEvent>,
+    finishes: Vec<u64>,
     ready: bool,
 }
 
@@ -35,6 +40,7 @@ impl Drop for Chronicle {
             restart: _,
             reports: _,
             events: _,
+            finishes: _,
             ready: _,
         } = self;
     }
@@ -62,6 +68,7 @@ impl Chronicle {
             restart: 0,
             reports: Vec::new(alloc),
             events: Vec::new(alloc),
+            finishes: Vec::new(alloc),
             ready: false,
         }
     }
@@ -73,14 +80,15 @@ impl Chronicle {
     {
         self.reports.reserve(1)?;
         self.events.reserve(1)?;
+        self.finishes.reserve(1)?;
         self.ready = true;
         Ok(())
     }
 
-    /// Adds what the next entry tells, by its command and the answer, in room that is there. It takes no memory and can't fail.
-    pub fn add(&mut self, command: &Command, answer: Answer)
+    /// Adds what the next entry tells, by its command, the answer and the desk behind it, in room that is there. It takes no memory and can't fail.
+    pub fn add(&mut self, desk: &Desk, command: &Command, answer: Answer)
         requires room { IsTrue self.old.ready }
-        ensures { self.new ≡ record { told = chronicle_with self.old.told command.now answer; ready = false } }
+        ensures { self.new ≡ record { told = chronicle_with self.old.told command.now answer desk.now.tables; ready = false } }
     {
         self.ready = false;
         self.moment = now_of(command);
@@ -93,6 +101,7 @@ impl Chronicle {
         if let Some(report) = report_by(command) {
             self.reports.push_reserved(report);
         }
+        add_finishes(&mut self.finishes, desk, command);
     }
 
     /// The moment of the last command, and 0 where there was none.
@@ -121,5 +130,13 @@ impl Chronicle {
         ensures { result.now ≡ self.now.told.events }
     {
         &self.events
+    }
+
+    /// The moment at which the job of a number was settled; 0 while a file of it waits or runs, and where there is no such job.
+    pub fn finish(&self, number: u32) -> u64
+        ensures { result ≡ finish_at self.now.told.finishes number }
+    {
+        let place = number.saturating_sub(1) as usize;
+        self.finishes.as_slice().get(place).copied().unwrap_or(0)
     }
 }

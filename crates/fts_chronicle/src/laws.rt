@@ -11,5 +11,5 @@ ghost use Rattle.fts_chronicle.specs.Chronicle.{chronicle_of, chronicle_with};
 /// One entry more, which is not refused, adds what its command and its answer tell, whoever wrote it.
 pub fn chronicles_grow_by_entries()
     ensures grow { (entries : List Entry) (next : Entry) (after : Tables) (answer : Answer) → step (tables_of entries) next.command ≡ Ok (after, answer)
-        → chronicle_of (entries ++ next ∷ []) ≡ chronicle_with (chronicle_of entries) next.command answer }
+        → chronicle_of (entries ++ next ∷ []) ≡ chronicle_with (chronicle_of entries) next.command answer after }
 {}

@@ -3,9 +3,9 @@
 use crate::disk::Changing;
 use crate::texts::{
     AFTER_THE_CLAIM, AFTER_THE_REPORT, AFTER_THE_START, BAD_QUERY, BEFORE_DAMAGE, CLAIMED, DAMAGED,
-    DISK_FAILED, EMPTY, FAILED, FAILED_JOB, FAILED_JOBS, FOREIGN_ORIGIN, HISTORY, JOB, JOBS,
-    NO_JOB, NO_JOBS, NO_METHOD, NO_METHOD_TO_HEAD, NO_ROUTE, NOTHING, OTHER, REPORTED, SNAPSHOT,
-    STARTED,
+    DISK_FAILED, EMPTY, EXPIRED, EXPIRED_JOBS, FAILED, FAILED_JOB, FAILED_JOBS, FOREIGN_ORIGIN,
+    HISTORY, JOB, JOBS, NO_JOB, NO_JOBS, NO_METHOD, NO_METHOD_TO_HEAD, NO_ROUTE, NOTHING, OTHER,
+    REPORTED, SNAPSHOT, STARTED, WAITING_JOB,
 };
 use fts_panel::{View, open_view, serve_line};
 use fts_tables::{Clock, ListClock};
@@ -208,7 +208,7 @@ const JSON_ROWS: [Row; 5] = [
 ];
 
 /// What is told of a file's reason, and of what happened to it.
-const REASON_ROWS: [Row; 4] = [
+const REASON_ROWS: [Row; 5] = [
     Row {
         case: "jobs by a reason whose blank is spelled in either way",
         bytes: FAILED,
@@ -252,6 +252,17 @@ const REASON_ROWS: [Row; 4] = [
         want: FAILED_JOB,
         asks_then: "GET /jobs?state=FINISHED&reason=store%20failed HTTP/1.1\r\n\r\n",
         want_then: NO_JOBS,
+    },
+    Row {
+        case: "a job that an expiry settled, and one that waits",
+        bytes: EXPIRED,
+        later: EXPIRED,
+        from: 0,
+        fail: 0,
+        asks: "GET /jobs HTTP/1.1\r\n\r\n",
+        want: EXPIRED_JOBS,
+        asks_then: "GET /jobs?state=SUBMITTED HTTP/1.1\r\n\r\n",
+        want_then: WAITING_JOB,
     },
 ];
 

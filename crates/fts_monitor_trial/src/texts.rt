@@ -35,6 +35,13 @@ pub const FAILED: &[u8] =
      \x01\x0f\0\0\0\0\x06\xa8\xe2\xcf\xaa\x06\0\0\0\0\0\0\0\0\
      \x01\x0a\0\0\0\0\x07\xb2\xe2\xcf\xaa\x06\x01\x02\x06\0";
 
+/// Behind the start two jobs of one file, of which the first has one hour, and an expiry behind that hour.
+pub const EXPIRED: &[u8] =
+    b"FTS3JRN1\x01A\0\0\0\0\x01\x80\xe2\xcf\xaa\x06\x04demo\x02\x07\x02\x07a://a\"q\x03\x04\x07b://b\\c\x05\x06\x01\x01l\x07a://a\"q\x07b://b\\c\x09\x01\x07default\x01\
+     \x011\0\0\0\x01\x0b\x80\xe2\xcf\xaa\x06\x01\0\0\0\x03\0\0\0\x01\0\x07a://a\"q\x02f1\x07b://b\\c\x02f1\0\0\x07default\
+     \x010\0\0\0\x01\x02\x80\xe2\xcf\xaa\x06\0\0\0\x03\0\0\0\x01\0\x07a://a\"q\x02f2\x07b://b\\c\x02f2\0\0\x07default\
+     \x01\x07\0\0\0\0\x0a\xf4\xfe\xcf\xaa\x06\0";
+
 /// Behind the start a body that is no entry.
 pub const DAMAGED: &[u8] =
     b"FTS3JRN1\x01A\0\0\0\0\x01\x80\xe2\xcf\xaa\x06\x04demo\x02\x07\x02\x07a://a\"q\x03\x04\x07b://b\\c\x05\x06\x01\x01l\x07a://a\"q\x07b://b\\c\x09\x01\x07default\x01\x01\x01\0\0\0\x07\0";
@@ -368,10 +375,10 @@ pub const HISTORY: &str = "HTTP/1.1 200 OK\r\n\
 /// The job of that report.
 pub const JOBS: &str = "HTTP/1.1 200 OK\r\n\
      Content-Type: application/json\r\n\
-     Content-Length: 298\r\n\
+     Content-Length: 323\r\n\
      Connection: close\r\n\r\n\
      {\"jobs\":[{\"files_by_state\":{\"ACTIVE\":0,\"CANCELED\":0,\"FAILED\":0,\"FINISHED\":1,\"NOT_USED\":0,\"SUBMITTED\":0},\
-     \"job_id\":\"00000000-0000-4000-8000-000000000001\",\"job_state\":\"FINISHED\",\"kind\":\"plain\",\"priority\":3,\"retry\":0,\
+     \"finish_time\":1700000060,\"job_id\":\"00000000-0000-4000-8000-000000000001\",\"job_state\":\"FINISHED\",\"kind\":\"plain\",\"priority\":3,\"retry\":0,\
      \"retry_delay\":0,\"submit_time\":1700000000,\"vo_name\":\"demo\"}],\"more\":false,\"next\":null}";
 
 /// No job.
@@ -384,7 +391,7 @@ pub const NO_JOBS: &str = "HTTP/1.1 200 OK\r\n\
 /// The job with its file, and what happened to it.
 pub const JOB: &str = "HTTP/1.1 200 OK\r\n\
      Content-Type: application/json\r\n\
-     Content-Length: 795\r\n\
+     Content-Length: 820\r\n\
      Connection: close\r\n\r\n\
      {\"files\":[{\"activity\":\"default\",\"attempt\":1,\"cancel_asked\":false,\"checksum\":\"\",\
      \"dest_surl\":\"b://b\\\\c/f1\",\"digest\":\"30313233343536373839616263646566\",\"events\":[{\"attempt\":0,\
@@ -393,22 +400,22 @@ pub const JOB: &str = "HTTP/1.1 200 OK\r\n\
      \"reason\":\"\",\"time\":1700000060}],\"events_left_out\":0,\"file_id\":1,\"file_index\":0,\"file_state\":\"FINISHED\",\
      \"filesize\":12345,\"not_before\":0,\"reason\":\"\",\"source_surl\":\"a://a\\\"q/f1\"}],\
      \"files_by_state\":{\"ACTIVE\":0,\"CANCELED\":0,\"FAILED\":0,\"FINISHED\":1,\"NOT_USED\":0,\"SUBMITTED\":0},\
-     \"job_id\":\"00000000-0000-4000-8000-000000000001\",\"job_state\":\"FINISHED\",\"kind\":\"plain\",\"priority\":3,\
+     \"finish_time\":1700000060,\"job_id\":\"00000000-0000-4000-8000-000000000001\",\"job_state\":\"FINISHED\",\"kind\":\"plain\",\"priority\":3,\
      \"retry\":0,\"retry_delay\":0,\"submit_time\":1700000000,\"vo_name\":\"demo\"}";
 
 /// A job of which one file failed and the other was cancelled.
 pub const FAILED_JOBS: &str = "HTTP/1.1 200 OK\r\n\
      Content-Type: application/json\r\n\
-     Content-Length: 298\r\n\
+     Content-Length: 323\r\n\
      Connection: close\r\n\r\n\
      {\"jobs\":[{\"files_by_state\":{\"ACTIVE\":0,\"CANCELED\":1,\"FAILED\":1,\"FINISHED\":0,\"NOT_USED\":0,\"SUBMITTED\":0},\
-     \"job_id\":\"00000000-0000-4000-8000-000000000001\",\"job_state\":\"CANCELED\",\"kind\":\"plain\",\"priority\":3,\
+     \"finish_time\":1700000050,\"job_id\":\"00000000-0000-4000-8000-000000000001\",\"job_state\":\"CANCELED\",\"kind\":\"plain\",\"priority\":3,\
      \"retry\":1,\"retry_delay\":0,\"submit_time\":1700000000,\"vo_name\":\"demo\"}],\"more\":false,\"next\":null}";
 
 /// That job with its files: one was tried twice, the other cancelled while it waited.
 pub const FAILED_JOB: &str = "HTTP/1.1 200 OK\r\n\
      Content-Type: application/json\r\n\
-     Content-Length: 1396\r\n\
+     Content-Length: 1421\r\n\
      Connection: close\r\n\r\n\
      {\"files\":[{\"activity\":\"default\",\"attempt\":2,\"cancel_asked\":false,\"checksum\":\"\",\
      \"dest_surl\":\"b://b\\\\c/f1\",\"digest\":\"\",\"events\":[{\"attempt\":0,\"bytes\":null,\"event\":\"submitted\",\
@@ -423,8 +430,29 @@ pub const FAILED_JOB: &str = "HTTP/1.1 200 OK\r\n\
      \"event\":\"canceled\",\"reason\":\"cancelled\",\"time\":1700000010}],\"events_left_out\":0,\"file_id\":2,\
      \"file_index\":1,\"file_state\":\"CANCELED\",\"filesize\":0,\"not_before\":0,\"reason\":\"cancelled\",\
      \"source_surl\":\"a://a\\\"q/f2\"}],\"files_by_state\":{\"ACTIVE\":0,\"CANCELED\":1,\"FAILED\":1,\"FINISHED\":0,\
-     \"NOT_USED\":0,\"SUBMITTED\":0},\"job_id\":\"00000000-0000-4000-8000-000000000001\",\"job_state\":\"CANCELED\",\
+     \"NOT_USED\":0,\"SUBMITTED\":0},\"finish_time\":1700000050,\"job_id\":\"00000000-0000-4000-8000-000000000001\",\"job_state\":\"CANCELED\",\
      \"kind\":\"plain\",\"priority\":3,\"retry\":1,\"retry_delay\":0,\"submit_time\":1700000000,\"vo_name\":\"demo\"}";
+
+/// The job that the expiry settled, and the one that waits.
+pub const EXPIRED_JOBS: &str = "HTTP/1.1 200 OK\r\n\
+     Content-Type: application/json\r\n\
+     Content-Length: 603\r\n\
+     Connection: close\r\n\r\n\
+     {\"jobs\":[{\"files_by_state\":{\"ACTIVE\":0,\"CANCELED\":1,\"FAILED\":0,\"FINISHED\":0,\"NOT_USED\":0,\"SUBMITTED\":0},\
+     \"finish_time\":1700003700,\"job_id\":\"00000000-0000-4000-8000-000000000001\",\"job_state\":\"CANCELED\",\"kind\":\"plain\",\
+     \"priority\":3,\"retry\":0,\"retry_delay\":0,\"submit_time\":1700000000,\"vo_name\":\"demo\"},\
+     {\"files_by_state\":{\"ACTIVE\":0,\"CANCELED\":0,\"FAILED\":0,\"FINISHED\":0,\"NOT_USED\":0,\"SUBMITTED\":1},\
+     \"finish_time\":0,\"job_id\":\"00000000-0000-4000-8000-000000000002\",\"job_state\":\"SUBMITTED\",\"kind\":\"plain\",\
+     \"priority\":3,\"retry\":0,\"retry_delay\":0,\"submit_time\":1700000000,\"vo_name\":\"demo\"}],\"more\":false,\"next\":null}";
+
+/// The one that waits.
+pub const WAITING_JOB: &str = "HTTP/1.1 200 OK\r\n\
+     Content-Type: application/json\r\n\
+     Content-Length: 315\r\n\
+     Connection: close\r\n\r\n\
+     {\"jobs\":[{\"files_by_state\":{\"ACTIVE\":0,\"CANCELED\":0,\"FAILED\":0,\"FINISHED\":0,\"NOT_USED\":0,\"SUBMITTED\":1},\
+     \"finish_time\":0,\"job_id\":\"00000000-0000-4000-8000-000000000002\",\"job_state\":\"SUBMITTED\",\"kind\":\"plain\",\
+     \"priority\":3,\"retry\":0,\"retry_delay\":0,\"submit_time\":1700000000,\"vo_name\":\"demo\"}],\"more\":false,\"next\":null}";
 
 /// No job has the id.
 pub const NO_JOB: &str = "HTTP/1.1 404 Not Found\r\n\

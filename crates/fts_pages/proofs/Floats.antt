@@ -28,8 +28,9 @@ id-no_float None = refl
 id-no_float (Some job) = refl
 
 -- a page has none
-pub page-no_float : (most : ℕ) (tables : Tables) (asked : JobsQuestion) (jobs : List JobRow) → has_float (page_of most tables asked jobs) ≡ false
-page-no_float most tables asked jobs = rw (
-  array-no_float (job_shown tables) (λ _. refl) (take asked.limit (matching most tables asked jobs)),
+pub page-no_float : (most : ℕ) (tables : Tables) (finishes : List ℕ) (asked : JobsQuestion) (jobs : List JobRow)
+    → has_float (page_of most tables finishes asked jobs) ≡ false
+page-no_float most tables finishes asked jobs = rw (
+  array-no_float (job_shown tables finishes) (λ _. refl) (take asked.limit (matching most tables asked jobs)),
   id-no_float (goes_on most (has_more most tables asked jobs) jobs),
 ) refl

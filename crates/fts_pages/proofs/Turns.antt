@@ -18,17 +18,17 @@ use Rattle.fts_pages.proofs.Order.{order-length, order-at}
 
 module _ (jobs : List JobRow) (places : Places) (inside : places.last ≤ length jobs) (order : places.first ≤ places.last) where
   -- what is shown of the job at a turn's place is what is shown of the job of that turn
-  pub turn-shown : (tables : Tables) (asked : JobsQuestion) (most turn place : ℕ) (other : JobRow) (found : List JobRow) (value : Option Value)
+  pub turn-shown : (tables : Tables) (finishes : List ℕ) (asked : JobsQuestion) (most turn place : ℕ) (other : JobRow) (found : List JobRow) (value : Option Value)
       → found ≡ jobs → place ≡ place_at places asked.newest turn → turn < most → turn < places.last - places.first
-      → option_map view value ≡ shown_if_asked tables asked (get_or found place other)
-      → option_map view value ≡ shown_if_asked tables asked
+      → option_map view value ≡ shown_if_asked tables finishes asked (get_or found place other)
+      → option_map view value ≡ shown_if_asked tables finishes asked
       (get_or (take most (in_order asked.newest (slice_range jobs places.first places.last))) turn other)
-  turn-shown tables asked most turn place other found value all at few early shown =
+  turn-shown tables finishes asked most turn place other found value all at few early shown =
       let same : get_or found place other ≡ get_or (take most (in_order asked.newest (slice_range jobs places.first places.last))) turn other =
       ap (λ (list : List JobRow). get_or list place other) all ∙ ap (λ (n : ℕ). get_or jobs n other) at
       ∙ sym (get_or-take most (in_order asked.newest (slice_range jobs places.first places.last)) turn other few
       ∙ order-at jobs places inside order asked.newest turn other early) in
-      subst (λ (job : JobRow). option_map view value ≡ shown_if_asked tables asked job) same shown
+      subst (λ (job : JobRow). option_map view value ≡ shown_if_asked tables finishes asked job) same shown
 
   -- the job to go on behind stands at the place of the last turn
   goes-on : (newest more : Bool) (most place : ℕ) (other : JobRow) (found : List JobRow) → found ≡ jobs → place ≡ place_at places newest (most - 1)

@@ -8,6 +8,7 @@ use Rattle.fts_tables.specs.declared.rows.FileState.{FileState}
 use Rattle.fts_tables.specs.declared.rows.JobRow.{JobRow}
 use Rattle.fts_tables.specs.declared.rows.JobState.{JobState}
 use Rattle.fts_chronicle.specs.Chronicle.{ChronicleData}
+use Rattle.fts_chronicle.specs.Finishes.{finish_at}
 use Rattle.fts_chronicle.specs.declared.chronicle.CopyReport.{CopyReport}
 use Rattle.fts_chronicle.specs.declared.events.FileEvent.{FileEvent}
 use Rattle.fts_routes.specs.Json.{object_of, array_of, whole_number, id_text, body_of}
@@ -113,9 +114,10 @@ counts_object rows = object_of (
     ∷ (codes "SUBMITTED", whole_number (count_in is_submitted rows))
     ∷ [])
 
--- a job: the service's object of it, and how many of its files are in each state
-abbrev pub job_shown : Tables → JobRow → Data
-job_shown tables job = with_member (codes "files_by_state") (counts_object (rows_of_job tables.rows job.number)) (job_object tables job)
+-- a job: the service's object of it, how many of its files are in each state, and when it was settled, by the finishes that entries told
+abbrev pub job_shown : Tables → List ℕ → JobRow → Data
+job_shown tables finishes job = with_member (codes "finish_time") (whole_number (finish_at finishes job.number))
+    (with_member (codes "files_by_state") (counts_object (rows_of_job tables.rows job.number)) (job_object tables job))
 
 -- an event as it is shown
 abbrev pub event_object : EventShown → Data
@@ -138,7 +140,7 @@ file_shown reports job events row = file_with_events row (events_of_row reports 
 -- a job and its files, in order of id, by what entries told
 abbrev pub job_with_files : Tables → ChronicleData → JobRow → Data
 job_with_files tables told job = with_member (codes "files")
-    (array_of (file_shown told.reports job (events_of_job told.reports job told.events)) (rows_of_job tables.rows job.number)) (job_shown tables job)
+    (array_of (file_shown told.reports job (events_of_job told.reports job told.events)) (rows_of_job tables.rows job.number)) (job_shown tables told.finishes job)
 
 -- the id of a job, where there is one
 abbrev pub id_of : Option JobRow → Data
@@ -149,14 +151,14 @@ id_of (Some job) = string (id_text job.id)
 abbrev pub page_by : Data → Bool → Data → Data
 page_by jobs more next = object_of ((codes "jobs", jobs) ∷ (codes "more", boolean more) ∷ (codes "next", next) ∷ [])
 
--- a page by the jobs behind the one that is asked for, of which so many are looked at
-abbrev pub page_of : ℕ → Tables → JobsQuestion → List JobRow → Data
-page_of most tables asked jobs = page_by (array_of (job_shown tables) (take asked.limit (matching most tables asked jobs)))
+-- a page by the jobs behind the one that is asked for, of which so many are looked at, by the finishes that entries told
+abbrev pub page_of : ℕ → Tables → List ℕ → JobsQuestion → List JobRow → Data
+page_of most tables finishes asked jobs = page_by (array_of (job_shown tables finishes) (take asked.limit (matching most tables asked jobs)))
     (has_more most tables asked jobs) (id_of (goes_on most (has_more most tables asked jobs) jobs))
 
--- the text of a page, where so many jobs are looked at
-abbrev pub page_text : ℕ → Tables → JobsQuestion → List ℕ
-page_text most tables asked = body_of (page_of most tables asked (jobs_behind tables asked))
+-- the text of a page, where so many jobs are looked at, by the finishes that entries told
+abbrev pub page_text : ℕ → Tables → List ℕ → JobsQuestion → List ℕ
+page_text most tables finishes asked = body_of (page_of most tables finishes asked (jobs_behind tables asked))
 
 -- the text of a job and its files, by what entries told
 abbrev pub job_text : Tables → ChronicleData → JobRow → List ℕ

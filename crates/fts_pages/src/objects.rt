@@ -18,15 +18,22 @@ use fts_tables::{FileRow, FileState, JobRow, Memory};
 use serde_json::{Value, json};
 use std::alloc::Global;
 
-/// A job as it stands, with how many of its files are in each state.
-pub fn job_shown(alloc: Global, desk: &Desk, job: &JobRow) -> Result<Value, Memory>
+/// A job as it stands, with how many of its files are in each state, and when it was settled, by what entries told.
+pub fn job_shown(
+    alloc: Global,
+    desk: &Desk,
+    chronicle: &Chronicle,
+    job: &JobRow,
+) -> Result<Value, Memory>
     requires { job_at desk.now.tables.jobs job.now.number ≡ Some job.now }
-    ensures { IfOk result (λ value. view value ≡ job_shown desk.now.tables job.now) }
+    ensures { IfOk result (λ value. view value ≡ job_shown desk.now.tables chronicle.now.told.finishes job.now) }
 {
     let state = state_of(desk, job);
     let value = job_value(alloc, job, state, job.priority, vo_of(desk))?;
     let counts = counts_value(alloc, desk.job_rows(job.number))?;
-    with_member(alloc, value, "files_by_state", counts)
+    let value = with_member(alloc, value, "files_by_state", counts)?;
+    let finish = json!(in alloc; chronicle.finish(job.number))?;
+    with_member(alloc, value, "finish_time", finish)
 }
 
 /// A job as it stands, with its files, by what entries told.
@@ -39,7 +46,7 @@ pub fn job_with_files(
     requires { job_at desk.now.tables.jobs job.now.number ≡ Some job.now }
     ensures { IfOk result (λ value. view value ≡ job_with_files desk.now.tables chronicle.now.told job.now) }
 {
-    let value = job_shown(alloc, desk, job)?;
+    let value = job_shown(alloc, desk, chronicle, job)?;
     let reports = chronicle.reports();
     let events = events_of_job(alloc, reports, job, chronicle.events())?;
     let files = files_value(alloc, reports, job, &events, desk.job_rows(job.number))?;

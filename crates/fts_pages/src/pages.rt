@@ -25,11 +25,16 @@ use uuid::Uuid;
 pub const MAX_LOOKED_AT: usize = 10_000;
 
 /// The page of the jobs that are asked for, as JSON: `jobs` in the order asked for, `more`, whether a further one is known to match, and `next`, the id of
-/// the job to ask on behind where the look ended at its bound, or null. It fails for want of memory alone.
-pub fn jobs_page(alloc: Global, desk: &Desk, asked: &PageAsked) -> Result<Vec<u8>, Memory>
-    ensures { IfOk result (λ page. page.items ≡ page_text MAX_LOOKED_AT desk.now.tables (question_of asked.now)) }
+/// the job to ask on behind where the look ended at its bound, or null, by what entries told. It fails for want of memory alone.
+pub fn jobs_page(
+    alloc: Global,
+    desk: &Desk,
+    chronicle: &Chronicle,
+    asked: &PageAsked,
+) -> Result<Vec<u8>, Memory>
+    ensures { IfOk result (λ page. page.items ≡ page_text MAX_LOOKED_AT desk.now.tables chronicle.now.told.finishes (question_of asked.now)) }
 {
-    let value = page_value(alloc, desk, asked, MAX_LOOKED_AT)?;
+    let value = page_value(alloc, desk, chronicle, asked, MAX_LOOKED_AT)?;
     text_of(alloc, &value)
 }
 
@@ -64,12 +69,19 @@ fn text_of(alloc: Global, value: &Value) -> Result<Vec<u8>, Memory>
 }
 
 /// The page of the jobs that are asked for, where so many are looked at.
-fn page_value(alloc: Global, desk: &Desk, asked: &PageAsked, most: usize) -> Result<Value, Memory>
+fn page_value(
+    alloc: Global,
+    desk: &Desk,
+    chronicle: &Chronicle,
+    asked: &PageAsked,
+    most: usize,
+) -> Result<Value, Memory>
     requires { 0 < most }
-    ensures { IfOk result (λ value. view value ≡ page_of most desk.now.tables (question_of asked.now) (jobs_behind desk.now.tables (question_of asked.now))) }
+    ensures { IfOk result (λ value. view value ≡ page_of most desk.now.tables chronicle.now.told.finishes (question_of asked.now)
+        (jobs_behind desk.now.tables (question_of asked.now))) }
 {
     let places = places_behind(desk, asked);
-    let mut list = list_matching(alloc, desk, asked, places, most)?;
+    let mut list = list_matching(alloc, desk, chronicle, asked, places, most)?;
     let more = list.as_slice().len() > asked.limit;
     list.truncate(asked.limit);
     let next = next_value(alloc, desk, asked.newest, places, most, more)?;

@@ -12,6 +12,7 @@ use crate::asked::PageAsked;
 use crate::groups::group_of;
 use crate::objects::job_shown;
 use crate::places::{Places, place_at};
+use fts_chronicle::Chronicle;
 use fts_desk::Desk;
 use fts_routes::{job_state_text, state_of};
 use fts_tables::{FileRow, JobRow, JobState, Memory};
@@ -22,13 +23,14 @@ use std::alloc::Global;
 pub fn list_matching(
     alloc: Global,
     desk: &Desk,
+    chronicle: &Chronicle,
     asked: &PageAsked,
     places: Places,
     most: usize,
 ) -> Result<Vec<Value>, Memory>
     requires order { places.first ≤ places.last }
     requires inside { places.last ≤ length desk.now.tables.jobs }
-    ensures { IfOk result (λ list. map view list.items ≡ map (job_shown desk.now.tables) (take (asked.now.limit + 1)
+    ensures { IfOk result (λ list. map view list.items ≡ map (job_shown desk.now.tables chronicle.now.told.finishes) (take (asked.now.limit + 1)
         (matching most desk.now.tables (question_of asked.now) (in_order asked.now.newest (slice_range desk.now.tables.jobs places.first places.last))))) }
 {
     // Jobs are numbered in their order.
@@ -41,7 +43,7 @@ pub fn list_matching(
             break;
         }
         let place = place_at(places, asked.newest, turn);
-        let value = value_if_asked(alloc, desk, asked, &jobs[place])?;
+        let value = value_if_asked(alloc, desk, chronicle, asked, &jobs[place])?;
         add(&mut list, value)?;
     }
     Ok(list)
@@ -64,14 +66,15 @@ fn add(list: &mut Vec<Value>, value: Option<Value>) -> Result<(), Memory>
 fn value_if_asked(
     alloc: Global,
     desk: &Desk,
+    chronicle: &Chronicle,
     asked: &PageAsked,
     job: &JobRow,
 ) -> Result<Option<Value>, Memory>
     requires { job_at desk.now.tables.jobs job.now.number ≡ Some job.now }
-    ensures { IfOk result (λ value. option_map view value ≡ shown_if_asked desk.now.tables (question_of asked.now) job.now) }
+    ensures { IfOk result (λ value. option_map view value ≡ shown_if_asked desk.now.tables chronicle.now.told.finishes (question_of asked.now) job.now) }
 {
     if is_asked(desk, asked, job) {
-        let value = job_shown(alloc, desk, job)?;
+        let value = job_shown(alloc, desk, chronicle, job)?;
         Ok(Some(value))
     } else {
         Ok(None)

@@ -160,7 +160,8 @@ reply_on Snapshot path query now monitor began damage =
     shows (snapshot_text monitor.tables monitor.commands monitor.chronicle.reports (shown_at now monitor began damage))
 reply_on History path query now monitor began damage =
     reply_by bad_query (option_map (λ asked. history_text monitor.tables.rows monitor.chronicle.reports asked now) (history_asked query))
-reply_on Jobs path query now monitor began damage = reply_by bad_query (option_map (page_text MAX_LOOKED_AT monitor.tables) (jobs_asked monitor.tables query))
+reply_on Jobs path query now monitor began damage =
+    reply_by bad_query (option_map (page_text MAX_LOOKED_AT monitor.tables monitor.chronicle.finishes) (jobs_asked monitor.tables query))
 reply_on Job path query now monitor began damage =
     reply_by no_job (option_map (job_text monitor.tables monitor.chronicle) (option_and_then (job_named monitor.tables) (id_in path)))
 

@@ -14,6 +14,7 @@ use crate::queries::{history_asked, id_in, jobs_asked};
 use crate::refusals::{bad_query, no_job, no_memory, reply_to};
 use crate::view::View;
 use fts_board::{Shown, snapshot};
+use fts_chronicle::Chronicle;
 use fts_desk::Desk;
 use fts_disk::Disk;
 use fts_pages::{job_page, jobs_page};
@@ -68,7 +69,7 @@ fn reply_on<D: Disk>(
     match question.topic {
         Topic::Snapshot => snapshot_reply(alloc, monitor, now, began, damage),
         Topic::History => history_reply(alloc, monitor, question.query, now),
-        Topic::Jobs => jobs_reply(alloc, monitor.desk(), question.query),
+        Topic::Jobs => jobs_reply(alloc, monitor.desk(), monitor.chronicle(), question.query),
         Topic::Job => job_reply(alloc, monitor, question.path),
     }
 }
@@ -134,10 +135,11 @@ fn history_reply<D: Disk>(
 }
 
 /// The page of jobs that a query asks for.
-fn jobs_reply(alloc: Global, desk: &Desk, query: Option<&str>) -> Reply
-    ensures { IsOrNoMemory result (reply_by bad_query (option_map (page_text MAX_LOOKED_AT desk.now.tables) (jobs_asked desk.now.tables (option_copied query.entry)))) }
+fn jobs_reply(alloc: Global, desk: &Desk, chronicle: &Chronicle, query: Option<&str>) -> Reply
+    ensures { IsOrNoMemory result (reply_by bad_query (option_map (page_text MAX_LOOKED_AT desk.now.tables chronicle.now.told.finishes)
+        (jobs_asked desk.now.tables (option_copied query.entry)))) }
 {
-    match jobs_text(alloc, desk, query) {
+    match jobs_text(alloc, desk, chronicle, query) {
         Ok(Some(text)) => shows(text),
         Ok(None) => bad_query(alloc),
         Err(Memory) => no_memory(alloc),
@@ -145,13 +147,18 @@ fn jobs_reply(alloc: Global, desk: &Desk, query: Option<&str>) -> Reply
 }
 
 /// The text of that page; `Ok(None)` exactly where the query asks for none.
-fn jobs_text(alloc: Global, desk: &Desk, query: Option<&str>) -> Result<Option<Vec<u8>>, Memory>
+fn jobs_text(
+    alloc: Global,
+    desk: &Desk,
+    chronicle: &Chronicle,
+    query: Option<&str>,
+) -> Result<Option<Vec<u8>>, Memory>
     ensures { IfOk result (λ text. option_map (λ text. text.items) text
-        ≡ option_map (page_text MAX_LOOKED_AT desk.now.tables) (jobs_asked desk.now.tables (option_copied query.entry))) }
+        ≡ option_map (page_text MAX_LOOKED_AT desk.now.tables chronicle.now.told.finishes) (jobs_asked desk.now.tables (option_copied query.entry))) }
 {
     match jobs_asked(alloc, desk, query)? {
         Some(asked) => {
-            let text = jobs_page(alloc, desk, &asked)?;
+            let text = jobs_page(alloc, desk, chronicle, &asked)?;
             Ok(Some(text))
         }
         None => Ok(None),

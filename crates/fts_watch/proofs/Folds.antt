@@ -52,7 +52,7 @@ step_done before after answer (Err refusal) is = absurd cc
 -- one entry more adds what its command and its answer tell
 abbrev pub AreGrowing : Type 0
 AreGrowing = (entries : List Entry) (next : Entry) (after : Tables) (answer : Answer) → step (tables_of entries) next.command ≡ Ok (after, answer)
-    → chronicle_of (entries ++ next ∷ []) ≡ chronicle_with (chronicle_of entries) next.command answer
+    → chronicle_of (entries ++ next ∷ []) ≡ chronicle_with (chronicle_of entries) next.command answer after
 
 module _ {D : Type 0} (state : D → DiskState) (old new : MonitorData D) (entries : List Entry) (so_far : IsFoldOf state old entries) where
   -- the list is the same where nothing but the disk is new, and what was passed stays so
@@ -68,7 +68,7 @@ module _ {D : Type 0} (state : D → DiskState) (old new : MonitorData D) (entri
 
   -- one entry more
   pub fold_more : (body : List ℕ) (takes : TakesEntry old.tables body new.tables) → new.commands ≡ old.commands + 1
-      → new.chronicle ≡ chronicle_with old.chronicle takes.entry.command takes.answer → AreGrowing
+      → new.chronicle ≡ chronicle_with old.chronicle takes.entry.command takes.answer new.tables → AreGrowing
       → HasPassed (state new.disk) new.used (bodies_of entries ++ body ∷ []) → IsFoldOf state new (entries ++ takes.entry ∷ [])
   fold_more body takes commands told growing passed =
       let done = step_done old.tables new.tables takes.answer (step old.tables takes.entry.command) takes.stepped in
@@ -78,7 +78,7 @@ module _ {D : Type 0} (state : D → DiskState) (old new : MonitorData D) (entri
         legal = legal_more empty_tables entries takes.entry so_far.legal (subst (λ t. IsAccepted (step t takes.entry.command)) so_far.folded done.0);
         proper = All-push IsProper entries takes.entry so_far.proper takes.proper;
         counted = omega (arith, commands, so_far.counted, length-append entries (takes.entry ∷ []));
-        chronicled = told ∙ ap (λ (before : ChronicleData). chronicle_with before takes.entry.command takes.answer) so_far.chronicled
+        chronicled = told ∙ ap (λ (before : ChronicleData). chronicle_with before takes.entry.command takes.answer new.tables) so_far.chronicled
             ∙ sym (growing entries takes.entry new.tables takes.answer
             (subst (λ t. step t takes.entry.command ≡ Ok (new.tables, takes.answer)) so_far.folded takes.stepped));
         passed = subst (λ bodies. HasPassed (state new.disk) new.used bodies)
@@ -179,7 +179,7 @@ pub took_on : {D : Type 0} (state : D → DiskState) (desk after : DeskData) (to
     → ((bodies : List (List ℕ)) → HasPassed (state old.disk) old.used bodies → HasPassed (state mid.disk) mid.used bodies)
     → mid.next ≡ Some body → TakesEntry desk.tables body after.tables → after.commands ≡ desk.commands + 1
     → ((entry : Entry) (answer : Answer) → IsProper entry → body ≡ spelled entry → step desk.tables entry.command ≡ Ok (after.tables, answer)
-    → next_told ≡ chronicle_with told entry.command answer) → AreGrowing
+    → next_told ≡ chronicle_with told entry.command answer after.tables) → AreGrowing
     → ((bodies : List (List ℕ)) → HasPassed (state mid.disk) mid.used bodies → HasPassed (state new.disk) new.used (bodies_with bodies mid.next))
     → GoesOn state (view_of desk told old) (view_of after next_told new)
 took_on state desk after told next_told old mid new body passed next takes commands tells growing then = record {

@@ -181,7 +181,7 @@ fn take_entry(
     ensures counted { OnErr result (desk.new.commands ≡ desk.old.commands) }
     ensures told { OnOk result ((entry : Entry) (answer : Answer) → IsProper entry → body.now ≡ spelled entry
         → step desk.old.tables entry.command ≡ Ok (desk.new.tables, answer)
-        → chronicle.new.told ≡ chronicle_with chronicle.old.told entry.command answer) }
+        → chronicle.new.told ≡ chronicle_with chronicle.old.told entry.command answer desk.new.tables) }
     ensures untold { OnErr result (chronicle.new.told ≡ chronicle.old.told) }
 {
     let entry = match read_entry(alloc, body) {
@@ -198,7 +198,7 @@ fn take_entry(
     match desk.prepare(&entry.command) {
         Ok(plan) => {
             let answer = desk.commit(plan);
-            chronicle.add(&entry.command, answer);
+            chronicle.add(desk, &entry.command, answer);
             Ok(())
         }
         Err(DeskFault::Rule(_)) => Err(MonitorFault::Damaged { offset: gate }),

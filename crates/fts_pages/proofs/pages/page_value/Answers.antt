@@ -6,7 +6,7 @@ use Rattle.fts_pages.proofs.Parts.{page-told}
 use Rattle.fts_pages.proofs.pages.page_value.Goals as goal
 
 pub returns : goal.returns
-returns c = page-told c.args.most c.args.desk.now.tables (question_of c.args.asked.now)
+returns c = page-told c.args.most c.args.desk.now.tables c.args.chronicle.now.told.finishes (question_of c.args.asked.now)
     (slice_range c.args.desk.now.tables.jobs c.places_behind-places.result.first c.places_behind-places.result.last)
     (filter (is_behind c.args.asked.now.newest c.args.asked.now.after) c.args.desk.now.tables.jobs)
     c.in_ok-list.list.items c.truncate.new.self.items c.as_slice.result.now c.in_ok-next.next c.value_of_page.result

@@ -20,13 +20,14 @@ value_if_asked-requires c = rw c.jobs-jobs.ensures.jobs (own-number (λ (job : J
 pub loop-turn-preserved : goal.loop-turn-preserved
 loop-turn-preserved c =
     let tables = c.args.desk.now.tables in
+    let finishes = c.args.chronicle.now.told.finishes in
     let asked = question_of c.args.asked.now in
     let behind = in_order asked.newest (slice_range tables.jobs c.args.places.first c.args.places.last) in
     let long = order-length tables.jobs c.args.places c.requires.inside c.requires.order asked.newest in
-    rw c.in_ok-add.ensures (so-far-next view (job_shown tables) (is_asked tables asked) (asked.limit + 1) (take c.args.most behind)
+    rw c.in_ok-add.ensures (so-far-next view (job_shown tables finishes) (is_asked tables asked) (asked.limit + 1) (take c.args.most behind)
     c.loop-turn.turn c.loop-turn.list.items _ c.in_ok-value.value
     (omega (arith, length-take c.args.most behind, long, c.loop-turn-test.true, c.min-count.ensures))
-    (turn-shown tables.jobs c.args.places c.requires.inside c.requires.order tables asked c.args.most c.loop-turn.turn c.place_at-place.result _
+    (turn-shown tables.jobs c.args.places c.requires.inside c.requires.order tables finishes asked c.args.most c.loop-turn.turn c.place_at-place.result _
     c.jobs-jobs.result.now c.in_ok-value.value c.jobs-jobs.ensures.jobs c.place_at-place.ensures.place
     (omega (arith, c.loop-turn-test.true, c.min-count.ensures)) (omega (arith, c.loop-turn-test.true, c.min-count.ensures)) c.in_ok-value.ensures)
     (omega (arith, c.if-as_slice-asked.false, ap length c.as_slice.ensures.value)) c.loop-turn.invariant)
@@ -34,10 +35,11 @@ loop-turn-preserved c =
 pub returns : goal.returns
 returns c =
     let tables = c.args.desk.now.tables in
+    let finishes = c.args.chronicle.now.told.finishes in
     let asked = question_of c.args.asked.now in
     let behind = in_order asked.newest (slice_range tables.jobs c.args.places.first c.args.places.last) in
     let long = order-length tables.jobs c.args.places c.requires.inside c.requires.order asked.newest in
-    all-shown view (job_shown tables) (is_asked tables asked) (asked.limit + 1) (take c.args.most behind) c.loop-turn.turn c.loop-turn.list.items
+    all-shown view (job_shown tables finishes) (is_asked tables asked) (asked.limit + 1) (take c.args.most behind) c.loop-turn.turn c.loop-turn.list.items
     (elim c.loop-turn-test.branch [
       | else-loop-turn-test w ↦ nothing-past (is_asked tables asked) (asked.limit + 1 - length c.loop-turn.list.items) (take c.args.most behind) c.loop-turn.turn
           (omega (arith, w.loop-turn-test.false, length-take c.args.most behind, long, c.min-count.ensures))

@@ -1,7 +1,6 @@
 -- The snapshot of what the monitor has.
-use Rattle.std.proofs.Common.{◌≡◌, inl, ap, ◌∙◌, ℕ, List}
+use Rattle.std.proofs.Common.{◌≡◌, inl, ap, ◌∙◌}
 use Rattle.fts_chronicle.specs.Chronicle.{ChronicleData}
-use Rattle.fts_chronicle.specs.declared.chronicle.CopyReport.{CopyReport}
 use Rattle.fts_board.specs.Snapshot.{snapshot_text}
 use Rattle.fts_panel.specs.Responses.{shows}
 use Rattle.fts_panel.proofs.topics.snapshot_reply.Goals as goal
