@@ -78,7 +78,7 @@ fn a_client_of_a_socket_is_answered(rt: HostRuntime) -> Result<(), Fail> {
     let mut line = next_line(&mut doors)?;
     let mut bytes = [0; 8];
     assert_eq!(rt; line.read(&mut bytes), Ok(2), "what it sends");
-    assert!(rt; &bytes[..2] == b"ab".as_slice(), "byte for byte");
+    assert!(rt; bytes.starts_with(b"ab"), "byte for byte");
     assert_eq!(rt; line.write(b"cde"), Ok(3), "what it is answered");
     doors.done(line);
     let mut answer = Vec::new(rt.alloc());
