@@ -91,8 +91,18 @@ fn is_settled_at(desk: &Desk, number: u32) -> bool
     !has_live(desk.job_rows(number))
 }
 
-/// Whether one of these files waits or runs.
+/// Whether one of these files waits or runs. Files mostly end in their order, so the last is looked at first.
 fn has_live(rows: &[FileRow]) -> bool
+    ensures { result ≡ list_any (λ row. is_live row.state) rows.now }
+{
+    match rows.split_last() {
+        Some((last, others)) => last.state.is_live() || any_live(others),
+        None => false,
+    }
+}
+
+/// The same, looked at from the first file on.
+fn any_live(rows: &[FileRow]) -> bool
     ensures { result ≡ list_any (λ row. is_live row.state) rows.now }
 {
     rows.iter().any(|row| row.state.is_live())
