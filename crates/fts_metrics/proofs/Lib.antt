@@ -4,3 +4,4 @@ pub mod Places
 pub mod ActiveRows
 mod LinkTotals
 mod Summing
+mod Numbered

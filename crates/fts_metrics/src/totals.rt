@@ -2,7 +2,7 @@
 //! Keeps: each number stands at the place of its link (`AreTotals`), which is made of the places of the link's ends among the listed endpoints. What isn't
 //! listed has a place too, behind the last, where nobody looks.
 //! Rows and reports are gone over once for each metric; the place of a report is that of its file's row.
-ghost use Rattle.std.specs.Prelude.{◌≡◌, ℕ, ◌≤◌, ◌<◌, ◌++◌, length, map, option_map, option_to_list, vec_capacity, IfOk};
+ghost use Rattle.std.specs.Prelude.{◌≡◌, ℕ, ◌≤◌, ◌<◌, ◌++◌, length, map, option_map, option_to_list, slice_get, vec_capacity, IfOk};
 ghost use Rattle.std.specs.List.{filter_map};
 ghost use Rattle.fts_tables.specs.Tables.{row_at};
 ghost use Rattle.fts_tables.specs.declared.limits.TheConstants.{MAX_ENDPOINTS};
@@ -16,7 +16,6 @@ use crate::goings::Going;
 use crate::sums::{Share, sums_of};
 use fts_chronicle::CopyReport;
 use fts_desk::Desk;
-use fts_tables::laws::found_rows_stand;
 use fts_tables::limits::MAX_ENDPOINTS;
 use fts_tables::{Endpoint, Memory, Outcome};
 use std::alloc::Global;
@@ -133,17 +132,24 @@ fn push_share(shares: &mut Vec<Share>, metric: LinkMetric, place: Option<u32>, o
     }
 }
 
-// The place of the link of a file's row, by those of all rows. None where the file has no row.
+// The place of the link of a file's row, by those of all rows: it stands before the file's number, since rows are numbered from 1. None where the file
+// has no row.
 fn report_place(desk: &Desk, places: &[u32], file: u32) -> Option<u32>
     ensures { (place_of : FileRow → ℕ) → places.now ≡ map place_of desk.now.tables.rows
         → result ≡ option_map place_of (row_at desk.now.tables.rows file) }
 {
-    found_rows_stand();
     desk.standing();
-    match desk.row(file) {
-        Some(_) => places.get(file as usize - 1).copied(),
-        None => None,
+    if file == 0 {
+        return None;
     }
+    place_at(places, file as usize - 1)
+}
+
+// The place that stands at an index; none where there is none.
+fn place_at(places: &[u32], index: usize) -> Option<u32>
+    ensures { result ≡ slice_get places.now index }
+{
+    places.get(index).copied()
 }
 
 // What a report with a row at this place adds to a metric.
