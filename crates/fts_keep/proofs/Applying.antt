@@ -93,13 +93,13 @@ module _ {D : Type 0} (state : D → DiskState) (faults : D → ℕ) (old new : 
   }
 
   pub doubt_caused : (result : Result Answer KeepFault) → Applied state faults old new entry result → DoubtHasCause state faults old new
-  doubt_caused (Ok answer) applied = record { in_doubt = λ doubted. let sure = applied.no_doubt in absurd cc; doubt = λ told. inl (applied.cleared told) }
+  doubt_caused (Ok answer) applied = record { in_doubt = λ doubted. let sure = applied.no_doubt in absurd cc; doubt = λ told. inl applied.cleared }
   doubt_caused (Err (Rule refusal)) applied = same_caused applied.1
   doubt_caused (Err (JournalFull used)) applied = same_caused applied.1
   doubt_caused (Err DiskFailed) applied = record { in_doubt = λ doubted. inr applied.rose; doubt = λ told. inr (inr applied.rose) }
   doubt_caused (Err Memory) applied = record {
     in_doubt = λ doubted. inl (was old.in_doubt refl doubted);
-    doubt = λ told. ⊎_elim (λ same. inr (inl same)) (λ none. inl none) (applied.doubt told);
+    doubt = λ told. ⊎_elim (λ same. inr (inl same)) (λ none. inl none) applied.doubt;
   }
     where
       was : (before : Bool) → old.in_doubt ≡ before → new.in_doubt ≡ true → old.in_doubt ≡ true
@@ -109,15 +109,13 @@ module _ {D : Type 0} (state : D → DiskState) (faults : D → ℕ) (old new : 
 
 -- and it is the old one, or the command's own
 pub doubt_of : {D : Type 0} (state : D → DiskState) (faults : D → ℕ) (old new : KeepData D) (entry : Entry) (result : Result Answer KeepFault)
-    → Applied state faults old new entry result → DoubtIsOwn state faults old new entry
-doubt_of state faults old new entry (Ok answer) applied = λ told doubted is. let sure = applied.cleared told in absurd cc
-doubt_of state faults old new entry (Err (Rule refusal)) applied = λ told doubted is. inl (ap (λ k. k.doubt) (sym applied.1) ∙ is)
-doubt_of state faults old new entry (Err (JournalFull used)) applied = λ told doubted is. inl (ap (λ k. k.doubt) (sym applied.1) ∙ is)
-doubt_of state faults old new entry (Err DiskFailed) applied = λ told doubted is. ⊎_elim
-    (λ same. inl (sym same ∙ is))
-    (λ other. ⊎_elim (λ none. absurd cc) (λ own. inr ((cc), applied.rose)) other)
-    (applied.doubt told)
-doubt_of state faults old new entry (Err Memory) applied = λ told doubted is. ⊎_elim (λ same. inl (sym same ∙ is)) (λ none. absurd cc) (applied.doubt told)
+    → Applied state faults old new entry result → DoubtIsOwn faults old new entry
+doubt_of state faults old new entry (Ok answer) applied = inr (inl applied.cleared)
+doubt_of state faults old new entry (Err (Rule refusal)) applied = inl (ap (λ k. k.doubt) applied.1)
+doubt_of state faults old new entry (Err (JournalFull used)) applied = inl (ap (λ k. k.doubt) applied.1)
+doubt_of state faults old new entry (Err DiskFailed) applied =
+    ⊎_elim (λ same. inl same) (λ other. inr (⊎_elim (λ none. inl none) (λ own. inr (own, applied.rose)) other)) applied.doubt
+doubt_of state faults old new entry (Err Memory) applied = ⊎_elim (λ same. inl same) (λ none. inr (inl none)) applied.doubt
 doubt_of state faults old new entry (Err (Damaged offset)) applied = absurd applied
 
 -- images that are those of a list, with one entry more at most, are so since any opening of that list
@@ -219,7 +217,7 @@ module _ {D : Type 0} (state : D → DiskState) (faults : D → ℕ) (old new : 
       same is = with old.entries old.doubt (ap (λ (k : KeepData D). k.entries) is) (ap (λ (k : KeepData D). k.doubt) is) limit
 
       by : (r : Result Answer KeepFault) → Applied state faults old new entry r → KeepsFirstLimit (with_doubt new.entries new.doubt)
-      by (Ok answer) a = with (old.entries ++ entry ∷ []) None a.listed (a.cleared told)
+      by (Ok answer) a = with (old.entries ++ entry ∷ []) None a.listed a.cleared
           (more old.entries entry alone (fits_here (subst (λ came. IsOk came) (sym a.done) refl)))
       by (Err (JournalFull full)) a = same a.1
       by (Err (Rule refusal)) a = same a.1

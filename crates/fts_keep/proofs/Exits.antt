@@ -29,7 +29,7 @@ use Rattle.fts_keep.specs.declared.fault.KeepFault.{KeepFault}
 use Rattle.fts_keep.specs.declared.fault.KeepFault.TheVariants.{Rule, DiskFailed, JournalFull, Damaged, Memory}
 use Rattle.fts_keep.proofs.Moments.{begun, joined, weakened, rose_later}
 use Rattle.fts_keep.proofs.Lists.{legal_list, legal_more, proper_list, bodies_more, filled_more, image_of, accepted_by, accepted_tables, filled_by_more, spelled_some}
-use Rattle.fts_keep.proofs.Tying.{IsHeld, option_told, seen_doubt, tie, held}
+use Rattle.fts_keep.proofs.Tying.{IsHeld, option_told, option_untold, told_or_not, seen_doubt, tie, held}
 
 -- what a settling did, by its clauses
 pub record Settles {D : Type 0} (state : D → DiskState) (faults : D → ℕ) (old new : JournalData D) (result : Result (Unit {0}) JournalFault) : Type 0 where
@@ -127,7 +127,7 @@ module _ {D : Type 0} (state : D → DiskState) (faults : D → ℕ) (reads : (e
   checked_applied T (JournalFull used) checks = (checks, same_keep state desk next journal journal list tables commands refl)
   checked_applied T Memory checks = record {
     keeps = record { entries = refl; tables = tables; commands = commands; used = refl; told = refl };
-    doubt = λ told. inl refl;
+    doubt = inl refl;
     untouched = λ sure. same_keep state desk next journal journal list tables commands refl;
   }
   checked_applied T DiskFailed checks = absurd checks
@@ -195,7 +195,7 @@ module _ {D : Type 0} (state : D → DiskState) (faults : D → ℕ) (reads : (e
           would = checked;
           rose = settles.cause.1;
           keeps = keeps_list mid settles.kept.1 settles.told;
-          doubt = λ told. inl (same_option (state journal.disk).told (state mid.disk).told (option_and_then read_of journal.doubt)
+          doubt = inl (same_option (state journal.disk).told (state mid.disk).told (option_and_then read_of journal.doubt)
               (option_and_then read_of mid.doubt) settles.told (λ is. ap (λ found. option_and_then read_of found) (settles.doubt is)));
         })
 
@@ -275,6 +275,10 @@ module _ {D : Type 0} (state : D → DiskState) (faults : D → ℕ) (reads : (e
           failed_keeps : KeepsList state old (keep_of state next last list)
           failed_keeps = keeps_list last (appends.err.1 ∙ settles.kept.1) (appends.told ∙ settles.told)
 
+          -- no doubt is seen where the disk tells nothing
+          untold_doubt : (state journal.disk).told ≡ false → (keep_of state next last list).doubt ≡ None
+          untold_doubt not = option_untold (state last.disk).told (option_and_then read_of last.doubt) (appends.told ∙ settles.told ∙ not)
+
           -- why, by the fault
           failed_by : (f : JournalFault) → AppendCause faults mid last (length body) f
               → Applied state faults old (keep_of state next last list) entry (Err (fault_of f))
@@ -282,17 +286,21 @@ module _ {D : Type 0} (state : D → DiskState) (faults : D → ℕ) (reads : (e
             would = checked;
             rose = rose_later (faults journal.disk) (faults mid.disk) (faults last.disk) settles.counts cause;
             keeps = failed_keeps;
-            doubt = λ told. inr (⊎_elim
+            doubt = inr (told_or_not (state journal.disk).told
+                (λ told. ⊎_elim
                 (λ sure. inl (seen_doubt state reads next last list None sure (appends.told ∙ settles.told ∙ told)))
                 (λ unsure. inr (seen_doubt state reads next last list (Some entry) unsure (appends.told ∙ settles.told ∙ told)))
-                (failed_held told));
+                (failed_held told))
+                (λ not. inl (untold_doubt not)));
           }
           failed_by (Full used) cause = absurd
               (omega (arith, cause.1, settles.kept.1, ap length is_body, room_by journal.used entry (step desk.tables entry.command) checked))
           failed_by JournalMemory cause = record {
             keeps = failed_keeps;
-            doubt = λ told. inr (option_told (state last.disk).told (option_and_then read_of last.doubt) (appends.told ∙ settles.told ∙ told)
-                ∙ ap (λ found. option_and_then read_of found) (ap (λ (j : JournalData D). j.doubt) cause ∙ settles.settled told));
+            doubt = inr (told_or_not (state journal.disk).told
+                (λ told. option_told (state last.disk).told (option_and_then read_of last.doubt) (appends.told ∙ settles.told ∙ told)
+                ∙ ap (λ found. option_and_then read_of found) (ap (λ (j : JournalData D). j.doubt) cause ∙ settles.settled told))
+                untold_doubt);
             untouched = λ sure. same_keep state desk next journal last list tables commands (cause ∙ (settles.nothing sure).0);
           }
           failed_by NotJournal cause = absurd cause
@@ -333,7 +341,9 @@ module _ {D : Type 0} (state : D → DiskState) (faults : D → ℕ) (reads : (e
             no_doubt = appends.ok.2;
             told = appends.told ∙ settles.told;
             listed = refl;
-            cleared = λ told. seen_doubt state reads done last (list ++ entry ∷ []) None (done_held told) (appends.told ∙ settles.told ∙ told);
+            cleared = told_or_not (state journal.disk).told
+                (λ told. seen_doubt state reads done last (list ++ entry ∷ []) None (done_held told) (appends.told ∙ settles.told ∙ told))
+                (λ not. option_untold (state last.disk).told (option_and_then read_of last.doubt) (appends.told ∙ settles.told ∙ not));
           }
 
           pub done_tied : IsTied state done last (list ++ entry ∷ [])

@@ -304,7 +304,7 @@ module _ {D : Type 0} (state : D → DiskState) (faults : D → ℕ) (reads : (e
                   opened = journal.disk;
                   opens = opened_first told;
                   listed = accepts.listed;
-                  no_doubt = accepts.cleared there;
+                  no_doubt = accepts.cleared;
                   holds = tied.fold.holds (accepts.told ∙ there);
                   images = since_opening told longer accepts.listed;
                   counts = omega (arith, leaves.counts, counts);

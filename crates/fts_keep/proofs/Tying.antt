@@ -1,5 +1,5 @@
 -- A desk tied to its journal: what that says over a disk that tells its contents, and what it needs.
-use Rattle.std.proofs.Common.{◌≡◌, ap, sym, ◌∙◌, ◌+◌, ◌*◌, ◌≤◌, ◌<◌, Bool, true, List, length, Option, Some, option_map, option_and_then, is_some, All}
+use Rattle.std.proofs.Common.{◌≡◌, refl, ap, sym, ◌∙◌, ◌+◌, ◌*◌, ◌≤◌, ◌<◌, Bool, true, false, List, length, Option, Some, None, option_map, option_and_then, is_some, All}
 use Rattle.fts_tables.specs.History.{tables_of, IsLegal}
 use Rattle.fts_tables.specs.declared.limits.TheConstants.{JOURNAL_END}
 use Rattle.fts_tables.specs.declared.commands.Entry.{Entry}
@@ -16,6 +16,15 @@ use Rattle.fts_keep.proofs.Lists.{doubt_again, image_of}
 -- what is seen of an option where it is told
 pub option_told : {A : Type 0} (told : Bool) (item : Option A) → told ≡ true → option_if told item ≡ item
 option_told told item is = ap (λ b. option_if b item) is
+
+-- nothing is seen of one where it isn't told
+pub option_untold : {A : Type 0} (told : Bool) (item : Option A) → told ≡ false → option_if told item ≡ None
+option_untold told item is = ap (λ b. option_if b item) is
+
+-- what is so whether a disk tells its contents or not
+pub told_or_not : {P : Type 0} (told : Bool) → (told ≡ true → P) → (told ≡ false → P) → P
+told_or_not true is not = is refl
+told_or_not false is not = not refl
 
 -- the desk holds these entries, and the journal their bodies, with this doubt
 pub record IsHeld {D : Type 0} (desk : DeskData) (journal : JournalData D) (entries : List Entry) (doubt : Option Entry) : Type 0 where

@@ -1,5 +1,5 @@
 -- What one command comes to over a keep: every answer of `apply`, with its cause, and what the keep and its disk are then.
-use Rattle.std.specs.Prelude.{◌≡◌, ◌⊎◌, ℕ, ◌+◌, Bool, false, if◌then◌else◌, nat_le, Some, None, IsOk, List, [], ◌∷◌, ◌++◌, length, Result, Ok, Err}
+use Rattle.std.specs.Prelude.{◌≡◌, ◌⊎◌, ℕ, ◌+◌, Bool, false, if◌then◌else◌, nat_le, Option, Some, None, IsOk, List, [], ◌∷◌, ◌++◌, length, Result, Ok, Err}
 use Rattle.fts_tables.specs.Tables.{Tables}
 use Rattle.fts_tables.specs.Step.{Outcomes, step}
 use Rattle.fts_tables.specs.Settling.{journal_limit}
@@ -51,7 +51,8 @@ pub record KeepsList {D : Type 0} (state : D → DiskState) (old new : KeepData 
   pub used : new.used ≡ old.used
   pub told : (state new.disk).told ≡ (state old.disk).told
 
--- the command was accepted: the machine's step and answer, one entry more, and no doubt
+-- the command was accepted: the machine's step and answer, one entry more, and no doubt. An entry in doubt is seen where the disk tells its contents, so
+-- what is said of it holds over every disk.
 pub record Accepts {D : Type 0} (state : D → DiskState) (old new : KeepData D) (entry : Entry) (answer : Answer) : Type 0 where
   pub done : applied_to old.tables old.used entry ≡ Ok (new.tables, answer)
   pub commands : new.commands ≡ old.commands + 1
@@ -59,19 +60,19 @@ pub record Accepts {D : Type 0} (state : D → DiskState) (old new : KeepData D)
   pub no_doubt : new.in_doubt ≡ false
   pub told : (state new.disk).told ≡ (state old.disk).told
   pub listed : new.entries ≡ old.entries ++ entry ∷ []
-  pub cleared : IsTold (state old.disk) → new.doubt ≡ None
+  pub cleared : new.doubt ≡ None
 
 -- a call of the disk failed: the command would have been accepted, and the doubt is the old one, or none, or this entry
 pub record FailsByDisk {D : Type 0} (state : D → DiskState) (faults : D → ℕ) (old new : KeepData D) (entry : Entry) : Type 0 where
   pub would : IsOk (applied_to old.tables old.used entry)
   pub rose : Rose (faults old.disk) (faults new.disk)
   pub keeps : KeepsList state old new
-  pub doubt : IsTold (state old.disk) → (new.doubt ≡ old.doubt) ⊎ ((new.doubt ≡ None) ⊎ (new.doubt ≡ Some entry))
+  pub doubt : (new.doubt ≡ old.doubt) ⊎ ((new.doubt ≡ None) ⊎ (new.doubt ≡ Some entry))
 
 -- there was no memory: at most the old doubt has ended
 pub record LacksMemory {D : Type 0} (state : D → DiskState) (old new : KeepData D) : Type 0 where
   pub keeps : KeepsList state old new
-  pub doubt : IsTold (state old.disk) → (new.doubt ≡ old.doubt) ⊎ (new.doubt ≡ None)
+  pub doubt : (new.doubt ≡ old.doubt) ⊎ (new.doubt ≡ None)
   pub untouched : old.in_doubt ≡ false → new ≡ old
 
 -- what a command came to, by the answer to it
@@ -83,10 +84,13 @@ Applied state faults old new entry (Err DiskFailed) = FailsByDisk state faults o
 Applied state faults old new entry (Err Memory) = LacksMemory state old new
 Applied state faults old new entry (Err (Damaged offset)) = ⊥
 
+-- the entry in doubt behind the try of an entry: as before, or none, or the tried one, and then the disk's count rose in the try
+abbrev pub DoubtMoves : ℕ → ℕ → Option Entry → Option Entry → Entry → Type 0
+DoubtMoves before after old new entry = (new ≡ old) ⊎ ((new ≡ None) ⊎ ((new ≡ Some entry) × Rose before after))
+
 -- the entry in doubt after a command is the one from before it, which nothing settled, or the command's own, and then the disk counted a failure
-abbrev pub DoubtIsOwn : {D : Type 0} → (D → DiskState) → (D → ℕ) → KeepData D → KeepData D → Entry → Type 0
-DoubtIsOwn state faults old new entry = IsTold (state old.disk) → (doubted : Entry) → new.doubt ≡ Some doubted
-    → (old.doubt ≡ Some doubted) ⊎ ((doubted ≡ entry) × Rose (faults old.disk) (faults new.disk))
+abbrev pub DoubtIsOwn : {D : Type 0} → (D → ℕ) → KeepData D → KeepData D → Entry → Type 0
+DoubtIsOwn faults old new entry = DoubtMoves (faults old.disk) (faults new.disk) old.doubt new.doubt entry
 
 -- at every moment of the call an image is one of the list before it, with its doubt, or of that list with this command, where that would be accepted
 abbrev pub IsImageDuring : {D : Type 0} → KeepData D → Entry → List ℕ → Type 0

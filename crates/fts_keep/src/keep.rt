@@ -108,9 +108,9 @@ impl<D: Disk> Keep<D> {
         ensures applied { Applied D.state D.faults self.old self.new (entry_by writer command) result }
         ensures safe { AppliesSafely D.state self.old self.new (entry_by writer command) }
         ensures grows { Grows D.state D.faults writer self.old self.new }
-        // Without a failure of the disk nothing comes into doubt, and no other entry than this one ever does.
+        // Without a failure of the disk nothing comes into doubt, and no other entry than this one ever does, over every disk.
         ensures doubt_cause { DoubtHasCause D.state D.faults self.old self.new }
-        ensures doubt_own { DoubtIsOwn D.state D.faults self.old self.new (entry_by writer command) }
+        ensures doubt_own { DoubtIsOwn D.faults self.old self.new (entry_by writer command) }
         // Since any opening of the list each image is a beginning of it, with one entry more at most.
         ensures images { KeepsImagesSinceAny D.state self.old self.new }
         // The journal's end strands nobody: behind a list that leaves room, what settles something isn't refused for want of it. The list is the

@@ -1,5 +1,5 @@
 -- What an answer comes to: by what its command came to, and by what was planned.
-use Rattle.std.proofs.Common.{◌≡◌, ◌≢◌, ℕ, Bool, true, false, inl, inr, ⊎_elim, List, [], Option, Result, Ok, Err, refl, sym, ◌∙◌, ap, subst, append-nil, arith}
+use Rattle.std.proofs.Common.{◌≡◌, ◌≢◌, ℕ, Bool, true, false, inl, inr, ⊎_elim, ◌⊎◌, List, [], ◌∷◌, Option, None, Result, Ok, Err, refl, sym, ◌∙◌, ap, subst, append-nil, arith}
 use Rattle.std.specs.Prelude.{IfOk, IfErr, IsOk, IsTrue, if◌then◌else◌}
 use Rattle.serde_json.specs.Data.{Data}
 use Rattle.fts_tables.specs.Tables.{Tables}
@@ -14,11 +14,12 @@ use Rattle.fts_disk.specs.Disk.{DiskState}
 use Rattle.fts_wire.specs.RequestData.{RequestData}
 use Rattle.fts_wire.specs.declared.response.Reply.{Reply}
 use Rattle.fts_keep.specs.Keeps.{KeepData}
-use Rattle.fts_keep.specs.Applied.{Applies, applied_by, applied_to, entry_by, fits, Applied, FailsByDisk}
+use Rattle.fts_keep.specs.Applied.{Applies, DoubtMoves, applied_by, applied_to, entry_by, fits, Applied, FailsByDisk, LacksMemory}
 use Rattle.fts_keep.specs.declared.fault.KeepFault.{KeepFault}
-use Rattle.fts_keep.specs.declared.fault.KeepFault.TheVariants.{Rule, DiskFailed, JournalFull, Damaged, Memory as LacksMemory}
+use Rattle.fts_keep.specs.declared.fault.KeepFault.TheVariants.{Rule, DiskFailed, JournalFull, Damaged, Memory as NoMemory}
+use Rattle.fts_keep.proofs.Applying.{doubt_of}
 use Rattle.fts_routes.specs.Refusals.{disk_failed, journal_full, no_memory}
-use Rattle.fts_routes.specs.Replies.{Plan, Replies, Looks, Tries, Said, said_only, said_by, said_to, said, reply_to_refusal, entry_reply, AsDefined, WithoutMemory, WithoutDisk, AreShown, Answers, DoubtHasCause}
+use Rattle.fts_routes.specs.Replies.{Plan, Replies, Looks, Tries, Said, said_only, said_by, said_to, said, reply_to_refusal, entry_reply, AsDefined, WithoutMemory, WithoutDisk, AreShown, Answers, DoubtComes, DoubtHasCause}
 use Rattle.fts_routes.specs.Planned.{Comes, IsPlanned, ShowsOutcome, ShowsUnchanged}
 use Rattle.fts_routes.specs.declared.planned.Planned.TheVariants.{Replies as PlannedReply, Looks as PlannedLook, Tries as PlannedCommand}
 
@@ -43,12 +44,25 @@ module _ {D : Type 0} (state : D → DiskState) (faults : D → ℕ) where
     commands = rw (same, none) (omega arith);
     used = rw (same, none) refl;
     listed = rw (same, none) (sym (append-nil old.entries));
+    doubt = rw (same, none) (inl refl);
   }
+
+  -- the entry in doubt stayed, or was settled, whatever was asked for
+  doubt-stays : (before after : ℕ) (old new : Option Entry) (asked : List Entry) → (new ≡ old) ⊎ (new ≡ None) → DoubtComes before after old new asked []
+  doubt-stays before after old new [] stays = stays
+  doubt-stays before after old new (entry ∷ more) stays = ⊎_elim (λ same. inl same) (λ none. inr (inl none)) stays
+
+  -- an entry that would be accepted came into doubt at most
+  doubt-moves : (before after : ℕ) (old new : Option Entry) (tables : Tables) (shown : Tables → Data) (entry : Entry) (applied : Applies) → IsOk applied
+      → DoubtMoves before after old new entry → DoubtComes before after old new (said_by tables shown entry applied).added []
+  doubt-moves before after old new tables shown entry (Ok done) good moves = moves
+  doubt-moves before after old new tables shown entry (Err fault) good moves = absurd (cc)
 
   -- nothing was added, for want of memory
   lacking : (old new : KeepData D) (said : Said) (reply : Reply) → new.entries ≡ old.entries → new.tables ≡ old.tables → new.commands ≡ old.commands → new.used ≡ old.used
+      → DoubtComes (faults old.disk) (faults new.disk) old.doubt new.doubt said.added []
       → reply ≡ no_memory → Comes state faults old new said reply
-  lacking old new said reply entries tables commands used is = record {
+  lacking old new said reply entries tables commands used doubt is = record {
     way = WithoutMemory;
     cause = tt;
     instead = tt;
@@ -57,11 +71,13 @@ module _ {D : Type 0} (state : D → DiskState) (faults : D → ℕ) where
     commands = omega (arith, commands);
     used = used;
     listed = entries ∙ sym (append-nil old.entries);
+    doubt = doubt;
   }
 
   lacking_as_was : (old new : KeepData D) (said : Said) (reply : Reply) → new ≡ old → reply ≡ no_memory → Comes state faults old new said reply
   lacking_as_was old new said reply same is = lacking old new said reply (ap (λ (keep : KeepData D). keep.entries) same)
-      (ap (λ (keep : KeepData D). keep.tables) same) (ap (λ (keep : KeepData D). keep.commands) same) (ap (λ (keep : KeepData D). keep.used) same) is
+      (ap (λ (keep : KeepData D). keep.tables) same) (ap (λ (keep : KeepData D). keep.commands) same) (ap (λ (keep : KeepData D). keep.used) same)
+      (doubt-stays (faults old.disk) (faults new.disk) old.doubt new.doubt said.added (inl (ap (λ (keep : KeepData D). keep.doubt) same))) is
 
   -- the machine refused the command
   pub comes-refused : (old new : KeepData D) (writer : ℕ) (command : Command) (reply result : Reply) (refusal : Refusal) (made : Result Reply Memory)
@@ -93,6 +109,14 @@ module _ {D : Type 0} (state : D → DiskState) (faults : D → ℕ) where
   adds tables shown entry (Ok done) good = λ none. absurd (cc)
   adds tables shown entry (Err fault) good = absurd (cc)
 
+  -- the command's own entry came into doubt at most, where the disk failed
+  fails_doubt : (old new : KeepData D) (writer : ℕ) (command : Command) (fails : FailsByDisk state faults old new (entry_by writer command)) (shown : Tables → Data)
+      → DoubtComes (faults old.disk) (faults new.disk) old.doubt new.doubt (said_to old.tables [] old.used writer (Tries command shown)).added []
+  fails_doubt old new writer command fails shown =
+      doubt-moves (faults old.disk) (faults new.disk) old.doubt new.doubt old.tables shown (entry_by writer command)
+      (applied_to old.tables old.used (entry_by writer command)) fails.would
+      (doubt_of state faults old new (entry_by writer command) (Err DiskFailed) fails)
+
   -- the disk failed
   pub comes-without_disk : (old new : KeepData D) (writer : ℕ) (command : Command) (result : Reply) (made : Result Reply Memory)
       → FailsByDisk state faults old new (entry_by writer command)
@@ -107,18 +131,28 @@ module _ {D : Type 0} (state : D → DiskState) (faults : D → ℕ) where
     commands = omega (arith, fails.keeps.commands);
     used = fails.keeps.used;
     listed = fails.keeps.entries ∙ sym (append-nil old.entries);
+    doubt = fails_doubt old new writer command fails shown;
   }
   comes-without_disk old new writer command result (Err e) fails failed taken lacks shown =
-      lacking old new _ result fails.keeps.entries fails.keeps.tables fails.keeps.commands fails.keeps.used lacks
+      lacking old new _ result fails.keeps.entries fails.keeps.tables fails.keeps.commands fails.keeps.used
+      (fails_doubt old new writer command fails shown) lacks
+
+  -- there was no memory
+  pub comes-without_memory : (old new : KeepData D) (writer : ℕ) (command : Command) (result : Reply) → LacksMemory state old new → result ≡ no_memory
+      → (shown : Tables → Data) → Comes state faults old new (said_to old.tables [] old.used writer (Tries command shown)) result
+  comes-without_memory old new writer command result lacks is shown =
+      lacking old new _ result lacks.keeps.entries lacks.keeps.tables lacks.keeps.commands lacks.keeps.used
+      (doubt-stays (faults old.disk) (faults new.disk) old.doubt new.doubt
+      (said_to old.tables [] old.used writer (Tries command shown)).added lacks.doubt) is
 
   -- what a command leaves in doubt has a cause
   pub doubt-caused : (old new : KeepData D) (entry : Entry) (result : Result Answer KeepFault) → Applied state faults old new entry result
       → DoubtHasCause state faults old new
-  doubt-caused old new entry (Ok answer) applied = λ told. inl (applied.cleared told)
+  doubt-caused old new entry (Ok answer) applied = λ told. inl applied.cleared
   doubt-caused old new entry (Err (Rule refusal)) applied = λ told. inr (inl (ap (λ (keep : KeepData D). keep.doubt) applied.1))
   doubt-caused old new entry (Err (JournalFull used)) applied = λ told. inr (inl (ap (λ (keep : KeepData D). keep.doubt) applied.1))
   doubt-caused old new entry (Err DiskFailed) applied = λ told. inr (inr applied.rose)
-  doubt-caused old new entry (Err LacksMemory) applied = λ told. ⊎_elim (λ same. inr (inl same)) (λ none. inl none) (applied.doubt told)
+  doubt-caused old new entry (Err NoMemory) applied = λ told. ⊎_elim (λ same. inr (inl same)) (λ none. inl none) applied.doubt
   doubt-caused old new entry (Err (Damaged offset)) applied = absurd applied
 
   -- a reply was planned
@@ -162,6 +196,7 @@ module _ {D : Type 0} (state : D → DiskState) (faults : D → ℕ) where
     commands = comes.commands;
     used = comes.used;
     listed = comes.listed;
+    doubt = comes.doubt;
   }
 
 -- a command that was planned sets no priority out of its range

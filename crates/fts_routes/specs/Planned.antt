@@ -14,7 +14,7 @@ use Rattle.fts_wire.specs.declared.response.Reply.{Reply}
 use Rattle.fts_keep.specs.Keeps.{KeepData, used_after}
 use Rattle.fts_tables.specs.History.{tables_from}
 use Rattle.fts_routes.specs.Refusals.{shows}
-use Rattle.fts_routes.specs.Replies.{Plan, Replies, Looks, Tries, Said, Way, said_only, said_so, entry_reply, CausedBy, IsInsteadOf, AreShown}
+use Rattle.fts_routes.specs.Replies.{Plan, Replies, Looks, Tries, Said, Way, said_only, said_so, entry_reply, CausedBy, DoubtComes, IsInsteadOf, AreShown}
 use Rattle.fts_routes.specs.declared.planned.Planned.{Planned}
 use Rattle.fts_routes.specs.declared.planned.Planned.TheVariants.{Replies as PlannedReply, Looks as PlannedLook, Tries as PlannedCommand}
 
@@ -99,6 +99,7 @@ pub record Comes {D : Type 0} (state : D → DiskState) (faults : D → ℕ) (ol
   pub commands : new.commands ≡ old.commands + length (said_so way said).added
   pub used : new.used ≡ used_after old.used (said_so way said).added
   pub listed : new.entries ≡ old.entries ++ (said_so way said).added
+  pub doubt : DoubtComes (faults old.disk) (faults new.disk) old.doubt new.doubt said.added (said_so way said).added
 
 -- what looking at an entry did to a keep: it said what is shown of that entry
 pub record LooksAtEntry {D : Type 0} (state : D → DiskState) (faults : D → ℕ) (old new : KeepData D) (number : Option ℕ) (reply : Reply) : Type 0 where

@@ -29,7 +29,7 @@ use Rattle.fts_jobdoc.specs.declared.ban.BanFault.{BanFault}
 use Rattle.fts_jobdoc.specs.declared.ban.BanFault.TheVariants.{BadStorage}
 use Rattle.fts_jobdoc.specs.declared.fault.DocFault.{DocFault}
 use Rattle.fts_keep.specs.Keeps.{KeepData, bodies_of, used_of, used_after}
-use Rattle.fts_keep.specs.Applied.{Applies, applied_to, entry_by}
+use Rattle.fts_keep.specs.Applied.{Applies, DoubtMoves, applied_to, entry_by}
 use Rattle.fts_keep.specs.declared.fault.KeepFault.TheVariants.{Rule, DiskFailed, JournalFull, Damaged, Memory}
 use Rattle.fts_routes.specs.Json.{array_of}
 use Rattle.fts_routes.specs.Objects.{settings_in, job_object, file_object, link_object, endpoint_object, weight_object, job_shown, file_shown, accepted_object, ban_object, unban_object, entry_object}
@@ -275,6 +275,13 @@ CausedBy AsDefined old new = Unit {0}
 CausedBy WithoutMemory old new = Unit {0}
 CausedBy WithoutDisk old new = Rose old new
 
+-- The entry in doubt behind a request, by the entries that it asks to add and those that were added: none behind one that was added, and else at most that
+-- from before the request, or the one that it asks for, and then the disk's count rose.
+abbrev pub DoubtComes : ℕ → ℕ → Option Entry → Option Entry → List Entry → List Entry → Type 0
+DoubtComes before after old new asked (entry ∷ more) = new ≡ None
+DoubtComes before after old new (entry ∷ more) [] = DoubtMoves before after old new entry
+DoubtComes before after old new [] [] = (new ≡ old) ⊎ (new ≡ None)
+
 -- a reply shows an entry of a journal
 abbrev pub ShowsEntry : Reply → Type 0
 ShowsEntry reply = (body : List ℕ) × ((count : ℕ) × ((number : ℕ) × (reply ≡ shows (entry_object body count number))))
@@ -304,6 +311,9 @@ pub record Answers {D : Type 0} (state : D → DiskState) (faults : D → ℕ) (
   pub commands : new.commands ≡ old.commands + length (said_so way (said old.tables bodies old.used writer request now)).added
   pub used : new.used ≡ used_after old.used (said_so way (said old.tables bodies old.used writer request now)).added
   pub listed : new.entries ≡ old.entries ++ (said_so way (said old.tables bodies old.used writer request now)).added
+  -- the entry in doubt, which is seen where the disk tells its contents
+  pub doubt : DoubtComes (faults old.disk) (faults new.disk) old.doubt new.doubt (said old.tables bodies old.used writer request now).added
+      (said_so way (said old.tables bodies old.used writer request now)).added
 
 -- an entry is in doubt only where it was before, or where the disk's count rose
 abbrev pub DoubtHasCause : {D : Type 0} → (D → DiskState) → (D → ℕ) → KeepData D → KeepData D → Type 0

@@ -21,6 +21,7 @@ use Rattle.fts_keep.specs.Keeps.{KeepData}
 use Rattle.fts_keep.specs.Applied.{Applied, Accepts, applied_to, applied_by, entry_by}
 use Rattle.fts_keep.specs.declared.fault.KeepFault.{KeepFault}
 use Rattle.fts_keep.specs.declared.fault.KeepFault.TheVariants.{Rule}
+use Rattle.fts_keep.proofs.Applying.{doubt_of}
 use Rattle.fts_workers.specs.Benches.{BenchData, attempt_of, calm_end, held_as, kept_of}
 use Rattle.fts_workers.specs.Copies.{copies_kept}
 use Rattle.fts_workers.specs.Rounds.{Claims, FillsUp, IsWorkedOver, StopsBy, applied_at}
@@ -199,6 +200,7 @@ module _ {D : Type 0} (state : D → DiskState) (faults : D → ℕ) (formed : (
         listed = refl;
         filled = done.used;
         counts = counts;
+        settled = done.cleared;
       };
     }
 
@@ -262,7 +264,12 @@ module _ {D : Type 0} (state : D → DiskState) (faults : D → ℕ) (formed : (
           entry = the_claim;
           tried = record { now = now; moment = moment; word = word; drawn = drawn; is = refl; kept = refl };
           idle = comes_at entries over ∙ ap (applied_by old.used the_claim) idle;
-          none = record { listed = none_more entries; filled = keeps.used; counts = counts };
+          none = record {
+            listed = none_more entries;
+            filled = keeps.used;
+            counts = counts;
+            doubt = doubt_of state faults old new the_claim (Err (Rule refusal)) applied;
+          };
         },
         ap (λ all. calm_end (length (out_of_list all))) (none_more entries),
       ))))
@@ -279,5 +286,10 @@ module _ {D : Type 0} (state : D → DiskState) (faults : D → ℕ) (formed : (
         tried = record { now = now; moment = moment; word = word; drawn = drawn; is = refl; kept = refl };
         stops = subst (λ came. StopsBy came (Rose (faults old.disk) (faults new.disk)) end) (sym (comes_at entries over))
             (stops_by state faults old new the_claim fault end applied ends);
-        none = record { listed = none_more entries; filled = keeps.used; counts = counts };
+        none = record {
+          listed = none_more entries;
+          filled = keeps.used;
+          counts = counts;
+          doubt = doubt_of state faults old new the_claim (Err fault) applied;
+        };
       }))))

@@ -15,6 +15,7 @@ use Rattle.fts_keep.specs.Keeps.{KeepData}
 use Rattle.fts_keep.specs.Applied.{Applied, Accepts, applied_to, entry_by}
 use Rattle.fts_keep.specs.declared.fault.KeepFault.{KeepFault}
 use Rattle.fts_keep.specs.declared.fault.KeepFault.TheVariants.{Rule}
+use Rattle.fts_keep.proofs.Applying.{doubt_of}
 use Rattle.fts_workers.specs.Benches.{BenchData, held_as, kept_of}
 use Rattle.fts_workers.specs.Copies.{copies_kept}
 use Rattle.fts_workers.specs.Rounds.{Expires, IsWorkedOver, StopsBy, applied_at}
@@ -69,6 +70,7 @@ module _ {D : Type 0} (state : D → DiskState) (faults : D → ℕ) (formed : (
         listed = refl;
         filled = done.used;
         counts = counts;
+        settled = done.cleared;
       };
     }
 
@@ -108,7 +110,12 @@ module _ {D : Type 0} (state : D → DiskState) (faults : D → ℕ) (formed : (
             entry = the_expiry;
             tried = record { now = now; moment = moment; words = refl; is = refl; kept = refl };
             idle = comes_at entries over ∙ applied.0 ∙ ap (λ (r : Refusal). Err (Rule r)) is;
-            none = record { listed = none_more entries; filled = keeps.used; counts = counts };
+            none = record {
+              listed = none_more entries;
+              filled = keeps.used;
+              counts = counts;
+              doubt = doubt_of state faults old new the_expiry (Err (Rule refusal)) applied;
+            };
           }),
           rest,
         ),
@@ -125,5 +132,10 @@ module _ {D : Type 0} (state : D → DiskState) (faults : D → ℕ) (formed : (
         tried = record { now = now; moment = moment; words = refl; is = refl; kept = refl };
         stops = subst (λ came. StopsBy came (Rose (faults old.disk) (faults new.disk)) end) (sym (comes_at entries over))
             (stops_by state faults old new the_expiry fault end applied ends);
-        none = record { listed = none_more entries; filled = keeps.used; counts = counts };
+        none = record {
+          listed = none_more entries;
+          filled = keeps.used;
+          counts = counts;
+          doubt = doubt_of state faults old new the_expiry (Err fault) applied;
+        };
       }))

@@ -102,7 +102,7 @@ report_counts mid walk next file outcome is ended reports =
       now = here.now;
       moment = here.moment;
       words = here.words;
-      adds = record { accepted = here.adds.accepted; listed = here.adds.listed; filled = here.adds.filled; counts = here.adds.counts };
+      adds = record { accepted = here.adds.accepted; listed = here.adds.listed; filled = here.adds.filled; counts = here.adds.counts; settled = here.adds.settled };
       kept = here.kept;
     }
 
@@ -118,7 +118,7 @@ stop_counts mid walk after file end outcome is ended stops =
       moment = here.moment;
       words = here.words;
       stops = here.stops;
-      none = record { listed = here.none.listed; filled = here.none.filled; counts = here.none.counts };
+      none = record { listed = here.none.listed; filled = here.none.filled; counts = here.none.counts; doubt = here.none.doubt };
       kept = here.kept;
     }
 

@@ -22,9 +22,10 @@ use Rattle.fts_tables.specs.declared.commands.Refusal.TheVariants.{Stale}
 use Rattle.fts_tables.specs.declared.commands.Command.TheVariants.{Report}
 use Rattle.fts_disk.specs.Disk.{DiskState}
 use Rattle.fts_keep.specs.Keeps.{KeepData}
-use Rattle.fts_keep.specs.Applied.{Applied, Accepts, KeepsList, applied_to, entry_by}
+use Rattle.fts_keep.specs.Applied.{Applied, Accepts, DoubtMoves, KeepsList, applied_to, entry_by}
 use Rattle.fts_keep.specs.declared.fault.KeepFault.{KeepFault}
 use Rattle.fts_keep.specs.declared.fault.KeepFault.TheVariants.{Rule, DiskFailed as KeepDiskFailed, JournalFull as Full, Damaged, Memory as KeepMemory}
+use Rattle.fts_keep.proofs.Applying.{doubt_of}
 use Rattle.fts_workers.specs.Benches.{BenchData, attempt_of, held_as, held_over, is_stopped, kept_of}
 use Rattle.fts_workers.specs.Copies.{copies_of_file, copies_kept}
 use Rattle.fts_workers.specs.Rounds.{StopsBy, IsOutcome, Reports, WorksOff, IsWorkedOver, applied_at, report_in}
@@ -232,6 +233,7 @@ module _ {D : Type 0} (state : D → DiskState) (faults : D → ℕ) (formed : (
             listed = ap (λ e. entries ++ e ∷ []) (sym (entry_at entries over));
             filled = done.used ∙ ap (λ e. old.used + 5 + length (spelled e)) (sym (entry_at entries over));
             counts = counts;
+            settled = done.cleared;
           };
           kept = ap kept_of out.rest ∙ kept_none (tables_of entries) out.files;
         }
@@ -292,7 +294,13 @@ module _ {D : Type 0} (state : D → DiskState) (faults : D → ℕ) (formed : (
           words = refl;
           stops = subst (λ came. StopsBy came (Rose (faults old.disk) (faults new.disk)) end) (sym (comes_at entries over))
               (stops_by state faults old new the_report fault end applied ends);
-          none = record { listed = none_more entries; filled = keeps.used; counts = counts };
+          none = record {
+            listed = none_more entries;
+            filled = keeps.used;
+            counts = counts;
+            doubt = subst (λ e. DoubtMoves (faults old.disk) (faults new.disk) old.doubt new.doubt e) (sym (entry_at entries over))
+                (doubt_of state faults old new the_report (Err fault) applied);
+          };
           kept = kept_is;
         })))
 

@@ -15,7 +15,7 @@ use Rattle.fts_record.specs.Spelling.{spelled}
 use Rattle.fts_store.specs.Calls.{Call}
 use Rattle.fts_store.specs.Store.{StoreState}
 use Rattle.fts_keep.specs.Keeps.{KeepData, IsListOf, used_of}
-use Rattle.fts_keep.specs.Applied.{Applies, applied_to, entry_by}
+use Rattle.fts_keep.specs.Applied.{Applies, DoubtMoves, applied_to, entry_by}
 use Rattle.fts_keep.specs.declared.fault.KeepFault.TheVariants.{Rule, JournalFull as Full}
 use Rattle.fts_workers.specs.Benches.{BenchData, attempt_of, calm_end, held_over, is_stopped, kept_of, newly_held}
 use Rattle.fts_workers.specs.Copies.{copies_from, copies_kept, FollowsReports}
@@ -23,11 +23,13 @@ use Rattle.fts_workers.specs.declared.ends.RoundEnd.{RoundEnd}
 use Rattle.fts_workers.specs.declared.ends.RoundEnd.TheVariants.{Clear, Busy, DiskFailed, JournalFull, Memory}
 
 -- where one thread stands between two commands: the list so far, how many bytes of the journal are used, the disk's count of faults, what is kept
--- of the first file that is out, and the moments and words to come, where they are told
+-- of the first file that is out, and the moments and words to come, where they are told; and the entry in doubt, which is seen where the disk tells its
+-- contents
 pub record Walk : Type 0 where
   pub entries : List Entry
   pub used : ℕ
   pub faults : ℕ
+  pub doubt : Option Entry
   pub kept : Option Outcome
   pub moments : Option Coming
   pub words : Option Coming
@@ -40,18 +42,20 @@ applied_over entries entry = applied_to (tables_of entries) (used_of entries) en
 abbrev pub applied_at : Walk → Entry → Applies
 applied_at walk entry = applied_to (tables_of walk.entries) walk.used entry
 
--- an entry was accepted: it stands behind the others, and its bytes are used
+-- an entry was accepted: it stands behind the others, its bytes are used, and none is in doubt
 pub record Adds (walk : Walk) (entry : Entry) (next : Walk) : Type 0 where
   pub accepted : IsOk (applied_at walk entry)
   pub listed : next.entries ≡ walk.entries ++ entry ∷ []
   pub filled : next.used ≡ walk.used + 5 + length (spelled entry)
   pub counts : walk.faults ≤ next.faults
+  pub settled : next.doubt ≡ None
 
--- no entry was accepted
-pub record AddsNone (walk next : Walk) : Type 0 where
+-- an entry was tried and not accepted: it alone may have come into doubt, and only where the disk's count rose
+pub record AddsNone (walk : Walk) (entry : Entry) (next : Walk) : Type 0 where
   pub listed : next.entries ≡ walk.entries
   pub filled : next.used ≡ walk.used
   pub counts : walk.faults ≤ next.faults
+  pub doubt : DoubtMoves walk.faults next.faults walk.doubt next.doubt entry
 
 -- how a command ends a round, by what it would come to and whether the disk's count rose in it; want of memory is free
 abbrev pub StopsBy : Applies → Type 0 → RoundEnd → Type 0
@@ -88,7 +92,7 @@ pub record ReportStops (walk : Walk) (file : ℕ) (end : RoundEnd) (after : Walk
   pub moment : Gives walk.moments after.moments now
   pub words : after.words ≡ walk.words
   pub stops : StopsBy (applied_at walk (report_in walk.entries now file outcome)) (Rose walk.faults after.faults) end
-  pub none : AddsNone walk after
+  pub none : AddsNone walk (report_in walk.entries now file outcome) after
   pub kept : after.kept ≡ Some outcome
 
 -- an expiry was tried, at the next moment
@@ -110,14 +114,14 @@ pub record FindsNoneOverdue (walk next : Walk) : Type 0 where
   pub entry : Entry
   pub tried : TriesToExpire walk next entry
   pub idle : applied_at walk entry ≡ Err (Rule Idle)
-  pub none : AddsNone walk next
+  pub none : AddsNone walk entry next
 
 -- an expiry was neither accepted nor idle, and the round ends
 pub record ExpiryStops (walk : Walk) (end : RoundEnd) (after : Walk) : Type 0 where
   pub entry : Entry
   pub tried : TriesToExpire walk after entry
   pub stops : StopsBy (applied_at walk entry) (Rose walk.faults after.faults) end
-  pub none : AddsNone walk after
+  pub none : AddsNone walk entry after
 
 -- a claim was tried, at the next moment and with the next word
 pub record Tries (walk next : Walk) (entry : Entry) : Type 0 where
@@ -139,14 +143,14 @@ pub record FindsNone (walk after : Walk) : Type 0 where
   pub entry : Entry
   pub tried : Tries walk after entry
   pub idle : applied_at walk entry ≡ Err (Rule Idle)
-  pub none : AddsNone walk after
+  pub none : AddsNone walk entry after
 
 -- a claim was neither accepted nor idle, and the round ends
 pub record ClaimStops (walk : Walk) (end : RoundEnd) (after : Walk) : Type 0 where
   pub entry : Entry
   pub tried : Tries walk after entry
   pub stops : StopsBy (applied_at walk entry) (Rose walk.faults after.faults) end
-  pub none : AddsNone walk after
+  pub none : AddsNone walk entry after
 
 -- the end of a round that met no fault
 abbrev pub EndsCalmly : Walk → RoundEnd → Type 0
@@ -178,7 +182,15 @@ IsRound workers walk end after = WorksOff workers (out_of_list walk.entries) wal
 -- where one thread stands over a list, by its keep, its bench, its clock and its words
 abbrev pub walk_over : {D : Type 0} → (D → ℕ) → List Entry → KeepData D → BenchData → Option Coming → Option Coming → Walk
 walk_over faults entries keep bench moments words =
-    record { entries = entries; used = keep.used; faults = faults keep.disk; kept = kept_of bench.held; moments = moments; words = words }
+    record {
+      entries = entries;
+      used = keep.used;
+      faults = faults keep.disk;
+      doubt = keep.doubt;
+      kept = kept_of bench.held;
+      moments = moments;
+      words = words;
+    }
 
 -- whatever disk there is: the keep's tables are those of this list, and the bench holds the files that it leaves out
 pub record IsWorkedOver {D : Type 0} (keep : KeepData D) (bench : BenchData) (entries : List Entry) : Type 0 where

@@ -9,7 +9,7 @@ use Rattle.fts_keep.specs.Applied.{entry_by}
 use Rattle.fts_routes.specs.Replies.{reply_to_refusal}
 use Rattle.fts_routes.specs.Planned.{ShowsUnchanged}
 use Rattle.fts_routes.proofs.Asked.{asked-refusals}
-use Rattle.fts_routes.proofs.Coming.{refused-step, comes-refused, comes-full, comes-without_disk}
+use Rattle.fts_routes.proofs.Coming.{refused-step, comes-refused, comes-full, comes-without_disk, comes-without_memory}
 use Rattle.fts_routes.proofs.answers.try_command.Goals as goal
 
 pub refused-requires : goal.refused-requires
@@ -39,3 +39,8 @@ returns-in-Err-JournalFull-clause-comes g c = λ shown outcome.
     comes-full g.D.Disk.state g.D.Disk.faults c.args.keep.now c.apply.new.self c.args.writer c.args.command
     c.or_no_memory-in-Err-JournalFull.result c.in-Err-JournalFull.field-0-0 c.journal_full.result applied.0 applied.1
     c.journal_full.ensures c.or_no_memory-in-Err-JournalFull.ensures.ok c.or_no_memory-in-Err-JournalFull.ensures.err shown
+
+pub returns-in-Err-Memory-clause-comes : goal.returns-in-Err-Memory-clause-comes
+returns-in-Err-Memory-clause-comes g c = λ shown outcome.
+    comes-without_memory g.D.Disk.state g.D.Disk.faults c.args.keep.now c.apply.new.self c.args.writer c.args.command
+    c.no_memory.result (rw c.in-Err-Memory.field-0-is at c.in-Err-Memory.ensures.applied) c.no_memory.ensures shown

@@ -30,7 +30,7 @@ returns-clause-doubt_cause g c = subst (λ k. DoubtHasCause g.D.Disk.state g.D.D
     (entry_by c.args.writer c.args.command) c.accept.result c.accept.ensures.applied)
 
 pub returns-clause-doubt_own : goal.returns-clause-doubt_own
-returns-clause-doubt_own g c = subst (λ k. DoubtIsOwn g.D.Disk.state g.D.Disk.faults k (keep_of g.D.Disk.state c.accept.new.desk c.accept.new.journal c.accept.new.list.entries)
+returns-clause-doubt_own g c = subst (λ k. DoubtIsOwn g.D.Disk.faults k (keep_of g.D.Disk.state c.accept.new.desk c.accept.new.journal c.accept.new.list.entries)
     (entry_by c.args.writer c.args.command)) c.self.view_is
     (doubt_of g.D.Disk.state g.D.Disk.faults (keep_of g.D.Disk.state c.self.inside.desk c.self.inside.journal c.self.inside.list.entries)
     (keep_of g.D.Disk.state c.accept.new.desk c.accept.new.journal c.accept.new.list.entries)
