@@ -295,6 +295,7 @@ module _ {D : Type 0} (state : D → DiskState) (faults : D → ℕ) (reads : (e
             over = filled_by_more state (keep_of state desk folded list) (keep_of state next last longer) list restart answer opened_filled proper accepts;
             limit = λ kept. limit_more list restart kept (ap (λ n. fits n restart) (sym (leaves.used ∙ folds.fills)) ∙ has_room);
             sure = accepts.no_doubt;
+            settled = accepts.cleared;
             told = accepts.told ∙ leaves.told ∙ opens.told;
             counts = omega (arith, opens.counts, leaves.counts, counts);
             listed = accepts.listed;
@@ -304,7 +305,6 @@ module _ {D : Type 0} (state : D → DiskState) (faults : D → ℕ) (reads : (e
                   opened = journal.disk;
                   opens = opened_first told;
                   listed = accepts.listed;
-                  no_doubt = accepts.cleared;
                   holds = tied.fold.holds (accepts.told ∙ there);
                   images = since_opening told longer accepts.listed;
                   counts = omega (arith, leaves.counts, counts);

@@ -50,7 +50,6 @@ pub record Starts {D : Type 0} (state : D → DiskState) (faults : D → ℕ) (d
   pub opened : D
   pub opens : IsOpened state faults disk opened opening
   pub listed : keep.entries ≡ restarted opening now settings
-  pub no_doubt : keep.doubt ≡ None
   pub holds : HoldsList (state keep.disk) keep.entries keep.doubt keep.tables keep.commands keep.used keep.in_doubt
   pub images : LeavesOnly (state opened) (state keep.disk) (IsImageSince opening keep.entries)
   pub counts : faults opened ≤ faults keep.disk
@@ -71,6 +70,7 @@ pub record StartsOver {D : Type 0} (state : D → DiskState) (faults : D → ℕ
   -- with the Restart the list keeps the first limit, where it did without
   pub limit : KeepsFirstLimit opening → KeepsFirstLimit (restarted opening now settings)
   pub sure : keep.in_doubt ≡ false
+  pub settled : keep.doubt ≡ None
   pub told : (state keep.disk).told ≡ (state disk).told
   pub counts : faults disk ≤ faults keep.disk
   pub listed : keep.entries ≡ restarted opening now settings

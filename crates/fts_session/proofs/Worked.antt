@@ -19,7 +19,7 @@ use Rattle.fts_workers.specs.declared.held.Held.{Held}
 use Rattle.fts_workers.specs.declared.ends.RoundEnd.{RoundEnd}
 use Rattle.fts_wire.specs.RequestData.{RequestData}
 use Rattle.fts_wire.specs.declared.response.Reply.{Reply}
-use Rattle.fts_routes.specs.Replies.{Answers, said, said_so, IsInsteadOf, DoubtHasCause}
+use Rattle.fts_routes.specs.Replies.{Answers, said, said_so, DoubtComes, IsInsteadOf, DoubtHasCause}
 use Rattle.fts_laws.specs.Attempts.{claims_in, is_claim}
 use Rattle.fts_session.specs.Sessions.{AnswersNext, ThreadData, Extends, IsOver, IsOwn, IsReady, walk_of, kept_at, Works}
 use Rattle.fts_session.proofs.Keeping.{none_more, tables_from-append, legal_behind, extends_none, extends_more}
@@ -328,6 +328,8 @@ module _ {D E : Type 0} (disks : disk.Ghosts D) (stores : store.Ghosts E) where
           replies = answers.replies ∙ ap (λ t. (said_so answers.way (said t answers.bodies keep.used 0 request now)).reply) is.list.folded;
           listed = ap (λ t. entries ++ (said_so answers.way (said t answers.bodies keep.used 0 request now)).added) is.list.folded;
           filled = answers.used ∙ ap (λ t. used_after keep.used (said_so answers.way (said t answers.bodies keep.used 0 request now)).added) is.list.folded;
+          doubt = subst (λ t. DoubtComes (disks.faults keep.disk) (disks.faults new.disk) keep.doubt new.doubt (said t answers.bodies keep.used 0 request now).added
+              (said_so answers.way (said t answers.bodies keep.used 0 request now)).added) is.list.folded answers.doubt;
         };
         follows = follows_none stores (copies_kept keep.tables bench.held) (copies_from (λ writer. true) keep.tables added)
             (copies_kept new.tables bench.held) store (reports_none keep.tables keep.tables added well)

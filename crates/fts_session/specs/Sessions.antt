@@ -13,7 +13,7 @@ use Rattle.fts_workers.specs.Copies.{Copy, copies_from, copies_kept, FollowsRepo
 use Rattle.fts_workers.specs.Rounds.{Walk, IsRound, IsWorkedOver, walk_over}
 use Rattle.fts_workers.specs.declared.ends.RoundEnd.{RoundEnd}
 use Rattle.fts_workers.specs.declared.ends.RoundEnd.TheVariants.{Busy}
-use Rattle.fts_routes.specs.Replies.{Way, Said, said, said_so, CausedBy, IsInsteadOf, DoubtHasCause}
+use Rattle.fts_routes.specs.Replies.{Way, Said, said, said_so, CausedBy, DoubtComes, IsInsteadOf, DoubtHasCause}
 use Rattle.fts_laws.specs.Attempts.{claims_in}
 use Rattle.fts_session.specs.Connections.{Reading, IsConnection}
 use Rattle.fts_session.specs.declared.ends.SessionEnd.{SessionEnd}
@@ -49,6 +49,7 @@ pub record AnswersNext (own : Bool) (old : Walk) (request : RequestData) (reply 
   pub replies : reply ≡ (said_so way (said_at old bodies request now)).reply
   pub listed : new.entries ≡ old.entries ++ (said_so way (said_at old bodies request now)).added
   pub filled : new.used ≡ used_after old.used (said_so way (said_at old bodies request now)).added
+  pub doubt : DoubtComes old.faults new.faults old.doubt new.doubt (said_at old bodies request now).added (said_so way (said_at old bodies request now)).added
 
 -- the round behind a request, however it ended
 abbrev pub FollowedByRound : ℕ → Walk → Walk → Type 0

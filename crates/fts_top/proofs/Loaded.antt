@@ -48,7 +48,7 @@ module _ {D E : Type 0} (disks : disk.Ghosts D) (stores : store.Ghosts E) where
         images = λ content leave. subst (λ (l : List Entry). IsImageOf l keep.doubt content) own.listed
             (own.holds.images content (subst (λ (d : D). (disks.state d).may_leave content) closed leave));
         counts = omega (arith, own.counts, ap disks.faults closed);
-        cause = inl own.no_doubt;
+        cause = inl starts.settled;
       }
 
   module _ (number : ℕ) (text : Option (List ℕ)) (settings : SettingsData) (now : ℕ) (keep : KeepData D) (opening : List Entry) (disk left : D)

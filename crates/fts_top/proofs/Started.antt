@@ -168,12 +168,31 @@ module _ {D E : Type 0} (disks : disk.Ghosts D) (stores : store.Ghosts E) where
     session_is none =
         let ran = serves.session.goes (disks.state disk).told (restarted opening now settings) begun_over own_list in
         subst (λ (k : Option Outcome). IsSession (disks.state disk).told [] settings.workers input after held output serves.session_end
-        (record { entries = restarted opening now settings; used = keep.used; faults = disks.faults keep.disk; kept = k; moments = moments; words = words })
+        (record {
+          entries = restarted opening now settings;
+          used = keep.used;
+          faults = disks.faults keep.disk;
+          doubt = None;
+          kept = k;
+          moments = moments;
+          words = words;
+        })
         (walk_of disks.faults final_list serves.last)) (ap kept_of empty)
+        (subst (λ (d : Option Entry). IsSession (disks.state disk).told [] settings.workers input after held output serves.session_end
+        (record {
+          entries = restarted opening now settings;
+          used = keep.used;
+          faults = disks.faults keep.disk;
+          doubt = d;
+          kept = kept_of bench.held;
+          moments = moments;
+          words = words;
+        })
+        (walk_of disks.faults final_list serves.last)) starts.settled
         (subst (λ (w : ℕ). IsSession (disks.state disk).told [] w input after held output serves.session_end (walk_of disks.faults (restarted opening now settings) (thread keep bench 0 store moments words))
         (walk_of disks.faults final_list serves.last)) places
         (subst (λ (k : List ℕ). IsSession (disks.state disk).told k bench.places input after held output serves.session_end
-        (walk_of disks.faults (restarted opening now settings) (thread keep bench 0 store moments words)) (walk_of disks.faults final_list serves.last)) none ran))
+        (walk_of disks.faults (restarted opening now settings) (thread keep bench 0 store moments words)) (walk_of disks.faults final_list serves.last)) none ran)))
 
     -- the store follows from the reports of the run
     store_follows : FollowsReports stores.state stores.calls stores.faults [] (copies_from (λ writer. true) (tables_of (restarted opening now settings)) since)
@@ -212,7 +231,7 @@ module _ {D E : Type 0} (disks : disk.Ghosts D) (stores : store.Ghosts E) where
               (holds.images c (subst (λ (d : D). (disks.state d).may_leave c) serves.closed leave));
           counts = omega (arith, own.counts, extends.counts, ap disks.faults serves.closed);
           cause = ⊎_elim (λ none. inl none)
-              (λ some. ⊎_elim (λ same. inl (same ∙ own.no_doubt))
+              (λ some. ⊎_elim (λ same. inl (same ∙ starts.settled))
               (λ rose. inr (⊎_elim (λ more. inl (omega (arith, more, own.counts, ap disks.faults serves.closed)))
               (λ most. inr (omega (arith, most, ap disks.faults serves.closed))) rose)) some)
               (extends.doubt told_keep);
@@ -253,6 +272,7 @@ module _ {D E : Type 0} (disks : disk.Ghosts D) (stores : store.Ghosts E) where
       };
       tells = ap (λ (d : D). (disks.state d).told) serves.closed ∙ serves.session.extends.told ∙ starts.told;
       leaves = left_list;
+      owner = λ told. refl;
     }
 
     -- its settings

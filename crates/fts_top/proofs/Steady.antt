@@ -42,8 +42,8 @@ adds_on walk entry next adds = record {
       filled ∙ ap (λ n. used_after n (entry ∷ [])) e ∙ filled_as_listed walk.entries (entry ∷ []) ∙ ap used_of (sym adds.listed);
 }
 
-none_on : (walk next : Walk) → AddsNone walk next → GoesOn walk next
-none_on walk next none = record { counts = none.counts; fills = λ e. none.filled ∙ e ∙ ap used_of (sym none.listed) }
+none_on : (walk : Walk) (entry : Entry) (next : Walk) → AddsNone walk entry next → GoesOn walk next
+none_on walk entry next none = record { counts = none.counts; fills = λ e. none.filled ∙ e ∙ ap used_of (sym none.listed) }
 
 same_on : (walk after : Walk) → after ≡ walk → GoesOn walk after
 same_on walk after same = subst (λ (w : Walk). GoesOn walk w) (sym same) (goes_none walk)
@@ -52,25 +52,25 @@ fills_on : (free : ℕ) (walk : Walk) (end : RoundEnd) (after : Walk) → FillsU
 fills_on zero walk end after filled = same_on walk after filled.0
 fills_on (suc free) walk end after (inl claimed) =
     goes_further walk claimed.0 after (adds_on walk claimed.1.0.entry claimed.0 claimed.1.0.adds) (fills_on free claimed.0 end after claimed.1.1)
-fills_on (suc free) walk end after (inr (inl none)) = none_on walk after none.0.none
-fills_on (suc free) walk end after (inr (inr stops)) = none_on walk after stops.none
+fills_on (suc free) walk end after (inr (inl none)) = none_on walk _ after none.0.none
+fills_on (suc free) walk end after (inr (inr stops)) = none_on walk _ after stops.none
 
 -- an expiry, accepted or idle
 expiry_on : (walk next : Walk) → (Expires walk next ⊎ FindsNoneOverdue walk next) → GoesOn walk next
 expiry_on walk next (inl expired) = adds_on walk expired.entry next expired.adds
-expiry_on walk next (inr none) = none_on walk next none.none
+expiry_on walk next (inr none) = none_on walk _ next none.none
 
 behind_on : (workers : ℕ) (walk : Walk) (end : RoundEnd) (after : Walk) → ExpiresAndClaims workers walk end after → GoesOn walk after
 behind_on workers walk end after (inl (next, (expired, filled))) =
     goes_further walk next after (expiry_on walk next expired) (fills_on (workers - length (out_of_list next.entries)) next end after filled)
-behind_on workers walk end after (inr stops) = none_on walk after stops.none
+behind_on workers walk end after (inr stops) = none_on walk _ after stops.none
 
 works_on : (workers : ℕ) (files : List ℕ) (walk : Walk) (end : RoundEnd) (after : Walk) → WorksOff workers files walk end after → GoesOn walk after
 works_on workers [] walk end after filled = behind_on workers walk end after filled
 works_on workers (file ∷ files) walk end after (inl reported) =
     goes_further walk reported.0 after (adds_on walk (report_in walk.entries reported.1.0.now file reported.1.0.outcome) reported.0 reported.1.0.adds)
     (works_on workers files reported.0 end after reported.1.1)
-works_on workers (file ∷ files) walk end after (inr stops) = none_on walk after stops.none
+works_on workers (file ∷ files) walk end after (inr stops) = none_on walk _ after stops.none
 
 pub round_on : (workers : ℕ) (walk : Walk) (end : RoundEnd) (after : Walk) → IsRound workers walk end after → GoesOn walk after
 round_on workers walk end after round = works_on workers (out_of_list walk.entries) walk end after round
@@ -168,8 +168,8 @@ record MeetsAt (entries : List Entry) (used : ℕ) : Type 0 where
   pub of_round : IsOfRound entries entry
   pub meets : MeetsLimit used entry (step (tables_of entries) entry.command)
 
-met_at : (walk after : Walk) → AddsNone walk after → MeetsAt walk.entries walk.used → MeetsAt after.entries after.used
-met_at walk after none met = subst (λ (n : ℕ). MeetsAt after.entries n) (sym none.filled) (subst (λ (l : List Entry). MeetsAt l walk.used) (sym none.listed) met)
+met_at : (walk : Walk) (entry : Entry) (after : Walk) → AddsNone walk entry after → MeetsAt walk.entries walk.used → MeetsAt after.entries after.used
+met_at walk entry after none met = subst (λ (n : ℕ). MeetsAt after.entries n) (sym none.filled) (subst (λ (l : List Entry). MeetsAt l walk.used) (sym none.listed) met)
 
 fills_met : (full free : ℕ) (walk after : Walk) → FillsUp free walk (JournalFull full) after → MeetsAt after.entries after.used
 fills_met full zero walk after filled = absurd (calm (length (out_of_list walk.entries)) filled.1)
@@ -183,7 +183,7 @@ fills_met full (suc free) walk after (inr (inl none)) = absurd (calm (length (ou
     calm : (n : ℕ) → JournalFull full ≡ calm_end n → ⊥
     calm zero e = cc
     calm (suc n) e = cc
-fills_met full (suc free) walk after (inr (inr stops)) = met_at walk after stops.none (record {
+fills_met full (suc free) walk after (inr (inr stops)) = met_at walk _ after stops.none (record {
   entry = stops.entry;
   of_round = inl (stops.tried.now, (stops.tried.word, stops.tried.is));
   meets = meets_limit walk.used full stops.entry (step (tables_of walk.entries) stops.entry.command) stops.stops;
@@ -191,7 +191,7 @@ fills_met full (suc free) walk after (inr (inr stops)) = met_at walk after stops
 
 behind_met : (full workers : ℕ) (walk after : Walk) → ExpiresAndClaims workers walk (JournalFull full) after → MeetsAt after.entries after.used
 behind_met full workers walk after (inl (next, (expired, filled))) = fills_met full (workers - length (out_of_list next.entries)) next after filled
-behind_met full workers walk after (inr stops) = met_at walk after stops.none (record {
+behind_met full workers walk after (inr stops) = met_at walk _ after stops.none (record {
   entry = stops.entry;
   of_round = inr (inr (stops.tried.now, stops.tried.is));
   meets = meets_limit walk.used full stops.entry (step (tables_of walk.entries) stops.entry.command) stops.stops;
@@ -202,7 +202,7 @@ works_met full workers [] walk after filled = behind_met full workers walk after
 works_met full workers (file ∷ files) walk after (inl reported) = works_met full workers files reported.0 after reported.1.1
 works_met full workers (file ∷ files) walk after (inr stops) =
     let entry = report_in walk.entries stops.now file stops.outcome in
-    met_at walk after stops.none (record {
+    met_at walk _ after stops.none (record {
       entry = entry;
       of_round = inr (inl (stops.now, (file, (stops.outcome, refl))));
       meets = meets_limit walk.used full entry (step (tables_of walk.entries) entry.command) stops.stops;

@@ -148,9 +148,17 @@ module _ {D : Type 0} (disks : disk.Ghosts D) where
   IsStop text moments later disk left (Served end) = ⊥
   IsStop text moments later disk left (Errand end) = ⊥
 
--- where a session begins: behind the Restart, with nothing kept
+-- where a session begins: behind the Restart, with nothing kept and none in doubt
 abbrev pub begun_with : List Entry → ℕ → ℕ → Option Coming → Option Coming → Walk
-begun_with entries used count moments words = record { entries = entries; used = used; faults = count; kept = None; moments = moments; words = words }
+begun_with entries used count moments words = record {
+  entries = entries;
+  used = used;
+  faults = count;
+  doubt = None;
+  kept = None;
+  moments = moments;
+  words = words;
+}
 
 -- what is seen of disks and stores: what is known of each, and its count of faults
 module _ {D E : Type 0} (disks : disk.Ghosts D) (stores : store.Ghosts E) where
@@ -196,6 +204,8 @@ module _ {D E : Type 0} (disks : disk.Ghosts D) (stores : store.Ghosts E) where
     pub ran : RanOver before after settings now moments keep opening end tally
     pub tells : (disks.state after.disk).told ≡ (disks.state before.disk).told
     pub leaves : (told : IsTold (disks.state before.disk)) → LeavesList disks (starts.own told).opened after.disk opening ran.final.entries
+    -- what is in doubt at the end has an owner: the walk from the Restart on says which entry was tried when it came into doubt
+    pub owner : (told : IsTold (disks.state before.disk)) → (leaves told).doubt ≡ ran.final.doubt
 
   -- a keep was served, which was closed then: it left this disk
   pub record ServesKeep (at : ThreadData D E) (workers : ℕ) (left : D) (store : E) (later words_later : Option Coming) (kept : List ℕ) (input after : Reading)
