@@ -1,5 +1,5 @@
 -- Rounds and a session by rows that compute: what the definitions hold of, and what they refuse.
-use Rattle.std.proofs.Common.{◌≡◌, refl, inl, inr, subst, ℕ, Bool, true, false, List, [], ◌∷◌, ◌++◌, map, Some, None, Ok, Err, arith}
+use Rattle.std.proofs.Common.{◌≡◌, refl, inl, inr, ⊎_elim, subst, ℕ, Bool, true, false, List, [], ◌∷◌, ◌++◌, map, Option, Some, None, Ok, Err, arith}
 use Rattle.std.specs.Prelude.{codes, replicate}
 use Rattle.fts_tables.specs.JobData.{JobData}
 use Rattle.fts_tables.specs.SettingsData.{SettingsData}
@@ -18,10 +18,10 @@ use Rattle.fts_tables.specs.declared.commands.Refusal.TheVariants.{Idle}
 use Rattle.fts_record.specs.Spelling.{spelled, command_bytes, number_bytes, text_bytes, settings_bytes, endpoint_bytes, link_bytes, weight_bytes}
 use Rattle.fts_record.specs.Spelling.{job_bytes, limited_job_bytes, file_bytes, outcome_bytes}
 use Rattle.fts_keep.specs.Keeps.{used_of}
-use Rattle.fts_keep.specs.Applied.{Applies, entry_by}
+use Rattle.fts_keep.specs.Applied.{Applies, DoubtMoves, entry_by}
 use Rattle.fts_keep.specs.declared.fault.KeepFault.TheVariants.{Rule}
 use Rattle.fts_workers.specs.Benches.{attempt_of}
-use Rattle.fts_workers.specs.Rounds.{Walk, IsRound, Claims, FindsNone, FindsNoneOverdue, StopsBy, applied_at}
+use Rattle.fts_workers.specs.Rounds.{Walk, IsRound, Claims, ClaimStops, FindsNone, FindsNoneOverdue, StopsBy, applied_at}
 use Rattle.fts_workers.specs.declared.ends.RoundEnd.TheVariants.{Clear, Busy, DiskFailed}
 
 -- 2023-11-14, in seconds since 1970
@@ -34,6 +34,7 @@ at_list entries = record {
   entries = entries;
   used = used_of entries;
   faults = 0;
+  doubt = None;
   kept = None;
   moments = Some (the_moment, []);
   words = Some (0, []);
@@ -112,14 +113,14 @@ idle-round = inl (
       entry = entry_by 0 (Expire the_moment);
       tried = record { now = the_moment; moment = (refl, refl); words = refl; is = refl; kept = refl };
       idle = refl;
-      none = record { listed = refl; filled = refl; counts = omega arith };
+      none = record { listed = refl; filled = refl; counts = omega arith; doubt = inl refl };
     }),
     inr (inl (
       record {
         entry = claim;
         tried = record { now = the_moment; moment = (refl, refl); word = 0; drawn = (refl, refl); is = refl; kept = refl };
         idle = refl;
-        none = record { listed = refl; filled = refl; counts = omega arith };
+        none = record { listed = refl; filled = refl; counts = omega arith; doubt = inl refl };
       },
       refl,
     )),
@@ -144,7 +145,7 @@ none_overdue entries idle = record {
   entry = entry_by 0 (Expire the_moment);
   tried = record { now = the_moment; moment = (refl, refl); words = refl; is = refl; kept = refl };
   idle = idle;
-  none = record { listed = refl; filled = refl; counts = omega arith };
+  none = record { listed = refl; filled = refl; counts = omega arith; doubt = inl refl };
 }
 
 none_to_claim : (entries : List Entry) → applied_at (at_list entries) claim ≡ Err (Rule Idle) → FindsNone (at_list entries) (at_list entries)
@@ -152,7 +153,7 @@ none_to_claim entries idle = record {
   entry = claim;
   tried = record { now = the_moment; moment = (refl, refl); word = 0; drawn = (refl, refl); is = refl; kept = refl };
   idle = idle;
-  none = record { listed = refl; filled = refl; counts = omega arith };
+  none = record { listed = refl; filled = refl; counts = omega arith; doubt = inl refl };
 }
 
 first-claim : Claims (at_list submitted) (at_list one_claimed)
@@ -160,7 +161,7 @@ unfolding spelled command_bytes number_bytes text_bytes settings_bytes endpoint_
 first-claim = record {
   entry = claim;
   tried = record { now = the_moment; moment = (refl, refl); word = 0; drawn = (refl, refl); is = refl; kept = refl };
-  adds = record { accepted = refl; listed = refl; filled = refl; counts = omega arith };
+  adds = record { accepted = refl; listed = refl; filled = refl; counts = omega arith; settled = refl };
 }
 
 second-claim : Claims (at_list one_claimed) (at_list two_claimed)
@@ -168,7 +169,7 @@ unfolding spelled command_bytes number_bytes text_bytes settings_bytes endpoint_
 second-claim = record {
   entry = claim;
   tried = record { now = the_moment; moment = (refl, refl); word = 0; drawn = (refl, refl); is = refl; kept = refl };
-  adds = record { accepted = refl; listed = refl; filled = refl; counts = omega arith };
+  adds = record { accepted = refl; listed = refl; filled = refl; counts = omega arith; settled = refl };
 }
 
 round-of-claims : IsRound 4 (at_list submitted) (Busy 2) (at_list two_claimed)
@@ -206,7 +207,7 @@ round-of-reports = inl (
       now = the_moment;
       moment = (refl, refl);
       words = refl;
-      adds = record { accepted = refl; listed = refl; filled = refl; counts = omega arith };
+      adds = record { accepted = refl; listed = refl; filled = refl; counts = omega arith; settled = refl };
       kept = refl;
     },
     inl (
@@ -218,7 +219,7 @@ round-of-reports = inl (
           now = the_moment;
           moment = (refl, refl);
           words = refl;
-          adds = record { accepted = refl; listed = refl; filled = refl; counts = omega arith };
+          adds = record { accepted = refl; listed = refl; filled = refl; counts = omega arith; settled = refl };
           kept = refl;
         },
         inl (
@@ -231,7 +232,7 @@ round-of-reports = inl (
                 record {
                   entry = claim;
                   tried = record { now = the_moment; moment = (refl, refl); word = 0; drawn = (refl, refl); is = refl; kept = refl };
-                  adds = record { accepted = refl; listed = refl; filled = refl; counts = omega arith };
+                  adds = record { accepted = refl; listed = refl; filled = refl; counts = omega arith; settled = refl };
                 },
                 inr (inl (none_to_claim third_claimed refl, refl)),
               ),
@@ -263,7 +264,42 @@ cancelled_reported = with_entry (with_entry cancelled (report cancelled 1)) (rep
 states-cancelled-reported : states cancelled_reported ≡ Canceled ∷ Canceled ∷ Canceled ∷ []
 states-cancelled-reported = refl
 
+-- ---- a claim whose append the disk failed: its entry may be in doubt behind it
+
+-- the disk counted a failure at the first list, and left this in doubt
+abbrev at_failure : Option Entry → Walk
+at_failure doubt = record {
+  entries = submitted;
+  used = used_of submitted;
+  faults = 1;
+  doubt = doubt;
+  kept = None;
+  moments = Some (the_moment, []);
+  words = Some (0, []);
+}
+
+claim-in-doubt : ClaimStops (at_list submitted) DiskFailed (at_failure (Some claim))
+unfolding spelled command_bytes number_bytes text_bytes settings_bytes endpoint_bytes link_bytes weight_bytes job_bytes limited_job_bytes file_bytes
+claim-in-doubt = record {
+  entry = claim;
+  tried = record { now = the_moment; moment = (refl, refl); word = 0; drawn = (refl, refl); is = refl; kept = refl };
+  stops = (refl, inl (omega arith));
+  none = record { listed = refl; filled = refl; counts = omega arith; doubt = inr (inr (refl, inl (omega arith))) };
+}
+
 -- ---- what the definitions refuse
+
+-- another entry than the one that was tried is in doubt
+doubt-of-another : DoubtMoves 0 1 None (Some (entry_by 0 (Expire the_moment))) claim → ⊥
+doubt-of-another (inl same) = cc
+doubt-of-another (inr (inl none)) = cc
+doubt-of-another (inr (inr own)) = let same = own.0 in cc
+
+-- an entry is in doubt though the disk counted no failure
+doubt-without-failure : DoubtMoves 0 0 None (Some claim) claim → ⊥
+doubt-without-failure (inl same) = cc
+doubt-without-failure (inr (inl none)) = cc
+doubt-without-failure (inr (inr own)) = ⊎_elim (λ less. omega (arith, less)) (λ most. omega (arith, most)) own.1
 
 is_yes : Applies → Type 0
 is_yes (Ok done) = Unit {0}

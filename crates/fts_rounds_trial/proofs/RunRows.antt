@@ -105,6 +105,7 @@ untold-run = record {
     over = record { list = record { folded = refl; legal = (tt, tt); counted = refl }; proper = proper; fills = refl };
     limit = λ kept. (λ none. absurd (not-told none), tt);
     sure = refl;
+    settled = refl;
     told = refl;
     counts = omega arith;
     listed = refl;
@@ -126,6 +127,7 @@ untold-run = record {
   };
   tells = refl;
   leaves = λ told. absurd (not-told told);
+  owner = λ told. absurd (not-told told);
 }
 
 -- ---- the same over a disk that tells its contents: empty at first, then a journal of no entry, then one of the Restart
@@ -229,6 +231,7 @@ told-run = record {
     over = record { list = record { folded = refl; legal = (tt, tt); counted = refl }; proper = proper; fills = refl };
     limit = λ kept. (λ none. absurd (not-told none), tt);
     sure = refl;
+    settled = refl;
     told = refl;
     counts = omega arith;
     listed = refl;
@@ -243,7 +246,6 @@ told-run = record {
         counts = omega arith;
       };
       listed = refl;
-      no_doubt = refl;
       holds = record {
         folded = refl;
         legal = (tt, tt);
@@ -280,4 +282,5 @@ told-run = record {
     counts = omega arith;
     cause = inl refl;
   };
+  owner = λ told. refl;
 }

@@ -149,6 +149,7 @@ one-request = record {
             replies = refl;
             listed = refl;
             filled = refl;
+            doubt = inl refl;
           },
           ((Clear, idle-round), refl),
         ),
