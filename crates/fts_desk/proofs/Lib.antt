@@ -7,6 +7,9 @@ mod ClaimedParts
 mod Follows
 mod Found
 mod Hops
+mod JobPlaces
+mod JobSets
+mod JobProgress
 mod KeptFiles
 mod NewRows
 mod Numbered

@@ -14,6 +14,7 @@ use crate::answers::{held_on_link, rows_of_number, state_of};
 use crate::bounds::steps_keep_bounds;
 use crate::commands::{Decided, decide, make_step};
 use crate::find::number_of_id;
+use crate::job_states::{JOB_STATES, JobStates};
 use crate::kept::{Beside, Counts, Kept};
 use crate::lookups::{find_job, find_row};
 use fts_index::{Dues, JobIds, Loads};
@@ -94,6 +95,7 @@ impl Desk {
                     counts: Counts {
                         loads: Loads::new(alloc),
                         dues: Dues::new(alloc),
+                        states: JobStates::new(alloc),
                     },
                     parts: None,
                 },

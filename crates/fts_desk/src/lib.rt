@@ -14,6 +14,7 @@ mod counts;
 mod desk;
 mod expiries;
 mod find;
+mod job_states;
 mod kept;
 mod lookups;
 mod parts;
