@@ -18,7 +18,7 @@ use Rattle.fts_desk.proofs.Numbered.{number_at}
 use Rattle.fts_desk.specs.declared.job_states.Progress.{Progress}
 
 -- the first item and the others
-count_by-cons : {Item : Type 0} (test : Item → Bool) (item : Item) (items : List Item)
+pub count_by-cons : {Item : Type 0} (test : Item → Bool) (item : Item) (items : List Item)
     → count_by test (item ∷ items) ≡ cond (test item) 1 0 + count_by test items
 count_by-cons test item items = sum_by-cons (λ other. cond (test other) 1 0) item items
 

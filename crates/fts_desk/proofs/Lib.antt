@@ -11,6 +11,7 @@ mod JobPlaces
 mod JobSets
 mod JobProgress
 mod KeptFiles
+mod NewProgress
 mod NewRows
 mod Numbered
 mod Released
