@@ -9,6 +9,7 @@ mod Found
 mod Hops
 mod JobPlaces
 mod JobSets
+mod JobsFound
 mod JobProgress
 mod KeptFiles
 mod NewProgress

@@ -5,6 +5,7 @@ pub mod Desk
 pub mod DeskData
 pub mod JobLists
 pub mod JobStates
+pub mod JobsIn
 pub mod Kept
 pub mod PlaceOrder
 pub mod Loaded

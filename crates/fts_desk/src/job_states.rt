@@ -262,10 +262,7 @@ impl JobStates {
         let mut found = None;
         for at in 0..JOB_STATES {
             if asked[at] {
-                found = sooner(
-                    found,
-                    self.by_rank[at].first_from(&JobPlace { place: from }),
-                );
+                found = sooner(found, first_at(&self.by_rank, at, from));
             }
         }
         found

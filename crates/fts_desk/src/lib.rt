@@ -27,4 +27,5 @@ mod submit;
 mod waking;
 
 pub use desk::{Desk, DeskFault, Plan};
+pub use job_states::{JOB_STATES, rank};
 pub use submit::standard_id;

@@ -25,7 +25,7 @@ loop-at-preserved c =
           ∙ (ap (least_of (position_from (is_asked_before asked at) from (drop from jobs)))
           (w.first_at.ensures.place
           ∙ (ap (first_from nat_lt from) (c.self.invariant.places at c.loop-at-test.true)
-          ∙ (first_place at c.self.inside.jobs.items 0 from from refl
+          ∙ (first_place at c.self.inside.jobs.items 0 from from (omega arith)
           ∙ ap (λ (list : JobList). position_from (is_at at) from (drop from list.jobs)) c.self.view_is)))
           ∙ asked_here asked from jobs at (sym w.if-asked-at.true))))
       | else-asked-at w ↦ w.found-is ∙ (c.loop-at.invariant ∙ not_asked asked from jobs at (sym w.if-asked-at.false))
