@@ -149,6 +149,14 @@ fn take_place(by_rank: &mut [Ordered<JobPlace>; JOB_STATES], at: usize, place: u
     by_rank[at].remove(&JobPlace { place });
 }
 
+/// Whether there is a job at a place, and in one of these states: then it is the first from there on.
+fn is_asked_at(jobs: &[Progress], asked: &[bool; JOB_STATES], place: u32) -> bool
+    ensures first { result ≡ true → position_from (λ job. is_among asked.now job.state) place (drop place jobs.now) ≡ Some place }
+{
+    let place = place as usize;
+    place < jobs.len() && asked[rank(jobs[place].state)]
+}
+
 /// The first place from one on at a rank.
 fn first_at(by_rank: &[Ordered<JobPlace>; JOB_STATES], at: usize, from: u32) -> Option<JobPlace>
     requires inside { at < 6 }
@@ -259,6 +267,9 @@ impl JobStates {
     pub fn next(&self, asked: &[bool; JOB_STATES], from: u32) -> Option<u32>
         ensures place { result ≡ position_from (λ job. is_among asked.now job.state) from (drop from self.now.jobs) }
     {
+        if is_asked_at(&self.jobs, asked, from) {
+            return Some(from);
+        }
         let mut found = None;
         for at in 0..JOB_STATES {
             if asked[at] {
