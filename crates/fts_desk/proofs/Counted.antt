@@ -1,9 +1,9 @@
 -- What is counted of rows, where one of them changes at its place and keeps its file.
-use Rattle.std.proofs.Common.{◌≡◌, ℕ, zero, suc, ◌<◌, true, false, List, [], ◌∷◌, length, map, get_or, set, Some, refl, ap, sym, ◌∙◌, subst, arith, inl, inr}
+use Rattle.std.proofs.Common.{◌≡◌, ℕ, zero, suc, ◌<◌, true, false, List, [], ◌∷◌, ◌++◌, replicate, length, map, get_or, set, Some, refl, ap, sym, ◌∙◌, subst, arith, inl, inr}
 use Rattle.std.specs.Prelude.{◌+◌, ◌&&◌, ◌==◌, Bool, Option, count_by, slice_get, slice_set, if◌then◌else◌}
 use Rattle.std.proofs.lemmas.List.{length-set}
 use Rattle.std.proofs.lemmas.Option.{same_Some, slice_get_cases, slice_get-get_or}
-use Rattle.fts_tables.specs.Tables.{AreNumberedFrom}
+use Rattle.fts_tables.specs.Tables.{AreNumberedFrom, AreFirstsFrom, owners, is_live}
 use Rattle.fts_tables.specs.Waits.{overdue_from}
 use Rattle.fts_tables.specs.Step.{with_priority}
 use Rattle.fts_tables.specs.Laws.{FileOfRow, file_of}
@@ -14,7 +14,8 @@ use Rattle.fts_index.specs.LiveLinks.{link_of_row}
 use Rattle.fts_index.specs.DueLists.{DueList, MayChange, HasChanged}
 use Rattle.fts_index.specs.RowDues.{due_from, AreDuesOf}
 use Rattle.fts_desk.specs.Loaded.{added_by, AreLoadsOf, MayRecount}
-use Rattle.fts_desk.specs.Counted.{AreCountsOf, AreCountsBefore, IsCountedAt}
+use Rattle.fts_desk.specs.Counted.{AreCountsOf, AreCountsBefore, IsCountedAt, AreStatesOf, AreStatesBefore, progress_of}
+use Rattle.fts_desk.specs.JobLists.{JobList}
 use Rattle.fts_desk.specs.Places.{change_at}
 use Rattle.fts_desk.specs.Standing.{prioritized}
 use Rattle.fts_desk.specs.declared.kept.Counts.{Counts}
@@ -98,6 +99,15 @@ module _ (jobs : List JobRow) (rows : List FileRow) (place : ℕ) (was : Tally) 
   link_done new more known = subst (λ (items : List FileRow). AreLoadsOf items new) now_rows
       (recounted old_rows place earlier.before row was.live counts.loads new earlier.of_rows.loads there earlier.counted.live same_link more known)
 
+  -- its job may stand anew
+  pub states_may : AreStatesBefore jobs rows place was.live counts.states
+  states_may = record {
+    before = earlier.before;
+    job = λ some there. sym (ap (λ (file : FileOfRow). file.job) (earlier.file some there));
+    live = earlier.counted.live;
+    of_rows = earlier.of_rows.states;
+  }
+
   -- its moment may change
   pub due_may : ((jobs : List JobRow) (rows : List FileRow) (place : ℕ) (before after : FileRow) (file : ℕ) (list : DueList)
       → AreNumberedFrom (λ row. row.id) 1 rows → slice_get rows place ≡ Some before → before.id ≡ file → after.id ≡ file → after.job ≡ before.job
@@ -122,6 +132,45 @@ module _ (jobs : List JobRow) (rows : List FileRow) (place : ℕ) (was : Tally) 
       (subst (λ moment. HasChanged row.id (due_from jobs earlier.before) moment counts.dues new) now
       (subst (λ moment. HasChanged row.id moment is counts.dues new) earlier.counted.due changed)))
 
+-- another priority of a job leaves how each stands
+states_prioritized : (number priority : ℕ) (jobs : List JobRow) (rows : List FileRow) (list : JobList) → AreStatesOf jobs rows list
+    → AreStatesOf (map (prioritized number priority) jobs) rows list
+states_prioritized number priority jobs rows list of_rows = record {
+  stand = of_rows.stand ∙ stand jobs;
+  follow = record { firsts = firsts 1 jobs of_rows.follow.firsts; owners = of_rows.follow.owners ∙ owned jobs };
+}
+  where
+    stands : (job : JobRow) (answer : Bool) → progress_of rows job ≡ progress_of rows (if answer then with_priority priority job else job)
+    stands job true = refl
+    stands job false = refl
+
+    stand : (some : List JobRow) → map (progress_of rows) some ≡ map (progress_of rows) (map (prioritized number priority) some)
+    stand [] = refl
+    stand (job ∷ some) =
+        ap (λ head. head ∷ map (progress_of rows) some) (stands job (job.number == number))
+        ∙ ap (λ rest. progress_of rows (prioritized number priority job) ∷ rest) (stand some)
+
+    by_first : (next : ℕ) (job : JobRow) (some : List JobRow) (answer : Bool)
+        → (job.first ≡ next) × AreFirstsFrom (next + job.count) (map (prioritized number priority) some)
+        → ((if answer then with_priority priority job else job).first ≡ next)
+        × AreFirstsFrom (next + (if answer then with_priority priority job else job).count) (map (prioritized number priority) some)
+    by_first next job some true are = are
+    by_first next job some false are = are
+
+    firsts : (next : ℕ) (some : List JobRow) → AreFirstsFrom next some → AreFirstsFrom next (map (prioritized number priority) some)
+    firsts next [] are = tt
+    firsts next (job ∷ some) are = by_first next job some (job.number == number) (are.0, firsts (next + job.count) some are.1)
+
+    own : (job : JobRow) (rest : List ℕ) (answer : Bool) → replicate job.count job.number ++ rest
+        ≡ replicate (if answer then with_priority priority job else job).count (if answer then with_priority priority job else job).number ++ rest
+    own job rest true = refl
+    own job rest false = refl
+
+    owned : (some : List JobRow) → owners some ≡ owners (map (prioritized number priority) some)
+    owned [] = refl
+    owned (job ∷ some) =
+        ap (λ rest. replicate job.count job.number ++ rest) (owned some) ∙ own job (owners (map (prioritized number priority) some)) (job.number == number)
+
 -- another priority of a job leaves what is counted
 pub counts_prioritized : ((jobs : List JobRow) (change : JobRow → JobRow) (rows : List FileRow) (list : DueList)
     → ((job : JobRow) → (change job).number ≡ job.number) → ((job : JobRow) → overdue_from (change job) ≡ overdue_from job)
@@ -132,6 +181,7 @@ counts_prioritized law number priority jobs rows counts of_rows = record {
   loads = of_rows.loads;
   dues = law jobs (prioritized number priority) rows counts.dues (λ job. numbers job (job.number == number)) (λ job. moments job (job.number == number))
       of_rows.dues;
+  states = states_prioritized number priority jobs rows counts.states of_rows.states;
 }
   where
     numbers : (job : JobRow) (answer : Bool) → (if answer then with_priority priority job else job).number ≡ job.number

@@ -7,7 +7,12 @@ mod ClaimedParts
 mod Follows
 mod Found
 mod Hops
+mod JobPlaces
+mod JobSets
+mod JobsFound
+mod JobProgress
 mod KeptFiles
+mod NewProgress
 mod NewRows
 mod Numbered
 mod Released

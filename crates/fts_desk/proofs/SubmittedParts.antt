@@ -110,7 +110,7 @@ submitted-owned job id (row ∷ rows) owned =
     (ap (λ (file : FileOfRow). file.job) (one_file id woken woken_file row) ∙ owned.0, submitted-owned job id rows owned.1)
 
 -- a new job's rows are its own
-kind-owned : (kind : JobKind) (rows : List FileRow) (number id : ℕ) (job : JobData)
+pub kind-owned : (kind : JobKind) (rows : List FileRow) (number id : ℕ) (job : JobData)
     → AllByRecursion (λ row. row.job ≡ number) (rows_of_kind kind rows number id job)
 kind-owned Plain rows number id job = new_rows-owned number id Submitted job.files
 kind-owned Multihop rows number id job = submitted-owned number id (new_rows number id NotUsed job.files) (new_rows-owned number id NotUsed job.files)
@@ -240,7 +240,7 @@ module _ (tables : Tables) (formed : AreWellFormed tables) (kind : JobKind) (num
       (kind-numbered kind tables.rows number id new))
 
   -- the rows from the first new one on
-  behind : drop from rows ≡ rows_of_kind kind tables.rows number id new
+  pub behind : drop from rows ≡ rows_of_kind kind tables.rows number id new
   behind = ap (drop from) with_rows ∙ drop_at tables.rows (rows_of_kind kind tables.rows number id new) from (sym at)
 
   -- those before it

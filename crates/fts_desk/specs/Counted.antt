@@ -1,20 +1,41 @@
--- What is counted of the rows beside them: the loads of the links, and the moments from which waiting files are overdue.
-use Rattle.std.specs.Prelude.{◌≡◌, ◌≢◌, ℕ, ◌+◌, ◌<◌, ◌≤◌, nat_le, if◌then◌else◌, List, [], ◌∷◌, length, slice_set, slice_get, Option, Some, None}
-use Rattle.fts_tables.specs.Tables.{is_live}
+-- What is counted of the rows beside them: the loads of the links, the moments from which waiting files are overdue, and how the jobs stand.
+use Rattle.std.specs.Prelude.{◌≡◌, ◌≢◌, ℕ, ◌+◌, ◌<◌, ◌≤◌, nat_le, ◌==◌, ◌&&◌, Bool, if◌then◌else◌, map, count_by, List, [], ◌∷◌, length, slice_set, slice_get, Option, Some, None}
+use Rattle.fts_tables.specs.Tables.{is_live, rows_of_job, RowsFollow}
+use Rattle.fts_tables.specs.Moves.{state_of_job}
 use Rattle.fts_tables.specs.Dues.{Due}
 use Rattle.fts_tables.specs.Laws.{file_of}
 use Rattle.fts_tables.specs.declared.rows.FileRow.{FileRow}
 use Rattle.fts_tables.specs.declared.rows.JobRow.{JobRow}
 use Rattle.fts_index.specs.DueLists.{DueList}
 use Rattle.fts_index.specs.RowDues.{due_from, AreDuesOf}
+use Rattle.fts_desk.specs.JobLists.{JobList}
 use Rattle.fts_desk.specs.Loaded.{AreLoadsOf}
+use Rattle.fts_desk.specs.declared.job_states.Progress.{Progress}
 use Rattle.fts_desk.specs.declared.kept.Counts.{Counts}
 use Rattle.fts_desk.specs.declared.counts.Tally.{Tally}
 
--- both are those of these rows and jobs
+-- whether a row is of a job, and waits or runs
+abbrev pub is_live_of : ℕ → FileRow → Bool
+is_live_of number row = (row.job == number) && is_live row.state
+
+-- how many rows wait or run
+abbrev pub count_live : List FileRow → ℕ
+count_live rows = count_by (λ row. is_live row.state) rows
+
+-- how a job stands by its rows
+abbrev pub progress_of : List FileRow → JobRow → Progress
+progress_of rows job = record { state = state_of_job job.kind (rows_of_job rows job.number); live = count_by (is_live_of job.number) rows }
+
+-- the jobs stand as their rows say, and the rows follow the jobs
+pub record AreStatesOf (jobs : List JobRow) (rows : List FileRow) (list : JobList) : Type 0 where
+  pub stand : list.jobs ≡ map (progress_of rows) jobs
+  pub follow : RowsFollow jobs rows
+
+-- all of it is that of these rows and jobs
 pub record AreCountsOf (jobs : List JobRow) (rows : List FileRow) (counts : Counts) : Type 0 where
   pub loads : AreLoadsOf rows counts.loads
   pub dues : AreDuesOf jobs rows counts.dues
+  pub states : AreStatesOf jobs rows counts.states
 
 -- what a row counts for
 pub record IsCounted (jobs : List JobRow) (row : FileRow) (was : Tally) : Type 0 where
@@ -25,7 +46,14 @@ pub record IsCounted (jobs : List JobRow) (row : FileRow) (was : Tally) : Type 0
 abbrev pub IsCountedAt : List JobRow → List FileRow → ℕ → Tally → Type 0
 IsCountedAt jobs rows place was = (row : FileRow) → slice_get rows place ≡ Some row → IsCounted jobs row was
 
--- both are those of the rows with another at the place, which is the same file's and counts for that
+-- the jobs stand as the rows say with another at the place, which is of the same job, and was live or not
+pub record AreStatesBefore (jobs : List JobRow) (rows : List FileRow) (place : ℕ) (was_live : Bool) (list : JobList) : Type 0 where
+  pub before : FileRow
+  pub job : (row : FileRow) → slice_get rows place ≡ Some row → before.job ≡ row.job
+  pub live : was_live ≡ is_live before.state
+  pub of_rows : AreStatesOf jobs (slice_set rows place before) list
+
+-- all of it is that of the rows with another at the place, which is the same file's and counts for that
 pub record AreCountsBefore (jobs : List JobRow) (rows : List FileRow) (place : ℕ) (was : Tally) (counts : Counts) : Type 0 where
   pub before : FileRow
   pub inside : place < length rows

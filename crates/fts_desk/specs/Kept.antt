@@ -39,11 +39,12 @@ pub record HasRoomFor (kept : Kept) (count : ℕ) : Type 0 where
   pub row_limit : length kept.rows.items + count ≤ MAX_ROWS
 
 -- room for one job more of these hours in the queue and these files, for the link of each among the loads, for each among the moments where there are
--- hours, and for each among the files that wait
+-- hours, for the job among those in each state, and for each file among those that wait
 pub record HasRoomForFiles (kept : Kept) (hours : ℕ) (files : List NewFile) : Type 0 where
   pub count : HasRoomFor kept (length files)
   pub links : are_known kept.beside.counts.loads (map link_of_file files) ≡ true
   pub dues : HasRoomForDues hours (length files) kept.beside.counts.dues
+  pub states : length kept.beside.counts.states.jobs < kept.beside.counts.states.room
   pub queues : HaveRoomForFiles files kept.beside.parts
 
 -- room for what a command adds

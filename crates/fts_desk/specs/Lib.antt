@@ -3,7 +3,11 @@ pub mod Cancels
 pub mod Counted
 pub mod Desk
 pub mod DeskData
+pub mod JobLists
+pub mod JobStates
+pub mod JobsIn
 pub mod Kept
+pub mod PlaceOrder
 pub mod Loaded
 pub mod Parts
 pub mod Places
@@ -11,3 +15,4 @@ pub mod Prepared
 pub mod Props
 pub mod Reports
 pub mod Standing
+pub mod Submitted

@@ -1,20 +1,25 @@
-//! What stands beside the rows as counts of them: how many rows wait or run on each link, and from when each waiting file is overdue.
+//! What stands beside the rows as counts of them: how many rows wait or run on each link, from when each waiting file is overdue, and how each job stands.
 //! Keeps: they are those of the rows (`AreCountsOf`). A row whose state changes counts anew right behind the change (`recount`), by what it counted for
 //! before it (`counted`); the new rows of a submission come in once they all stand (`count_new`).
-ghost use Rattle.std.specs.Prelude.{◌≡◌, ◌+◌, ◌&&◌, ◌<◌, Bool, if◌then◌else◌, length, map, count_by};
-ghost use Rattle.fts_tables.specs.Tables.{AreNumberedFrom};
+ghost use Rattle.std.specs.Prelude.{◌≡◌, ◌+◌, ◌&&◌, ◌||◌, ◌<◌, ◌≤◌, Some, slice_get, Bool, if◌then◌else◌, length, map, count_by};
+ghost use Rattle.fts_tables.specs.Tables.{AreNumberedFrom, is_active, is_live, is_settled, rows_of_job};
+ghost use Rattle.fts_tables.specs.Moves.{state_of_job};
+ghost use Rattle.fts_tables.specs.declared.limits.TheConstants.{MAX_ROWS};
+ghost use Rattle.fts_tables.specs.declared.rows.FileRow.{FileRow};
 ghost use Rattle.fts_index.specs.Links.{Link};
 ghost use Rattle.fts_index.specs.LiveLinks.{link_of_row, live_links};
 ghost use Rattle.fts_index.specs.RowDues.{due_from};
+ghost use Rattle.fts_desk.specs.Standing.{StandTogether};
 ghost use Rattle.fts_desk.specs.Loaded.{added_by, MayRecount, MayCount};
-ghost use Rattle.fts_desk.specs.Counted.{AreCountsOf, AreCountsBefore, IsCountedAt};
+ghost use Rattle.fts_desk.specs.Counted.{AreCountsOf, AreCountsBefore, IsCountedAt, AreStatesOf, AreStatesBefore, is_live_of, progress_of, count_live};
 
+use crate::job_states::{JobStates, Progress};
 use crate::kept::Counts;
-use crate::lookups::find_job;
+use crate::lookups::{find_job, job_place, rows_of_job, rows_stand_together};
 use fts_index::Loads;
 use fts_index::laws::{counts_go_by_one, dues_of_a_changed_row};
-use fts_states::overdue_from;
-use fts_tables::{FileRow, JobRow};
+use fts_states::{job_state, overdue_from};
+use fts_tables::{FileRow, JobKind, JobRow, JobState};
 
 /// What a row counts for: whether it waits or runs, and the moment from which it is overdue, where it waits and its job limits its time.
 #[derive(Clone, Copy)]
@@ -61,6 +66,82 @@ pub fn recount(counts: &mut Counts, jobs: &[JobRow], rows: &[FileRow], place: us
     let row = &rows[place];
     recount_load(&mut counts.loads, was.live, row);
     counts.dues.change(row.id, was.due, due_from(jobs, row));
+    restate(&mut counts.states, jobs, rows, place, was.live);
+}
+
+/// Lets the job of the row at a place stand as its rows say, where that row has changed since it was live, or wasn't.
+fn restate(states: &mut JobStates, jobs: &[JobRow], rows: &[FileRow], place: usize, was_live: bool)
+    requires jobs_numbered { AreNumberedFrom (λ job. job.number) 1 jobs.now }
+    requires rows_numbered { AreNumberedFrom (λ row. row.id) 1 rows.now }
+    requires inside { place < length rows.now }
+    requires few { length rows.now ≤ MAX_ROWS }
+    requires before { AreStatesBefore jobs.now rows.now place was_live states.old }
+    ensures states { AreStatesOf jobs.now rows.now states.new }
+{
+    rows_stand_together();
+    let row = &rows[place];
+    match job_place(jobs, row.job) {
+        Some(at) => {
+            let job = &jobs[at];
+            let before = states.get(at as u32);
+            let now = progress_after(before, job, rows, place, was_live);
+            states.set(at as u32, now);
+        }
+        None => {}
+    }
+}
+
+/// How a job stands behind a change of its row at a place, which was live before it, or wasn't.
+fn progress_after(
+    before: Progress,
+    job: &JobRow,
+    rows: &[FileRow],
+    place: usize,
+    was_live: bool,
+) -> Progress
+    requires inside { place < length rows.now }
+    requires few { length rows.now ≤ MAX_ROWS }
+    requires together { StandTogether rows.now job.now }
+    requires own { (row : FileRow) → slice_get rows.now place ≡ Some row → row.job ≡ job.now.number }
+    requires live { (row : FileRow) → slice_get rows.now place ≡ Some row → before.live + (if is_live row.state then 1 else 0)
+        ≡ count_by (is_live_of job.now.number) rows.now + (if was_live then 1 else 0) }
+    ensures progress { result ≡ progress_of rows.now job.now }
+{
+    let is_live = rows[place].state.is_live();
+    let live = before.live + one_if(is_live) - one_if(was_live);
+    Progress {
+        state: state_after(rows, place, job, live),
+        live,
+    }
+}
+
+/// One where something is so.
+fn one_if(is_so: bool) -> u32
+    ensures one { result ≡ (if is_so then 1 else 0) }
+{
+    if is_so { 1 } else { 0 }
+}
+
+/// The state of a job that has so many live rows, behind a change of its row at a place: where that has begun, it is known without a look at the others.
+fn state_after(rows: &[FileRow], place: usize, job: &JobRow, live: u32) -> JobState
+    requires inside { place < length rows.now }
+    requires together { StandTogether rows.now job.now }
+    requires own { (row : FileRow) → slice_get rows.now place ≡ Some row → row.job ≡ job.now.number }
+    requires live { live ≡ count_by (is_live_of job.now.number) rows.now }
+    ensures state { result ≡ state_of_job job.now.kind (rows_of_job rows.now job.now.number) }
+{
+    if live != 0 && has_begun(&rows[place]) {
+        JobState::Active
+    } else {
+        job_state(rows_of_job(rows, job), job.kind)
+    }
+}
+
+/// Whether a file runs or is settled.
+fn has_begun(row: &FileRow) -> bool
+    ensures answer { result ≡ (is_active row.now.state || is_settled row.now.state) }
+{
+    row.state.is_active() || row.state.is_settled()
 }
 
 /// Counts a row's link anew, given whether the row was live before.
@@ -91,4 +172,24 @@ pub fn count_new(loads: &mut Loads, rows: &[FileRow])
     for row in rows {
         recount_load(loads, false, row);
     }
+}
+
+/// How a new job of a kind stands, by its rows.
+pub fn progress_of_new(rows: &[FileRow], kind: JobKind) -> Progress
+    requires some { 0 < length rows.now }
+    requires few { length rows.now ≤ MAX_ROWS }
+    ensures progress { result ≡ record { state = state_of_job kind rows.now; live = count_live rows.now } }
+{
+    Progress {
+        state: job_state(rows, kind),
+        live: count_live(rows),
+    }
+}
+
+/// How many rows wait or run.
+fn count_live(rows: &[FileRow]) -> u32
+    requires few { length rows.now ≤ MAX_ROWS }
+    ensures count { result ≡ count_live rows.now }
+{
+    rows.iter().filter(|row| row.state.is_live()).count() as u32
 }

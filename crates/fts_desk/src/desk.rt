@@ -8,12 +8,14 @@ ghost use Rattle.fts_tables.specs.Laws.{IsStanding};
 ghost use Rattle.fts_tables.specs.Step.{step};
 ghost use Rattle.fts_tables.specs.declared.limits.TheConstants.{MAX_JOBS, MAX_ROWS, MAX_COMMANDS};
 ghost use Rattle.fts_desk.specs.DeskData.{state_at, held_at};
+ghost use Rattle.fts_desk.specs.JobsIn.{next_asked, count_in_state};
 ghost use Rattle.fts_desk.specs.Prepared.{IsPrepared};
 
-use crate::answers::{held_on_link, rows_of_number, state_of};
+use crate::answers::{count_in_state, held_on_link, next_in_states, rows_of_number, state_of};
 use crate::bounds::steps_keep_bounds;
 use crate::commands::{Decided, decide, make_step};
 use crate::find::number_of_id;
+use crate::job_states::{JOB_STATES, JobStates};
 use crate::kept::{Beside, Counts, Kept};
 use crate::lookups::{find_job, find_row};
 use fts_index::{Dues, JobIds, Loads};
@@ -94,6 +96,7 @@ impl Desk {
                     counts: Counts {
                         loads: Loads::new(alloc),
                         dues: Dues::new(alloc),
+                        states: JobStates::new(alloc),
                     },
                     parts: None,
                 },
@@ -213,6 +216,21 @@ impl Desk {
         ensures { result ≡ state_at self.now.tables job }
     {
         state_of(&self.kept, job)
+    }
+
+    /// The first job behind so many, in order of number, that is in one of these states, which are told by their ranks (`rank`). None exactly where there
+    /// is none.
+    pub fn next_job(&self, asked: &[bool; JOB_STATES], behind: u32) -> Option<&JobRow>
+        ensures job { option_map (λ job. job.now) result ≡ next_asked self.now.tables asked.now behind }
+    {
+        next_in_states(&self.kept, asked, behind)
+    }
+
+    /// How many jobs are in a state.
+    pub fn count_jobs(&self, state: JobState) -> usize
+        ensures count { result ≡ count_in_state self.now.tables state }
+    {
+        count_in_state(&self.kept, state)
     }
 
     /// How many ACTIVE files a link has, by the places of its ends in the settings, from 0. Where there are no such places it has none.

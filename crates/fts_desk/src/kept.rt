@@ -4,6 +4,7 @@ ghost use Rattle.std.specs.Prelude.{◌≡◌, map};
 ghost use Rattle.fts_desk.specs.Parts.{limits_of, flags_in, IsBeside};
 ghost use Rattle.fts_desk.specs.Props.{beside_props};
 
+use crate::job_states::JobStates;
 use fts_claims::ClaimParts;
 use fts_index::{Dues, JobIds, Loads};
 use fts_tables::{EndpointName, FileRow, JobRow, Settings};
@@ -56,14 +57,19 @@ impl Drop for Beside {
     }
 }
 
-/// What is counted of the rows: how many wait or run on each link, and from when each that waits is overdue.
+/// What is counted of the rows: how many wait or run on each link, from when each that waits is overdue, and how their jobs stand.
 pub struct Counts {
     pub loads: Loads,
     pub dues: Dues,
+    pub states: JobStates,
 }
 
 impl Drop for Counts {
     fn drop(self) {
-        let Counts { loads: _, dues: _ } = self;
+        let Counts {
+            loads: _,
+            dues: _,
+            states: _,
+        } = self;
     }
 }

@@ -14,6 +14,7 @@ mod counts;
 mod desk;
 mod expiries;
 mod find;
+mod job_states;
 mod kept;
 mod lookups;
 mod parts;
@@ -26,4 +27,5 @@ mod submit;
 mod waking;
 
 pub use desk::{Desk, DeskFault, Plan};
+pub use job_states::{JOB_STATES, rank};
 pub use submit::standard_id;

@@ -2,11 +2,12 @@
 //! All rows of a plain job wait, of a multihop job the first, of a replica job the first in order or the one of the least load.
 //! Loads count the rows that were there before the submission.
 //! `make_room` refuses an id that a job has and what would pass the limits, and takes all the memory that `submit` needs. The new rows count
-//! among the loads and the moments once they all stand.
+//! among the loads and the moments once they all stand (`come_in`), and the job then stands as they say.
 ghost use Rattle.std.specs.Prelude.{
   ◌≡◌,
   ℕ,
   ◌+◌,
+  ◌<◌,
   ◌≤◌,
   ◌++◌,
   List,
@@ -40,12 +41,14 @@ ghost use Rattle.fts_tables.specs.declared.rows.JobRow.{JobRow};
 ghost use Rattle.fts_desk.specs.Counted.{AreCountsOf, HasRoomForDues};
 ghost use Rattle.fts_desk.specs.Kept.{tables_kept, IsWithinLimits, HasRoomForFiles, IsRoomFor};
 ghost use Rattle.fts_desk.specs.Loaded.{AreLoadsOf, are_known, link_of_file};
+ghost use Rattle.fts_desk.specs.Parts.{limits_of, IsBeside};
 ghost use Rattle.fts_desk.specs.Prepared.{IsPrepared};
+ghost use Rattle.fts_desk.specs.Submitted.{HasComeIn};
 
 use crate::DeskFault;
-use crate::counts::count_new;
+use crate::counts::{count_new, progress_of_new};
 use crate::find::seek_number;
-use crate::kept::{Counts, Kept};
+use crate::kept::{Beside, Counts, Kept};
 use crate::parts::{make_room_for_files, wait_from};
 use crate::sources::next_source;
 use crate::waking::wake_at;
@@ -126,13 +129,16 @@ fn make_room_for(kept: &mut Kept, hours: u32, files: &[NewFile]) -> Result<(), D
     }
 }
 
-/// Makes room for files among the loads, and among the moments where their job limits their hours. What is counted stays.
+/// Makes room for a job's files among the loads, for the job among those in each state, and for its files among the moments where it limits their hours.
+/// What is counted stays.
 fn count_later(counts: &mut Counts, hours: u32, files: &[NewFile]) -> Result<(), Memory>
     ensures counts { (jobs : List JobRow) (rows : List FileRow) → AreCountsOf jobs rows counts.old → AreCountsOf jobs rows counts.new }
     ensures known { OnOk result (are_known counts.new.loads (map link_of_file files.now) ≡ true) }
     ensures room { OnOk result (HasRoomForDues hours (length files.now) counts.new.dues) }
+    ensures states { OnOk result (length counts.new.states.jobs < counts.new.states.room) }
 {
     know_links(&mut counts.loads, files)?;
+    counts.states.make_room()?;
     if hours == 0 {
         Ok(())
     } else {
@@ -178,19 +184,6 @@ pub fn submit(kept: &mut Kept, now: u64, job: NewJob) -> Answer
     } = job;
     let id = id_of_new(id, number);
     let files = files.into_vec();
-    let count = files.len() as u32;
-    let beside = &mut kept.beside;
-    add_rows_of_kind(
-        &mut kept.rows,
-        number,
-        kind,
-        strategy,
-        files,
-        &beside.counts.loads,
-    );
-    count_new(&mut beside.counts.loads, &kept.rows[from..]);
-    kept.ids.add(id);
-    jobs_more_stay_tied();
     let row = JobRow {
         number,
         id,
@@ -203,17 +196,29 @@ pub fn submit(kept: &mut Kept, now: u64, job: NewJob) -> Answer
         queue_hours,
         submitted_at: kept.moment,
         first: from as u32 + 1,
-        count,
+        count: files.len() as u32,
     };
+    add_rows_of_kind(&mut kept.rows, &row, files, &kept.beside.counts.loads);
+    kept.ids.add(id);
     kept.jobs.push_reserved(row);
+    come_in(&mut kept.beside, &kept.jobs, &kept.rows, from, &row);
+    Answer::Submitted { job: number, id }
+}
+
+/// Lets the last job come in beside the others, with its rows, which are those from a place on.
+fn come_in(beside: &mut Beside, jobs: &[JobRow], rows: &[FileRow], from: usize, job: &JobRow)
+    requires added { HasComeIn jobs.now rows.now from job.now beside.old }
+    ensures beside { IsBeside jobs.now rows.now beside.new }
+    ensures limits { limits_of beside.new.parts ≡ limits_of beside.old.parts }
+{
+    jobs_more_stay_tied();
     dues_of_other_jobs();
     dues_of_new_rows();
-    beside
-        .counts
-        .dues
-        .add_rows(&kept.rows[from..], overdue_from(&row));
-    wait_from(&mut beside.parts, &kept.jobs, &kept.rows, from);
-    Answer::Submitted { job: number, id }
+    let added = &rows[from..];
+    count_new(&mut beside.counts.loads, added);
+    beside.counts.dues.add_rows(added, overdue_from(job));
+    beside.counts.states.add(progress_of_new(added, job.kind));
+    wait_from(&mut beside.parts, jobs, rows, from);
 }
 
 /// The id of a new job: the one that it was given, or the standard one.
@@ -226,27 +231,20 @@ fn id_of_new(given: Option<u128>, number: u32) -> u128
     }
 }
 
-/// Adds the rows of a job of a kind, for which there is room.
-fn add_rows_of_kind(
-    rows: &mut Vec<FileRow>,
-    job: u32,
-    kind: JobKind,
-    strategy: Strategy,
-    files: Vec<NewFile>,
-    loads: &Loads,
-)
+/// Adds the rows of a job by its kind, for which there is room.
+fn add_rows_of_kind(rows: &mut Vec<FileRow>, job: &JobRow, files: Vec<NewFile>, loads: &Loads)
     requires loaded { AreLoadsOf rows.old.items loads.now }
     requires room { length rows.old.items + length files.items ≤ vec_capacity rows.old }
     requires few { length rows.old.items + length files.items ≤ MAX_ROWS }
     requires files { length files.items ≤ MAX_FILES }
-    ensures rows { (new : JobData) → new.files ≡ files.items → new.strategy ≡ strategy
-        → rows.new.items ≡ rows.old.items ++ rows_of_kind kind rows.old.items job (length rows.old.items + 1) new }
+    ensures rows { (new : JobData) → new.files ≡ files.items → new.strategy ≡ job.now.strategy
+        → rows.new.items ≡ rows.old.items ++ rows_of_kind job.now.kind rows.old.items job.now.number (length rows.old.items + 1) new }
     ensures count { length rows.new.items ≡ length rows.old.items + length files.items }
 {
-    match kind {
-        JobKind::Plain => add_rows(rows, job, FileState::Submitted, files),
-        JobKind::Multihop => add_hops(rows, job, files),
-        JobKind::Replica => add_sources(rows, job, strategy, files, loads),
+    match job.kind {
+        JobKind::Plain => add_rows(rows, job.number, FileState::Submitted, files),
+        JobKind::Multihop => add_hops(rows, job.number, files),
+        JobKind::Replica => add_sources(rows, job.number, job.strategy, files, loads),
     }
 }
 

@@ -4,6 +4,7 @@ pub mod Taken
 pub mod Crosses
 pub mod Numbered
 pub mod Listed
+pub mod Sought
 pub mod Changed
 pub mod Priorities
 pub mod Coming

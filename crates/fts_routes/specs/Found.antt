@@ -1,12 +1,8 @@
 -- What code has at hand of a route, a path and a query.
-use Rattle.std.specs.Prelude.{ℕ, if◌then◌else◌, List, Option, Some, None}
+use Rattle.std.specs.Prelude.{ℕ, List, Option, Some, None}
 use Rattle.matchit.specs.Params.{walk}
 use Rattle.matchit.specs.declared.params.Params.{Params}
-use Rattle.fts_routes.specs.Queries.{job_states, between_commas, is_one_of}
-use Rattle.serde_json.specs.Data.{Data}
-use Rattle.fts_tables.specs.Tables.{Tables}
-use Rattle.fts_tables.specs.declared.rows.JobRow.{JobRow}
-use Rattle.fts_routes.specs.Objects.{job_object, job_state_text, state_in}
+use Rattle.fts_routes.specs.Queries.{job_states, between_commas}
 use Rattle.fts_routes.specs.Routes.{Route, Jobs, Job, Files, File, Links, Endpoints, Shares, Bans, JournalEntry}
 use Rattle.fts_routes.specs.declared.paths.Route.{Route as Found}
 use Rattle.fts_routes.specs.declared.paths.Route.TheVariants.{Jobs as FoundJobs, Job as FoundJob, Files as FoundFiles, File as FoundFile, Links as FoundLinks, Endpoints as FoundEndpoints, Shares as FoundShares, Bans as FoundBans, JournalEntry as FoundEntry}
@@ -31,7 +27,3 @@ told taken = walk taken.pattern.now taken.text.now taken.path.now taken.names.no
 abbrev pub states_asked : Option (List ℕ) → List (List ℕ)
 states_asked None = job_states
 states_asked (Some text) = between_commas text
-
--- a job's object, where the job is in one of these states
-abbrev pub shown_if_asked : Tables → List (List ℕ) → JobRow → Option Data
-shown_if_asked tables states job = if is_one_of states (job_state_text (state_in tables job)) then Some (job_object tables job) else None

@@ -1,22 +1,23 @@
 //! Looks: what is shown of the tables, which stay as they are.
-//! A job and its files are looked up and not searched for; a list of jobs is walked up to its limit.
-ghost use Rattle.std.specs.Prelude.{◌≡◌, ◌++◌, Some, IfOk, OnOk, IsSome, option_map};
-ghost use Rattle.std.specs.Option.{option_copied, option_to_list};
+//! A job and its files are looked up and not searched for; a list of jobs in some states goes from one to the next up to its limit.
+ghost use Rattle.std.specs.Prelude.{◌≡◌, ◌++◌, ◌∷◌, [], nat_lt, if◌then◌else◌, Some, None, IfOk, OnOk, IsSome, option_map};
+ghost use Rattle.std.specs.Option.{option_copied};
 ghost use Rattle.std.specs.Cow.{cow_str_bytes};
 ghost use Rattle.serde_json.specs.View.{view};
 ghost use Rattle.fts_tables.specs.Tables.{job_at};
+ghost use Rattle.fts_desk.specs.JobsIn.{next_asked};
 ghost use Rattle.fts_routes.specs.Json.{array_of};
 ghost use Rattle.fts_routes.specs.Objects.{job_object};
 ghost use Rattle.fts_routes.specs.Queries.{jobs_asked, asked_in, both, states_in, limit_in};
 ghost use Rattle.fts_routes.specs.Refusals.{shows};
-ghost use Rattle.fts_routes.specs.Found.{states_asked, shown_if_asked};
+ghost use Rattle.fts_routes.specs.Found.{states_asked};
 ghost use Rattle.fts_routes.specs.Replies.{Replies, jobs_plan};
 
 use crate::named::{settings_of, state_of};
 use crate::objects::{Shown, array_value, job_value};
-use crate::queries::{are_known, bytes_of, first_value, is_asked, limit_of};
+use crate::queries::{are_known, asked_states, bytes_of, first_value, limit_of};
 use crate::replies::{bad_limit, bad_states, shows};
-use fts_desk::Desk;
+use fts_desk::{Desk, JOB_STATES};
 use fts_tables::{JobRow, Memory};
 use fts_wire::Reply;
 use serde_json::Value;
@@ -103,6 +104,7 @@ fn list_jobs(
     shows(alloc, &value)
 }
 
+/// The values of the first so many jobs in these states: no job in another state is looked at.
 fn value_of_jobs(
     alloc: Global,
     desk: &Desk,
@@ -114,45 +116,39 @@ fn value_of_jobs(
         (jobs_asked desk.now.tables (states_asked (option_map cow_str_bytes states.now)) limit)) }
 {
     desk.standing();
+    let asked = asked_states(states);
     let mut list = Vec::new(alloc);
-    for job in desk.jobs() {
-        if list.as_slice().len() as u64 >= limit {
-            break;
-        }
-        let value = value_if_asked(alloc, desk, states, job)?;
+    let mut behind = 0;
+    while let Some(job) = next_shown(desk, &asked, behind, list.as_slice().len(), limit) {
+        let value = value_of_job(alloc, desk, job)?;
         add(&mut list, value)?;
+        behind = job.number;
     }
     Ok(Value::Array(list))
 }
 
-/// Appends a value, where there is one.
-fn add(list: &mut Vec<Value>, value: Option<Value>) -> Result<(), Memory>
-    ensures { OnOk result (list.new.items ≡ list.old.items ++ option_to_list value) }
+/// The next job in one of these states, told by their ranks, where so many are shown of so many at most.
+fn next_shown<'a>(
+    desk: &'a Desk,
+    asked: &[bool; JOB_STATES],
+    behind: u32,
+    shown: usize,
+    limit: u64,
+) -> Option<&'a JobRow>
+    ensures job { option_map (λ job. job.now) result ≡ (if nat_lt shown limit then next_asked desk.now.tables asked.now behind else None) }
 {
-    match value {
-        None => Ok(()),
-        Some(value) => match list.push(value) {
-            Ok(()) => Ok(()),
-            Err(_) => Err(Memory),
-        },
+    if shown as u64 >= limit {
+        return None;
     }
+    desk.next_job(asked, behind)
 }
 
-/// A job as it stands, where it is in one of these states.
-fn value_if_asked(
-    alloc: Global,
-    desk: &Desk,
-    states: &Option<CowStr<'_>>,
-    job: &JobRow,
-) -> Result<Option<Value>, Memory>
-    requires settings { IsSome desk.now.tables.settings }
-    requires number { job_at desk.now.tables.jobs job.now.number ≡ Some job.now }
-    ensures { IfOk result (λ value. option_map view value ≡ shown_if_asked desk.now.tables (states_asked (option_map cow_str_bytes states.now)) job.now) }
+/// Appends a value.
+fn add(list: &mut Vec<Value>, value: Value) -> Result<(), Memory>
+    ensures { OnOk result (list.new.items ≡ list.old.items ++ value ∷ []) }
 {
-    if is_asked(states, state_of(desk, job)) {
-        let value = value_of_job(alloc, desk, job)?;
-        Ok(Some(value))
-    } else {
-        Ok(None)
+    match list.push(value) {
+        Ok(()) => Ok(()),
+        Err(_) => Err(Memory),
     }
 }

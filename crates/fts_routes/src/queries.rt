@@ -7,11 +7,14 @@ ghost use Rattle.std.specs.Cow.{cow_str_bytes};
 ghost use Rattle.std.specs.List.{list_all};
 ghost use Rattle.form_urlencoded.specs.Form.{raw_pairs};
 ghost use Rattle.fts_tables.specs.Names.{is_digit};
+ghost use Rattle.fts_tables.specs.declared.rows.JobState.{JobState};
+ghost use Rattle.fts_desk.specs.JobLists.{is_among};
 ghost use Rattle.fts_routes.specs.Queries.{first_named, number_in, states_in, limit_in, is_one_of, job_states, between_commas};
 ghost use Rattle.fts_routes.specs.Found.{states_asked};
 ghost use Rattle.fts_routes.specs.Objects.{job_state_text};
 
 use crate::texts::job_state_text;
+use fts_desk::JOB_STATES;
 use fts_tables::{JobState, Memory};
 use std::alloc::Global;
 use std::borrow::CowStr;
@@ -79,8 +82,22 @@ fn is_job_state(word: &[u8]) -> bool
         || word == "CANCELED".as_bytes()
 }
 
+/// Which states are asked for, told by their ranks.
+pub fn asked_states(states: &Option<CowStr<'_>>) -> [bool; JOB_STATES]
+    ensures { (state : JobState) → is_among result state ≡ is_one_of (states_asked (option_map cow_str_bytes states.now)) (job_state_text state) }
+{
+    [
+        is_asked(states, JobState::Submitted),
+        is_asked(states, JobState::Active),
+        is_asked(states, JobState::Finished),
+        is_asked(states, JobState::FinishedDirty),
+        is_asked(states, JobState::Failed),
+        is_asked(states, JobState::Canceled),
+    ]
+}
+
 /// Whether a state is asked for. Where nothing is asked for, each is.
-pub fn is_asked(states: &Option<CowStr<'_>>, state: JobState) -> bool
+fn is_asked(states: &Option<CowStr<'_>>, state: JobState) -> bool
     ensures { result ≡ is_one_of (states_asked (option_map cow_str_bytes states.now)) (job_state_text state) }
 {
     match states {

@@ -1,0 +1,267 @@
+-- How jobs stand, where a row changes at its place and keeps its job: that job stands as its rows say then, and all others as before.
+use Rattle.std.proofs.Common.{◌≡◌, ◌≢◌, ℕ, zero, suc, ◌+◌, ◌<◌, ◌≤◌, Bool, true, false, cond, List, [], ◌∷◌, length, map, get_or, set, Option, Some, None, refl, ap, sym, ◌∙◌, subst, arith, inl, inr}
+use Rattle.std.specs.Prelude.{not, ◌&&◌, ◌||◌, ◌==◌, count_by, filter, slice_get, if◌then◌else◌}
+use Rattle.std.specs.List.{list_any}
+use Rattle.std.proofs.lemmas.Bool.{eq-eqb, eqb-true, ne_eqb}
+use Rattle.std.proofs.lemmas.Option.{same_Some, slice_get_cases, slice_get-get_or}
+use Rattle.std.proofs.lemmas.List.Sums.{sum_by-cons, count_by-le-length}
+use Rattle.fts_tables.specs.Tables.{AreNumberedFrom, AreFirstsFrom, RowsFollow, is_live, is_active, is_settled, is_canceled, job_at, rows_of_job}
+use Rattle.fts_tables.specs.Moves.{settled_state, state_of_job}
+use Rattle.fts_tables.specs.declared.rows.FileRow.{FileRow}
+use Rattle.fts_tables.specs.declared.rows.JobRow.{JobRow}
+use Rattle.fts_tables.specs.declared.rows.JobKind.{JobKind}
+use Rattle.fts_tables.specs.declared.rows.JobState.{JobState}
+use Rattle.fts_tables.specs.declared.rows.JobState.TheVariants.{Submitted, Active, Canceled}
+use Rattle.fts_desk.specs.Counted.{is_live_of, progress_of, AreStatesOf}
+use Rattle.fts_desk.specs.JobLists.{JobList}
+use Rattle.fts_desk.proofs.Numbered.{number_at}
+use Rattle.fts_desk.specs.declared.job_states.Progress.{Progress}
+
+-- the first item and the others
+pub count_by-cons : {Item : Type 0} (test : Item → Bool) (item : Item) (items : List Item)
+    → count_by test (item ∷ items) ≡ cond (test item) 1 0 + count_by test items
+count_by-cons test item items = sum_by-cons (λ other. cond (test other) 1 0) item items
+
+-- an item that changes counts for itself, in place of what stood there
+pub count_by-set : {Item : Type 0} (test : Item → Bool) (items : List Item) (place : ℕ) (before after : Item) → slice_get items place ≡ Some before
+    → count_by test (set items place after) + cond (test before) 1 0 ≡ count_by test items + cond (test after) 1 0
+count_by-set test [] place before after at = cc
+count_by-set test (item ∷ items) zero before after at =
+    let same : ◌≡◌ {A = ℕ} (cond (test item) 1 0) (cond (test before) 1 0) = ap (λ some. cond (test some) 1 0) (same_Some item before at) in
+    omega (arith, count_by-cons test item items, count_by-cons test after items, same)
+count_by-set test (item ∷ items) (suc place) before after at =
+    omega (arith, count_by-cons test item items, count_by-cons test item (set items place after), count_by-set test items place before after at)
+
+-- the jobs of the rows stay
+owners-set : (rows : List FileRow) (place : ℕ) (row after : FileRow) → slice_get rows place ≡ Some row → after.job ≡ row.job
+    → map (λ (row : FileRow). row.job) (set rows place after) ≡ map (λ (row : FileRow). row.job) rows
+owners-set [] place row after at same = cc
+owners-set (first ∷ rows) zero row after at same =
+    ap (λ job. job ∷ map (λ (row : FileRow). row.job) rows) (same ∙ ap (λ (row : FileRow). row.job) (sym (same_Some first row at)))
+owners-set (first ∷ rows) (suc place) row after at same = ap (λ jobs. first.job ∷ jobs) (owners-set rows place row after at same)
+
+-- the rows of another job stay
+others-set : (rows : List FileRow) (place number : ℕ) (row after : FileRow) → slice_get rows place ≡ Some row → after.job ≡ row.job
+    → (row.job == number) ≡ false → rows_of_job (set rows place after) number ≡ rows_of_job rows number
+others-set [] place number row after at same apart = cc
+others-set (first ∷ rows) zero number row after at same apart =
+    ap (λ job. cond (job == number) (after ∷ rows_of_job rows number) (rows_of_job rows number)) same
+    ∙ (ap (λ answer. cond answer (after ∷ rows_of_job rows number) (rows_of_job rows number)) apart
+    ∙ sym (ap (λ job. cond (job == number) (first ∷ rows_of_job rows number) (rows_of_job rows number)) (ap (λ (row : FileRow). row.job) (same_Some first row at))
+    ∙ ap (λ answer. cond answer (first ∷ rows_of_job rows number) (rows_of_job rows number)) apart))
+others-set (first ∷ rows) (suc place) number row after at same apart =
+    ap (λ rest. cond (first.job == number) (first ∷ rest) rest) (others-set rows place number row after at same apart)
+
+-- how a job stands, by its state and its live rows
+pub as_they_are : (state other : JobState) (live more : ℕ) → state ≡ other → live ≡ more
+    → ◌≡◌ {A = Progress} (record { state = state; live = live }) (record { state = other; live = more })
+as_they_are state other live more same count =
+    ap (λ some. record { state = some; live = live }) same ∙ ap (λ some. record { state = other; live = some }) count
+
+-- a job of another number stands as before
+other_stands : (rows : List FileRow) (place : ℕ) (row after : FileRow) (job : JobRow) → slice_get rows place ≡ Some row → after.job ≡ row.job
+    → (row.job == job.number) ≡ false → progress_of (set rows place after) job ≡ progress_of rows job
+other_stands rows place row after job at same apart =
+    as_they_are (state_of_job job.kind (rows_of_job (set rows place after) job.number)) (state_of_job job.kind (rows_of_job rows job.number))
+    (count_by (is_live_of job.number) (set rows place after)) (count_by (is_live_of job.number) rows)
+    (ap (state_of_job job.kind) (others-set rows place job.number row after at same apart))
+    (omega (
+      arith,
+      count_by-set (is_live_of job.number) rows place row after at,
+      not_counted row apart,
+      not_counted after (ap (λ some. some == job.number) same ∙ apart),
+    ))
+  where
+    not_counted : (some : FileRow) → (some.job == job.number) ≡ false → ◌≡◌ {A = ℕ} (cond (is_live_of job.number some) 1 0) 0
+    not_counted some is = ap (λ answer. cond (answer && is_live some.state) 1 0) is
+
+-- where all jobs of other numbers stand as before
+module _ (number : ℕ) (one other : JobRow → Progress) (apart : (job : JobRow) → (number == job.number) ≡ false → one job ≡ other job) where
+  -- jobs of greater numbers do
+  behind_stand : (start : ℕ) (jobs : List JobRow) → AreNumberedFrom (λ job. job.number) start jobs → number < start → map one jobs ≡ map other jobs
+  behind_stand start [] numbered less = refl
+  behind_stand start (job ∷ jobs) numbered less =
+      ap (λ head. head ∷ map one jobs) (apart job (ne_eqb number job.number (λ same. omega (arith, same, numbered.0, less))))
+      ∙ ap (λ rest. other job ∷ rest) (behind_stand (suc start) jobs numbered.1 (omega (arith, less)))
+
+  -- all do where no job has the number
+  pub none_stands : (jobs : List JobRow) → job_at jobs number ≡ None → map one jobs ≡ map other jobs
+  none_stands [] none = refl
+  none_stands (job ∷ jobs) none = by_head (none_stands jobs) (job.number == number) refl none
+    where
+      flipped : (job.number == number) ≡ false → (number == job.number) ≡ false
+      flipped is = ne_eqb number job.number (λ same. clash (sym (eq-eqb job.number number (sym same)) ∙ is))
+        where
+          clash : true ≡ false → ⊥
+          clash same = cc
+
+      by_head : (job_at jobs number ≡ None → map one jobs ≡ map other jobs) → (answer : Bool) → (job.number == number) ≡ answer
+          → cond answer (Some job) (job_at jobs number) ≡ None → one job ∷ map one jobs ≡ other job ∷ map other jobs
+      by_head behind true same at = cc
+      by_head behind false is at =
+          ap (λ head. head ∷ map one jobs) (apart job (flipped is)) ∙ ap (λ rest. other job ∷ rest) (behind at)
+
+  -- and the job of the number stands as it does then
+  pub one_stands : (start : ℕ) (jobs : List JobRow) (at : ℕ) (job : JobRow) → AreNumberedFrom (λ job. job.number) start jobs → number ≡ start + at
+      → slice_get jobs at ≡ Some job → set (map one jobs) at (other job) ≡ map other jobs
+  one_stands start [] at job numbered is there = cc
+  one_stands start (head ∷ jobs) zero job numbered is there =
+      ap (λ some. other some ∷ map one jobs) (sym (same_Some head job there))
+      ∙ ap (λ rest. other head ∷ rest) (behind_stand (suc start) jobs numbered.1 (omega (arith, is)))
+  one_stands start (head ∷ jobs) (suc at) job numbered is there =
+      ap (λ some. some ∷ set (map one jobs) at (other job)) (apart head (ne_eqb number head.number (λ same. omega (arith, same, numbered.0, is))))
+      ∙ ap (λ rest. other head ∷ rest) (one_stands (suc start) jobs at job numbered.1 (omega (arith, is)) there)
+
+-- what stands at a place of a mapped list
+pub mapped_at : {One Other : Type 0} (change : One → Other) (items : List One) (place : ℕ) (item : One) → slice_get items place ≡ Some item
+    → slice_get (map change items) place ≡ Some (change item)
+mapped_at change [] place item at = cc
+mapped_at change (first ∷ items) zero item at = ap (λ some. Some (change some)) (same_Some first item at)
+mapped_at change (first ∷ items) (suc place) item at = mapped_at change items place item at
+
+-- a row of a job that passes a test, and that some row is counted
+pub any_of_job : (test : FileRow → Bool) (rows : List FileRow) (place number : ℕ) (row : FileRow) → slice_get rows place ≡ Some row → row.job ≡ number
+    → test row ≡ true → list_any test (rows_of_job rows number) ≡ true
+any_of_job test [] place number row at own passes = cc
+any_of_job test (first ∷ rows) zero number row at own passes =
+    let here : (first.job == number) ≡ true = eq-eqb first.job number (ap (λ (row : FileRow). row.job) (same_Some first row at) ∙ own) in
+    ap (λ answer. list_any test (cond answer (first ∷ rows_of_job rows number) (rows_of_job rows number))) here
+    ∙ ap (λ answer. answer || list_any test (rows_of_job rows number)) (ap test (same_Some first row at) ∙ passes)
+any_of_job test (first ∷ rows) (suc place) number row at own passes =
+    by_head (first.job == number) (any_of_job test rows place number row at own passes)
+  where
+    by_head : (answer : Bool) → list_any test (rows_of_job rows number) ≡ true
+        → list_any test (cond answer (first ∷ rows_of_job rows number) (rows_of_job rows number)) ≡ true
+    by_head true behind = ap (λ answer. test first || answer) behind ∙ or_true (test first)
+      where
+        or_true : (answer : Bool) → (answer || true) ≡ true
+        or_true true = refl
+        or_true false = refl
+    by_head false behind = behind
+
+pub any_counted : (rows : List FileRow) (number : ℕ) → count_by (is_live_of number) rows ≢ 0
+    → list_any (λ (row : FileRow). is_live row.state) (rows_of_job rows number) ≡ true
+any_counted [] number some = absurd (some refl)
+any_counted (row ∷ rows) number some =
+    by_head (row.job == number) (any_counted rows number) (λ none. some (count_by-cons (is_live_of number) row rows ∙ none))
+  where
+    by_live : (live : Bool) → (count_by (is_live_of number) rows ≢ 0 → list_any (λ (row : FileRow). is_live row.state) (rows_of_job rows number) ≡ true)
+        → (cond live 1 0 + count_by (is_live_of number) rows ≢ 0)
+        → (live || list_any (λ (row : FileRow). is_live row.state) (rows_of_job rows number)) ≡ true
+    by_live true behind some = refl
+    by_live false behind some = behind (λ none. some (omega (arith, none)))
+
+    by_head : (own : Bool) → (count_by (is_live_of number) rows ≢ 0 → list_any (λ (row : FileRow). is_live row.state) (rows_of_job rows number) ≡ true)
+        → (cond (own && is_live row.state) 1 0 + count_by (is_live_of number) rows ≢ 0)
+        → list_any (λ (row : FileRow). is_live row.state) (cond own (row ∷ rows_of_job rows number) (rows_of_job rows number)) ≡ true
+    by_head true behind some = by_live (is_live row.state) behind some
+    by_head false behind some = behind (λ none. some (omega (arith, none)))
+
+-- a job of which some row is live and one has begun is ACTIVE
+active_by : (kind : JobKind) (of_job : List FileRow) → list_any (λ (row : FileRow). is_live row.state) of_job ≡ true
+    → list_any (λ (row : FileRow). is_active row.state || is_settled row.state) of_job ≡ true → state_of_job kind of_job ≡ Active
+active_by kind of_job live begun =
+    ap (λ any. cond (not any) (cond (list_any (λ (row : FileRow). is_canceled row.state) of_job) Canceled (settled_state kind of_job))
+    (cond (list_any (λ (row : FileRow). is_active row.state || is_settled row.state) of_job) Active Submitted)) live
+    ∙ ap (λ any. cond any Active Submitted) begun
+
+pub begun_is_active : (kind : JobKind) (rows : List FileRow) (place number : ℕ) (row : FileRow) → slice_get rows place ≡ Some row → row.job ≡ number
+    → (is_active row.state || is_settled row.state) ≡ true → count_by (is_live_of number) rows ≢ 0
+    → Active ≡ state_of_job kind (rows_of_job rows number)
+begun_is_active kind rows place number row at own begun live =
+    sym (active_by kind (rows_of_job rows number) (any_counted rows number live)
+    (any_of_job (λ (row : FileRow). is_active row.state || is_settled row.state) rows place number row at own begun))
+
+-- a row that stands among its job's rows
+pub own_rows : (rows : List FileRow) (place number : ℕ) (row : FileRow) → slice_get rows place ≡ Some row → row.job ≡ number
+    → 0 < length (rows_of_job rows number)
+own_rows [] place number row at own = cc
+own_rows (first ∷ rows) zero number row at own =
+    let here : (first.job == number) ≡ true = eq-eqb first.job number (ap (λ (row : FileRow). row.job) (same_Some first row at) ∙ own) in
+    subst (λ answer. 0 < length (cond answer (first ∷ rows_of_job rows number) (rows_of_job rows number))) (sym here) (omega arith)
+own_rows (first ∷ rows) (suc place) number row at own = by_head (first.job == number) (own_rows rows place number row at own)
+  where
+    by_head : (answer : Bool) → 0 < length (rows_of_job rows number)
+        → 0 < length (cond answer (first ∷ rows_of_job rows number) (rows_of_job rows number))
+    by_head true behind = omega arith
+    by_head false behind = behind
+
+-- so a job has rows where one stands at a place
+pub job_has_rows : (rows : List FileRow) (place number : ℕ) → place < length rows
+    → ((row : FileRow) → slice_get rows place ≡ Some row → row.job ≡ number) → 0 < length (rows_of_job rows number)
+job_has_rows rows place number inside own = elim (slice_get_cases rows place).1 [
+  | inl found ↦ own_rows rows place number found.0 found.2 (own found.0 found.2)
+  | inr past ↦ absurd (omega (arith, past.0, inside))
+]
+
+-- jobs that stood as their rows said before one of them changed
+module _ (jobs : List JobRow) (rows : List FileRow) (place : ℕ) (row before : FileRow) (list : JobList) (numbered : AreNumberedFrom (λ job. job.number) 1 jobs)
+    (at_row : slice_get rows place ≡ Some row) (same : before.job ≡ row.job) (states : AreStatesOf jobs (set rows place before) list) where
+  -- the rows follow the jobs as before
+  pub follow_now : RowsFollow jobs rows
+  follow_now = record { firsts = states.follow.firsts; owners = sym (owners-set rows place row before at_row same) ∙ states.follow.owners }
+
+  -- how many rows of the job are live, with the one that changed
+  pub live_now : (number : ℕ) → row.job ≡ number
+      → count_by (is_live_of number) (set rows place before) + cond (is_live row.state) 1 0 ≡ count_by (is_live_of number) rows + cond (is_live before.state) 1 0
+  live_now number own =
+      omega (arith, count_by-set (is_live_of number) rows place row before at_row, counted row own, counted before (same ∙ own))
+    where
+      counted : (some : FileRow) → some.job ≡ number → ◌≡◌ {A = ℕ} (cond (is_live_of number some) 1 0) (cond (is_live some.state) 1 0)
+      counted some is = ap (λ answer. cond (answer && is_live some.state) 1 0) (eq-eqb some.job number is)
+
+  -- what is kept of the job at a place
+  pub live_kept : (at : ℕ) (job : JobRow) (kept : Progress) → slice_get jobs at ≡ Some job → slice_get list.jobs at ≡ Some kept
+      → kept.live ≡ count_by (is_live_of job.number) (set rows place before)
+  live_kept at job kept there is =
+      ap (λ (progress : Progress). progress.live)
+      (same_Some kept (progress_of (set rows place before) job)
+      (sym is ∙ (ap (λ (all : List Progress). slice_get all at) states.stand ∙ mapped_at (progress_of (set rows place before)) jobs at job there)))
+
+  -- the job stands as it does now
+  pub restated : (at : ℕ) (job : JobRow) (after : JobList) → row.job ≡ at + 1 → slice_get jobs at ≡ Some job
+      → after ≡ record list { jobs = set list.jobs at (progress_of rows job) } → AreStatesOf jobs rows after
+  restated at job after own there is = record {
+    stand = ap (λ (list : JobList). list.jobs) is
+        ∙ (ap (λ (all : List Progress). set all at (progress_of rows job)) states.stand
+        ∙ one_stands row.job (progress_of (set rows place before)) (progress_of rows)
+        (λ job apart. other_stands rows place row before job at_row same apart) 1 jobs at job numbered (omega (arith, own)) there);
+    follow = follow_now;
+  }
+
+  -- the job, read at its place
+  module _ (at : ℕ) (default : JobRow) (inside : at < length jobs) (is : slice_get jobs at ≡ job_at jobs row.job) where
+    abbrev job_read : JobRow
+    job_read = get_or jobs at default
+
+    there_read : slice_get jobs at ≡ Some job_read
+    there_read = slice_get-get_or jobs at default inside
+
+    pub found_read : job_at jobs row.job ≡ Some job_read
+    found_read = sym is ∙ there_read
+
+    pub own_read : row.job ≡ job_read.number
+    own_read = sym (number_at jobs row.job job_read found_read)
+
+    pub live_read : (kept : Progress) (was_live : Bool) → was_live ≡ is_live before.state → slice_get list.jobs at ≡ Some kept → (some : FileRow)
+        → slice_get rows place ≡ Some some
+        → kept.live + cond (is_live some.state) 1 0 ≡ count_by (is_live_of job_read.number) rows + cond was_live 1 0
+    live_read kept was_live was read some at_some =
+        let same_row : some ≡ row = same_Some some row (sym at_some ∙ at_row) in
+        let now : ◌≡◌ {A = ℕ} (cond (is_live some.state) 1 0) (cond (is_live row.state) 1 0) =
+        ap (λ (row : FileRow). cond (is_live row.state) 1 0) same_row in
+        let earlier : ◌≡◌ {A = ℕ} (cond was_live 1 0) (cond (is_live before.state) 1 0) = ap (λ live. cond live 1 0) was in
+        omega (arith, now, earlier, live_kept at job_read kept there_read read, live_now job_read.number own_read)
+
+    pub restated_read : (after : JobList) → row.job ≡ at + 1 → (new : Progress) → new ≡ progress_of rows job_read
+        → after ≡ record list { jobs = set list.jobs at new } → AreStatesOf jobs rows after
+    restated_read after own new now done =
+        restated at job_read after own there_read (done ∙ ap (λ (new : Progress). record list { jobs = set list.jobs at new }) now)
+
+  -- where the row has no job, each stands as before
+  pub restated_none : job_at jobs row.job ≡ None → AreStatesOf jobs rows list
+  restated_none none = record {
+    stand = states.stand ∙ none_stands row.job (progress_of (set rows place before)) (progress_of rows)
+        (λ job apart. other_stands rows place row before job at_row same apart) jobs none;
+    follow = follow_now;
+  }
