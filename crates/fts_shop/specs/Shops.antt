@@ -82,8 +82,8 @@ abbrev pub IsShownOf : ℕ → List ℕ → Type 0
 IsShownOf writer [] = ⊥
 IsShownOf writer (number ∷ spelling) = number ≡ writer
 
--- What no turn of a number does: whether the disk tells its contents stays, its count of faults never falls, and the entry in doubt is none, or the one from
--- before, or one of that number as its writer, and then the count rose.
+-- What is shown behind a turn of a number: whether the disk tells its contents stays, its count of faults never falls, and the entry in doubt is none, or
+-- the one from before, or one of that number as its writer, and then the count rose.
 pub record ShowsOn (number : ℕ) (before after : List ℕ) : Type 0 where
   pub tells : telling_shown after ≡ telling_shown before
   pub counts : faults_shown before ≤ faults_shown after
