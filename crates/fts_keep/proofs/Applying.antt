@@ -224,9 +224,9 @@ module _ {D : Type 0} (state : D → DiskState) (faults : D → ℕ) (old new : 
       by (Err DiskFailed) a = ⊎_elim (λ was. with old.entries old.doubt a.keeps.entries was limit)
           (λ other. ⊎_elim (λ none. with old.entries None a.keeps.entries none alone)
           (λ own. with old.entries (Some entry) a.keeps.entries own (more old.entries entry alone (fits_here a.would))) other)
-          (a.doubt told)
+          (a.doubt)
       by (Err Memory) a = ⊎_elim (λ was. with old.entries old.doubt a.keeps.entries was limit)
-          (λ none. with old.entries None a.keeps.entries none alone) (a.doubt told)
+          (λ none. with old.entries None a.keeps.entries none alone) (a.doubt)
       by (Err (Damaged offset)) a = absurd a
 
 -- where nothing was accepted a keep is of what it was of

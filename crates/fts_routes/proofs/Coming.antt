@@ -32,6 +32,17 @@ refused-step used entry (Ok done) refusal is = by_fit (fits used entry) is
     by_fit true is = absurd (cc)
     by_fit false is = absurd (cc)
 
+-- the entry in doubt stayed, or was settled, whatever was asked for
+pub doubt-stays : (before after : ℕ) (old new : Option Entry) (asked : List Entry) → (new ≡ old) ⊎ (new ≡ None) → DoubtComes before after old new asked []
+doubt-stays before after old new [] stays = stays
+doubt-stays before after old new (entry ∷ more) stays = ⊎_elim (λ same. inl same) (λ none. inr (inl none)) stays
+
+-- an entry that would be accepted came into doubt at most
+doubt-moves : (before after : ℕ) (old new : Option Entry) (tables : Tables) (shown : Tables → Data) (entry : Entry) (applied : Applies) → IsOk applied
+    → DoubtMoves before after old new entry → DoubtComes before after old new (said_by tables shown entry applied).added []
+doubt-moves before after old new tables shown entry (Ok done) good moves = moves
+doubt-moves before after old new tables shown entry (Err fault) good moves = absurd (cc)
+
 module _ {D : Type 0} (state : D → DiskState) (faults : D → ℕ) where
   -- nothing was added, as is said
   unmoved : (old new : KeepData D) (said : Said) (reply : Reply) → new ≡ old → said.added ≡ [] → reply ≡ said.reply → Comes state faults old new said reply
@@ -46,17 +57,6 @@ module _ {D : Type 0} (state : D → DiskState) (faults : D → ℕ) where
     listed = rw (same, none) (sym (append-nil old.entries));
     doubt = rw (same, none) (inl refl);
   }
-
-  -- the entry in doubt stayed, or was settled, whatever was asked for
-  doubt-stays : (before after : ℕ) (old new : Option Entry) (asked : List Entry) → (new ≡ old) ⊎ (new ≡ None) → DoubtComes before after old new asked []
-  doubt-stays before after old new [] stays = stays
-  doubt-stays before after old new (entry ∷ more) stays = ⊎_elim (λ same. inl same) (λ none. inr (inl none)) stays
-
-  -- an entry that would be accepted came into doubt at most
-  doubt-moves : (before after : ℕ) (old new : Option Entry) (tables : Tables) (shown : Tables → Data) (entry : Entry) (applied : Applies) → IsOk applied
-      → DoubtMoves before after old new entry → DoubtComes before after old new (said_by tables shown entry applied).added []
-  doubt-moves before after old new tables shown entry (Ok done) good moves = moves
-  doubt-moves before after old new tables shown entry (Err fault) good moves = absurd (cc)
 
   -- nothing was added, for want of memory
   lacking : (old new : KeepData D) (said : Said) (reply : Reply) → new.entries ≡ old.entries → new.tables ≡ old.tables → new.commands ≡ old.commands → new.used ≡ old.used
@@ -74,7 +74,7 @@ module _ {D : Type 0} (state : D → DiskState) (faults : D → ℕ) where
     doubt = doubt;
   }
 
-  lacking_as_was : (old new : KeepData D) (said : Said) (reply : Reply) → new ≡ old → reply ≡ no_memory → Comes state faults old new said reply
+  pub lacking_as_was : (old new : KeepData D) (said : Said) (reply : Reply) → new ≡ old → reply ≡ no_memory → Comes state faults old new said reply
   lacking_as_was old new said reply same is = lacking old new said reply (ap (λ (keep : KeepData D). keep.entries) same)
       (ap (λ (keep : KeepData D). keep.tables) same) (ap (λ (keep : KeepData D). keep.commands) same) (ap (λ (keep : KeepData D). keep.used) same)
       (doubt-stays (faults old.disk) (faults new.disk) old.doubt new.doubt said.added (inl (ap (λ (keep : KeepData D). keep.doubt) same))) is

@@ -12,8 +12,9 @@ use Rattle.fts_keep.specs.Keeps.{KeepData, IsKeep, Grows, bodies_of}
 use Rattle.fts_keep.specs.Looking.{OnlyLooks}
 use Rattle.fts_routes.specs.Objects.{entry_object}
 use Rattle.fts_routes.specs.Refusals.{shows, no_entry, disk_failed, no_memory}
-use Rattle.fts_routes.specs.Replies.{Said, said_only, entry_reply, AsDefined, WithoutMemory, WithoutDisk, ShowsEntry, AreShown, DoubtHasCause}
+use Rattle.fts_routes.specs.Replies.{Said, said_only, entry_reply, AsDefined, WithoutMemory, WithoutDisk, ShowsEntry, AreShown, DoubtComes, DoubtHasCause}
 use Rattle.fts_routes.specs.Planned.{Comes, LooksAtEntry}
+use Rattle.fts_routes.proofs.Coming.{doubt-stays}
 
 -- an item so many times
 abbrev pub many : {A : Type 0} → ℕ → A → List A
@@ -89,7 +90,12 @@ module _ {D : Type 0} (state : D → DiskState) (faults : D → ℕ) where
       commands = rw none (omega (arith, only.commands));
       used = rw none only.used;
       listed = rw none (only.entries ∙ sym (append-nil old.entries));
+      doubt = rw none (inl only.doubt);
     }
+
+    -- the entry in doubt is the same, whatever was asked for
+    doubt_still : (said : Said) → DoubtComes (faults old.disk) (faults new.disk) old.doubt new.doubt said.added []
+    doubt_still said = doubt-stays (faults old.disk) (faults new.disk) old.doubt new.doubt said.added (inl only.doubt)
 
     -- for want of memory
     without_memory : (said : Said) (reply : Reply) → reply ≡ no_memory → Comes state faults old new said reply
@@ -102,6 +108,7 @@ module _ {D : Type 0} (state : D → DiskState) (faults : D → ℕ) where
       commands = omega (arith, only.commands);
       used = only.used;
       listed = only.entries ∙ sym (append-nil old.entries);
+      doubt = doubt_still said;
     }
 
     -- the disk failed, for a reply that shows an entry
@@ -116,6 +123,7 @@ module _ {D : Type 0} (state : D → DiskState) (faults : D → ℕ) where
       commands = omega (arith, only.commands);
       used = only.used;
       listed = only.entries ∙ sym (append-nil old.entries);
+      doubt = doubt_still said;
     }
 
     -- a reply that was made, or that for want of memory

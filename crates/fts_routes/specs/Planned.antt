@@ -8,7 +8,7 @@ use Rattle.fts_tables.specs.declared.commands.Command.TheVariants.{Restart, Subm
 use Rattle.fts_tables.specs.declared.commands.Refusal.{Refusal}
 use Rattle.fts_tables.specs.declared.commands.Refusal.TheVariants.{NoJob, NoFile, Duplicate, JobsFull, RowsFull, Idle, Stale, Unchanged, NoStorage, NotBanned}
 use Rattle.fts_record.specs.Proper.{has_priority}
-use Rattle.fts_disk.specs.Disk.{DiskState, IsTold}
+use Rattle.fts_disk.specs.Disk.{DiskState}
 use Rattle.fts_wire.specs.Response.{has_phrase, has_methods}
 use Rattle.fts_wire.specs.declared.response.Reply.{Reply}
 use Rattle.fts_keep.specs.Keeps.{KeepData, used_after}

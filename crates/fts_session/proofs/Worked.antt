@@ -1,10 +1,10 @@
 -- Parts of a session, one behind the other: what each adds, what the bench holds, and the store that follows.
-use Rattle.std.proofs.Common.{◌≡◌, inl, inr, refl, ap, sym, ◌∙◌, subst, ℕ, zero, suc, ◌+◌, ◌-◌, ◌≤◌, Bool, true, false, if◌then◌else◌, cond, List, [], ◌∷◌, ◌++◌, length, Option, None, arith, append_assoc, length-append}
+use Rattle.std.proofs.Common.{◌≡◌, inl, inr, refl, ap, sym, ◌∙◌, subst, ℕ, ◌+◌, ◌≤◌, Bool, true, false, if◌then◌else◌, cond, List, [], ◌∷◌, ◌++◌, length, Option, arith, append_assoc, length-append}
 use Rattle.std.proofs.lemmas.List.Sums.{sum_by-append, sum_by-cons}
 use Rattle.fts_tables.specs.Coming.{Coming, Gives}
 use Rattle.fts_tables.specs.Tables.{Tables, empty_tables}
 use Rattle.fts_tables.specs.Step.{step}
-use Rattle.fts_tables.specs.History.{tables_of, tables_from, tables_after, IsAccepted, IsLegal, out_of_list}
+use Rattle.fts_tables.specs.History.{tables_of, tables_from, tables_after, IsAccepted, IsLegal}
 use Rattle.fts_tables.specs.declared.commands.Entry.{Entry}
 use Rattle.fts_tables.specs.declared.commands.Command.{Command}
 use Rattle.fts_tables.specs.declared.commands.Command.TheVariants.{Restart, Submit, CancelJob, CancelFile, SetPriority, Claim, Report, Ban, Unban, Expire}
@@ -14,8 +14,7 @@ use Rattle.fts_keep.specs.Keeps.{KeepData, IsKeep, Grows, KeepsImagesSinceAny, b
 use Rattle.fts_workers.specs.Benches.{BenchData, HoldsActive, held_over, kept_of, newly_held}
 use Rattle.fts_workers.specs.Copies.{Copy, copies_in, copies_from, copies_kept, AreCopied, FollowsReports}
 use Rattle.fts_workers.specs.Requests.{IsOfRequest}
-use Rattle.fts_workers.specs.Rounds.{Walk, IsRound, IsWorkedOver, walk_over, MakesRound, claims_among, is_claim as is_claim_of_round}
-use Rattle.fts_workers.specs.declared.held.Held.{Held}
+use Rattle.fts_workers.specs.Rounds.{Walk, IsRound, IsWorkedOver, MakesRound, claims_among, is_claim as is_claim_of_round}
 use Rattle.fts_workers.specs.declared.ends.RoundEnd.{RoundEnd}
 use Rattle.fts_wire.specs.RequestData.{RequestData}
 use Rattle.fts_wire.specs.declared.response.Reply.{Reply}

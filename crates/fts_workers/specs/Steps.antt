@@ -1,6 +1,6 @@
 -- What the parts of a round do. A part leads from where one thread stands to where it stands then, over whatever list the tables and the bench are of.
 use Rattle.std.specs.Prelude.{◌≡◌, ℕ, ◌-◌, Bool, true, false, List, ◌++◌, length, Option, Result, Ok, Err}
-use Rattle.fts_disk.specs.Disk.{DiskState, IsTold}
+use Rattle.fts_disk.specs.Disk.{DiskState}
 use Rattle.fts_tables.specs.Coming.{Coming}
 use Rattle.fts_tables.specs.History.{tables_from, out_of_list}
 use Rattle.fts_tables.specs.declared.commands.Entry.{Entry}

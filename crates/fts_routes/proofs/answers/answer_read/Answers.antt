@@ -1,5 +1,5 @@
 -- What was planned, and what came of it.
-use Rattle.std.proofs.Common.{ℕ, List, [], subst}
+use Rattle.std.proofs.Common.{ℕ, List, [], refl, subst}
 use Rattle.std.specs.Prelude.{IsTrue}
 use Rattle.fts_tables.specs.Tables.{Tables}
 use Rattle.fts_wire.specs.Answered.{request_data}
@@ -7,7 +7,7 @@ use Rattle.fts_wire.specs.RequestData.{RequestData}
 use Rattle.fts_routes.specs.Replies.{plan_of, said}
 use Rattle.fts_routes.specs.Planned.{IsPlanned, is_decided}
 use Rattle.fts_routes.specs.declared.planned.Planned.TheVariants.{Replies as PlannedReply, Looks as PlannedLook, Tries as PlannedCommand}
-use Rattle.fts_routes.proofs.Coming.{comes-replied, comes-looked, comes-tried, answers, planned-priority}
+use Rattle.fts_routes.proofs.Coming.{comes-replied, comes-looked, comes-tried, answers, lacking_as_was, planned-priority}
 use Rattle.fts_routes.proofs.ReadEntries.{bodies_read, are_shown, grown_none, doubt_same}
 use Rattle.fts_routes.proofs.Sendable.{sendable, said-to, planned, planned-asked}
 use Rattle.fts_routes.proofs.Still.{still, looked_since}
@@ -60,6 +60,14 @@ returns-in-Ok-Tries-clause-phrase g c = (sendable g.D.Disk.state g.D.Disk.faults
 pub returns-in-Ok-Tries-clause-methods : goal.returns-in-Ok-Tries-clause-methods
 returns-in-Ok-Tries-clause-methods g c = (sendable g.D.Disk.state g.D.Disk.faults c.args.keep.now c.try_command.new.keep c.args.writer (request_data c.args.request.now) c.args.now c.try_command.result
     (returns-in-Ok-Tries-clause-answers g c)).methods
+
+pub returns-in-Err-clause-answers : goal.returns-in-Err-clause-answers
+returns-in-Err-clause-answers g c =
+    let bodies = bodies_read g.D.Disk.state g.D.Disk.faults c.args.keep.now [] in
+    answers g.D.Disk.state g.D.Disk.faults c.args.keep.now c.args.keep.now bodies c.args.writer (request_data c.args.request.now) c.args.now c.no_memory.result
+    (are_shown g.D.Disk.state g.D.Disk.faults c.args.keep.now c.desk.ensures.kept [])
+    (lacking_as_was g.D.Disk.state g.D.Disk.faults c.args.keep.now c.args.keep.now
+    (said c.args.keep.now.tables bodies c.args.keep.now.used c.args.writer (request_data c.args.request.now) c.args.now) c.no_memory.result refl c.no_memory.ensures)
 
 pub returns-in-Err-clause-images : goal.returns-in-Err-clause-images
 returns-in-Err-clause-images g c = still g.D.Disk.state g.met.D.Disk.lawful c.args.keep.now c.desk.ensures.kept

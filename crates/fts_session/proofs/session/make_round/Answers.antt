@@ -1,6 +1,6 @@
 -- A round, and the claims in it.
-use Rattle.std.proofs.Common.{ap, ◌+◌, arith}
-use Rattle.fts_session.proofs.Worked.{round_few, works_round}
+use Rattle.std.proofs.Common.{ap, ◌+◌}
+use Rattle.fts_session.proofs.Worked.{works_round}
 use Rattle.fts_session.proofs.session.make_round.Goals as goal
 
 pub returns-clause-works : goal.returns-clause-works
