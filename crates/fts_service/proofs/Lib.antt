@@ -1,4 +1,5 @@
 pub mod Crosses
+mod Doubting
 mod Answering
 mod Lines
 mod Passing

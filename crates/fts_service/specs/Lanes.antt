@@ -1,5 +1,5 @@
 -- Connections over a pass of the lock, and the lanes that serve them one after the other.
-use Rattle.std.specs.Prelude.{◌≡◌, ℕ, ◌-◌, ◌==◌, ◌<◌, ◌≤◌, Bool, true, false, List, [], ◌∷◌, ◌++◌, length, Option, Some, option_map, IfSome, Result, Ok, Err}
+use Rattle.std.specs.Prelude.{◌≡◌, ◌⊎◌, ℕ, ◌-◌, ◌==◌, ◌<◌, ◌≤◌, Bool, true, false, List, [], ◌∷◌, ◌++◌, length, Option, Some, option_map, IfSome, Result, Ok, Err}
 use Rattle.std.specs.Option.{option_map_or}
 use Rattle.fts_tables.specs.Counts.{Rose}
 use Rattle.fts_tables.specs.Coming.{Coming, Gives}
@@ -10,7 +10,7 @@ use Rattle.fts_wire.specs.RequestData.{RequestData}
 use Rattle.fts_wire.specs.declared.response.Reply.{Reply}
 use Rattle.fts_keep.specs.Keeps.{bodies_of, used_of}
 use Rattle.fts_routes.specs.Replies.{Way, Said, said, said_so, CausedBy, IsInsteadOf}
-use Rattle.fts_shop.specs.Shops.{TakesTurn, point, shown_before, faults_shown, telling_shown, KeepsLanes, LaneEnds}
+use Rattle.fts_shop.specs.Shops.{TakesTurn, point, shown_before, doubt_shown, faults_shown, telling_shown, DoubtMovesIn, HasFault, KeepsLanes, LaneEnds}
 use Rattle.fts_session.specs.Connections.{Reading, reading_of, IsConnection}
 use Rattle.fts_service.specs.Doors.{DoorsData, PassThrough}
 use Rattle.fts_session.specs.declared.ends.LineEnd.{LineEnd}
@@ -38,6 +38,13 @@ pub record AreShownIn (shown : List ℕ) (entries : List Entry) (bodies : List (
 abbrev pub said_in : List Entry → List (List ℕ) → ℕ → RequestData → ℕ → Said
 said_in entries bodies writer request now = said (tables_of entries) bodies (used_of entries) writer request now
 
+-- The entry in doubt behind a request, as it is shown, by the entries that it asks to add and those that were added: none behind one that was added, and
+-- else at most that from before the request, or the one that it asks for, and then the disk's count rose.
+abbrev pub DoubtComesIn : Type 0 → List ℕ → List ℕ → List Entry → List Entry → Type 0
+DoubtComesIn rose before after asked (entry ∷ more) = after ≡ []
+DoubtComesIn rose before after (entry ∷ more) [] = DoubtMovesIn rose before after entry
+DoubtComesIn rose before after [] [] = (after ≡ before) ⊎ (after ≡ [])
+
 -- A request was answered in one turn at this moment, over the list before that turn, and its command is all that the turn adds.
 pub record AnsweredInTurn (old new : PassView Entry) (request : RequestData) (now : ℕ) (reply : Reply) : Type 0 where
   pub taken : TakesTurn old new
@@ -52,6 +59,8 @@ pub record AnsweredInTurn (old new : PassView Entry) (request : RequestData) (no
   pub instead : IsInsteadOf way (said_in (point taken) bodies old.number request now)
   pub replies : reply ≡ (said_so way (said_in (point taken) bodies old.number request now)).reply
   pub added : taken.turn.items ≡ (said_so way (said_in (point taken) bodies old.number request now)).added
+  pub doubt : DoubtComesIn (HasFault taken) (doubt_shown (shown_before taken)) (doubt_shown taken.turn.shows)
+      (said_in (point taken) bodies old.number request now).added taken.turn.items
 
 -- a request was answered so at the next moment
 pub record AnswersInTurn (old : Standing) (request : RequestData) (reply : Reply) (new : Standing) : Type 0 where

@@ -14,7 +14,7 @@ use Rattle.fts_disk.specs.declared.disk.Disk as disk
 pub record AnswersIn {D : Type 0} (disks : disk.Ghosts D) (writer : ℕ) (request : RequestData) (now : ℕ)
     (old new : ShopData D) (reply : Reply) : Type 0 where
   pub kept : IsKeep disks.state old.keep
-  pub disk : KeepsDisk disks old.keep new.keep
+  pub disk : KeepsDisk disks writer old.keep new.keep
   pub answers : Answers disks.state disks.faults old.keep new.keep writer request now reply
   pub appends : Appends shop_entries writer_of writer old new
   pub stay : new.lanes ≡ old.lanes

@@ -76,7 +76,7 @@ pub record LaneEnded (base pass : PassView Entry) : Type 0 where
   pub mine : turn.number ≡ base.number
   pub leaves : LeaveLanes base.number base.opening_shows before
   pub one_less : lanes_shown turn.shows ≡ lanes_shown (shown_after base.opening_shows before) - 1
-  pub on : ShowsOn (shown_after base.opening_shows before) turn.shows
+  pub on : ShowsOn base.number (shown_after base.opening_shows before) turn.shows
 
 pub lane_ended : {L : Type 0} (sides : Sides L) (connections : Option ℕ) (old new : Standing) (doors doors_now : DoorsData L) (rose : Type 0) (stop : LaneStop)
     → old.pass.seen ≡ [] → LaneDone sides connections old new doors doors_now rose stop → LaneEnded old.pass new.pass
@@ -104,13 +104,14 @@ lane_ended sides connections old new doors doors_now rose stop unseen done =
       leaves = subst (λ n. LeaveLanes n base.opening_shows seen) number
           (subst (λ l. LeaveLanes between.number l seen) shows (before_leaves ends.taken was.leaves));
       one_less = subst (λ l. lanes_shown ends.taken.turn.shows ≡ lanes_shown (shown_after l seen) - 1) shows ends.one_less;
-      on = subst (λ l. ShowsOn (shown_after l seen) ends.taken.turn.shows) shows ends.taken.on;
+      on = subst (λ n. ShowsOn n (shown_after base.opening_shows seen) ends.taken.turn.shows) number
+          (subst (λ l. ShowsOn between.number (shown_after l seen) ends.taken.turn.shows) shows ends.taken.on);
     }
 
 -- in all turns the lane's last one stands where no other of its own follows
 lane_turns : (number : ℕ) (shown : List ℕ) (before : List (LoggedTurn Entry)) (turn : LoggedTurn Entry) (later : List (LoggedTurn Entry)) → LeaveLanes number shown before
     → turn.number ≡ number → lanes_shown turn.shows ≡ lanes_shown (shown_after shown before) - 1
-    → ShowsOn (shown_after shown before) turn.shows → NoneBy (number ∷ []) later
+    → ShowsOn number (shown_after shown before) turn.shows → NoneBy (number ∷ []) later
     → has_turn number later ≡ false → LaneTurns number shown (before ++ turn ∷ later)
 lane_turns number shown [] turn later leaves mine one_less on none has =
     ((λ is. (one_less ∙ sym (ap (λ b. cond {A = ℕ} b (lanes_shown shown) (lanes_shown shown - 1)) has), on)), none_turns number turn.shows later none)

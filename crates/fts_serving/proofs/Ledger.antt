@@ -27,7 +27,7 @@ use Rattle.fts_shop.specs.Many.{Each}
 use Rattle.fts_shop.specs.Looking.{LeaveLanes, NoneOf}
 use Rattle.fts_shop.specs.Looked.{items_on}
 use Rattle.fts_workers.proofs.Accepted.{legal_front}
-use Rattle.fts_shop.specs.Shops.{ShopData, faults_shown, ShowsOn, flag, is_doubted, lanes_shown, shop_of, shop_shows, writer_of}
+use Rattle.fts_shop.specs.Shops.{ShopData, doubt_bytes, doubt_shown, faults_shown, flag, lanes_shown, shop_of, shop_shows, writer_of}
 use Rattle.fts_shop.specs.Workers.{StationData, WorkerDone, station_data}
 use Rattle.fts_shop.specs.declared.ends.Turn.TheVariants.{Stale}
 use Rattle.fts_shop.specs.declared.ends.WorkerEnd.{WorkerEnd}
@@ -48,9 +48,9 @@ use Rattle.fts_service.specs.declared.lane.Lane.{Lane}
 use Rattle.fts_ledger.specs.Claims.{IsOut, IsOwn, last_claim}
 use Rattle.fts_ledger.specs.Ledger.{AreFresh, FollowsOwn, KeepsItsFiles, KeepsLedger, MayKeep}
 use Rattle.fts_ledger.specs.Reports.{AddsAsked, AddsWork, HasNoRestart, IsUndisturbed, ReportsOwn}
-use Rattle.fts_serving.specs.Ends.{AreAtRest, AreDrained, EndsSure, IsOpenedBy, KeepTheLedger, KeepsOwn, LeavesNothing}
+use Rattle.fts_serving.specs.Ends.{AreAtRest, AreDrained, DoubtBegins, EndsSure, IsOpenedBy, KeepTheLedger, KeepsOwn, LeavesNothing}
 use Rattle.fts_serving.proofs.Last.{HasLast, given_last, last_of, last_or_behind, last_there, none_above, none_among, none_last, not_behind, within}
-use Rattle.fts_serving.proofs.Open.{LaneTurns, Rules, has_turn, none_open, open_all, open_behind, open_lanes, own_turn, none_rises_in, shows_through, there_behind}
+use Rattle.fts_serving.proofs.Open.{LaneTurns, Rules, ShowsLater, doubt_begins, has_turn, none_open, open_all, open_behind, open_lanes, own_turn, none_rises_in, shows_through, there_behind}
 use Rattle.fts_serving.proofs.Own.{asked_none, named_back, none_items}
 use Rattle.fts_serving.proofs.Seats.{At, Seat, all_weaker, booths_given, drop_given, each_idle, each_weaker, each_with, giver_from, seat_at, seats, seen_behind, stations_given}
 use Rattle.fts_serving.specs.Finishes.{NoneRises, RecordPasses}
@@ -101,6 +101,11 @@ same_flag true true is = refl
 same_flag true false is = absurd cc
 same_flag false true is = absurd cc
 same_flag false false is = refl
+
+-- where no entry in doubt is shown, there is none
+unshown : (doubt : Option Entry) → doubt_bytes doubt ≡ [] → doubt ≡ None
+unshown None empty = refl
+unshown (Some entry) empty = absurd cc
 
 -- a moment isn't later than the greater of two
 le_max : (a b : ℕ) → b ≤ max a b
@@ -254,12 +259,12 @@ module _ {D A E C W L : Type 0} (world : World D A E C W L)
   }
 
   -- what is shown behind all turns goes on from what was shown before them
-  shows_all : ShowsOn (shop_shows world.disks (shop_of keep lanes)) (shop_shows world.disks closed)
+  shows_all : ShowsLater (shop_shows world.disks (shop_of keep lanes)) (shop_shows world.disks closed)
   shows_all =
       let opening : first.opening_shows ≡ shop_shows world.disks (shop_of keep lanes) =
       ap (λ (p : PassView Entry). p.opening_shows) serves.locked.first_is ∙ serves.locked.shows in
-      subst (λ l. ShowsOn l (shop_shows world.disks closed)) opening
-      (subst (λ l. ShowsOn first.opening_shows l) (sym serves.ran.history.shown)
+      subst (λ l. ShowsLater l (shop_shows world.disks closed)) opening
+      (subst (λ l. ShowsLater first.opening_shows l) (sym serves.ran.history.shown)
       (shows_through lanes (lanes + workers) first.opening_shows turns rules))
 
   -- so is what is kept of the disk
@@ -267,27 +272,21 @@ module _ {D A E C W L : Type 0} (world : World D A E C W L)
   sure = record {
     told = same_flag (world.disks.state closed.keep.disk).told (world.disks.state keep.disk).told shows_all.tells;
     counts = shows_all.counts;
-    doubt = λ told none. by_rise told none closed.keep.doubt refl;
+    doubt = λ told none. ⊎_elim
+        (λ empty. inl (unshown closed.keep.doubt empty))
+        (λ some. ⊎_elim (λ same. inl (unshown closed.keep.doubt (same ∙ ap doubt_bytes none))) (λ rose. inr rose) some)
+        shows_all.doubt;
   }
+
+  -- and an entry in doubt has its owner
+  owner : keep.doubt ≡ None → (entry : Entry) → closed.keep.doubt ≡ Some entry → DoubtBegins first.opening_shows turns entry
+  owner none entry is = ⊎_elim
+      (λ was. let clash : [] ≡ doubt_bytes (Some entry) = ap doubt_bytes (sym none) ∙ ap doubt_shown (sym opening) ∙ was in absurd cc)
+      (λ begins. begins)
+      (doubt_begins lanes (lanes + workers) first.opening_shows turns rules entry (ap doubt_shown (sym serves.ran.history.shown) ∙ ap doubt_bytes is))
     where
-      by_rise : IsTold (world.disks.state keep.disk) → keep.doubt ≡ None → (doubt : Option Entry) → closed.keep.doubt ≡ doubt
-          → (closed.keep.doubt ≡ None) ⊎ Rose (world.disks.faults keep.disk) (world.disks.faults closed.keep.disk)
-      by_rise told none None is = inl is
-      by_rise told none (Some entry) is =
-          let still : (world.disks.state closed.keep.disk).told ≡ true =
-          same_flag (world.disks.state closed.keep.disk).told (world.disks.state keep.disk).told shows_all.tells ∙ told in
-          let shown : flag (is_doubted (world.disks.state closed.keep.disk).told closed.keep.doubt) ≡ 1 =
-          subst (λ d. flag (is_doubted (world.disks.state closed.keep.disk).told d) ≡ 1) (sym is)
-          (subst (λ t. flag (is_doubted t (Some entry)) ≡ 1) (sym still) refl) in
-          ⊎_elim
-          (λ was. absurd (not_before was))
-          (λ rose. inr rose)
-          (shows_all.doubt shown)
-        where
-          not_before : flag (is_doubted (world.disks.state keep.disk).told keep.doubt) ≡ 1 → ⊥
-          not_before was =
-              let no : flag (is_doubted true None) ≡ 1 =
-              subst (λ t. flag (is_doubted t None) ≡ 1) told (subst (λ d. flag (is_doubted (world.disks.state keep.disk).told d) ≡ 1) none was) in absurd cc
+      opening : first.opening_shows ≡ shop_shows world.disks (shop_of keep lanes)
+      opening = ap (λ (p : PassView Entry). p.opening_shows) serves.locked.first_is ∙ serves.locked.shows
 
   -- where the disk's count didn't rise, it rose in no turn
   pub none_rises_by : (base : ℕ) → base ≤ world.disks.faults keep.disk → (Rose base (world.disks.faults closed.keep.disk) → ⊥)
@@ -602,6 +601,7 @@ module _ {D A E C W L : Type 0} (world : World D A E C W L)
     none_out = none_out;
     nothing_left = nothing_left;
     sure = sure;
+    owner = owner;
   }
 
   -- how they ended that nothing was in the way of

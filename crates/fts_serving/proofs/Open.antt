@@ -1,12 +1,14 @@
 -- Which lanes have turns to come, and how many lanes a lock shows: each lane takes one away in its last turn, and nobody else takes any.
-use Rattle.std.proofs.Common.{◌≡◌, ◌≢◌, refl, sym, ap, ◌∙◌, inl, inr, ⊎_elim, ℕ, zero, suc, ◌+◌, ◌-◌, ◌<◌, ◌≤◌, Bool, true, false, cond, List, [], ◌∷◌, ◌++◌, arith, eq-eqb, eqb-true}
+use Rattle.std.proofs.Common.{◌≡◌, ◌≢◌, refl, sym, ap, ◌∙◌, inl, inr, ⊎_elim, ℕ, zero, suc, ◌+◌, ◌-◌, ◌<◌, ◌≤◌, Bool, true, false, cond, List, [], ◌∷◌, ◌++◌, Some, subst, arith, eq-eqb, eqb-true}
 use Rattle.std.specs.Prelude.{◌⊎◌, ◌==◌, ◌||◌}
 use Rattle.fts_tables.specs.declared.commands.Entry.{Entry}
 use Rattle.fts_turnstile.specs.declared.turn.LoggedTurn.{LoggedTurn}
 use Rattle.fts_turnstile.specs.History.{shown_after, AllGiven, NoneBy}
 use Rattle.fts_shop.specs.Looking.{LeaveLanes}
-use Rattle.fts_shop.specs.Shops.{ShowsOn, faults_shown, lanes_shown, telling_shown}
+use Rattle.fts_shop.specs.Shops.{IsShownOf, ShowsOn, doubt_bytes, doubt_shown, faults_shown, lanes_shown, telling_shown}
+use Rattle.fts_shop.proofs.Took.{rose_wider}
 use Rattle.fts_tables.specs.Counts.{Rose}
+use Rattle.fts_serving.specs.Ends.{DoubtBegins}
 use Rattle.fts_serving.specs.Finishes.{NoneRises}
 
 -- whether a pass has a turn among these
@@ -24,7 +26,7 @@ abbrev pub LaneTurns : ℕ → List ℕ → List (LoggedTurn Entry) → Type 0
 LaneTurns number shown [] = Unit {0}
 LaneTurns number shown (turn ∷ turns) =
     (turn.number ≡ number → (lanes_shown turn.shows ≡ cond {A = ℕ} (has_turn number turns) (lanes_shown shown) (lanes_shown shown - 1))
-    × ShowsOn shown turn.shows) × LaneTurns number turn.shows turns
+    × ShowsOn number shown turn.shows) × LaneTurns number turn.shows turns
 
 -- so do those of each lane, and the others leave the lanes
 pub record Rules (lanes all : ℕ) (shown : List ℕ) (turns : List (LoggedTurn Entry)) : Type 0 where
@@ -106,21 +108,32 @@ not_zero : (n : ℕ) → n ≢ 0 → 1 ≤ n
 not_zero zero unlike = absurd (unlike refl)
 not_zero (suc n) unlike = omega arith
 
+-- what turns of any numbers do: whether the disk tells its contents stays, its count never falls, and an entry comes into doubt only where it rose
+pub record ShowsLater (before after : List ℕ) : Type 0 where
+  pub tells : telling_shown after ≡ telling_shown before
+  pub counts : faults_shown before ≤ faults_shown after
+  pub doubt : (doubt_shown after ≡ []) ⊎ ((doubt_shown after ≡ doubt_shown before) ⊎ Rose (faults_shown before) (faults_shown after))
+
 -- what is shown goes on from what is shown, and then again
-shows_more : (one two three : List ℕ) → ShowsOn one two → ShowsOn two three → ShowsOn one three
+shows_more : {number : ℕ} (one two three : List ℕ) → ShowsOn number one two → ShowsLater two three → ShowsLater one three
 shows_more one two three first second = record {
   tells = second.tells ∙ first.tells;
   counts = omega (arith, first.counts, second.counts);
-  doubt = λ is. ⊎_elim
-      (λ mid. ⊎_elim (λ was. inl was)
-      (λ rose. inr (⊎_elim (λ less. inl (omega (arith, less, second.counts))) (λ most. inr (omega (arith, most, second.counts))) rose)) (first.doubt mid))
-      (λ rose. inr (⊎_elim (λ less. inl (omega (arith, less, first.counts))) (λ most. inr most) rose))
-      (second.doubt is);
+  doubt = ⊎_elim
+      (λ none. inl none)
+      (λ some. ⊎_elim
+      (λ still. ⊎_elim
+      (λ none. inl (still ∙ none))
+      (λ was. inr (⊎_elim (λ same. inl (still ∙ same)) (λ own. inr (rose_wider _ _ _ _ (omega arith) second.counts own.1)) was))
+      first.doubt)
+      (λ rose. inr (inr (rose_wider _ _ _ _ first.counts (omega arith) rose)))
+      some)
+      second.doubt;
 }
 
 -- so does each turn
 turn_shows : (lanes all : ℕ) (shown : List ℕ) (turn : LoggedTurn Entry) (turns : List (LoggedTurn Entry)) → Rules lanes all shown (turn ∷ turns)
-    → ShowsOn shown turn.shows
+    → ShowsOn turn.number shown turn.shows
 turn_shows lanes all shown turn turns rules = ⊎_elim
     (λ high. ((rules.lane turn.number (not_zero turn.number (λ e. rules.none.0 (inl e))) high).0 refl).1)
     (λ above. ((rules.other turn.number above rules.given.0).0 refl).1)
@@ -128,10 +141,43 @@ turn_shows lanes all shown turn turns rules = ⊎_elim
 
 -- and so do all turns
 pub shows_through : (lanes all : ℕ) (shown : List ℕ) (turns : List (LoggedTurn Entry)) → Rules lanes all shown turns
-    → ShowsOn shown (shown_after shown turns)
-shows_through lanes all shown [] rules = record { tells = refl; counts = omega arith; doubt = λ is. inl is }
+    → ShowsLater shown (shown_after shown turns)
+shows_through lanes all shown [] rules = record { tells = refl; counts = omega arith; doubt = inr (inl refl) }
 shows_through lanes all shown (turn ∷ turns) rules = shows_more shown turn.shows (shown_after turn.shows turns) (turn_shows lanes all shown turn turns rules)
     (shows_through lanes all turn.shows turns (rules_behind lanes all shown turn turns rules))
+
+-- an entry in doubt behind all turns was in doubt before them, or came into doubt in a turn of its writer
+pub doubt_begins : (lanes all : ℕ) (shown : List ℕ) (turns : List (LoggedTurn Entry)) → Rules lanes all shown turns → (entry : Entry)
+    → doubt_shown (shown_after shown turns) ≡ doubt_bytes (Some entry)
+    → (doubt_shown shown ≡ doubt_bytes (Some entry)) ⊎ DoubtBegins shown turns entry
+doubt_begins lanes all shown [] rules entry is = inl is
+doubt_begins lanes all shown (turn ∷ turns) rules entry is =
+    ⊎_elim here (λ begins. inr (record {
+      before = turn ∷ begins.before;
+      turn = begins.turn;
+      later = begins.later;
+      is = ap (λ rest. turn ∷ rest) begins.is;
+      shows = begins.shows;
+      own = begins.own;
+      rose = begins.rose;
+    })) (doubt_begins lanes all turn.shows turns (rules_behind lanes all shown turn turns rules) entry is)
+  where
+    here : doubt_shown turn.shows ≡ doubt_bytes (Some entry) → (doubt_shown shown ≡ doubt_bytes (Some entry)) ⊎ DoubtBegins shown (turn ∷ turns) entry
+    here at = ⊎_elim
+        (λ none. let clash : [] ≡ doubt_bytes (Some entry) = sym none ∙ at in absurd cc)
+        (λ some. ⊎_elim
+        (λ same. inl (sym same ∙ at))
+        (λ own. inr (record {
+          before = [];
+          turn = turn;
+          later = turns;
+          is = refl;
+          shows = at;
+          own = subst (IsShownOf turn.number) at own.0;
+          rose = own.1;
+        }))
+        some)
+        (turn_shows lanes all shown turn turns rules).doubt
 
 -- where the count doesn't rise from before the first turn to behind the last, it rises in none
 pub none_rises_in : (lanes all : ℕ) (shown : List ℕ) (turns : List (LoggedTurn Entry)) (base top : ℕ) → Rules lanes all shown turns → base ≤ faults_shown shown

@@ -283,7 +283,7 @@ module _ {D A E C W L : Type 0} (world : World D A E C W L)
         (λ rose. inr (⊎_elim
         (λ less. inl (omega (arith, less, runs.starts.counts, ap world.disks.faults runs.serves.left_is)))
         (λ most. inr (omega (arith, most, ap world.disks.faults runs.serves.left_is))) rose))
-        (kept.sure.doubt (runs.starts.told ∙ told) (runs.starts.own told).no_doubt)
+        (kept.sure.doubt (runs.starts.told ∙ told) runs.starts.settled)
 
     pub kept_where_served : KeptWhereServed world runs.serves.closes
     kept_where_served = by runs.serves.closes

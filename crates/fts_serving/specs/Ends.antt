@@ -1,20 +1,21 @@
 -- What lanes and workers leave together over their one list: who adds what, that nobody takes a file from a worker, what each station's store
 -- follows from, that no file is out where no worker ended by a fault, and that nothing is left to do where all ended drained.
-use Rattle.std.specs.Prelude.{◌≡◌, ◌≢◌, ◌⊎◌, ℕ, ◌≤◌, ◌<◌, Bool, List, [], ◌++◌, length, drop, All, Option, Some, None}
+use Rattle.std.specs.Prelude.{◌≡◌, ◌≢◌, ◌⊎◌, ℕ, ◌≤◌, ◌<◌, Bool, List, [], ◌∷◌, ◌++◌, length, drop, All, Option, Some, None}
 use Rattle.std.proofs.Common.{inl, inr}
 use Rattle.fts_tables.specs.Counts.{Rose}
 use Rattle.fts_tables.specs.SettingsData.{SettingsData, IsSettings}
 use Rattle.fts_tables.specs.Limits.{eligible_rows}
 use Rattle.fts_tables.specs.History.{out_of_list, tables_of}
 use Rattle.fts_tables.specs.declared.commands.Entry.{Entry}
-use Rattle.fts_turnstile.specs.History.{items_of}
+use Rattle.fts_turnstile.specs.declared.turn.LoggedTurn.{LoggedTurn}
+use Rattle.fts_turnstile.specs.History.{items_of, shown_after}
 use Rattle.fts_passes.specs.Crews.{passes_given}
 use Rattle.fts_disk.specs.Disk.{IsTold}
 use Rattle.fts_keep.specs.Keeps.{HoldsList, IsFilledBy, KeepData}
 use Rattle.fts_keep.specs.Started.{restarted}
 use Rattle.fts_workers.specs.declared.hand.Hand.{Hand}
 use Rattle.fts_shop.specs.Many.{Each}
-use Rattle.fts_shop.specs.Shops.{ShopData}
+use Rattle.fts_shop.specs.Shops.{ShopData, doubt_bytes, doubt_shown, faults_shown}
 use Rattle.fts_shop.specs.Workers.{StationData, WorkerDone, station_data}
 use Rattle.fts_shop.specs.declared.ends.Turn.TheVariants.{Stale}
 use Rattle.fts_shop.specs.declared.ends.WorkerEnd.TheVariants.{Drained, Stopped}
@@ -46,6 +47,16 @@ pub record EndsSure {D : Type 0} (disks : disk.Ghosts D) (old new : KeepData D) 
   pub told : (disks.state new.disk).told ≡ (disks.state old.disk).told
   pub counts : disks.faults old.disk ≤ disks.faults new.disk
   pub doubt : IsTold (disks.state old.disk) → old.doubt ≡ None → (new.doubt ≡ None) ⊎ Rose (disks.faults old.disk) (disks.faults new.disk)
+
+-- an entry came into doubt in one of these turns: the turn is of the entry's writer, and the disk's count rose in it
+pub record DoubtBegins (shown : List ℕ) (turns : List (LoggedTurn Entry)) (entry : Entry) : Type 0 where
+  pub before : List (LoggedTurn Entry)
+  pub turn : LoggedTurn Entry
+  pub later : List (LoggedTurn Entry)
+  pub is : turns ≡ before ++ turn ∷ later
+  pub shows : doubt_shown turn.shows ≡ doubt_bytes (Some entry)
+  pub own : entry.writer ≡ turn.number
+  pub rose : Rose (faults_shown (shown_after shown before)) (faults_shown turn.shows)
 
 module _ {E : Type 0} (stores : store.Ghosts E) where
   -- a worker's turns at a station: none was stale, and the store follows from the reports that the pass added; `closes` says whether its gate may be closed
@@ -97,6 +108,9 @@ module _ {D A E C W L : Type 0} (world : World D A E C W L)
     -- where all ended drained, nothing is left to do
     pub nothing_left : AreDrained serves → LeavesNothing (keep.entries ++ entries_added serves)
     pub sure : EndsSure world.disks keep closed.keep
+    -- an entry in doubt behind all turns, where none was before them, has its owner among them
+    pub owner : keep.doubt ≡ None → (entry : Entry) → closed.keep.doubt ≡ Some entry
+        → DoubtBegins serves.first.opening_shows serves.ran.history.turns entry
 
   -- so they did in a run that closed its shop, where its lanes began
   abbrev pub KeptWhereServed : {added : List Entry} → Closes world lanes workers

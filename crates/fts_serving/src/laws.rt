@@ -30,7 +30,8 @@ use fts_top::Doors;
 
 /// Lanes and workers that ran over a list, which is legal, keep the ledger: lanes add clients' commands alone and workers claims and reports;
 /// each report is of a file whose last claim is the writer's own, so nobody takes a file from a worker; each station's store follows from the reports
-/// of its pass, and no turn is stale. Where all workers ended drained or stopped, no file is out; where all ended drained, no row may be claimed at the last
+/// of its pass, and no turn is stale. An entry in doubt at the end, where none was at the beginning, came into doubt in a turn of its writer, in which the
+/// disk's count rose. Where all workers ended drained or stopped, no file is out; where all ended drained, no row may be claimed at the last
 /// moment either. `closes` says whether the gate before copies may be closed.
 pub fn lanes_and_workers_keep_the_ledger<D: Disk, E: Store, C: Clock, W: Words, A: Doors>()
     ensures ledger { (closes : Bool) (lanes workers : ℕ) (connections : Option ℕ) (settings : SettingsData) (keep : KeepData D) (before : List (Lane A C A.Line))

@@ -1,5 +1,6 @@
 -- What a worker's step came to: a claimed file has its row, so the order of its copy comes with it.
-use Rattle.std.proofs.Common.{◌≡◌, refl, sym, ap, subst, ℕ, ◌+◌, ◌==◌, max, Bool, true, false, cond, List, [], ◌∷◌, map, Option, Some, None, option_map, IsSome, IsTrue, Result, Ok, Err}
+use Rattle.std.proofs.Common.{◌≡◌, ◌⊎◌, refl, sym, ap, subst, ℕ, ◌+◌, ◌==◌, max, Bool, true, false, cond, List, [], ◌∷◌, map, Option, Some, None, option_map, IsSome, IsTrue, Result, Ok, Err}
+use Rattle.fts_tables.specs.Counts.{Rose}
 use Rattle.fts_tables.specs.Tables.{Tables, AreWellFormed, is_submitted, row_at}
 use Rattle.fts_tables.specs.Choice.{pick}
 use Rattle.fts_tables.specs.Moves.{change_row, claimed}
@@ -7,7 +8,7 @@ use Rattle.fts_tables.specs.Step.{step, claim, with_rows}
 use Rattle.fts_tables.specs.History.{tables_of, IsLegal, claimed_file}
 use Rattle.fts_tables.specs.declared.rows.FileRow.{FileRow}
 use Rattle.fts_tables.specs.declared.commands.Entry.{Entry}
-use Rattle.fts_tables.specs.declared.commands.Command.TheVariants.{Claim}
+use Rattle.fts_tables.specs.declared.commands.Command.TheVariants.{Claim, Expire}
 use Rattle.fts_tables.specs.declared.commands.Answer.{Answer}
 use Rattle.fts_tables.specs.declared.commands.Answer.TheVariants.{Restarted, Submitted, Cancelled, PrioritySet, Claimed, Reported, Banned, Unbanned, Expired}
 use Rattle.fts_keep.specs.Keeps.{KeepData, IsKeep}
@@ -16,9 +17,11 @@ use Rattle.fts_keep.specs.declared.fault.KeepFault.{KeepFault}
 use Rattle.fts_keep.specs.declared.fault.KeepFault.TheVariants.{Rule, DiskFailed, JournalFull, Damaged, Memory}
 use Rattle.fts_workers.specs.Copies.{order_in}
 use Rattle.fts_workers.specs.ClaimSteps.{AnswersClaim, AnswersExpiry, FollowsExpiry, IsClaimStep, goes_on}
-use Rattle.fts_shop.specs.Shops.{step_answer}
+use Rattle.fts_keep.proofs.Applying.{doubt_of}
+use Rattle.fts_shop.specs.Shops.{IsDoubtOf, step_answer}
 use Rattle.fts_shop.specs.Within.{HasOrder, order_claimed}
 use Rattle.fts_shop.proofs.Answered.{step_of, same_done}
+use Rattle.fts_shop.proofs.Took.{doubt_moved, doubt_twice}
 use Rattle.fts_disk.specs.declared.disk.Disk as disk
 
 -- a row of an id is there still once rows were changed that keep their ids
@@ -112,6 +115,24 @@ module _ {D : Type 0} (disks : disk.Ghosts D) (old new : KeepData D) (writer now
           → AnswersClaim (step_answer expiry tried)
       by None follows = expiry_answers expiry stepped.expired.answers follows.0
       by (Some result) follows = follows.1.claim.answers
+
+  -- and the entry in doubt behind it is none, or the one from before, or the writer's
+  pub doubt_of_step : (new.doubt ≡ None) ⊎ ((new.doubt ≡ old.doubt) ⊎ (IsDoubtOf writer new.doubt × Rose (disks.faults old.disk) (disks.faults new.disk)))
+  doubt_of_step = by claim stepped.follows
+    where
+      first : (stepped.between.doubt ≡ None) ⊎ ((stepped.between.doubt ≡ old.doubt)
+          ⊎ (IsDoubtOf writer stepped.between.doubt × Rose (disks.faults old.disk) (disks.faults stepped.between.disk)))
+      first = doubt_moved (disks.faults old.disk) (disks.faults stepped.between.disk) old.doubt stepped.between.doubt (entry_by writer (Expire now))
+          (doubt_of disks.state disks.faults old stepped.between (entry_by writer (Expire now)) expiry stepped.expired.tried.applied)
+
+      by : (tried : Option (Result Answer KeepFault)) → FollowsExpiry disks.state disks.faults writer stepped.between new now word expiry tried
+          → (new.doubt ≡ None) ⊎ ((new.doubt ≡ old.doubt) ⊎ (IsDoubtOf writer new.doubt × Rose (disks.faults old.disk) (disks.faults new.disk)))
+      by None follows = subst (λ (k : KeepData D). (k.doubt ≡ None) ⊎ ((k.doubt ≡ old.doubt)
+          ⊎ (IsDoubtOf writer k.doubt × Rose (disks.faults old.disk) (disks.faults k.disk)))) (sym follows.1) first
+      by (Some result) follows = doubt_twice writer (disks.faults old.disk) (disks.faults stepped.between.disk) (disks.faults new.disk)
+          old.doubt stepped.between.doubt new.doubt stepped.expired.tried.keeps.grows.counts follows.1.claim.tried.keeps.grows.counts first
+          (doubt_moved (disks.faults stepped.between.disk) (disks.faults new.disk) stepped.between.doubt new.doubt (entry_by writer (Claim now word))
+          (doubt_of disks.state disks.faults stepped.between new (entry_by writer (Claim now word)) result follows.1.claim.tried.applied))
 
   -- and where that is a file, its order comes with it
   pub order_of_step : ((entries : List Entry) → IsLegal entries → AreWellFormed (tables_of entries))

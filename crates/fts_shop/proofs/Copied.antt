@@ -78,6 +78,7 @@ module _ {E : Type 0} (stores : store.Ghosts E) (old new : PassView Entry) (stor
     only_looks = copied.watched.only_looks;
     others = copied.watched.others;
     lanes = copied.watched.lanes;
+    doubt = copied.watched.doubt;
     order = order;
     made = copied.made;
     of_file = copy_of_order (row_at (tables_of (seen_list old)).rows file) (tables_of (seen_list old)) order outcome is;

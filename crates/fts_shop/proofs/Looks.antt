@@ -5,10 +5,10 @@ use Rattle.fts_tables.specs.declared.commands.Entry.{Entry}
 use Rattle.fts_turnstile.specs.declared.turn.LoggedTurn.{LoggedTurn}
 use Rattle.fts_turnstile.specs.History.{items_of, shown_after, turn_of, AllName, AllNamed, NoneBy}
 use Rattle.fts_turnstile.specs.Passes.{PassView, IsSame, TookTurn, seen_list, own_items}
-use Rattle.fts_shop.specs.Shops.{ShopData, shop_entries, writer_of, shop_shows, lanes_shown, ShowsOn}
+use Rattle.fts_shop.specs.Shops.{ShopData, shop_entries, writer_of, shop_shows, doubt_shown, lanes_shown, ShowsOn}
 use Rattle.fts_shop.specs.Within.{is_cancel_asked, IsLookIn}
-use Rattle.fts_shop.specs.Looking.{looks_in, is_empty, Unasked, LeaveLanes, NoneOf, IsWatched}
-use Rattle.fts_shop.specs.Looked.{items_on, looks_on, unasked_on, shown_on, lanes_on, none_on}
+use Rattle.fts_shop.specs.Looking.{looks_in, is_empty, Unasked, LeaveDoubt, LeaveLanes, NoneOf, IsWatched}
+use Rattle.fts_shop.specs.Looked.{items_on, looks_on, unasked_on, shown_on, doubt_on, lanes_on, none_on}
 use Rattle.fts_shop.proofs.Took.{nothing_added, list_left, shows_same}
 use Rattle.fts_disk.specs.declared.disk.Disk as disk
 
@@ -40,6 +40,10 @@ others_unasked number file joined entries (turn ∷ turns) others =
 others_lanes : (number : ℕ) (joined shown : List ℕ) (turns : List (LoggedTurn Entry)) → NoneBy (number ∷ joined) turns → LeaveLanes number shown turns
 others_lanes number joined shown [] others = tt
 others_lanes number joined shown (turn ∷ turns) others = ((λ mine. absurd (others.0 (inl mine))), others_lanes number joined turn.shows turns others.1)
+
+others_doubt : (number : ℕ) (joined shown : List ℕ) (turns : List (LoggedTurn Entry)) → NoneBy (number ∷ joined) turns → LeaveDoubt number shown turns
+others_doubt number joined shown [] others = tt
+others_doubt number joined shown (turn ∷ turns) others = ((λ mine. absurd (others.0 (inl mine))), others_doubt number joined turn.shows turns others.1)
 
 module _ {D : Type 0} (disks : disk.Ghosts D) (work : ShopData D → ShopData D → Type 0) (old new : PassView Entry) (same : IsSame old new)
     (took : TookTurn shop_entries writer_of (shop_shows disks) work old new) (file : ℕ) (asked : Bool)
@@ -84,10 +88,14 @@ module _ {D : Type 0} (disks : disk.Ghosts D) (work : ShopData D → ShopData D 
         (others_lanes old.number old.joined (shown_after old.opening_shows old.seen) took.between took.others) (
           (λ mine. (
             ap lanes_shown shows_still,
-            subst (λ shown. ShowsOn (shown_after (shown_after old.opening_shows old.seen) took.between) shown) (sym shows_still) (shows_same _),
+            subst (λ shown. ShowsOn old.number (shown_after (shown_after old.opening_shows old.seen) took.between) shown) (sym shows_still)
+                (shows_same old.number _),
           )),
           tt,
         );
+    doubt = doubt_on old.number (shown_after old.opening_shows old.seen) took.between (last ∷ [])
+        (others_doubt old.number old.joined (shown_after old.opening_shows old.seen) took.between took.others)
+        ((λ mine. ap doubt_shown shows_still), tt);
     looks = omega (arith, few, looks_on old.number took.between (last ∷ []), one_look);
     no_fewer = no_fewer;
     unasked = λ still low. unasked_on old.number file (seen_list old) took.between (last ∷ [])

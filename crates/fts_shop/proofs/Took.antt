@@ -12,12 +12,13 @@ use Rattle.fts_turnstile.specs.declared.turn.LoggedTurn.{LoggedTurn}
 use Rattle.fts_turnstile.specs.History.{items_of, turn_of, AllName, AllNamed}
 use Rattle.fts_turnstile.specs.Passes.{PassView, IsSame, TookTurn, seen_list}
 use Rattle.fts_keep.specs.Keeps.{KeepData, IsKeep, IsFilledBy}
-use Rattle.fts_keep.specs.Applied.{Applied, applied_to, entry_by}
+use Rattle.fts_keep.specs.Applied.{Applied, DoubtMoves, applied_to, entry_by}
 use Rattle.fts_keep.specs.declared.fault.KeepFault.{KeepFault}
 use Rattle.fts_keep.specs.declared.fault.KeepFault.TheVariants.{Rule, DiskFailed, JournalFull, Damaged, Memory}
 use Rattle.fts_workers.specs.Rounds.{applied_over}
 use Rattle.fts_workers.specs.ClaimSteps.{FollowsExpiry, HasNoneOverdue}
-use Rattle.fts_shop.specs.Shops.{ShopData, shop_entries, writer_of, shop_shows, faults_shown, lanes_shown, flag, is_doubted, ShowsOn, KeepsDisk, TakesTurn, point, HasFault, CameTo, added_by, TriedInTurn}
+use Rattle.fts_shop.specs.Shops.{ShopData, shop_entries, writer_of, shop_shows, faults_shown, lanes_shown, flag, ShowsOn, KeepsDisk, TakesTurn, point, HasFault, CameTo, added_by, TriedInTurn}
+use Rattle.fts_shop.specs.Shops.{doubt_bytes, doubt_shown, shown_before, IsDoubtOf, IsShownOf, DoubtLeft, DoubtLeftIfTried}
 use Rattle.fts_shop.specs.Shops.{ClaimsIfTried, IsTriedBehind, StepInTurn, added_by_claim}
 use Rattle.fts_shop.specs.Within.{StepsIn, TriesIn}
 use Rattle.fts_shop.specs.Looked.{items_on}
@@ -30,35 +31,55 @@ pub named_more : (turns : List (LoggedTurn Entry)) (turn : LoggedTurn Entry) →
 named_more [] turn named last = (last, tt)
 named_more (first ∷ turns) turn named last = (named.0, named_more turns turn named.1 last)
 
--- on a disk that tells its contents as before, an entry is in doubt where it was, or by a rise
-doubt_on : (told told_now : Bool) (doubt doubt_now : Option Entry) (Rises : Type 0) → told_now ≡ told
-    → (told ≡ true → (doubt_now ≡ None) ⊎ ((doubt_now ≡ doubt) ⊎ Rises)) → flag (is_doubted told_now doubt_now) ≡ 1
-    → (flag (is_doubted told doubt) ≡ 1) ⊎ Rises
-doubt_on false told_now doubt doubt_now Rises same caused is =
-    let no : flag (is_doubted false doubt_now) ≡ 1 = subst (λ told. flag (is_doubted told doubt_now) ≡ 1) same is in absurd cc
-doubt_on true told_now doubt doubt_now Rises same caused is =
-    let now : flag (is_doubted true doubt_now) ≡ 1 = subst (λ told. flag (is_doubted told doubt_now) ≡ 1) same is in
-    ⊎_elim
-    (λ none. let no : flag (is_doubted true None) ≡ 1 = subst (λ found. flag (is_doubted true found) ≡ 1) none now in absurd cc)
-    (λ some. ⊎_elim (λ still. inl (subst (λ found. flag (is_doubted true found) ≡ 1) still now)) (λ rose. inr rose) some)
-    (caused refl)
+-- a rise is one within what is around it
+pub rose_wider : (low first last high : ℕ) → low ≤ first → last ≤ high → Rose first last → Rose low high
+rose_wider low first last high before behind (inl more) = inl (omega (arith, more, before, behind))
+rose_wider low first last high before behind (inr most) = inr (omega (arith, most, before, behind))
+
+-- the entry in doubt behind the try of a writer's entry is none, or the one from before, or the writer's
+pub doubt_moved : (before after : ℕ) (old new : Option Entry) (entry : Entry) → DoubtMoves before after old new entry
+    → (new ≡ None) ⊎ ((new ≡ old) ⊎ (IsDoubtOf entry.writer new × Rose before after))
+doubt_moved before after old new entry (inl same) = inr (inl same)
+doubt_moved before after old new entry (inr (inl none)) = inl none
+doubt_moved before after old new entry (inr (inr own)) = inr (inr (subst (IsDoubtOf entry.writer) (sym own.0) refl, own.1))
+
+-- so it is behind two tries
+pub doubt_twice : (writer before middle after : ℕ) (old between new : Option Entry) → before ≤ middle → middle ≤ after
+    → (between ≡ None) ⊎ ((between ≡ old) ⊎ (IsDoubtOf writer between × Rose before middle))
+    → (new ≡ None) ⊎ ((new ≡ between) ⊎ (IsDoubtOf writer new × Rose middle after))
+    → (new ≡ None) ⊎ ((new ≡ old) ⊎ (IsDoubtOf writer new × Rose before after))
+doubt_twice writer before middle after old between new low high first (inl none) = inl none
+doubt_twice writer before middle after old between new low high first (inr (inr own)) =
+    inr (inr (own.0, rose_wider before middle after after low (omega arith) own.1))
+doubt_twice writer before middle after old between new low high (inl none) (inr (inl same)) = inl (same ∙ none)
+doubt_twice writer before middle after old between new low high (inr (inl still)) (inr (inl same)) = inr (inl (same ∙ still))
+doubt_twice writer before middle after old between new low high (inr (inr own)) (inr (inl same)) =
+    inr (inr (subst (IsDoubtOf writer) (sym same) own.0, rose_wider before before middle after (omega arith) high own.1))
+
+-- a writer's entry in doubt is shown as one
+shown_of : (writer : ℕ) (doubt : Option Entry) → IsDoubtOf writer doubt → IsShownOf writer (doubt_bytes doubt)
+shown_of writer None own = own
+shown_of writer (Some entry) own = own
 
 -- what is shown of a disk that was kept so
-pub shows_on : {D : Type 0} (disks : disk.Ghosts D) (old new : ShopData D) → KeepsDisk disks old.keep new.keep → ShowsOn (shop_shows disks old) (shop_shows disks new)
-shows_on disks old new kept = record {
+pub shows_on : {D : Type 0} (disks : disk.Ghosts D) (writer : ℕ) (old new : ShopData D) → KeepsDisk disks writer old.keep new.keep
+    → ShowsOn writer (shop_shows disks old) (shop_shows disks new)
+shows_on disks writer old new kept = record {
   tells = ap flag kept.told;
   counts = kept.counts;
-  doubt = doubt_on (disks.state old.keep.disk).told (disks.state new.keep.disk).told old.keep.doubt new.keep.doubt
-      (Rose (disks.faults old.keep.disk) (disks.faults new.keep.disk)) kept.told kept.doubt;
+  doubt = ⊎_elim
+      (λ none. inl (ap doubt_bytes none))
+      (λ some. inr (⊎_elim (λ same. inl (ap doubt_bytes same)) (λ own. inr (shown_of writer new.keep.doubt own.0, own.1)) some))
+      kept.doubt;
 }
 
 -- a keep keeps its own disk so
-pub same_disk : {D : Type 0} (disks : disk.Ghosts D) (keep : KeepData D) → KeepsDisk disks keep keep
-same_disk disks keep = record { told = refl; counts = omega arith; doubt = λ told. inr (inl refl) }
+pub same_disk : {D : Type 0} (disks : disk.Ghosts D) (writer : ℕ) (keep : KeepData D) → KeepsDisk disks writer keep keep
+same_disk disks writer keep = record { told = refl; counts = omega arith; doubt = inr (inl refl) }
 
 -- and what is shown goes on from itself
-pub shows_same : (shown : List ℕ) → ShowsOn shown shown
-shows_same shown = record { tells = refl; counts = omega arith; doubt = λ is. inl is }
+pub shows_same : (number : ℕ) (shown : List ℕ) → ShowsOn number shown shown
+shows_same number shown = record { tells = refl; counts = omega arith; doubt = inr (inl refl) }
 
 module _ {D : Type 0} (disks : disk.Ghosts D) (old new : KeepData D) (entry : Entry) where
   -- what a command came to over a keep is what it came to over a list that the keep is of
@@ -71,6 +92,23 @@ module _ {D : Type 0} (disks : disk.Ghosts D) (old new : KeepData D) (entry : En
   came_over entries rose would rises (Err DiskFailed) applied = (subst IsOk would applied.would, rises applied.rose)
   came_over entries rose would rises (Err Memory) applied = tt
   came_over entries rose would rises (Err (Damaged offset)) applied = absurd applied
+
+  -- so is what it left in doubt, as it is shown
+  doubt_over : (before : List ℕ) (rose : Type 0) → doubt_bytes old.doubt ≡ before → (Rose (disks.faults old.disk) (disks.faults new.disk) → rose)
+      → (result : Result Answer KeepFault) → Applied disks.state disks.faults old new entry result
+      → DoubtLeft rose before (doubt_bytes new.doubt) entry result
+  doubt_over before rose was rises (Ok found) applied = ap doubt_bytes applied.cleared
+  doubt_over before rose was rises (Err (Rule refusal)) applied = ap (λ (k : KeepData D). doubt_bytes k.doubt) applied.1 ∙ was
+  doubt_over before rose was rises (Err (JournalFull used)) applied = ap (λ (k : KeepData D). doubt_bytes k.doubt) applied.1 ∙ was
+  doubt_over before rose was rises (Err DiskFailed) applied = ⊎_elim
+      (λ same. inl (ap doubt_bytes same ∙ was))
+      (λ other. inr (⊎_elim (λ none. inl (ap doubt_bytes none)) (λ own. inr (ap doubt_bytes own, rises applied.rose)) other))
+      applied.doubt
+  doubt_over before rose was rises (Err Memory) applied = ⊎_elim
+      (λ same. inl (ap doubt_bytes same ∙ was))
+      (λ none. inr (ap doubt_bytes none))
+      applied.doubt
+  doubt_over before rose was rises (Err (Damaged offset)) applied = absurd applied
 
   -- and what it added to a keep's own list
   added_over : (result : Result Answer KeepFault) → Applied disks.state disks.faults old new entry result
@@ -103,7 +141,7 @@ module _ {D : Type 0} (disks : disk.Ghosts D) (work : ShopData D → ShopData D 
   pub tables_left : IsKeep disks.state took.after.keep → took.after.keep.tables ≡ tables_of (seen_list new)
   tables_left kept = kept.fold.filled.list.folded ∙ ap tables_of list_left
 
-  module _ (disk_kept : KeepsDisk disks took.before.keep took.after.keep) where
+  module _ (disk_kept : KeepsDisk disks old.number took.before.keep took.after.keep) where
     -- the turn
     abbrev pub taken_of : TakesTurn old new
     taken_of = record {
@@ -115,7 +153,7 @@ module _ {D : Type 0} (disks : disk.Ghosts D) (work : ShopData D → ShopData D 
       same = same;
       named = subst (λ turns. AllNamed writer_of turns) (sym took.seen)
           (named_more (old.seen ++ took.between) (turn_of old.number took.added (shop_shows disks took.after)) took.all_named took.named);
-      on = subst (λ shown. ShowsOn shown (shop_shows disks took.after)) took.showed (shows_on disks took.before took.after disk_kept);
+      on = subst (λ shown. ShowsOn old.number shown (shop_shows disks took.after)) took.showed (shows_on disks old.number took.before took.after disk_kept);
     }
 
     -- a rise of the disk's count is one that is shown
@@ -151,6 +189,8 @@ module _ {D : Type 0} (disks : disk.Ghosts D) (work : ShopData D → ShopData D 
         cause = λ failed. rose_shown (subst (λ result. Applied disks.state disks.faults took.before.keep took.after.keep entry result) failed tries.applied).rose;
         left = tries.left ∙ ap lanes_shown took.showed;
         stay = tries.stay ∙ ap lanes_shown took.showed;
+        doubt = doubt_over disks took.before.keep took.after.keep entry (doubt_shown (shown_before taken_of)) (HasFault taken_of)
+            (ap doubt_shown took.showed) rose_shown answer tries.applied;
       }
 
     -- an expiry and a claim as one step
@@ -224,6 +264,13 @@ module _ {D : Type 0} (disks : disk.Ghosts D) (work : ShopData D → ShopData D 
           ∙ ap (λ list. list ++ added_by_claim claims claim) listed_between
           ∙ append_assoc before (added_by expires expiry) (added_by_claim claims claim))
 
+      doubt_behind : (tried : Option (Result Answer KeepFault)) → Follows tried
+          → DoubtLeftIfTried (HasFault taken_of) (doubt_bytes between.doubt) (doubt_bytes took.after.keep.doubt) claims tried
+      doubt_behind None follows = ap (λ (k : KeepData D). doubt_bytes k.doubt) follows.1
+      doubt_behind (Some result) follows =
+          doubt_over disks between took.after.keep claims (doubt_bytes between.doubt) (HasFault taken_of) refl rose_later result
+          follows.1.claim.tried.applied
+
       tried_behind : (tried : Option (Result Answer KeepFault)) → Follows tried → IsTriedBehind expiry tried
       tried_behind None follows = follows.0
       tried_behind (Some result) follows = (follows.0, follows.1.claim.answers)
@@ -243,4 +290,10 @@ module _ {D : Type 0} (disks : disk.Ghosts D) (work : ShopData D → ShopData D 
         claim_cause = λ failed. rose_later (subst Follows failed steps.stepped.follows).1.claim.tried.applied.rose;
         left = steps.left ∙ ap lanes_shown took.showed;
         stay = steps.stay ∙ ap lanes_shown took.showed;
+        doubt = record {
+          between = doubt_bytes between.doubt;
+          expired = doubt_over disks took.before.keep between expires (doubt_shown (shown_before taken_of)) (HasFault taken_of)
+              (ap doubt_shown took.showed) rose_first expiry steps.stepped.expired.tried.applied;
+          claimed = doubt_behind claim steps.stepped.follows;
+        };
       }

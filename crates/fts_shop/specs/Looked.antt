@@ -32,7 +32,7 @@ use Rattle.fts_turnstile.specs.declared.turn.LoggedTurn.{LoggedTurn}
 use Rattle.fts_turnstile.specs.History.{items_of, shown_after}
 use Rattle.fts_turnstile.specs.Passes.{PassView, IsSame, seen_list}
 use Rattle.fts_shop.specs.Within.{is_cancel_asked}
-use Rattle.fts_shop.specs.Looking.{looks_in, Unasked, LeaveLanes, NoneOf, IsWatched}
+use Rattle.fts_shop.specs.Looking.{looks_in, Unasked, LeaveDoubt, LeaveLanes, NoneOf, IsWatched}
 
 -- whether cancel was asked of the row that is found
 abbrev asked_of : Option FileRow → Bool
@@ -316,6 +316,11 @@ pub lanes_on : (number : ℕ) (shown : List ℕ) (turns more : List (LoggedTurn 
 lanes_on number shown [] more one two = two
 lanes_on number shown (turn ∷ turns) more one two = (one.0, lanes_on number turn.shows turns more one.1 two)
 
+pub doubt_on : (number : ℕ) (shown : List ℕ) (turns more : List (LoggedTurn Entry)) → LeaveDoubt number shown turns
+    → LeaveDoubt number (shown_after shown turns) more → LeaveDoubt number shown (turns ++ more)
+doubt_on number shown [] more one two = two
+doubt_on number shown (turn ∷ turns) more one two = (one.0, doubt_on number turn.shows turns more one.1 two)
+
 pub none_on : (writer : ℕ) (entries more : List Entry) → NoneOf writer entries → NoneOf writer more → NoneOf writer (entries ++ more)
 none_on writer [] more one two = two
 none_on writer (entry ∷ entries) more one two = (one.0, none_on writer entries more one.1 two)
@@ -338,6 +343,7 @@ watched_itself file pass askings noes = record {
   seen = sym (append-nil pass.seen);
   others = tt;
   lanes = tt;
+  doubt = tt;
   looks = omega arith;
   no_fewer = omega arith;
   unasked = λ same low. tt;
@@ -363,6 +369,10 @@ watched_on file other one two three a b c n m k is_file first behind =
           (subst (λ shown. LeaveLanes one.number shown second.since)
           ((λ i. shown_after (first.same.2 i) (first.seen i)) ∙ shown_on one.opening_shows one.seen first.since)
           (subst (λ n. LeaveLanes n (shown_after two.opening_shows two.seen) second.since) number second.lanes));
+      doubt = doubt_on one.number (shown_after one.opening_shows one.seen) first.since second.since first.doubt
+          (subst (λ shown. LeaveDoubt one.number shown second.since)
+          ((λ i. shown_after (first.same.2 i) (first.seen i)) ∙ shown_on one.opening_shows one.seen first.since)
+          (subst (λ n. LeaveDoubt n (shown_after two.opening_shows two.seen) second.since) number second.doubt));
       looks = omega (
         arith,
         first.looks,

@@ -5,7 +5,7 @@ use Rattle.fts_tables.specs.declared.commands.Entry.{Entry}
 use Rattle.fts_turnstile.specs.declared.turn.LoggedTurn.{LoggedTurn}
 use Rattle.fts_turnstile.specs.History.{items_of, shown_after}
 use Rattle.fts_turnstile.specs.Passes.{PassView, IsSame, own_items, seen_list}
-use Rattle.fts_shop.specs.Shops.{lanes_shown, ShowsOn}
+use Rattle.fts_shop.specs.Shops.{doubt_shown, lanes_shown, ShowsOn}
 use Rattle.fts_shop.specs.Within.{is_cancel_asked}
 
 -- a list without an item
@@ -28,7 +28,12 @@ Unasked number file entries (turn ∷ turns) =
 abbrev pub LeaveLanes : ℕ → List ℕ → List (LoggedTurn Entry) → Type 0
 LeaveLanes number shown [] = Unit {0}
 LeaveLanes number shown (turn ∷ turns) =
-    (turn.number ≡ number → (lanes_shown turn.shows ≡ lanes_shown shown) × ShowsOn shown turn.shows) × LeaveLanes number turn.shows turns
+    (turn.number ≡ number → (lanes_shown turn.shows ≡ lanes_shown shown) × ShowsOn number shown turn.shows) × LeaveLanes number turn.shows turns
+
+-- the turns with this number leave the entry in doubt as the turn before them showed it
+abbrev pub LeaveDoubt : ℕ → List ℕ → List (LoggedTurn Entry) → Type 0
+LeaveDoubt number shown [] = Unit {0}
+LeaveDoubt number shown (turn ∷ turns) = (turn.number ≡ number → doubt_shown turn.shows ≡ doubt_shown shown) × LeaveDoubt number turn.shows turns
 
 -- none of the entries is of this writer
 abbrev pub NoneOf : ℕ → List Entry → Type 0
@@ -44,6 +49,7 @@ pub record IsWatched (file : ℕ) (old new : PassView Entry) (askings askings_no
   pub seen : new.seen ≡ old.seen ++ since
   pub others : NoneOf old.number (items_of since)
   pub lanes : LeaveLanes old.number (shown_after old.opening_shows old.seen) since
+  pub doubt : LeaveDoubt old.number (shown_after old.opening_shows old.seen) since
   pub looks : askings_now ≤ askings + looks_in old.number since
   pub no_fewer : noes ≤ noes_now
   -- a count at the end of its type stays

@@ -1,5 +1,5 @@
 -- The value behind the lock, the turns that a pass takes of it, and what a command comes to in one.
-use Rattle.std.specs.Prelude.{◌≡◌, ◌⊎◌, ℕ, ◌-◌, ◌≤◌, ◌&&◌, Bool, true, false, if◌then◌else◌, List, [], ◌∷◌, ◌++◌, Option, Some, None, is_some, Result, Ok, Err, IsOk, slice_index}
+use Rattle.std.specs.Prelude.{◌≡◌, ◌⊎◌, ℕ, ◌-◌, ◌≤◌, Bool, true, false, if◌then◌else◌, List, [], ◌∷◌, ◌++◌, drop, Option, Some, None, Result, Ok, Err, IsOk, slice_index}
 use Rattle.fts_tables.specs.Counts.{Rose}
 use Rattle.fts_tables.specs.Tables.{Tables}
 use Rattle.fts_tables.specs.History.{tables_of}
@@ -10,7 +10,7 @@ use Rattle.fts_tables.specs.declared.commands.Answer.{Answer}
 use Rattle.fts_tables.specs.declared.commands.Answer.TheVariants.{Restarted, Submitted, Cancelled, PrioritySet, Claimed, Reported, Banned, Unbanned, Expired}
 use Rattle.fts_tables.specs.declared.rows.FileState.{FileState}
 use Rattle.fts_tables.specs.declared.rows.FileState.TheVariants as state
-use Rattle.fts_disk.specs.Disk.{IsTold}
+use Rattle.fts_record.specs.Spelling.{spelled}
 use Rattle.fts_turnstile.specs.declared.turn.LoggedTurn.{LoggedTurn}
 use Rattle.fts_turnstile.specs.History.{items_of, shown_after, AllNamed, NoneBy}
 use Rattle.fts_turnstile.specs.Passes.{PassView, IsSame, numbers_of}
@@ -47,15 +47,15 @@ writer_of entry = entry.writer
 abbrev pub flag : Bool → ℕ
 flag test = if test then 1 else 0
 
--- an entry is in doubt on a disk that tells its contents
-abbrev pub is_doubted : Bool → Option Entry → Bool
-is_doubted told doubt = told && is_some doubt
+-- an entry in doubt by its writer's number and its spelling; none where there is none. A keep has one only over a disk that tells its contents.
+abbrev pub doubt_bytes : Option Entry → List ℕ
+doubt_bytes None = []
+doubt_bytes (Some entry) = entry.writer ∷ spelled entry
 
--- what a shop shows besides: its disk's count of faults, the lanes left, whether its disk tells its contents, and whether an entry is in doubt there
+-- what a shop shows besides: its disk's count of faults, the lanes left, whether its disk tells its contents, and the entry in doubt there
 abbrev pub shop_shows : {D : Type 0} → disk.Ghosts D → ShopData D → List ℕ
 shop_shows disks shop =
-    disks.faults shop.keep.disk ∷ shop.lanes ∷ flag (disks.state shop.keep.disk).told
-    ∷ flag (is_doubted (disks.state shop.keep.disk).told shop.keep.doubt) ∷ []
+    disks.faults shop.keep.disk ∷ shop.lanes ∷ flag (disks.state shop.keep.disk).told ∷ doubt_bytes shop.keep.doubt
 
 -- the count of faults that is shown
 abbrev pub faults_shown : List ℕ → ℕ
@@ -69,22 +69,32 @@ lanes_shown shown = slice_index shown 1
 abbrev pub telling_shown : List ℕ → ℕ
 telling_shown shown = slice_index shown 2
 
--- whether an entry is in doubt there, as it is shown
-abbrev pub doubt_shown : List ℕ → ℕ
-doubt_shown shown = slice_index shown 3
+-- the entry in doubt there, as it is shown
+abbrev pub doubt_shown : List ℕ → List ℕ
+doubt_shown shown = drop 3 shown
 
--- what no turn does: whether the disk tells its contents stays, its count of faults never falls, and an entry comes into doubt only where it rose
-pub record ShowsOn (before after : List ℕ) : Type 0 where
+-- an entry in doubt is of this writer, by the entry and as it is shown
+abbrev pub IsDoubtOf : ℕ → Option Entry → Type 0
+IsDoubtOf writer None = ⊥
+IsDoubtOf writer (Some entry) = entry.writer ≡ writer
+
+abbrev pub IsShownOf : ℕ → List ℕ → Type 0
+IsShownOf writer [] = ⊥
+IsShownOf writer (number ∷ spelling) = number ≡ writer
+
+-- What is shown behind a turn of a number: whether the disk tells its contents stays, its count of faults never falls, and the entry in doubt is none, or
+-- the one from before, or one of that number as its writer, and then the count rose.
+pub record ShowsOn (number : ℕ) (before after : List ℕ) : Type 0 where
   pub tells : telling_shown after ≡ telling_shown before
   pub counts : faults_shown before ≤ faults_shown after
-  pub doubt : doubt_shown after ≡ 1 → (doubt_shown before ≡ 1) ⊎ Rose (faults_shown before) (faults_shown after)
+  pub doubt : (doubt_shown after ≡ []) ⊎ ((doubt_shown after ≡ doubt_shown before)
+      ⊎ (IsShownOf number (doubt_shown after) × Rose (faults_shown before) (faults_shown after)))
 
--- the same of a keep's disk
-pub record KeepsDisk {D : Type 0} (disks : disk.Ghosts D) (old new : KeepData D) : Type 0 where
+-- the same of a keep's disk, by what a writer tries
+pub record KeepsDisk {D : Type 0} (disks : disk.Ghosts D) (writer : ℕ) (old new : KeepData D) : Type 0 where
   pub told : (disks.state new.disk).told ≡ (disks.state old.disk).told
   pub counts : disks.faults old.disk ≤ disks.faults new.disk
-  pub doubt : IsTold (disks.state old.disk)
-      → (new.doubt ≡ None) ⊎ ((new.doubt ≡ old.doubt) ⊎ Rose (disks.faults old.disk) (disks.faults new.disk))
+  pub doubt : (new.doubt ≡ None) ⊎ ((new.doubt ≡ old.doubt) ⊎ (IsDoubtOf writer new.doubt × Rose (disks.faults old.disk) (disks.faults new.disk)))
 
 -- a pass took one turn, behind turns of others
 pub record TakesTurn (old new : PassView Entry) : Type 0 where
@@ -96,7 +106,7 @@ pub record TakesTurn (old new : PassView Entry) : Type 0 where
   pub same : IsSame old new
   -- each entry of a turn is of the turn's writer
   pub named : AllNamed writer_of new.seen
-  pub on : ShowsOn (shown_after old.opening_shows (old.seen ++ between)) turn.shows
+  pub on : ShowsOn old.number (shown_after old.opening_shows (old.seen ++ between)) turn.shows
 
 -- the list before the turn: the point at which what is done in it is done
 abbrev pub point : {old new : PassView Entry} → TakesTurn old new → List Entry
@@ -118,6 +128,10 @@ HasFault taken = Rose (faults_shown (shown_before taken)) (faults_shown taken.tu
 abbrev pub KeepsLanes : {old new : PassView Entry} → TakesTurn old new → Type 0
 KeepsLanes taken = lanes_shown taken.turn.shows ≡ lanes_in taken
 
+-- the entry in doubt that the turn shows is the one from before it
+abbrev pub KeepsDoubt : {old new : PassView Entry} → TakesTurn old new → Type 0
+KeepsDoubt taken = doubt_shown taken.turn.shows ≡ doubt_shown (shown_before taken)
+
 -- what a command came to, by what it would come to: the disk may fail where it would be accepted, and want of memory is free
 abbrev pub CameTo : Applies → Type 0 → Result Answer KeepFault → Type 0
 CameTo would rose (Err Memory) = Unit {0}
@@ -131,6 +145,19 @@ CameTo would rose (Err (Damaged offset)) = ⊥
 abbrev pub added_by : Entry → Result Answer KeepFault → List Entry
 added_by entry (Ok answer) = entry ∷ []
 added_by entry (Err fault) = []
+
+-- the entry in doubt behind the try of an entry, as it is shown: as before, or none, or the tried one, and then the disk's count rose
+abbrev pub DoubtMovesIn : Type 0 → List ℕ → List ℕ → Entry → Type 0
+DoubtMovesIn rose before after entry = (after ≡ before) ⊎ ((after ≡ []) ⊎ ((after ≡ doubt_bytes (Some entry)) × rose))
+
+-- the same by the answer: none behind an accepted entry, the one from before behind a refused one, and the tried one only where the disk failed
+abbrev pub DoubtLeft : Type 0 → List ℕ → List ℕ → Entry → Result Answer KeepFault → Type 0
+DoubtLeft rose before after entry (Ok answer) = after ≡ []
+DoubtLeft rose before after entry (Err (Rule refusal)) = after ≡ before
+DoubtLeft rose before after entry (Err (JournalFull used)) = after ≡ before
+DoubtLeft rose before after entry (Err DiskFailed) = DoubtMovesIn rose before after entry
+DoubtLeft rose before after entry (Err Memory) = (after ≡ before) ⊎ (after ≡ [])
+DoubtLeft rose before after entry (Err (Damaged offset)) = ⊥
 
 -- a state in which a report leaves its file
 abbrev pub IsEndState : FileState → Type 0
@@ -180,6 +207,7 @@ pub record TriedInTurn (old new : PassView Entry) (command : Command) (result : 
   pub cause : result ≡ Err DiskFailed → HasFault taken
   pub left : lanes ≡ lanes_in taken
   pub stay : KeepsLanes taken
+  pub doubt : DoubtLeft (HasFault taken) (doubt_shown (shown_before taken)) (doubt_shown taken.turn.shows) (entry_by old.number command) result
 
 -- the entries that a step's claim adds: none where none was tried
 abbrev pub added_by_claim : Entry → Option (Result Answer KeepFault) → List Entry
@@ -201,6 +229,18 @@ abbrev pub ClaimsIfTried : List Entry → ℕ → ℕ → ℕ → Type 0 → Opt
 ClaimsIfTried entries writer now word rose None = Unit {0}
 ClaimsIfTried entries writer now word rose (Some result) = ClaimsOver entries writer now word rose result
 
+-- the entry in doubt behind a step's claim: as before it where none was tried
+abbrev pub DoubtLeftIfTried : Type 0 → List ℕ → List ℕ → Entry → Option (Result Answer KeepFault) → Type 0
+DoubtLeftIfTried rose before after entry None = after ≡ before
+DoubtLeftIfTried rose before after entry (Some result) = DoubtLeft rose before after entry result
+
+-- The entry in doubt behind a step, as it is shown, by the answers to its expiry and its claim; in between stands what the expiry left.
+pub record DoubtStepped (rose : Type 0) (before after : List ℕ) (expires claims : Entry) (expiry : Result Answer KeepFault)
+    (claim : Option (Result Answer KeepFault)) : Type 0 where
+  pub between : List ℕ
+  pub expired : DoubtLeft rose before between expires expiry
+  pub claimed : DoubtLeftIfTried rose between after claims claim
+
 -- An expiry and a claim were tried in one turn, at one moment, while so many lanes were left: the expiry over the list that the turn met, and the claim,
 -- unless the expiry met a fault, over that list with what the expiry added.
 pub record StepInTurn (old new : PassView Entry) (now word : ℕ) (expiry : Result Answer KeepFault) (claim : Option (Result Answer KeepFault)) (lanes : ℕ)
@@ -215,6 +255,8 @@ pub record StepInTurn (old new : PassView Entry) (now word : ℕ) (expiry : Resu
   pub claim_cause : claim ≡ Some (Err DiskFailed) → HasFault taken
   pub left : lanes ≡ lanes_in taken
   pub stay : KeepsLanes taken
+  pub doubt : DoubtStepped (HasFault taken) (doubt_shown (shown_before taken)) (doubt_shown taken.turn.shows) (entry_by old.number (Expire now))
+      (entry_by old.number (Claim now word)) expiry claim
 
 -- what a step came to: what its claim was answered, or the fault of its expiry where no claim was tried
 abbrev pub step_answer : Result Answer KeepFault → Option (Result Answer KeepFault) → Result Answer KeepFault
@@ -226,9 +268,11 @@ pub record Looks (old new : PassView Entry) : Type 0 where
   pub taken : TakesTurn old new
   pub nothing : taken.turn.items ≡ []
   pub lanes : KeepsLanes taken
+  pub doubt : KeepsDoubt taken
 
 -- the one turn in which a lane ends
 pub record LaneEnds (old new : PassView Entry) : Type 0 where
   pub taken : TakesTurn old new
   pub nothing : taken.turn.items ≡ []
   pub one_less : lanes_shown taken.turn.shows ≡ lanes_in taken - 1
+  pub doubt : KeepsDoubt taken

@@ -23,7 +23,7 @@ use Rattle.fts_workers.specs.declared.held.Held.{Held}
 use Rattle.fts_workers.specs.declared.hand.Hand.{Hand}
 use Rattle.fts_shop.specs.Within.{is_cancel_asked}
 use Rattle.fts_shop.specs.Shops.{StepInTurn, TriedInTurn, step_answer}
-use Rattle.fts_shop.specs.Looking.{looks_in, Unasked, LeaveLanes, NoneOf}
+use Rattle.fts_shop.specs.Looking.{looks_in, Unasked, LeaveDoubt, LeaveLanes, NoneOf}
 use Rattle.fts_shop.specs.declared.ends.Turn.{Turn}
 use Rattle.fts_shop.specs.declared.ends.Turn.TheVariants as turn_ends
 use Rattle.fts_store.specs.declared.store.Store as store
@@ -56,6 +56,7 @@ pub record Copies {E : Type 0} (stores : store.Ghosts E) (old new : PassView Ent
   pub only_looks : own_items new ≡ own_items old
   pub others : NoneOf old.number (items_of since)
   pub lanes : LeaveLanes old.number (shown_after old.opening_shows old.seen) since
+  pub doubt : LeaveDoubt old.number (shown_after old.opening_shows old.seen) since
   -- the store's calls are those of the copy of an order, with the removal of its part behind one that wasn't verified, over every store; it is the
   -- order of the file's row
   pub order : Order

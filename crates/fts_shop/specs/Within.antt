@@ -22,7 +22,7 @@ pub record TriesIn {D : Type 0} (disks : disk.Ghosts D) (writer : ℕ) (command 
   pub kept : IsKeep disks.state old.keep
   pub keeps : IsKeep disks.state new.keep
   pub applied : Applied disks.state disks.faults old.keep new.keep (entry_by writer command) answer
-  pub disk : KeepsDisk disks old.keep new.keep
+  pub disk : KeepsDisk disks writer old.keep new.keep
   pub appends : Appends shop_entries writer_of writer old new
   pub left : lanes ≡ old.lanes
   pub stay : new.lanes ≡ old.lanes
@@ -33,7 +33,7 @@ pub record StepsIn {D : Type 0} (disks : disk.Ghosts D) (writer now word : ℕ) 
   pub kept : IsKeep disks.state old.keep
   pub keeps : IsKeep disks.state new.keep
   pub stepped : IsClaimStep disks.state disks.faults writer old.keep new.keep now word expiry claim
-  pub disk : KeepsDisk disks old.keep new.keep
+  pub disk : KeepsDisk disks writer old.keep new.keep
   pub appends : Appends shop_entries writer_of writer old new
   pub left : lanes ≡ old.lanes
   pub stay : new.lanes ≡ old.lanes

@@ -1,5 +1,6 @@
 //! The value behind the lock: a keep, and how many lanes are left.
-//! Shows its disk's count of faults and the lanes left; its list is the keep's, whose entries name their writers.
+//! Shows its disk's count of faults, the lanes left, whether the disk tells its contents, and the entry in doubt; its list is the keep's, whose entries
+//! name their writers.
 //! Keeps nothing of its own, since it lends the keep: what a keep's type keeps, the keep does.
 ghost use Rattle.std.specs.Prelude.{◌≡◌, ◌-◌};
 
