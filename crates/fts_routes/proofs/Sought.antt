@@ -69,17 +69,18 @@ module _ {Item : Type 0} (number_of : Item → ℕ) where
       → find test items ≡ Some found → number_of found ≡ start + rest → filter test items ≡ found ∷ filter test (drop (suc rest) items)
   first_passes test start rest [] found numbered is at = absurd (none-some found is)
   first_passes test start rest (item ∷ items) found numbered is at =
-      by_head (test item) (first_passes test (suc start)) (found-above number_of test (suc start) items found numbered.1) is rest at
+      by_head (test item) (λ next later place. first_passes test (suc start) next items found numbered.1 later place)
+      (found-above number_of test (suc start) items found numbered.1) is rest at
     where
       by_head : (answer : Bool)
-          → ((rest : ℕ) (items : List Item) (found : Item) → AreNumberedFrom number_of (suc start) items → find test items ≡ Some found
-          → number_of found ≡ suc start + rest → filter test items ≡ found ∷ filter test (drop (suc rest) items))
+          → ((next : ℕ) → find test items ≡ Some found → number_of found ≡ suc start + next
+          → filter test items ≡ found ∷ filter test (drop (suc next) items))
           → (find test items ≡ Some found → suc start ≤ number_of found) → cond answer (Some item) (find test items) ≡ Some found → (rest : ℕ)
           → number_of found ≡ start + rest → cond answer (item ∷ filter test items) (filter test items) ≡ found ∷ filter test (drop rest items)
       by_head true behind above here zero at = ap (λ head. head ∷ filter test items) (same_Some item found here)
       by_head true behind above here (suc rest) at = absurd (omega (arith, at, ap number_of (same_Some item found here), numbered.0))
       by_head false behind above later zero at = absurd (omega (arith, at, above later))
-      by_head false behind above later (suc rest) at = behind rest items found numbered.1 later (omega (arith, at))
+      by_head false behind above later (suc rest) at = behind rest later (omega (arith, at))
 
   -- so it is behind some
   passes_behind : (test : Item → Bool) (behind : ℕ) (items : List Item) (found : Item) → AreNumberedFrom number_of 1 items
@@ -89,7 +90,7 @@ module _ {Item : Type 0} (number_of : Item → ℕ) where
       let above = found-above number_of test (1 + behind) (drop behind items) found later is in
       first_passes test (1 + behind) (number_of found - (1 + behind)) (drop behind items) found later is (omega (arith, above))
       ∙ ap (λ rest. found ∷ filter test rest)
-      (drop-drop behind (suc (number_of found - (1 + behind))) items ∙ ap (λ place. drop place items) (omega (arith, above)))
+      (drop-drop (suc (number_of found - (1 + behind))) behind items ∙ ap (λ place. drop place items) (omega (arith, above)))
 
   module _ {B V : Type 0} (view : V → B) (shown : Item → B) (test : Item → Bool) where
     -- one that is found is shown next
