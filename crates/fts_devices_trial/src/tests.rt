@@ -2,6 +2,7 @@
 
 mod accepting;
 mod folders;
+mod lines;
 mod outside;
 mod paths;
 mod sockets;

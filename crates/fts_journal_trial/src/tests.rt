@@ -1,6 +1,7 @@
-//! The tests, a module a crate; `ends` has both limits.
+//! The tests, a module a crate; `ends` has both limits, `entries` what keeps share.
 
 mod ends;
+mod entries;
 mod growing;
 mod journal;
 mod keep;

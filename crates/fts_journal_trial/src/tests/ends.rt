@@ -1,14 +1,10 @@
 //! The ends of a journal: the first limit, at which submissions and priorities stop, and the last one, up to which the rest goes on.
 //! A disk holds the same block of bytes again and again, so that a journal is as long as it has to be at no cost; rows say what is answered where
 //! the last gate would stand at the last offset that is allowed, and one byte behind it.
-ghost use Rattle.std.specs.Prelude.{IfOk, IsTrue};
-ghost use Rattle.fts_record.specs.Proper.{has_priority};
-
+use super::entries::{RESTART, command, settings};
 use fts_disk::{Disk, DiskFailed};
 use fts_journal::{Journal, JournalFault};
 use fts_keep::{Keep, KeepFault};
-use fts_record::read_entry;
-use fts_tables::{Command, Memory, Settings};
 use std::alloc::{AllocError, Global};
 use std::test::Fail;
 
@@ -172,10 +168,6 @@ fn a_journal_grows_up_to_its_end(rt: HostRuntime) -> Result<(), Fail> {
     Ok(())
 }
 
-/// Two endpoints, of which each link carries two files; the activity is `default`.
-const RESTART: &[u8] =
-    b"\x00\x01\x80\xe2\xcf\xaa\x06\x04demo\x02\x02\x02\x11https://a.example\x05\x05\x11https://b.example\x05\x05\x00\x01\x07default\x01";
-
 const SUBMIT: &[u8] =
     b"\x00\x02\x80\xe2\xcf\xaa\x06\x00\x01\x00\x03\x00\x00\x00\x01\x00\x11https://a.example\x02f1\x11https://b.example\x02f1\x01\x00\x07default";
 
@@ -241,24 +233,6 @@ fn journal_to(alloc: Global, used: u64) -> Result<Repeating, AllocError> {
         times: left.checked_div(size).unwrap_or(0),
         last: restarts_of(alloc, left.checked_rem(size).unwrap_or(0))?,
     })
-}
-
-/// The command of an entry.
-fn command(alloc: Global, entry: &[u8]) -> Result<Command, Memory>
-    ensures { IfOk result (λ command. IsTrue (has_priority command)) }
-{
-    match read_entry(alloc, entry) {
-        Ok(entry) => Ok(entry.command),
-        Err(_) => Err(Memory),
-    }
-}
-
-/// The settings of a Restart.
-fn settings(alloc: Global) -> Result<Settings, Memory> {
-    match command(alloc, RESTART)? {
-        Command::Restart { now: _, settings } => Ok(settings),
-        _ => Err(Memory),
-    }
 }
 
 /// A keep whose journal's last gate stands at this offset: its start's own Restart takes 71 bytes of them.

@@ -1,18 +1,11 @@
 //! Keeps: calls with ample memory, worked bytes, every failing call of a run, and every stop.
 //! A run starts a keep and has two submissions accepted; a file's size says which of them it is of.
-ghost use Rattle.std.specs.Prelude.{IfOk, IsTrue};
-ghost use Rattle.fts_record.specs.Proper.{has_priority};
-
+use super::entries::{command, settings};
 use fts_disk::MemoryDisk;
 use fts_keep::{Keep, KeepFault};
-use fts_record::read_entry;
-use fts_tables::{Answer, Command, FileState, Memory, Settings};
+use fts_tables::{Answer, FileState, Memory};
 use std::alloc::{AllocError, Global};
 use std::test::Fail;
-
-/// Two endpoints, of which each link carries two files; the activity is `default`.
-const RESTART: &[u8] =
-    b"\x00\x01\x80\xe2\xcf\xaa\x06\x04demo\x02\x02\x02\x11https://a.example\x05\x05\x11https://b.example\x05\x05\x00\x01\x07default\x01";
 
 /// A submission of a file of 1 byte.
 const FIRST: &[u8] =
@@ -23,24 +16,6 @@ const SECOND: &[u8] =
     b"\x00\x02\x80\xe2\xcf\xaa\x06\x00\x01\x00\x03\x00\x00\x00\x01\x00\x11https://a.example\x02f2\x11https://b.example\x02f2\x02\x00\x07default";
 
 const CLAIM: &[u8] = b"\x00\x06\x80\xe2\xcf\xaa\x06\x00\x00\x00\x00\x00\x00\x00\x00";
-
-/// The command of an entry.
-fn command(alloc: Global, entry: &[u8]) -> Result<Command, Memory>
-    ensures { IfOk result (λ command. IsTrue (has_priority command)) }
-{
-    match read_entry(alloc, entry) {
-        Ok(entry) => Ok(entry.command),
-        Err(_) => Err(Memory),
-    }
-}
-
-/// The settings of a Restart.
-fn settings(alloc: Global) -> Result<Settings, Memory> {
-    match command(alloc, RESTART)? {
-        Command::Restart { now: _, settings } => Ok(settings),
-        _ => Err(Memory),
-    }
-}
 
 /// The sizes of the files of the rows.
 fn sizes_of(alloc: Global, keep: &Keep<MemoryDisk>) -> Result<Vec<u64>, AllocError> {
