@@ -10,6 +10,7 @@ use Rattle.fts_journal.specs.Format.{Stands}
 use Rattle.fts_journal.specs.Journal.{JournalData, IsSound, FailsToAppend, AppendCause, IsBeforeOrAfter, IsImageOf as IsJournalImage}
 use Rattle.fts_journal.specs.declared.fault.JournalFault.{JournalFault}
 use Rattle.fts_journal.specs.declared.fault.JournalFault.TheVariants.{DiskFailed as JournalDiskFailed, Full, NotJournal, Cut, Memory as JournalMemory}
+use Rattle.fts_journal.proofs.Moments.{started, weakened}
 use Rattle.fts_delete.specs.Faults.{fault_of}
 use Rattle.fts_delete.specs.declared.events.Event.{Event}
 use Rattle.fts_delete.specs.declared.rows.DeleteRow.{DeleteRow}
@@ -19,7 +20,6 @@ use Rattle.fts_delete.specs.Spelling.{IsProper, body_of, bodies_of}
 use Rattle.fts_delete.specs.Journals.{DeletesData, used_of, with_doubt, IsLegal}
 use Rattle.fts_delete.specs.Views.{deletes_of, events_in, IsHeld, IsTied}
 use Rattle.fts_delete.specs.Recording.{has_room, fits, KeepsList, IsImageOf, IsImageWith, Readied, AddAnswer, Added}
-use Rattle.fts_delete.proofs.Moments.{begun, weakened}
 use Rattle.fts_delete.proofs.Lists.{rows_more, legal_list, proper_list, bodies_more, filled_more, image_of}
 use Rattle.fts_delete.proofs.Tying.{seen_events, seen_doubt, same_list}
 use Rattle.fts_delete.proofs.Sizes.{body_some}
@@ -103,7 +103,7 @@ module _ {D : Type 0} (state : D → DiskState) (faults : D → ℕ) (lawful : (
 
   -- nothing was called
   pub untouched : IsTold (state journal.disk) → LeavesOnly (state journal.disk) (state journal.disk) (IsImageOf old)
-  untouched told = begun (state journal.disk) (IsImageOf old) (lawful journal.disk told)
+  untouched told = started (state journal.disk) (lawful journal.disk told) (IsImageOf old)
       (λ content left. image_seen told content (tied.held.images told content left))
 
   -- there was no room

@@ -11,19 +11,6 @@ use Rattle.fts_record.specs.Reading.{read_of, entry_in as entry_of_bytes, ok_of}
 use Rattle.fts_jobdoc.specs.Json.{value_of}
 use Rattle.fts_standby.specs.Entries.{if_entry, entry_shown, entry_in, has_rule_47, says_no_entry}
 
--- what was read of a body
-pub value_of-read : (body : List ℕ) (value : Data) → IsUtf8 body → read body ≡ Some value → value_of body ≡ Some value
-value_of-read body value utf8 is = rw (is_utf8-from_IsUtf8 body utf8) is
-
--- a body is no JSON if it is no UTF-8, or if nothing is read of it
-by_utf8 : (utf8 : Bool) (value : Option Data) → (utf8 ≡ true → value ≡ None) → cond utf8 value None ≡ None
-by_utf8 true value none = none refl
-by_utf8 false value none = refl
-
--- a body that can't be read
-pub value_of-refused : (body : List ℕ) → (IsUtf8 body → read body ≡ None) → value_of body ≡ None
-value_of-refused body refused = by_utf8 (is_utf8 body) (read body) (λ e. refused (IsUtf8-from_is_utf8 body e))
-
 -- bytes of which an entry was read
 pub entry-read : (bytes : List ℕ) (entry : Entry) → entry_of_bytes bytes ≡ Ok entry → if_entry bytes ≡ Some bytes
 unfolding read_of
