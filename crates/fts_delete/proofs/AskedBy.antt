@@ -54,10 +54,10 @@ module _ (document : Data) (settings : SettingsData) (items : List Value) (list 
           -- a URL that is none, or no memory to tell
           pub broken_url : (fault : DeleteDocFault) (result : Result (List Place) DeleteDocFault) → Reads (Err fault) (places_read (texts_of (map view items)))
               → result ≡ Err fault → (result ≡ asked_by settings (Some document)) ⊎ (result ≡ Err Memory)
+          unfolding rules_of
           broken_url fault result broken is = by_cause (subst (λ l. Reads (Err fault) (places_read (texts_of l))) list broken)
             where
               by_cause : Reads (Err fault) (places_read (texts_of (asked_items document))) → (result ≡ asked_by settings (Some document)) ⊎ (result ≡ Err Memory)
-              unfolding rules_of
               by_cause (inl e) = inl (is
                   ∙ rw (object, is_none false some, are_few few, are_texts true texts, none_read (first_url_fault (texts_of (asked_items document))) _ fault e) refl)
               by_cause (inr e) = inr (is ∙ e)

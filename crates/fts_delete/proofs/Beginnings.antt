@@ -1,5 +1,5 @@
 -- What a beginning of a list makes.
-use Rattle.std.proofs.Common.{◌≡◌, refl, sym, ◌∙◌, ap, subst, Option, Some, None, List, [], ◌∷◌, ◌++◌}
+use Rattle.std.proofs.Common.{◌≡◌, refl, sym, ◌∙◌, Option, Some, None, List, [], ◌∷◌, ◌++◌}
 use Rattle.fts_delete.specs.declared.rows.DeleteRow.{DeleteRow}
 use Rattle.fts_delete.specs.declared.events.Event.{Event}
 use Rattle.fts_delete.specs.Rows.{rows_after, rows_from}

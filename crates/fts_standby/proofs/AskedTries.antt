@@ -1,6 +1,5 @@
 -- One try more for an entry, and the last one.
 use Rattle.std.proofs.Common.{◌≡◌, ℕ, ◌+◌, ◌≤◌, false, List, [], ◌∷◌, ◌++◌, length, Ok, Err, refl, ap, ◌∙◌, subst, arith, length-append}
-use Rattle.std.specs.List.{AllByRecursion}
 use Rattle.fts_tables.specs.declared.names.Memory.{Memory as WantOfMemory}
 use Rattle.fts_wire.specs.Outside.{Side}
 use Rattle.fts_client.specs.Links.{LinkData}

@@ -1,11 +1,8 @@
 -- A body against what `serde_json` says of it, bytes against what the record says of them, and what is then heard.
-use Rattle.std.proofs.Common.{◌≡◌, Bool, true, false, cond, ℕ, List, Option, Some, None, option_map, Ok, Err, refl, ap}
-use Rattle.std.specs.Prelude.{IsUtf8, option_and_then}
+use Rattle.std.proofs.Common.{◌≡◌, false, ℕ, List, Some, None, option_map, Ok, Err, ap}
+use Rattle.std.specs.Prelude.{option_and_then}
 use Rattle.std.specs.Option.{option_map_or}
-use Rattle.std.specs.Str.{is_utf8}
-use Rattle.std.proofs.lemmas.Str.{IsUtf8-from_is_utf8, is_utf8-from_IsUtf8}
 use Rattle.serde_json.specs.Data.{Data}
-use Rattle.serde_json.specs.Read.{read}
 use Rattle.fts_tables.specs.declared.commands.Entry.{Entry}
 use Rattle.fts_record.specs.Reading.{read_of, entry_in as entry_of_bytes, ok_of}
 use Rattle.fts_jobdoc.specs.Json.{value_of}
