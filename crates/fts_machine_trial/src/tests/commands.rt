@@ -5,8 +5,8 @@ use super::plain::{
     PlainCommand, PlainEndpoint, PlainLink, PlainNewJob, PlainPlace, PlainSettings, PlainWeight,
 };
 use fts_tables::{
-    Command, Endpoint, EndpointName, Items, JobKind, Label, LinkRule, Memory, NewFile, NewJob,
-    PathKey, Place, Settings, Weight,
+    Command, Endpoint, EndpointName, Items, Label, LinkRule, Memory, NewFile, NewJob, PathKey,
+    Place, Settings, Weight,
 };
 use std::alloc::Global;
 
@@ -119,10 +119,7 @@ fn files_of(alloc: Global, plain: &PlainNewJob) -> Result<Items<NewFile>, Memory
     let mut files = Items::new(alloc);
     let mut place = 0u32;
     for file in &plain.files {
-        let index = match plain.kind {
-            JobKind::Plain | JobKind::Multihop => place,
-            JobKind::Replica => 0,
-        };
+        let index = plain.index_at(place);
         let source = place_of(alloc, file.source)?;
         let dest = place_of(alloc, file.dest)?;
         let activity = Label::new(alloc, activity_text(file.activity))?;

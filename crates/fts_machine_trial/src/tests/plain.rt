@@ -67,6 +67,16 @@ pub struct PlainNewJob {
     pub files: Vec<PlainFile>,
 }
 
+impl PlainNewJob {
+    /// The index of the file at a place: its own, but the sources of a replica job share its one file's.
+    pub fn index_at(&self, place: u32) -> u32 {
+        match self.kind {
+            JobKind::Plain | JobKind::Multihop => place,
+            JobKind::Replica => 0,
+        }
+    }
+}
+
 /// What the machine is told, with the moment.
 #[derive(Debug, Drop)]
 pub enum PlainCommand {

@@ -204,18 +204,10 @@ impl<'a> Told<'a> {
 
     /// The number of the storage that the command bans, or whose ban it ends.
     fn storage(&self) -> Option<u8> {
-        match self.command {
-            Command::Ban { storage, .. } | Command::Unban { storage, .. } => {
-                endpoint_number(storage.as_str())
-            }
-            Command::Restart { .. }
-            | Command::Submit { .. }
-            | Command::CancelJob { .. }
-            | Command::CancelFile { .. }
-            | Command::SetPriority { .. }
-            | Command::Claim { .. }
-            | Command::Report { .. }
-            | Command::Expire { .. } => None,
+        if let Command::Ban { storage, .. } | Command::Unban { storage, .. } = self.command {
+            endpoint_number(storage.as_str())
+        } else {
+            None
         }
     }
 
@@ -289,17 +281,10 @@ impl<'a> Told<'a> {
 
     /// The moment that an expiry carries.
     fn own_moment(&self) -> u64 {
-        match self.command {
-            Command::Expire { now } => *now,
-            Command::Restart { .. }
-            | Command::Submit { .. }
-            | Command::CancelJob { .. }
-            | Command::CancelFile { .. }
-            | Command::SetPriority { .. }
-            | Command::Claim { .. }
-            | Command::Report { .. }
-            | Command::Ban { .. }
-            | Command::Unban { .. } => self.machine.moment(),
+        if let Command::Expire { now } = self.command {
+            *now
+        } else {
+            self.machine.moment()
         }
     }
 

@@ -102,10 +102,7 @@ fn made_rows(
     let mut rows = Vec::new(alloc);
     let mut place = 0u32;
     for file in &new.files {
-        let index = match new.kind {
-            JobKind::Plain | JobKind::Multihop => place,
-            JobKind::Replica => 0,
-        };
+        let index = new.index_at(place);
         rows.push(made_row(first.saturating_add(place), job, index, state, file))?;
         place = place.saturating_add(1);
     }
