@@ -10,7 +10,7 @@ use crate::ends::end_of_query;
 use crate::tells::tell_body;
 use fts_client::{Link, QueryEnd, query};
 use fts_tables::Memory;
-use fts_wire::{AnswerRoom, Sink, SinkFailed};
+use fts_wire::{AnswerRoom, Sink};
 use std::alloc::Global;
 
 /// Asks the service on a port of this machine for a job, in at most `tries` tries, and writes its object.
@@ -43,15 +43,9 @@ fn tell<K: Sink>(output: &mut K, body: &[u8], end: QueryEnd) -> bool
     ensures told { TellsBody body.now end (K.held output.old) (K.held output.new) result }
     ensures cause { result ≡ false → Rose (K.faults output.old) (K.faults output.new) }
 {
-    match end {
-        QueryEnd::Found => match tell_body(output, body) {
-            Ok(()) => true,
-            Err(SinkFailed) => false,
-        },
-        QueryEnd::Refused { status: _ }
-        | QueryEnd::LinkFailed
-        | QueryEnd::CannotServe { status: _ }
-        | QueryEnd::NoAnswer
-        | QueryEnd::Memory => true,
+    if let QueryEnd::Found = end {
+        tell_body(output, body).is_ok()
+    } else {
+        true
     }
 }

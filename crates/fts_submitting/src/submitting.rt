@@ -12,7 +12,7 @@ use fts_client::{Link, SubmitEnd, submit};
 use fts_jobdoc::{DocFault, read_sid};
 use fts_tables::Memory;
 use fts_tables::limits::MAX_CONTENT_BYTES;
-use fts_wire::{AnswerRoom, ReadAllFault, Sink, SinkFailed, Source, read_all};
+use fts_wire::{AnswerRoom, ReadAllFault, Sink, Source, read_all};
 use std::alloc::Global;
 
 /// The rule that a document breaks which is too long.
@@ -53,16 +53,10 @@ fn tell<K: Sink>(output: &mut K, end: SubmitEnd) -> bool
     ensures told { TellsId end (K.held output.old) (K.held output.new) result }
     ensures cause { result ≡ false → Rose (K.faults output.old) (K.faults output.new) }
 {
-    match end {
-        SubmitEnd::Done { job, again: _ } => match tell_id(output, job) {
-            Ok(()) => true,
-            Err(SinkFailed) => false,
-        },
-        SubmitEnd::Refused { status: _ }
-        | SubmitEnd::LinkFailed
-        | SubmitEnd::CannotServe { status: _ }
-        | SubmitEnd::NoAnswer
-        | SubmitEnd::Memory => true,
+    if let SubmitEnd::Done { job, again: _ } = end {
+        tell_id(output, job).is_ok()
+    } else {
+        true
     }
 }
 
