@@ -54,7 +54,10 @@ module _ {D : Type 0} (state : D → DiskState) (faults : D → ℕ) (old : Dele
     moments = λ told. weakened (state old.disk) (state old.disk) (IsImageOf old) (IsImageWith old (Ask places)) (still told) (λ content there. inl there);
   }
 
-  module _ (few : nat_lt most_rows (length old.rows + length places) ≡ false) where
+  module _ (below : length old.rows + length places ≤ most_rows) where
+    few : nat_lt most_rows (length old.rows + length places) ≡ false
+    few = not_more most_rows (length old.rows + length places) below
+
     -- there was no memory before any call
     pub asked_memory : (IsTold (state old.disk) → LeavesOnly (state old.disk) (state old.disk) (IsImageOf old))
         → Asked state faults old old places (Err Memory)

@@ -195,12 +195,9 @@ pub fn play_all(rt: &HostRuntime) -> io::Result<()> {
     let alloc = rt.alloc();
     let none = over_a_new_keep(rt, Vec::new(alloc), "replies-over-no-job.rows")?;
     tell(rt, "replies over no job", none)?;
-    let methods = to_each_method(rt)?;
-    tell(rt, "replies to each method", methods)?;
-    let jobs = over_two_jobs(rt)?;
-    tell(rt, "replies over two jobs", jobs)?;
-    let finished = over_a_finished_job(rt)?;
-    tell(rt, "replies over a finished job", finished)?;
+    tell(rt, "replies to each method", to_each_method(rt)?)?;
+    tell(rt, "replies over two jobs", over_two_jobs(rt)?)?;
+    tell(rt, "replies over a finished job", over_a_finished_job(rt)?)?;
     let own = over_a_new_keep(rt, Vec::new(alloc), "replies-to-an-own-id-twice.rows")?;
     tell(rt, "replies to an own id twice", own)?;
     let failing = over_a_new_keep(
@@ -209,11 +206,8 @@ pub fn play_all(rt: &HostRuntime) -> io::Result<()> {
         "replies-over-a-disk-that-fails-once.rows",
     )?;
     tell(rt, "replies over a disk that fails once", failing)?;
-    let changes = to_each_change(rt)?;
-    tell(rt, "replies to each change", changes)?;
-    let bans = to_bans(rt)?;
-    tell(rt, "replies to bans", bans)?;
-    let looks = to_looks_at_entries(rt)?;
-    tell(rt, "replies to looks at entries", looks)?;
+    tell(rt, "replies to each change", to_each_change(rt)?)?;
+    tell(rt, "replies to bans", to_bans(rt)?)?;
+    tell(rt, "replies to looks at entries", to_looks_at_entries(rt)?)?;
     Ok(())
 }
