@@ -1,5 +1,5 @@
 -- The exits of asking.
-use Rattle.std.proofs.Common.{◌≡◌, ◌≤◌, ◌+◌, true, false, rules, arith, sym, subst, Ok, Err, ap, ◌∙◌, length, nat_lt}
+use Rattle.std.proofs.Common.{◌≡◌, ◌≤◌, ◌+◌, true, rules, arith, sym, subst, Ok, Err, ap, ◌∙◌, length, nat_lt}
 use Rattle.std.proofs.lemmas.Bool.{lt-ltb}
 use Rattle.fts_delete.specs.declared.events.Event.TheVariants.{Ask}
 use Rattle.fts_delete.specs.declared.fault.DeleteFault.TheVariants.{Memory, RowsFull}
