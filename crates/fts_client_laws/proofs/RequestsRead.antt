@@ -18,36 +18,16 @@ use Rattle.fts_wire.specs.Look.{Headed, sight_body, sight_fields, sight_head, si
 use Rattle.fts_wire.specs.Requests.{Next, next_of, next_by, asks, is_open, IsShort, Closed, EndsInside, Refuses, Asks}
 use Rattle.fts_wire.proofs.Stable.{StaysNext, next_more}
 use Rattle.fts_client.specs.RequestBytes.{submission_bytes}
+use Rattle.fts_client.proofs.DigitBytes.{IsDigit, AreDigits, decimal_digits, not_10, each_digit}
+use Rattle.fts_client.proofs.OpenRequests.{host_line, close_line, empty_line, open_before}
 use Rattle.fts_client_laws.specs.Submitting.{submission_of}
 
--- a decimal digit, and each byte is one
-abbrev IsDigit : ℕ → Type 0
-IsDigit byte = (48 ≤ byte) × (byte ≤ 57)
-
-abbrev AreDigits : List ℕ → Type 0
-AreDigits [] = Unit {0}
-AreDigits (byte ∷ bytes) = IsDigit byte × AreDigits bytes
-
-digits-push : (bytes : List ℕ) (byte : ℕ) → AreDigits bytes → IsDigit byte → AreDigits (bytes ++ byte ∷ [])
-digits-push [] byte are is = (is, tt)
-digits-push (first ∷ bytes) byte are is = (are.0, digits-push bytes byte are.1 is)
-
-decimal_digits : (n : ℕ) → n < 2 ^ 64 → AreDigits (decimal n)
-decimal_digits n small = decimal_by_steps (λ _ bytes. AreDigits bytes) (λ digit few. ((omega arith, omega (arith, few)), tt))
-    (λ number bytes more are. digits-push bytes (48 + number % 10) are (omega arith, omega arith)) n small
-
 -- a digit is none of the bytes that end something, and no white space
-not_10 : (byte : ℕ) → IsDigit byte → (byte == 10) ≡ false
-not_10 byte is = grind (arith, nat_tests, is.0)
-
 no_newline : (byte : ℕ) → IsDigit byte → is_newline byte ≡ false
 no_newline byte is = grind (arith, nat_tests, is.0)
 
 no_space : (byte : ℕ) → IsDigit byte → is_ows byte ≡ false
 no_space byte is = grind (arith, nat_tests, is.0)
-
-value_byte : (byte : ℕ) → IsDigit byte → is_value_byte byte ≡ true
-value_byte byte is = grind (arith, nat_tests, is.0, is.1)
 
 -- the line that digits end
 line_of_digits : (word more : List ℕ) → AreDigits word → lines_of (word ++ 13 ∷ 10 ∷ more) ≡ (word ++ 13 ∷ 10 ∷ []) ∷ lines_of more
@@ -91,8 +71,7 @@ end_of_digits (byte ∷ word) = by_test (is_return byte) (end_of_digits word)
     by_test false behind = behind
 
 value_of_digits : (word : List ℕ) → AreDigits word → list_all is_value_byte word ≡ true
-value_of_digits [] are = refl
-value_of_digits (byte ∷ word) are = rw (value_byte byte are.0) (value_of_digits word are.1)
+value_of_digits word are = each_digit is_value_byte (λ byte is. grind (arith, nat_tests, is.0, is.1)) word are
 
 -- digits stay as they are where white space around them is dropped
 digits-append : (one other : List ℕ) → AreDigits one → AreDigits other → AreDigits (one ++ other)
@@ -120,17 +99,8 @@ trimmed word are =
 abbrev first_line : List ℕ
 first_line = codes "POST /jobs HTTP/1.1\r\n"
 
-abbrev host_line : List ℕ → List ℕ
-host_line port = codes "Host: 127.0.0.1:" ++ (port ++ 13 ∷ 10 ∷ [])
-
 abbrev length_line : List ℕ → List ℕ
 length_line word = codes "Content-Length: " ++ (word ++ 13 ∷ 10 ∷ [])
-
-abbrev close_line : List ℕ
-close_line = codes "Connection: close\r\n"
-
-abbrev empty_line : List ℕ
-empty_line = codes "\r\n"
 
 abbrev five_lines : List ℕ → List ℕ → List (List ℕ)
 five_lines port word = first_line ∷ host_line port ∷ length_line word ∷ close_line ∷ empty_line ∷ []
@@ -321,24 +291,6 @@ submission_is_read port document near few =
     ∙ asked_whole (concat (five_lines (decimal port) (decimal (length document)))) document)
 
 -- ---- parts of a submission
-
-no_rest : (rest more : List ℕ) → rest ++ more ≡ [] → more ≡ []
-no_rest [] more is = is
-no_rest (byte ∷ rest) more is = cc
-
--- what is behind a request, and the fault of bytes that are refused
-abbrev rest_of : Next → List ℕ
-rest_of Closed = 1 ∷ []
-rest_of EndsInside = 1 ∷ []
-rest_of (Refuses fault) = 1 ∷ []
-rest_of (Asks request rest) = rest
-
--- where bytes more make bytes a submission, they were open before
-open_before : (first : Next) (more : List ℕ) (whole : Next) (request : RequestData) → StaysNext first more whole → whole ≡ Asks request [] → more ≢ [] → is_open first ≡ true
-open_before Closed more whole request stays is some = refl
-open_before EndsInside more whole request stays is some = refl
-open_before (Refuses fault) more whole request stays is some = let clash : Refuses fault ≡ Asks request [] = sym stays ∙ is in cc
-open_before (Asks one rest) more whole request stays is some = absurd (some (no_rest rest more (ap rest_of (sym stays ∙ is))))
 
 -- a part of a submission asks for nothing
 pub part_is_open : (port : ℕ) (document part more : List ℕ) → port ≤ 65535 → length document ≤ 1048576 → submission_bytes port document ≡ part ++ more → more ≢ []

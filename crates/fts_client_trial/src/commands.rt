@@ -45,7 +45,7 @@ fn is_ended_so(
 }
 
 /// Whether so many lines of a link came back, each with this request alone, and nothing but this port was dialed, if anything was.
-fn is_asked_so(link: &MemoryLink, request: &str, back: usize, port: Option<u16>) -> bool {
+pub fn is_asked_so(link: &MemoryLink, request: &str, back: usize, port: Option<u16>) -> bool {
     let whole = link
         .back()
         .iter()

@@ -6,6 +6,7 @@ use crate::answers::{
     CREATED, CUT, DISK_FAILED, DOCUMENT, DUPLICATE, JOB, NEVER, NO_DIAL, NO_MEMORY, NOT_FOUND,
     NOT_JSON, PORT, QUERY, REQUEST, link, link_of_one,
 };
+use crate::commands::is_asked_so;
 use fts_client::{Link, MemoryLink, QueryEnd, SubmitEnd, Tried, query, submit, try_once};
 use fts_wire::{AnswerFault, AnswerRoom, MemoryLine, MemorySink, MemorySource, Sink};
 use std::alloc::Global;
@@ -300,19 +301,17 @@ fn a_hostile_answer_is_read_no_further_than_its_fault(rt: HostRuntime) -> Result
     Ok(())
 }
 
+/// Submits the document in one try.
+fn submit_once(alloc: Global, link: &mut MemoryLink, room: &mut AnswerRoom) -> SubmitEnd {
+    submit(alloc, link, PORT, DOCUMENT.as_bytes(), 1, room)
+}
+
 #[test]
 fn bytes_behind_an_answer_are_left_alone(rt: HostRuntime) -> Result<(), Fail> {
     let two = format!(in rt.alloc(); "{CREATED}{NOT_JSON}")?;
     let mut link = link_of_one(rt.alloc(), two.as_str(), NEVER, NEVER)?;
     let mut room = AnswerRoom::new(rt.alloc())?;
-    let end = submit(
-        rt.alloc(),
-        &mut link,
-        PORT,
-        DOCUMENT.as_bytes(),
-        1,
-        &mut room,
-    );
+    let end = submit_once(rt.alloc(), &mut link, &mut room);
     assert_eq!(rt; end, DONE, "the first answer counts");
     let tried = tried_on(rt.alloc(), CREATED, 70_000, 2)?;
     assert!(rt; tried == Tried::Sent(Ok(200)), "no second piece is read");
@@ -341,20 +340,10 @@ fn a_failing_read_or_write_is_the_link_s(rt: HostRuntime) -> Result<(), Fail> {
     ] {
         let mut link = link_of_one(rt.alloc(), CUT, read, write)?;
         let mut room = AnswerRoom::new(rt.alloc())?;
-        let end = submit(
-            rt.alloc(),
-            &mut link,
-            PORT,
-            DOCUMENT.as_bytes(),
-            1,
-            &mut room,
-        );
+        let end = submit_once(rt.alloc(), &mut link, &mut room);
         assert!(rt; end == SubmitEnd::LinkFailed, "{case}");
-        let is_written = link
-            .back()
-            .iter()
-            .all(|line| line.bytes() == written.as_bytes());
-        assert!(rt; is_written && link.back().len() == 1, "{case}: the line");
+        let is_written = is_asked_so(&link, written, 1, Some(PORT));
+        assert!(rt; is_written, "{case}: the line");
     }
     Ok(())
 }

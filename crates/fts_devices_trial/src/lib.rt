@@ -4,16 +4,4 @@
 #![tactic(auto)]
 
 #[cfg(test)]
-mod accepting;
-#[cfg(test)]
-mod folders;
-#[cfg(test)]
-mod outside;
-#[cfg(test)]
-mod paths;
-#[cfg(test)]
-mod sockets;
-#[cfg(test)]
-mod stand;
-#[cfg(test)]
-mod threads;
+mod tests;

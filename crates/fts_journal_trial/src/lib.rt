@@ -4,12 +4,4 @@
 #![tactic(auto)]
 
 #[cfg(test)]
-mod ends;
-#[cfg(test)]
-mod growing;
-#[cfg(test)]
-mod journal;
-#[cfg(test)]
-mod keep;
-#[cfg(test)]
-mod record;
+mod tests;

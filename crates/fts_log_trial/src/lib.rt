@@ -4,12 +4,4 @@
 #![tactic(auto)]
 
 #[cfg(test)]
-mod kept;
-#[cfg(test)]
-mod lines;
-#[cfg(test)]
-mod logged;
-#[cfg(test)]
-mod over;
-#[cfg(test)]
-mod refusing;
+mod tests;

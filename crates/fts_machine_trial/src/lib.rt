@@ -5,42 +5,4 @@
 #![tactic(auto)]
 
 #[cfg(test)]
-mod bans;
-#[cfg(test)]
-mod cancellations;
-#[cfg(test)]
-mod choices;
-#[cfg(test)]
-mod claims;
-#[cfg(test)]
-mod commands;
-#[cfg(test)]
-mod comparison;
-#[cfg(test)]
-mod coverage;
-#[cfg(test)]
-mod expiries;
-#[cfg(test)]
-mod generator;
-#[cfg(test)]
-mod jobs;
-#[cfg(test)]
-mod lawful;
-#[cfg(test)]
-mod machine;
-#[cfg(test)]
-mod plain;
-#[cfg(test)]
-mod rarities;
-#[cfg(test)]
-mod reports;
-#[cfg(test)]
-mod restarts;
-#[cfg(test)]
-mod scripts;
-#[cfg(test)]
-mod submissions;
-#[cfg(test)]
 mod tests;
-#[cfg(test)]
-mod worked;

@@ -1,12 +1,33 @@
 //! A desk and the plain machine, driven through the same generated commands.
-use crate::commands::command_of;
-use crate::comparison::{
+
+mod bans;
+mod cancellations;
+mod choices;
+mod claims;
+mod commands;
+mod comparison;
+mod coverage;
+mod expiries;
+mod generator;
+mod jobs;
+mod lawful;
+mod machine;
+mod plain;
+mod rarities;
+mod reports;
+mod restarts;
+mod scripts;
+mod submissions;
+mod worked;
+
+use self::commands::command_of;
+use self::comparison::{
     are_same_bans, are_same_jobs, are_same_rows, is_same_held, is_same_picked_job,
 };
-use crate::coverage::Coverage;
-use crate::generator::Generator;
-use crate::machine::PlainMachine;
-use crate::rarities::{Before, Rarities, Told};
+use self::coverage::Coverage;
+use self::generator::Generator;
+use self::machine::PlainMachine;
+use self::rarities::{Before, Rarities, Told};
 use fts_desk::{Desk, DeskFault};
 use fts_tables::{Answer, Command, LinkAt, Memory, Refusal};
 use std::alloc::Global;

@@ -5,18 +5,4 @@
 #![tactic(auto)]
 
 #[cfg(test)]
-mod choice;
-#[cfg(test)]
-mod index;
-#[cfg(test)]
-mod made;
-#[cfg(test)]
-mod queue;
-#[cfg(test)]
-mod sets;
-#[cfg(test)]
-mod slots;
-#[cfg(test)]
-mod states;
-#[cfg(test)]
-mod tables;
+mod tests;

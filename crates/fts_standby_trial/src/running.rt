@@ -22,6 +22,14 @@ fn note_of(alloc: Global, end: FollowRunEnd) -> Result<MemorySink, Fail> {
     }
 }
 
+/// Whether the journal on a disk has the first entries and no others.
+fn keeps(alloc: Global, disk: MemoryDisk, entries: usize) -> Result<bool, Fail> {
+    match Journal::load(alloc, disk) {
+        Ok(mut journal) => Ok(has(alloc, &mut journal, entries)),
+        Err(_) => Err(Fail::new("no journal is loaded")),
+    }
+}
+
 #[test]
 fn an_empty_standby_has_all_of_its_primary(rt: HostRuntime) -> Result<(), Fail> {
     let alloc = rt.alloc();
@@ -35,49 +43,39 @@ fn an_empty_standby_has_all_of_its_primary(rt: HostRuntime) -> Result<(), Fail> 
         "where it came to"
     );
     assert!(rt; note_of(alloc, end)?.bytes().is_empty(), "nothing is noted");
-    let Ok(mut journal) = Journal::load(alloc, disk) else {
-        panic!(rt; "its journal is loaded")
-    };
-    assert!(rt; has(alloc, &mut journal, 3), "the same entries");
+    assert!(rt; keeps(alloc, disk, 3)?, "the same entries");
     Ok(())
+}
+
+/// Whether a run over these answers, whose standby has the first entries, ends with this status and this note, and its journal is as it was.
+fn stays_so(
+    alloc: Global,
+    entries: usize,
+    answers: [&str; 4],
+    tries: u32,
+    want: (u8, &str),
+) -> Result<bool, Fail> {
+    let disk = journal(alloc, entries, NO_CALL)?.close();
+    let mut link = link(alloc, answers, NO_DIAL)?;
+    let mut output = MemorySink::new(alloc, vec![in alloc; NEVER]?);
+    let (end, disk) = run_follow(alloc, PORT, tries, disk, &mut link, &mut output);
+    let is_told = end.status() == want.0 && note_of(alloc, end)?.bytes() == want.1.as_bytes();
+    Ok(is_told && output.bytes().is_empty() && keeps(alloc, disk, entries)?)
 }
 
 #[test]
 fn a_last_entry_that_differs_is_told(rt: HostRuntime) -> Result<(), Fail> {
-    let alloc = rt.alloc();
-    let disk = journal(alloc, 4, NO_CALL)?.close();
-    let mut link = link(alloc, [OTHER_FOURTH, NO_ENTRY, "", ""], NO_DIAL)?;
-    let mut output = MemorySink::new(alloc, vec![in alloc; NEVER]?);
-    let (end, disk) = run_follow(alloc, PORT, 3, disk, &mut link, &mut output);
-    assert!(rt; end.status() == 22, "status 22");
-    assert!(rt;
-        note_of(alloc, end)?.bytes() == "fts: diverged at 3\n".as_bytes(),
-        "the note"
-    );
-    assert!(rt; output.bytes().is_empty(), "nothing is written");
-    let Ok(mut journal) = Journal::load(alloc, disk) else {
-        panic!(rt; "its journal is loaded")
-    };
-    assert!(rt; has(alloc, &mut journal, 4), "its entries stay");
+    let answers = [OTHER_FOURTH, NO_ENTRY, "", ""];
+    let is_so = stays_so(rt.alloc(), 4, answers, 3, (22, "fts: diverged at 3\n"))?;
+    assert!(rt; is_so, "status 22 and the note, and its entries stay");
     Ok(())
 }
 
 #[test]
 fn an_entry_of_another_number_is_not_appended(rt: HostRuntime) -> Result<(), Fail> {
-    let alloc = rt.alloc();
-    let disk = journal(alloc, 1, NO_CALL)?.close();
-    let mut link = link(alloc, [FIRST, FIRST, SECOND, ""], NO_DIAL)?;
-    let mut output = MemorySink::new(alloc, vec![in alloc; NEVER]?);
-    let (end, disk) = run_follow(alloc, PORT, 1, disk, &mut link, &mut output);
-    assert!(rt; end.status() == 17, "status 17");
-    assert!(rt;
-        note_of(alloc, end)?.bytes() == "fts: no whole answer\n".as_bytes(),
-        "the note"
-    );
-    let Ok(mut journal) = Journal::load(alloc, disk) else {
-        panic!(rt; "its journal is loaded")
-    };
-    assert!(rt; has(alloc, &mut journal, 1), "nothing is appended");
+    let answers = [FIRST, FIRST, SECOND, ""];
+    let is_so = stays_so(rt.alloc(), 1, answers, 1, (17, "fts: no whole answer\n"))?;
+    assert!(rt; is_so, "status 17 and the note, and nothing is appended");
     Ok(())
 }
 

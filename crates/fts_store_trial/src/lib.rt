@@ -6,24 +6,4 @@
 #![tactic(auto)]
 
 #[cfg(test)]
-mod copy;
-#[cfg(test)]
-mod copy_changes;
-#[cfg(test)]
-mod copy_changing;
-#[cfg(test)]
-mod copy_tidied;
-#[cfg(test)]
-mod deeds;
-#[cfg(test)]
-mod files;
-#[cfg(test)]
-mod files_noting;
-#[cfg(test)]
-mod grid;
-#[cfg(test)]
-mod store;
-#[cfg(test)]
-mod store_edges;
-#[cfg(test)]
-mod store_removing;
+mod tests;

@@ -5,28 +5,4 @@
 #![tactic(auto)]
 
 #[cfg(test)]
-mod answers;
-#[cfg(test)]
-mod checks;
-#[cfg(test)]
-mod config;
-#[cfg(test)]
-mod interrupts;
-#[cfg(test)]
-mod jobdoc;
-#[cfg(test)]
-mod jobdoc_cases;
-#[cfg(test)]
-mod joburl;
-#[cfg(test)]
-mod load;
-#[cfg(test)]
-mod wire;
-#[cfg(test)]
-mod wire_readers;
-#[cfg(test)]
-mod wire_responses;
-#[cfg(test)]
-mod words;
-#[cfg(test)]
-mod words_cases;
+mod tests;

@@ -1,0 +1,10 @@
+//! The tests, a module a part, and `made`, the values that they share.
+
+mod choice;
+mod index;
+mod made;
+mod queue;
+mod sets;
+mod slots;
+mod states;
+mod tables;
