@@ -1,22 +1,22 @@
 -- The bytes of a submission are read as that submission, whatever its document, on each port.
-use Rattle.std.proofs.Common.{◌≡◌, ◌≢◌, ℕ, zero, suc, ◌+◌, ◌-◌, ◌%◌, ◌^◌, ◌<◌, ◌≤◌, Bool, true, false, cond, List, [], ◌∷◌, ◌++◌, length, take, drop, reverse, Some, None, Ok, codes, refl, ap, ap₂, sym, ◌∙◌, arith, append_assoc, le-leb, eq-eqb, length-append, true≢false}
-use Rattle.std.specs.Prelude.{decimal, ◌==◌, ◌&&◌, ◌||◌, not, nat_le, bytes_eq, if◌then◌else◌}
+use Rattle.std.proofs.Common.{◌≡◌, ◌≢◌, ℕ, zero, suc, ◌+◌, ◌-◌, ◌^◌, ◌<◌, ◌≤◌, Bool, true, false, cond, List, [], ◌∷◌, ◌++◌, length, take, drop, reverse, Some, None, Ok, codes, refl, ap, ap₂, sym, ◌∙◌, arith, append_assoc, le-leb, eq-eqb, length-append, true≢false}
+use Rattle.std.specs.Prelude.{decimal, ◌&&◌, ◌||◌, not, nat_le, bytes_eq, if◌then◌else◌}
 use Rattle.std.specs.List.{concat, list_any, list_all, before_first, prefix_len}
 use Rattle.std.specs.Str.{is_utf8, chars, all_ascii_digits}
 use Rattle.std.specs.Char.{is_ascii_digit}
-use Rattle.std.proofs.lemmas.Fmt.{decimal_is_IsNumeral, decimal_by_steps, length-decimal-le, decimal_nonempty}
+use Rattle.std.proofs.lemmas.Fmt.{decimal_is_IsNumeral, length-decimal-le, decimal_nonempty}
 use Rattle.std.proofs.lemmas.Bool.Decides.{nat_tests}
 use Rattle.std.proofs.lemmas.List.{reverse-reverse, drop_at}
 use mathlib.Core.List.{reverse_aux}
 use Rattle.httparse.specs.Pieces.{is_newline}
 use Rattle.httparse.specs.Grammar.{is_ows, is_value_byte, skip_ows, trim_ows, RequestHead, crlf, lf, print_request}
 use Rattle.httparse.proofs.OnLiterals.{httparse_on_literals}
-use Rattle.fts_wire.specs.RequestData.{HeadData, RequestData}
+use Rattle.fts_wire.specs.RequestData.{HeadData}
 use Rattle.fts_wire.specs.Fields.{length_of}
 use Rattle.fts_wire.specs.Head.{lines_of, head_lines, request_of, head_if, head_of, is_return, is_request}
 use Rattle.fts_wire.specs.Look.{Headed, sight_body, sight_fields, sight_head, sight_lines, sight_by, sight_in, sight_of}
-use Rattle.fts_wire.specs.Requests.{Next, next_of, next_by, asks, is_open, IsShort, Closed, EndsInside, Refuses, Asks}
-use Rattle.fts_wire.proofs.Stable.{StaysNext, next_more}
+use Rattle.fts_wire.specs.Requests.{next_of, next_by, asks, IsShort, EndsInside, Asks}
+use Rattle.fts_wire.proofs.Stable.{next_more}
 use Rattle.fts_client.specs.RequestBytes.{submission_bytes}
 use Rattle.fts_client.proofs.DigitBytes.{IsDigit, AreDigits, decimal_digits, not_10, each_digit}
 use Rattle.fts_client.proofs.OpenRequests.{host_line, close_line, empty_line, open_before}

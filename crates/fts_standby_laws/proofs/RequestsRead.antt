@@ -1,6 +1,6 @@
 -- The bytes of the request for an entry are read as that request, for each number and on each port.
 use Rattle.std.proofs.Common.{◌≡◌, ◌≢◌, ℕ, zero, suc, ◌+◌, ◌^◌, ◌<◌, ◌≤◌, Bool, true, false, cond, List, [], ◌∷◌, ◌++◌, length, take, drop, Some, None, codes, refl, ap, ap₂, sym, ◌∙◌, arith, append_assoc, le-leb, eq-eqb, length-append, true≢false, lt-ltb}
-use Rattle.std.specs.Prelude.{decimal, ◌==◌, ◌&&◌, ◌||◌, not, nat_lt, bytes_eq, if◌then◌else◌}
+use Rattle.std.specs.Prelude.{decimal, ◌&&◌, ◌||◌, not, nat_lt, bytes_eq, if◌then◌else◌}
 use Rattle.std.specs.List.{concat, list_any, list_all, before_first, after_first, position_or_len}
 use Rattle.std.specs.Str.{is_utf8}
 use Rattle.std.proofs.lemmas.Fmt.{IsAscii-decimal, length-decimal-le}
@@ -11,11 +11,11 @@ use Rattle.json.proofs.Printed.Utf8.{IsUtf8-are_ascii}
 use Rattle.httparse.specs.Pieces.{is_newline}
 use Rattle.httparse.specs.Grammar.{is_value_byte, is_uri_byte, trim_ows, RequestHead, crlf, lf, print_request}
 use Rattle.httparse.proofs.OnLiterals.{httparse_on_literals}
-use Rattle.fts_wire.specs.RequestData.{HeadData, RequestData, is_question, path_of, query_of}
+use Rattle.fts_wire.specs.RequestData.{HeadData, is_question, path_of, query_of}
 use Rattle.fts_wire.specs.Head.{lines_of, head_lines, minor_of, request_of, head_if, head_of, is_return, is_space, is_request}
 use Rattle.fts_wire.specs.Look.{Headed, sight_head, sight_lines, sight_by, sight_in, sight_of}
-use Rattle.fts_wire.specs.Requests.{Next, next_of, next_by, asks, is_open, IsShort, Closed, EndsInside, Refuses, Asks}
-use Rattle.fts_wire.proofs.Stable.{StaysNext, next_more}
+use Rattle.fts_wire.specs.Requests.{next_of, next_by, asks, IsShort, EndsInside, Asks}
+use Rattle.fts_wire.proofs.Stable.{next_more}
 use Rattle.fts_client.proofs.DigitBytes.{IsDigit, AreDigits, decimal_digits, not_10, each_digit}
 use Rattle.fts_client.proofs.OpenRequests.{host_line, close_line, empty_line, open_before}
 use Rattle.fts_standby.specs.Asking.{request_bytes}
