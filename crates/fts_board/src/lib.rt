@@ -16,3 +16,4 @@ mod values;
 
 pub use histories::{HistoryAsked, MAX_STEPS, StepLength, history};
 pub use snapshots::{MAX_LINKS_SHOWN, Shown, snapshot};
+pub use states::files_value;

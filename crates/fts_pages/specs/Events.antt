@@ -10,12 +10,12 @@ use Rattle.fts_tables.specs.declared.rows.JobKind.{JobKind}
 use Rattle.fts_tables.specs.declared.rows.JobKind.TheVariants.{Plain, Replica, Multihop}
 use Rattle.fts_tables.specs.declared.rows.JobRow.{JobRow}
 use Rattle.fts_tables.specs.declared.rows.Outcome.{Outcome}
-use Rattle.fts_tables.specs.declared.rows.Outcome.TheVariants.{Verified, SourceMissing, DestinationExists, SourceSize, SourceDigest, ReadBackDiffers, StoreFailed, Stopped}
 use Rattle.fts_tables.specs.declared.rows.Reason.{Reason}
 use Rattle.fts_tables.specs.declared.rows.Reason.TheVariants.{Cancelled, Ended, Expired, None as NoReason}
 use Rattle.fts_chronicle.specs.declared.chronicle.CopyReport.{CopyReport}
 use Rattle.fts_chronicle.specs.declared.events.FileEvent.{FileEvent}
 use Rattle.fts_chronicle.specs.declared.events.FileEvent.TheVariants.{Claimed as FileClaimed, Reported as FileReported, JobCancelled, FileCancelled}
+use Rattle.fts_counts.specs.Outcomes.{size_of}
 use Rattle.fts_routes.specs.Json.{whole_number}
 use Rattle.fts_pages.specs.declared.events.EventShown.{EventShown}
 use Rattle.fts_pages.specs.declared.events.TheConstants.{MAX_EVENTS}
@@ -59,17 +59,6 @@ reason_by Finished outcome = NoReason
 reason_by Failed outcome = Ended outcome
 reason_by Canceled outcome = Cancelled
 reason_by NotUsed outcome = Ended outcome
-
--- the size of a verified copy
-abbrev pub size_of : Outcome → Option ℕ
-size_of (Verified size digest) = Some size
-size_of SourceMissing = None
-size_of DestinationExists = None
-size_of (SourceSize seen) = None
-size_of (SourceDigest seen) = None
-size_of (ReadBackDiffers at) = None
-size_of StoreFailed = None
-size_of Stopped = None
 
 -- the bytes that go with a report, by the state behind it: the size of a file that has finished
 abbrev pub bytes_by : FileState → Outcome → Option ℕ

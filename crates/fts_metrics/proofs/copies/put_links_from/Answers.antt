@@ -5,7 +5,7 @@ use Rattle.std.proofs.lemmas.Grind.{common_steps}
 use Rattle.fts_tables.specs.declared.settings.Endpoint.{Endpoint}
 use Rattle.fts_metrics.specs.Metrics.{link_where}
 use Rattle.fts_metrics.specs.Totals.{link_at, link_place, samples_of, StandsAt}
-use Rattle.fts_metrics.proofs.Places.{listed_at}
+use Rattle.fts_counts.proofs.Places.{listed_at}
 use Rattle.fts_metrics.proofs.Texts.{line_more}
 use Rattle.fts_metrics.proofs.copies.put_links_from.Goals as goal
 

@@ -8,7 +8,7 @@ use Rattle.fts_metrics.specs.Form.{head}
 use Rattle.fts_metrics.specs.Metrics.{files_from}
 use Rattle.fts_metrics.specs.declared.goings.Going.{Going}
 use Rattle.fts_tables.specs.SettingsData.{is_listed}
-use Rattle.fts_metrics.proofs.Places.{listed_at}
+use Rattle.fts_counts.proofs.Places.{listed_at}
 use Rattle.fts_metrics.proofs.Texts.{goes_on, line_more}
 use Rattle.fts_metrics.proofs.files.put_files.Goals as goal
 

@@ -1,9 +1,11 @@
 -- The samples of one link more.
 use Rattle.std.proofs.Common.{◌++◌, ◌∙◌, List, ℕ, ap, sym}
 use Rattle.fts_tables.specs.declared.settings.Endpoint.{Endpoint}
-use Rattle.fts_metrics.specs.Goings.{place_among, states_to, states_on}
+use Rattle.fts_counts.specs.Listed.{place_among}
+use Rattle.fts_metrics.specs.Goings.{states_to, states_on}
 use Rattle.fts_metrics.specs.Metrics.{files_where}
-use Rattle.fts_metrics.proofs.Places.{listed_at, states_between}
+use Rattle.fts_counts.proofs.Places.{listed_at}
+use Rattle.fts_metrics.proofs.Places.{states_between}
 use Rattle.fts_metrics.proofs.Texts.{line_more}
 use Rattle.fts_metrics.proofs.files.put_files_from.Goals as goal
 
