@@ -86,8 +86,8 @@ fn id_of_file(alloc: Global, desk: &Desk, file: u32) -> Result<String, Memory>
     }
 }
 
-// An id as a UUID.
-fn id_text(alloc: Global, id: u128) -> Result<String, Memory>
+/// An id as a UUID in lower case. It fails for want of memory alone.
+pub fn id_text(alloc: Global, id: u128) -> Result<String, Memory>
     ensures { IfOk result (λ text. string_bytes text ≡ id_text id) }
 {
     let mut buffer = Uuid::encode_buffer();

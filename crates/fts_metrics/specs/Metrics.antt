@@ -1,5 +1,5 @@
 -- The metrics of tables: which samples there are, and what each counts.
-use Rattle.std.specs.Prelude.{ℕ, Bool, ◌&&◌, bytes_eq, if◌then◌else◌, List, [], ◌∷◌, ◌++◌, length, codes, filter, count_by, sum_by}
+use Rattle.std.specs.Prelude.{ℕ, Bool, ◌&&◌, bytes_eq, if◌then◌else◌, List, [], ◌++◌, length, codes, filter, count_by, sum_by}
 use Rattle.std.specs.List.{flat_map, list_any}
 use Rattle.fts_tables.specs.Tables.{Tables, is_submitted, is_active, is_finished, is_failed, is_canceled, is_not_used}
 use Rattle.fts_tables.specs.Limits.{is_on_link, held, out_of, into}

@@ -16,7 +16,7 @@ loop-endpoint-preserved c = λ rows listed away.
     let endpoint = c.endpoint-item.result in
     let name = c.as_str-dest.ensures.text in
     let there = listed_at endpoints c.loop-endpoint.endpoint-index endpoint c.loop-endpoint-test.true (sym c.endpoint-item.is) in
-    let states = c.deref.ensures.value ∙ c.in_ok-states.ensures ∙ (λ i. states_to ((c.place_among.ensures ∙ ap (place_among endpoints) name) i) (away i))
+    let states = c.deref.ensures.value ∙ c.in_ok-states.ensures ∙ (λ i. states_to ((c.place_of.ensures ∙ ap (place_among endpoints) name) i) (away i))
     ∙ states_between endpoints source endpoint.name listed there rows ∙ ap (λ (dest : List ℕ). states_on source dest rows) (sym name) in
     line_more (λ (endpoint : Endpoint). files_where rows source endpoint.name) endpoints c.loop-endpoint.endpoint-index endpoint c.loop-endpoint-test.true
     (sym c.endpoint-item.is) c.args.text.now.items c.loop-endpoint.text.items c.put_files_where.new.text.items (c.loop-endpoint.invariant rows listed away)
