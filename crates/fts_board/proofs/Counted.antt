@@ -7,7 +7,8 @@ use Rattle.std.proofs.lemmas.List.{length-take-le}
 use Rattle.std.proofs.lemmas.List.Sums.{sum_by_push, count_by-le-length, length-filter}
 use Rattle.fts_tables.specs.declared.rows.FileRow.{FileRow}
 use Rattle.fts_chronicle.specs.declared.chronicle.CopyReport.{CopyReport}
-use Rattle.fts_board.specs.Reports.{is_verified, bytes_by, bytes_shown, bytes_of}
+use Rattle.fts_counts.specs.Outcomes.{is_verified, bytes_by}
+use Rattle.fts_board.specs.Reports.{bytes_shown, bytes_of}
 use Rattle.fts_board.specs.History.{HistoryQuestion, seconds_of, step_of, is_asked, ends_in, ended_in}
 use Rattle.fts_board.specs.Steps.{ended_of, ended_with, ended_from}
 use Rattle.fts_board.specs.declared.steps.Ended.{Ended}

@@ -1,7 +1,6 @@
 pub mod Summed
 pub mod Counted
 pub mod Plain
-pub mod Counting
 pub mod Pairs
 pub mod Tallied
 pub mod Lists

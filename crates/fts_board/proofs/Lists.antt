@@ -9,7 +9,7 @@ use Rattle.std.proofs.lemmas.List.Elements.{filter_more}
 use Rattle.fts_tables.specs.SettingsData.{is_listed}
 use Rattle.fts_tables.specs.declared.settings.Endpoint.{Endpoint}
 use Rattle.fts_tables.specs.declared.settings.LinkRule.{LinkRule}
-use Rattle.fts_board.specs.Boards.{AreKnown}
+use Rattle.fts_counts.specs.Listed.{AreKnown}
 use Rattle.fts_board.proofs.Tallied.{last_more}
 
 -- what an item more gives

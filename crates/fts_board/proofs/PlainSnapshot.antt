@@ -10,7 +10,8 @@ use Rattle.fts_tables.specs.Tables.{Tables}
 use Rattle.fts_tables.specs.Limits.{is_on_link}
 use Rattle.fts_tables.specs.declared.settings.Endpoint.{Endpoint}
 use Rattle.fts_chronicle.specs.declared.chronicle.CopyReport.{CopyReport}
-use Rattle.fts_board.specs.Snapshot.{endpoints_of, links_of, default_limit_of, jobs_object, files_object, storage_object, link_object, listed_object, is_link_listed, others_at, others_from, link_objects, is_for, failure_object, failure_for, failure_objects, reasons, damage_data, snapshot_data}
+use Rattle.fts_counts.specs.Listed.{endpoints_of, links_of}
+use Rattle.fts_board.specs.Snapshot.{default_limit_of, jobs_object, files_object, storage_object, link_object, listed_object, is_link_listed, others_at, others_from, link_objects, is_for, failure_object, failure_for, failure_objects, reasons, damage_data, snapshot_data}
 use Rattle.fts_board.specs.Parts.{snapshot_with}
 use Rattle.fts_board.specs.declared.snapshots.Shown.{Shown}
 use Rattle.fts_board.proofs.Plain.{array_plain}

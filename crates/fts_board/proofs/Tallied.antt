@@ -1,7 +1,7 @@
 -- What the tables say of a pair of listed names is what its link's rows and reports say.
 use Rattle.std.proofs.Common.{◌≡◌, ◌≢◌, ℕ, ◌+◌, ◌<◌, ◌≤◌, Bool, true, false, cond, List, [], ◌∷◌, ◌++◌, length, get_or, take, Option, Some, None, refl, ap, sym, ◌∙◌, arith, zero-add}
-use Rattle.std.specs.Prelude.{not, ◌||◌, ◌==◌, ◌-◌, slice_get, option_map, map, filter, count_by, unwrap_or}
-use Rattle.std.specs.List.{list_any, last_or, range_with_len}
+use Rattle.std.specs.Prelude.{not, ◌||◌, ◌==◌, slice_get, option_map, map, filter, unwrap_or}
+use Rattle.std.specs.List.{list_any, last_or}
 use Rattle.std.specs.Option.{option_map_or}
 use Rattle.std.proofs.lemmas.Bool.{ne_eqb, eqb-true}
 use Rattle.std.proofs.lemmas.List.{length-take-le, length-map, map-append, length-append}
@@ -14,13 +14,14 @@ use Rattle.fts_tables.specs.declared.rows.FileRow.{FileRow}
 use Rattle.fts_tables.specs.declared.rows.FileState.{FileState}
 use Rattle.fts_tables.specs.declared.settings.Endpoint.{Endpoint}
 use Rattle.fts_chronicle.specs.declared.chronicle.CopyReport.{CopyReport}
-use Rattle.fts_board.specs.Snapshot.{rows_in, rows_on, is_report_on, reports_on, last_moment}
+use Rattle.fts_counts.specs.Rows.{rows_in}
+use Rattle.fts_board.specs.Snapshot.{rows_on, is_report_on, reports_on, last_moment}
 use Rattle.fts_board.specs.Tallied.{pair_of, pairs_of, pair_of_row, going_of, goings_in, goes_by, row_tally_of, row_tally_with, AreBelow, row_tallies_of, report_tally_of, report_tally_with, is_report_by, report_tallies_of}
 use Rattle.fts_board.specs.declared.goings.Going.{Going}
 use Rattle.fts_board.specs.declared.tallies.RowTally.{RowTally}
 use Rattle.fts_board.specs.declared.tallies.ReportTally.{ReportTally}
 use Rattle.fts_board.proofs.Counted.{bytes_more}
-use Rattle.fts_board.proofs.Counting.{count_read}
+use Rattle.fts_counts.proofs.Counting.{count_read}
 use Rattle.fts_board.proofs.Pairs.{same_pair, pair_within}
 use Rattle.fts_board.proofs.Summed.{tallies_at}
 

@@ -1,23 +1,16 @@
 -- What is counted of tables and reports before the links are shown, and a link as it is shown of that.
-use Rattle.std.specs.Prelude.{◌≡◌, ℕ, true, ◌&&◌, ◌≤◌, List, [], ◌∷◌, map, length, codes}
-use Rattle.std.specs.List.{list_all}
+use Rattle.std.specs.Prelude.{◌≡◌, ℕ, List, [], ◌∷◌, map, codes}
 use Rattle.serde_json.specs.Data.{Data, string}
-use Rattle.fts_tables.specs.SettingsData.{is_listed}
 use Rattle.fts_tables.specs.Tables.{Tables}
-use Rattle.fts_tables.specs.declared.settings.Endpoint.{Endpoint}
-use Rattle.fts_tables.specs.declared.settings.LinkRule.{LinkRule}
 use Rattle.fts_chronicle.specs.declared.chronicle.CopyReport.{CopyReport}
+use Rattle.fts_counts.specs.Listed.{endpoints_of, links_of, AreKnown}
 use Rattle.fts_board.specs.Json.{object_of, whole_number}
-use Rattle.fts_board.specs.Snapshot.{endpoints_of, links_of, default_limit_of}
+use Rattle.fts_board.specs.Snapshot.{default_limit_of}
 use Rattle.fts_board.specs.Tallied.{going_of, pairs_of, row_tallies_of, report_tallies_of}
 use Rattle.fts_board.specs.declared.tallies.RowTally.{RowTally}
 use Rattle.fts_board.specs.declared.tallies.ReportTally.{ReportTally}
 use Rattle.fts_board.specs.declared.links.Board.{Board}
 use Rattle.fts_board.specs.declared.links.LinkShown.{LinkShown}
-
--- whether the ends of each link are listed
-abbrev pub AreKnown : List Endpoint → List LinkRule → Type 0
-AreKnown endpoints links = list_all (λ link. is_listed endpoints link.source && is_listed endpoints link.dest) links ≡ true
 
 -- a board is that of tables and reports
 pub record IsBoardOf (tables : Tables) (told : List CopyReport) (board : Board) : Type 0 where

@@ -7,7 +7,8 @@ use Rattle.fts_tables.specs.Tables.{row_at}
 use Rattle.fts_tables.specs.declared.rows.FileRow.{FileRow}
 use Rattle.fts_chronicle.specs.declared.chronicle.CopyReport.{CopyReport}
 use Rattle.fts_board.specs.Json.{array_of, object_of, whole_number, text_of}
-use Rattle.fts_board.specs.Reports.{is_verified, bytes_of}
+use Rattle.fts_counts.specs.Outcomes.{is_verified}
+use Rattle.fts_board.specs.Reports.{bytes_of}
 use Rattle.fts_board.specs.declared.histories.HistoryAsked.{HistoryAsked}
 use Rattle.fts_board.specs.declared.histories.StepLength.{StepLength}
 use Rattle.fts_board.specs.declared.histories.StepLength.TheVariants.{Minute, TenMinutes, Hour}

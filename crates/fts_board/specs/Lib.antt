@@ -6,4 +6,3 @@ pub mod Snapshot
 pub mod Tallied
 pub mod Boards
 pub mod Parts
-pub mod States

@@ -6,7 +6,8 @@ use Rattle.fts_tables.specs.Tables.{Tables}
 use Rattle.fts_tables.specs.declared.limits.TheConstants.{MAX_JOBS, MAX_ROWS, JOURNAL_END}
 use Rattle.fts_chronicle.specs.declared.chronicle.CopyReport.{CopyReport}
 use Rattle.fts_board.specs.Json.{array_of, object_of, whole_number}
-use Rattle.fts_board.specs.Snapshot.{endpoints_of, vo_of, jobs_object, files_object, storage_object, link_objects, failure_objects, damage_data}
+use Rattle.fts_counts.specs.Listed.{endpoints_of}
+use Rattle.fts_board.specs.Snapshot.{vo_of, jobs_object, files_object, storage_object, link_objects, failure_objects, damage_data}
 use Rattle.fts_board.specs.declared.snapshots.LinksPart.{LinksPart}
 use Rattle.fts_board.specs.declared.snapshots.Parts.{Parts}
 use Rattle.fts_board.specs.declared.snapshots.Shown.{Shown}

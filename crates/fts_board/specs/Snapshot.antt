@@ -1,5 +1,5 @@
 -- A snapshot: what stands in a service's tables at a moment, and what the reports of its copies say.
-use Rattle.std.specs.Prelude.{ℕ, Bool, true, false, ◌-◌, not, ◌&&◌, ◌==◌, bytes_eq, if◌then◌else◌, List, [], ◌∷◌, ◌++◌, map, filter, take, length, count_by, Option, Some, None, unwrap_or, codes}
+use Rattle.std.specs.Prelude.{ℕ, Bool, true, false, ◌-◌, not, ◌&&◌, bytes_eq, if◌then◌else◌, List, [], ◌∷◌, ◌++◌, map, filter, take, length, count_by, Option, Some, None, unwrap_or, codes}
 use Rattle.std.specs.Int.{to_be_bytes, w128}
 use Rattle.std.specs.List.{flat_map, list_any, last_or}
 use Rattle.std.specs.Option.{option_map_or}
@@ -13,29 +13,19 @@ use Rattle.fts_tables.specs.declared.limits.TheConstants.{MAX_JOBS, MAX_ROWS, JO
 use Rattle.fts_tables.specs.declared.settings.Endpoint.{Endpoint}
 use Rattle.fts_tables.specs.declared.settings.LinkRule.{LinkRule}
 use Rattle.fts_tables.specs.declared.rows.FileRow.{FileRow}
-use Rattle.fts_tables.specs.declared.rows.FileState.{FileState}
 use Rattle.fts_tables.specs.declared.rows.JobRow.{JobRow}
 use Rattle.fts_tables.specs.declared.rows.JobState.{JobState}
-use Rattle.fts_tables.specs.declared.rows.JobState.TheVariants.{FinishedDirty, Submitted as JobSubmitted, Active as JobActive, Finished as JobFinished, Failed as JobFailed, Canceled as JobCanceled}
-use Rattle.fts_tables.specs.declared.rows.Outcome.{Outcome}
-use Rattle.fts_tables.specs.declared.rows.Outcome.TheVariants.{Verified, SourceMissing, DestinationExists, SourceSize, SourceDigest, ReadBackDiffers, StoreFailed, Stopped}
+use Rattle.fts_tables.specs.declared.rows.JobState.TheVariants.{FinishedDirty, Submitted, Active, Finished, Failed, Canceled}
 use Rattle.fts_tables.specs.declared.rows.Reason.{Reason}
 use Rattle.fts_tables.specs.declared.rows.Reason.TheVariants.{Cancelled, Ended, Expired, None as NoReason}
-use Rattle.fts_desk.specs.DeskData.{state_at}
 use Rattle.fts_chronicle.specs.declared.chronicle.CopyReport.{CopyReport}
+use Rattle.fts_counts.specs.Jobs.{jobs_in}
+use Rattle.fts_counts.specs.Listed.{endpoints_of, links_of}
+use Rattle.fts_counts.specs.Outcomes.{outcome_word}
+use Rattle.fts_counts.specs.Rows.{rows_in}
 use Rattle.fts_board.specs.Json.{array_of, object_of, whole_number, text_of}
 use Rattle.fts_board.specs.Reports.{bytes_of}
 use Rattle.fts_board.specs.declared.snapshots.Shown.{Shown}
-
--- the endpoints that settings list, and none without settings
-abbrev pub endpoints_of : Option SettingsData → List Endpoint
-endpoints_of None = []
-endpoints_of (Some settings) = settings.endpoints
-
--- the links that settings list, and none without settings
-abbrev pub links_of : Option SettingsData → List LinkRule
-links_of None = []
-links_of (Some settings) = settings.links
 
 -- the limit of links that aren't listed, and 0 without settings
 abbrev pub default_limit_of : Option SettingsData → ℕ
@@ -47,37 +37,20 @@ abbrev pub vo_of : Option SettingsData → List ℕ
 vo_of None = []
 vo_of (Some settings) = settings.vo
 
--- the place of a job's state in their order
-abbrev pub place_of : JobState → ℕ
-place_of JobSubmitted = 0
-place_of JobActive = 1
-place_of JobFinished = 2
-place_of FinishedDirty = 3
-place_of JobFailed = 4
-place_of JobCanceled = 5
-
--- whether a job's state, where it has one, is that of this place
-abbrev pub stands_in : ℕ → Option JobState → Bool
-stands_in place found = option_map_or (λ (state : JobState). place_of state == place) found false
-
--- how many jobs stand in a state, by their rows
-abbrev pub jobs_in : Tables → JobState → ℕ
-jobs_in tables state = count_by (λ job. stands_in (place_of state) (state_at tables job.number)) tables.jobs
+-- so many jobs of each state
+abbrev pub by_job_state : (JobState → ℕ) → Data
+by_job_state count = object_of (
+    (codes "ACTIVE", whole_number (count Active))
+    ∷ (codes "CANCELED", whole_number (count Canceled))
+    ∷ (codes "FAILED", whole_number (count Failed))
+    ∷ (codes "FINISHED", whole_number (count Finished))
+    ∷ (codes "FINISHEDDIRTY", whole_number (count FinishedDirty))
+    ∷ (codes "SUBMITTED", whole_number (count Submitted))
+    ∷ [])
 
 -- the jobs of each state
 abbrev pub jobs_object : Tables → Data
-jobs_object tables = object_of (
-    (codes "ACTIVE", whole_number (jobs_in tables JobActive))
-    ∷ (codes "CANCELED", whole_number (jobs_in tables JobCanceled))
-    ∷ (codes "FAILED", whole_number (jobs_in tables JobFailed))
-    ∷ (codes "FINISHED", whole_number (jobs_in tables JobFinished))
-    ∷ (codes "FINISHEDDIRTY", whole_number (jobs_in tables FinishedDirty))
-    ∷ (codes "SUBMITTED", whole_number (jobs_in tables JobSubmitted))
-    ∷ [])
-
--- how many of these rows are in a state
-abbrev pub rows_in : (FileState → Bool) → List FileRow → ℕ
-rows_in is_state rows = count_by (λ row. is_state row.state) rows
+jobs_object tables = by_job_state (jobs_in tables)
 
 -- the rows of each state
 abbrev pub files_object : List FileRow → Data
@@ -155,17 +128,6 @@ abbrev pub link_objects : Tables → List CopyReport → List Data
 link_objects tables reports =
     map (listed_object tables.rows reports) (links_of tables.settings)
     ++ flat_map (λ (source : Endpoint). others_from tables reports source.name) (endpoints_of tables.settings)
-
--- the word for an outcome, without its number or digest; none for a verified copy
-abbrev pub outcome_word : Outcome → List ℕ
-outcome_word (Verified size digest) = []
-outcome_word SourceMissing = codes "source missing"
-outcome_word DestinationExists = codes "destination exists"
-outcome_word (SourceSize seen) = codes "source size"
-outcome_word (SourceDigest seen) = codes "source digest"
-outcome_word (ReadBackDiffers at) = codes "read back differs"
-outcome_word StoreFailed = codes "store failed"
-outcome_word Stopped = codes "stopped"
 
 -- the word for why a row stands as it does, where a copy ended
 abbrev pub reason_word : Reason → List ℕ

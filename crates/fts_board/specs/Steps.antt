@@ -6,7 +6,8 @@ use Rattle.fts_tables.specs.declared.rows.FileRow.{FileRow}
 use Rattle.fts_tables.specs.declared.rows.Outcome.{Outcome}
 use Rattle.fts_chronicle.specs.declared.chronicle.CopyReport.{CopyReport}
 use Rattle.fts_board.specs.Json.{array_of, object_of, whole_number}
-use Rattle.fts_board.specs.Reports.{is_verified, bytes_by, bytes_shown, bytes_of}
+use Rattle.fts_counts.specs.Outcomes.{is_verified, bytes_by}
+use Rattle.fts_board.specs.Reports.{bytes_shown, bytes_of}
 use Rattle.fts_board.specs.History.{HistoryQuestion, seconds_of, earlier_steps, first_step, ended_in, finished_of, failed_of}
 use Rattle.fts_board.specs.declared.steps.Ended.{Ended}
 use Rattle.fts_board.specs.declared.steps.Steps.{Steps}

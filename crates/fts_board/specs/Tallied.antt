@@ -1,24 +1,19 @@
 -- How links are counted: by numbers of pairs of endpoints, with a table over all pairs for the rows, and one for the reports.
-use Rattle.std.specs.Prelude.{◌≡◌, ℕ, Bool, true, false, ◌+◌, ◌*◌, ◌<◌, ◌&&◌, ◌==◌, bytes_eq, cond, List, map, filter, length, count_by}
-use Rattle.std.specs.List.{range_with_len, position_or_len, list_all}
+use Rattle.std.specs.Prelude.{ℕ, Bool, false, ◌+◌, ◌*◌, ◌<◌, ◌==◌, cond, List, map, filter, length, count_by}
+use Rattle.std.specs.List.{range_with_len}
 use Rattle.std.specs.Option.{option_map_or}
-use Rattle.serde_json.specs.Data.{Data, string}
-use Rattle.fts_tables.specs.SettingsData.{is_listed}
-use Rattle.fts_tables.specs.Tables.{Tables, is_submitted, is_active, is_finished, is_failed, is_canceled, row_at}
+use Rattle.fts_tables.specs.Tables.{is_submitted, is_active, is_finished, is_failed, is_canceled, row_at}
 use Rattle.fts_tables.specs.declared.settings.Endpoint.{Endpoint}
-use Rattle.fts_tables.specs.declared.settings.LinkRule.{LinkRule}
 use Rattle.fts_tables.specs.declared.rows.FileRow.{FileRow}
 use Rattle.fts_tables.specs.declared.rows.FileState.{FileState}
 use Rattle.fts_chronicle.specs.declared.chronicle.CopyReport.{CopyReport}
-use Rattle.fts_board.specs.Reports.{bytes_by, bytes_shown, bytes_of}
-use Rattle.fts_board.specs.Snapshot.{endpoints_of, links_of, default_limit_of, last_moment}
+use Rattle.fts_counts.specs.Listed.{place_among}
+use Rattle.fts_counts.specs.Outcomes.{bytes_by}
+use Rattle.fts_board.specs.Reports.{bytes_shown, bytes_of}
+use Rattle.fts_board.specs.Snapshot.{last_moment}
 use Rattle.fts_board.specs.declared.goings.Going.{Going}
 use Rattle.fts_board.specs.declared.tallies.RowTally.{RowTally}
 use Rattle.fts_board.specs.declared.tallies.ReportTally.{ReportTally}
-
--- the place of the first endpoint of a name, and their number where none has it
-abbrev pub place_among : List Endpoint → List ℕ → ℕ
-place_among endpoints name = position_or_len (λ endpoint. bytes_eq endpoint.name name) endpoints
 
 -- the number of a pair of names among so many
 abbrev pub pair_of : List Endpoint → List ℕ → List ℕ → ℕ

@@ -5,12 +5,14 @@ ghost use Rattle.std.specs.List.{last_or};
 ghost use Rattle.std.specs.String.{string_bytes};
 ghost use Rattle.serde_json.specs.Data.{array};
 ghost use Rattle.serde_json.specs.View.{view, items_of};
-ghost use Rattle.fts_board.specs.Snapshot.{outcome_word, reason_word, is_for, is_failed_for, id_text, id_of_file, failure_object, failure_for, failure_objects};
+ghost use Rattle.fts_counts.specs.Outcomes.{outcome_word};
+ghost use Rattle.fts_board.specs.Snapshot.{reason_word, is_for, is_failed_for, id_text, id_of_file, failure_object, failure_for, failure_objects};
 
 use crate::values::{array_from, push_value};
 use fts_chronicle::CopyReport;
+use fts_counts::outcome_word;
 use fts_desk::Desk;
-use fts_tables::{FileRow, Memory, Outcome, Reason};
+use fts_tables::{FileRow, Memory, Reason};
 use serde_json::{Value, json};
 use std::alloc::Global;
 use uuid::Uuid;
@@ -84,8 +86,8 @@ fn id_of_file(alloc: Global, desk: &Desk, file: u32) -> Result<String, Memory>
     }
 }
 
-// An id as a UUID.
-fn id_text(alloc: Global, id: u128) -> Result<String, Memory>
+/// An id as a UUID in lower case. It fails for want of memory alone.
+pub fn id_text(alloc: Global, id: u128) -> Result<String, Memory>
     ensures { IfOk result (λ text. string_bytes text ≡ id_text id) }
 {
     let mut buffer = Uuid::encode_buffer();
@@ -134,22 +136,6 @@ fn is_failed_for(reason: &str, row: &FileRow) -> bool
     ensures { result ≡ is_failed_for reason.now row.now }
 {
     row.state.is_failed() && reason_word(row.reason) == reason
-}
-
-// The word for an outcome, without its number or digest.
-fn outcome_word(outcome: Outcome) -> &'static str
-    ensures { result.now ≡ outcome_word outcome }
-{
-    match outcome {
-        Outcome::Verified { .. } => "",
-        Outcome::SourceMissing => "source missing",
-        Outcome::DestinationExists => "destination exists",
-        Outcome::SourceSize { .. } => "source size",
-        Outcome::SourceDigest { .. } => "source digest",
-        Outcome::ReadBackDiffers { .. } => "read back differs",
-        Outcome::StoreFailed => "store failed",
-        Outcome::Stopped => "stopped",
-    }
 }
 
 // The word for why a row stands as it does, where a copy ended.

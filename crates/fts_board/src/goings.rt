@@ -1,10 +1,12 @@
 //! Where the rows go: by the number of the pair of their endpoints' places among the listed ones. Names are looked up where a row's link is not that of
 //! the row before it, and links are then told apart by numbers alone (`specs/Tallied.antt`).
-ghost use Rattle.std.specs.Prelude.{◌≡◌, ◌≤◌, ◌<◌, ℕ, List, bytes_eq, length, map, position, slice_get, ◌-◌, IfOk, option_map};
+ghost use Rattle.std.specs.Prelude.{◌≡◌, ◌≤◌, ◌<◌, ℕ, List, length, map, slice_get, ◌-◌, IfOk, option_map};
 ghost use Rattle.fts_tables.specs.Tables.{row_at};
 ghost use Rattle.fts_tables.specs.declared.settings.Endpoint.{Endpoint};
-ghost use Rattle.fts_board.specs.Tallied.{place_among, pair_of, pairs_of, pair_of_row, going_of};
+ghost use Rattle.fts_counts.specs.Listed.{place_among};
+ghost use Rattle.fts_board.specs.Tallied.{pair_of, pairs_of, pair_of_row, going_of};
 
+use fts_counts::place_among;
 use fts_desk::Desk;
 use fts_tables::laws::found_rows_stand;
 use fts_tables::{Endpoint, FileRow, FileState, Memory};
@@ -15,22 +17,6 @@ use std::alloc::Global;
 pub struct Going {
     pub pair: usize,
     pub state: FileState,
-}
-
-/// The place of the first endpoint of a name, and their number where none has it.
-fn place_among(endpoints: &[Endpoint], name: &str) -> usize
-    ensures place { result ≡ place_among endpoints.now name.now }
-    ensures within { result ≤ length endpoints.now }
-{
-    first_named(endpoints, name).unwrap_or(endpoints.len())
-}
-
-fn first_named(endpoints: &[Endpoint], name: &str) -> Option<usize>
-    ensures { result ≡ position (λ endpoint. bytes_eq endpoint.name name.now) endpoints.now }
-{
-    endpoints
-        .iter()
-        .position(|endpoint| endpoint.name.as_str() == name)
 }
 
 /// How many pairs there are, with those of names that aren't listed.

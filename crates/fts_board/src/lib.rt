@@ -14,5 +14,7 @@ mod storages;
 mod tallies;
 mod values;
 
+pub use failures::id_text;
 pub use histories::{HistoryAsked, MAX_STEPS, StepLength, history};
 pub use snapshots::{MAX_LINKS_SHOWN, Shown, snapshot};
+pub use states::files_value;

@@ -7,8 +7,10 @@ ghost use Rattle.fts_tables.specs.SettingsData.{is_listed};
 ghost use Rattle.fts_tables.specs.Tables.{Tables};
 ghost use Rattle.fts_tables.specs.declared.settings.Endpoint.{Endpoint};
 ghost use Rattle.fts_chronicle.specs.declared.chronicle.CopyReport.{CopyReport};
-ghost use Rattle.fts_board.specs.Snapshot.{endpoints_of, link_object, listed_object, rows_on, is_link_listed, others_at, others_from, link_objects};
-ghost use Rattle.fts_board.specs.Boards.{AreKnown, IsBoardOf, shown_link};
+ghost use Rattle.fts_counts.specs.Listed.{endpoints_of};
+ghost use Rattle.fts_board.specs.Snapshot.{link_object, listed_object, rows_on, is_link_listed, others_at, others_from, link_objects};
+ghost use Rattle.fts_counts.specs.Listed.{AreKnown};
+ghost use Rattle.fts_board.specs.Boards.{IsBoardOf, shown_link};
 
 use crate::goings::pair_of;
 use crate::tallies::{ReportTally, RowTally, report_tally_at, row_tally_at};

@@ -9,7 +9,7 @@ ghost use Rattle.fts_board.specs.Parts.{IsLinksPartOf, ArePartsOf, snapshot_with
 use crate::failures::failures_value;
 use crate::goings::{goings_of, pairs_of};
 use crate::links::{Board, links_shown};
-use crate::settings::{default_limit_of, endpoints_of, links_of, vo_of};
+use crate::settings::{default_limit_of, vo_of};
 use crate::states::{files_value, jobs_value};
 use crate::storages::storages_value;
 use crate::tallies::{report_tallies, row_tallies};
@@ -17,6 +17,7 @@ use crate::values::{
     array_value, flag_value, object_from, put_number, put_text, put_value, text_of,
 };
 use fts_chronicle::CopyReport;
+use fts_counts::{endpoints_of, links_of};
 use fts_desk::Desk;
 use fts_tables::Memory;
 use fts_tables::limits::{JOURNAL_END, MAX_JOBS, MAX_ROWS};

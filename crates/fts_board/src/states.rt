@@ -1,10 +1,10 @@
-//! The jobs and the rows of a snapshot, by their states. A job's state is a walk over its rows, and asked once.
-ghost use Rattle.std.specs.Prelude.{◌≡◌, map, count_by, IfOk};
+//! The jobs and the rows of a snapshot, by their states.
+ghost use Rattle.std.specs.Prelude.{◌≡◌, count_by, IfOk};
 ghost use Rattle.serde_json.specs.View.{view};
-ghost use Rattle.fts_desk.specs.DeskData.{state_at};
-ghost use Rattle.fts_board.specs.Snapshot.{place_of, stands_in, rows_in, jobs_object, files_object};
-ghost use Rattle.fts_board.specs.States.{states_object, test_of};
+ghost use Rattle.fts_counts.specs.Jobs.{place_of, stands_in};
+ghost use Rattle.fts_board.specs.Snapshot.{by_job_state, jobs_object, files_object};
 
+use fts_counts::{job_states, jobs_in, rows_in};
 use fts_desk::Desk;
 use fts_tables::{FileRow, FileState, JobState, Memory};
 use serde_json::{Value, json};
@@ -14,13 +14,13 @@ use std::alloc::Global;
 pub fn jobs_value(alloc: Global, desk: &Desk) -> Result<Value, Memory>
     ensures { IfOk result (λ value. view value ≡ jobs_object desk.now.tables) }
 {
-    let states = states_of(alloc, desk)?;
+    let states = job_states(alloc, desk)?;
     value_of_states(alloc, &states)
 }
 
 // How many of these are each state.
 fn value_of_states(alloc: Global, states: &[Option<JobState>]) -> Result<Value, Memory>
-    ensures { IfOk result (λ value. view value ≡ states_object states.now) }
+    ensures { IfOk result (λ value. view value ≡ by_job_state (λ state. count_by (stands_in (place_of state)) states.now)) }
 {
     let active = jobs_in(states, JobState::Active);
     let canceled = jobs_in(states, JobState::Canceled);
@@ -37,53 +37,6 @@ fn value_of_states(alloc: Global, states: &[Option<JobState>]) -> Result<Value, 
         "SUBMITTED": submitted
     })?;
     Ok(value)
-}
-
-// The state of each job, in their order.
-fn states_of(alloc: Global, desk: &Desk) -> Result<Vec<Option<JobState>>, Memory>
-    ensures { IfOk result (λ states. states.items ≡ map (λ job. state_at desk.now.tables job.number) desk.now.tables.jobs) }
-{
-    let states = desk
-        .jobs()
-        .iter()
-        .map(|job| desk.state(job.number))
-        .collect(alloc)?;
-    Ok(states)
-}
-
-// How many of these are a state.
-fn jobs_in(states: &[Option<JobState>], state: JobState) -> u64
-    ensures { result ≡ count_by (stands_in (place_of state)) states.now }
-{
-    let place = place_of(state);
-    states
-        .iter()
-        .filter(|found| stands_in(place, **found))
-        .count() as u64
-}
-
-// Whether this is the state of a place.
-fn stands_in(place: u8, found: Option<JobState>) -> bool
-    ensures { result ≡ stands_in place found }
-{
-    match found {
-        Some(state) => place_of(state) == place,
-        None => false,
-    }
-}
-
-// The place of a job's state in their order.
-fn place_of(state: JobState) -> u8
-    ensures { result ≡ place_of state }
-{
-    match state {
-        JobState::Submitted => 0,
-        JobState::Active => 1,
-        JobState::Finished => 2,
-        JobState::FinishedDirty => 3,
-        JobState::Failed => 4,
-        JobState::Canceled => 5,
-    }
 }
 
 /// The rows of each state.
@@ -105,25 +58,4 @@ pub fn files_value(alloc: Global, rows: &[FileRow]) -> Result<Value, Memory>
         "SUBMITTED": submitted
     })?;
     Ok(value)
-}
-
-// How many of these rows are in a state.
-fn rows_in(rows: &[FileRow], wanted: FileState) -> u64
-    ensures { result ≡ rows_in (test_of wanted) rows.now }
-{
-    rows.iter().filter(|row| is_in(wanted, row.state)).count() as u64
-}
-
-// Whether a state is this one.
-fn is_in(wanted: FileState, state: FileState) -> bool
-    ensures { result ≡ test_of wanted state }
-{
-    match wanted {
-        FileState::Submitted => state.is_submitted(),
-        FileState::Active => state.is_active(),
-        FileState::Finished => state.is_finished(),
-        FileState::Failed => state.is_failed(),
-        FileState::Canceled => state.is_canceled(),
-        FileState::NotUsed => state.is_not_used(),
-    }
 }

@@ -6,6 +6,7 @@ ghost use Rattle.fts_board.specs.Steps.{steps_of, ended_with, ended_from};
 
 use crate::histories::HistoryAsked;
 use fts_chronicle::CopyReport;
+use fts_counts::size_of;
 use fts_desk::Desk;
 use fts_tables::{FileRow, Memory, Outcome};
 use std::alloc::Global;
@@ -40,19 +41,13 @@ impl Ended {
         requires failed { self.failed < u64.MAX }
         ensures { result ≡ ended_with self outcome }
     {
-        match outcome {
-            Outcome::Verified { size, .. } => Ended {
+        match size_of(outcome) {
+            Some(size) => Ended {
                 finished: self.finished + 1,
                 bytes: self.bytes.saturating_add(size),
                 ..self
             },
-            Outcome::SourceMissing
-            | Outcome::DestinationExists
-            | Outcome::SourceSize { .. }
-            | Outcome::SourceDigest { .. }
-            | Outcome::ReadBackDiffers { .. }
-            | Outcome::StoreFailed
-            | Outcome::Stopped => Ended {
+            None => Ended {
                 failed: self.failed + 1,
                 ..self
             },

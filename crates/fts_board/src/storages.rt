@@ -1,16 +1,16 @@
 //! The storages of a snapshot: what is being copied to and from each, beside its limits.
-//! Its rows are the ACTIVE ones alone, which `active_rows` gathers in one walk over all.
-ghost use Rattle.std.specs.Prelude.{◌≡◌, map, filter, IfOk};
+//! Its rows are the ACTIVE ones alone, which are gathered in one walk over all.
+ghost use Rattle.std.specs.Prelude.{◌≡◌, map, IfOk};
 ghost use Rattle.serde_json.specs.View.{view};
-ghost use Rattle.fts_tables.specs.Tables.{is_active};
 ghost use Rattle.fts_tables.specs.Limits.{out_of, into};
 ghost use Rattle.fts_board.specs.Json.{array_of};
 ghost use Rattle.fts_board.specs.Snapshot.{storage_object};
 
 use crate::values::{array_from, push_value};
+use fts_counts::{active_rows, from_endpoint, to_endpoint};
 use fts_tables::{Endpoint, FileRow, Memory};
 use serde_json::{Value, json};
-use std::alloc::{AllocError, Global};
+use std::alloc::Global;
 
 /// The storages of these endpoints, over these rows.
 pub fn storages_value(
@@ -36,21 +36,12 @@ fn storages_over(alloc: Global, rows: &[&FileRow], endpoints: &[Endpoint]) -> Re
     Ok(array_from(list))
 }
 
-// The rows whose files are being copied.
-fn active_rows(alloc: Global, rows: &[FileRow]) -> Result<Vec<&FileRow>, AllocError>
-    ensures { IfOk result (λ active. map (λ row. row.now) active.items ≡ filter (λ row. is_active row.state) rows.now) }
-{
-    rows.iter()
-        .filter(|row| row.state.is_active())
-        .collect(alloc)
-}
-
 // A storage, over these rows.
 fn storage_value(alloc: Global, rows: &[&FileRow], endpoint: &Endpoint) -> Result<Value, Memory>
     ensures { IfOk result (λ value. view value ≡ storage_object (map (λ row. row.now) rows.now) endpoint.now) }
 {
-    let inbound = to_endpoint(rows, endpoint);
-    let outbound = from_endpoint(rows, endpoint);
+    let inbound = active_to(rows, endpoint);
+    let outbound = active_from(rows, endpoint);
     let value = json!(in alloc; {
         "inbound_active": inbound,
         "inbound_max_active": endpoint.inbound,
@@ -62,33 +53,15 @@ fn storage_value(alloc: Global, rows: &[&FileRow], endpoint: &Endpoint) -> Resul
 }
 
 // The files that are being copied from an endpoint.
-fn from_endpoint(rows: &[&FileRow], endpoint: &Endpoint) -> u64
+fn active_from(rows: &[&FileRow], endpoint: &Endpoint) -> u64
     ensures { result ≡ out_of (map (λ row. row.now) rows.now) endpoint.now.name }
 {
-    from_named(rows, endpoint.name.as_str()) as u64
+    from_endpoint(rows, endpoint.name.as_str())
 }
 
 // The files that are being copied to an endpoint.
-fn to_endpoint(rows: &[&FileRow], endpoint: &Endpoint) -> u64
+fn active_to(rows: &[&FileRow], endpoint: &Endpoint) -> u64
     ensures { result ≡ into (map (λ row. row.now) rows.now) endpoint.now.name }
 {
-    to_named(rows, endpoint.name.as_str()) as u64
-}
-
-// Those from the endpoint of a name.
-fn from_named(rows: &[&FileRow], name: &str) -> usize
-    ensures { result ≡ out_of (map (λ row. row.now) rows.now) name.now }
-{
-    rows.iter()
-        .filter(|row| row.state.is_active() && row.source.endpoint.as_str() == name)
-        .count()
-}
-
-// Those to the endpoint of a name.
-fn to_named(rows: &[&FileRow], name: &str) -> usize
-    ensures { result ≡ into (map (λ row. row.now) rows.now) name.now }
-{
-    rows.iter()
-        .filter(|row| row.state.is_active() && row.dest.endpoint.as_str() == name)
-        .count()
+    to_endpoint(rows, endpoint.name.as_str())
 }

@@ -2,13 +2,14 @@
 //! Keeps: behind each row or report, the table says what those so far come to (`specs/Tallied.antt`).
 ghost use Rattle.std.specs.Prelude.{◌≡◌, ◌<◌, ◌≤◌, ℕ, List, length, map, [], slice_index_or, true, false, None, IfOk, IfSome};
 ghost use Rattle.fts_tables.specs.declared.settings.Endpoint.{Endpoint};
-ghost use Rattle.fts_board.specs.Reports.{bytes_by};
+ghost use Rattle.fts_counts.specs.Outcomes.{bytes_by};
 ghost use Rattle.fts_board.specs.Tallied.{going_of, goes_by, pairs_of, row_tally_of, report_tally_of, row_tally_with, AreBelow, row_tallies_of, report_tally_with, report_tallies_of, is_report_by};
 
 use crate::goings::{Going, pair_at, pairs_of};
 use fts_chronicle::CopyReport;
+use fts_counts::bytes_by;
 use fts_desk::Desk;
-use fts_tables::{Endpoint, FileState, Memory, Outcome};
+use fts_tables::{Endpoint, FileState, Memory};
 use std::alloc::Global;
 
 /// The rows of a pair: how many, and how many in each of five states.
@@ -89,22 +90,6 @@ impl ReportTally {
             bytes: self.bytes.saturating_add(bytes_by(report.outcome)),
             last: report.moment,
         }
-    }
-}
-
-/// The bytes that were copied for good.
-fn bytes_by(outcome: Outcome) -> u64
-    ensures { result ≡ bytes_by outcome }
-{
-    match outcome {
-        Outcome::Verified { size, .. } => size,
-        Outcome::SourceMissing
-        | Outcome::DestinationExists
-        | Outcome::SourceSize { .. }
-        | Outcome::SourceDigest { .. }
-        | Outcome::ReadBackDiffers { .. }
-        | Outcome::StoreFailed
-        | Outcome::Stopped => 0,
     }
 }
 

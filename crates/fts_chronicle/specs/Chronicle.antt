@@ -1,8 +1,9 @@
 -- What a list of entries tells that the tables don't keep: the reports of copies, what was done to files by name, when jobs were settled, the last moment,
 -- and that of the last restart.
-use Rattle.std.specs.Prelude.{ℕ, ◌+◌, Bool, List, [], ◌∷◌, ◌++◌, map, length, Option, None, Some, option_to_list, unwrap_or, Ok, Err}
+use Rattle.std.specs.Prelude.{ℕ, ◌+◌, Bool, if◌then◌else◌, List, [], ◌∷◌, ◌++◌, map, length, Option, None, Some, option_to_list, unwrap_or, Ok, Err}
 use Rattle.std.specs.List.{filter_map, last_or}
 use Rattle.fts_tables.specs.Tables.{Tables, empty_tables}
+use Rattle.fts_tables.specs.Settling.{is_restart}
 use Rattle.fts_tables.specs.Step.{Outcomes, step}
 use Rattle.fts_tables.specs.History.{tables_after}
 use Rattle.fts_tables.specs.declared.commands.Answer.{Answer}
@@ -30,16 +31,7 @@ now_of (Expire now) = now
 
 -- the moment of a Restart, and none of any other command
 abbrev pub restart_by : Command → Option ℕ
-restart_by (Restart now settings) = Some now
-restart_by (Submit now job) = None
-restart_by (CancelJob now job) = None
-restart_by (CancelFile now job file) = None
-restart_by (SetPriority now job priority) = None
-restart_by (Claim now word) = None
-restart_by (Report now file attempt outcome) = None
-restart_by (Ban now storage cancel) = None
-restart_by (Unban now storage) = None
-restart_by (Expire now) = None
+restart_by command = if is_restart command then Some (now_of command) else None
 
 -- the report of a Report, and none of any other command
 abbrev pub report_by : Command → Option CopyReport

@@ -24,6 +24,7 @@ pub struct CopyReport {
 }
 
 /// What the entries so far told. Moments are in seconds since 1970.
+#[derive(Drop)]
 pub struct Chronicle {
     moment: u64,
     restart: u64,
@@ -31,19 +32,6 @@ pub struct Chronicle {
     events: Vec<FileEvent>,
     finishes: Vec<u64>,
     ready: bool,
-}
-
-impl Drop for Chronicle {
-    fn drop(self) {
-        let Chronicle {
-            moment: _,
-            restart: _,
-            reports: _,
-            events: _,
-            finishes: _,
-            ready: _,
-        } = self;
-    }
 }
 
 impl Model for Chronicle {

@@ -9,7 +9,7 @@ use Rattle.fts_tables.specs.declared.settings.Endpoint.{Endpoint}
 use Rattle.fts_tables.specs.declared.settings.LinkRule.{LinkRule}
 use Rattle.fts_metrics.specs.Form.{head, sample}
 use Rattle.fts_metrics.specs.Metrics.{link_labels, link_active_text, endpoint_active_text, both_directions}
-use Rattle.fts_metrics.proofs.Counting.{count_among}
+use Rattle.fts_counts.proofs.Counting.{count_among}
 
 -- the ACTIVE rows
 abbrev pub active_of : List FileRow → List FileRow

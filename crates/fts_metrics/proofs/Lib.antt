@@ -1,5 +1,4 @@
 pub mod Texts
-pub mod Counting
 pub mod Places
 pub mod ActiveRows
 mod LinkTotals

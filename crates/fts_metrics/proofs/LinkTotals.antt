@@ -1,10 +1,10 @@
 -- What is gathered at the place of a link is what the definitions say of it.
-use Rattle.std.proofs.Common.{◌≡◌, ℕ, ◌+◌, ◌*◌, ◌<◌, ◌≤◌, Bool, true, false, cond, List, [], ◌∷◌, ◌++◌, length, get_or, take, Option, Some, None, refl, ap, sym, ◌∙◌, arith, codes}
-use Rattle.std.specs.Prelude.{not, ◌&&◌, ◌||◌, ◌==◌, bytes_eq, map, filter, count_by, sum_by, option_map, option_to_list}
-use Rattle.std.specs.List.{cons_option, filter_map, list_any, position_or_len}
+use Rattle.std.proofs.Common.{◌≡◌, ℕ, ◌+◌, ◌*◌, ◌<◌, ◌≤◌, Bool, true, false, cond, List, [], ◌∷◌, ◌++◌, length, get_or, take, Option, Some, None, refl, ap, sym, ◌∙◌, arith}
+use Rattle.std.specs.Prelude.{not, ◌&&◌, ◌||◌, ◌==◌, bytes_eq, map, count_by, sum_by, option_map, option_to_list}
+use Rattle.std.specs.List.{cons_option, filter_map, list_any}
 use Rattle.std.specs.Option.{option_map_or}
 use Rattle.std.proofs.Math.Nat.{zero-add}
-use Rattle.std.proofs.lemmas.Bool.{ne_eqb, eqb-true, eqb-false, eq-eqb}
+use Rattle.std.proofs.lemmas.Bool.{ne_eqb}
 use Rattle.std.proofs.lemmas.List.{length-append, take_more}
 use Rattle.std.proofs.lemmas.List.Elements.{filter_map-append}
 use Rattle.std.proofs.lemmas.List.Sums.{sum_by-cons}
@@ -16,39 +16,21 @@ use Rattle.fts_tables.specs.declared.rows.Outcome.{Outcome}
 use Rattle.fts_tables.specs.declared.rows.Outcome.TheVariants.{Verified, SourceMissing, DestinationExists, SourceSize, SourceDigest, ReadBackDiffers, StoreFailed, Stopped}
 use Rattle.fts_tables.specs.declared.settings.Endpoint.{Endpoint}
 use Rattle.fts_chronicle.specs.declared.chronicle.CopyReport.{CopyReport}
-use Rattle.fts_metrics.specs.Goings.{place_among, going_of}
-use Rattle.fts_metrics.specs.Metrics.{bytes_of, reports_on, copied_on, word_of, reports_of_word}
+use Rattle.fts_counts.specs.Listed.{place_among}
+use Rattle.fts_metrics.specs.Goings.{going_of}
+use Rattle.fts_counts.specs.Outcomes.{bytes_by}
+use Rattle.fts_metrics.specs.Metrics.{reports_on, copied_on, word_of, reports_of_word}
 use Rattle.fts_metrics.specs.Sums.{sum_at}
 use Rattle.fts_metrics.specs.Totals.{link_at, link_place, row_place, outcome_place, share_of, report_share, row_share}
 use Rattle.fts_metrics.specs.declared.goings.Going.{Going}
 use Rattle.fts_metrics.specs.declared.sums.Share.{Share}
 use Rattle.fts_metrics.specs.declared.totals.LinkMetric.{LinkMetric}
 use Rattle.fts_metrics.specs.declared.totals.LinkMetric.TheVariants.{Copied, Reports}
-use Rattle.fts_metrics.proofs.Places.{same_place}
+use Rattle.fts_counts.proofs.Places.{place_within, same_place, same_number}
 
 -- a place among endpoints is at most their number
-pub place_low : (endpoints : List Endpoint) (name : List ℕ) → place_among endpoints name ≤ length endpoints
-place_low [] name = omega arith
-place_low (endpoint ∷ endpoints) name = by_head (bytes_eq endpoint.name name) (place_low endpoints name)
-  where
-    by_head : (answer : Bool) → place_among endpoints name ≤ length endpoints
-        → cond (not answer) (1 + place_among endpoints name) 0 ≤ length (endpoint ∷ endpoints)
-    by_head true behind = omega arith
-    by_head false behind = omega arith
-
--- two numbers of two parts are one where both parts are
-parts_alike : (width high low other last : ℕ) → low < width → last < width
-    → (high * width + low ≡ other * width + last → high ≡ other)
-    → (high * width + low == other * width + last) ≡ ((high == other) && (low == last))
-parts_alike width high low other last small less apart = by_tests (high == other) refl (low == last) refl
-  where
-    by_tests : (highs : Bool) → (high == other) ≡ highs → (lows : Bool) → (low == last) ≡ lows
-        → (high * width + low == other * width + last) ≡ (highs && lows)
-    by_tests true high_is true low_is =
-        eq-eqb _ _ (λ i. eqb-true high other high_is i * width + eqb-true low last low_is i)
-    by_tests true high_is false low_is = ne_eqb _ _ (λ same. eqb-false low last low_is
-        (omega (arith, same, ap (λ n. n * width) (eqb-true high other high_is))))
-    by_tests false high_is lows low_is = ne_eqb _ _ (λ same. eqb-false high other high_is (apart same))
+place_low : (endpoints : List Endpoint) (name : List ℕ) → place_among endpoints name ≤ length endpoints
+place_low endpoints name = place_within (λ (endpoint : Endpoint). bytes_eq endpoint.name name) endpoints
 
 module _ (endpoints : List Endpoint) (few : length endpoints ≤ 256) where
   -- the place of a link is inside the table of all links
@@ -67,8 +49,8 @@ module _ (endpoints : List Endpoint) (few : length endpoints ≤ 256) where
     same_link row =
         let low = place_low endpoints row.dest.endpoint in
         let last = place_low endpoints dest in
-        parts_alike 257 (place_among endpoints row.source.endpoint) (place_among endpoints row.dest.endpoint) (place_among endpoints source) (place_among endpoints dest)
-        (omega arith) (omega arith) (λ same. omega arith)
+        same_number (place_among endpoints row.source.endpoint) (place_among endpoints row.dest.endpoint) (place_among endpoints source) (place_among endpoints dest) 257
+        (omega arith) (omega arith)
         ∙ (λ i. same_place endpoints row.source.endpoint source from i && same_place endpoints row.dest.endpoint dest to i)
 
     -- the rows at the place of a link are its rows
@@ -116,8 +98,8 @@ module _ (endpoints : List Endpoint) (few : length endpoints ≤ 256) where
     pub copied_at : (tables : Tables) (reports : List CopyReport)
         → sum_at (link_place endpoints source dest) (filter_map (report_share Copied (row_place endpoints) tables.rows) reports)
         ≡ copied_on tables reports source dest
-    copied_at tables reports = gathered tables Copied (link_place endpoints source dest) (λ report. bytes_of report.outcome)
-        (λ row report. ap (λ on. cond on (bytes_of report.outcome) 0) (same_link row)) reports
+    copied_at tables reports = gathered tables Copied (link_place endpoints source dest) (λ report. bytes_by report.outcome)
+        (λ row report. ap (λ on. cond on (bytes_by report.outcome) 0) (same_link row)) reports
 
     -- the reports at the place of a link's outcome are those of the link with that outcome
     pub ended_at : (tables : Tables) (reports : List CopyReport) (place : ℕ) → place < 8
@@ -142,7 +124,7 @@ module _ (endpoints : List Endpoint) (few : length endpoints ≤ 256) where
             ≡ (is_on_link source dest row && (outcome_place report.outcome == place))
         both_alike row report =
             let small = outcome_low report.outcome in
-            parts_alike 8 (row_place endpoints row) (outcome_place report.outcome) (link_place endpoints source dest) place small low (λ same. omega arith)
+            same_number (row_place endpoints row) (outcome_place report.outcome) (link_place endpoints source dest) place 8 small low
             ∙ ap (λ on. on && (outcome_place report.outcome == place)) (same_link row)
 
         one : Bool → ℕ
@@ -163,75 +145,29 @@ any_counted test (item ∷ items) =
     by_test true behind = sym (ap not (ne_eqb (1 + count_by test items) 0 (λ same. omega arith)))
     by_test false behind = behind ∙ ap (λ count. not (count == 0)) (sym (zero-add (count_by test items)))
 
--- the reports of a word, by the place of their outcome
-counted_alike : (reports : List CopyReport) (word : List ℕ) (place : ℕ) → ((outcome : Outcome) → (outcome_place outcome == place) ≡ bytes_eq (word_of outcome) word)
-    → count_by (λ (report : CopyReport). outcome_place report.outcome == place) reports ≡ reports_of_word reports word
-counted_alike reports word place alike = ap (λ (test : CopyReport → Bool). count_by test reports) (λ i report. alike report.outcome i)
+-- an outcome has the place of another exactly where it has its word
+same_word : (outcome other : Outcome) → (outcome_place other == outcome_place outcome) ≡ bytes_eq (word_of other) (word_of outcome)
+same_word (Verified size digest) (Verified other_size other_digest) = refl
+same_word (Verified size digest) other = refl
+same_word SourceMissing SourceMissing = refl
+same_word SourceMissing other = refl
+same_word DestinationExists DestinationExists = refl
+same_word DestinationExists other = refl
+same_word (SourceSize seen) (SourceSize other_seen) = refl
+same_word (SourceSize seen) other = refl
+same_word (SourceDigest seen) (SourceDigest other_seen) = refl
+same_word (SourceDigest seen) other = refl
+same_word (ReadBackDiffers at) (ReadBackDiffers other_at) = refl
+same_word (ReadBackDiffers at) other = refl
+same_word StoreFailed StoreFailed = refl
+same_word StoreFailed other = refl
+same_word Stopped Stopped = refl
+same_word Stopped other = refl
 
-module _ (reports : List CopyReport) where
-  -- at the first place are the verified ones
-  pub verified_reports : count_by (λ (report : CopyReport). outcome_place report.outcome == 0) reports ≡ reports_of_word reports (codes "verified")
-  verified_reports = counted_alike reports (codes "verified") 0 alike
-    where
-      alike : (outcome : Outcome) → (outcome_place outcome == 0) ≡ bytes_eq (word_of outcome) (codes "verified")
-      alike (Verified size digest) = refl
-      alike other = refl
-
-  -- at the second those without a source
-  pub missing_reports : count_by (λ (report : CopyReport). outcome_place report.outcome == 1) reports ≡ reports_of_word reports (codes "source_missing")
-  missing_reports = counted_alike reports (codes "source_missing") 1 alike
-    where
-      alike : (outcome : Outcome) → (outcome_place outcome == 1) ≡ bytes_eq (word_of outcome) (codes "source_missing")
-      alike SourceMissing = refl
-      alike other = refl
-
-  -- at the third those whose destination was there
-  pub existing_reports : count_by (λ (report : CopyReport). outcome_place report.outcome == 2) reports ≡ reports_of_word reports (codes "destination_exists")
-  existing_reports = counted_alike reports (codes "destination_exists") 2 alike
-    where
-      alike : (outcome : Outcome) → (outcome_place outcome == 2) ≡ bytes_eq (word_of outcome) (codes "destination_exists")
-      alike DestinationExists = refl
-      alike other = refl
-
-  -- at the fourth those of a source of another size
-  pub size_reports : count_by (λ (report : CopyReport). outcome_place report.outcome == 3) reports ≡ reports_of_word reports (codes "source_size")
-  size_reports = counted_alike reports (codes "source_size") 3 alike
-    where
-      alike : (outcome : Outcome) → (outcome_place outcome == 3) ≡ bytes_eq (word_of outcome) (codes "source_size")
-      alike (SourceSize seen) = refl
-      alike other = refl
-
-  -- at the fifth those of a source of another digest
-  pub digest_reports : count_by (λ (report : CopyReport). outcome_place report.outcome == 4) reports ≡ reports_of_word reports (codes "source_digest")
-  digest_reports = counted_alike reports (codes "source_digest") 4 alike
-    where
-      alike : (outcome : Outcome) → (outcome_place outcome == 4) ≡ bytes_eq (word_of outcome) (codes "source_digest")
-      alike (SourceDigest seen) = refl
-      alike other = refl
-
-  -- at the sixth those that read back otherwise
-  pub differing_reports : count_by (λ (report : CopyReport). outcome_place report.outcome == 5) reports ≡ reports_of_word reports (codes "read_back_differs")
-  differing_reports = counted_alike reports (codes "read_back_differs") 5 alike
-    where
-      alike : (outcome : Outcome) → (outcome_place outcome == 5) ≡ bytes_eq (word_of outcome) (codes "read_back_differs")
-      alike (ReadBackDiffers at) = refl
-      alike other = refl
-
-  -- at the seventh those whose store failed
-  pub failed_reports : count_by (λ (report : CopyReport). outcome_place report.outcome == 6) reports ≡ reports_of_word reports (codes "store_failed")
-  failed_reports = counted_alike reports (codes "store_failed") 6 alike
-    where
-      alike : (outcome : Outcome) → (outcome_place outcome == 6) ≡ bytes_eq (word_of outcome) (codes "store_failed")
-      alike StoreFailed = refl
-      alike other = refl
-
-  -- at the eighth those that were stopped
-  pub stopped_reports : count_by (λ (report : CopyReport). outcome_place report.outcome == 7) reports ≡ reports_of_word reports (codes "stopped")
-  stopped_reports = counted_alike reports (codes "stopped") 7 alike
-    where
-      alike : (outcome : Outcome) → (outcome_place outcome == 7) ≡ bytes_eq (word_of outcome) (codes "stopped")
-      alike Stopped = refl
-      alike other = refl
+-- so the reports at the place of an outcome are those of its word
+pub reports_like : (reports : List CopyReport) (outcome : Outcome)
+    → count_by (λ (report : CopyReport). outcome_place report.outcome == outcome_place outcome) reports ≡ reports_of_word reports (word_of outcome)
+reports_like reports outcome = ap (λ (test : CopyReport → Bool). count_by test reports) (λ i report. same_word outcome report.outcome i)
 
 -- an item or none, before nothing
 alone : {Item : Type 0} (found : Option Item) → cons_option found [] ≡ option_to_list found

@@ -1,17 +1,11 @@
 -- What `fts_files` is counted by: where rows go, by the places of their endpoints among the listed ones, and the states of those of a link.
-use Rattle.std.specs.Prelude.{ℕ, Bool, ◌==◌, bytes_eq, List, map, filter}
-use Rattle.std.specs.List.{position_or_len}
-use Rattle.fts_tables.specs.Tables.{is_submitted, is_active, is_finished, is_failed, is_canceled, is_not_used}
+use Rattle.std.specs.Prelude.{ℕ, ◌==◌, List, map, filter}
 use Rattle.fts_tables.specs.Limits.{is_on_link}
 use Rattle.fts_tables.specs.declared.rows.FileRow.{FileRow}
 use Rattle.fts_tables.specs.declared.rows.FileState.{FileState}
-use Rattle.fts_tables.specs.declared.rows.FileState.TheVariants.{Submitted, Active, Finished, Failed, Canceled, NotUsed}
 use Rattle.fts_tables.specs.declared.settings.Endpoint.{Endpoint}
+use Rattle.fts_counts.specs.Listed.{place_among}
 use Rattle.fts_metrics.specs.declared.goings.Going.{Going}
-
--- the place of the first endpoint of a name, and their number where none has it
-abbrev pub place_among : List Endpoint → List ℕ → ℕ
-place_among endpoints name = position_or_len (λ endpoint. bytes_eq endpoint.name name) endpoints
 
 -- where a row goes
 abbrev pub going_of : List Endpoint → FileRow → Going
@@ -28,12 +22,3 @@ states_to dest goings = map (λ going. going.state) (filter (λ going. going.des
 -- the states of a link's rows
 abbrev pub states_on : List ℕ → List ℕ → List FileRow → List FileState
 states_on source dest rows = map (λ row. row.state) (filter (is_on_link source dest) rows)
-
--- the test that a state is this one
-abbrev pub test_of : FileState → FileState → Bool
-test_of Submitted = is_submitted
-test_of Active = is_active
-test_of Finished = is_finished
-test_of Failed = is_failed
-test_of Canceled = is_canceled
-test_of NotUsed = is_not_used

@@ -1,6 +1,5 @@
 pub mod Form
 pub mod Metrics
 pub mod Goings
-pub mod JobStates
 pub mod Sums
 pub mod Totals

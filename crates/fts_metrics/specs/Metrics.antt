@@ -1,24 +1,22 @@
 -- The metrics of tables: which samples there are, and what each counts.
-use Rattle.std.specs.Prelude.{ℕ, Bool, false, ◌&&◌, ◌==◌, bytes_eq, if◌then◌else◌, Option, Some, None, List, [], ◌∷◌, ◌++◌, length, codes, filter, count_by, sum_by}
+use Rattle.std.specs.Prelude.{ℕ, Bool, ◌&&◌, bytes_eq, if◌then◌else◌, List, [], ◌++◌, length, codes, filter, count_by, sum_by}
 use Rattle.std.specs.List.{flat_map, list_any}
-use Rattle.std.specs.Option.{option_map_or}
-use Rattle.fts_tables.specs.SettingsData.{SettingsData}
 use Rattle.fts_tables.specs.Tables.{Tables, is_submitted, is_active, is_finished, is_failed, is_canceled, is_not_used}
 use Rattle.fts_tables.specs.Limits.{is_on_link, held, out_of, into}
 use Rattle.fts_tables.specs.History.{is_file_on_link}
 use Rattle.fts_tables.specs.declared.limits.TheConstants.{JOURNAL_END}
 use Rattle.fts_tables.specs.declared.rows.FileRow.{FileRow}
 use Rattle.fts_tables.specs.declared.rows.FileState.{FileState}
-use Rattle.fts_tables.specs.declared.rows.JobRow.{JobRow}
-use Rattle.fts_tables.specs.declared.rows.JobState.{JobState}
-use Rattle.fts_tables.specs.declared.rows.JobState.TheVariants.{FinishedDirty, Submitted as JobSubmitted, Active as JobActive, Finished as JobFinished, Failed as JobFailed, Canceled as JobCanceled}
+use Rattle.fts_tables.specs.declared.rows.JobState.TheVariants.{FinishedDirty, Submitted, Active, Finished, Failed, Canceled}
 use Rattle.fts_tables.specs.declared.rows.Outcome.{Outcome}
 use Rattle.fts_tables.specs.declared.rows.Outcome.TheVariants.{Verified, SourceMissing, DestinationExists, SourceSize, SourceDigest, ReadBackDiffers, StoreFailed, Stopped}
 use Rattle.fts_chronicle.specs.Chronicle.{ChronicleData}
 use Rattle.fts_chronicle.specs.declared.chronicle.CopyReport.{CopyReport}
-use Rattle.fts_desk.specs.DeskData.{state_at}
 use Rattle.fts_tables.specs.declared.settings.Endpoint.{Endpoint}
 use Rattle.fts_tables.specs.declared.settings.LinkRule.{LinkRule}
+use Rattle.fts_counts.specs.Jobs.{jobs_in}
+use Rattle.fts_counts.specs.Listed.{endpoints_of, links_of}
+use Rattle.fts_counts.specs.Outcomes.{bytes_by}
 use Rattle.fts_metrics.specs.Form.{head, label, two_labels, sample, plain_sample}
 
 -- how many rows of a link are in a state
@@ -110,23 +108,6 @@ endpoint_limit_text endpoints =
     head (codes "fts_endpoint_limit") (codes "How many files may be copied at once to or from a storage.") (codes "gauge")
     ++ flat_map endpoint_limit_samples endpoints
 
--- the place of a job's state in their order
-abbrev pub place_of : JobState → ℕ
-place_of JobSubmitted = 0
-place_of JobActive = 1
-place_of JobFinished = 2
-place_of FinishedDirty = 3
-place_of JobFailed = 4
-place_of JobCanceled = 5
-
--- whether a job stands in the state of this place, by its rows
-abbrev pub is_job_in : Tables → ℕ → JobRow → Bool
-is_job_in tables place job = option_map_or (λ state. place_of state == place) (state_at tables job.number) false
-
--- how many jobs stand in a state
-abbrev pub jobs_in : Tables → JobState → ℕ
-jobs_in tables state = count_by (is_job_in tables (place_of state)) tables.jobs
-
 -- a sample of the jobs in a state
 abbrev pub jobs_sample : List ℕ → ℕ → List ℕ
 jobs_sample state number = sample (codes "fts_jobs") (label (codes "state") state) number
@@ -135,12 +116,12 @@ jobs_sample state number = sample (codes "fts_jobs") (label (codes "state") stat
 unfoldable pub jobs_text : Tables → List ℕ
 jobs_text tables =
     head (codes "fts_jobs") (codes "Jobs by state.") (codes "gauge")
-    ++ jobs_sample (codes "SUBMITTED") (jobs_in tables JobSubmitted)
-    ++ jobs_sample (codes "ACTIVE") (jobs_in tables JobActive)
-    ++ jobs_sample (codes "FINISHED") (jobs_in tables JobFinished)
+    ++ jobs_sample (codes "SUBMITTED") (jobs_in tables Submitted)
+    ++ jobs_sample (codes "ACTIVE") (jobs_in tables Active)
+    ++ jobs_sample (codes "FINISHED") (jobs_in tables Finished)
     ++ jobs_sample (codes "FINISHEDDIRTY") (jobs_in tables FinishedDirty)
-    ++ jobs_sample (codes "FAILED") (jobs_in tables JobFailed)
-    ++ jobs_sample (codes "CANCELED") (jobs_in tables JobCanceled)
+    ++ jobs_sample (codes "FAILED") (jobs_in tables Failed)
+    ++ jobs_sample (codes "CANCELED") (jobs_in tables Canceled)
 
 -- the samples of a link that has a row
 unfoldable pub link_where : (List ℕ → List ℕ → List ℕ) → List FileRow → List ℕ → List ℕ → List ℕ
@@ -158,20 +139,9 @@ each_link samples rows endpoints = flat_map (λ (endpoint : Endpoint). links_fro
 abbrev pub reports_on : Tables → List CopyReport → List ℕ → List ℕ → List CopyReport
 reports_on tables reports source dest = filter (λ report. is_file_on_link source dest tables report.file) reports
 
--- the bytes of a copy that was verified, and 0 of any other
-abbrev pub bytes_of : Outcome → ℕ
-bytes_of (Verified size digest) = size
-bytes_of SourceMissing = 0
-bytes_of DestinationExists = 0
-bytes_of (SourceSize seen) = 0
-bytes_of (SourceDigest seen) = 0
-bytes_of (ReadBackDiffers at) = 0
-bytes_of StoreFailed = 0
-bytes_of Stopped = 0
-
 -- the bytes of a link's copies that were verified
 abbrev pub copied_on : Tables → List CopyReport → List ℕ → List ℕ → ℕ
-copied_on tables reports source dest = sum_by (λ report. bytes_of report.outcome) (reports_on tables reports source dest)
+copied_on tables reports source dest = sum_by (λ report. bytes_by report.outcome) (reports_on tables reports source dest)
 
 -- a sample of them
 abbrev pub copied_sample : Tables → List CopyReport → List ℕ → List ℕ → List ℕ
@@ -240,16 +210,6 @@ sizes_text rows used =
     ++ plain_sample (codes "fts_journal_bytes") used
     ++ head (codes "fts_journal_limit_bytes") (codes "How many bytes the journal may have.") (codes "gauge")
     ++ plain_sample (codes "fts_journal_limit_bytes") JOURNAL_END
-
--- the endpoints that settings list, and none without settings
-abbrev pub endpoints_of : Option SettingsData → List Endpoint
-endpoints_of None = []
-endpoints_of (Some settings) = settings.endpoints
-
--- the links that settings list, and none without settings
-abbrev pub links_of : Option SettingsData → List LinkRule
-links_of None = []
-links_of (Some settings) = settings.links
 
 -- all of them
 abbrev pub metrics_text : Tables → ChronicleData → ℕ → List ℕ

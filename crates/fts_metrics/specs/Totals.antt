@@ -8,8 +8,9 @@ use Rattle.fts_tables.specs.declared.rows.Outcome.{Outcome}
 use Rattle.fts_tables.specs.declared.rows.Outcome.TheVariants.{Verified, SourceMissing, DestinationExists, SourceSize, SourceDigest, ReadBackDiffers, StoreFailed, Stopped}
 use Rattle.fts_tables.specs.declared.settings.Endpoint.{Endpoint}
 use Rattle.fts_chronicle.specs.declared.chronicle.CopyReport.{CopyReport}
-use Rattle.fts_metrics.specs.Goings.{place_among}
-use Rattle.fts_metrics.specs.Metrics.{bytes_of, reports_on, copied_on, copied_sample, reports_samples}
+use Rattle.fts_counts.specs.Listed.{place_among}
+use Rattle.fts_counts.specs.Outcomes.{bytes_by}
+use Rattle.fts_metrics.specs.Metrics.{reports_on, copied_on, copied_sample, reports_samples}
 use Rattle.fts_metrics.specs.declared.sums.Share.{Share}
 use Rattle.fts_metrics.specs.declared.totals.LinkMetric.{LinkMetric}
 use Rattle.fts_metrics.specs.declared.totals.LinkMetric.TheVariants.{Copied, Reports}
@@ -40,7 +41,7 @@ outcome_place Stopped = 7
 
 -- what a report adds to a metric: its bytes at its link, or one at its link's outcome
 abbrev pub share_of : LinkMetric → ℕ → Outcome → Share
-share_of Copied place outcome = record { place = place; amount = bytes_of outcome }
+share_of Copied place outcome = record { place = place; amount = bytes_by outcome }
 share_of Reports place outcome = record { place = place * 8 + outcome_place outcome; amount = 1 }
 
 -- the same by the row of its file; nothing where the file has none

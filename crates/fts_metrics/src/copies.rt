@@ -9,7 +9,7 @@ ghost use Rattle.fts_metrics.specs.Form.{label, sample, two_labels};
 ghost use Rattle.fts_metrics.specs.Metrics.{link_where, links_from, each_link, copied_text, reports_text, outcome_samples};
 ghost use Rattle.fts_metrics.specs.Totals.{samples_of, StandByOutcome, StandsAt, AreTotals};
 
-use crate::goings::place_among;
+use crate::goings::place_of;
 use crate::lines::{labels_of, labels_with, put_head, put_total};
 use crate::sums::number_at;
 use crate::totals::{LinkMetric, Totals, link_at};
@@ -89,10 +89,10 @@ fn put_links_from(
         → AreTotals endpoints.now tables reports totals.now
         → OnOk result (text.new.items ≡ text.old.items ++ links_from (samples_of metric tables reports) tables.rows endpoints.now source.now) }
 {
-    let from = place_among(endpoints, source);
+    let from = place_of(endpoints, source);
     for endpoint in endpoints {
         let dest = endpoint.name.as_str();
-        let place = link_at(from, place_among(endpoints, dest));
+        let place = link_at(from, place_of(endpoints, dest));
         put_link(alloc, text, metric, totals, place, source, dest)?;
     }
     Ok(())

@@ -7,7 +7,7 @@ ghost use Rattle.fts_tables.specs.declared.rows.FileRow.{FileRow};
 ghost use Rattle.fts_metrics.specs.Goings.{going_of, goings_from, states_on};
 ghost use Rattle.fts_metrics.specs.Metrics.{files_sample, files_on, files_where, files_from, files_text};
 
-use crate::goings::{Going, count_in, from_place, place_among, states_to};
+use crate::goings::{Going, count_in, from_place, place_of, states_to};
 use crate::lines::{labels_of, labels_with, put_head, put_sample};
 use fts_tables::{Endpoint, FileState, Memory};
 use std::alloc::Global;
@@ -26,7 +26,7 @@ pub fn put_files(
     put_head(text, "fts_files", "Files of each link by state.", "gauge")?;
     for endpoint in endpoints {
         let source = endpoint.name.as_str();
-        let away = from_place(alloc, goings, place_among(endpoints, source))?;
+        let away = from_place(alloc, goings, place_of(endpoints, source))?;
         put_files_from(alloc, text, &away, endpoints, source)?;
     }
     Ok(())
@@ -46,7 +46,7 @@ fn put_files_from(
 {
     for endpoint in endpoints {
         let dest = endpoint.name.as_str();
-        let states = states_to(alloc, away, place_among(endpoints, dest))?;
+        let states = states_to(alloc, away, place_of(endpoints, dest))?;
         put_files_where(alloc, text, &states, source, dest)?;
     }
     Ok(())

@@ -1,9 +1,12 @@
 //! Where the rows go, by the places of their endpoints among the listed ones: names are looked up where a row's link is not that of the row before it.
 //! A link's states are then found by comparing numbers alone (`specs/Goings.antt`).
-ghost use Rattle.std.specs.Prelude.{◌≡◌, ◌≤◌, ◌==◌, bytes_eq, length, map, filter, count_by, position, IfOk};
+ghost use Rattle.std.specs.Prelude.{◌≡◌, ◌≤◌, ◌==◌, length, map, filter, count_by, IfOk};
 ghost use Rattle.fts_tables.specs.declared.limits.TheConstants.{MAX_ENDPOINTS};
-ghost use Rattle.fts_metrics.specs.Goings.{place_among, going_of, states_to, test_of};
+ghost use Rattle.fts_counts.specs.Listed.{place_among};
+ghost use Rattle.fts_counts.specs.Rows.{test_of};
+ghost use Rattle.fts_metrics.specs.Goings.{going_of, states_to};
 
+use fts_counts::{is_in, place_among};
 use fts_tables::{Endpoint, FileRow, FileState, Memory};
 use std::alloc::Global;
 
@@ -16,19 +19,11 @@ pub struct Going {
 }
 
 /// The place of the first endpoint of a name, and their number where none has it.
-pub fn place_among(endpoints: &[Endpoint], name: &str) -> u16
+pub fn place_of(endpoints: &[Endpoint], name: &str) -> u16
     requires few { length endpoints.now ≤ MAX_ENDPOINTS }
     ensures { result ≡ place_among endpoints.now name.now }
 {
-    first_named(endpoints, name).unwrap_or(endpoints.len()) as u16
-}
-
-fn first_named(endpoints: &[Endpoint], name: &str) -> Option<usize>
-    ensures { result ≡ position (λ endpoint. bytes_eq endpoint.name name.now) endpoints.now }
-{
-    endpoints
-        .iter()
-        .position(|endpoint| endpoint.name.as_str() == name)
+    place_among(endpoints, name) as u16
 }
 
 fn going_of(endpoints: &[Endpoint], row: &FileRow) -> Going
@@ -36,8 +31,8 @@ fn going_of(endpoints: &[Endpoint], row: &FileRow) -> Going
     ensures { result ≡ going_of endpoints.now row.now }
 {
     Going {
-        source: place_among(endpoints, row.source.endpoint.as_str()),
-        dest: place_among(endpoints, row.dest.endpoint.as_str()),
+        source: place_of(endpoints, row.source.endpoint.as_str()),
+        dest: place_of(endpoints, row.dest.endpoint.as_str()),
         state: row.state,
     }
 }
@@ -109,17 +104,4 @@ pub fn count_in(states: &[FileState], wanted: FileState) -> usize
     ensures { result ≡ count_by (test_of wanted) states.now }
 {
     states.iter().filter(|state| is_in(wanted, **state)).count()
-}
-
-fn is_in(wanted: FileState, state: FileState) -> bool
-    ensures { result ≡ test_of wanted state }
-{
-    match wanted {
-        FileState::Submitted => state.is_submitted(),
-        FileState::Active => state.is_active(),
-        FileState::Finished => state.is_finished(),
-        FileState::Failed => state.is_failed(),
-        FileState::Canceled => state.is_canceled(),
-        FileState::NotUsed => state.is_not_used(),
-    }
 }

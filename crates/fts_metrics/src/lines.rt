@@ -65,23 +65,10 @@ pub fn put_plain(text: &mut Vec<u8>, name: &str, number: u64) -> Result<(), Memo
 }
 
 /// A sample with these labels.
-#[tactic(auto, unfolding(crate::specs::Form::sample))]
 pub fn put_sample(text: &mut Vec<u8>, name: &str, labels: &[u8], number: u64) -> Result<(), Memory>
     ensures { OnOk result (text.new.items ≡ text.old.items ++ sample name.now labels.now number) }
 {
-    let mut digits = Buffer::new();
-    let digits = digits.format(number);
-    put_parts(
-        text,
-        &[
-            name.as_bytes(),
-            b"{",
-            labels,
-            b"} ",
-            digits.as_bytes(),
-            b"\n",
-        ],
-    )
+    put_total(text, name, labels, u128::from(number))
 }
 
 /// As `put_sample`, of a number that 64 bits may not hold.

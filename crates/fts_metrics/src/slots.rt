@@ -1,22 +1,13 @@
 //! What is being copied over each listed link, and to and from each storage, beside the limits that the settings give.
-//! Its rows are the ACTIVE ones alone, which `active_rows` gathers in one walk over all.
-ghost use Rattle.std.specs.Prelude.{◌≡◌, ◌++◌, map, filter, OnOk, IfOk};
-ghost use Rattle.fts_tables.specs.Tables.{is_active};
-ghost use Rattle.fts_tables.specs.Limits.{held, out_of, into};
+//! Its rows are the ACTIVE ones alone, which are gathered in one walk over all.
+ghost use Rattle.std.specs.Prelude.{◌≡◌, ◌++◌, map, OnOk};
+ghost use Rattle.fts_tables.specs.Limits.{held};
 ghost use Rattle.fts_metrics.specs.Metrics.{link_active_text, link_limit_text, endpoint_active_text, endpoint_limit_text, both_directions, link_active_sample, link_limit_sample, endpoint_active_samples, endpoint_limit_samples};
 
 use crate::lines::{labels_of, put_head, put_sample};
+use fts_counts::{from_endpoint, to_endpoint};
 use fts_tables::{Endpoint, FileRow, LinkRule, Memory};
-use std::alloc::{AllocError, Global};
-
-/// The rows whose files are being copied.
-pub fn active_rows(alloc: Global, rows: &[FileRow]) -> Result<Vec<&FileRow>, AllocError>
-    ensures { IfOk result (λ active. map (λ row. row.now) active.items ≡ filter (λ row. is_active row.state) rows.now) }
-{
-    rows.iter()
-        .filter(|row| row.state.is_active())
-        .collect(alloc)
-}
+use std::alloc::Global;
 
 // The files that are being copied over a link.
 fn active(rows: &[&FileRow], source: &str, dest: &str) -> usize
@@ -89,24 +80,6 @@ pub fn put_link_limit(alloc: Global, text: &mut Vec<u8>, links: &[LinkRule]) -> 
     Ok(())
 }
 
-// The files that are being copied from an endpoint.
-fn from_endpoint(rows: &[&FileRow], name: &str) -> usize
-    ensures { result ≡ out_of (map (λ row. row.now) rows.now) name.now }
-{
-    rows.iter()
-        .filter(|row| row.state.is_active() && row.source.endpoint.as_str() == name)
-        .count()
-}
-
-// The files that are being copied to an endpoint.
-fn to_endpoint(rows: &[&FileRow], name: &str) -> usize
-    ensures { result ≡ into (map (λ row. row.now) rows.now) name.now }
-{
-    rows.iter()
-        .filter(|row| row.state.is_active() && row.dest.endpoint.as_str() == name)
-        .count()
-}
-
 // A number of an endpoint for each direction.
 fn put_both(
     alloc: Global,
@@ -135,8 +108,8 @@ fn put_endpoint(
     ensures { OnOk result (text.new.items ≡ text.old.items ++ endpoint_active_samples (map (λ row. row.now) rows.now) endpoint.now) }
 {
     let name = endpoint.name.as_str();
-    let inbound = to_endpoint(rows, name) as u64;
-    let outbound = from_endpoint(rows, name) as u64;
+    let inbound = to_endpoint(rows, name);
+    let outbound = from_endpoint(rows, name);
     put_both(alloc, text, "fts_endpoint_active", name, inbound, outbound)
 }
 

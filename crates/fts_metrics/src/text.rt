@@ -1,21 +1,19 @@
 //! All metrics, in one text.
-ghost use Rattle.std.specs.Prelude.{◌≡◌, ◌++◌, ◌≤◌, length, OnOk, IfOk, option_map};
-ghost use Rattle.fts_tables.specs.declared.limits.TheConstants.{MAX_ENDPOINTS};
-ghost use Rattle.fts_metrics.specs.Metrics.{endpoints_of, links_of, last_entry_text, sizes_text, metrics_text};
+ghost use Rattle.std.specs.Prelude.{◌≡◌, ◌++◌, OnOk, IfOk};
+ghost use Rattle.fts_metrics.specs.Metrics.{last_entry_text, sizes_text, metrics_text};
 
 use crate::copies::{put_copied, put_reports};
 use crate::files::put_files;
 use crate::goings::goings_of;
 use crate::jobs::put_jobs;
 use crate::lines::{put_head, put_plain};
-use crate::slots::{
-    active_rows, put_endpoint_active, put_endpoint_limit, put_link_active, put_link_limit,
-};
+use crate::slots::{put_endpoint_active, put_endpoint_limit, put_link_active, put_link_limit};
 use crate::totals::totals_of;
 use fts_chronicle::Chronicle;
+use fts_counts::{active_rows, endpoints_of, links_of};
 use fts_desk::Desk;
 use fts_tables::limits::JOURNAL_END;
-use fts_tables::{Endpoint, FileRow, LinkRule, Memory, Settings};
+use fts_tables::{FileRow, Memory};
 use std::alloc::Global;
 
 /// The text of the metrics of a desk's tables, of what the entries that made them told beside, and of how many bytes of their journal are used.
@@ -46,27 +44,6 @@ pub fn metrics(
     put_sizes(&mut text, rows, used)?;
     put_last_entry(&mut text, chronicle.moment())?;
     Ok(text)
-}
-
-// The endpoints that settings list.
-fn endpoints_of(settings: Option<&Settings>) -> &[Endpoint]
-    ensures few { length result.now ≤ MAX_ENDPOINTS }
-    ensures listed { result.now ≡ endpoints_of (option_map (λ settings. settings.now) settings.entry) }
-{
-    match settings {
-        Some(settings) => settings.endpoints.as_slice(),
-        None => &[],
-    }
-}
-
-// The links that settings list.
-fn links_of(settings: Option<&Settings>) -> &[LinkRule]
-    ensures { result.now ≡ links_of (option_map (λ settings. settings.now) settings.entry) }
-{
-    match settings {
-        Some(settings) => settings.links.as_slice(),
-        None => &[],
-    }
 }
 
 // What there is of the last entry.

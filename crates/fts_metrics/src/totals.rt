@@ -8,13 +8,13 @@ ghost use Rattle.fts_tables.specs.Tables.{row_at};
 ghost use Rattle.fts_tables.specs.declared.limits.TheConstants.{MAX_ENDPOINTS};
 ghost use Rattle.fts_tables.specs.declared.rows.FileRow.{FileRow};
 ghost use Rattle.fts_metrics.specs.Goings.{going_of};
-ghost use Rattle.fts_metrics.specs.Metrics.{bytes_of};
 ghost use Rattle.fts_metrics.specs.Totals.{link_at, outcome_place, share_of, report_share, row_share, AreTotals};
 ghost use Rattle.fts_metrics.specs.declared.goings.Going.{Going};
 
 use crate::goings::Going;
 use crate::sums::{Share, sums_of};
 use fts_chronicle::CopyReport;
+use fts_counts::bytes_by;
 use fts_desk::Desk;
 use fts_tables::limits::MAX_ENDPOINTS;
 use fts_tables::{Endpoint, Memory, Outcome};
@@ -160,28 +160,12 @@ fn share_of(metric: LinkMetric, place: u32, outcome: Outcome) -> Share
     match metric {
         LinkMetric::Copied => Share {
             place,
-            amount: bytes_of(outcome),
+            amount: bytes_by(outcome),
         },
         LinkMetric::Reports => Share {
             place: place * OUTCOMES + outcome_place(outcome) as usize,
             amount: 1,
         },
-    }
-}
-
-// The bytes of a copy that was verified, and 0 of any other.
-fn bytes_of(outcome: Outcome) -> u64
-    ensures { result ≡ bytes_of outcome }
-{
-    match outcome {
-        Outcome::Verified { size, digest: _ } => size,
-        Outcome::SourceMissing => 0,
-        Outcome::DestinationExists => 0,
-        Outcome::SourceSize { seen: _ } => 0,
-        Outcome::SourceDigest { seen: _ } => 0,
-        Outcome::ReadBackDiffers { at: _ } => 0,
-        Outcome::StoreFailed => 0,
-        Outcome::Stopped => 0,
     }
 }
 

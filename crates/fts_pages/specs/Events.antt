@@ -10,12 +10,12 @@ use Rattle.fts_tables.specs.declared.rows.JobKind.{JobKind}
 use Rattle.fts_tables.specs.declared.rows.JobKind.TheVariants.{Plain, Replica, Multihop}
 use Rattle.fts_tables.specs.declared.rows.JobRow.{JobRow}
 use Rattle.fts_tables.specs.declared.rows.Outcome.{Outcome}
-use Rattle.fts_tables.specs.declared.rows.Outcome.TheVariants.{Verified, SourceMissing, DestinationExists, SourceSize, SourceDigest, ReadBackDiffers, StoreFailed, Stopped}
 use Rattle.fts_tables.specs.declared.rows.Reason.{Reason}
 use Rattle.fts_tables.specs.declared.rows.Reason.TheVariants.{Cancelled, Ended, Expired, None as NoReason}
 use Rattle.fts_chronicle.specs.declared.chronicle.CopyReport.{CopyReport}
 use Rattle.fts_chronicle.specs.declared.events.FileEvent.{FileEvent}
-use Rattle.fts_chronicle.specs.declared.events.FileEvent.TheVariants.{Claimed as FileClaimed, Reported as FileReported, JobCancelled, FileCancelled}
+use Rattle.fts_chronicle.specs.declared.events.FileEvent.TheVariants.{Claimed, Reported, JobCancelled, FileCancelled}
+use Rattle.fts_counts.specs.Outcomes.{size_of}
 use Rattle.fts_routes.specs.Json.{whole_number}
 use Rattle.fts_pages.specs.declared.events.EventShown.{EventShown}
 use Rattle.fts_pages.specs.declared.events.TheConstants.{MAX_EVENTS}
@@ -33,8 +33,8 @@ is_report_of job (Some report) = is_file_of job report.file
 
 -- whether an event is of a job or of a file of it, by the reports
 abbrev pub is_event_of : List CopyReport → JobRow → FileEvent → Bool
-is_event_of reports job (FileClaimed moment file attempt) = is_file_of job file
-is_event_of reports job (FileReported place state) = is_report_of job (slice_get reports place)
+is_event_of reports job (Claimed moment file attempt) = is_file_of job file
+is_event_of reports job (Reported place state) = is_report_of job (slice_get reports place)
 is_event_of reports job (JobCancelled moment number) = number == job.number
 is_event_of reports job (FileCancelled moment number file) = number == job.number
 
@@ -59,17 +59,6 @@ reason_by Finished outcome = NoReason
 reason_by Failed outcome = Ended outcome
 reason_by Canceled outcome = Cancelled
 reason_by NotUsed outcome = Ended outcome
-
--- the size of a verified copy
-abbrev pub size_of : Outcome → Option ℕ
-size_of (Verified size digest) = Some size
-size_of SourceMissing = None
-size_of DestinationExists = None
-size_of (SourceSize seen) = None
-size_of (SourceDigest seen) = None
-size_of (ReadBackDiffers at) = None
-size_of StoreFailed = None
-size_of Stopped = None
 
 -- the bytes that go with a report, by the state behind it: the size of a file that has finished
 abbrev pub bytes_by : FileState → Outcome → Option ℕ
@@ -130,8 +119,8 @@ ending_of row state (Some report) = if report.file == row.id then Some (report_e
 
 -- what an event did to a row of a job, by the reports
 abbrev pub event_of : List CopyReport → JobRow → FileRow → FileEvent → Option EventShown
-event_of reports job row (FileClaimed moment file attempt) = if file == row.id then Some (claim_event moment attempt) else None
-event_of reports job row (FileReported place state) = ending_of row state (slice_get reports place)
+event_of reports job row (Claimed moment file attempt) = if file == row.id then Some (claim_event moment attempt) else None
+event_of reports job row (Reported place state) = ending_of row state (slice_get reports place)
 event_of reports job row (JobCancelled moment number) = if number == job.number then cancel_event row moment else None
 event_of reports job row (FileCancelled moment number file) =
     if number == job.number && (file == row.id || is_joint job.kind) then cancel_event row moment else None

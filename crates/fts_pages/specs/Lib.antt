@@ -3,5 +3,4 @@ pub mod Events
 pub mod Groups
 pub mod Pages
 pub mod Places
-pub mod States
 pub mod Walk

@@ -1,16 +1,16 @@
 -- Pages of jobs: which jobs match, in which order, how many are shown, and how they are shown.
-use Rattle.std.specs.Prelude.{ℕ, ◌-◌, Bool, true, ◌&&◌, ◌||◌, nat_lt, nat_le, if◌then◌else◌, bytes_eq, List, [], ◌∷◌, length, reverse, take, filter, count_by, slice_get, Option, Some, None, option_map, string_bytes, codes}
+use Rattle.std.specs.Prelude.{ℕ, ◌-◌, Bool, true, ◌&&◌, ◌||◌, nat_lt, nat_le, if◌then◌else◌, bytes_eq, List, [], ◌∷◌, length, reverse, take, filter, slice_get, Option, Some, None, option_map, string_bytes, codes}
 use Rattle.std.specs.List.{list_any}
 use Rattle.serde_json.specs.Data.{Data, null, boolean, number, string, array, object, put}
-use Rattle.fts_tables.specs.Tables.{Tables, rows_of_job, is_submitted, is_active, is_finished, is_failed, is_canceled, is_not_used}
+use Rattle.fts_tables.specs.Tables.{Tables, rows_of_job}
 use Rattle.fts_tables.specs.declared.rows.FileRow.{FileRow}
-use Rattle.fts_tables.specs.declared.rows.FileState.{FileState}
 use Rattle.fts_tables.specs.declared.rows.JobRow.{JobRow}
 use Rattle.fts_tables.specs.declared.rows.JobState.{JobState}
 use Rattle.fts_chronicle.specs.Chronicle.{ChronicleData}
 use Rattle.fts_chronicle.specs.Finishes.{finish_at}
 use Rattle.fts_chronicle.specs.declared.chronicle.CopyReport.{CopyReport}
 use Rattle.fts_chronicle.specs.declared.events.FileEvent.{FileEvent}
+use Rattle.fts_board.specs.Snapshot.{files_object}
 use Rattle.fts_routes.specs.Json.{object_of, array_of, whole_number, id_text, body_of}
 use Rattle.fts_routes.specs.Objects.{job_object, file_object, job_state_text, state_in, reason_text}
 use Rattle.fts_pages.specs.Events.{events_of_job, events_of_row, newest, left_out, happening_text, bytes_data}
@@ -99,25 +99,10 @@ with_member key value (string text) = string text
 with_member key value (array items) = array items
 with_member key value (object members) = object (put key value members)
 
--- how many of these files are in a state
-abbrev pub count_in : (FileState → Bool) → List FileRow → ℕ
-count_in is_state rows = count_by (λ row. is_state row.state) rows
-
--- how many files are in each state
-abbrev pub counts_object : List FileRow → Data
-counts_object rows = object_of (
-    (codes "ACTIVE", whole_number (count_in is_active rows))
-    ∷ (codes "CANCELED", whole_number (count_in is_canceled rows))
-    ∷ (codes "FAILED", whole_number (count_in is_failed rows))
-    ∷ (codes "FINISHED", whole_number (count_in is_finished rows))
-    ∷ (codes "NOT_USED", whole_number (count_in is_not_used rows))
-    ∷ (codes "SUBMITTED", whole_number (count_in is_submitted rows))
-    ∷ [])
-
 -- a job: the service's object of it, how many of its files are in each state, and when it was settled, by the finishes that entries told
 abbrev pub job_shown : Tables → List ℕ → JobRow → Data
 job_shown tables finishes job = with_member (codes "finish_time") (whole_number (finish_at finishes job.number))
-    (with_member (codes "files_by_state") (counts_object (rows_of_job tables.rows job.number)) (job_object tables job))
+    (with_member (codes "files_by_state") (files_object (rows_of_job tables.rows job.number)) (job_object tables job))
 
 -- an event as it is shown
 abbrev pub event_object : EventShown → Data

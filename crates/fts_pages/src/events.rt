@@ -3,12 +3,13 @@
 ghost use Rattle.std.specs.Prelude.{◌≡◌, IfOk, map, filter};
 ghost use Rattle.std.specs.List.{filter_map};
 ghost use Rattle.serde_json.specs.View.{view};
-ghost use Rattle.fts_pages.specs.Events.{is_file_of, is_report_of, is_event_of, events_of_job, happening_by, reason_by, size_of, bytes_by, plain_event, submission_of, claim_event, report_event, is_cancelled, cancel_event, is_joint, ending_of, event_of, events_of_row, happening_text, bytes_data};
+ghost use Rattle.fts_pages.specs.Events.{is_file_of, is_report_of, is_event_of, events_of_job, happening_by, reason_by, bytes_by, plain_event, submission_of, claim_event, report_event, is_cancelled, cancel_event, is_joint, ending_of, event_of, events_of_row, happening_text, bytes_data};
 ghost use Rattle.fts_pages.specs.Pages.{event_object};
 ghost use Rattle.fts_pages.specs.EventFloats.{event_no_float};
 
 use crate::objects::with_member;
 use fts_chronicle::{CopyReport, FileEvent};
+use fts_counts::size_of;
 use fts_routes::{Shown, reason_text};
 use fts_tables::{FileRow, FileState, JobKind, JobRow, Memory, Outcome, Reason};
 use serde_json::{Value, json};
@@ -257,22 +258,6 @@ fn bytes_by(state: FileState, outcome: Outcome) -> Option<u64>
         | FileState::Failed
         | FileState::Canceled
         | FileState::NotUsed => None,
-    }
-}
-
-/// The size of a verified copy.
-fn size_of(outcome: Outcome) -> Option<u64>
-    ensures { result ≡ size_of outcome }
-{
-    match outcome {
-        Outcome::Verified { size, digest: _ } => Some(size),
-        Outcome::SourceMissing
-        | Outcome::DestinationExists
-        | Outcome::SourceSize { .. }
-        | Outcome::SourceDigest { .. }
-        | Outcome::ReadBackDiffers { .. }
-        | Outcome::StoreFailed
-        | Outcome::Stopped => None,
     }
 }
 

@@ -1,8 +1,9 @@
 //! Groups of reasons, by which jobs may be asked for (`specs/Groups.antt`): a reason's text without number or digest, as a snapshot names its failures.
 ghost use Rattle.std.specs.Prelude.{◌≡◌};
-ghost use Rattle.fts_pages.specs.Groups.{outcome_group, group_of, is_group};
+ghost use Rattle.fts_pages.specs.Groups.{group_of, is_group};
 
-use fts_tables::{Outcome, Reason};
+use fts_counts::outcome_word;
+use fts_tables::Reason;
 
 /// The group of a reason; the empty text where a file has no reason, or its copy was verified.
 pub fn group_of(reason: Reason) -> &'static str
@@ -12,23 +13,7 @@ pub fn group_of(reason: Reason) -> &'static str
         Reason::None => "",
         Reason::Cancelled => "cancelled",
         Reason::Expired => "expired",
-        Reason::Ended(outcome) => outcome_group(outcome),
-    }
-}
-
-/// The group of an outcome; the empty text of a verified copy.
-fn outcome_group(outcome: Outcome) -> &'static str
-    ensures { result.now ≡ outcome_group outcome }
-{
-    match outcome {
-        Outcome::Verified { .. } => "",
-        Outcome::SourceMissing => "source missing",
-        Outcome::DestinationExists => "destination exists",
-        Outcome::SourceSize { .. } => "source size",
-        Outcome::SourceDigest { .. } => "source digest",
-        Outcome::ReadBackDiffers { .. } => "read back differs",
-        Outcome::StoreFailed => "store failed",
-        Outcome::Stopped => "stopped",
+        Reason::Ended(outcome) => outcome_word(outcome),
     }
 }
 

@@ -7,14 +7,14 @@ ghost use Rattle.fts_tables.specs.Tables.{job_at};
 ghost use Rattle.fts_routes.specs.Objects.{settings_in};
 ghost use Rattle.fts_routes.specs.Json.{array_of};
 ghost use Rattle.fts_pages.specs.Events.{events_of_row};
-ghost use Rattle.fts_pages.specs.Pages.{with_member, count_in, counts_object, job_shown, file_with_events, file_shown, job_with_files};
-ghost use Rattle.fts_pages.specs.States.{test_of};
+ghost use Rattle.fts_pages.specs.Pages.{with_member, job_shown, file_with_events, file_shown, job_with_files};
 
 use crate::events::{EventShown, MAX_EVENTS, events_of_job, events_of_row};
+use fts_board::files_value;
 use fts_chronicle::{Chronicle, CopyReport, FileEvent};
 use fts_desk::Desk;
 use fts_routes::{Shown, array_value, job_value, state_of};
-use fts_tables::{FileRow, FileState, JobRow, Memory};
+use fts_tables::{FileRow, JobRow, Memory};
 use serde_json::{Value, json};
 use std::alloc::Global;
 
@@ -30,7 +30,7 @@ pub fn job_shown(
 {
     let state = state_of(desk, job);
     let value = job_value(alloc, job, state, job.priority, vo_of(desk))?;
-    let counts = counts_value(alloc, desk.job_rows(job.number))?;
+    let counts = files_value(alloc, desk.job_rows(job.number))?;
     let value = with_member(alloc, value, "files_by_state", counts)?;
     let finish = json!(in alloc; chronicle.finish(job.number))?;
     with_member(alloc, value, "finish_time", finish)
@@ -49,12 +49,12 @@ pub fn job_with_files(
     let value = job_shown(alloc, desk, chronicle, job)?;
     let reports = chronicle.reports();
     let events = events_of_job(alloc, reports, job, chronicle.events())?;
-    let files = files_value(alloc, reports, job, &events, desk.job_rows(job.number))?;
+    let files = rows_value(alloc, reports, job, &events, desk.job_rows(job.number))?;
     with_member(alloc, value, "files", files)
 }
 
 /// Rows of a job, by the job's events and the reports.
-fn files_value(
+fn rows_value(
     alloc: Global,
     reports: &[CopyReport],
     job: &JobRow,
@@ -106,42 +106,6 @@ fn vo_of(desk: &Desk) -> &str
     match desk.settings() {
         Some(settings) => settings.vo.as_str(),
         None => "",
-    }
-}
-
-/// How many of these files are in each state.
-fn counts_value(alloc: Global, rows: &[FileRow]) -> Result<Value, Memory>
-    ensures { IfOk result (λ value. view value ≡ counts_object rows.now) }
-{
-    let value = json!(in alloc; {
-        "ACTIVE": count_in(rows, FileState::Active),
-        "CANCELED": count_in(rows, FileState::Canceled),
-        "FAILED": count_in(rows, FileState::Failed),
-        "FINISHED": count_in(rows, FileState::Finished),
-        "NOT_USED": count_in(rows, FileState::NotUsed),
-        "SUBMITTED": count_in(rows, FileState::Submitted)
-    })?;
-    Ok(value)
-}
-
-/// How many of these files are in a state.
-fn count_in(rows: &[FileRow], state: FileState) -> u64
-    ensures { result ≡ count_in (test_of state) rows.now }
-{
-    rows.iter().filter(|row| is_in(state, row.state)).count() as u64
-}
-
-/// Whether a file's state is this one.
-fn is_in(wanted: FileState, state: FileState) -> bool
-    ensures { result ≡ test_of wanted state }
-{
-    match wanted {
-        FileState::Submitted => state.is_submitted(),
-        FileState::Active => state.is_active(),
-        FileState::Finished => state.is_finished(),
-        FileState::Failed => state.is_failed(),
-        FileState::Canceled => state.is_canceled(),
-        FileState::NotUsed => state.is_not_used(),
     }
 }
 

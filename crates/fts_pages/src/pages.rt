@@ -1,11 +1,11 @@
 //! Pages of jobs, and the page of one job, as text (`specs/Pages.antt`).
 //! A request costs what it looks at: the jobs behind the one asked for are found by their numbers, and at most `MAX_LOOKED_AT` of them are looked at.
-ghost use Rattle.std.specs.Prelude.{◌≡◌, ◌≤◌, ◌<◌, Some, IfOk, length, option_map, string_bytes, false};
+ghost use Rattle.std.specs.Prelude.{◌≡◌, ◌≤◌, ◌<◌, Some, IfOk, length, option_map, false};
 ghost use Rattle.std.specs.List.{slice_range};
 ghost use Rattle.serde_json.specs.Data.{array};
 ghost use Rattle.serde_json.specs.View.{view, items_view};
 ghost use Rattle.serde_json.specs.Written.{has_float};
-ghost use Rattle.fts_routes.specs.Json.{body_of, id_text};
+ghost use Rattle.fts_routes.specs.Json.{body_of};
 ghost use Rattle.fts_routes.specs.Routes.{job_named};
 ghost use Rattle.fts_pages.specs.Pages.{question_of, in_order, jobs_behind, goes_on, id_of, page_by, page_of, page_text, job_text};
 
@@ -13,13 +13,13 @@ use crate::asked::PageAsked;
 use crate::objects::job_with_files;
 use crate::places::{Places, place_at, places_behind};
 use crate::walk::list_matching;
+use fts_board::id_text;
 use fts_chronicle::Chronicle;
 use fts_desk::Desk;
 use fts_routes::job_named;
 use fts_tables::{JobRow, Memory};
 use serde_json::{Map, Value, json};
 use std::alloc::Global;
-use uuid::Uuid;
 
 /// At most this many jobs are looked at for one page.
 pub const MAX_LOOKED_AT: usize = 10_000;
@@ -115,16 +115,6 @@ fn id_value(alloc: Global, job: &JobRow) -> Result<Value, Memory>
 {
     let text = id_text(alloc, job.id)?;
     Ok(Value::String(text))
-}
-
-/// An id as a UUID in lower case.
-fn id_text(alloc: Global, id: u128) -> Result<String, Memory>
-    ensures { IfOk result (λ text. string_bytes text ≡ id_text id) }
-{
-    let mut room = Uuid::encode_buffer();
-    let id = Uuid::from_u128(id).hyphenated();
-    let text = String::from_str(alloc, id.encode_lower(&mut room))?;
-    Ok(text)
 }
 
 /// A page by its parts.

@@ -5,7 +5,7 @@ use Rattle.std.specs.List.{position_or_len, before_first, after_first}
 use Rattle.fts_tables.specs.SettingsData.{is_within}
 use Rattle.fts_tables.specs.Tables.{Tables}
 use Rattle.fts_tables.specs.declared.rows.JobState.{JobState}
-use Rattle.fts_tables.specs.declared.rows.JobState.TheVariants.{FinishedDirty, Submitted as JobSubmitted, Active as JobActive, Finished as JobFinished, Failed as JobFailed, Canceled as JobCanceled}
+use Rattle.fts_tables.specs.declared.rows.JobState.TheVariants.{FinishedDirty, Submitted, Active, Finished, Failed, Canceled}
 use Rattle.fts_routes.specs.Queries.{value_of, number_in}
 use Rattle.fts_routes.specs.Routes.{job_named}
 use Rattle.fts_board.specs.History.{HistoryQuestion}
@@ -50,12 +50,12 @@ history_asked query = option_and_then (λ step. option_map (history_of query ste
 -- the state of a job that a word names
 abbrev pub state_named : List ℕ → Option JobState
 state_named word =
-    if bytes_eq word (codes "SUBMITTED") then Some JobSubmitted
-    else if bytes_eq word (codes "ACTIVE") then Some JobActive
-    else if bytes_eq word (codes "FINISHED") then Some JobFinished
+    if bytes_eq word (codes "SUBMITTED") then Some Submitted
+    else if bytes_eq word (codes "ACTIVE") then Some Active
+    else if bytes_eq word (codes "FINISHED") then Some Finished
     else if bytes_eq word (codes "FINISHEDDIRTY") then Some FinishedDirty
-    else if bytes_eq word (codes "FAILED") then Some JobFailed
-    else if bytes_eq word (codes "CANCELED") then Some JobCanceled
+    else if bytes_eq word (codes "FAILED") then Some Failed
+    else if bytes_eq word (codes "CANCELED") then Some Canceled
     else None
 
 -- what is read of a value that may be absent: none in particular, or what the text is, which has to be something

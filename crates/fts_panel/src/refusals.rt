@@ -2,7 +2,6 @@
 //! Keeps: a reply is the definition's (`specs/Responses.antt`), or the one for want of memory, which takes none.
 ghost use Rattle.std.specs.Prelude.{◌≡◌, IfOk, map};
 ghost use Rattle.std.specs.List.{concat};
-ghost use Rattle.fts_wire.specs.declared.response.Allow.TheVariants.{Get as GetAlone, None as NoMethods};
 ghost use Rattle.fts_panel.specs.Responses.{IsOrNoMemory, refusal_body, refusal_of, no_memory, no_route, no_job, no_method, bad_query, reply_to};
 
 use fts_tables::{Items, Memory};

@@ -1,5 +1,5 @@
 -- The lines of a list's items, gathered one after another.
-use Rattle.std.proofs.Common.{◌≡◌, ℕ, ◌+◌, ◌<◌, List, [], ◌∷◌, ◌++◌, length, get_or, take, drop, Option, Some, Result, Ok, Err, ap, sym, ◌∙◌, subst, append-nil}
+use Rattle.std.proofs.Common.{◌≡◌, ℕ, ◌+◌, ◌<◌, List, [], ◌++◌, length, get_or, take, drop, Option, Some, Result, Err, ap, sym, ◌∙◌, subst}
 use Rattle.std.specs.Prelude.{option_map}
 use Rattle.std.specs.List.{flat_map}
 use Rattle.fts_tables.specs.Tables.{Tables, job_at, rows_of_job}
@@ -9,7 +9,7 @@ use Rattle.fts_tables.specs.declared.rows.JobState.{JobState}
 use Rattle.fts_tables.specs.Moves.{state_of_job}
 use Rattle.fts_desk.specs.DeskData.{state_at}
 use Rattle.fts_routes.specs.Objects.{state_in}
-use Rattle.std.proofs.lemmas.List.{take_more, take-append-drop}
+use Rattle.std.proofs.lemmas.List.{take_more, take-append-drop, flat_map_more}
 use Rattle.std.proofs.lemmas.Grind.{flat_map-append}
 use Rattle.fts_wire.specs.Response.{Sends}
 use Rattle.fts_wire.specs.declared.outside.SinkFailed.{SinkFailed}
@@ -21,8 +21,8 @@ module _ {Item : Type 0} (line : Item → List ℕ) (items : List Item) (i : ℕ
     (old mid new : Option (List ℕ)) (before between after : List ℕ)
     (so_far : IsGathered old mid before between (flat_map line (take i items))) where
   one_more : flat_map line (take (i + 1) items) ≡ flat_map line (take i items) ++ line item
-  one_more = ap (flat_map line) (take_more items i other inside) ∙ flat_map-append line (take i items) (get_or items i other ∷ [])
-      ∙ ap (λ (text : List ℕ). flat_map line (take i items) ++ text) (append-nil (line (get_or items i other)) ∙ ap line is)
+  one_more = ap (flat_map line) (take_more items i other inside) ∙ sym (flat_map_more line [] (take i items) (get_or items i other))
+      ∙ ap (λ (one : Item). flat_map line (take i items) ++ line one) is
 
   all_lines : (flat_map line (take i items) ++ line item) ++ flat_map line (drop (i + 1) items) ≡ flat_map line items
   all_lines = ap (λ (text : List ℕ). text ++ flat_map line (drop (i + 1) items)) (sym one_more)

@@ -3,7 +3,6 @@ use Rattle.std.specs.Prelude.{ℕ, List, [], ◌∷◌, ◌++◌, codes, decimal
 use Rattle.std.specs.List.{flat_map}
 use Rattle.fts_tables.specs.Tables.{Tables, rows_of_job}
 use Rattle.fts_tables.specs.declared.rows.FileRow.{FileRow}
-use Rattle.fts_tables.specs.declared.rows.FileState.{FileState}
 use Rattle.fts_tables.specs.declared.rows.JobKind.{JobKind}
 use Rattle.fts_tables.specs.declared.rows.JobRow.{JobRow}
 use Rattle.fts_tables.specs.declared.rows.JobState.{JobState}

@@ -15,14 +15,9 @@ use std::marker::Model;
 pub const GATHERED_BYTES: usize = 65_536;
 
 /// The lines that wait, as one text.
+#[derive(Drop)]
 pub struct Gathered {
     text: ArrayVec<u8, GATHERED_BYTES>,
-}
-
-impl Drop for Gathered {
-    fn drop(self) {
-        let Gathered { text: _ } = self;
-    }
 }
 
 impl Model for Gathered {

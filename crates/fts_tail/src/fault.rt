@@ -1,7 +1,7 @@
 //! Why a look at a journal's end isn't done.
 //! `DiskFailed` comes only where the disk counted a failure in that call.
 ghost use Rattle.std.specs.Prelude.{◌≡◌};
-ghost use Rattle.fts_tail.specs.declared.fault.TailFault.TheVariants.{Memory as OutOfMemory, DiskFailed as Failed};
+ghost use Rattle.fts_tail.specs.declared.fault.TailFault.TheVariants.{Memory, DiskFailed as Failed};
 
 use fts_disk::DiskFailed;
 use std::alloc::{AllocError, AllocFailed};
@@ -22,7 +22,7 @@ pub enum TailFault {
 }
 
 impl From<AllocError> for TailFault {
-    ghost from_gives = { λ _ fault. fault ≡ OutOfMemory };
+    ghost from_gives = { λ _ fault. fault ≡ Memory };
 
     fn from(_: AllocError) -> Self {
         TailFault::Memory
@@ -30,7 +30,7 @@ impl From<AllocError> for TailFault {
 }
 
 impl<T: Drop> From<AllocFailed<T>> for TailFault {
-    ghost from_gives = { λ _ fault. fault ≡ OutOfMemory };
+    ghost from_gives = { λ _ fault. fault ≡ Memory };
 
     fn from(_: AllocFailed<T>) -> Self {
         TailFault::Memory

@@ -19,6 +19,7 @@ use std::mem;
 const HEADER: [u8; 8] = *b"FTS3JRN1";
 
 /// The bodies of a journal up to a gate, and the one that was found behind it. Contracts see the gate's offset, that body or none, and the disk.
+#[derive(Drop)]
 pub struct Tail<D: Disk> {
     disk: D,
     /// The offset of the gate behind what was passed.
@@ -30,19 +31,6 @@ pub struct Tail<D: Disk> {
     /// What a look read; where it found a body, that one behind its gate and its length.
     bytes: Vec<u8>,
     ready: bool,
-}
-
-impl<D: Disk + Drop> Drop for Tail<D> {
-    fn drop(self) {
-        let Tail {
-            disk: _,
-            used: _,
-            known: _,
-            last: _,
-            bytes: _,
-            ready: _,
-        } = self;
-    }
 }
 
 impl<D: Disk> Model for Tail<D> {

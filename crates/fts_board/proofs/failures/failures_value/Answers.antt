@@ -1,5 +1,5 @@
 -- The groups, one behind the other.
-use Rattle.std.proofs.Common.{◌≡◌, ◌++◌, ◌∙◌, List, ℕ, ap, codes, map}
+use Rattle.std.proofs.Common.{◌++◌, ◌∙◌, List, ap, codes, map}
 use Rattle.serde_json.specs.Data.{Data, array}
 use Rattle.serde_json.specs.View.{view, items_of}
 use Rattle.serde_json.specs.declared.value.Value.{Value}

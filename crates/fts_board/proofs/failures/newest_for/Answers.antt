@@ -1,5 +1,5 @@
 -- A report that gives the reason is the newest that does.
-use Rattle.std.proofs.Common.{◌≡◌, ◌∙◌, sym}
+use Rattle.std.proofs.Common.{◌∙◌, sym}
 use Rattle.fts_board.specs.Snapshot.{is_for}
 use Rattle.fts_board.proofs.Lists.{last_passes, last_stays}
 use Rattle.fts_board.proofs.failures.newest_for.Goals as goal

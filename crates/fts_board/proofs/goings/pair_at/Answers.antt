@@ -1,5 +1,5 @@
 -- The row stands at the place before its id, and so does its going.
-use Rattle.std.proofs.Common.{◌≡◌, ◌-◌, ◌∙◌, ap, sym, Option}
+use Rattle.std.proofs.Common.{◌-◌, ◌∙◌, ap, sym}
 use Rattle.std.specs.Prelude.{option_map}
 use Rattle.fts_board.specs.Tallied.{pair_of_row}
 use Rattle.fts_board.proofs.Tallied.{pair_found}

@@ -1,13 +1,13 @@
 -- The link is another one where it has a row and isn't listed.
 use Rattle.std.proofs.Common.{◌≡◌, ◌++◌, ◌∙◌, List, [], ◌∷◌, ℕ, Bool, true, false, ap, sym, cond, subst, append-nil, length, map}
 use Rattle.std.specs.Prelude.{not, ◌&&◌, ◌==◌, OnOk}
-use Rattle.std.specs.List.{list_any}
 use Rattle.serde_json.specs.Data.{Data}
 use Rattle.fts_tables.specs.Limits.{is_on_link}
 use Rattle.fts_tables.specs.Tables.{Tables}
 use Rattle.fts_tables.specs.declared.settings.LinkRule.{LinkRule}
 use Rattle.fts_chronicle.specs.declared.chronicle.CopyReport.{CopyReport}
-use Rattle.fts_board.specs.Snapshot.{links_of, default_limit_of, rows_on, is_link_listed, link_object, others_at}
+use Rattle.fts_counts.specs.Listed.{links_of}
+use Rattle.fts_board.specs.Snapshot.{default_limit_of, rows_on, is_link_listed, link_object, others_at}
 use Rattle.fts_board.specs.Boards.{shown_link}
 use Rattle.fts_board.proofs.Tallied.{any_kept}
 use Rattle.fts_board.proofs.links.add_other.Goals as goal

@@ -1,12 +1,13 @@
 -- The links from one endpoint more.
-use Rattle.std.proofs.Common.{◌≡◌, ◌++◌, ◌∙◌, List, ℕ, ap, sym, map}
+use Rattle.std.proofs.Common.{◌++◌, ◌∙◌, List, ap, sym, map}
 use Rattle.std.specs.List.{flat_map}
 use Rattle.fts_tables.specs.SettingsData.{is_listed}
 use Rattle.fts_tables.specs.declared.settings.Endpoint.{Endpoint}
-use Rattle.fts_board.specs.Snapshot.{endpoints_of, others_at, others_from}
+use Rattle.fts_counts.specs.Listed.{endpoints_of}
+use Rattle.fts_board.specs.Snapshot.{others_at, others_from}
 use Rattle.fts_board.specs.Boards.{shown_link}
 use Rattle.fts_board.proofs.Lists.{more_of}
-use Rattle.fts_board.proofs.Pairs.{listed_at}
+use Rattle.fts_counts.proofs.Places.{listed_at}
 use Rattle.fts_board.proofs.links.add_others.Goals as goal
 
 pub loop-endpoint-preserved : goal.loop-endpoint-preserved

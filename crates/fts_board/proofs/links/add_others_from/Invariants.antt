@@ -5,7 +5,8 @@ use Rattle.fts_tables.specs.SettingsData.{is_listed}
 use Rattle.fts_tables.specs.Tables.{Tables}
 use Rattle.fts_tables.specs.declared.settings.Endpoint.{Endpoint}
 use Rattle.fts_chronicle.specs.declared.chronicle.CopyReport.{CopyReport}
-use Rattle.fts_board.specs.Snapshot.{endpoints_of, others_at, others_from}
+use Rattle.fts_counts.specs.Listed.{endpoints_of}
+use Rattle.fts_board.specs.Snapshot.{others_at}
 use Rattle.fts_board.specs.Boards.{IsBoardOf, shown_link}
 use Rattle.fts_board.proofs.links.add_others_from.Given as goal
 

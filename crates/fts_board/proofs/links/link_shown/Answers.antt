@@ -1,7 +1,7 @@
 -- What the tables say of the pair is what the link's rows and reports say.
-use Rattle.std.proofs.Common.{◌≡◌, ◌∙◌, List, [], ℕ, ap, get_or}
+use Rattle.std.proofs.Common.{◌∙◌, List, [], ap, get_or}
 use Rattle.fts_tables.specs.declared.settings.Endpoint.{Endpoint}
-use Rattle.fts_board.specs.Snapshot.{endpoints_of}
+use Rattle.fts_counts.specs.Listed.{endpoints_of}
 use Rattle.fts_board.specs.Tallied.{pair_of, row_tally_of, report_tally_of}
 use Rattle.fts_board.specs.Boards.{link_with}
 use Rattle.fts_board.specs.declared.tallies.RowTally.{RowTally}

@@ -1,7 +1,8 @@
 -- The link of the rule's ends, under its name and limit.
-use Rattle.std.proofs.Common.{◌≡◌, ◌∙◌, List, ℕ, ap}
+use Rattle.std.proofs.Common.{◌∙◌, ap}
 use Rattle.fts_tables.specs.SettingsData.{is_listed}
-use Rattle.fts_board.specs.Snapshot.{endpoints_of, link_object}
+use Rattle.fts_counts.specs.Listed.{endpoints_of}
+use Rattle.fts_board.specs.Snapshot.{link_object}
 use Rattle.fts_board.proofs.links.listed_link.Goals as goal
 
 pub returns : goal.returns

@@ -1,7 +1,8 @@
 -- A rule's link more.
-use Rattle.std.proofs.Common.{◌≡◌, ◌++◌, [], ◌∷◌, ◌∙◌, List, ap, sym, map}
+use Rattle.std.proofs.Common.{◌++◌, [], ◌∷◌, ◌∙◌, ap, sym, map}
 use Rattle.serde_json.specs.Data.{Data}
-use Rattle.fts_board.specs.Snapshot.{endpoints_of, listed_object}
+use Rattle.fts_counts.specs.Listed.{endpoints_of}
+use Rattle.fts_board.specs.Snapshot.{listed_object}
 use Rattle.fts_board.specs.Boards.{shown_link}
 use Rattle.fts_board.proofs.Lists.{read_more, known_at}
 use Rattle.fts_board.proofs.links.listed_links.Goals as goal

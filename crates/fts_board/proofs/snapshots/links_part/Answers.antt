@@ -1,5 +1,5 @@
 -- The first of the links are shown, and the others counted.
-use Rattle.std.proofs.Common.{◌≡◌, ◌∙◌, List, ap, sym, take, length, map, arith}
+use Rattle.std.proofs.Common.{◌∙◌, List, ap, sym, take, length, map, arith}
 use Rattle.std.proofs.lemmas.List.{take-map, length-map}
 use Rattle.serde_json.specs.Data.{Data, array}
 use Rattle.serde_json.specs.View.{items_of}

@@ -1,7 +1,8 @@
 -- Each part is made of the tables and the reports.
-use Rattle.std.proofs.Common.{◌≡◌, ◌∙◌, ap}
+use Rattle.std.proofs.Common.{◌∙◌, ap}
 use Rattle.fts_board.specs.Json.{array_of}
-use Rattle.fts_board.specs.Snapshot.{endpoints_of, files_object, storage_object}
+use Rattle.fts_counts.specs.Listed.{endpoints_of}
+use Rattle.fts_board.specs.Snapshot.{files_object, storage_object}
 use Rattle.fts_board.proofs.snapshots.parts_of.Goals as goal
 
 pub returns : goal.returns

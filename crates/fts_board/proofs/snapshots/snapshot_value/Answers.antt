@@ -1,6 +1,6 @@
 -- The members, one behind the other.
-use Rattle.std.proofs.Common.{◌≡◌, ◌∙◌, ap, codes}
-use Rattle.serde_json.specs.Data.{Members, object, string, put}
+use Rattle.std.proofs.Common.{◌∙◌, ap, codes}
+use Rattle.serde_json.specs.Data.{object, string, put}
 use Rattle.serde_json.specs.View.{view, members_view}
 use Rattle.fts_tables.specs.declared.limits.TheConstants.{MAX_JOBS, MAX_ROWS, JOURNAL_END}
 use Rattle.fts_board.specs.Json.{whole_number}

@@ -1,5 +1,5 @@
 -- A report counts in the step that it ended in, where it is asked for, and nowhere else.
-use Rattle.std.proofs.Common.{◌≡◌, ◌+◌, ◌∙◌, ap, arith, refl, Vec, Global}
+use Rattle.std.proofs.Common.{◌+◌, ◌∙◌, ap, arith, refl, Vec, Global}
 use Rattle.fts_board.specs.History.{question_of, ends_in}
 use Rattle.fts_board.specs.Steps.{ended_of, ended_with}
 use Rattle.fts_board.specs.declared.steps.Ended.{Ended}

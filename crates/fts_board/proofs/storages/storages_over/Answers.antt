@@ -4,7 +4,6 @@ use Rattle.std.proofs.lemmas.Grind.{common_steps}
 use Rattle.serde_json.specs.Data.{Data, array}
 use Rattle.serde_json.specs.View.{view, items_of}
 use Rattle.fts_tables.specs.declared.rows.FileRow.{FileRow}
-use Rattle.fts_tables.specs.declared.settings.Endpoint.{Endpoint}
 use Rattle.fts_board.specs.Snapshot.{storage_object}
 use Rattle.fts_board.proofs.Lists.{read_more}
 use Rattle.fts_board.proofs.storages.storages_over.Goals as goal

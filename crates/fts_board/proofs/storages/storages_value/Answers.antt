@@ -1,5 +1,5 @@
 -- What is counted of the ACTIVE rows alone is what is counted of all.
-use Rattle.std.proofs.Common.{◌≡◌, ◌∙◌, List, [], ◌∷◌, ℕ, Bor, ap, subst, codes}
+use Rattle.std.proofs.Common.{◌≡◌, ◌∙◌, List, [], ◌∷◌, Bor, ap, subst, codes}
 use Rattle.std.specs.Prelude.{IfOk, bytes_eq, filter, map}
 use Rattle.serde_json.specs.Data.{Data, string, array}
 use Rattle.serde_json.specs.View.{view, items_of}
@@ -8,7 +8,7 @@ use Rattle.fts_tables.specs.declared.rows.FileRow.{FileRow}
 use Rattle.fts_tables.specs.declared.settings.Endpoint.{Endpoint}
 use Rattle.fts_board.specs.Json.{array_of, object_of, whole_number}
 use Rattle.fts_board.specs.Snapshot.{storage_object}
-use Rattle.fts_board.proofs.Counting.{count_among}
+use Rattle.fts_counts.proofs.Counting.{count_among}
 use Rattle.fts_board.proofs.Lists.{read_alike}
 use Rattle.fts_board.proofs.storages.storages_value.Goals as goal
 

@@ -1,6 +1,6 @@
 -- A report counts by the pair of its row, and by no other.
-use Rattle.std.proofs.Common.{◌≡◌, ◌∙◌, ap, sym, arith, refl, zero-add, Vec, Global, ℕ, List}
-use Rattle.fts_board.specs.Tallied.{is_report_by, report_tally_of, report_tally_with, report_tallies_of}
+use Rattle.std.proofs.Common.{◌∙◌, ap, sym, arith, refl, zero-add, Vec, Global}
+use Rattle.fts_board.specs.Tallied.{is_report_by, report_tally_of, report_tally_with}
 use Rattle.fts_board.specs.declared.tallies.ReportTally.{ReportTally}
 use Rattle.fts_board.proofs.Summed.{tallies_none, tallies_same, tallies_more}
 use Rattle.fts_board.proofs.Tallied.{report_tally_more, reported_by_one}

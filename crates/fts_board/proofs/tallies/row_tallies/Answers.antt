@@ -1,5 +1,5 @@
 -- A going counts by its pair, and by no other.
-use Rattle.std.proofs.Common.{◌≡◌, ◌∙◌, ap, sym, arith, refl, zero-add, Vec, Global}
+use Rattle.std.proofs.Common.{◌∙◌, ap, sym, arith, refl, zero-add, Vec, Global}
 use Rattle.fts_board.specs.Tallied.{goes_by, row_tally_of, row_tally_with}
 use Rattle.fts_board.specs.declared.tallies.RowTally.{RowTally}
 use Rattle.fts_board.proofs.Summed.{tallies_none, tallies_same, tallies_more}

@@ -6,7 +6,7 @@ use Rattle.fts_tables.specs.SettingsData.{is_listed}
 use Rattle.fts_tables.specs.declared.settings.Endpoint.{Endpoint}
 use Rattle.fts_metrics.specs.Metrics.{links_from}
 use Rattle.fts_metrics.specs.Totals.{samples_of}
-use Rattle.fts_metrics.proofs.Places.{listed_at}
+use Rattle.fts_counts.proofs.Places.{listed_at}
 use Rattle.fts_metrics.proofs.Texts.{line_more}
 use Rattle.fts_metrics.proofs.copies.put_links.Goals as goal
 

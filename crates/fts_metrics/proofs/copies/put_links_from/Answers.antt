@@ -5,7 +5,7 @@ use Rattle.std.proofs.lemmas.Grind.{common_steps}
 use Rattle.fts_tables.specs.declared.settings.Endpoint.{Endpoint}
 use Rattle.fts_metrics.specs.Metrics.{link_where}
 use Rattle.fts_metrics.specs.Totals.{link_at, link_place, samples_of, StandsAt}
-use Rattle.fts_metrics.proofs.Places.{listed_at}
+use Rattle.fts_counts.proofs.Places.{listed_at}
 use Rattle.fts_metrics.proofs.Texts.{line_more}
 use Rattle.fts_metrics.proofs.copies.put_links_from.Goals as goal
 
@@ -18,7 +18,7 @@ loop-endpoint-preserved c = λ tables reports listed totals.
     let name = c.as_str-dest.ensures.text in
     let there = listed_at endpoints c.loop-endpoint.endpoint-index endpoint c.loop-endpoint-test.true (sym c.endpoint-item.is) in
     let place : c.link_at-place.result ≡ link_place endpoints source c.as_str-dest.result.now =
-    c.link_at-place.ensures ∙ (λ i. link_at (c.place_among-from.ensures i) (c.place_among.ensures i)) in
+    c.link_at-place.ensures ∙ (λ i. link_at (c.place_of-from.ensures i) (c.place_of.ensures i)) in
     let by_name = subst (λ (dest : List ℕ). StandsAt tables reports source dest (link_place endpoints source dest) c.args.totals.now) (sym name)
     (totals source endpoint.name listed there) in
     let stands = subst (λ (place : ℕ). StandsAt tables reports source c.as_str-dest.result.now place c.args.totals.now) (sym place) by_name in

@@ -1,11 +1,12 @@
 -- The samples of a link's reports, one behind the other.
-use Rattle.std.proofs.Common.{◌≡◌, ◌++◌, ◌+◌, ◌*◌, ◌<◌, ◌∙◌, List, ℕ, ap, arith, append_assoc, codes}
+use Rattle.std.proofs.Common.{◌≡◌, [], ◌++◌, ◌+◌, ◌*◌, ◌<◌, ◌∙◌, List, ℕ, ap, arith, append_assoc, codes}
 use Rattle.std.specs.Prelude.{◌==◌, count_by, slice_index}
+use Rattle.fts_tables.specs.declared.rows.Outcome.TheVariants.{Verified, SourceMissing, DestinationExists, SourceSize, SourceDigest, ReadBackDiffers, StoreFailed, Stopped}
 use Rattle.fts_chronicle.specs.declared.chronicle.CopyReport.{CopyReport}
 use Rattle.fts_metrics.specs.Form.{label, sample, two_labels}
 use Rattle.fts_metrics.specs.Metrics.{outcome_samples, reports_of_word}
 use Rattle.fts_metrics.specs.Totals.{outcome_place}
-use Rattle.fts_metrics.proofs.LinkTotals.{verified_reports, missing_reports, existing_reports, size_reports, digest_reports, differing_reports, failed_reports, stopped_reports}
+use Rattle.fts_metrics.proofs.LinkTotals.{reports_like}
 use Rattle.fts_metrics.proofs.copies.put_outcomes.Goals as goal
 
 pub returns : goal.returns
@@ -17,14 +18,14 @@ returns c = λ reports stand.
     → count_by (λ (report : CopyReport). outcome_place report.outcome == place) reports ≡ reports_of_word reports word
     → number ≡ reports_of_word reports word
     = λ word place number at read low is counted. read ∙ ap (slice_index c.args.numbers.now) is ∙ stand place low ∙ counted in
-    let verified = told (codes "verified") 0 _ _ c.number_at-verified.ensures (omega arith) (omega arith) (verified_reports reports) in
-    let missing = told (codes "source_missing") 1 _ _ c.number_at-missing.ensures (omega arith) (omega arith) (missing_reports reports) in
-    let exists = told (codes "destination_exists") 2 _ _ c.number_at-exists.ensures (omega arith) (omega arith) (existing_reports reports) in
-    let size = told (codes "source_size") 3 _ _ c.number_at-size.ensures (omega arith) (omega arith) (size_reports reports) in
-    let digest = told (codes "source_digest") 4 _ _ c.number_at-digest.ensures (omega arith) (omega arith) (digest_reports reports) in
-    let differs = told (codes "read_back_differs") 5 _ _ c.number_at-differs.ensures (omega arith) (omega arith) (differing_reports reports) in
-    let failed = told (codes "store_failed") 6 _ _ c.number_at-failed.ensures (omega arith) (omega arith) (failed_reports reports) in
-    let stopped = told (codes "stopped") 7 _ _ c.number_at-stopped.ensures (omega arith) (omega arith) (stopped_reports reports) in
+    let verified = told (codes "verified") 0 _ _ c.number_at-verified.ensures (omega arith) (omega arith) (reports_like reports (Verified 0 [])) in
+    let missing = told (codes "source_missing") 1 _ _ c.number_at-missing.ensures (omega arith) (omega arith) (reports_like reports SourceMissing) in
+    let exists = told (codes "destination_exists") 2 _ _ c.number_at-exists.ensures (omega arith) (omega arith) (reports_like reports DestinationExists) in
+    let size = told (codes "source_size") 3 _ _ c.number_at-size.ensures (omega arith) (omega arith) (reports_like reports (SourceSize 0)) in
+    let digest = told (codes "source_digest") 4 _ _ c.number_at-digest.ensures (omega arith) (omega arith) (reports_like reports (SourceDigest [])) in
+    let differs = told (codes "read_back_differs") 5 _ _ c.number_at-differs.ensures (omega arith) (omega arith) (reports_like reports (ReadBackDiffers 0)) in
+    let failed = told (codes "store_failed") 6 _ _ c.number_at-failed.ensures (omega arith) (omega arith) (reports_like reports StoreFailed) in
+    let stopped = told (codes "stopped") 7 _ _ c.number_at-stopped.ensures (omega arith) (omega arith) (reports_like reports Stopped) in
     let one = c.in_ok-put_outcome.ensures ∙ (λ i. c.args.text.now.items ++ line (codes "verified") (verified i)) in
     let two = c.in_ok-put_outcome-2.ensures ∙ (λ i. one i ++ line (codes "source_missing") (missing i)) in
     let three = c.in_ok-put_outcome-3.ensures ∙ (λ i. two i ++ line (codes "destination_exists") (exists i)) in

@@ -5,9 +5,10 @@ use Rattle.fts_desk.specs.DeskData.{state_at}
 use Rattle.fts_tables.specs.declared.rows.JobRow.{JobRow}
 use Rattle.fts_tables.specs.declared.rows.JobState.{JobState}
 use Rattle.fts_tables.specs.declared.rows.JobState.TheVariants.{FinishedDirty, Submitted, Active, Finished, Failed, Canceled}
-use Rattle.fts_metrics.specs.JobStates.{stands_in}
-use Rattle.fts_metrics.specs.Metrics.{jobs_text, jobs_sample, jobs_in, place_of}
-use Rattle.fts_metrics.proofs.Counting.{count_read}
+use Rattle.fts_counts.specs.Jobs.{stands_in}
+use Rattle.fts_counts.specs.Jobs.{jobs_in, place_of}
+use Rattle.fts_metrics.specs.Metrics.{jobs_text, jobs_sample}
+use Rattle.fts_counts.proofs.Counting.{count_read}
 use Rattle.fts_metrics.proofs.jobs.put_jobs.Goals as goal
 
 pub returns : goal.returns

@@ -2,7 +2,8 @@
 use Rattle.std.proofs.Common.{◌≡◌, ◌++◌, ◌∙◌, List, ℕ, Bor, ap}
 use Rattle.std.specs.Prelude.{map}
 use Rattle.fts_tables.specs.declared.rows.FileRow.{FileRow}
-use Rattle.fts_metrics.specs.Metrics.{jobs_text, files_text, copied_text, reports_text, link_active_text, link_limit_text, endpoint_active_text, endpoint_limit_text, sizes_text, last_entry_text, endpoints_of, links_of}
+use Rattle.fts_counts.specs.Listed.{endpoints_of, links_of}
+use Rattle.fts_metrics.specs.Metrics.{jobs_text, files_text, copied_text, reports_text, link_active_text, link_limit_text, endpoint_active_text, endpoint_limit_text, sizes_text, last_entry_text}
 use Rattle.fts_metrics.proofs.ActiveRows.{active_of, link_active_same, endpoint_active_same}
 use Rattle.fts_metrics.proofs.text.metrics.Goals as goal
 
@@ -11,8 +12,8 @@ returns c =
     let tables = c.args.desk.now.tables in
     let rows = c.rows-rows.ensures.rows in
     let reports = c.reports.ensures in
-    let endpoints : c.endpoints_of-endpoints.result.now ≡ endpoints_of tables.settings = c.endpoints_of-endpoints.ensures.listed ∙ ap endpoints_of c.settings.ensures in
-    let links : c.links_of-links.result.now ≡ links_of tables.settings = c.links_of-links.ensures ∙ ap links_of c.settings-2.ensures in
+    let endpoints : c.endpoints_of-endpoints.result.now ≡ endpoints_of tables.settings = c.endpoints_of-endpoints.ensures.endpoints ∙ ap endpoints_of c.settings.ensures in
+    let links : c.links_of-links.result.now ≡ links_of tables.settings = c.links_of-links.ensures.links ∙ ap links_of c.settings-2.ensures in
     let goings = c.deref-2.ensures.value ∙ c.in_ok-goings.ensures in
     let jobs = c.in_ok-put_jobs.ensures ∙ ap (λ (l : List ℕ). l ++ jobs_text tables) c.new-text.ensures.items in
     let files = c.in_ok-put_files.ensures c.rows-rows.result.now goings ∙ (λ i. jobs i ++ files_text (rows i) (endpoints i)) in

@@ -1,5 +1,5 @@
 -- What stands at the place of a link is what there is of it.
-use Rattle.std.proofs.Common.{◌∙◌, ◌+◌, ◌*◌, ap, arith, List, ℕ}
+use Rattle.std.proofs.Common.{◌∙◌, ◌+◌, ◌*◌, ap, arith, List}
 use Rattle.std.specs.Prelude.{map}
 use Rattle.fts_metrics.specs.Sums.{sum_at}
 use Rattle.fts_metrics.specs.Totals.{link_at, link_place, row_place, row_share}

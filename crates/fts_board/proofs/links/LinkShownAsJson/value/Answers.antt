@@ -1,6 +1,6 @@
 -- The members, one behind the other.
-use Rattle.std.proofs.Common.{◌≡◌, ◌∙◌, ap, codes}
-use Rattle.serde_json.specs.Data.{Members, object, string, put}
+use Rattle.std.proofs.Common.{◌∙◌, ap, codes}
+use Rattle.serde_json.specs.Data.{object, string, put}
 use Rattle.serde_json.specs.View.{members_view}
 use Rattle.fts_board.specs.Json.{whole_number}
 use Rattle.fts_board.proofs.links.LinkShownAsJson.value.Goals as goal

@@ -2,7 +2,7 @@
 use Rattle.std.proofs.Common.{◌≡◌, map, take}
 use Rattle.serde_json.specs.View.{view}
 use Rattle.fts_pages.specs.Pages.{file_shown}
-use Rattle.fts_pages.proofs.objects.files_value.Given as goal
+use Rattle.fts_pages.proofs.objects.rows_value.Given as goal
 
 abbrev pub invariant-loop-row : goal.invariant-loop-row
 invariant-loop-row l = map view l.list.items ≡ map (file_shown l.reports l.job l.events) (take l.row-index l.rows)

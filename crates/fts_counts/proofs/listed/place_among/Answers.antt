@@ -2,9 +2,9 @@
 use Rattle.std.proofs.Common.{◌≡◌, ◌∙◌, ap, length, Option, ℕ, arith}
 use Rattle.std.specs.Prelude.{bytes_eq, unwrap_or}
 use Rattle.fts_tables.specs.declared.settings.Endpoint.{Endpoint}
-use Rattle.fts_board.specs.Tallied.{place_among}
-use Rattle.fts_board.proofs.Pairs.{place_or_number, place_within}
-use Rattle.fts_board.proofs.goings.place_among.Goals as goal
+use Rattle.fts_counts.specs.Listed.{place_among}
+use Rattle.fts_counts.proofs.Places.{place_or_number, place_within}
+use Rattle.fts_counts.proofs.listed.place_among.Goals as goal
 
 pub returns : goal.returns
 returns c =

@@ -1,0 +1,4 @@
+pub mod Jobs
+pub mod Listed
+pub mod Outcomes
+pub mod Rows
