@@ -1,0 +1,3 @@
+pub mod RipeFiles
+pub mod Keys
+pub mod Heads
