@@ -5,3 +5,4 @@ pub mod Walks
 pub mod Upkeep
 pub mod Firsts
 pub mod Starts
+pub mod Numbers
