@@ -47,8 +47,9 @@ pub record AreKept (bound : ℕ) (busy : List Bool) (files : KeySet RipeFile) (l
   pub below : (waiter : RipeFile) → has_key goes_by_group waiter files.keys ≡ true → waiter.queue < bound
   pub room : files.room ≤ line.room
 
--- the files that wait, by destination and queue; which destinations are busy; and how many files there is room for
+-- the files that wait, by destination and queue; which destinations are busy; and how many files there is room for, and how many destinations
 pub record HeadsData : Type 0 where
   pub files : List RipeFile
   pub busy : List Bool
   pub room : ℕ
+  pub dest_room : ℕ

@@ -1,11 +1,12 @@
 //! The ripe files, and the line in which those stand that may start.
 //! Kept in its type (`AreKept`): those in line are the best of each queue and destination, where the destination is free (`AreHeads`); no queue's number is as
 //! great as `MOST_QUEUES`; and the line has as much room as the files.
-//! Order: what stands in line of a group leaves, the files change, and what leads then comes in. `make_room` and `add_dest` come before; no other call takes memory.
+//! Order: what stands in line of a group leaves, the files change, and what leads then comes in. `make_room` and `make_dests` come before; no other call takes memory.
 ghost use Rattle.std.specs.Prelude.{
   ◌≡◌,
   ◌<◌,
   ◌≤◌,
+  ◌+◌,
   ◌∷◌,
   ◌++◌,
   [],
@@ -51,8 +52,9 @@ impl Model for Heads {
 
     ghost use Rattle.fts_heads.specs.Heads.{AreKept};
     ghost use Rattle.fts_heads.specs.declared.heads.TheConstants.{MOST_QUEUES};
+    ghost use Rattle.std.specs.Prelude.{vec_capacity};
 
-    ghost view = { λ heads. record { files = heads.files.keys; busy = heads.busy.items; room = heads.files.room } };
+    ghost view = { λ heads. record { files = heads.files.keys; busy = heads.busy.items; room = heads.files.room; dest_room = vec_capacity heads.busy } };
 
     ghost invariant = { λ heads. AreKept MOST_QUEUES heads.busy.items heads.files heads.line };
 }
@@ -60,7 +62,7 @@ impl Model for Heads {
 impl Heads {
     /// No file and no destination, and no room. What grows later takes its memory from `alloc`.
     pub fn new(alloc: Global) -> Heads
-        ensures empty { result ≡ record { files = []; busy = []; room = 0 } }
+        ensures empty { result ≡ record { files = []; busy = []; room = 0; dest_room = 0 } }
     {
         Heads {
             files: Ordered::new(alloc),
@@ -79,14 +81,23 @@ impl Heads {
         Ok(())
     }
 
-    /// Takes on one destination more, which is free. At an `Err` all stays as it is.
-    pub fn add_dest(&mut self) -> Result<(), AllocError>
-        ensures ok { OnOk result (self.new ≡ record self.old { busy = self.old.busy ++ (false ∷ []) }) }
+    /// Makes room for so many destinations more. No room falls, and at an `Err` all stays as it is.
+    pub fn make_dests(&mut self, more: usize) -> Result<(), AllocError>
+        ensures same { self.new ≡ record self.old { dest_room = self.new.dest_room } }
+        ensures ok { OnOk result (length self.old.busy + more ≤ self.new.dest_room) }
         ensures err { OnErr result (self.new ≡ self.old) }
+        ensures room { self.old.dest_room ≤ self.new.dest_room }
     {
-        self.busy.reserve(1)?;
-        self.busy.push_reserved(false);
+        self.busy.reserve(more)?;
         Ok(())
+    }
+
+    /// Takes on one destination more, which is free, in room that is there.
+    pub fn add_dest(&mut self)
+        requires room { length self.old.busy < self.old.dest_room }
+        ensures busy { self.new ≡ record self.old { busy = self.old.busy ++ (false ∷ []) } }
+    {
+        self.busy.push_reserved(false);
     }
 
     /// How many destinations there are. Their numbers are less.

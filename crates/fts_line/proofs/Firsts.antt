@@ -1,7 +1,6 @@
 -- The first of the files that wait that may start is the first in line.
-use Rattle.std.proofs.Common.{◌≡◌, ◌⊎◌, inl, inr, ℕ, ◌+◌, ◌-◌, ◌*◌, ◌<◌, ◌≤◌, Bool, true, false, cond, List, [], ◌∷◌, length, Option, Some, None, refl, ap, sym, ◌∙◌, subst, arith}
-use Rattle.std.specs.Prelude.{not, ◌&&◌, ◌||◌, ◌==◌, nat_lt, filter, find, option_map}
-use Rattle.std.specs.List.{list_any, AllByRecursion}
+use Rattle.std.proofs.Common.{◌≡◌, ◌⊎◌, inl, inr, ℕ, ◌+◌, ◌*◌, ◌<◌, ◌≤◌, Bool, true, false, cond, List, [], ◌∷◌, length, Some, None, refl, ap, sym, ◌∙◌, arith}
+use Rattle.std.specs.Prelude.{not, ◌&&◌, ◌==◌, nat_lt, filter, find, option_map}
 use Rattle.std.proofs.lemmas.Bool.{and_parts, eqb-true, eq-eqb}
 use Rattle.std.proofs.lemmas.Bool.Decides.{nat_tests}
 use Rattle.ordered.specs.Orders.{KeySet, differs, has_key}
@@ -70,9 +69,9 @@ same_first : (one other : ℕ) (rest : Bool) → one ≡ other → is_first_by o
 same_first one other rest same = grind (arith, nat_tests)
 
 module _ (waiting : WaitingData) (heads : HeadsData) (later : KeySet Later) (dests : List ℕ) (peak : ℕ) (line : IsLine waiting heads later dests peak)
-    (at : waiting.moment ≡ peak) (link : LinkAt) (activity : ℕ) (inside : IsInside link activity) where
+    (at : waiting.moment ≡ peak) (row_room : ℕ) (link : LinkAt) (activity : ℕ) (inside : IsInside link activity) where
   abbrev pub view : LineData
-  view = record { waiting = waiting; dests = dests; busy = heads.busy; room = heads.room }
+  view = record { waiting = waiting; dests = dests; busy = heads.busy; room = heads.room; row_room = row_room }
 
   abbrev pub stands_free : RipeFile → Bool
   stands_free file = files.is_in (queue_of link activity) file && is_free heads.busy file.dest

@@ -1,6 +1,6 @@
 -- Files whose moment comes: from those that wait for theirs to the ripe ones, one after the other.
-use Rattle.std.proofs.Common.{◌≡◌, ◌⊎◌, inl, inr, ℕ, suc, ◌+◌, ◌*◌, ◌-◌, ◌<◌, ◌≤◌, Bool, true, false, List, [], ◌∷◌, length, Option, Some, None, refl, ap, sym, ◌∙◌, subst, arith}
-use Rattle.std.specs.Prelude.{not, ◌&&◌, ◌||◌, ◌==◌, nat_lt, nat_le, slice_get, slice_index_or}
+use Rattle.std.proofs.Common.{◌≡◌, ◌⊎◌, inl, inr, ℕ, ◌+◌, ◌*◌, ◌<◌, ◌≤◌, Bool, true, false, List, [], ◌∷◌, length, Some, None, refl, ap, sym, ◌∙◌, subst, arith}
+use Rattle.std.specs.Prelude.{not, ◌&&◌, ◌||◌, nat_le, slice_get}
 use Rattle.std.specs.List.{list_any, AllByRecursion}
 use Rattle.std.proofs.lemmas.Bool.{and_parts, or_cases, le-leb, leb-true, lt-leb}
 use Rattle.std.proofs.lemmas.Bool.Decides.{nat_tests}
@@ -15,11 +15,11 @@ use Rattle.fts_heads.specs.Heads.{HeadsData}
 use Rattle.fts_heads.specs.declared.ripe_file.RipeFile.{RipeFile}
 use Rattle.fts_heads.proofs.Found.{is_one_of, has_first, of_there}
 use Rattle.fts_line.specs.Laters.{is_later_before, laters_in_order}
-use Rattle.fts_line.specs.LineData.{IsKnown, queue_of, ripe_of, later_of}
+use Rattle.fts_line.specs.LineData.{ripe_of, later_of}
 use Rattle.fts_line.specs.Line.{AreKeysOf, IsLine}
 use Rattle.fts_line.specs.declared.later.Later.{Later}
 use Rattle.fts_line.proofs.Files.{IsOneOf, HasOne, has_one, any_of, all_of, to_all, one_file, any_alike}
-use Rattle.fts_line.proofs.Keys.{same_answer, to_false, both, not_true, no, same_file, there}
+use Rattle.fts_line.proofs.Keys.{same_answer, to_false, both, not_true, no, there}
 
 -- the first key is there
 pub first_there : (keys : List Later) (key : Later) → slice_get keys 0 ≡ Some key → has_key is_later_before key keys ≡ true

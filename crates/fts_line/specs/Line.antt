@@ -24,9 +24,10 @@ pub record IsLine (waiting : WaitingData) (heads : HeadsData) (later : KeySet La
   pub fits : length waiting.waiters ≤ heads.room
   pub room : heads.room ≤ later.room
 
--- and the moment of the last ripening is kept, and the room is a number of this machine
+-- and the moment of the last ripening is kept; the room is a number of this machine; and each file with a number brought a destination
 pub record IsLineAt (moment : ℕ) (waiting : WaitingData) (heads : HeadsData) (later : KeySet Later) (dests : List ℕ) (peak : ℕ) : Type 0 where
   pub line : IsLine waiting heads later dests peak
   pub same : moment ≡ waiting.moment
   pub past : moment ≤ peak
   pub small : heads.room < 18446744073709551616
+  pub rows : length dests ≡ length heads.busy

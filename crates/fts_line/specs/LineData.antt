@@ -1,6 +1,5 @@
 -- The files that wait with their destinations, which of these are busy, and the first file of a queue that may start.
-use Rattle.std.specs.Prelude.{◌≡◌, ℕ, ◌+◌, ◌-◌, ◌*◌, ◌<◌, Bool, not, ◌&&◌, ◌==◌, List, length, find, slice_index_or, Option, option_map}
-use Rattle.ordered.specs.Orders.{differs}
+use Rattle.std.specs.Prelude.{ℕ, ◌+◌, ◌-◌, ◌*◌, ◌<◌, Bool, ◌&&◌, ◌==◌, List, length, find, slice_index_or, Option, option_map}
 use Rattle.fts_tables.specs.declared.settings.LinkAt.{LinkAt}
 use Rattle.fts_queue.specs.declared.waiter.Waiter.{Waiter}
 use Rattle.fts_queue.specs.WaitingData.{WaitingData, is_in, is_ripe, is_same_place}
@@ -8,13 +7,14 @@ use Rattle.fts_heads.specs.declared.ripe_file.RipeFile.{RipeFile}
 use Rattle.fts_heads.specs.Heads.{is_free}
 use Rattle.fts_line.specs.declared.later.Later.{Later}
 
--- the files that wait; the number of each file's destination, the first file's first; for each number whether that destination is busy; and how many files
--- may stand in line in all
+-- the files that wait; the number of each file's destination, the first file's first; for each number whether that destination is busy; how many files may
+-- stand in line in all; and how many files may have a number
 pub record LineData : Type 0 where
   pub waiting : WaitingData
   pub dests : List ℕ
   pub busy : List Bool
   pub room : ℕ
+  pub row_room : ℕ
 
 -- the number of a file's destination
 abbrev pub dest_of : List ℕ → ℕ → ℕ

@@ -1,7 +1,7 @@
 //! The files that wait, with those in line that may start.
 //! Kept in its type (`IsLine`): the files whose moment had come at the latest ripening stand in the groups of `fts_heads`, the others in order of their moments.
 //! Where the clock has gone back since, files in the groups may not be ripe: then `first_open` asks the files that wait one by one.
-//! Order: `make_room`, `make_places` and `add_row` come before; no other call takes memory.
+//! Order: `make_room`, `make_places` and `make_rows` come before; no other call takes memory.
 ghost use Rattle.std.specs.Prelude.{
   ◌≡◌,
   ◌<◌,
@@ -60,8 +60,15 @@ impl Model for Line {
     ghost Value = { LineData };
 
     ghost use Rattle.fts_line.specs.Line.{IsLineAt};
+    ghost use Rattle.std.specs.Prelude.{min, vec_capacity};
 
-    ghost view = { λ line. record { waiting = line.waiting; dests = line.dests.items; busy = line.heads.busy; room = line.heads.room } };
+    ghost view = { λ line. record {
+      waiting = line.waiting;
+      dests = line.dests.items;
+      busy = line.heads.busy;
+      room = line.heads.room;
+      row_room = min (vec_capacity line.dests) line.heads.dest_room;
+    } };
 
     ghost invariant = { λ line. IsLineAt line.moment line.waiting line.heads line.later line.dests.items line.peak };
 }
@@ -131,6 +138,7 @@ fn ripen(
     ensures line { IsLine waiting.now heads.new later.new dests.now now }
     ensures busy { heads.new.busy ≡ heads.old.busy }
     ensures room { heads.new.room ≡ heads.old.room }
+    ensures dest_room { heads.new.dest_room ≡ heads.old.dest_room }
 {
     let _ = waiting.queues();
     while let Some(key) = first_due(later, now) {
@@ -155,6 +163,7 @@ fn come_in(
     ensures line { IsLine (record waiting.now { waiters = with_waiter waiter.now waiting.now.waiters }) heads.new later.new dests.now peak }
     ensures busy { heads.new.busy ≡ heads.old.busy }
     ensures room { heads.new.room ≡ heads.old.room }
+    ensures dest_room { heads.new.dest_room ≡ heads.old.dest_room }
 {
     let file = ripe_of(dests, waiter);
     if waiter.not_before <= peak {
@@ -182,6 +191,7 @@ fn go_out(
     ensures line { IsLine (record waiting.now { waiters = without_file waiter.now.file waiting.now.waiters }) heads.new later.new dests.now peak }
     ensures busy { heads.new.busy ≡ heads.old.busy }
     ensures room { heads.new.room ≡ heads.old.room }
+    ensures dest_room { heads.new.dest_room ≡ heads.old.dest_room }
 {
     let _ = waiting.queues();
     let _ = heads.len();
@@ -207,7 +217,13 @@ fn first_by_number(
     activity: u16,
 ) -> Option<u32>
     requires count { length waiting.now.waiters ≤ count }
-    ensures file { result ≡ first_open (record { waiting = waiting.now; dests = dests.now; busy = heads.now.busy; room = heads.now.room }) link activity }
+    ensures file { result ≡ first_open (record {
+      waiting = waiting.now;
+      dests = dests.now;
+      busy = heads.now.busy;
+      room = heads.now.room;
+      row_room = 0;
+    }) link activity }
 {
     ripe_files_are_numbered();
     for number in 0..count {
@@ -226,7 +242,7 @@ fn first_by_number(
 impl Line {
     /// No file, no destination and no room, at moment 0.
     pub fn new(alloc: Global) -> Line
-        ensures line { result ≡ record { waiting = record { waiters = []; moment = 0; rooms = [] }; dests = []; busy = []; room = 0 } }
+        ensures line { result ≡ record { waiting = record { waiters = []; moment = 0; rooms = [] }; dests = []; busy = []; room = 0; row_room = 0 } }
     {
         Line {
             waiting: Waiting::new(alloc),
@@ -260,15 +276,24 @@ impl Line {
         Ok(())
     }
 
-    /// Takes on the next file, by the number of its destination, and a free destination more. At an `Err` all stays as it is.
-    pub fn add_row(&mut self, dest: u32) -> Result<(), Memory>
-        ensures ok { OnOk result (self.new ≡ record self.old { dests = self.old.dests ++ dest ∷ []; busy = self.old.busy ++ false ∷ [] }) }
-        ensures err { OnErr result (self.new ≡ self.old) }
+    /// Makes room for the numbers of so many files more. No room falls; at an `Err` no other thing changes.
+    pub fn make_rows(&mut self, more: usize) -> Result<(), Memory>
+        ensures same { self.new ≡ record self.old { row_room = self.new.row_room } }
+        ensures ok { OnOk result (length self.old.dests + more ≤ self.new.row_room) }
+        ensures room { self.old.row_room ≤ self.new.row_room }
     {
-        self.dests.reserve(1)?;
-        self.heads.add_dest()?;
-        self.dests.push_reserved(dest);
+        self.dests.reserve(more)?;
+        self.heads.make_dests(more)?;
         Ok(())
+    }
+
+    /// Takes on the next file, by the number of its destination, and a free destination more, in room that is there.
+    pub fn add_row(&mut self, dest: u32)
+        requires room { length self.old.dests < self.old.row_room }
+        ensures row { self.new ≡ record self.old { dests = self.old.dests ++ dest ∷ []; busy = self.old.busy ++ false ∷ [] } }
+    {
+        self.heads.add_dest();
+        self.dests.push_reserved(dest);
     }
 
     /// Puts a file in, in room that is there.

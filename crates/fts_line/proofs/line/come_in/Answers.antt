@@ -1,4 +1,4 @@
-use Rattle.std.proofs.Common.{◌≡◌, ap, sym, ◌∙◌, subst}
+use Rattle.std.proofs.Common.{ap, sym, ◌∙◌, subst}
 use Rattle.ordered.specs.Orders.{KeySet, has_key, put_by}
 use Rattle.fts_queue.specs.WaitingData.{with_waiter}
 use Rattle.fts_heads.specs.RipeFiles.{goes_by_group}

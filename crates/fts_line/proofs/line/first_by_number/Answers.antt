@@ -3,7 +3,7 @@ use Rattle.std.specs.Prelude.{not, ◌&&◌, option_map, slice_index_or}
 use Rattle.std.proofs.lemmas.Option.{slice_get_past}
 use Rattle.ordered.proofs.Members.{find_filter}
 use Rattle.fts_queue.specs.declared.waiter.Waiter.{Waiter}
-use Rattle.fts_queue.specs.WaitingData.{nth_of, ripe_in, is_in, is_ripe}
+use Rattle.fts_queue.specs.WaitingData.{ripe_in, is_in, is_ripe}
 use Rattle.fts_heads.specs.Heads.{is_free}
 use Rattle.fts_line.specs.LineData.{dest_of}
 use Rattle.fts_line.proofs.Firsts.{fewer}

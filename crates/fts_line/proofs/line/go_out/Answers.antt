@@ -1,4 +1,4 @@
-use Rattle.std.proofs.Common.{◌≡◌, ◌<◌, length, ap, sym, ◌∙◌, subst}
+use Rattle.std.proofs.Common.{◌<◌, length, ap, sym, ◌∙◌, subst}
 use Rattle.ordered.specs.Orders.{KeySet, has_key, without}
 use Rattle.fts_queue.specs.WaitingData.{without_file}
 use Rattle.fts_heads.specs.RipeFiles.{goes_by_group}

@@ -1,10 +1,8 @@
-use Rattle.std.proofs.Common.{◌≡◌, ◌<◌, ◌+◌, length, refl, ap, sym, ◌∙◌, subst, arith}
+use Rattle.std.proofs.Common.{◌<◌, length, refl, ap, sym, ◌∙◌, subst, arith}
 use Rattle.std.specs.List.{AllByRecursion}
 use Rattle.ordered.specs.Orders.{put_by}
 use Rattle.fts_heads.specs.RipeFiles.{goes_by_group}
 use Rattle.ordered.proofs.Lists.{length-without}
-use Rattle.fts_queue.specs.declared.waiter.Waiter.{Waiter}
-use Rattle.fts_heads.specs.declared.ripe_file.RipeFile.{RipeFile}
 use Rattle.fts_line.specs.Laters.{is_later_before, laters_in_order}
 use Rattle.fts_line.specs.LineData.{IsKnown}
 use Rattle.fts_line.specs.declared.later.Later.{Later}
@@ -16,7 +14,7 @@ pub loop-key-init : goal.loop-key-init
 loop-key-init c =
     let are = begin c.args.dests.now c.args.waiting.now.waiters c.queues.ensures.waiting.apart c.args.heads.now c.args.later.now c.args.waiting.now
     c.args.peak c.args.now refl c.requires.line c.requires.later in
-    record { ripe = are.ripe; only = are.only; due = are.due; count = are.count; busy = refl; room = refl; later_room = refl }
+    record { ripe = are.ripe; only = are.only; due = are.due; count = are.count; busy = refl; dest_room = refl; room = refl; later_room = refl }
 
 pub insert-requires-clause-room : goal.insert-requires-clause-room
 insert-requires-clause-room c =
@@ -76,6 +74,7 @@ loop-key-preserved c =
       count = here.count;
       busy = ap (λ heads. heads.busy) c.insert.ensures.files ∙ inv.busy;
       room = ap (λ heads. heads.room) c.insert.ensures.files ∙ inv.room;
+      dest_room = ap (λ heads. heads.dest_room) c.insert.ensures.files ∙ inv.dest_room;
       later_room = ap (λ set. set.room) c.remove.ensures.keys ∙ inv.later_room;
     }
 

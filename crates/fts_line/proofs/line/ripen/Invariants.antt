@@ -20,6 +20,7 @@ invariant-loop-key l = record {
   count : length l.heads.files + length l.later.keys ≡ length l.waiting.waiters;
   busy : l.heads.busy ≡ l.fn.heads.busy;
   room : l.heads.room ≡ l.fn.heads.room;
+  dest_room : l.heads.dest_room ≡ l.fn.heads.dest_room;
   later_room : l.later.room ≡ l.fn.later.room;
 }
 

@@ -1,4 +1,4 @@
-use Rattle.std.proofs.Common.{◌≡◌, ◌+◌, ◌<◌, ◌≤◌, true, false, Some, None, length, ap, sym, ◌∙◌, subst, arith}
+use Rattle.std.proofs.Common.{◌≡◌, true, false, ap, ◌∙◌, subst, arith}
 use Rattle.std.specs.Prelude.{◌&&◌}
 use Rattle.ordered.specs.Orders.{has_key}
 use Rattle.fts_heads.specs.RipeFiles.{goes_by_group}
@@ -20,7 +20,7 @@ returns-in-Some c =
     let line = c.self.invariant.line in
     record {
       file = first_is inside.waiting inside.heads inside.later inside.dests.items inside.peak line
-          (omega (arith, c.self.invariant.same, c.self.invariant.past, c.if-self.false)) c.args.link c.args.activity c.requires.inside c.in-Some.first
+          (omega (arith, c.self.invariant.same, c.self.invariant.past, c.if-self.false)) 0 c.args.link c.args.activity c.requires.inside c.in-Some.first
           (subst (λ queue. IsFirstOf (λ file. files.is_in queue file && is_free inside.heads.busy file.dest) inside.heads.files c.in-Some.first)
           c.queue_of.ensures.queue c.in-Some.ensures.first)
           c.queues.ensures.waiting.order
@@ -33,7 +33,7 @@ returns-in-None c =
     let line = c.self.invariant.line in
     record {
       file = none_is inside.waiting inside.heads inside.later inside.dests.items inside.peak line
-          (omega (arith, c.self.invariant.same, c.self.invariant.past, c.if-self.false)) c.args.link c.args.activity c.requires.inside
+          (omega (arith, c.self.invariant.same, c.self.invariant.past, c.if-self.false)) 0 c.args.link c.args.activity c.requires.inside
           (subst (λ queue. (file : RipeFile) → has_key goes_by_group file inside.heads.files ≡ true
           → (files.is_in queue file && is_free inside.heads.busy file.dest) ≡ false)
           c.queue_of.ensures.queue c.in-None.ensures.none)

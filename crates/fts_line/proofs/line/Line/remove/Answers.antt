@@ -1,4 +1,4 @@
-use Rattle.std.proofs.Common.{◌≡◌, true, ap, sym, ◌∙◌, subst}
+use Rattle.std.proofs.Common.{ap, ◌∙◌}
 use Rattle.std.specs.List.{list_any}
 use Rattle.fts_line.specs.LineData.{LineData, is_same_waiter}
 use Rattle.fts_line.proofs.Edits.{waits_there}
