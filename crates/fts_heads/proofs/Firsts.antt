@@ -75,10 +75,12 @@ has_head files waiter sorted there = by_answer (first_from goes_by_group (start_
           dest = group.same_dest;
           queue = group.same_queue;
           in_front = behind;
-          behind = line_in_group waiter.queue head.queue waiter.dest head.dest waiter.rank head.rank waiter.file head.file group.same_queue group.same_dest behind;
+          behind = line_in_group waiter.queue head.queue waiter.dest head.dest waiter.rank head.rank waiter.file head.file group.same_queue
+              group.same_dest behind;
         }
 
-module _ (busy : List Bool) (files : List RipeFile) (line : List Lined) (queue : ℕ) (heads : AreHeads busy files line) (sorted : AreSortedBy goes_by_group files)
+module _ (busy : List Bool) (files : List RipeFile) (line : List Lined) (queue : ℕ) (heads : AreHeads busy files line)
+    (sorted : AreSortedBy goes_by_group files)
     (lines : AreSortedBy is_line_before line) where
   -- the head of a file that passes stands in line
   head_lined : (waiter : RipeFile) (has : HasHead files waiter) → (is_in queue waiter && is_free busy waiter.dest) ≡ true
@@ -111,7 +113,8 @@ module _ (busy : List Bool) (files : List RipeFile) (line : List Lined) (queue :
           found.least has.head (same_lined line has.head ∙ stands.0) stands.1 in
           by_test goes not_front (goes_in_line has.head other) refl)
         where
-          by_test : goes_in_line other first ≡ true → goes_in_line has.head first ≡ false → (answer : Bool) → goes_in_line has.head other ≡ answer → true ≡ false
+          by_test : goes_in_line other first ≡ true → goes_in_line has.head first ≡ false → (answer : Bool) → goes_in_line has.head other ≡ answer
+              → true ≡ false
           by_test goes not_front true is = sym (in_line.transitive has.head other first is goes) ∙ not_front
           by_test goes not_front false is =
               sym goes ∙ (ap (λ some. goes_in_line some first) (sym (in_line.total has.head other is has.behind)) ∙ not_front)
@@ -156,7 +159,8 @@ ahead_of file head dest queue not_front other =
     goes false false is apart = cc
 
 -- one less that does not lead changes nothing at all
-pub leads_less : (file : RipeFile) (files : List RipeFile) → AreSortedBy goes_by_group files → has_key goes_by_group file files ≡ true → leads files file ≡ false
+pub leads_less : (file : RipeFile) (files : List RipeFile) → AreSortedBy goes_by_group files → has_key goes_by_group file files ≡ true
+    → leads files file ≡ false
     → (waiter : RipeFile) → leads (without goes_by_group file files) waiter ≡ leads files waiter
 leads_less file files sorted there behind waiter = by_test (is_one file waiter) refl
   where
@@ -213,6 +217,7 @@ leads_less file files sorted there behind waiter = by_test (is_one file waiter) 
                 ∙ any_same (λ other. differs goes_by_group other file && goes_ahead other waiter) (λ other. goes_ahead other waiter) files
                 (λ other. one_test other (differs goes_by_group other file) refl)
               where
-                one_test : (other : RipeFile) (answer : Bool) → differs goes_by_group other file ≡ answer → (answer && goes_ahead other waiter) ≡ goes_ahead other waiter
+                one_test : (other : RipeFile) (answer : Bool) → differs goes_by_group other file ≡ answer
+                    → (answer && goes_ahead other waiter) ≡ goes_ahead other waiter
                 one_test other true is = refl
                 one_test other false is = sym (ap (λ some. goes_ahead some waiter) (one_of goes_by_group by_group other file (ap not is)) ∙ goes)

@@ -6,3 +6,4 @@ pub mod Upkeep
 pub mod Firsts
 pub mod Starts
 pub mod Numbers
+pub mod Apart

@@ -1,5 +1,6 @@
 -- Numbers of destinations: the least number of a digest, what it says of the places, and the first place that is the same.
-use Rattle.std.proofs.Common.{◌≡◌, ◌⊎◌, inl, inr, ℕ, ◌+◌, ◌<◌, ◌≤◌, Bool, true, false, cond, List, [], ◌∷◌, ◌++◌, length, take, get_or, Option, Some, None, refl, ap, sym, ◌∙◌, arith}
+use Rattle.std.proofs.Common.{◌≡◌, ◌⊎◌, inl, inr, ℕ, ◌+◌, ◌<◌, ◌≤◌, Bool, true, false, cond, List}
+use Rattle.std.proofs.Common.{[], ◌∷◌, ◌++◌, length, take, get_or, Option, Some, None, refl, ap, sym, ◌∙◌, arith}
 use Rattle.std.specs.Prelude.{not, ◌||◌, ◌==◌, nat_lt, bytes_eq, position, slice_get}
 use Rattle.std.specs.List.{position_or_len, fold}
 use Rattle.std.specs.Option.{option_map_or}
@@ -24,7 +25,7 @@ use Rattle.fts_heads.proofs.Found.{no, IsFound, is_found, none_found}
 use Rattle.fts_heads.proofs.Ranges.{to_false}
 
 -- texts that are equal by the test are equal
-text_same : (one other : List ℕ) → bytes_eq one other ≡ true → one ≡ other
+pub text_same : (one other : List ℕ) → bytes_eq one other ≡ true → one ≡ other
 text_same [] [] is = refl
 text_same [] (byte ∷ other) is = cc
 text_same (byte ∷ one) [] is = cc
@@ -196,7 +197,8 @@ none_there places dests place from are before behind = sym (no_place (λ other. 
         by_case (inr later) = goes_elsewhere places dests place other are (behind other later)
 
 -- the places with one more, by number
-pushed : (places : List Place) (place : Place) (number : ℕ) → slice_get (places ++ place ∷ []) number ≡ cond (number == length places) (Some place) (slice_get places number)
+pushed : (places : List Place) (place : Place) (number : ℕ)
+    → slice_get (places ++ place ∷ []) number ≡ cond (number == length places) (Some place) (slice_get places number)
 pushed places place number = by_case (cases_lt number (length places)) (cases_lt (length places) number)
   where
     more : List Place
@@ -256,7 +258,8 @@ number_more places place dests are = record {
 
     by_number : (key : Digested) (answer : Bool) → (key.number == length places) ≡ answer
         → (not (differs is_digested_before new key) || has_digest dests.seed places key)
-        ≡ option_map_or (λ place. digest_of dests.seed place == key.digest) (cond (key.number == length places) (Some place) (slice_get places key.number)) false
+        ≡ option_map_or (λ place. digest_of dests.seed place == key.digest)
+        (cond (key.number == length places) (Some place) (slice_get places key.number)) false
     by_number key true is =
         let same : key.number ≡ length places = eqb-true key.number (length places) is in
         let most : length places ≤ key.number = omega (arith, same) in
@@ -264,10 +267,12 @@ number_more places place dests are = record {
         (slice_get_past places key.number most)
         ∙ (or_false (not (differs is_digested_before new key))
         ∙ (same_number (digest_of dests.seed place) key.digest (length places) key.number (sym same)
-        ∙ sym (ap (λ (test : Bool). option_map_or (λ place. digest_of dests.seed place == key.digest) (cond test (Some place) (slice_get places key.number)) false) is)))
+        ∙ sym (ap (λ (test : Bool). option_map_or (λ place. digest_of dests.seed place == key.digest)
+        (cond test (Some place) (slice_get places key.number)) false) is)))
     by_number key false is =
         ap (λ (test : Bool). test || has_digest dests.seed places key) (other_number (digest_of dests.seed place) key.digest (length places) key.number is)
-        ∙ sym (ap (λ (test : Bool). option_map_or (λ place. digest_of dests.seed place == key.digest) (cond test (Some place) (slice_get places key.number)) false) is)
+        ∙ sym (ap (λ (test : Bool). option_map_or (λ place. digest_of dests.seed place == key.digest)
+        (cond test (Some place) (slice_get places key.number)) false) is)
 
 -- a number that none of the places has isn't there yet
 pub number_new : (places : List Place) (digest number : ℕ) (dests : DestsData) → AreNumbersOf places dests → length places ≤ number

@@ -44,7 +44,8 @@ within dest from to other queue is = record {
   less = grind (arith, nat_tests);
 }
 
-pub to_within : (dest from to other queue : ℕ) → other ≡ dest → from ≤ queue → queue < to → ((other == dest) && (not (nat_lt queue from) && nat_lt queue to)) ≡ true
+pub to_within : (dest from to other queue : ℕ) → other ≡ dest → from ≤ queue → queue < to
+    → ((other == dest) && (not (nat_lt queue from) && nat_lt queue to)) ≡ true
 to_within dest from to other queue same least less = grind (arith, nat_tests)
 
 -- of two files of a destination the one of no greater queue, if it is behind, is in the same queue
@@ -86,11 +87,13 @@ ahead one other is =
     let more = and_parts (one.queue == other.queue) (goes_by_group one other) parts.1 in
     record { dest = eqb-true one.dest other.dest parts.0; queue = eqb-true one.queue other.queue more.0; goes = more.1 }
 
-pub both_same : (dest other queue other_queue : ℕ) (rest : Bool) → dest ≡ other → queue ≡ other_queue → rest ≡ true → ((dest == other) && ((queue == other_queue) && rest)) ≡ true
+pub both_same : (dest other queue other_queue : ℕ) (rest : Bool) → dest ≡ other → queue ≡ other_queue → rest ≡ true
+    → ((dest == other) && ((queue == other_queue) && rest)) ≡ true
 both_same dest other queue other_queue rest same same_too is = grind (arith, nat_tests)
 
 -- a test that passes a key that is there passes some; one that passes none that is there passes none
-pub any_there : (passes : RipeFile → Bool) (key : RipeFile) (keys : List RipeFile) → has_key goes_by_group key keys ≡ true → passes key ≡ true → list_any passes keys ≡ true
+pub any_there : (passes : RipeFile → Bool) (key : RipeFile) (keys : List RipeFile) → has_key goes_by_group key keys ≡ true → passes key ≡ true
+    → list_any passes keys ≡ true
 any_there passes key [] there passed = no (sym there)
 any_there passes key (first ∷ rest) there passed = by_side (any_there passes key rest) (is_one_of goes_by_group by_group key first rest there)
   where

@@ -33,7 +33,8 @@ abbrev pub of_queue : ℕ → Option Lined → Option RipeFile
 of_queue queue None = None
 of_queue queue (Some found) = if found.waiter.queue == queue then Some found.waiter else None
 
-none_of : (queue : ℕ) (keys : List Lined) → AllByRecursion (λ key. (key.waiter.queue == queue) ≡ false) keys → find (is_in queue) (map (λ key. key.waiter) keys) ≡ None
+none_of : (queue : ℕ) (keys : List Lined) → AllByRecursion (λ key. (key.waiter.queue == queue) ≡ false) keys
+    → find (is_in queue) (map (λ key. key.waiter) keys) ≡ None
 none_of queue [] all = refl
 none_of queue (key ∷ keys) all =
     ap (λ (test : Bool). cond test (Some key.waiter) (find (is_in queue) (map (λ key. key.waiter) keys))) all.0 ∙ none_of queue keys all.1

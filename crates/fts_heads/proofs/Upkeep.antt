@@ -162,7 +162,8 @@ module _ (busy : List Bool) (files : List RipeFile) (line : List Lined) (heads :
         ∙ parts.1)
 
     -- for a busy one none does
-    pub busy_apart : is_free busy dest ≡ false → (waiter : RipeFile) → (is_within dest from to waiter && leads files waiter) ≡ true → is_lined line waiter ≡ false
+    pub busy_apart : is_free busy dest ≡ false → (waiter : RipeFile) → (is_within dest from to waiter && leads files waiter) ≡ true
+        → is_lined line waiter ≡ false
     busy_apart not_free waiter is =
         let parts = and_parts (is_within dest from to waiter) (leads files waiter) is in
         let range = within dest from to waiter.dest waiter.queue parts.0 in
@@ -243,7 +244,8 @@ module _ (busy : List Bool) (files : List RipeFile) (line : List Lined) (heads :
         by_test waiter false is = ap (λ (test : Bool). is_free busy waiter.dest && test) (sym (apart waiter is))
 
     module _ (between : List Lined) (free : is_free busy dest ≡ true)
-        (left : (waiter : RipeFile) → is_lined between waiter ≡ (is_lined line waiter && not (is_within dest queue (queue + 1) waiter && leads files waiter))) where
+        (left : (waiter : RipeFile)
+        → is_lined between waiter ≡ (is_lined line waiter && not (is_within dest queue (queue + 1) waiter && leads files waiter))) where
       -- where the group's head has left, none of the group stands in line
       pub group_left : (waiter : RipeFile) → is_within dest queue (queue + 1) waiter ≡ true → is_lined between waiter ≡ false
       group_left waiter is =

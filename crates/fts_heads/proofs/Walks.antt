@@ -190,7 +190,8 @@ no_more (first ∷ rest) files lines sorted wait =
         of_there is_line_before lines_in_order (λ other. is_line_before first other ≡ true) rest (record { waiter = waiter }) lines.0 later in
         let differ : differs goes_by_group first.waiter waiter ≡ true =
         apart (differs goes_by_group first.waiter waiter)
-        (sym (same_apart goes_in_line goes_by_group in_line by_group first.waiter waiter) ∙ ap (λ (test : Bool). not (test || goes_in_line waiter first.waiter)) goes)
+        (sym (same_apart goes_in_line goes_by_group in_line by_group first.waiter waiter)
+        ∙ ap (λ (test : Bool). not (test || goes_in_line waiter first.waiter)) goes)
         in
         has_without goes_by_group by_group first.waiter waiter files
         ∙ (ap (λ (test : Bool). test && differs goes_by_group first.waiter waiter)

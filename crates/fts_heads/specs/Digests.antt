@@ -1,4 +1,5 @@
--- The digest of a place: its texts as one number in the base of a seed, below a prime. Any other function of the place would do: places are compared themselves.
+-- The digest of a place: its texts as one number in the base of a seed, below a prime. Any other function of the place would do: places are compared
+-- themselves.
 use Rattle.std.specs.Prelude.{◌≡◌, ℕ, ◌+◌, ◌*◌, ◌%◌, Bool, nat_lt}
 use Rattle.std.specs.List.{fold}
 use Rattle.std.proofs.Common.{ap, ◌∙◌}

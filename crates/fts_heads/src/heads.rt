@@ -1,7 +1,8 @@
 //! The ripe files, and the line in which those stand that may start.
 //! Kept in its type (`AreKept`): those in line are the best of each queue and destination, where the destination is free (`AreHeads`); no queue's number is as
 //! great as `MOST_QUEUES`; and the line has as much room as the files.
-//! Order: what stands in line of a group leaves, the files change, and what leads then comes in. `make_room` and `make_dests` come before; no other call takes memory.
+//! Order: what stands in line of a group leaves, the files change, and what leads then comes in. `make_room` and `make_dests` come before; no other call
+//! takes memory.
 ghost use Rattle.std.specs.Prelude.{
   ◌≡◌,
   ◌<◌,

@@ -61,7 +61,8 @@ module _ (waiting : WaitingData) (heads : HeadsData) (later : KeySet Later) (des
     (line : IsLine waiting heads later dests peak) where
   -- its key isn't there yet
   pub no_ripe : is_waiting waiter.file waiting.waiters ≡ false → has_key goes_by_group (ripe_of dests waiter) heads.files ≡ false
-  no_ripe fresh = absent goes_by_group by_group (ripe_of dests) (λ file. file.file) (λ other. refl) (is_ripe peak) waiter waiting.waiters heads.files fresh line.ripe
+  no_ripe fresh = absent goes_by_group by_group (ripe_of dests) (λ file. file.file) (λ other. refl)
+      (is_ripe peak) waiter waiting.waiters heads.files fresh line.ripe
 
   pub no_later : is_waiting waiter.file waiting.waiters ≡ false → has_key is_later_before (later_of dests waiter) later.keys ≡ false
   no_later fresh = absent is_later_before laters_in_order (later_of dests) (λ key. key.file.file) (λ other. refl) (λ other. not (is_ripe peak other))
@@ -146,7 +147,8 @@ module _ (waiting : WaitingData) (heads : HeadsData) (later : KeySet Later) (des
     }
 
 -- one row more
-module _ (waiting : WaitingData) (heads : HeadsData) (later : KeySet Later) (dests : List ℕ) (peak dest : ℕ) (line : IsLine waiting heads later dests peak) where
+module _ (waiting : WaitingData) (heads : HeadsData) (later : KeySet Later) (dests : List ℕ) (peak dest : ℕ)
+    (line : IsLine waiting heads later dests peak) where
   same_dest : (waiter : Waiter) → IsOneOf waiter waiting.waiters → dest_of (dests ++ dest ∷ []) waiter.file ≡ dest_of dests waiter.file
   same_dest waiter among =
       let known : IsKnown dests (length heads.busy) waiter = all_of _ waiting.waiters waiter line.known among in
@@ -160,7 +162,8 @@ module _ (waiting : WaitingData) (heads : HeadsData) (later : KeySet Later) (des
     ripe = λ key. line.ripe key ∙ any_alike _ _ waiting.waiters (λ waiter among.
         ap (λ file. is_ripe peak waiter && not (differs goes_by_group file key)) (same_ripe waiter among));
     unripe = λ key. line.unripe key ∙ any_alike _ _ waiting.waiters (λ waiter among.
-        ap (λ file. not (is_ripe peak waiter) && not (differs is_later_before (record { not_before = waiter.not_before; file = file }) key)) (same_ripe waiter among));
+        ap (λ file. not (is_ripe peak waiter) && not (differs is_later_before (record { not_before = waiter.not_before; file = file }) key))
+        (same_ripe waiter among));
     count = line.count;
     known = to_all _ waiting.waiters (λ waiter among.
         let known : IsKnown dests (length heads.busy) waiter = all_of _ waiting.waiters waiter line.known among in

@@ -53,7 +53,8 @@ to_all P [] each = tt
 to_all P (first ∷ rest) each = (each first (inl refl), to_all P rest (λ waiter among. each waiter (inr among)))
 
 -- files that are apart are one where their numbers are
-pub one_file : (waiters : List Waiter) (one other : Waiter) → AreApart waiters → IsOneOf one waiters → IsOneOf other waiters → one.file ≡ other.file → one ≡ other
+pub one_file : (waiters : List Waiter) (one other : Waiter) → AreApart waiters → IsOneOf one waiters → IsOneOf other waiters → one.file ≡ other.file
+    → one ≡ other
 one_file [] one other apart first second same = absurd first
 one_file (head ∷ rest) one other apart first second same = by_sides (one_file rest one other apart.1) first second
   where
@@ -95,11 +96,13 @@ length_with waiter (first ∷ rest) = by_test (goes_before waiter first) (length
     by_test true behind = refl
     by_test false behind = ap suc behind
 
-pub all_with : (P : Waiter → Type 0) (waiter : Waiter) (waiters : List Waiter) → P waiter → AllByRecursion P waiters → AllByRecursion P (with_waiter waiter waiters)
+pub all_with : (P : Waiter → Type 0) (waiter : Waiter) (waiters : List Waiter) → P waiter → AllByRecursion P waiters
+    → AllByRecursion P (with_waiter waiter waiters)
 all_with P waiter [] here all = (here, tt)
 all_with P waiter (first ∷ rest) here all = by_test (goes_before waiter first) (all_with P waiter rest here all.1)
   where
-    by_test : (answer : Bool) → AllByRecursion P (with_waiter waiter rest) → AllByRecursion P (cond answer (waiter ∷ first ∷ rest) (first ∷ with_waiter waiter rest))
+    by_test : (answer : Bool) → AllByRecursion P (with_waiter waiter rest)
+        → AllByRecursion P (cond answer (waiter ∷ first ∷ rest) (first ∷ with_waiter waiter rest))
     by_test true behind = (here, all)
     by_test false behind = (all.0, behind)
 

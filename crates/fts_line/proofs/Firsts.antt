@@ -35,7 +35,8 @@ find_least passes (first ∷ rest) waiter sorted among is least =
     by_test behind false here (inl same) = no (sym is ∙ (ap passes (sym same) ∙ here))
     by_test behind false here (inr later) = ap (λ (test : Bool). cond test (Some first) (find passes rest)) here ∙ behind later
 
-pub find_none : (passes : Waiter → Bool) (waiters : List Waiter) → ((other : Waiter) → IsOneOf other waiters → passes other ≡ false) → find passes waiters ≡ None
+pub find_none : (passes : Waiter → Bool) (waiters : List Waiter) → ((other : Waiter) → IsOneOf other waiters → passes other ≡ false)
+    → find passes waiters ≡ None
 find_none passes [] none = refl
 find_none passes (first ∷ rest) none =
     ap (λ (test : Bool). cond test (Some first) (find passes rest)) (none first (inl refl)) ∙ find_none passes rest (λ other later. none other (inr later))
@@ -109,7 +110,8 @@ module _ (waiting : WaitingData) (heads : HeadsData) (later : KeySet Later) (des
   -- the first in line
   module _ (first : RipeFile) (is : IsFirstOf stands_free heads.files first) (sorted : AreSortedBy goes_before waiting.waiters) where
     mine : HasOne (λ waiter. is_ripe peak waiter && not (differs goes_by_group (ripe_of dests waiter) first)) waiting.waiters
-    mine = has_one (λ waiter. is_ripe peak waiter && not (differs goes_by_group (ripe_of dests waiter) first)) waiting.waiters (sym (line.ripe first) ∙ is.there)
+    mine = has_one (λ waiter. is_ripe peak waiter && not (differs goes_by_group (ripe_of dests waiter) first)) waiting.waiters
+        (sym (line.ripe first) ∙ is.there)
 
     own : ripe_of dests mine.one ≡ first
     own = one_of goes_by_group by_group (ripe_of dests mine.one) first
@@ -168,6 +170,7 @@ pub fewer : (passes : Waiter → Bool) (waiters : List Waiter) → length (filte
 fewer passes [] = omega arith
 fewer passes (first ∷ rest) = by_test (passes first) (fewer passes rest)
   where
-    by_test : (answer : Bool) → length (filter passes rest) ≤ length rest → length (cond answer (first ∷ filter passes rest) (filter passes rest)) ≤ length (first ∷ rest)
+    by_test : (answer : Bool) → length (filter passes rest) ≤ length rest
+        → length (cond answer (first ∷ filter passes rest) (filter passes rest)) ≤ length (first ∷ rest)
     by_test true behind = omega (arith, behind)
     by_test false behind = omega (arith, behind)

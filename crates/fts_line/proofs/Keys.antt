@@ -47,7 +47,8 @@ module _ {Key : Type 0} (before : Key → Key → Bool) (order : IsStrictOrder b
   more waiter waiters keys is are key =
       has_put before (key_of waiter) key keys
       ∙ (ap (λ (test : Bool). not (differs before (key_of waiter) key) || test) (are key)
-      ∙ (ap (λ (test : Bool). (test && not (differs before (key_of waiter) key)) || list_any (λ other. passes other && not (differs before (key_of other) key)) waiters)
+      ∙ (ap (λ (test : Bool). (test && not (differs before (key_of waiter) key)) || list_any
+      (λ other. passes other && not (differs before (key_of other) key)) waiters)
       (sym is)
       ∙ sym (any_with (λ other. passes other && not (differs before (key_of other) key)) waiter waiters)))
 
@@ -55,12 +56,14 @@ module _ {Key : Type 0} (before : Key → Key → Bool) (order : IsStrictOrder b
       → AreKeysOf before key_of passes (with_waiter waiter waiters) keys
   beside waiter waiters keys is are key =
       are key
-      ∙ (ap (λ (test : Bool). (test && not (differs before (key_of waiter) key)) || list_any (λ other. passes other && not (differs before (key_of other) key)) waiters)
+      ∙ (ap (λ (test : Bool). (test && not (differs before (key_of waiter) key)) || list_any
+      (λ other. passes other && not (differs before (key_of other) key)) waiters)
       (sym is)
       ∙ sym (any_with (λ other. passes other && not (differs before (key_of other) key)) waiter waiters))
 
   -- the key of a file that isn't there is absent, and that of one that passes is there
-  pub absent : (waiter : Waiter) (waiters : List Waiter) (keys : List Key) → is_waiting waiter.file waiters ≡ false → AreKeysOf before key_of passes waiters keys
+  pub absent : (waiter : Waiter) (waiters : List Waiter) (keys : List Key) → is_waiting waiter.file waiters ≡ false
+      → AreKeysOf before key_of passes waiters keys
       → has_key before (key_of waiter) keys ≡ false
   absent waiter waiters keys fresh are =
       are (key_of waiter)
@@ -82,7 +85,8 @@ module _ {Key : Type 0} (before : Key → Key → Bool) (order : IsStrictOrder b
     abbrev pub stays : Key → Waiter → Bool
     stays key other = passes other && not (differs before (key_of other) key)
 
-    left : (key : Key) → list_any (stays key) (without_file waiter.file waiters) ≡ list_any (λ other. not (other.file == waiter.file) && stays key other) waiters
+    left : (key : Key) → list_any (stays key) (without_file waiter.file waiters)
+        ≡ list_any (λ other. not (other.file == waiter.file) && stays key other) waiters
     left key = any_filter (stays key) (λ other. not (other.file == waiter.file)) waiters
 
     -- another file has the key, where this one hasn't

@@ -107,7 +107,8 @@ module _ (dests : List ℕ) (waiters : List Waiter) (apart : AreApart waiters) w
           (λ waiter among. ap (λ (test : Bool). test && not (differs goes_by_group (ripe_of dests waiter) key))
           (sym (ap not (in_later waiter among) ∙ twice (is_ripe peak waiter))));
       only = λ key has.
-          let one = has_one (λ waiter. not (is_ripe peak waiter) && not (differs is_later_before (later_of dests waiter) key)) waiters (sym (unripe key) ∙ has) in
+          let one = has_one (λ waiter. not (is_ripe peak waiter) && not (differs is_later_before (later_of dests waiter) key)) waiters
+          (sym (unripe key) ∙ has) in
           any_of (λ waiter. not (differs is_later_before (later_of dests waiter) key)) waiters one.one one.among
           (and_parts (not (is_ripe peak one.one)) (not (differs is_later_before (later_of dests one.one) key)) one.passing).1;
       due = to_all _ waiters (λ waiter among not_has.
@@ -119,7 +120,8 @@ module _ (dests : List ℕ) (waiters : List Waiter) (apart : AreApart waiters) w
 
   module _ (files : List RipeFile) (later : List Later) (now : ℕ) (are : AreMoving dests waiters files later now) where
     -- the file of a key
-    pub file_of : (key : Later) → has_key is_later_before key later ≡ true → HasOne (λ waiter. not (differs is_later_before (later_of dests waiter) key)) waiters
+    pub file_of : (key : Later) → has_key is_later_before key later ≡ true
+        → HasOne (λ waiter. not (differs is_later_before (later_of dests waiter) key)) waiters
     file_of key has = has_one (λ waiter. not (differs is_later_before (later_of dests waiter) key)) waiters (are.only key has)
 
     pub is_file : (key : Later) (has : has_key is_later_before key later ≡ true) → later_of dests (file_of key has).one ≡ key
@@ -161,7 +163,8 @@ module _ (dests : List ℕ) (waiters : List Waiter) (apart : AreApart waiters) w
       to_either false false (inl is) = is
       to_either false false (inr is) = is
 
-      forth : (file : RipeFile) → (not (differs goes_by_group key.file file) || list_any (stands file) waiters) ≡ true → list_any (stands_then file) waiters ≡ true
+      forth : (file : RipeFile) → (not (differs goes_by_group key.file file) || list_any (stands file) waiters) ≡ true
+          → list_any (stands_then file) waiters ≡ true
       forth file is = by_side (or_cases (not (differs goes_by_group key.file file)) (list_any (stands file) waiters) is)
         where
           by_side : (not (differs goes_by_group key.file file) ≡ true) ⊎ (list_any (stands file) waiters ≡ true) → list_any (stands_then file) waiters ≡ true
@@ -185,7 +188,8 @@ module _ (dests : List ℕ) (waiters : List Waiter) (apart : AreApart waiters) w
               (not_true (has_key is_later_before (later_of dests one.one) later) parts.0) in
               any_of (stands_then file) waiters one.one one.among (both _ _ (ap not gone) parts.1)
 
-      back : (file : RipeFile) → list_any (stands_then file) waiters ≡ true → (not (differs goes_by_group key.file file) || list_any (stands file) waiters) ≡ true
+      back : (file : RipeFile) → list_any (stands_then file) waiters ≡ true
+          → (not (differs goes_by_group key.file file) || list_any (stands file) waiters) ≡ true
       back file is = to_either _ _ (by_test (has_key is_later_before (later_of dests one.one) later) refl)
         where
           one : HasOne (stands_then file) waiters

@@ -1,5 +1,6 @@
 //! The files that wait, with those in line that may start.
-//! Kept in its type (`IsLine`): the files whose moment had come at the latest ripening stand in the groups of `fts_heads`, the others in order of their moments.
+//! Kept in its type (`IsLine`): the files whose moment had come at the latest ripening stand in the groups of `fts_heads`, the others in order of their
+//! moments.
 //! Where the clock has gone back since, files in the groups may not be ripe: then `first_open` asks the files that wait one by one.
 //! Order: `make_room`, `make_places` and `make_rows` come before; no other call takes memory.
 ghost use Rattle.std.specs.Prelude.{
@@ -382,6 +383,15 @@ impl Line {
         ensures answer { result ≡ slice_index_or self.now.busy dest false }
     {
         self.heads.is_busy(dest)
+    }
+
+    /// How many files have a number. Its clauses also say that each brought a destination, and that no more files wait than there are places.
+    pub fn rows(&self) -> usize
+        ensures count { result ≡ length self.now.dests }
+        ensures dests { length self.now.busy ≡ length self.now.dests }
+        ensures places { length self.now.waiting.waiters ≤ self.now.room }
+    {
+        self.dests.len()
     }
 
     /// How many queues there are: those that room was made for.

@@ -9,7 +9,8 @@ abbrev pub invariant-loop-head : goal.invariant-loop-head
 invariant-loop-head l = record {
   from : l.from ≤ l.queue;
   to : l.queue ≤ l.to;
-  lined : (waiter : RipeFile) → is_lined l.line.keys waiter ≡ (is_lined l.fn.line.keys waiter || (is_within l.dest l.from l.queue waiter && leads l.files.keys waiter));
+  lined : (waiter : RipeFile)
+      → is_lined l.line.keys waiter ≡ (is_lined l.fn.line.keys waiter || (is_within l.dest l.from l.queue waiter && leads l.files.keys waiter));
   room : l.line.room ≡ l.fn.line.room;
 }
 

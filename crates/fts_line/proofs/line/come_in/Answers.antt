@@ -22,7 +22,8 @@ insert-requires-else-waiter-peak-clause-absent c =
 pub returns-then-waiter-peak-clause-line : goal.returns-then-waiter-peak-clause-line
 returns-then-waiter-peak-clause-line c =
     let old = c.args.heads.now in
-    subst (λ (heads : HeadsData). IsLine (record c.args.waiting.now { waiters = with_waiter c.args.waiter.now c.args.waiting.now.waiters }) heads c.args.later.now
+    subst (λ (heads : HeadsData). IsLine
+    (record c.args.waiting.now { waiters = with_waiter c.args.waiter.now c.args.waiting.now.waiters }) heads c.args.later.now
     c.args.dests.now c.args.peak)
     (sym (c.insert.ensures.files ∙ ap (λ file. record old { files = put_by goes_by_group file old.files }) c.ripe_of-file.ensures.file))
     (came_ripe c.args.waiting.now old c.args.later.now c.args.dests.now c.args.peak c.args.waiter.now c.requires.line c.requires.room c.requires.known
@@ -31,7 +32,8 @@ returns-then-waiter-peak-clause-line c =
 pub returns-else-waiter-peak-clause-line : goal.returns-else-waiter-peak-clause-line
 returns-else-waiter-peak-clause-line c =
     let old = c.args.later.now in
-    subst (λ (later : KeySet Later). IsLine (record c.args.waiting.now { waiters = with_waiter c.args.waiter.now c.args.waiting.now.waiters }) c.args.heads.now later
+    subst (λ (later : KeySet Later). IsLine
+    (record c.args.waiting.now { waiters = with_waiter c.args.waiter.now c.args.waiting.now.waiters }) c.args.heads.now later
     c.args.dests.now c.args.peak)
     (sym (c.insert-else-waiter-peak.ensures.keys
     ∙ ap (λ file. record old { keys = put_by is_later_before (record { not_before = c.args.waiter.now.not_before; file = file }) old.keys })

@@ -27,7 +27,8 @@ remove-requires-clause-there c =
 
 pub remove-requires-else-waiter-peak : goal.remove-requires-else-waiter-peak
 remove-requires-else-waiter-peak c = record {
-  there = ap (λ file. has_key is_later_before (record { not_before = c.args.waiter.now.not_before; file = file }) c.args.later.now.keys) c.ripe_of-file.ensures.file
+  there = ap (λ file. has_key is_later_before (record { not_before = c.args.waiter.now.not_before; file = file }) c.args.later.now.keys)
+      c.ripe_of-file.ensures.file
       ∙ is_there_later c.args.waiting.now c.args.heads.now c.args.later.now c.args.dests.now c.args.peak c.args.waiter.now c.requires.line
       c.queues.ensures.waiting.apart (waits_so c.args.waiter.now c.args.waiting.now c.requires.waits) c.if-waiter-peak.false;
 }

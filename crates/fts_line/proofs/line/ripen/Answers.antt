@@ -28,7 +28,8 @@ insert-requires-clause-queue c =
     record { ripe = inv.ripe; only = inv.only; due = inv.due; count = inv.count } in
     let mine = file_of c.args.dests.now c.args.waiting.now.waiters c.queues.ensures.waiting.apart _ _ c.args.now are c.in-Some.key c.in-Some.ensures.there in
     let own = is_file c.args.dests.now c.args.waiting.now.waiters c.queues.ensures.waiting.apart _ _ c.args.now are c.in-Some.key c.in-Some.ensures.there in
-    let known : IsKnown c.args.dests.now (length c.args.heads.now.busy) mine.one = all_of _ c.args.waiting.now.waiters mine.one c.requires.line.known mine.among in
+    let known : IsKnown c.args.dests.now (length c.args.heads.now.busy) mine.one =
+    all_of _ c.args.waiting.now.waiters mine.one c.requires.line.known mine.among in
     subst (λ (key : Later). key.file.queue < 4294967295) own
     (small_queue mine.one.link.source mine.one.link.dest mine.one.activity known.queue.from known.queue.to known.queue.under)
 
@@ -39,7 +40,8 @@ insert-requires-clause-known c =
     record { ripe = inv.ripe; only = inv.only; due = inv.due; count = inv.count } in
     let mine = file_of c.args.dests.now c.args.waiting.now.waiters c.queues.ensures.waiting.apart _ _ c.args.now are c.in-Some.key c.in-Some.ensures.there in
     let own = is_file c.args.dests.now c.args.waiting.now.waiters c.queues.ensures.waiting.apart _ _ c.args.now are c.in-Some.key c.in-Some.ensures.there in
-    let known : IsKnown c.args.dests.now (length c.args.heads.now.busy) mine.one = all_of _ c.args.waiting.now.waiters mine.one c.requires.line.known mine.among in
+    let known : IsKnown c.args.dests.now (length c.args.heads.now.busy) mine.one =
+    all_of _ c.args.waiting.now.waiters mine.one c.requires.line.known mine.among in
     subst (λ busy. c.in-Some.key.file.dest < length busy) (sym inv.busy)
     (subst (λ (key : Later). key.file.dest < length c.args.heads.now.busy) own known.dest)
 

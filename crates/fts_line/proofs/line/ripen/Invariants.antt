@@ -13,10 +13,12 @@ use Rattle.fts_line.proofs.line.ripen.Given as goal
 -- the files that wait for their moment no longer are ripe; those that still do wait; and of the others the moment has come
 abbrev pub invariant-loop-key : goal.invariant-loop-key
 invariant-loop-key l = record {
-  ripe : AreKeysOf goes_by_group (ripe_of l.dests) (λ waiter. not (has_key is_later_before (later_of l.dests waiter) l.later.keys)) l.waiting.waiters l.heads.files;
+  ripe : AreKeysOf goes_by_group (ripe_of l.dests)
+      (λ waiter. not (has_key is_later_before (later_of l.dests waiter) l.later.keys)) l.waiting.waiters l.heads.files;
   only : (key : Later) → has_key is_later_before key l.later.keys ≡ true
       → list_any (λ waiter. not (differs is_later_before (later_of l.dests waiter) key)) l.waiting.waiters ≡ true;
-  due : AllByRecursion (λ (waiter : Waiter). has_key is_later_before (later_of l.dests waiter) l.later.keys ≡ false → waiter.not_before ≤ l.now) l.waiting.waiters;
+  due : AllByRecursion (λ (waiter : Waiter). has_key is_later_before (later_of l.dests waiter) l.later.keys ≡ false → waiter.not_before ≤ l.now)
+      l.waiting.waiters;
   count : length l.heads.files + length l.later.keys ≡ length l.waiting.waiters;
   busy : l.heads.busy ≡ l.fn.heads.busy;
   room : l.heads.room ≡ l.fn.heads.room;

@@ -46,7 +46,8 @@ invariant_of-self-else-is_behind c =
     record {
       heads = heads_again c.self.inside.busy.items files c.self.inside.line.keys c.self.invariant.heads c.args.file.dest c.args.file.queue
           c.insert-else-is_behind.new.self.keys
-          (λ waiter apart. ap (λ (set : KeySet RipeFile). leads set.keys waiter) c.insert-else-is_behind.ensures.keys ∙ leads_put c.args.file files waiter apart)
+          (λ waiter apart. ap (λ (set : KeySet RipeFile). leads set.keys waiter) c.insert-else-is_behind.ensures.keys
+          ∙ leads_put c.args.file files waiter apart)
           c.leave.new.line.keys free c.leave.ensures.lined c.enter.new.line.keys c.enter.ensures.lined;
       below = subst (λ (set : KeySet RipeFile). (waiter : RipeFile) → has_key goes_by_group waiter set.keys ≡ true → waiter.queue < MOST_QUEUES)
           (sym c.insert-else-is_behind.ensures.keys) (below_put c.args.file files MOST_QUEUES c.requires.queue c.self.invariant.below);

@@ -47,7 +47,8 @@ invariant_of-self-else-not-has c =
     record {
       heads = heads_again c.self.inside.busy.items files c.self.inside.line.keys c.self.invariant.heads c.args.file.dest c.args.file.queue
           c.remove-else-not-has.new.self.keys
-          (λ waiter apart. ap (λ (set : KeySet RipeFile). leads set.keys waiter) c.remove-else-not-has.ensures.keys ∙ leads_without c.args.file files waiter apart)
+          (λ waiter apart. ap (λ (set : KeySet RipeFile). leads set.keys waiter) c.remove-else-not-has.ensures.keys
+          ∙ leads_without c.args.file files waiter apart)
           c.leave.new.line.keys free c.leave.ensures.lined c.enter.new.line.keys c.enter.ensures.lined;
       below = subst (λ (set : KeySet RipeFile). (waiter : RipeFile) → has_key goes_by_group waiter set.keys ≡ true → waiter.queue < MOST_QUEUES)
           (sym c.remove-else-not-has.ensures.keys) (below_without c.args.file files MOST_QUEUES c.self.invariant.below);
