@@ -60,7 +60,8 @@ same_number places one other number other_number is1 is2 = same_answer (number =
         eq-eqb number other_number
         (same_Some number other_number (sym is1 ∙ (ap (number_of places) equal ∙ is2)))
 
-pub number_stays : (places more : List Place) (place : Place) (number : ℕ) → number_of places place ≡ Some number → number_of (places ++ more) place ≡ Some number
+pub number_stays : (places more : List Place) (place : Place) (number : ℕ) → number_of places place ≡ Some number
+    → number_of (places ++ more) place ≡ Some number
 number_stays places more place number is =
     first_place (λ other. is_same_place other place) (places ++ more) number
     (at number parts.0 ∙ parts.1)
