@@ -1,9 +1,9 @@
-//! A file that waits, and its two places: among the files of its destination and queue, and in the line of its queue.
+//! A ripe file, and its two places: among the files of its destination and queue, and in the line of its queue.
 ghost use Rattle.std.specs.Prelude.{◌≡◌};
 
 use ordered::Key;
 
-/// A file that waits: its queue, the place of its destination, its rank, and its number.
+/// A ripe file: its queue, the number of its destination, its rank, and its own number.
 /// A lesser rank goes first: it is what its job's priority lacks of the greatest one, so that each queue and each group begins at zeros.
 #[derive(Clone, Copy, Debug, PartialEq, Eq)]
 pub struct RipeFile {
