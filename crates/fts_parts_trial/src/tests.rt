@@ -1,7 +1,9 @@
 //! The tests, a module a part, and `made`, the values that they share.
 
 mod choice;
+mod heads;
 mod index;
+mod line;
 mod made;
 mod queue;
 mod sets;

@@ -1,0 +1,5 @@
+pub mod RipeFiles
+pub mod Keys
+pub mod Heads
+pub mod Digests
+pub mod Dests

@@ -1,0 +1,229 @@
+//! The ripe files, and the line in which those stand that may start.
+//! Kept in its type (`AreKept`): those in line are the best of each queue and destination, where the destination is free (`AreHeads`); no queue's number is as
+//! great as `MOST_QUEUES`; and the line has as much room as the files.
+//! Order: what stands in line of a group leaves, the files change, and what leads then comes in. `make_room` and `make_dests` come before; no other call
+//! takes memory.
+ghost use Rattle.std.specs.Prelude.{
+  ◌≡◌,
+  ◌<◌,
+  ◌≤◌,
+  ◌+◌,
+  ◌∷◌,
+  ◌++◌,
+  [],
+  true,
+  false,
+  max,
+  length,
+  slice_set,
+  slice_index_or,
+  ◌&&◌,
+  IfSome,
+  IfNone,
+  OnOk,
+  OnErr,
+};
+ghost use Rattle.ordered.specs.Orders.{AreSortedBy, has_key, put_by, without};
+ghost use Rattle.fts_heads.specs.declared.ripe_file.RipeFile.{RipeFile};
+ghost use Rattle.fts_heads.specs.RipeFiles.{goes_by_group, is_in};
+ghost use Rattle.fts_heads.specs.Heads.{HeadsData, is_free, IsFirstOf};
+
+use crate::line::first_in_line;
+use crate::ripe_file::{Lined, RipeFile};
+use crate::walk::{enter, is_behind, leave};
+use ordered::Ordered;
+use std::alloc::{AllocError, Global};
+use std::marker::Model;
+
+/// Each queue's number is less.
+pub const MOST_QUEUES: u32 = u32::MAX;
+
+/// The ripe files, of which those stand in line that go first with their queue and destination, where the destination is free.
+#[derive(Drop)]
+pub struct Heads {
+    files: Ordered<RipeFile>,
+    line: Ordered<Lined>,
+    busy: Vec<bool>,
+}
+
+impl Model for Heads {
+    ghost use Rattle.fts_heads.specs.Heads.{HeadsData};
+
+    ghost Value = { HeadsData };
+
+    ghost use Rattle.fts_heads.specs.Heads.{AreKept};
+    ghost use Rattle.fts_heads.specs.declared.heads.TheConstants.{MOST_QUEUES};
+    ghost use Rattle.std.specs.Prelude.{vec_capacity};
+
+    ghost view = { λ heads. record { files = heads.files.keys; busy = heads.busy.items; room = heads.files.room; dest_room = vec_capacity heads.busy } };
+
+    ghost invariant = { λ heads. AreKept MOST_QUEUES heads.busy.items heads.files heads.line };
+}
+
+impl Heads {
+    /// No file and no destination, and no room. What grows later takes its memory from `alloc`.
+    pub fn new(alloc: Global) -> Heads
+        ensures empty { result ≡ record { files = []; busy = []; room = 0; dest_room = 0 } }
+    {
+        Heads {
+            files: Ordered::new(alloc),
+            line: Ordered::new(alloc),
+            busy: Vec::new(alloc),
+        }
+    }
+
+    /// Makes room for so many files in all. No room falls, and at an `Err` all stays as it is.
+    pub fn make_room(&mut self, files: usize) -> Result<(), AllocError>
+        ensures ok { OnOk result (self.new ≡ record self.old { room = max self.old.room files }) }
+        ensures err { OnErr result (self.new ≡ self.old) }
+    {
+        self.line.make_room(files)?;
+        self.files.make_room(files)?;
+        Ok(())
+    }
+
+    /// Makes room for so many destinations more. No room falls, and at an `Err` all stays as it is.
+    pub fn make_dests(&mut self, more: usize) -> Result<(), AllocError>
+        ensures same { self.new ≡ record self.old { dest_room = self.new.dest_room } }
+        ensures ok { OnOk result (length self.old.busy + more ≤ self.new.dest_room) }
+        ensures err { OnErr result (self.new ≡ self.old) }
+        ensures room { self.old.dest_room ≤ self.new.dest_room }
+    {
+        self.busy.reserve(more)?;
+        Ok(())
+    }
+
+    /// Takes on one destination more, which is free, in room that is there.
+    pub fn add_dest(&mut self)
+        requires room { length self.old.busy < self.old.dest_room }
+        ensures busy { self.new ≡ record self.old { busy = self.old.busy ++ (false ∷ []) } }
+    {
+        self.busy.push_reserved(false);
+    }
+
+    /// How many destinations there are. Their numbers are less.
+    pub fn dests(&self) -> usize
+        ensures count { result ≡ length self.now.busy }
+    {
+        self.busy.len()
+    }
+
+    /// Whether a destination is busy; an unknown one is not.
+    pub fn is_busy(&self, dest: u32) -> bool
+        ensures answer { result ≡ slice_index_or self.now.busy dest false }
+    {
+        match self.busy.as_slice().get(dest as usize) {
+            Some(busy) => *busy,
+            None => false,
+        }
+    }
+
+    /// Whether a file is there.
+    pub fn has(&self, file: &RipeFile) -> bool
+        ensures answer { result ≡ has_key goes_by_group file.now self.now.files }
+    {
+        self.files.has(file)
+    }
+
+    /// How many files there are. Its clauses also say that they are sorted, and no more than the room.
+    pub fn len(&self) -> usize
+        ensures len { result ≡ length self.now.files }
+        ensures order { AreSortedBy goes_by_group self.now.files }
+        ensures room { length self.now.files ≤ self.now.room }
+    {
+        self.files.len()
+    }
+
+    /// The first file of a queue whose destination is free, of all that are ripe. None exactly where there is none.
+    pub fn first_of(&self, queue: u32) -> Option<RipeFile>
+        ensures first { IfSome result (λ first. IsFirstOf (λ waiter. is_in queue waiter && is_free self.now.busy waiter.dest) self.now.files first) }
+        ensures none { IfNone result ((waiter : RipeFile) → has_key goes_by_group waiter self.now.files ≡ true
+            → (is_in queue waiter && is_free self.now.busy waiter.dest) ≡ false) }
+    {
+        let _ = self.files.len();
+        let _ = self.line.len();
+        let _ = &self.busy;
+        first_in_line(&self.line, queue)
+    }
+
+    /// A destination that was free gets busy: none of its files stands in line any more.
+    pub fn busy(&mut self, dest: u32)
+        requires known { dest < length self.old.busy }
+        requires free { slice_index_or self.old.busy dest false ≡ false }
+        ensures busy { self.new ≡ record self.old { busy = slice_set self.old.busy dest true } }
+    {
+        leave(&self.files, &mut self.line, dest, 0, MOST_QUEUES);
+        self.busy[dest as usize] = true;
+    }
+
+    /// A destination that was busy gets free: who leads for it in each queue comes into the line.
+    pub fn free(&mut self, dest: u32)
+        requires known { dest < length self.old.busy }
+        requires busy { slice_index_or self.old.busy dest false ≡ true }
+        ensures free { self.new ≡ record self.old { busy = slice_set self.old.busy dest false } }
+    {
+        enter(&self.files, &mut self.line, dest, 0, MOST_QUEUES);
+        self.busy[dest as usize] = false;
+    }
+
+    /// A file comes in, in room that is there.
+    pub fn insert(&mut self, file: RipeFile)
+        requires room { length self.old.files < self.old.room }
+        requires queue { file.queue < MOST_QUEUES }
+        requires known { file.dest < length self.old.busy }
+        requires absent { has_key goes_by_group file self.old.files ≡ false }
+        ensures files { self.new ≡ record self.old { files = put_by goes_by_group file self.old.files } }
+    {
+        if self.busy[file.dest as usize] {
+            self.files.insert(file);
+        } else if is_behind(&self.files, &file) {
+            self.files.insert(file);
+        } else {
+            leave(
+                &self.files,
+                &mut self.line,
+                file.dest,
+                file.queue,
+                file.queue + 1,
+            );
+            self.files.insert(file);
+            enter(
+                &self.files,
+                &mut self.line,
+                file.dest,
+                file.queue,
+                file.queue + 1,
+            );
+        }
+    }
+
+    /// A file goes that is there.
+    pub fn remove(&mut self, file: RipeFile)
+        requires known { file.dest < length self.old.busy }
+        requires there { has_key goes_by_group file self.old.files ≡ true }
+        ensures files { self.new ≡ record self.old { files = without goes_by_group file self.old.files } }
+    {
+        if self.busy[file.dest as usize] {
+            self.files.remove(&file);
+        } else if !self.line.has(&Lined { waiter: file }) {
+            let _ = self.files.len();
+            self.files.remove(&file);
+        } else {
+            leave(
+                &self.files,
+                &mut self.line,
+                file.dest,
+                file.queue,
+                file.queue + 1,
+            );
+            self.files.remove(&file);
+            enter(
+                &self.files,
+                &mut self.line,
+                file.dest,
+                file.queue,
+                file.queue + 1,
+            );
+        }
+    }
+}

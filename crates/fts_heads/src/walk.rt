@@ -1,0 +1,100 @@
+//! Who leads, of a destination and a range of queues, and the line with these or without them.
+ghost use Rattle.std.specs.Prelude.{
+  ◌≡◌,
+  ◌<◌,
+  ◌≤◌,
+  ◌+◌,
+  ◌&&◌,
+  ◌||◌,
+  not,
+  true,
+  false,
+  IfSome,
+  IfNone,
+};
+ghost use Rattle.ordered.specs.Orders.{has_key, put_by};
+ghost use Rattle.fts_heads.specs.RipeFiles.{goes_by_group};
+ghost use Rattle.fts_heads.specs.declared.ripe_file.RipeFile.{RipeFile};
+ghost use Rattle.fts_heads.specs.declared.heads.TheConstants.{MOST_QUEUES};
+ghost use Rattle.fts_heads.specs.Heads.{is_one, leads, is_lined, is_within};
+
+use crate::heads::MOST_QUEUES;
+use crate::ripe_file::{Lined, RipeFile};
+use ordered::{Key, Ordered};
+
+/// Who leads for a destination in the first queue of a range that has files for it. None where no queue of the range has.
+fn next_head(files: &Ordered<RipeFile>, dest: u32, from: u32, to: u32) -> Option<RipeFile>
+    ensures past { IfSome result (λ head. (from ≤ head.queue) × (head.queue < to)) }
+    ensures alone { IfSome result (λ head. (waiter : RipeFile)
+        → (is_within dest from (head.queue + 1) waiter && leads files.now.keys waiter) ≡ is_one head waiter) }
+    ensures none { IfNone result ((waiter : RipeFile) → (is_within dest from to waiter && leads files.now.keys waiter) ≡ false) }
+{
+    if from >= to {
+        return None;
+    }
+    let _ = files.len();
+    let start = RipeFile {
+        queue: from,
+        dest,
+        rank: 0,
+        file: 0,
+    };
+    match files.first_from(&start) {
+        Some(found) => {
+            if found.dest == dest && found.queue < to {
+                Some(found)
+            } else {
+                None
+            }
+        }
+        None => None,
+    }
+}
+
+/// Whether one of its queue and destination that leads goes ahead of a file, so that nobody leads or leads no more because the file comes in.
+pub fn is_behind(files: &Ordered<RipeFile>, file: &RipeFile) -> bool
+    requires queue { file.now.queue < MOST_QUEUES }
+    ensures settled { result ≡ true → (waiter : RipeFile)
+        → leads (put_by goes_by_group file.now files.now.keys) waiter ≡ leads files.now.keys waiter }
+{
+    match next_head(files, file.dest, file.queue, file.queue + 1) {
+        Some(head) => head.is_before(file),
+        None => false,
+    }
+}
+
+/// Those who lead for a destination in a range of queues leave the line, where they all stand in it.
+pub fn leave(files: &Ordered<RipeFile>, line: &mut Ordered<Lined>, dest: u32, from: u32, to: u32)
+    requires range { from ≤ to }
+    requires stand { (waiter : RipeFile) → (is_within dest from to waiter && leads files.now.keys waiter) ≡ true
+        → is_lined line.old.keys waiter ≡ true }
+    ensures lined { (waiter : RipeFile) → is_lined line.new.keys waiter
+        ≡ (is_lined line.old.keys waiter && not (is_within dest from to waiter && leads files.now.keys waiter)) }
+    ensures room { line.new.room ≡ line.old.room }
+{
+    let mut queue = from;
+    while let Some(head) = next_head(files, dest, queue, to) {
+        line.remove(&Lined { waiter: head });
+        queue = head.queue + 1;
+    }
+}
+
+/// Those who lead for a destination in a range of queues come into the line, where none of them stands in it.
+pub fn enter(files: &Ordered<RipeFile>, line: &mut Ordered<Lined>, dest: u32, from: u32, to: u32)
+    requires range { from ≤ to }
+    requires apart { (waiter : RipeFile) → (is_within dest from to waiter && leads files.now.keys waiter) ≡ true
+        → is_lined line.old.keys waiter ≡ false }
+    requires wait { (waiter : RipeFile) → is_lined line.old.keys waiter ≡ true → has_key goes_by_group waiter files.now.keys ≡ true }
+    requires room { files.now.room ≤ line.old.room }
+    ensures lined { (waiter : RipeFile) → is_lined line.new.keys waiter
+        ≡ (is_lined line.old.keys waiter || (is_within dest from to waiter && leads files.now.keys waiter)) }
+    ensures room { line.new.room ≡ line.old.room }
+{
+    let _ = files.len();
+    let mut queue = from;
+    while let Some(head) = next_head(files, dest, queue, to) {
+        let _ = line.len();
+        line.insert(Lined { waiter: head });
+        queue = head.queue + 1;
+    }
+}

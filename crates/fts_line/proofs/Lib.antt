@@ -1,0 +1,5 @@
+pub mod Files
+pub mod Keys
+pub mod Edits
+pub mod Moves
+pub mod Firsts
