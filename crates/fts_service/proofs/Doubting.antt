@@ -1,5 +1,5 @@
 -- The entry in doubt behind a request: of its writer, where it came up in it, and as it is shown.
-use Rattle.std.proofs.Common.{◌≡◌, ◌⊎◌, refl, sym, ap, ◌∙◌, subst, inl, inr, ⊎_elim, ℕ, List, [], ◌∷◌, Option, Some, None, Ok, Err}
+use Rattle.std.proofs.Common.{◌≡◌, ◌⊎◌, refl, ap, ◌∙◌, subst, inl, inr, ⊎_elim, ℕ, List, [], ◌∷◌, Option, None, Ok, Err}
 use Rattle.serde_json.specs.Data.{Data}
 use Rattle.fts_tables.specs.Counts.{Rose}
 use Rattle.fts_tables.specs.Tables.{Tables}

@@ -20,7 +20,6 @@ use Rattle.fts_keep.specs.declared.fault.KeepFault.TheVariants.{DiskFailed, Jour
 use Rattle.fts_keep.specs.Keeps.{used_of}
 use Rattle.fts_workers.specs.Rounds.{applied_over}
 use Rattle.fts_tables.specs.Counts.{Rose}
-use Rattle.fts_disk.specs.Disk.{IsTold}
 use Rattle.fts_workers.specs.declared.hand.Hand.{Hand}
 use Rattle.fts_workers.specs.declared.held.Held.{Held}
 use Rattle.fts_shop.specs.Many.{Each}

@@ -6,7 +6,6 @@ use Rattle.std.specs.List.{AllByRecursion, list_any}
 use Rattle.std.proofs.lemmas.List.Elements.{All-cons, All-nil}
 use Rattle.fts_tables.specs.Coming.{Coming}
 use Rattle.fts_tables.specs.SettingsData.{SettingsData, has_worker_range}
-use Rattle.fts_tables.specs.Tables.{empty_tables}
 use Rattle.fts_tables.specs.History.{IsLegal, out_of_list}
 use Rattle.fts_tables.specs.declared.commands.Entry.{Entry}
 use Rattle.fts_tables.specs.Counts.{Rose}
