@@ -7,7 +7,7 @@ use Rattle.fts_tables.specs.History.{IsLegal}
 use Rattle.fts_tables.specs.declared.commands.Entry.{Entry}
 use Rattle.fts_tables.specs.declared.commands.Command.TheVariants.{Restart}
 use Rattle.fts_laws.specs.Submissions.{submissions, is_restart, vo_of}
-use Rattle.fts_client.specs.Worlds.{Heard, Done, Refused, CannotServe, NoAnswer, Protocol, World, Failure, WithoutMemory, WithoutDisk, WithoutResponse, Doubt, Event, Sends, IsAnswered, Fails, ComesInPart, Hears, HearsPart, Appends, Restarts, may_follow, with_doubt, has_vo, told_more, replies_of, answered, failed, come_in_part, told, appended, restarted, happens, world_after, IsReached, Starts, Goes, IsStart, IsBacked, Answers, ActsOnce}
+use Rattle.fts_client.specs.Worlds.{Heard, Done, Refused, CannotServe, NoAnswer, Protocol, World, Failure, WithoutMemory, WithoutDisk, WithoutResponse, Doubt, doubt_then, Event, Sends, IsAnswered, Fails, ComesInPart, Hears, HearsPart, Appends, Restarts, may_follow, with_doubt, has_vo, told_more, replies_of, answered, failed, come_in_part, told, appended, restarted, happens, world_after, IsReached, Starts, Goes, IsStart, IsBacked, Answers, ActsOnce}
 use Rattle.fts_client.proofs.GrownLists.{Each, each-append, each-on, IfThere, each-get, bytes_same, legal_with, vo_kept, vo_with, grown_if}
 
 -- at most one entry of a legal list submits an id
@@ -102,10 +102,10 @@ module _ {Request Reply : Type 0} (add_up : AddUp) (one_submission : OneSubmissi
         done = told_on add_up id world.entries (protocol.added world.entries writer one now) world.client.done keeps.done;
       }
 
-  failed_keeps : (world : World Request Reply) (writer now : ℕ) (failure : Failure) (doubt : Doubt) (came : Option Request) → Keeps world
-      → Keeps (failed protocol world writer now failure doubt came)
-  failed_keeps world writer now failure doubt None keeps = keeps
-  failed_keeps world writer now failure doubt (Some one) keeps = record {
+  -- a response to a request that failed, whatever it leaves in doubt
+  failure_keeps : (world : World Request Reply) (doubt : Option Entry) (failure : Failure) → Keeps world
+      → Keeps (record world { doubt = doubt; made = world.made ++ replies_of protocol failure })
+  failure_keeps world doubt failure keeps = record {
     legal = keeps.legal;
     name = keeps.name;
     sent = keeps.sent;
@@ -115,17 +115,15 @@ module _ {Request Reply : Type 0} (add_up : AddUp) (one_submission : OneSubmissi
     done = keeps.done;
   }
 
+  failed_keeps : (world : World Request Reply) (writer now : ℕ) (failure : Failure) (doubt : Doubt) (came : Option Request) → Keeps world
+      → Keeps (failed protocol world writer now failure doubt came)
+  failed_keeps world writer now failure doubt None keeps = keeps
+  failed_keeps world writer now failure doubt (Some one) keeps =
+      failure_keeps world (doubt_then doubt world.doubt (protocol.added world.entries writer one now)) failure keeps
+
   part_keeps : (world : World Request Reply) (failure : Failure) (came : Option Request) → Keeps world → Keeps (come_in_part protocol world failure came)
   part_keeps world failure None keeps = keeps
-  part_keeps world failure (Some one) keeps = record {
-    legal = keeps.legal;
-    name = keeps.name;
-    sent = keeps.sent;
-    made = each-append (λ reply. IsBacked id world.entries (protocol.heard reply)) world.made (replies_of protocol failure) keeps.made
-        (failures_backed world.entries failure);
-    own = keeps.own;
-    done = keeps.done;
-  }
+  part_keeps world failure (Some one) keeps = failure_keeps world world.doubt failure keeps
 
   told_keeps : (world : World Request Reply) (came : Option Reply) → IfThere (λ reply. IsBacked id world.entries (protocol.heard reply)) came → Keeps world
       → Keeps (told protocol world came)

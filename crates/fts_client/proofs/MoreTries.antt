@@ -1,5 +1,5 @@
 -- One try more behind those so far.
-use Rattle.std.proofs.Common.{◌≡◌, ℕ, ◌+◌, ◌≤◌, true, false, List, [], ◌∷◌, ◌++◌, length, Ok, Err, refl, ap, sym, ◌∙◌, subst, arith, true≢false, length-append}
+use Rattle.std.proofs.Common.{◌≡◌, ℕ, ◌+◌, ◌≤◌, true, false, List, [], ◌∷◌, ◌++◌, length, Ok, Err, refl, ap, sym, ◌∙◌, arith, true≢false, length-append}
 use Rattle.std.specs.List.{AllByRecursion}
 use Rattle.fts_wire.specs.Outside.{Side}
 use Rattle.fts_wire.specs.NextAnswers.{AnswerData, AnswerRoomData, held_behind}
@@ -9,6 +9,7 @@ use Rattle.fts_client.specs.Tries.{Try, NoLine, NotSent, Sent, IsByLink, IsTried
 use Rattle.fts_client.specs.Ends.{said_in, goes_on, EndsWith, GoOn, SaysNothing, SaysSo, is_last, IsEnd, Repeated, room_behind}
 use Rattle.fts_client.specs.declared.ends.SubmitEnd.{SubmitEnd}
 use Rattle.fts_client.specs.declared.ends.SubmitEnd.TheVariants.{Done as SubmitDone, Refused as SubmitRefused, LinkFailed as SubmitLinkFailed, CannotServe as SubmitCannotServe, NoAnswer as SubmitNoAnswer, Memory as SubmitMemory}
+use Rattle.fts_client.proofs.PushedTries.{tried-push, all-push}
 
 -- tries so far, of which each says to go on, the last of them so
 pub record TriedSoFar {L : Type 0} (says : AnswerData → Heard) (read written : Side L) (port : ℕ) (request : List ℕ) (count : ℕ) (old new : LinkData L)
@@ -21,28 +22,11 @@ pub record TriedSoFar {L : Type 0} (says : AnswerData → Heard) (read written :
   pub last : 1 ≤ count → EndsWith says (λ try. SaysSo says try end) tries
   pub none : is_last end ≡ false
 
-tried-push : {L : Type 0} (read written : Side L) (port : ℕ) (request : List ℕ) (old between new : LinkData L) (faults_old faults faults_new : ℕ) (tries : List Try) (try : Try)
-    → AreTried read written port request old between faults_old faults tries → IsTried read written port request between new faults faults_new try
-    → AreTried read written port request old new faults_old faults_new (tries ++ try ∷ [])
-tried-push read written port request old between new faults_old faults faults_new [] try so_far more = (
-  new,
-  faults_new,
-  subst (λ link. IsTried read written port request link new faults_old faults_new try) so_far.0
-      (subst (λ count. IsTried read written port request between new count faults_new try) so_far.1 more),
-  (refl, refl),
-)
-tried-push read written port request old between new faults_old faults faults_new (first ∷ tries) try so_far more =
-    (so_far.0, so_far.1, so_far.2, tried-push read written port request so_far.0 between new so_far.1 faults faults_new tries try so_far.3 more)
-
 ends-push : (says : AnswerData → Heard) (Is : Try → Type 0) (tries : List Try) (try : Try) → AllByRecursion (λ one. goes_on (said_in says one) ≡ true) tries → Is try
     → EndsWith says Is (tries ++ try ∷ [])
 ends-push says Is [] try on is = is
 ends-push says Is (first ∷ []) try on is = (on.0, is)
 ends-push says Is (first ∷ next ∷ tries) try on is = (on.0, ends-push says Is (next ∷ tries) try on.1 is)
-
-all-push : (Holds : Try → Type 0) (tries : List Try) (try : Try) → AllByRecursion Holds tries → Holds try → AllByRecursion Holds (tries ++ try ∷ [])
-all-push Holds [] try all is = (is, tt)
-all-push Holds (first ∷ tries) try all is = (all.0, all-push Holds tries try all.1 is)
 
 room-push : (room : AnswerRoomData) (tries : List Try) (try : Try) → room_behind room (tries ++ try ∷ []) ≡ room_behind (room_behind room tries) (try ∷ [])
 room-push room [] try = refl

@@ -1,7 +1,16 @@
 -- Links: where a client's lines come from, each for one try, and what each call makes of a link.
 use Rattle.std.specs.Prelude.{◌≡◌, ◌⊎◌, ℕ, ◌+◌, ◌-◌, ◌≤◌, Bool, true, false, List, [], ◌∷◌, ◌++◌, Option, Some, None, option_map, Result, Ok, Err}
 use Rattle.fts_tables.specs.Counts.{Rose}
-use Rattle.fts_wire.specs.Outside.{raised}
+use Rattle.fts_wire.specs.Outside.{raised, Side}
+use Rattle.fts_wire.specs.declared.outside.Source as source
+use Rattle.fts_wire.specs.declared.outside.Sink as sink
+
+-- what a line shows of the side that is read, and of the side that is written
+abbrev pub read_side : {L : Type 0} → source.Ghosts L → Side L
+read_side lines = record { bytes = lines.left; faults = lines.faults; reads = lines.reads; beside = lines.beside }
+
+abbrev pub written_side : {L : Type 0} → sink.Ghosts L → Side L
+written_side lines = record { bytes = lines.held; faults = lines.faults; reads = λ _. 0; beside = lines.beside }
 
 -- what is known of a link: the lines to come and those that came back, where they are told, how many are out, how often it was dialed,
 -- the port that was dialed last, if any was, and whether that dial gave a line

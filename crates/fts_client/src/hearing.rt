@@ -97,8 +97,8 @@ fn job_named_in(alloc: Global, body: &[u8]) -> Result<Option<u128>, Memory>
     }
 }
 
-/// The JSON value of a body, where it has one.
-fn read_value(alloc: Global, body: &[u8]) -> Result<Option<Value>, Memory>
+/// The JSON value of a body, as `serde_json` reads it, where it has one. `Memory` comes for want of memory alone.
+pub fn read_value(alloc: Global, body: &[u8]) -> Result<Option<Value>, Memory>
     ensures { IfOk result (λ value. option_map view value ≡ value_of body.now) }
 {
     match Value::from_slice(alloc, body) {

@@ -16,6 +16,7 @@ mod tries;
 mod worlds;
 
 pub use ends::{QueryEnd, SubmitEnd};
+pub use hearing::read_value;
 pub use link::{Link, LinkFailed};
 pub use memory_link::MemoryLink;
 pub use querying::query;

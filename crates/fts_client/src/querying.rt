@@ -1,5 +1,6 @@
 //! A query by tries: one request in each, until the job is shown or the client is refused, or the tries are used up.
 ghost use Rattle.std.specs.Prelude.{◌≤◌};
+ghost use Rattle.fts_client.specs.Links.{read_side, written_side};
 ghost use Rattle.fts_client.specs.Ends.{Queried};
 
 use crate::ends::{QueryEnd, SubmitEnd};
@@ -21,9 +22,7 @@ pub fn query<L: Link>(
     room: &mut AnswerRoom,
 ) -> QueryEnd
     requires some { 1 ≤ tries }
-    ensures { Queried
-        (record { bytes = L.Line.Source.left; faults = L.Line.Source.faults; reads = L.Line.Source.reads; beside = L.Line.Source.beside })
-        (record { bytes = L.Line.Sink.held; faults = L.Line.Sink.faults; reads = λ _. 0; beside = L.Line.Sink.beside })
+    ensures { Queried (read_side L.Line.Source) (written_side L.Line.Sink)
         port job tries result
         (L.link link.old) (L.link link.new) (L.faults link.old) (L.faults link.new) room.old (room.new) }
 {

@@ -2,6 +2,7 @@
 //! Keeps: fewer tries than are allowed are made only where a response ended them, or memory ran out (`repeat`: `Repeated`, `IsEnd`).
 ghost use Rattle.std.specs.Prelude.{◌≡◌, ◌≤◌, map};
 ghost use Rattle.std.specs.List.{concat};
+ghost use Rattle.fts_client.specs.Links.{read_side, written_side};
 ghost use Rattle.fts_client.specs.Tries.{try_of};
 ghost use Rattle.fts_client.specs.Ends.{SaysSo, is_last, IsEnd, Repeated};
 
@@ -22,9 +23,7 @@ pub fn repeat<L: Link, H: Hears>(
     room: &mut AnswerRoom,
 ) -> SubmitEnd
     requires some { 1 ≤ tries }
-    ensures { Repeated
-        (record { bytes = L.Line.Source.left; faults = L.Line.Source.faults; reads = L.Line.Source.reads; beside = L.Line.Source.beside })
-        (record { bytes = L.Line.Sink.held; faults = L.Line.Sink.faults; reads = λ _. 0; beside = L.Line.Sink.beside })
+    ensures { Repeated (read_side L.Line.Source) (written_side L.Line.Sink)
         port (concat (map (λ part. part.now) request.now)) (λ all. IsEnd H.says tries all result)
         (L.link link.old) (L.link link.new) (L.faults link.old) (L.faults link.new) room.old (room.new) }
 {

@@ -1,6 +1,7 @@
 //! A submission by tries: one request in each, until the client is told of its job or is refused, or the tries are used up.
 //! The document is to have an own id (`read_sid` of fts_jobdoc), so that tries make one job: `worlds.rt` says why.
 ghost use Rattle.std.specs.Prelude.{◌≤◌};
+ghost use Rattle.fts_client.specs.Links.{read_side, written_side};
 ghost use Rattle.fts_client.specs.Ends.{Submitted};
 
 use crate::ends::SubmitEnd;
@@ -21,9 +22,7 @@ pub fn submit<L: Link>(
     room: &mut AnswerRoom,
 ) -> SubmitEnd
     requires some { 1 ≤ tries }
-    ensures { Submitted
-        (record { bytes = L.Line.Source.left; faults = L.Line.Source.faults; reads = L.Line.Source.reads; beside = L.Line.Source.beside })
-        (record { bytes = L.Line.Sink.held; faults = L.Line.Sink.faults; reads = λ _. 0; beside = L.Line.Sink.beside })
+    ensures { Submitted (read_side L.Line.Source) (written_side L.Line.Sink)
         port document.now tries result
         (L.link link.old) (L.link link.new) (L.faults link.old) (L.faults link.new) room.old (room.new) }
 {

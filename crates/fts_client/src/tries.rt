@@ -4,7 +4,7 @@
 ghost use Rattle.std.specs.Prelude.{◌≡◌, ℕ, List, ◌∷◌, [], map, length};
 ghost use Rattle.std.specs.List.{concat};
 ghost use Rattle.fts_wire.specs.Outside.{Side, raised};
-ghost use Rattle.fts_client.specs.Links.{LinkData};
+ghost use Rattle.fts_client.specs.Links.{LinkData, read_side, written_side};
 ghost use Rattle.fts_client.specs.Tries.{Try, IsTried, AreTried, port_behind, given_behind, try_of};
 ghost use Rattle.fts_client.specs.Ends.{room_behind};
 
@@ -24,9 +24,7 @@ pub enum Tried {
 
 /// One try at a port of this machine, with a request that is handed over in parts.
 pub fn try_once<L: Link>(link: &mut L, port: u16, request: &[&[u8]], room: &mut AnswerRoom) -> Tried
-    ensures tried { IsTried
-        (record { bytes = L.Line.Source.left; faults = L.Line.Source.faults; reads = L.Line.Source.reads; beside = L.Line.Source.beside })
-        (record { bytes = L.Line.Sink.held; faults = L.Line.Sink.faults; reads = λ _. 0; beside = L.Line.Sink.beside })
+    ensures tried { IsTried (read_side L.Line.Source) (written_side L.Line.Sink)
         port (concat (map (λ part. part.now) request.now)) (L.link link.old) (L.link link.new) (L.faults link.old) (L.faults link.new)
         (try_of result room.new.body) }
     ensures room { room.new ≡ room_behind room.old (try_of result room.new.body ∷ []) }

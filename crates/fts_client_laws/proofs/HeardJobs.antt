@@ -1,22 +1,16 @@
 -- A body that names a job is read as the job that it names.
-use Rattle.std.proofs.Common.{◌++◌, lt-ltb, ◌≡◌, ℕ, zero, suc, ◌^◌, ◌<◌, ◌≤◌, Bool, true, false, cond, List, [], ◌∷◌, Option, Some, None, refl, ap, sym, ◌∙◌, subst, arith, append-nil, inl}
+use Rattle.std.proofs.Common.{◌++◌, lt-ltb, ◌≡◌, ℕ, zero, suc, ◌^◌, ◌<◌, ◌≤◌, Bool, true, false, cond, List, [], ◌∷◌, Option, Some, None, refl, ap, sym, ◌∙◌, subst, arith, inl}
 use Rattle.std.specs.Prelude.{IsUtf8, decimal, ◌&&◌, codes, option_map, option_and_then, All}
 use Rattle.std.specs.Str.{is_utf8}
 use Rattle.std.specs.Fmt.{digits}
 use Rattle.std.specs.Int.{from_be_bytes, to_be_bytes, byte_at, bytes_high_first, w128}
 use Rattle.std.specs.List.{AllByRecursion}
 use Rattle.std.proofs.lemmas.List.Elements.{All-from_recursion}
-use Rattle.json.specs.Json as json
-use Rattle.json.specs.Lex.{tokens}
-use Rattle.json.specs.Tree.{json_tokens, HasNumbers, depth}
-use Rattle.json.proofs.Printed.Tokens.{tokens-print}
-use Rattle.json.proofs.Printed.Trees.{value-json_tokens, ArePrintable-json_tokens}
 use Rattle.json.proofs.Printed.Decimals.{IsNumber-decimal}
 use Rattle.serde_json.specs.Data.{Data, string}
-use Rattle.serde_json.specs.Read.{read, of_json, max_depth}
+use Rattle.serde_json.specs.Read.{read, of_json}
 use Rattle.serde_json.specs.Written.{outline, compact_text}
 use Rattle.serde_json.specs.Find.{get, as_str}
-use Rattle.serde_json.proofs.Texts.{print-outline}
 use Rattle.serde_json.proofs.OnLiterals.{serde_json_on_literals}
 use Rattle.uuid.specs.Text.{by_index, hex_digit, nibble, hyphen, is_hyphen_place, digit_place, lower}
 use Rattle.uuid.proofs.TextLemmas.{nibble_small}
@@ -33,17 +27,7 @@ use Rattle.fts_laws.specs.Submissions.{submissions}
 use Rattle.fts_client.specs.Worlds.{IsBacked}
 use Rattle.fts_client.specs.Hearing.{id_spelled, job_named_in, done_by}
 use Rattle.fts_tables.specs.declared.commands.Entry.{Entry}
-
--- a value that was written is read back
-read_back : (value : Data) → HasNumbers (outline value) → depth (outline value) ≤ max_depth → of_json (outline value) ≡ Some value
-    → read (compact_text value) ≡ Some value
-read_back value numbers shallow same =
-    let all = json_tokens (outline value) in
-    ap (λ found. option_and_then of_json (option_and_then (λ p. json.if_last p.0 p.1) found))
-    (ap (json.value max_depth) (ap tokens (sym (print-outline value))
-    ∙ (tokens-print (json_tokens (outline value)) (ArePrintable-json_tokens (outline value) numbers) ∙ sym (append-nil (json_tokens (outline value)))))
-    ∙ value-json_tokens (outline value) max_depth [] shallow)
-    ∙ same
+use Rattle.fts_client.proofs.WrittenBack.{read_back}
 
 -- the object of an accepted submission, and that of a refused one, with this text for the id
 abbrev accepted_with : List ℕ → Data

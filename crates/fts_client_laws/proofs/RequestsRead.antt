@@ -1,53 +1,33 @@
 -- The bytes of a submission are read as that submission, whatever its document, on each port.
-use Rattle.std.proofs.Common.{◌≡◌, ◌≢◌, ℕ, zero, suc, ◌+◌, ◌-◌, ◌%◌, ◌^◌, ◌<◌, ◌≤◌, Bool, true, false, cond, List, [], ◌∷◌, ◌++◌, length, take, drop, reverse, Some, None, Ok, codes, refl, ap, ap₂, sym, ◌∙◌, arith, append_assoc, le-leb, eq-eqb, length-append, true≢false}
-use Rattle.std.specs.Prelude.{decimal, ◌==◌, ◌&&◌, ◌||◌, not, nat_le, bytes_eq, if◌then◌else◌}
+use Rattle.std.proofs.Common.{◌≡◌, ◌≢◌, ℕ, zero, suc, ◌+◌, ◌-◌, ◌^◌, ◌<◌, ◌≤◌, Bool, true, false, cond, List, [], ◌∷◌, ◌++◌, length, take, drop, reverse, Some, None, Ok, codes, refl, ap, ap₂, sym, ◌∙◌, arith, append_assoc, le-leb, eq-eqb, length-append, true≢false}
+use Rattle.std.specs.Prelude.{decimal, ◌&&◌, ◌||◌, not, nat_le, bytes_eq, if◌then◌else◌}
 use Rattle.std.specs.List.{concat, list_any, list_all, before_first, prefix_len}
 use Rattle.std.specs.Str.{is_utf8, chars, all_ascii_digits}
 use Rattle.std.specs.Char.{is_ascii_digit}
-use Rattle.std.proofs.lemmas.Fmt.{decimal_is_IsNumeral, decimal_by_steps, length-decimal-le, decimal_nonempty}
+use Rattle.std.proofs.lemmas.Fmt.{decimal_is_IsNumeral, length-decimal-le, decimal_nonempty}
 use Rattle.std.proofs.lemmas.Bool.Decides.{nat_tests}
 use Rattle.std.proofs.lemmas.List.{reverse-reverse, drop_at}
 use mathlib.Core.List.{reverse_aux}
 use Rattle.httparse.specs.Pieces.{is_newline}
 use Rattle.httparse.specs.Grammar.{is_ows, is_value_byte, skip_ows, trim_ows, RequestHead, crlf, lf, print_request}
 use Rattle.httparse.proofs.OnLiterals.{httparse_on_literals}
-use Rattle.fts_wire.specs.RequestData.{HeadData, RequestData}
+use Rattle.fts_wire.specs.RequestData.{HeadData}
 use Rattle.fts_wire.specs.Fields.{length_of}
 use Rattle.fts_wire.specs.Head.{lines_of, head_lines, request_of, head_if, head_of, is_return, is_request}
 use Rattle.fts_wire.specs.Look.{Headed, sight_body, sight_fields, sight_head, sight_lines, sight_by, sight_in, sight_of}
-use Rattle.fts_wire.specs.Requests.{Next, next_of, next_by, asks, is_open, IsShort, Closed, EndsInside, Refuses, Asks}
-use Rattle.fts_wire.proofs.Stable.{StaysNext, next_more}
+use Rattle.fts_wire.specs.Requests.{next_of, next_by, asks, IsShort, EndsInside, Asks}
+use Rattle.fts_wire.proofs.Stable.{next_more}
 use Rattle.fts_client.specs.RequestBytes.{submission_bytes}
+use Rattle.fts_client.proofs.DigitBytes.{IsDigit, AreDigits, decimal_digits, not_10, each_digit}
+use Rattle.fts_client.proofs.OpenRequests.{host_line, close_line, empty_line, open_before}
 use Rattle.fts_client_laws.specs.Submitting.{submission_of}
 
--- a decimal digit, and each byte is one
-abbrev IsDigit : ℕ → Type 0
-IsDigit byte = (48 ≤ byte) × (byte ≤ 57)
-
-abbrev AreDigits : List ℕ → Type 0
-AreDigits [] = Unit {0}
-AreDigits (byte ∷ bytes) = IsDigit byte × AreDigits bytes
-
-digits-push : (bytes : List ℕ) (byte : ℕ) → AreDigits bytes → IsDigit byte → AreDigits (bytes ++ byte ∷ [])
-digits-push [] byte are is = (is, tt)
-digits-push (first ∷ bytes) byte are is = (are.0, digits-push bytes byte are.1 is)
-
-decimal_digits : (n : ℕ) → n < 2 ^ 64 → AreDigits (decimal n)
-decimal_digits n small = decimal_by_steps (λ _ bytes. AreDigits bytes) (λ digit few. ((omega arith, omega (arith, few)), tt))
-    (λ number bytes more are. digits-push bytes (48 + number % 10) are (omega arith, omega arith)) n small
-
 -- a digit is none of the bytes that end something, and no white space
-not_10 : (byte : ℕ) → IsDigit byte → (byte == 10) ≡ false
-not_10 byte is = grind (arith, nat_tests, is.0)
-
 no_newline : (byte : ℕ) → IsDigit byte → is_newline byte ≡ false
 no_newline byte is = grind (arith, nat_tests, is.0)
 
 no_space : (byte : ℕ) → IsDigit byte → is_ows byte ≡ false
 no_space byte is = grind (arith, nat_tests, is.0)
-
-value_byte : (byte : ℕ) → IsDigit byte → is_value_byte byte ≡ true
-value_byte byte is = grind (arith, nat_tests, is.0, is.1)
 
 -- the line that digits end
 line_of_digits : (word more : List ℕ) → AreDigits word → lines_of (word ++ 13 ∷ 10 ∷ more) ≡ (word ++ 13 ∷ 10 ∷ []) ∷ lines_of more
@@ -91,8 +71,7 @@ end_of_digits (byte ∷ word) = by_test (is_return byte) (end_of_digits word)
     by_test false behind = behind
 
 value_of_digits : (word : List ℕ) → AreDigits word → list_all is_value_byte word ≡ true
-value_of_digits [] are = refl
-value_of_digits (byte ∷ word) are = rw (value_byte byte are.0) (value_of_digits word are.1)
+value_of_digits word are = each_digit is_value_byte (λ byte is. grind (arith, nat_tests, is.0, is.1)) word are
 
 -- digits stay as they are where white space around them is dropped
 digits-append : (one other : List ℕ) → AreDigits one → AreDigits other → AreDigits (one ++ other)
@@ -120,17 +99,8 @@ trimmed word are =
 abbrev first_line : List ℕ
 first_line = codes "POST /jobs HTTP/1.1\r\n"
 
-abbrev host_line : List ℕ → List ℕ
-host_line port = codes "Host: 127.0.0.1:" ++ (port ++ 13 ∷ 10 ∷ [])
-
 abbrev length_line : List ℕ → List ℕ
 length_line word = codes "Content-Length: " ++ (word ++ 13 ∷ 10 ∷ [])
-
-abbrev close_line : List ℕ
-close_line = codes "Connection: close\r\n"
-
-abbrev empty_line : List ℕ
-empty_line = codes "\r\n"
 
 abbrev five_lines : List ℕ → List ℕ → List (List ℕ)
 five_lines port word = first_line ∷ host_line port ∷ length_line word ∷ close_line ∷ empty_line ∷ []
@@ -321,24 +291,6 @@ submission_is_read port document near few =
     ∙ asked_whole (concat (five_lines (decimal port) (decimal (length document)))) document)
 
 -- ---- parts of a submission
-
-no_rest : (rest more : List ℕ) → rest ++ more ≡ [] → more ≡ []
-no_rest [] more is = is
-no_rest (byte ∷ rest) more is = cc
-
--- what is behind a request, and the fault of bytes that are refused
-abbrev rest_of : Next → List ℕ
-rest_of Closed = 1 ∷ []
-rest_of EndsInside = 1 ∷ []
-rest_of (Refuses fault) = 1 ∷ []
-rest_of (Asks request rest) = rest
-
--- where bytes more make bytes a submission, they were open before
-open_before : (first : Next) (more : List ℕ) (whole : Next) (request : RequestData) → StaysNext first more whole → whole ≡ Asks request [] → more ≢ [] → is_open first ≡ true
-open_before Closed more whole request stays is some = refl
-open_before EndsInside more whole request stays is some = refl
-open_before (Refuses fault) more whole request stays is some = let clash : Refuses fault ≡ Asks request [] = sym stays ∙ is in cc
-open_before (Asks one rest) more whole request stays is some = absurd (some (no_rest rest more (ap rest_of (sym stays ∙ is))))
 
 -- a part of a submission asks for nothing
 pub part_is_open : (port : ℕ) (document part more : List ℕ) → port ≤ 65535 → length document ≤ 1048576 → submission_bytes port document ≡ part ++ more → more ≢ []

@@ -3,6 +3,7 @@ use Rattle.std.proofs.Common.{◌≡◌, ◌⊎◌, inl, inr, ⊎_elim, refl, sy
 use Rattle.std.proofs.lemmas.Bool.{le-leb, ltb-false, ltb-true, false_from_ne_true}
 use Rattle.fts_tables.specs.declared.places.Place.{Place}
 use Rattle.fts_disk.specs.Disk.{DiskState, IsTold, IsLawful, LeavesOnly}
+use Rattle.fts_journal.proofs.Moments.{joins, weakened}
 use Rattle.fts_delete.specs.declared.events.Event.TheVariants.{Ask}
 use Rattle.fts_delete.specs.declared.rows.DeleteRow.{DeleteRow}
 use Rattle.fts_delete.specs.declared.fault.DeleteFault.{DeleteFault}
@@ -13,7 +14,7 @@ use Rattle.fts_delete.specs.Journals.{DeletesData, StandsFor, with_doubt, IsDele
 use Rattle.fts_delete.specs.Recording.{fits, KeepsList, IsImageOf, IsImageWith, ReadyAnswer, Readied, AddAnswer, Added}
 use Rattle.fts_delete.specs.Asked.{rows_with, asked_to, KeepsAll, AskAnswer, Asked}
 use Rattle.fts_delete.proofs.Beginnings.{some_is}
-use Rattle.fts_delete.proofs.Moments.{joined, weakened, rose_later}
+use Rattle.fts_delete.proofs.Moments.{rose_later}
 use Rattle.fts_delete.proofs.Images.{images_start}
 use Rattle.fts_delete.proofs.Lists.{none_more}
 use Rattle.fts_delete.proofs.Since.{readied_list, with_images}
@@ -53,7 +54,10 @@ module _ {D : Type 0} (state : D → DiskState) (faults : D → ℕ) (old : Dele
     moments = λ told. weakened (state old.disk) (state old.disk) (IsImageOf old) (IsImageWith old (Ask places)) (still told) (λ content there. inl there);
   }
 
-  module _ (few : nat_lt most_rows (length old.rows + length places) ≡ false) where
+  module _ (below : length old.rows + length places ≤ most_rows) where
+    few : nat_lt most_rows (length old.rows + length places) ≡ false
+    few = not_more most_rows (length old.rows + length places) below
+
     -- there was no memory before any call
     pub asked_memory : (IsTold (state old.disk) → LeavesOnly (state old.disk) (state old.disk) (IsImageOf old))
         → Asked state faults old old places (Err Memory)
@@ -152,7 +156,7 @@ module _ {D : Type 0} (state : D → DiskState) (faults : D → ℕ) (old : Dele
           answer = added_answer result added.answer;
           told = added.told ∙ readied.told;
           counts = omega (arith, readied.counts, added.counts);
-          moments = λ told. joined (state old.disk) (state mid.disk) (state new.disk) (IsImageWith old (Ask places))
+          moments = λ told. joins (state old.disk) (state mid.disk) (state new.disk) (IsImageWith old (Ask places))
               (weakened (state old.disk) (state mid.disk) (IsImageOf old) (IsImageWith old (Ask places)) (readied.moments told) (λ content there. inl there))
               (weakened (state mid.disk) (state new.disk) (IsImageWith mid (Ask places)) (IsImageWith old (Ask places)) (added.moments (readied.told ∙ told))
               (image_before told));

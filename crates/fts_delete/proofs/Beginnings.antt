@@ -1,27 +1,17 @@
 -- What a beginning of a list makes.
-use Rattle.std.proofs.Common.{◌≡◌, refl, sym, ◌∙◌, ap, subst, Option, Some, None, List, [], ◌∷◌, ◌++◌}
+use Rattle.std.proofs.Common.{◌≡◌, refl, sym, ◌∙◌, Option, Some, None, List, [], ◌∷◌, ◌++◌}
 use Rattle.fts_delete.specs.declared.rows.DeleteRow.{DeleteRow}
 use Rattle.fts_delete.specs.declared.events.Event.{Event}
 use Rattle.fts_delete.specs.Rows.{rows_after, rows_from}
 use Rattle.fts_delete.specs.Laws.{SplitsAt, BeginningIsLegal}
 
 -- nothing is not something
-IsNothing : {A : Type 0} → Option A → Type 0
-IsNothing None = Unit {0}
-IsNothing (Some x) = ⊥
-
 pub none_some : {A : Type 0} (x : A) → None ≡ Some x → ⊥
-unfolding IsNothing
-none_some x e = subst IsNothing e tt
+none_some x e = cc
 
--- what an option holds, or else this
-held_or : {A : Type 0} → A → Option A → A
-held_or x None = x
-held_or x (Some y) = y
-
+-- and something is but one
 pub some_is : {A : Type 0} (x y : A) → Some x ≡ Some y → x ≡ y
-unfolding held_or
-some_is x y e = ap (held_or x) e
+some_is x y e = cc
 
 -- where there are no rows, none come
 pub none_stays : (events : List Event) → rows_from None events ≡ None

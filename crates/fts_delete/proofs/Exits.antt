@@ -1,15 +1,15 @@
 -- The exits of recording an event: no room, a doubt that couldn't be ended, one that was, an append that failed, and one that was done.
-use Rattle.std.proofs.Common.{◌≡◌, ◌⊎◌, refl, ap, sym, ◌∙◌, subst, inl, inr, ⊎_elim, ℕ, ◌+◌, ◌≤◌, ◌<◌, Bool, true, false, leb, List, [], ◌∷◌, ◌++◌, length, Option, Some, None, IsSome, is_some, Result, Ok, Err, IfErr, OnOk, OnErr, arith}
+use Rattle.std.proofs.Common.{◌≡◌, ◌⊎◌, refl, ap, sym, ◌∙◌, subst, inl, inr, ⊎_elim, ℕ, ◌+◌, ◌≤◌, ◌<◌, Bool, true, false, leb, List, [], ◌∷◌, ◌++◌, length, Option, Some, None, IsSome, is_some, Result, Ok, Err, arith}
 use Rattle.std.proofs.lemmas.Bool.{leb-true, le-leb, false_from_ne_true}
 use Rattle.std.proofs.lemmas.List.{length-append}
 use Rattle.std.proofs.lemmas.List.Elements.{All-push}
-use Rattle.fts_tables.specs.Counts.{Rose}
 use Rattle.fts_tables.specs.declared.limits.TheConstants.{JOURNAL_END}
 use Rattle.fts_disk.specs.Disk.{DiskState, IsTold, IsLawful, LeavesOnly}
 use Rattle.fts_journal.specs.Format.{Stands}
-use Rattle.fts_journal.specs.Journal.{JournalData, IsSound, FailsToAppend, AppendCause, IsBeforeOrAfter, IsImageOf as IsJournalImage}
+use Rattle.fts_journal.specs.Journal.{JournalData, FailsToAppend, AppendCause, IsBeforeOrAfter, IsImageOf as IsJournalImage}
 use Rattle.fts_journal.specs.declared.fault.JournalFault.{JournalFault}
 use Rattle.fts_journal.specs.declared.fault.JournalFault.TheVariants.{DiskFailed as JournalDiskFailed, Full, NotJournal, Cut, Memory as JournalMemory}
+use Rattle.fts_journal.proofs.Moments.{started, weakened}
 use Rattle.fts_delete.specs.Faults.{fault_of}
 use Rattle.fts_delete.specs.declared.events.Event.{Event}
 use Rattle.fts_delete.specs.declared.rows.DeleteRow.{DeleteRow}
@@ -18,38 +18,11 @@ use Rattle.fts_delete.specs.Rows.{rows_after}
 use Rattle.fts_delete.specs.Spelling.{IsProper, body_of, bodies_of}
 use Rattle.fts_delete.specs.Journals.{DeletesData, used_of, with_doubt, IsLegal}
 use Rattle.fts_delete.specs.Views.{deletes_of, events_in, IsHeld, IsTied}
+use Rattle.fts_delete.specs.Calls.{Settles, Appends}
 use Rattle.fts_delete.specs.Recording.{has_room, fits, KeepsList, IsImageOf, IsImageWith, Readied, AddAnswer, Added}
-use Rattle.fts_delete.proofs.Moments.{begun, weakened}
 use Rattle.fts_delete.proofs.Lists.{rows_more, legal_list, proper_list, bodies_more, filled_more, image_of}
 use Rattle.fts_delete.proofs.Tying.{seen_events, seen_doubt, same_list}
 use Rattle.fts_delete.proofs.Sizes.{body_some}
-
--- what a settling did, by its clauses
-pub record Settles {D : Type 0} (state : D → DiskState) (faults : D → ℕ) (old new : JournalData D) (result : Result (Unit {0}) JournalFault) : Type 0 where
-  pub told : (state new.disk).told ≡ (state old.disk).told
-  pub kept : (new.count ≡ old.count) × (new.used ≡ old.used)
-  pub ok : OnOk result (new.in_doubt ≡ false)
-  pub err : OnErr result (new.in_doubt ≡ old.in_doubt)
-  pub counts : faults old.disk ≤ faults new.disk
-  pub cause : IfErr result (λ e. (e ≡ JournalDiskFailed) × Rose (faults old.disk) (faults new.disk))
-  pub bodies : IsTold (state old.disk) → new.bodies ≡ old.bodies
-  pub settled : IsTold (state old.disk) → OnOk result (new.doubt ≡ None)
-  pub doubt : IsTold (state old.disk) → OnErr result (new.doubt ≡ old.doubt)
-  pub any_moment : IsTold (state old.disk) → LeavesOnly (state old.disk) (state new.disk) (IsJournalImage old.bodies old.doubt)
-  pub images : IsSound (state new.disk) new.bodies new.doubt
-
--- what an append did, by its clauses
-pub record Appends {D : Type 0} (state : D → DiskState) (faults : D → ℕ) (old new : JournalData D) (body : List ℕ) (result : Result (Unit {0}) JournalFault)
-    : Type 0 where
-  pub told : (state new.disk).told ≡ (state old.disk).told
-  pub ok : OnOk result ((new.count ≡ old.count + 1) × (new.used ≡ old.used + 5 + length body) × (new.in_doubt ≡ false))
-  pub err : OnErr result ((new.count ≡ old.count) × (new.used ≡ old.used))
-  pub counts : faults old.disk ≤ faults new.disk
-  pub cause : IfErr result (AppendCause faults old new (length body))
-  pub appended : IsTold (state old.disk) → OnOk result ((new.bodies ≡ old.bodies ++ body ∷ []) × (new.doubt ≡ None))
-  pub failed : IsTold (state old.disk) → OnErr result (FailsToAppend (state old.disk) (state new.disk) old.bodies new.bodies new.doubt new.in_doubt body)
-  pub any_moment : IsTold (state old.disk) → LeavesOnly (state old.disk) (state new.disk) (IsBeforeOrAfter old.bodies body)
-  pub images : IsSound (state new.disk) new.bodies new.doubt
 
 -- where the limit is passed there is no room
 pub no_room_at : (used size : ℕ) → JOURNAL_END < used + 6 + size → has_room used size ≡ false
@@ -103,7 +76,7 @@ module _ {D : Type 0} (state : D → DiskState) (faults : D → ℕ) (lawful : (
 
   -- nothing was called
   pub untouched : IsTold (state journal.disk) → LeavesOnly (state journal.disk) (state journal.disk) (IsImageOf old)
-  untouched told = begun (state journal.disk) (IsImageOf old) (lawful journal.disk told)
+  untouched told = started (state journal.disk) (lawful journal.disk told) (IsImageOf old)
       (λ content left. image_seen told content (tied.held.images told content left))
 
   -- there was no room

@@ -1,35 +1,16 @@
--- What a crash leaves at the moments of calls of a disk: one run of calls after another, and what follows from what is left.
+-- What a crash leaves at the moments of calls of a disk that are still, or look alone, and what follows from what is left.
 use Rattle.std.proofs.Common.{inl, inr, ⊎_elim, ℕ, List, ◌≤◌, ◌⊎◌, arith}
 use Rattle.fts_tables.specs.Counts.{Rose}
 use Rattle.fts_disk.specs.Disk.{DiskState, LeavesOnly, IsLawful, Looks}
 use Rattle.fts_journal.specs.Loading.{IsQuiet}
 use Rattle.fts_journal.specs.Journal.{IsMaking}
+use Rattle.fts_journal.proofs.Moments.{started, joins, weakened}
 use Rattle.fts_delete.specs.Opened.{IsStill}
-
--- before the first call
-pub begun : (disk : DiskState) (P : List ℕ → Type 0) → IsLawful disk → ((content : List ℕ) → disk.may_leave content → P content) → LeavesOnly disk disk P
-begun disk P lawful here = record { later = omega arith; each = λ c left. here c (lawful.only_now c left); before = λ t c le left. inl left }
-
--- two runs, one after the other
-pub joined : (old mid new : DiskState) (P : List ℕ → Type 0) → LeavesOnly old mid P → LeavesOnly mid new P → LeavesOnly old new P
-joined old mid new P first second = record {
-  later = omega (arith, first.later, second.later);
-  each = λ c left. ⊎_elim (first.each c) (λ there. there) (second.before old.moment c first.later left);
-  before = λ t c le left. ⊎_elim (first.before t c le) (λ there. inr there) (second.before t c (omega (arith, le, first.later)) left);
-}
-
--- what is left has P, and so Q
-pub weakened : (old new : DiskState) (P Q : List ℕ → Type 0) → LeavesOnly old new P → ((content : List ℕ) → P content → Q content) → LeavesOnly old new Q
-weakened old new P Q only implies = record {
-  later = only.later;
-  each = λ c left. implies c (only.each c left);
-  before = λ t c le left. ⊎_elim (λ past. inl past) (λ there. inr (implies c there)) (only.before t c le left);
-}
 
 -- a run that is still, and one after it that leaves what has P
 pub behind_still : (old mid new : DiskState) (P : List ℕ → Type 0) → IsStill old mid → LeavesOnly mid new P
     → LeavesOnly old new (λ content. old.may_leave content ⊎ P content)
-behind_still old mid new P still only = joined old mid new (λ content. old.may_leave content ⊎ P content)
+behind_still old mid new P still only = joins old mid new (λ content. old.may_leave content ⊎ P content)
     (weakened old mid old.may_leave (λ content. old.may_leave content ⊎ P content) still.moments (λ c there. inl there))
     (weakened mid new P (λ content. old.may_leave content ⊎ P content) only (λ c there. inr there))
 
@@ -37,7 +18,7 @@ behind_still old mid new P still only = joined old mid new (λ content. old.may_
 pub still_still : (old mid new : DiskState) → IsStill old mid → IsStill mid new → IsStill old new
 still_still old mid new first second = record {
   images = λ c left. first.images c (second.images c left);
-  moments = joined old mid new old.may_leave first.moments (weakened mid new mid.may_leave old.may_leave second.moments first.images);
+  moments = joins old mid new old.may_leave first.moments (weakened mid new mid.may_leave old.may_leave second.moments first.images);
 }
 
 -- what is quiet is still
@@ -46,7 +27,7 @@ quiet_still old new quiet = record { images = quiet.images; moments = quiet.mome
 
 -- no call at all is still
 pub same_still : (disk : DiskState) → IsLawful disk → IsStill disk disk
-same_still disk lawful = record { images = λ c left. left; moments = begun disk disk.may_leave lawful (λ c left. left) }
+same_still disk lawful = record { images = λ c left. left; moments = started disk lawful disk.may_leave (λ c left. left) }
 
 -- a call more that leaves only what might have been left before
 pub more_still : (old mid new : DiskState) → IsStill old mid → IsLawful new → LeavesOnly mid new mid.may_leave → IsStill old new
@@ -67,7 +48,7 @@ made_none old new lawful looks = weakened old new old.may_leave (IsMaking old) (
 
 -- and behind a look a journal is made as without it
 pub made_behind : (old mid new : DiskState) → IsLawful old → Looks old mid → LeavesOnly mid new (IsMaking mid) → LeavesOnly old new (IsMaking old)
-made_behind old mid new lawful looks only = joined old mid new (IsMaking old) (made_none old mid lawful looks)
+made_behind old mid new lawful looks only = joins old mid new (IsMaking old) (made_none old mid lawful looks)
     (weakened mid new (IsMaking mid) (IsMaking old) only
     (λ c there. ⊎_elim (λ same. inl (looks.crash c same)) (λ torn. inr (torn.0, (looks.crash torn.0 torn.1.0, torn.1.1))) there))
 

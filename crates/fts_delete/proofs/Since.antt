@@ -1,6 +1,7 @@
 -- Images since an opening of the list: of a journal that was made ready, and of one event more.
 use Rattle.std.proofs.Common.{◌≡◌, inl, inr, sym, ◌∙◌, ap, subst, ℕ, Some, List, [], ◌∷◌, ◌++◌, Result, Ok, Err}
 use Rattle.fts_disk.specs.Disk.{DiskState, IsTold, LeavesOnly}
+use Rattle.fts_journal.proofs.Moments.{weakened}
 use Rattle.fts_delete.specs.declared.events.Event.{Event}
 use Rattle.fts_delete.specs.declared.rows.DeleteRow.{DeleteRow}
 use Rattle.fts_delete.specs.declared.fault.DeleteFault.{DeleteFault}
@@ -8,7 +9,6 @@ use Rattle.fts_delete.specs.declared.fault.DeleteFault.TheVariants.{Damaged, Dis
 use Rattle.fts_delete.specs.Rows.{rows_after}
 use Rattle.fts_delete.specs.Journals.{DeletesData, StandsFor, IsLegal, IsImageSince, IsDeletes, KeepsImages}
 use Rattle.fts_delete.specs.Recording.{KeepsList, IsImageOf, IsImageWith, ReadyAnswer, Readied, AddAnswer, Added}
-use Rattle.fts_delete.proofs.Moments.{weakened}
 use Rattle.fts_delete.proofs.Images.{image_more, image_now}
 use Rattle.fts_delete.proofs.Lists.{rows_more, none_more}
 

@@ -3,6 +3,7 @@ use Rattle.std.proofs.Common.{◌≡◌, ◌≢◌, refl, ap, sym, ◌∙◌, su
 use Rattle.fts_disk.specs.Disk.{DiskState, IsTold, IsLawful}
 use Rattle.fts_journal.specs.Format.{Stands}
 use Rattle.fts_journal.specs.Journal.{JournalData, IsMaking, IsImageOf as IsJournalImage}
+use Rattle.fts_journal.proofs.Moments.{joins, weakened}
 use Rattle.fts_delete.specs.declared.events.Event.{Event}
 use Rattle.fts_delete.specs.declared.rows.DeleteRow.{DeleteRow}
 use Rattle.fts_delete.specs.declared.fault.DeleteFault.{DeleteFault}
@@ -12,7 +13,7 @@ use Rattle.fts_delete.specs.Journals.{IsDamaged, StandsFor, fault_in}
 use Rattle.fts_delete.specs.Opened.{StandsOrIsEmpty, OpensJournal, OpensNot, NoJournalFault, Makes, Opens, IsLeft, OpenFault, OpensNone, Opened}
 use Rattle.fts_delete.specs.Folding.{Folds, LeavesJournal, FoldFault}
 use Rattle.fts_delete.specs.Views.{deletes_of, events_in, IsHeld, IsTied}
-use Rattle.fts_delete.proofs.Moments.{joined, weakened, still_still, quiet_still, rose_later}
+use Rattle.fts_delete.proofs.Moments.{still_still, quiet_still, rose_later}
 use Rattle.fts_delete.proofs.Tying.{list_untold, seen_events, seen_doubt}
 
 -- no bodies are those of no event
@@ -63,7 +64,7 @@ module _ {D : Type 0} (state : D → DiskState) (faults : D → ℕ) (lawful : (
     left_so told = record {
       still = λ some. still_still (state disk) (state journal.disk) (state folded.disk)
           (quiet_still (state disk) (state journal.disk) ((opens.own told).quiet some)) (leaves.still (told_journal told));
-      made = λ empty. joined (state disk) (state journal.disk) (state folded.disk) (λ content. IsMaking (state disk) content ⊎ StandsFor content [])
+      made = λ empty. joins (state disk) (state journal.disk) (state folded.disk) (λ content. IsMaking (state disk) content ⊎ StandsFor content [])
           (weakened (state disk) (state journal.disk) (IsMaking (state disk)) _ (made told empty) (λ content there. inl there))
           (weakened (state journal.disk) (state folded.disk) (state journal.disk).may_leave _ (leaves.still (told_journal told)).moments
           (λ content there. inr (subst (Stands content) (empty_bodies (state disk).seen journal.bodies empty (opens.own told).list)

@@ -21,9 +21,9 @@ use Rattle.fts_delete.specs.Looks.{calls_of, with_calls, Visits}
 use Rattle.fts_delete.specs.Spelling.{body_of}
 use Rattle.fts_delete.specs.Journals.{DeletesData, used_after, KeepsImages}
 use Rattle.fts_delete.proofs.Images.{images_more}
-use Rattle.fts_delete.specs.Passed.{AreVisits, places_of, pass_calls, with_last, IsPassDoubt, PassFault, Passed}
+use Rattle.fts_delete.specs.Passed.{AreVisits, places_of, pass_calls, with_last, IsPassDoubt, PassFault, Passed, WalkedBy}
 use Rattle.fts_delete.specs.Recording.{fits, KeepsList, AddsOne}
-use Rattle.fts_delete.specs.Walking.{MissFault, StopFault, IsVisited, PassesBy, PassesAt, PassesRow, WalkedBy, WalkedTo}
+use Rattle.fts_delete.specs.Walking.{MissFault, StopFault, IsVisited, PassesBy, PassesAt, PassesRow, WalkedTo}
 use Rattle.fts_delete.proofs.Beginnings.{none_some, some_is}
 use Rattle.fts_delete.proofs.Passing.{none_passed}
 use Rattle.fts_delete.proofs.Growing.{visits_more, none_come, events_more, rows_more, used_more}
@@ -241,16 +241,7 @@ module _ {D E : Type 0} (state : D → DiskState) (faults : D → ℕ) (files : 
       done = walked.done;
       last = last;
       ends = (slice_get_within (waiting_of old.rows) (length walked.done) row (next_of old place row walked.done walked.far at waits), cause);
-      rows = by.rows;
-      count = by.count;
-      used = by.used;
-      listed = by.listed;
-      doubt = by.doubt;
-      visited = by.visited;
-      called = by.called;
-      told = by.told;
-      counts = by.counts;
-      images = by.images;
+      by = by;
     }
 
     -- why an event wasn't recorded
@@ -333,14 +324,5 @@ module _ {D E : Type 0} (state : D → DiskState) (faults : D → ℕ) (files : 
     done = walked.done;
     last = None;
     ends = (walked.far ∙ ap (λ n. length (waiting_of (take n old.rows))) all ∙ ap (λ l. length (waiting_of l)) (take_all old.rows), refl);
-    rows = walked.by.rows;
-    count = walked.by.count;
-    used = walked.by.used;
-    listed = walked.by.listed;
-    doubt = walked.by.doubt;
-    visited = walked.by.visited;
-    called = walked.by.called;
-    told = walked.by.told;
-    counts = walked.by.counts;
-    images = walked.by.images;
+    by = walked.by;
   }

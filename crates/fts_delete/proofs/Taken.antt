@@ -117,6 +117,17 @@ none_there [] k past = refl
 none_there (first ∷ rows) zero past = absurd (omega arith)
 none_there (first ∷ rows) (suc k) past = none_there rows k (omega arith)
 
+-- whether the row of an id waits, by what is at its place
+module _ (id : ℕ) (change : DeleteRow → DeleteRow) (rows : List DeleteRow) (numbered : AreNumbered 1 rows) (some : 1 ≤ id) where
+  pub waits_there : (row : DeleteRow) (waits : Bool) → id - 1 < length rows → row ≡ get_or rows (id - 1) row → waits ≡ is_waiting row.state
+      → waits ≡ is_some (changed id change rows)
+  unfolding waits_at
+  waits_there row waits inside is same = same ∙ sym (waits_by id change rows numbered some ∙ ap waits_at (found_row rows (id - 1) row inside is))
+
+  pub waits_nowhere : length rows ≤ id - 1 → false ≡ is_some (changed id change rows)
+  unfolding waits_at
+  waits_nowhere past = sym (waits_by id change rows numbered some ∙ ap waits_at (none_there rows (id - 1) past))
+
 -- what is there
 pub some_there : {A : Type 0} (o : Option A) → is_some o ≡ true → (x : A) × (o ≡ Some x)
 some_there None is = absurd cc

@@ -15,3 +15,4 @@ pub mod Asked
 pub mod Passed
 pub mod Walking
 pub mod Documents
+pub mod Calls

@@ -59,13 +59,9 @@ abbrev pub PassEnds : {D : Type 0} → (D → ℕ) → DeletesData D → Deletes
 PassEnds faults old new done last (Ok all) = (length done ≡ length (waiting_of old.rows)) × (last ≡ None)
 PassEnds faults old new done last (Err fault) = (length done < length (waiting_of old.rows)) × PassFault faults old new done last fault
 
--- what a pass did
-pub record Passed {D E : Type 0} (state : D → DiskState) (faults : D → ℕ) (files : E → StoreState) (failures : E → ℕ) (calls : E → Option (List Call))
-    (old new : DeletesData D) (store left : E) (result : Result (Unit {0}) DeleteFault) : Type 0 where
-  -- the visits whose events were recorded, and one more at most
-  pub done : List Visit
-  pub last : Option Visit
-  pub ends : PassEnds faults old new done last result
+-- what a walk with these visits did: their events are recorded, but the last one may be in doubt
+pub record WalkedBy {D E : Type 0} (state : D → DiskState) (faults : D → ℕ) (files : E → StoreState) (failures : E → ℕ) (calls : E → Option (List Call))
+    (old new : DeletesData D) (store left : E) (done : List Visit) (last : Option Visit) : Type 0 where
   pub rows : new.rows ≡ rows_passed old.rows done
   pub count : new.count ≡ old.count + length done
   pub used : new.used ≡ used_after old.used (events_of old.rows done)
@@ -76,6 +72,15 @@ pub record Passed {D E : Type 0} (state : D → DiskState) (faults : D → ℕ) 
   pub told : (state new.disk).told ≡ (state old.disk).told
   pub counts : faults old.disk ≤ faults new.disk
   pub images : KeepsImages state old new
+
+-- what a pass did
+pub record Passed {D E : Type 0} (state : D → DiskState) (faults : D → ℕ) (files : E → StoreState) (failures : E → ℕ) (calls : E → Option (List Call))
+    (old new : DeletesData D) (store left : E) (result : Result (Unit {0}) DeleteFault) : Type 0 where
+  -- the visits whose events were recorded, and one more at most
+  pub done : List Visit
+  pub last : Option Visit
+  pub ends : PassEnds faults old new done last result
+  pub by : WalkedBy state faults files failures calls old new store left done last
 
 -- ---- what follows of the files, over a store that tells them
 

@@ -1,5 +1,5 @@
 -- A pass as a walk over the rows: each row that waits is made ready for, visited and recorded before the next one is looked at.
-use Rattle.std.specs.Prelude.{◌≡◌, ◌⊎◌, ℕ, ◌+◌, ◌≤◌, Bool, true, false, Option, Some, None, List, ◌++◌, length, take, Result, Ok, Err}
+use Rattle.std.specs.Prelude.{◌≡◌, ◌⊎◌, ℕ, ◌≤◌, Bool, true, false, Option, Some, None, List, length, take, Result, Ok, Err}
 use Rattle.fts_tables.specs.Counts.{Rose}
 use Rattle.fts_disk.specs.Disk.{DiskState, IsTold}
 use Rattle.fts_store.specs.Calls.{Call}
@@ -11,11 +11,11 @@ use Rattle.fts_delete.specs.declared.rows.DeleteRow.{DeleteRow}
 use Rattle.fts_delete.specs.declared.visits.Visit.{Visit}
 use Rattle.fts_delete.specs.Rows.{is_waiting}
 use Rattle.fts_delete.specs.Visits.{event_of}
-use Rattle.fts_delete.specs.Passes.{waiting_of, events_of, rows_passed}
+use Rattle.fts_delete.specs.Passes.{waiting_of}
 use Rattle.fts_delete.specs.Looks.{calls_of, with_calls, Visits}
-use Rattle.fts_delete.specs.Passed.{AreVisits, places_of, pass_calls, with_last, IsPassDoubt}
+use Rattle.fts_delete.specs.Passed.{WalkedBy}
 use Rattle.fts_delete.specs.Recording.{fits, KeepsList, AddsOne}
-use Rattle.fts_delete.specs.Journals.{DeletesData, used_after, KeepsImages}
+use Rattle.fts_delete.specs.Journals.{DeletesData, KeepsImages}
 
 -- why the event of a row that was visited wasn't recorded
 abbrev pub MissFault : {D : Type 0} → (D → ℕ) → DeletesData D → DeletesData D → DeleteFault → Type 0
@@ -78,20 +78,6 @@ pub record PassesRow {D E : Type 0} (state : D → DiskState) (faults : D → �
   pub told : (state new.disk).told ≡ (state old.disk).told
   pub counts : faults old.disk ≤ faults new.disk
   -- each image is one of the list, with one event more at most
-  pub images : KeepsImages state old new
-
--- a walk as far as these visits
-pub record WalkedBy {D E : Type 0} (state : D → DiskState) (faults : D → ℕ) (files : E → StoreState) (failures : E → ℕ) (calls : E → Option (List Call))
-    (old new : DeletesData D) (store left : E) (done : List Visit) (last : Option Visit) : Type 0 where
-  pub rows : new.rows ≡ rows_passed old.rows done
-  pub count : new.count ≡ old.count + length done
-  pub used : new.used ≡ used_after old.used (events_of old.rows done)
-  pub listed : IsTold (state old.disk) → new.events ≡ old.events ++ events_of old.rows done
-  pub doubt : IsTold (state old.disk) → IsPassDoubt old.rows old.doubt new.doubt done last
-  pub visited : AreVisits files failures (places_of old.rows) (with_last done last) store left
-  pub called : calls left ≡ with_calls (calls store) (pass_calls (places_of old.rows) (with_last done last))
-  pub told : (state new.disk).told ≡ (state old.disk).told
-  pub counts : faults old.disk ≤ faults new.disk
   pub images : KeepsImages state old new
 
 -- as far as the row at a place: each row before it that waited was visited

@@ -17,20 +17,11 @@ use std::marker::Model;
 
 /// Deletions on a disk. Contracts see the list of events, the event in doubt or none, the rows, the number of bytes used, and the disk; over a
 /// disk that doesn't tell its contents they see the list empty, and the rest all the same.
+#[derive(Drop)]
 pub struct Deletes<D: Disk> {
     alloc: Global,
     rows: Vec<DeleteRow>,
     journal: Journal<D>,
-}
-
-impl<D: Disk + Drop> Drop for Deletes<D> {
-    fn drop(self) {
-        let Deletes {
-            alloc: _,
-            rows: _,
-            journal: _,
-        } = self;
-    }
 }
 
 impl<D: Disk> Model for Deletes<D> {

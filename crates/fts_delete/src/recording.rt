@@ -2,11 +2,13 @@
 //! Order: room is looked at and an old doubt ended before anything is done that the event is to tell; `append` is stable at its `Ok`.
 //! Keeps: the rows are the fold of the journal's list (`IsTied`).
 ghost use Rattle.std.specs.Prelude.{◌≡◌, ◌≤◌, length, false, true, IsSome, List, vec_capacity};
+ghost use Rattle.fts_journal.specs.Format.{IsBody};
 ghost use Rattle.fts_delete.specs.declared.rows.DeleteRow.{DeleteRow};
 ghost use Rattle.fts_delete.specs.Rows.{rows_after};
 ghost use Rattle.fts_delete.specs.Spelling.{IsProper, body_of};
 ghost use Rattle.fts_delete.specs.Folding.{HasRoom};
 ghost use Rattle.fts_delete.specs.Views.{deletes_of, IsTied};
+ghost use Rattle.fts_delete.specs.Calls.{Settles, Appends};
 ghost use Rattle.fts_delete.specs.Recording.{Readied, Added, fits};
 
 use crate::DeleteFault;
@@ -14,8 +16,24 @@ use crate::events::Event;
 use crate::rows::DeleteRow;
 use crate::taking::take_event;
 use fts_disk::Disk;
-use fts_journal::{FRONT_BYTES, GATE_BYTES, Journal};
+use fts_journal::{FRONT_BYTES, GATE_BYTES, Journal, JournalFault};
 use fts_tables::limits::{JOURNAL_END, MAX_BODY_BYTES};
+
+/// Ends a doubt of a journal: `Settles` has the journal's clauses in one word.
+fn end_doubt<D: Disk>(journal: &mut Journal<D>) -> Result<(), JournalFault>
+    ensures { Settles D.state D.faults journal.old journal.new result }
+{
+    journal.settle()
+}
+
+/// Appends a body to a journal without doubt: `Appends` has the journal's clauses in one word.
+fn append<D: Disk>(journal: &mut Journal<D>, body: &[u8]) -> Result<(), JournalFault>
+    requires sure { journal.old.in_doubt ≡ false }
+    requires body { IsBody body.now }
+    ensures { Appends D.state D.faults journal.old journal.new body.now result }
+{
+    journal.append(body)
+}
 
 /// Ends a doubt, where a body of so many bytes has room. Nothing is written where it has none.
 pub fn make_ready<D: Disk>(journal: &mut Journal<D>, size: usize) -> Result<(), DeleteFault>
@@ -28,7 +46,7 @@ pub fn make_ready<D: Disk>(journal: &mut Journal<D>, size: usize) -> Result<(), 
     if used + FRONT_BYTES + size as u64 + GATE_BYTES > JOURNAL_END {
         return Err(DeleteFault::JournalFull { used });
     }
-    journal.settle()?;
+    end_doubt(journal)?;
     Ok(())
 }
 
@@ -49,7 +67,7 @@ pub fn add<D: Disk>(
     ensures tied { IsTied D.state rows.new.items journal.new }
     ensures added { Added D.state D.faults (deletes_of D.state rows.old.items journal.old) (deletes_of D.state rows.new.items journal.new) event result }
 {
-    journal.append(body)?;
+    append(journal, body)?;
     take_event(rows, event);
     Ok(())
 }

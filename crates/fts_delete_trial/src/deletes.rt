@@ -22,7 +22,7 @@ fn place_of(alloc: Global, path: &str) -> Result<Place, Memory> {
 }
 
 /// A store with a file `data/f1`, whose calls of these numbers fail.
-fn store_failing(alloc: Global, fail: &[u32]) -> Result<MemoryStore, Memory> {
+pub fn store_failing(alloc: Global, fail: &[u32]) -> Result<MemoryStore, Memory> {
     let mut files = Items::new(alloc);
     let file = StoredFile {
         place: place_of(alloc, "data/f1")?,
@@ -54,6 +54,18 @@ fn are(deletes: &Deletes<MemoryDisk>, want: &[Row]) -> bool {
             && row.missed == want.2)
 }
 
+/// Deletions over a new disk, of which two files were asked for: one is there.
+fn asked_for_two(alloc: Global) -> Result<Deletes<MemoryDisk>, Fail> {
+    let disk = MemoryDisk::new(alloc, Vec::new(alloc));
+    let Ok(mut deletes) = Deletes::open(alloc, disk) else {
+        return Err(Fail::new("no journal is made"));
+    };
+    match ask_for(alloc, &mut deletes, "data/f1", "data/no") {
+        Ok(()) => Ok(deletes),
+        Err(_) => Err(Fail::new("two files are not asked for")),
+    }
+}
+
 /// Opens what a disk with these bytes holds: how many rows, and the offset of the last gate.
 fn opened(alloc: Global, bytes: &[u8]) -> Result<(usize, u64), DeleteFault> {
     let disk = MemoryDisk::holding(alloc, bytes.to_vec(alloc)?, Vec::new(alloc));
@@ -66,12 +78,7 @@ fn opened(alloc: Global, bytes: &[u8]) -> Result<(usize, u64), DeleteFault> {
 #[test]
 fn what_is_asked_for_is_gone_after_a_pass(rt: HostRuntime) -> Result<(), Fail> {
     let alloc = rt.alloc();
-    let disk = MemoryDisk::new(alloc, Vec::new(alloc));
-    let Ok(mut deletes) = Deletes::open(alloc, disk) else {
-        panic!(rt; "a journal is made")
-    };
-    let asked = ask_for(alloc, &mut deletes, "data/f1", "data/no");
-    assert!(rt; asked.is_ok(), "two files are asked for");
+    let mut deletes = asked_for_two(alloc)?;
     let mut store = store_failing(alloc, &[])?;
     assert!(rt; deletes.pass(&mut store).is_ok(), "they are passed");
     let gone = [(1, DeleteState::Finished, 0), (2, DeleteState::Finished, 0)];
@@ -93,12 +100,7 @@ fn what_is_asked_for_is_gone_after_a_pass(rt: HostRuntime) -> Result<(), Fail> {
 #[test]
 fn a_file_that_three_passes_missed_has_failed(rt: HostRuntime) -> Result<(), Fail> {
     let alloc = rt.alloc();
-    let disk = MemoryDisk::new(alloc, Vec::new(alloc));
-    let Ok(mut deletes) = Deletes::open(alloc, disk) else {
-        panic!(rt; "a journal is made")
-    };
-    let asked = ask_for(alloc, &mut deletes, "data/f1", "data/no");
-    assert!(rt; asked.is_ok(), "two files are asked for");
+    let mut deletes = asked_for_two(alloc)?;
     for (case, fail, want) in [
         ("the first look fails", [1, 1], DeleteState::Waiting),
         (
@@ -121,42 +123,39 @@ fn a_file_that_three_passes_missed_has_failed(rt: HostRuntime) -> Result<(), Fai
     Ok(())
 }
 
+/// Bytes of journals, and the offset of their first fault.
+const DAMAGED: [(&str, &[u8], u64); 5] = [
+    (
+        "a row that wasn't asked for",
+        b"FTS3JRN1\x01\x02\0\0\0\x02\x01\0",
+        8,
+    ),
+    (
+        "a number with a needless byte",
+        b"FTS3JRN1\x01\x03\0\0\0\x02\x81\0\0",
+        14,
+    ),
+    (
+        "another kind of event",
+        b"FTS3JRN1\x01\x02\0\0\0\x04\x01\0",
+        13,
+    ),
+    ("a cut body", b"FTS3JRN1\x01\x02\0\0\0\x02", 8),
+    ("another header", b"FTS3JRN2\0", 0),
+];
+
 #[test]
 fn other_bytes_are_damaged_at_their_first_fault(rt: HostRuntime) -> Result<(), Fail> {
     let alloc = rt.alloc();
-    for (case, bytes, want) in [
-        (
-            "a file that is asked for, and gone",
-            b"FTS3JRN1\x01\x16\0\0\0\x01\x01\x11https://a.example\x01f\x01\x02\0\0\0\x02\x01\0".as_slice(),
-            Ok((1, 42)),
-        ),
-        (
-            "a row that wasn't asked for",
-            b"FTS3JRN1\x01\x02\0\0\0\x02\x01\0".as_slice(),
-            Err(DeleteFault::Damaged { offset: 8 }),
-        ),
-        (
-            "a number with a needless byte",
-            b"FTS3JRN1\x01\x03\0\0\0\x02\x81\0\0".as_slice(),
-            Err(DeleteFault::Damaged { offset: 14 }),
-        ),
-        (
-            "another kind of event",
-            b"FTS3JRN1\x01\x02\0\0\0\x04\x01\0".as_slice(),
-            Err(DeleteFault::Damaged { offset: 13 }),
-        ),
-        (
-            "a cut body",
-            b"FTS3JRN1\x01\x02\0\0\0\x02".as_slice(),
-            Err(DeleteFault::Damaged { offset: 8 }),
-        ),
-        (
-            "another header",
-            b"FTS3JRN2\0".as_slice(),
-            Err(DeleteFault::Damaged { offset: 0 }),
-        ),
-    ] {
-        assert!(rt; opened(alloc, bytes) == want, "{case}");
+    // A file that is asked for, and gone.
+    let gone = b"FTS3JRN1\x01\x16\0\0\0\x01\x01\x11https://a.example\x01f\x01\x02\0\0\0\x02\x01\0";
+    assert!(rt;
+        opened(alloc, gone) == Ok((1, 42)),
+        "a file that is asked for, and gone"
+    );
+    for (case, bytes, offset) in DAMAGED {
+        let is_damaged = opened(alloc, bytes) == Err(DeleteFault::Damaged { offset });
+        assert!(rt; is_damaged, "{case}");
     }
     Ok(())
 }

@@ -1,9 +1,10 @@
 //! Runs of `delete` over a disk, a store, an input and an output in memory: what is written, the status, and the line that is noted.
+use crate::deletes::store_failing;
 use fts_config::read_settings;
 use fts_deleting::{DeleteEnd, run_delete, send_delete_note};
 use fts_disk::{Disk, MemoryDisk};
-use fts_store::{MemoryStore, Store, StoredFile};
-use fts_tables::{EndpointName, Items, Memory, PathKey, Place, PlaceRef, Settings};
+use fts_store::{MemoryStore, Store};
+use fts_tables::{Memory, PlaceRef, Settings};
 use fts_wire::{MemorySink, MemorySource};
 use std::alloc::Global;
 use std::test::Fail;
@@ -21,23 +22,6 @@ fn settings(alloc: Global) -> Result<Settings, Memory> {
         Ok(settings) => Ok(settings),
         Err(_) => Err(Memory),
     }
-}
-
-/// A store that holds `abc` at `data/f1`, whose calls of these numbers fail.
-fn store(alloc: Global, fail: &[u32]) -> Result<MemoryStore, Memory> {
-    let mut files = Items::new(alloc);
-    let endpoint = EndpointName::read(alloc, "https://a.example")?;
-    let path = PathKey::read(alloc, "data/f1")?;
-    if let (Some(endpoint), Some(path)) = (endpoint, path) {
-        let file = StoredFile {
-            place: Place { endpoint, path },
-            bytes: Items::from_vec(b"abc".to_vec(alloc)?),
-        };
-        if files.push(file).is_err() {
-            return Err(Memory);
-        }
-    }
-    Ok(MemoryStore::new(alloc, files, fail.to_vec(alloc)?, Vec::new(alloc)))
 }
 
 /// How a run ended, and its disk. What it wrote lies in the sink.
@@ -79,7 +63,7 @@ fn what_is_asked_for_is_removed_and_told(rt: HostRuntime) -> Result<(), Fail> {
             "delete 1 FINISHED https://a.example/data/f1\ndelete 2 FINISHED https://a.example/data/no\ndelete 3 FINISHED https://a.example/data/f1\n",
         ),
     ] {
-        let mut store = store(alloc, &[])?;
+        let mut store = store_failing(alloc, &[])?;
         let mut output = sink(alloc);
         let (end, left) = run(alloc, disk, &mut store, input.as_bytes(), &mut output)?;
         disk = left;
@@ -105,7 +89,7 @@ fn a_file_that_three_runs_miss_has_failed(rt: HostRuntime) -> Result<(), Fail> {
         ("", "delete 1 FAILED https://a.example/data/f1\n"),
         ("", "delete 1 FAILED https://a.example/data/f1\n"),
     ] {
-        let mut store = store(alloc, &[1, 2, 3])?;
+        let mut store = store_failing(alloc, &[1, 2, 3])?;
         let mut output = sink(alloc);
         let (end, left) = run(alloc, disk, &mut store, input.as_bytes(), &mut output)?;
         disk = left;
@@ -129,7 +113,7 @@ fn a_document_is_refused_by_its_least_rule(rt: HostRuntime) -> Result<(), Fail> 
         (7, r#"{"delete":["https://c.example/f"]}"#),
     ] {
         let disk = MemoryDisk::new(alloc, Vec::new(alloc));
-        let mut store = store(alloc, &[])?;
+        let mut store = store_failing(alloc, &[])?;
         let mut output = sink(alloc);
         let (end, mut disk) = run(alloc, disk, &mut store, input.as_bytes(), &mut output)?;
         assert!(rt;
@@ -167,7 +151,7 @@ fn a_document_has_a_mebibyte_at_most(rt: HostRuntime) -> Result<(), Fail> {
     ] {
         let input = behind_blanks(alloc, blanks)?;
         let disk = MemoryDisk::new(alloc, Vec::new(alloc));
-        let mut store = store(alloc, &[])?;
+        let mut store = store_failing(alloc, &[])?;
         let mut output = sink(alloc);
         let (end, _disk) = run(alloc, disk, &mut store, input.as_slice(), &mut output)?;
         assert!(rt; end == want, "{case}");
@@ -190,7 +174,7 @@ fn a_device_that_fails_ends_the_run(rt: HostRuntime) -> Result<(), Fail> {
         let mut input = MemorySource::new(ONE.as_bytes().to_vec(alloc)?, [read].to_vec(alloc)?);
         let mut output = MemorySink::new(alloc, [write].to_vec(alloc)?);
         let disk = MemoryDisk::new(alloc, [call].to_vec(alloc)?);
-        let mut store = store(alloc, &[])?;
+        let mut store = store_failing(alloc, &[])?;
         let (end, _disk) = run_delete(alloc, &settings, disk, &mut store, &mut input, &mut output);
         assert!(rt; end == want, "{case}");
     }
@@ -204,7 +188,7 @@ fn a_run_behind_one_whose_disk_failed_goes_on(rt: HostRuntime) -> Result<(), Fai
     let mut stopped = 0_u64;
     for call in 1..20 {
         let mut disk = MemoryDisk::new(alloc, [call].to_vec(alloc)?);
-        let mut files = store(alloc, &[])?;
+        let mut files = store_failing(alloc, &[])?;
         for (input, is_last) in [(TWO, false), ("", false), ("", true)] {
             let mut output = sink(alloc);
             let (end, left) = run(alloc, disk, &mut files, input.as_bytes(), &mut output)?;
@@ -268,7 +252,7 @@ fn another_journal_is_damaged_and_stays(rt: HostRuntime) -> Result<(), Fail> {
     let alloc = rt.alloc();
     let restart = b"FTS3JRN1\x01\x02\0\0\0\0\x01\0";
     let disk = MemoryDisk::holding(alloc, restart.to_vec(alloc)?, Vec::new(alloc));
-    let mut store = store(alloc, &[])?;
+    let mut store = store_failing(alloc, &[])?;
     let mut output = sink(alloc);
     let (end, mut disk) = run(alloc, disk, &mut store, ONE.as_bytes(), &mut output)?;
     assert!(rt;

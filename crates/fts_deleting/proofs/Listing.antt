@@ -176,7 +176,7 @@ module _ {D E : Type 0} (disks : disk.Ghosts D) (stores : store.Ghosts E) (lawfu
       is_next = went.told ∙ is
 
       is_closed : IsTold (disks.state closed.disk)
-      is_closed = passed.told ∙ is_next
+      is_closed = passed.by.told ∙ is_next
 
       -- the rows that the pass began with
       are : AreRowsOf next.rows (opened.events ++ asked)
@@ -202,7 +202,7 @@ module _ {D E : Type 0} (disks : disk.Ghosts D) (stores : store.Ghosts E) (lawfu
           by (Err fault) ends = omega (arith, ends.0)
 
       abbrev done_made : IsMade opened.events asked closed.events
-      done_made = made_by passed.done closed.events few_done (passed.listed is_next)
+      done_made = made_by passed.done closed.events few_done (passed.by.listed is_next)
 
       -- the event of a visit that was not recorded
       more_made : (last : Option Visit) → IsPassDoubt next.rows next.doubt closed.doubt passed.done last → (event : Event) → closed.doubt ≡ Some event
@@ -215,19 +215,19 @@ module _ {D E : Type 0} (disks : disk.Ghosts D) (stores : store.Ghosts E) (lawfu
           let same : event ≡ event_of row.id came = some_same closed.doubt event (event_of row.id came) doubted visit.2 in
           made_by (passed.done ++ came ∷ []) (closed.events ++ event ∷ [])
           (omega (arith, length-append passed.done (came ∷ []), slice_get_within (waiting_of next.rows) (length passed.done) row visit.1))
-          (ap (λ l. l ++ event ∷ []) (passed.listed is_next) ∙ append_assoc next.events (events_of next.rows passed.done) (event ∷ [])
+          (ap (λ l. l ++ event ∷ []) (passed.by.listed is_next) ∙ append_assoc next.events (events_of next.rows passed.done) (event ∷ [])
           ∙ ap (λ e. next.events ++ (events_of next.rows passed.done ++ e ∷ [])) same
           ∙ ap (λ l. next.events ++ l) (sym (events_more next.rows passed.done row came visit.1)))
 
       -- what a crash leaves stands for one of these lists
       some_list : StandsForSome (disks.state left) (IsBegun opened.events asked)
       some_list = λ content there. in_doubt (IsBegun opened.events asked) closed.events closed.doubt content (inr done_made)
-          (λ event doubted. inr (more_made passed.last (passed.doubt is_next) event doubted)) ((kept.holds is_closed).images content (of_closed content there))
+          (λ event doubted. inr (more_made passed.last (passed.by.doubt is_next) event doubted)) ((kept.holds is_closed).images content (of_closed content there))
 
     -- a whole pass leaves no doubt
     sure_then : (next : DeletesData D) (asked : List Event) → HasAsked opened next asked
         → (passed : Passed disks.state disks.faults stores.state stores.faults stores.calls next closed before.store after.store (Ok tt)) → closed.doubt ≡ None
-    sure_then next asked went passed = by (subst (IsPassDoubt next.rows next.doubt closed.doubt passed.done) passed.ends.1 (passed.doubt (went.told ∙ is)))
+    sure_then next asked went passed = by (subst (IsPassDoubt next.rows next.doubt closed.doubt passed.done) passed.ends.1 (passed.by.doubt (went.told ∙ is)))
       where
         by : (closed.doubt ≡ None) ⊎ (closed.doubt ≡ next.doubt) → closed.doubt ≡ None
         by (inl nothing) = nothing
@@ -239,7 +239,7 @@ module _ {D E : Type 0} (disks : disk.Ghosts D) (stores : store.Ghosts E) (lawfu
     tells_all next asked went tells told_so =
         let passes = tells.passes in
         let passed = passes.passed in
-        let holds = kept.holds (passed.told ∙ (went.told ∙ is)) in
+        let holds = kept.holds (passed.by.told ∙ (went.told ∙ is)) in
         record {
           list = closed.events;
           whole = record { made = done_made next asked went passes.kept (Ok tt) passed; each = passed.ends.0 };
@@ -300,7 +300,7 @@ module _ {D E : Type 0} (disks : disk.Ghosts D) (stores : store.Ghosts E) (lawfu
     run_images (inr run) = by run.passes
       where
         by : StopsPassing disks stores run.next closed before after end ⊎ TellsRows disks stores run.next closed before after end → KeepsImages disks.state opened closed
-        by (inl stops) = behind run.next run.asks.document run.asks.asks stops.passes.passed.images
-            (λ is. (events_of run.next.rows stops.passes.passed.done, stops.passes.passed.listed is))
-        by (inr tells) = behind run.next run.asks.document run.asks.asks tells.passes.passed.images
-            (λ is. (events_of run.next.rows tells.passes.passed.done, tells.passes.passed.listed is))
+        by (inl stops) = behind run.next run.asks.document run.asks.asks stops.passes.passed.by.images
+            (λ is. (events_of run.next.rows stops.passes.passed.done, stops.passes.passed.by.listed is))
+        by (inr tells) = behind run.next run.asks.document run.asks.asks tells.passes.passed.by.images
+            (λ is. (events_of run.next.rows tells.passes.passed.done, tells.passes.passed.by.listed is))

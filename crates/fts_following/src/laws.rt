@@ -2,7 +2,7 @@
 //! A law is a function without parameters that does nothing: its clause speaks of every run.
 ghost use Rattle.std.specs.Prelude.{◌≡◌, ℕ, List, Option, None};
 ghost use Rattle.fts_disk.specs.Disk.{IsTold};
-ghost use Rattle.fts_client.specs.Links.{LinkData};
+ghost use Rattle.fts_client.specs.Links.{LinkData, read_side, written_side};
 ghost use Rattle.fts_standby.specs.Worlds.{World, StandsForPrefix, spellings};
 ghost use Rattle.fts_standby.specs.Reaching.{ComeFrom, IsReached};
 ghost use Rattle.fts_following.specs.Runs.{RunsFollowing};
@@ -17,9 +17,7 @@ use fts_standby::laws::following_is_steps;
 /// of the primary's list.
 pub fn a_run_leaves_a_beginning<L: Link, D: Disk>()
     ensures { (port tries : ℕ) (disk left : D) (old new : LinkData L.Line) (broken failed : ℕ) (held now : Option (List ℕ)) (end : FollowRunEnd) (w : World)
-        → (run : RunsFollowing D.Disk
-        (record { bytes = L.Line.Source.left; faults = L.Line.Source.faults; reads = L.Line.Source.reads; beside = L.Line.Source.beside })
-        (record { bytes = L.Line.Sink.held; faults = L.Line.Sink.faults; reads = λ _. 0; beside = L.Line.Sink.beside })
+        → (run : RunsFollowing D.Disk (read_side L.Line.Source) (written_side L.Line.Sink)
         port tries disk left old new broken failed held now end)
         → IsTold (D.state disk) → IsReached w → w.standby ≡ record { list = run.opened.bodies; doubt = None } → ComeFrom w.made run.followed.requests
         → (content : List ℕ) → (D.state left).may_leave content → StandsForPrefix (spellings w.primary) content }

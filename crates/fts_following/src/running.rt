@@ -3,6 +3,7 @@
 ghost use Rattle.std.specs.Prelude.{◌≡◌, ◌≤◌};
 ghost use Rattle.fts_tables.specs.Counts.{CountsFaults, Rose};
 ghost use Rattle.fts_wire.specs.Response.{Sends};
+ghost use Rattle.fts_client.specs.Links.{read_side, written_side};
 ghost use Rattle.fts_following.specs.Ends.{follow_status};
 ghost use Rattle.fts_following.specs.Runs.{TellsEnd, IsFollowRun, caught_up_line};
 
@@ -27,9 +28,7 @@ pub fn run_follow<L: Link, D: Disk, K: Sink>(
     output: &mut K,
 ) -> (FollowRunEnd, D)
     requires some { 1 ≤ tries }
-    ensures run { IsFollowRun D.Disk
-        (record { bytes = L.Line.Source.left; faults = L.Line.Source.faults; reads = L.Line.Source.reads; beside = L.Line.Source.beside })
-        (record { bytes = L.Line.Sink.held; faults = L.Line.Sink.faults; reads = λ _. 0; beside = L.Line.Sink.beside })
+    ensures run { IsFollowRun D.Disk (read_side L.Line.Source) (written_side L.Line.Sink)
         port tries disk result.1 (L.link link.old) (L.link link.new) (L.faults link.old) (L.faults link.new) (K.held output.old) (K.held output.new) result.0 }
     ensures told { (D.state result.1).told ≡ (D.state disk).told }
     ensures disk_failed { follow_status result.0 ≡ 4 → Rose (D.faults disk) (D.faults result.1) }

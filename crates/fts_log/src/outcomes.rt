@@ -10,15 +10,10 @@ use std::alloc::Global;
 pub(crate) fn bytes_of(outcome: Outcome) -> u64
     ensures { result ≡ bytes_of outcome }
 {
-    match outcome {
-        Outcome::Verified { size, .. } => size,
-        Outcome::SourceMissing
-        | Outcome::DestinationExists
-        | Outcome::SourceSize { .. }
-        | Outcome::SourceDigest { .. }
-        | Outcome::ReadBackDiffers { .. }
-        | Outcome::StoreFailed
-        | Outcome::Stopped => 0,
+    if let Outcome::Verified { size, .. } = outcome {
+        size
+    } else {
+        0
     }
 }
 

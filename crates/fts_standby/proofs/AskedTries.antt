@@ -1,6 +1,5 @@
 -- One try more for an entry, and the last one.
 use Rattle.std.proofs.Common.{◌≡◌, ℕ, ◌+◌, ◌≤◌, false, List, [], ◌∷◌, ◌++◌, length, Ok, Err, refl, ap, ◌∙◌, subst, arith, length-append}
-use Rattle.std.specs.List.{AllByRecursion}
 use Rattle.fts_tables.specs.declared.names.Memory.{Memory as WantOfMemory}
 use Rattle.fts_wire.specs.Outside.{Side}
 use Rattle.fts_client.specs.Links.{LinkData}
@@ -8,6 +7,7 @@ use Rattle.fts_client.specs.Tries.{Try, IsTried, AreTried}
 use Rattle.fts_standby.specs.Hearing.{Heard, heard_data}
 use Rattle.fts_standby.specs.Asking.{heard_by, is_final, GoOn, Asks, request_bytes}
 use Rattle.fts_standby.specs.declared.hearing.Heard.{Heard as HeardCode}
+use Rattle.fts_client.proofs.PushedTries.{tried-push, all-push}
 
 -- tries so far for the entry of a number, of which each goes on; so many are left
 pub record TriedSoFar {L : Type 0} (read written : Side L) (port : ℕ) (request : List ℕ) (number left most : ℕ) (old new : LinkData L) (faults_old faults_new : ℕ) : Type 0 where
@@ -20,23 +20,6 @@ pub record TriedSoFar {L : Type 0} (read written : Side L) (port : ℕ) (request
 pub none_tried : {L : Type 0} (read written : Side L) (port : ℕ) (request : List ℕ) (number most : ℕ) (link : LinkData L) (faults : ℕ)
     → TriedSoFar read written port request number most most link link faults faults
 none_tried read written port request number most link faults = record { tries = []; tried = (refl, refl); on = tt; many = omega arith }
-
-tried-push : {L : Type 0} (read written : Side L) (port : ℕ) (request : List ℕ) (old between new : LinkData L) (faults_old faults faults_new : ℕ) (tries : List Try) (try : Try)
-    → AreTried read written port request old between faults_old faults tries → IsTried read written port request between new faults faults_new try
-    → AreTried read written port request old new faults_old faults_new (tries ++ try ∷ [])
-tried-push read written port request old between new faults_old faults faults_new [] try so_far more = (
-  new,
-  faults_new,
-  subst (λ link. IsTried read written port request link new faults_old faults_new try) so_far.0
-      (subst (λ count. IsTried read written port request between new count faults_new try) so_far.1 more),
-  (refl, refl),
-)
-tried-push read written port request old between new faults_old faults faults_new (first ∷ tries) try so_far more =
-    (so_far.0, so_far.1, so_far.2, tried-push read written port request so_far.0 between new so_far.1 faults faults_new tries try so_far.3 more)
-
-all-push : (Holds : Try → Type 0) (tries : List Try) (try : Try) → AllByRecursion Holds tries → Holds try → AllByRecursion Holds (tries ++ try ∷ [])
-all-push Holds [] try all is = (is, tt)
-all-push Holds (first ∷ tries) try all is = (all.0, all-push Holds tries try all.1 is)
 
 module _ {L : Type 0} (read written : Side L) (port : ℕ) (request : List ℕ) (number left most : ℕ) (old between new : LinkData L) (faults_old faults faults_new : ℕ)
     (try : Try) (so_far : TriedSoFar read written port request number left most old between faults_old faults)

@@ -1,28 +1,12 @@
 -- A body against what `serde_json` says of it, bytes against what the record says of them, and what is then heard.
-use Rattle.std.proofs.Common.{◌≡◌, Bool, true, false, cond, ℕ, List, Option, Some, None, option_map, Ok, Err, refl, ap}
-use Rattle.std.specs.Prelude.{IsUtf8, option_and_then}
+use Rattle.std.proofs.Common.{◌≡◌, false, ℕ, List, Some, None, option_map, Ok, Err, ap}
+use Rattle.std.specs.Prelude.{option_and_then}
 use Rattle.std.specs.Option.{option_map_or}
-use Rattle.std.specs.Str.{is_utf8}
-use Rattle.std.proofs.lemmas.Str.{IsUtf8-from_is_utf8, is_utf8-from_IsUtf8}
 use Rattle.serde_json.specs.Data.{Data}
-use Rattle.serde_json.specs.Read.{read}
 use Rattle.fts_tables.specs.declared.commands.Entry.{Entry}
 use Rattle.fts_record.specs.Reading.{read_of, entry_in as entry_of_bytes, ok_of}
 use Rattle.fts_jobdoc.specs.Json.{value_of}
 use Rattle.fts_standby.specs.Entries.{if_entry, entry_shown, entry_in, has_rule_47, says_no_entry}
-
--- what was read of a body
-pub value_of-read : (body : List ℕ) (value : Data) → IsUtf8 body → read body ≡ Some value → value_of body ≡ Some value
-value_of-read body value utf8 is = rw (is_utf8-from_IsUtf8 body utf8) is
-
--- a body is no JSON if it is no UTF-8, or if nothing is read of it
-by_utf8 : (utf8 : Bool) (value : Option Data) → (utf8 ≡ true → value ≡ None) → cond utf8 value None ≡ None
-by_utf8 true value none = none refl
-by_utf8 false value none = refl
-
--- a body that can't be read
-pub value_of-refused : (body : List ℕ) → (IsUtf8 body → read body ≡ None) → value_of body ≡ None
-value_of-refused body refused = by_utf8 (is_utf8 body) (read body) (λ e. refused (IsUtf8-from_is_utf8 body e))
 
 -- bytes of which an entry was read
 pub entry-read : (bytes : List ℕ) (entry : Entry) → entry_of_bytes bytes ≡ Ok entry → if_entry bytes ≡ Some bytes

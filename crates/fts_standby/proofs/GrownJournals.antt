@@ -1,32 +1,11 @@
 -- Journals that grow: by no call, by one part and then another, and by each call of a journal.
-use Rattle.std.proofs.Common.{◌≡◌, inl, inr, ⊎_elim, refl, sym, ◌∙◌, ap, subst, ℕ, ◌+◌, ◌≤◌, Option, None, List, [], ◌∷◌, ◌++◌, length, map, append_assoc, length-append, arith}
+use Rattle.std.proofs.Common.{◌≡◌, inl, inr, refl, sym, ◌∙◌, ap, subst, ℕ, ◌+◌, ◌≤◌, Option, None, List, [], ◌∷◌, ◌++◌, length, map, append_assoc, length-append, arith}
 use Rattle.std.proofs.lemmas.List.{append-nil, map-append}
 use Rattle.fts_disk.specs.Disk.{DiskState, IsTold, LeavesOnly, IsLawful}
 use Rattle.fts_journal.specs.Format.{Stands}
 use Rattle.fts_journal.specs.Journal.{JournalData, IsImageOf, IsSound}
+use Rattle.fts_journal.proofs.Moments.{started, joins, weakened}
 use Rattle.fts_standby.specs.Following.{IsMoment, used_after, Grows, IsSure}
-
--- ---- what a crash leaves
-
--- before the first call
-begun : (disk : DiskState) (P : List ℕ → Type 0) → IsLawful disk → ((content : List ℕ) → disk.may_leave content → P content) → LeavesOnly disk disk P
-begun disk P lawful here = record { later = omega arith; each = λ c left. here c (lawful.only_now c left); before = λ t c le left. inl left }
-
--- two runs of calls, one after the other
-joined : (old mid new : DiskState) (P : List ℕ → Type 0) → LeavesOnly old mid P → LeavesOnly mid new P → LeavesOnly old new P
-joined old mid new P first second = record {
-  later = omega (arith, first.later, second.later);
-  each = λ c left. ⊎_elim (first.each c) (λ there. there) (second.before old.moment c first.later left);
-  before = λ t c le left. ⊎_elim (first.before t c le) (λ there. inr there) (second.before t c (omega (arith, le, first.later)) left);
-}
-
--- what is left has P, and so Q
-pub weakened : (old new : DiskState) (P Q : List ℕ → Type 0) → LeavesOnly old new P → ((content : List ℕ) → P content → Q content) → LeavesOnly old new Q
-weakened old new P Q only implies = record {
-  later = only.later;
-  each = λ c left. implies c (only.each c left);
-  before = λ t c le left. ⊎_elim (λ past. inl past) (λ there. inr (implies c there)) (only.before t c le left);
-}
 
 -- ---- lists and numbers
 
@@ -76,7 +55,7 @@ module _ {D : Type 0} (state : D → DiskState) (faults : D → ℕ) where
     used = refl;
     sizes = sym (append-nil journal.sizes);
     listed = λ told. sym (append-nil journal.bodies);
-    moments = λ told. begun (state journal.disk) (IsMoment journal.bodies journal.doubt []) (lawful journal.disk told) (λ content left. inl (sound told content left));
+    moments = λ told. started (state journal.disk) (lawful journal.disk told) (IsMoment journal.bodies journal.doubt []) (λ content left. inl (sound told content left));
   }
 
   -- some were appended, all that came, and nothing was left in doubt; and then others
@@ -93,7 +72,7 @@ module _ {D : Type 0} (state : D → DiskState) (faults : D → ℕ) where
             ∙ (append_assoc old.sizes (map (λ entry. length entry) xs) (map (λ entry. length entry) ys)
             ∙ ap (λ l. old.sizes ++ l) (sym (map-append (λ (entry : List ℕ). length entry) xs ys))));
         listed = λ told. second.listed (told_mid told) ∙ (ap (λ l. l ++ ys) (first.listed told) ∙ append_assoc old.bodies xs ys);
-        moments = λ told. joined (state old.disk) (state mid.disk) (state new.disk) (IsMoment old.bodies old.doubt (xs ++ came))
+        moments = λ told. joins (state old.disk) (state mid.disk) (state new.disk) (IsMoment old.bodies old.doubt (xs ++ came))
             (weakened (state old.disk) (state mid.disk) (IsMoment old.bodies old.doubt xs) (IsMoment old.bodies old.doubt (xs ++ came)) (first.moments told)
             (λ content there. moment_more old.bodies old.doubt xs came content there))
             (weakened (state mid.disk) (state new.disk) (IsMoment mid.bodies mid.doubt came) (IsMoment old.bodies old.doubt (xs ++ came)) (second.moments (told_mid told))

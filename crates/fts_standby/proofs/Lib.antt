@@ -9,5 +9,5 @@ mod TakenEntries
 mod FollowedCalls
 mod WrittenOut
 mod Showing
-mod ReachedWorlds
+pub mod ReachedWorlds
 mod Answered

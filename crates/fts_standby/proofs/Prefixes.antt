@@ -21,22 +21,12 @@ IsOfAny list None = Unit {0}
 IsOfAny list (Some response) = IsOf list response
 
 -- nothing is not something
-IsNothing : {A : Type 0} → Option A → Type 0
-IsNothing None = Unit {0}
-IsNothing (Some x) = ⊥
-
 pub none_some : {A : Type 0} (x : A) → None ≡ Some x → ⊥
-unfolding IsNothing
-none_some x e = subst IsNothing e tt
+none_some x e = cc
 
--- what an option holds, or else this
-held_or : {A : Type 0} → A → Option A → A
-held_or x None = x
-held_or x (Some y) = y
-
+-- and something is but one
 pub some_is : {A : Type 0} (x y : A) → Some x ≡ Some y → x ≡ y
-unfolding held_or
-some_is x y e = ap (held_or x) e
+some_is x y e = cc
 
 -- what is had stays had
 get_more : {A : Type 0} (xs : List A) (n : ℕ) (x y : A) → slice_get xs n ≡ Some x → slice_get (xs ++ y ∷ []) n ≡ Some x

@@ -68,7 +68,7 @@ given_by number (Sent (Err EndsInside)) entry is = absurd (cc)
 given_by number (Sent (Err SourceFailed)) entry is = absurd (cc)
 
 -- what holds of each answer holds of the last one
-last_answer : (P : AnswerData → Type 0) (again : List Try) (answer : AnswerData) → AllByRecursion P (answers_of (again ++ Sent (Ok answer) ∷ [])) → P answer
+pub last_answer : (P : AnswerData → Type 0) (again : List Try) (answer : AnswerData) → AllByRecursion P (answers_of (again ++ Sent (Ok answer) ∷ [])) → P answer
 last_answer P [] answer all = all.0
 last_answer P (NoLine ∷ again) answer all = last_answer P again answer all
 last_answer P (NotSent ∷ again) answer all = last_answer P again answer all

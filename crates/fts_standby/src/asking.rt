@@ -3,6 +3,7 @@
 //! Keeps: fewer tries than are allowed are made only where the last one gave the entry, said that there is none, or was refused, or where memory ran
 //! out (`ask`: `Asks`). Nothing of an older try is kept.
 ghost use Rattle.std.specs.Prelude.{◌≡◌, ◌≤◌, IfOk};
+ghost use Rattle.fts_client.specs.Links.{read_side, written_side};
 ghost use Rattle.fts_client.specs.Tries.{try_of};
 ghost use Rattle.fts_standby.specs.Hearing.{heard_data};
 ghost use Rattle.fts_standby.specs.Asking.{request_bytes, heard_by, is_final, Asks, AsksFor, IsEntryOf};
@@ -30,9 +31,7 @@ pub fn ask_for<L: Link>(
     room: &mut AnswerRoom,
 ) -> Result<Option<Vec<u8>>, FollowEnd>
     requires some { 1 ≤ tries }
-    ensures { AsksFor
-        (record { bytes = L.Line.Source.left; faults = L.Line.Source.faults; reads = L.Line.Source.reads; beside = L.Line.Source.beside })
-        (record { bytes = L.Line.Sink.held; faults = L.Line.Sink.faults; reads = λ _. 0; beside = L.Line.Sink.beside })
+    ensures { AsksFor (read_side L.Line.Source) (written_side L.Line.Sink)
         port number tries (L.link link.old) (L.link link.new) (L.faults link.old) (L.faults link.new) result }
 {
     match ask(alloc, link, port, number, tries, room) {
@@ -51,9 +50,7 @@ fn ask<L: Link>(
     room: &mut AnswerRoom,
 ) -> Result<Heard, Memory>
     requires some { 1 ≤ tries }
-    ensures { Asks
-        (record { bytes = L.Line.Source.left; faults = L.Line.Source.faults; reads = L.Line.Source.reads; beside = L.Line.Source.beside })
-        (record { bytes = L.Line.Sink.held; faults = L.Line.Sink.faults; reads = λ _. 0; beside = L.Line.Sink.beside })
+    ensures { Asks (read_side L.Line.Source) (written_side L.Line.Sink)
         port number tries (L.link link.old) (L.link link.new) (L.faults link.old) (L.faults link.new) result }
 {
     let head = request_head(port, number);

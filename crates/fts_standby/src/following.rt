@@ -7,6 +7,7 @@ ghost use Rattle.fts_tables.specs.Counts.{Rose};
 ghost use Rattle.fts_record.specs.Reading.{read_of};
 ghost use Rattle.fts_disk.specs.Disk.{IsTold};
 ghost use Rattle.fts_journal.specs.Journal.{IsSound};
+ghost use Rattle.fts_client.specs.Links.{read_side, written_side};
 ghost use Rattle.fts_standby.specs.Following.{Followed, IsReady, Settles, Compares, LooksAtOwn, TakesNext, AppendsBy, TakesAll};
 
 use crate::asking::ask_for;
@@ -29,9 +30,7 @@ pub fn follow<L: Link, D: Disk>(
     journal: &mut Journal<D>,
 ) -> FollowEnd
     requires some { 1 ≤ tries }
-    ensures followed { Followed D.state D.faults
-        (record { bytes = L.Line.Source.left; faults = L.Line.Source.faults; reads = L.Line.Source.reads; beside = L.Line.Source.beside })
-        (record { bytes = L.Line.Sink.held; faults = L.Line.Sink.faults; reads = λ _. 0; beside = L.Line.Sink.beside })
+    ensures followed { Followed D.state D.faults (read_side L.Line.Source) (written_side L.Line.Sink)
         port tries journal.old (journal.new) (L.link link.old) (L.link link.new) (L.faults link.old) (L.faults link.new) result }
     ensures disk_failed { result ≡ FollowEnd.DiskFailed → Rose (D.faults journal.old.disk) (D.faults journal.new.disk) }
     ensures images { IsSound (D.state journal.new.disk) journal.new.bodies journal.new.doubt }
@@ -67,9 +66,7 @@ fn compare<L: Link, D: Disk>(
 ) -> Result<(), FollowEnd>
     requires some { 1 ≤ tries }
     requires ready { IsReady D.state journal.old }
-    ensures { Compares D.state D.faults
-        (record { bytes = L.Line.Source.left; faults = L.Line.Source.faults; reads = L.Line.Source.reads; beside = L.Line.Source.beside })
-        (record { bytes = L.Line.Sink.held; faults = L.Line.Sink.faults; reads = λ _. 0; beside = L.Line.Sink.beside })
+    ensures { Compares D.state D.faults (read_side L.Line.Source) (written_side L.Line.Sink)
         port tries journal.old (journal.new) (L.link link.old) (L.link link.new) (L.faults link.old) (L.faults link.new) result }
 {
     let count = count_of(journal);
@@ -117,9 +114,7 @@ fn take_all<L: Link, D: Disk>(
 ) -> FollowEnd
     requires some { 1 ≤ tries }
     requires ready { IsReady D.state journal.old }
-    ensures takes { TakesAll D.state D.faults
-        (record { bytes = L.Line.Source.left; faults = L.Line.Source.faults; reads = L.Line.Source.reads; beside = L.Line.Source.beside })
-        (record { bytes = L.Line.Sink.held; faults = L.Line.Sink.faults; reads = λ _. 0; beside = L.Line.Sink.beside })
+    ensures takes { TakesAll D.state D.faults (read_side L.Line.Source) (written_side L.Line.Sink)
         port tries journal.old (journal.new) (L.link link.old) (L.link link.new) (L.faults link.old) (L.faults link.new) result }
     ensures images { IsSound (D.state journal.new.disk) journal.new.bodies journal.new.doubt }
 {
@@ -141,9 +136,7 @@ fn take_next<L: Link, D: Disk>(
 ) -> Result<(), FollowEnd>
     requires some { 1 ≤ tries }
     requires ready { IsReady D.state journal.old }
-    ensures takes { TakesNext D.state D.faults
-        (record { bytes = L.Line.Source.left; faults = L.Line.Source.faults; reads = L.Line.Source.reads; beside = L.Line.Source.beside })
-        (record { bytes = L.Line.Sink.held; faults = L.Line.Sink.faults; reads = λ _. 0; beside = L.Line.Sink.beside })
+    ensures takes { TakesNext D.state D.faults (read_side L.Line.Source) (written_side L.Line.Sink)
         port tries journal.old (journal.new) (L.link link.old) (L.link link.new) (L.faults link.old) (L.faults link.new) result }
     ensures images { IsSound (D.state journal.new.disk) journal.new.bodies journal.new.doubt }
 {

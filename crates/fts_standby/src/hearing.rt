@@ -6,10 +6,10 @@ ghost use Rattle.std.specs.Prelude.{◌≡◌, IfOk, codes, option_map, option_a
 ghost use Rattle.serde_json.specs.Find.{get, as_str};
 ghost use Rattle.serde_json.specs.View.{view};
 ghost use Rattle.hex.specs.Hex.{decode_of};
-ghost use Rattle.fts_jobdoc.specs.Json.{value_of};
 ghost use Rattle.fts_standby.specs.Entries.{number_under, decoded, if_entry, is_numbered, entry_shown, entry_in, has_rule_47, says_no_entry};
 ghost use Rattle.fts_standby.specs.Hearing.{gives, heard_of, heard_data};
 
+use fts_client::read_value;
 use fts_record::{ReadFault, read_entry};
 use fts_tables::Memory;
 use fts_wire::statuses;
@@ -74,27 +74,11 @@ fn hear_absence(alloc: Global, body: &[u8]) -> Result<Heard, Memory>
     }
 }
 
-/// The JSON value that a body is, where it is one.
-fn value_of(alloc: Global, body: &[u8]) -> Result<Option<Value>, Memory>
-    ensures { IfOk result (λ value. option_map view value ≡ value_of body.now) }
-{
-    match Value::from_slice(alloc, body) {
-        Ok(value) => Ok(Some(value)),
-        Err(error) => {
-            if error.is_memory() {
-                Err(Memory)
-            } else {
-                Ok(None)
-            }
-        }
-    }
-}
-
 /// The entry of a number that a body shows.
 fn entry_in(alloc: Global, number: u32, body: &[u8]) -> Result<Option<Vec<u8>>, Memory>
     ensures { IfOk result (λ found. option_map (λ entry. entry.items) found ≡ entry_in number body.now) }
 {
-    match value_of(alloc, body)? {
+    match read_value(alloc, body)? {
         Some(value) => entry_shown(alloc, number, &value),
         None => Ok(None),
     }
@@ -163,7 +147,7 @@ fn if_entry(alloc: Global, bytes: Vec<u8>) -> Result<Option<Vec<u8>>, Memory>
 fn says_no_entry(alloc: Global, body: &[u8]) -> Result<bool, Memory>
     ensures { IfOk result (λ says. says ≡ says_no_entry body.now) }
 {
-    match value_of(alloc, body)? {
+    match read_value(alloc, body)? {
         Some(value) => Ok(has_rule_47(&value)),
         None => Ok(false),
     }

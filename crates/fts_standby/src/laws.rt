@@ -3,7 +3,7 @@ ghost use Rattle.fts_standby.specs.Entries.{ShownIsRead};
 ghost use Rattle.std.specs.Prelude.{◌≡◌, ℕ};
 ghost use Rattle.fts_disk.specs.Disk.{IsTold};
 ghost use Rattle.fts_journal.specs.Journal.{JournalData};
-ghost use Rattle.fts_client.specs.Links.{LinkData};
+ghost use Rattle.fts_client.specs.Links.{LinkData, read_side, written_side};
 ghost use Rattle.fts_standby.specs.Worlds.{World, StandbyFollows, TakingIsSteps};
 ghost use Rattle.fts_standby.specs.Following.{Followed};
 ghost use Rattle.fts_standby.specs.Reaching.{ComeFrom, standby_of, GoesOn, IsReached, Begins};
@@ -33,9 +33,7 @@ pub fn shown_is_read()
 /// begins the primary's, and so does each such image, where the world had come of an empty standby (`begins`).
 pub fn following_is_steps<L: Link, D: Disk>()
     ensures steps { (port most : ℕ) (old new : JournalData D) (link left : LinkData L.Line) (broken failed : ℕ) (end : FollowEnd) (w : World)
-        → (followed : Followed D.state D.faults
-        (record { bytes = L.Line.Source.left; faults = L.Line.Source.faults; reads = L.Line.Source.reads; beside = L.Line.Source.beside })
-        (record { bytes = L.Line.Sink.held; faults = L.Line.Sink.faults; reads = λ _. 0; beside = L.Line.Sink.beside })
+        → (followed : Followed D.state D.faults (read_side L.Line.Source) (written_side L.Line.Sink)
         port most old new link left broken failed end)
         → IsTold (D.state old.disk) → w.standby ≡ standby_of old → ComeFrom w.made followed.requests → GoesOn D.state old new w }
     ensures begins { (old new : JournalData D) (w : World) → IsReached w → GoesOn D.state old new w → Begins D.state old new w }

@@ -1,27 +1,12 @@
 -- Decimal digits, and lists of them.
-use Rattle.std.proofs.Common.{◌≡◌, ℕ, ◌+◌, ◌%◌, ◌^◌, ◌<◌, ◌≤◌, true, false, List, [], ◌∷◌, ◌++◌, length, refl, arith, le-leb, decimal, Some}
+use Rattle.std.proofs.Common.{◌≡◌, ℕ, ◌^◌, ◌<◌, ◌≤◌, true, false, List, [], ◌∷◌, length, refl, arith, le-leb, decimal, Some}
 use Rattle.std.specs.Prelude.{◌==◌, nat_le}
 use Rattle.std.specs.List.{list_all, slice_split}
-use Rattle.std.proofs.lemmas.Fmt.{decimal_is_IsNumeral, decimal_by_steps, length-decimal-le, decimal_nonempty}
+use Rattle.std.proofs.lemmas.Fmt.{decimal_is_IsNumeral, length-decimal-le, decimal_nonempty}
 use Rattle.std.proofs.lemmas.Bool.Decides.{nat_tests}
 use Rattle.fts_tables.specs.Names.{is_digit}
 use Rattle.fts_routes.specs.Routes.{entry_number}
-
--- a decimal digit, and each byte is one
-abbrev pub IsDigit : ℕ → Type 0
-IsDigit byte = (48 ≤ byte) × (byte ≤ 57)
-
-abbrev pub AreDigits : List ℕ → Type 0
-AreDigits [] = Unit {0}
-AreDigits (byte ∷ bytes) = IsDigit byte × AreDigits bytes
-
-digits-push : (bytes : List ℕ) (byte : ℕ) → AreDigits bytes → IsDigit byte → AreDigits (bytes ++ byte ∷ [])
-digits-push [] byte are is = (is, tt)
-digits-push (first ∷ bytes) byte are is = (are.0, digits-push bytes byte are.1 is)
-
-pub decimal_digits : (n : ℕ) → n < 2 ^ 64 → AreDigits (decimal n)
-decimal_digits n small = decimal_by_steps (λ _ bytes. AreDigits bytes) (λ digit few. ((omega arith, omega (arith, few)), tt))
-    (λ number bytes more are. digits-push bytes (48 + number % 10) are (omega arith, omega arith)) n small
+use Rattle.fts_client.proofs.DigitBytes.{IsDigit, AreDigits, decimal_digits}
 
 -- digits have no slash, and are one part of a path
 no_slash : (byte : ℕ) → IsDigit byte → (byte == 0x2f) ≡ false

@@ -18,6 +18,7 @@ use Rattle.fts_standby.specs.Following.{Taken, AreTaken, requests_from, HasSameL
 use Rattle.fts_standby.specs.Reaching.{IsOneOf, ComeFrom, standby_of, LeadsTo, IsReached, GoesOn, Begins}
 use Rattle.fts_standby.specs.declared.ends.FollowEnd.{FollowEnd}
 use Rattle.fts_standby.specs.declared.ends.FollowEnd.TheVariants as ends
+use Rattle.fts_standby.proofs.ReachedWorlds.{last_answer}
 use Rattle.fts_standby_laws.specs.Serving.{IsServed, IsAnswered, AreAnswered, AreShort, IsBeginning, AsksService, IsWorldOf, Walks, LeavesBeginning}
 use Rattle.fts_standby_laws.proofs.ServedWorlds.{all_made, world_with, steps_to}
 use Rattle.fts_standby_laws.proofs.Replies.{IsReadBack, answer_is_one, given_there, none_there, front_short}
@@ -51,13 +52,6 @@ world_of read_back taking early primary standby requests served begins short ans
     }
 
 -- ---- the last answer of a request
-
-last_answer : (P : AnswerData → Type 0) (again : List Try) (answer : AnswerData) → AllByRecursion P (answers_of (again ++ Sent (Ok answer) ∷ [])) → P answer
-last_answer P [] answer all = all.0
-last_answer P (NoLine ∷ again) answer all = last_answer P again answer all
-last_answer P (NotSent ∷ again) answer all = last_answer P again answer all
-last_answer P (Sent (Ok other) ∷ again) answer all = last_answer P again answer all.1
-last_answer P (Sent (Err fault) ∷ again) answer all = last_answer P again answer all
 
 -- an entry was given in a request, so the list has one there
 given_last : (early primary : List Entry) (number : ℕ) (again : List Try) (last : Try) (entry : List ℕ) → number ≤ 4294967295 → heard_by number last ≡ Gives entry

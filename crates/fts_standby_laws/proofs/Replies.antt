@@ -23,7 +23,8 @@ use Rattle.fts_standby.specs.Entries.{entry_in, says_no_entry}
 use Rattle.fts_standby.specs.Hearing.{Gives as HeardGives, Refuses as HeardRefuses, NoneThere, gives, heard_of}
 use Rattle.fts_standby.specs.Reaching.{Shows, IsOneOf}
 use Rattle.fts_standby_laws.specs.Serving.{request_for, IsServed, IsReply, IsAnswered}
-use Rattle.fts_standby_laws.proofs.Digits.{AreDigits, decimal_digits, one_part, number_spelled}
+use Rattle.fts_client.proofs.DigitBytes.{AreDigits, decimal_digits}
+use Rattle.fts_standby_laws.proofs.Digits.{one_part, number_spelled}
 use Rattle.fts_standby_laws.proofs.ShownEntries.{entry_back, entry_text}
 use Rattle.fts_standby_laws.proofs.SpelledBytes.{spelled_bytes}
 use Rattle.fts_standby_laws.proofs.ServedWorlds.{IsIn, answers_over, all_numbers, every_number, all_made, is_made, over_number, over_500, over_503}

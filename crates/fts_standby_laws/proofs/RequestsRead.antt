@@ -1,6 +1,6 @@
 -- The bytes of the request for an entry are read as that request, for each number and on each port.
 use Rattle.std.proofs.Common.{◌≡◌, ◌≢◌, ℕ, zero, suc, ◌+◌, ◌^◌, ◌<◌, ◌≤◌, Bool, true, false, cond, List, [], ◌∷◌, ◌++◌, length, take, drop, Some, None, codes, refl, ap, ap₂, sym, ◌∙◌, arith, append_assoc, le-leb, eq-eqb, length-append, true≢false, lt-ltb}
-use Rattle.std.specs.Prelude.{decimal, ◌==◌, ◌&&◌, ◌||◌, not, nat_lt, bytes_eq, if◌then◌else◌}
+use Rattle.std.specs.Prelude.{decimal, ◌&&◌, ◌||◌, not, nat_lt, bytes_eq, if◌then◌else◌}
 use Rattle.std.specs.List.{concat, list_any, list_all, before_first, after_first, position_or_len}
 use Rattle.std.specs.Str.{is_utf8}
 use Rattle.std.proofs.lemmas.Fmt.{IsAscii-decimal, length-decimal-le}
@@ -11,14 +11,15 @@ use Rattle.json.proofs.Printed.Utf8.{IsUtf8-are_ascii}
 use Rattle.httparse.specs.Pieces.{is_newline}
 use Rattle.httparse.specs.Grammar.{is_value_byte, is_uri_byte, trim_ows, RequestHead, crlf, lf, print_request}
 use Rattle.httparse.proofs.OnLiterals.{httparse_on_literals}
-use Rattle.fts_wire.specs.RequestData.{HeadData, RequestData, is_question, path_of, query_of}
+use Rattle.fts_wire.specs.RequestData.{HeadData, is_question, path_of, query_of}
 use Rattle.fts_wire.specs.Head.{lines_of, head_lines, minor_of, request_of, head_if, head_of, is_return, is_space, is_request}
 use Rattle.fts_wire.specs.Look.{Headed, sight_head, sight_lines, sight_by, sight_in, sight_of}
-use Rattle.fts_wire.specs.Requests.{Next, next_of, next_by, asks, is_open, IsShort, Closed, EndsInside, Refuses, Asks}
-use Rattle.fts_wire.proofs.Stable.{StaysNext, next_more}
+use Rattle.fts_wire.specs.Requests.{next_of, next_by, asks, IsShort, EndsInside, Asks}
+use Rattle.fts_wire.proofs.Stable.{next_more}
+use Rattle.fts_client.proofs.DigitBytes.{IsDigit, AreDigits, decimal_digits, not_10, each_digit}
+use Rattle.fts_client.proofs.OpenRequests.{host_line, close_line, empty_line, open_before}
 use Rattle.fts_standby.specs.Asking.{request_bytes}
 use Rattle.fts_standby_laws.specs.Serving.{request_for}
-use Rattle.fts_standby_laws.proofs.Digits.{IsDigit, AreDigits, decimal_digits}
 
 -- ---- bytes before one that ends them
 
@@ -84,13 +85,6 @@ no_digit : (test : ℕ → Bool) → ((byte : ℕ) → IsDigit byte → test byt
 no_digit test each [] are = refl
 no_digit test each (byte ∷ word) are = rw (each byte are.0) (no_digit test each word are.1)
 
-each_digit : (test : ℕ → Bool) → ((byte : ℕ) → IsDigit byte → test byte ≡ true) → (word : List ℕ) → AreDigits word → list_all test word ≡ true
-each_digit test each [] are = refl
-each_digit test each (byte ∷ word) are = rw (each byte are.0) (each_digit test each word are.1)
-
-not_10 : (byte : ℕ) → IsDigit byte → (byte == 10) ≡ false
-not_10 byte is = grind (arith, nat_tests, is.0)
-
 not_newline : (byte : ℕ) → IsDigit byte → is_newline byte ≡ false
 not_newline byte is = grind (arith, nat_tests, is.0)
 
@@ -113,15 +107,6 @@ target_of word = codes "/journal/" ++ word
 
 abbrev first_line : List ℕ → List ℕ
 first_line word = codes "GET /journal/" ++ (word ++ codes " HTTP/1.1\r\n")
-
-abbrev host_line : List ℕ → List ℕ
-host_line port = codes "Host: 127.0.0.1:" ++ (port ++ 13 ∷ 10 ∷ [])
-
-abbrev close_line : List ℕ
-close_line = codes "Connection: close\r\n"
-
-abbrev empty_line : List ℕ
-empty_line = codes "\r\n"
 
 abbrev four_lines : List ℕ → List ℕ → List (List ℕ)
 four_lines word port = first_line word ∷ host_line port ∷ close_line ∷ empty_line ∷ []
@@ -293,24 +278,6 @@ request_is_read port number near few =
     ∙ asked_whole number (concat (four_lines (decimal number) (decimal port))) (omega (arith, few)))
 
 -- ---- parts of a request
-
-no_rest : (rest more : List ℕ) → rest ++ more ≡ [] → more ≡ []
-no_rest [] more is = is
-no_rest (byte ∷ rest) more is = cc
-
--- what is behind a request, and something where none is read
-abbrev rest_of : Next → List ℕ
-rest_of Closed = 1 ∷ []
-rest_of EndsInside = 1 ∷ []
-rest_of (Refuses fault) = 1 ∷ []
-rest_of (Asks request rest) = rest
-
--- where more bytes make bytes a request, they were open before
-open_before : (first : Next) (more : List ℕ) (whole : Next) (request : RequestData) → StaysNext first more whole → whole ≡ Asks request [] → more ≢ [] → is_open first ≡ true
-open_before Closed more whole request stays is some = refl
-open_before EndsInside more whole request stays is some = refl
-open_before (Refuses fault) more whole request stays is some = let clash : Refuses fault ≡ Asks request [] = sym stays ∙ is in cc
-open_before (Asks one rest) more whole request stays is some = absurd (some (no_rest rest more (ap rest_of (sym stays ∙ is))))
 
 -- a part of a request asks for nothing
 pub part_is_open : (port number : ℕ) (part more : List ℕ) → port ≤ 65535 → number ≤ 4294967295 → request_bytes port number ≡ part ++ more → more ≢ [] → IsShort part

@@ -1,38 +1,22 @@
 -- The body that shows an entry is read back as that object.
-use Rattle.std.proofs.Common.{◌≡◌, ℕ, ◌^◌, ◌<◌, ◌≤◌, true, List, [], ◌∷◌, ◌++◌, Some, refl, ap, sym, ◌∙◌, arith, append-nil, decimal}
-use Rattle.std.specs.Prelude.{IsUtf8, codes, nat_lt, option_and_then}
+use Rattle.std.proofs.Common.{◌≡◌, ℕ, ◌^◌, ◌<◌, true, List, [], ◌∷◌, ◌++◌, Some, refl, arith, decimal}
+use Rattle.std.specs.Prelude.{IsUtf8, codes, nat_lt}
 use Rattle.std.specs.Str.{is_utf8, IsAscii}
 use Rattle.std.proofs.lemmas.Bool.{and_parts, ltb-true}
 use Rattle.std.proofs.lemmas.Fmt.{IsAscii-decimal}
 use Rattle.std.proofs.lemmas.Str.{IsUtf8-append, IsUtf8-from_ascii, is_utf8-from_IsUtf8}
 use Rattle.std.proofs.lemmas.Str.Ascii.{IsAscii-nil, IsAscii-cons}
-use Rattle.json.specs.Json as json
-use Rattle.json.specs.Lex.{tokens}
 use Rattle.json.specs.Print.{quoted}
-use Rattle.json.specs.Tree.{json_tokens, HasNumbers, depth}
-use Rattle.json.proofs.Printed.Tokens.{tokens-print}
-use Rattle.json.proofs.Printed.Trees.{value-json_tokens, ArePrintable-json_tokens}
 use Rattle.json.proofs.Printed.Decimals.{IsNumber-decimal}
 use Rattle.json.proofs.Printed.Utf8.{are_ascii, IsUtf8-are_ascii, IsUtf8-quoted}
 use Rattle.hex.specs.Hex.{encode_lower, lower_digits}
 use Rattle.hex.proofs.HexLemmas.{IsAscii-encode_with}
 use Rattle.serde_json.specs.Data.{Data, string, number, unsigned, object, member, no_members}
-use Rattle.serde_json.specs.Read.{read, of_json, max_depth}
+use Rattle.serde_json.specs.Read.{read, of_json}
 use Rattle.serde_json.specs.Written.{outline, compact_text}
-use Rattle.serde_json.proofs.Texts.{print-outline}
 use Rattle.serde_json.proofs.Numbers.{number_of-decimal}
 use Rattle.fts_standby.specs.Entries.{entry_object}
-
--- a value that was written is read back
-read_back : (value : Data) → HasNumbers (outline value) → depth (outline value) ≤ max_depth → of_json (outline value) ≡ Some value
-    → read (compact_text value) ≡ Some value
-read_back value numbers shallow same =
-    let all = json_tokens (outline value) in
-    ap (λ found. option_and_then of_json (option_and_then (λ p. json.if_last p.0 p.1) found))
-    (ap (json.value max_depth) (ap tokens (sym (print-outline value))
-    ∙ (tokens-print (json_tokens (outline value)) (ArePrintable-json_tokens (outline value) numbers) ∙ sym (append-nil (json_tokens (outline value)))))
-    ∙ value-json_tokens (outline value) max_depth [] shallow)
-    ∙ same
+use Rattle.fts_client.proofs.WrittenBack.{read_back}
 
 -- the object of an entry, with this text for its bytes
 abbrev entry_with : List ℕ → ℕ → ℕ → Data

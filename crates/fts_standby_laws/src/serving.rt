@@ -10,7 +10,7 @@ ghost use Rattle.fts_journal.specs.Journal.{JournalData};
 ghost use Rattle.fts_keep.specs.Keeps.{KeepData, IsKeep};
 ghost use Rattle.fts_wire.specs.Requests.{next_of, IsShort, Asks};
 ghost use Rattle.fts_wire.specs.declared.response.Reply.{Reply};
-ghost use Rattle.fts_client.specs.Links.{LinkData};
+ghost use Rattle.fts_client.specs.Links.{LinkData, read_side, written_side};
 ghost use Rattle.fts_routes.specs.Replies.{Answers};
 ghost use Rattle.fts_standby.specs.Worlds.{Standby, World, IsPrefix, spellings};
 ghost use Rattle.fts_standby.specs.Asking.{Request, request_bytes};
@@ -41,28 +41,20 @@ pub fn answers_are_of_a_world()
 pub fn following_a_service_begins_its_list<L: Link, D: Disk>()
     ensures walks { (port most : ℕ) (old new : JournalData D) (link left : LinkData L.Line) (broken failed : ℕ) (end : FollowEnd)
         (early primary : List Entry)
-        → (followed : Followed D.state D.faults
-        (record { bytes = L.Line.Source.left; faults = L.Line.Source.faults; reads = L.Line.Source.reads; beside = L.Line.Source.beside })
-        (record { bytes = L.Line.Sink.held; faults = L.Line.Sink.faults; reads = λ _. 0; beside = L.Line.Sink.beside })
+        → (followed : Followed D.state D.faults (read_side L.Line.Source) (written_side L.Line.Sink)
         port most old new link left broken failed end)
         → AsksService D.state old early primary followed.requests → Walks D.state old new primary followed.requests }
     ensures begins { (port most : ℕ) (old new : JournalData D) (link left : LinkData L.Line) (broken failed : ℕ) (end : FollowEnd)
         (early primary : List Entry)
-        → (followed : Followed D.state D.faults
-        (record { bytes = L.Line.Source.left; faults = L.Line.Source.faults; reads = L.Line.Source.reads; beside = L.Line.Source.beside })
-        (record { bytes = L.Line.Sink.held; faults = L.Line.Sink.faults; reads = λ _. 0; beside = L.Line.Sink.beside })
+        → (followed : Followed D.state D.faults (read_side L.Line.Source) (written_side L.Line.Sink)
         port most old new link left broken failed end)
         → AsksService D.state old early primary followed.requests → LeavesBeginning D.state old new primary }
     ensures caught_up { (port most : ℕ) (old new : JournalData D) (link left : LinkData L.Line) (broken failed count : ℕ) (early primary : List Entry)
-        → (followed : Followed D.state D.faults
-        (record { bytes = L.Line.Source.left; faults = L.Line.Source.faults; reads = L.Line.Source.reads; beside = L.Line.Source.beside })
-        (record { bytes = L.Line.Sink.held; faults = L.Line.Sink.faults; reads = λ _. 0; beside = L.Line.Sink.beside })
+        → (followed : Followed D.state D.faults (read_side L.Line.Source) (written_side L.Line.Sink)
         port most old new link left broken failed (CaughtUp count))
         → AsksService D.state old early primary followed.requests → IsPrefix (spellings early) new.bodies }
     ensures all { (port most : ℕ) (old new : JournalData D) (link left : LinkData L.Line) (broken failed count : ℕ) (primary : List Entry)
-        → (followed : Followed D.state D.faults
-        (record { bytes = L.Line.Source.left; faults = L.Line.Source.faults; reads = L.Line.Source.reads; beside = L.Line.Source.beside })
-        (record { bytes = L.Line.Sink.held; faults = L.Line.Sink.faults; reads = λ _. 0; beside = L.Line.Sink.beside })
+        → (followed : Followed D.state D.faults (read_side L.Line.Source) (written_side L.Line.Sink)
         port most old new link left broken failed (CaughtUp count))
         → AsksService D.state old primary primary followed.requests → new.bodies ≡ spellings primary }
 {

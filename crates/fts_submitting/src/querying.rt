@@ -1,6 +1,7 @@
 //! A query: the service is asked for a job by tries, and the job's object is written.
 ghost use Rattle.std.specs.Prelude.{◌≡◌, ◌≢◌, ◌≤◌, false};
 ghost use Rattle.fts_tables.specs.Counts.{Rose};
+ghost use Rattle.fts_client.specs.Links.{read_side, written_side};
 ghost use Rattle.fts_submitting.specs.Ends.{client_status};
 ghost use Rattle.fts_submitting.specs.Runs.{TellsBody, IsQueryRun};
 
@@ -9,7 +10,7 @@ use crate::ends::end_of_query;
 use crate::tells::tell_body;
 use fts_client::{Link, QueryEnd, query};
 use fts_tables::Memory;
-use fts_wire::{AnswerRoom, Sink, SinkFailed};
+use fts_wire::{AnswerRoom, Sink};
 use std::alloc::Global;
 
 /// Asks the service on a port of this machine for a job, in at most `tries` tries, and writes its object.
@@ -22,9 +23,7 @@ pub fn run_query<K: Sink, L: Link>(
     link: &mut L,
 ) -> ClientEnd
     requires some { 1 ≤ tries }
-    ensures run { IsQueryRun
-        (record { bytes = L.Line.Source.left; faults = L.Line.Source.faults; reads = L.Line.Source.reads; beside = L.Line.Source.beside })
-        (record { bytes = L.Line.Sink.held; faults = L.Line.Sink.faults; reads = λ _. 0; beside = L.Line.Sink.beside })
+    ensures run { IsQueryRun (read_side L.Line.Source) (written_side L.Line.Sink)
         port job tries (L.link link.old) (L.link link.new) (L.faults link.old) (L.faults link.new) (K.held output.old) (K.held output.new) result }
     ensures input { client_status result ≢ 5 }
     ensures output { client_status result ≡ 6 → Rose (K.faults output.old) (K.faults output.new) }
@@ -44,15 +43,9 @@ fn tell<K: Sink>(output: &mut K, body: &[u8], end: QueryEnd) -> bool
     ensures told { TellsBody body.now end (K.held output.old) (K.held output.new) result }
     ensures cause { result ≡ false → Rose (K.faults output.old) (K.faults output.new) }
 {
-    match end {
-        QueryEnd::Found => match tell_body(output, body) {
-            Ok(()) => true,
-            Err(SinkFailed) => false,
-        },
-        QueryEnd::Refused { status: _ }
-        | QueryEnd::LinkFailed
-        | QueryEnd::CannotServe { status: _ }
-        | QueryEnd::NoAnswer
-        | QueryEnd::Memory => true,
+    if let QueryEnd::Found = end {
+        tell_body(output, body).is_ok()
+    } else {
+        true
     }
 }

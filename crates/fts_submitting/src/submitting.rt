@@ -1,6 +1,7 @@
 //! A submission: the input's document is read whole, and its own id looked at; then it is sent by tries, and the id of its job is written.
 ghost use Rattle.std.specs.Prelude.{◌≡◌, ◌≢◌, ◌≤◌, false, IfOk, IfErr};
 ghost use Rattle.fts_tables.specs.Counts.{Rose};
+ghost use Rattle.fts_client.specs.Links.{read_side, written_side};
 ghost use Rattle.fts_submitting.specs.Ends.{client_status};
 ghost use Rattle.fts_submitting.specs.Runs.{IsDocument, HasNoDocument, TellsId, IsSubmitRun};
 
@@ -11,7 +12,7 @@ use fts_client::{Link, SubmitEnd, submit};
 use fts_jobdoc::{DocFault, read_sid};
 use fts_tables::Memory;
 use fts_tables::limits::MAX_CONTENT_BYTES;
-use fts_wire::{AnswerRoom, ReadAllFault, Sink, SinkFailed, Source, read_all};
+use fts_wire::{AnswerRoom, ReadAllFault, Sink, Source, read_all};
 use std::alloc::Global;
 
 /// The rule that a document breaks which is too long.
@@ -27,9 +28,7 @@ pub fn run_submit<S: Source, K: Sink, L: Link>(
     link: &mut L,
 ) -> ClientEnd
     requires some { 1 ≤ tries }
-    ensures run { IsSubmitRun
-        (record { bytes = L.Line.Source.left; faults = L.Line.Source.faults; reads = L.Line.Source.reads; beside = L.Line.Source.beside })
-        (record { bytes = L.Line.Sink.held; faults = L.Line.Sink.faults; reads = λ _. 0; beside = L.Line.Sink.beside })
+    ensures run { IsSubmitRun (read_side L.Line.Source) (written_side L.Line.Sink)
         port tries (S.left input.old) (S.left input.new) (L.link link.old) (L.link link.new) (L.faults link.old) (L.faults link.new)
         (K.held output.old) (K.held output.new) result }
     ensures input { client_status result ≡ 5 → Rose (S.faults input.old) (S.faults input.new) }
@@ -54,16 +53,10 @@ fn tell<K: Sink>(output: &mut K, end: SubmitEnd) -> bool
     ensures told { TellsId end (K.held output.old) (K.held output.new) result }
     ensures cause { result ≡ false → Rose (K.faults output.old) (K.faults output.new) }
 {
-    match end {
-        SubmitEnd::Done { job, again: _ } => match tell_id(output, job) {
-            Ok(()) => true,
-            Err(SinkFailed) => false,
-        },
-        SubmitEnd::Refused { status: _ }
-        | SubmitEnd::LinkFailed
-        | SubmitEnd::CannotServe { status: _ }
-        | SubmitEnd::NoAnswer
-        | SubmitEnd::Memory => true,
+    if let SubmitEnd::Done { job, again: _ } = end {
+        tell_id(output, job).is_ok()
+    } else {
+        true
     }
 }
 

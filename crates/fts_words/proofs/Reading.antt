@@ -11,9 +11,9 @@ use Rattle.fts_tables.specs.SettingsData.{are_apart}
 use Rattle.fts_words.specs.Words.{option_of, options_behind, before_others, has_value, is_equals, is_same_option, each_once, numbers_of, asked_with, asked_of}
 use Rattle.fts_words.specs.declared.asked.Command.{Command}
 use Rattle.fts_words.specs.declared.options.Given.{Given}
-use Rattle.fts_words.specs.declared.options.Given.TheVariants.{Port, Lanes, Connections, Number, Tries, Job, Socket, Log}
 use Rattle.fts_words.specs.declared.options.Numbers.{Numbers}
 use Rattle.fts_words.proofs.Given.{Taken}
+use Rattle.fts_words.proofs.Walked.{name_of_given, same_by_name, same_turned}
 
 -- options before others, where there are such
 abbrev pub joined : List Given → Option (List Given) → Option (List Given)
@@ -33,71 +33,9 @@ pub record Cuts (command : Command) (words rest : List (List ℕ)) (next : Optio
   pub are : numbers ≡ numbers_of done
   pub joins : options_behind command None words ≡ joined done (option_and_then (before_others (options_behind command None rest)) next)
 
+-- options have the same name in both orders
 same_option : (one other : Given) → is_same_option one other ≡ is_same_option other one
-same_option (Port a) (Port b) = refl
-same_option (Port a) (Lanes b) = refl
-same_option (Port a) (Connections b) = refl
-same_option (Port a) (Number b) = refl
-same_option (Port a) (Tries b) = refl
-same_option (Port a) (Job b) = refl
-same_option (Port a) Socket = refl
-same_option (Port a) Log = refl
-same_option (Lanes a) (Port b) = refl
-same_option (Lanes a) (Lanes b) = refl
-same_option (Lanes a) (Connections b) = refl
-same_option (Lanes a) (Number b) = refl
-same_option (Lanes a) (Tries b) = refl
-same_option (Lanes a) (Job b) = refl
-same_option (Lanes a) Socket = refl
-same_option (Lanes a) Log = refl
-same_option (Connections a) (Port b) = refl
-same_option (Connections a) (Lanes b) = refl
-same_option (Connections a) (Connections b) = refl
-same_option (Connections a) (Number b) = refl
-same_option (Connections a) (Tries b) = refl
-same_option (Connections a) (Job b) = refl
-same_option (Connections a) Socket = refl
-same_option (Connections a) Log = refl
-same_option (Number a) (Port b) = refl
-same_option (Number a) (Lanes b) = refl
-same_option (Number a) (Connections b) = refl
-same_option (Number a) (Number b) = refl
-same_option (Number a) (Tries b) = refl
-same_option (Number a) (Job b) = refl
-same_option (Number a) Socket = refl
-same_option (Number a) Log = refl
-same_option (Tries a) (Port b) = refl
-same_option (Tries a) (Lanes b) = refl
-same_option (Tries a) (Connections b) = refl
-same_option (Tries a) (Number b) = refl
-same_option (Tries a) (Tries b) = refl
-same_option (Tries a) (Job b) = refl
-same_option (Tries a) Socket = refl
-same_option (Tries a) Log = refl
-same_option (Job a) (Port b) = refl
-same_option (Job a) (Lanes b) = refl
-same_option (Job a) (Connections b) = refl
-same_option (Job a) (Number b) = refl
-same_option (Job a) (Tries b) = refl
-same_option (Job a) (Job b) = refl
-same_option (Job a) Socket = refl
-same_option (Job a) Log = refl
-same_option Socket (Port b) = refl
-same_option Socket (Lanes b) = refl
-same_option Socket (Connections b) = refl
-same_option Socket (Number b) = refl
-same_option Socket (Tries b) = refl
-same_option Socket (Job b) = refl
-same_option Socket Socket = refl
-same_option Socket Log = refl
-same_option Log (Port b) = refl
-same_option Log (Lanes b) = refl
-same_option Log (Connections b) = refl
-same_option Log (Number b) = refl
-same_option Log (Tries b) = refl
-same_option Log (Job b) = refl
-same_option Log Socket = refl
-same_option Log Log = refl
+same_option one other = same_by_name one other ∙ same_turned (name_of_given other) (name_of_given one) ∙ sym (same_by_name other one)
 
 -- one that is told apart from all before it
 any_back : (option : Given) (done : List Given) → list_any (λ one. is_same_option one option) done ≡ list_any (is_same_option option) done
@@ -156,6 +94,14 @@ module _ (command : Command) (words : List (List ℕ)) where
     pub cut_waiting : (name : List ℕ) → SoFar command words (word ∷ rest) (Some name) numbers → Cuts command words rest (option_of command name word) numbers
     cut_waiting name so_far = record { done = so_far.done; apart = so_far.apart; are = so_far.are; joins = so_far.joins }
 
+    -- what no name waited for, by whether it has its value behind an equals sign
+    joins_by : (so_far : SoFar command words (word ∷ rest) None numbers) (b : Bool) → has_value word ≡ b → options_behind command None words ≡ joined so_far.done
+        (if b then option_and_then (before_others (options_behind command None rest)) (option_of command (before_first is_equals word) (after_first is_equals word))
+        else options_behind command (Some word) rest)
+    joins_by so_far b has = so_far.joins ∙ ap (λ (b : Bool). joined so_far.done
+        (if b then option_and_then (before_others (options_behind command None rest)) (option_of command (before_first is_equals word) (after_first is_equals word))
+        else options_behind command (Some word) rest)) has
+
     -- the word has its value behind an equals sign
     pub cut_equals : has_value word ≡ true → SoFar command words (word ∷ rest) None numbers
         → Cuts command words rest (option_of command (before_first is_equals word) (after_first is_equals word)) numbers
@@ -163,9 +109,7 @@ module _ (command : Command) (words : List (List ℕ)) where
       done = so_far.done;
       apart = so_far.apart;
       are = so_far.are;
-      joins = so_far.joins ∙ ap (λ (b : Bool). joined so_far.done
-          (if b then option_and_then (before_others (options_behind command None rest)) (option_of command (before_first is_equals word) (after_first is_equals word))
-          else options_behind command (Some word) rest)) has;
+      joins = joins_by so_far true has;
     }
 
     -- the word is a name, whose value is to come
@@ -174,9 +118,7 @@ module _ (command : Command) (words : List (List ℕ)) where
       done = so_far.done;
       apart = so_far.apart;
       are = so_far.are;
-      joins = so_far.joins ∙ ap (λ (b : Bool). joined so_far.done
-          (if b then option_and_then (before_others (options_behind command None rest)) (option_of command (before_first is_equals word) (after_first is_equals word))
-          else options_behind command (Some word) rest)) has;
+      joins = joins_by so_far false has;
     }
 
   asked_by : (o : Option (List Given)) → options_behind command None words ≡ o

@@ -1,5 +1,5 @@
 -- The options of an accepted list are taken one after another, each where it is new, and their values are the definition's.
-use Rattle.std.proofs.Common.{◌≡◌, refl, ap, sym, ◌∙◌, subst, arith, ℕ, ◌<◌, ◌≤◌, ◌==◌, ◌&&◌, ◌||◌, cond, Bool, true, false, not, List, [], ◌∷◌, ◌++◌, length, get_or, Option, Some, None, is_some, ◌⊎◌, inl, inr}
+use Rattle.std.proofs.Common.{◌≡◌, refl, ap, sym, ◌∙◌, subst, arith, true≢false, ℕ, ◌<◌, ◌≤◌, ◌==◌, ◌&&◌, ◌||◌, cond, Bool, true, false, not, List, [], ◌∷◌, ◌++◌, length, get_or, Option, Some, None, is_some, ◌⊎◌, inl, inr}
 use Rattle.std.specs.Int.{from_be_bytes, w128}
 use Rattle.std.specs.Prelude.{codes, fold, find, option_map, option_and_then, bytes_eq, nat_le, slice_get, if◌then◌else◌}
 use Rattle.std.specs.List.{list_any, list_all, before_first, after_first, position_or_len}
@@ -50,7 +50,7 @@ name_of_given (Job n) = TheJob
 name_of_given Socket = TheSocket
 name_of_given Log = TheLog
 
-same_by_name : (one other : Given) → is_same_option one other ≡ same_name (name_of_given other) (name_of_given one)
+pub same_by_name : (one other : Given) → is_same_option one other ≡ same_name (name_of_given other) (name_of_given one)
 same_by_name (Port a) (Port b) = refl
 same_by_name (Port a) (Lanes b) = refl
 same_by_name (Port a) (Connections b) = refl
@@ -191,6 +191,16 @@ name_is TheLog TheTries is = absurd cc
 name_is TheLog TheJob is = absurd cc
 name_is TheLog TheSocket is = absurd cc
 name_is TheLog TheLog is = refl
+
+-- and names are the same in both orders
+pub same_turned : (one other : Name) → same_name one other ≡ same_name other one
+same_turned one other = by_tests (same_name one other) (same_name other one) refl refl
+  where
+    by_tests : (b c : Bool) → same_name one other ≡ b → same_name other one ≡ c → b ≡ c
+    by_tests true true there back = refl
+    by_tests false false there back = refl
+    by_tests true false there back = let is : one ≡ other = name_is one other there in absurd (true≢false (sym (subst (λ name. same_name name one ≡ true) is (same_self one)) ∙ back))
+    by_tests false true there back = let is : other ≡ one = name_is other one back in absurd (true≢false (sym (subst (λ name. same_name name other ≡ true) is (same_self other)) ∙ there))
 
 -- the option of a name, where it was given
 abbrev pub given_as : Name → List Given → Option Given

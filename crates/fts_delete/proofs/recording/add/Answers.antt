@@ -17,37 +17,15 @@ append-requires-clause-body g c = record {
 pub returns-in_err-append-clause-tied : goal.returns-in_err-append-clause-tied
 returns-in_err-append-clause-tied g c =
     failed_tied g.D.Disk.state g.D.Disk.faults g.met.D.Disk.lawful c.args.rows.now.items c.args.journal.now c.requires.tied c.requires.sure c.args.event
-    c.args.body.now c.requires.spelled c.requires.proper c.requires.legal c.requires.fits c.append.new.self c.in_err-append.field-0.0
-    (record {
-      told = c.in_err-append.ensures.told;
-      ok = c.in_err-append.ensures.ok;
-      err = c.in_err-append.ensures.err;
-      counts = c.in_err-append.ensures.counts;
-      cause = c.in_err-append.ensures.cause;
-      appended = c.in_err-append.ensures.appended;
-      failed = c.in_err-append.ensures.failed;
-      any_moment = c.in_err-append.ensures.any_moment;
-      images = c.in_err-append.ensures.images;
-    })
+    c.args.body.now c.requires.spelled c.requires.proper c.requires.legal c.requires.fits c.append.new.journal c.in_err-append.field-0.0 c.in_err-append.ensures
 
 pub returns-in_err-append-clause-added : goal.returns-in_err-append-clause-added
 returns-in_err-append-clause-added g c =
     let is : c.from_residual.result ≡ Err (fault_of c.in_err-append.field-0.0) = search rules in
     subst (λ r. Added g.D.Disk.state g.D.Disk.faults (deletes_of g.D.Disk.state c.args.rows.now.items c.args.journal.now)
-    (deletes_of g.D.Disk.state c.args.rows.now.items c.append.new.self) c.args.event r) (sym is)
+    (deletes_of g.D.Disk.state c.args.rows.now.items c.append.new.journal) c.args.event r) (sym is)
     (failed_added g.D.Disk.state g.D.Disk.faults g.met.D.Disk.lawful c.args.rows.now.items c.args.journal.now c.requires.tied c.requires.sure c.args.event
-    c.args.body.now c.requires.spelled c.requires.proper c.requires.legal c.requires.fits c.append.new.self c.in_err-append.field-0.0
-    (record {
-      told = c.in_err-append.ensures.told;
-      ok = c.in_err-append.ensures.ok;
-      err = c.in_err-append.ensures.err;
-      counts = c.in_err-append.ensures.counts;
-      cause = c.in_err-append.ensures.cause;
-      appended = c.in_err-append.ensures.appended;
-      failed = c.in_err-append.ensures.failed;
-      any_moment = c.in_err-append.ensures.any_moment;
-      images = c.in_err-append.ensures.images;
-    }))
+    c.args.body.now c.requires.spelled c.requires.proper c.requires.legal c.requires.fits c.append.new.journal c.in_err-append.field-0.0 c.in_err-append.ensures)
 
 pub take_event-requires-clause-formed : goal.take_event-requires-clause-formed
 take_event-requires-clause-formed g c = legal_rows_are_formed c.requires.tied.events c.args.rows.now.items c.requires.tied.held.folded
@@ -55,33 +33,11 @@ take_event-requires-clause-formed g c = legal_rows_are_formed c.requires.tied.ev
 pub returns-clause-tied : goal.returns-clause-tied
 returns-clause-tied g c =
     done_tied g.D.Disk.state g.D.Disk.faults g.met.D.Disk.lawful c.args.rows.now.items c.args.journal.now c.requires.tied c.requires.sure c.args.event
-    c.args.body.now c.requires.spelled c.requires.proper c.requires.legal c.requires.fits c.append.new.self
-    (record {
-      told = c.in_ok-append.ensures.told;
-      ok = c.in_ok-append.ensures.ok;
-      err = c.in_ok-append.ensures.err;
-      counts = c.in_ok-append.ensures.counts;
-      cause = c.in_ok-append.ensures.cause;
-      appended = c.in_ok-append.ensures.appended;
-      failed = c.in_ok-append.ensures.failed;
-      any_moment = c.in_ok-append.ensures.any_moment;
-      images = c.in_ok-append.ensures.images;
-    })
-    c.take_event.new.rows.items c.take_event.ensures
+    c.args.body.now c.requires.spelled c.requires.proper c.requires.legal c.requires.fits c.append.new.journal
+    c.in_ok-append.ensures c.take_event.new.rows.items c.take_event.ensures
 
 pub returns-clause-added : goal.returns-clause-added
 returns-clause-added g c =
     done_added g.D.Disk.state g.D.Disk.faults g.met.D.Disk.lawful c.args.rows.now.items c.args.journal.now c.requires.tied c.requires.sure c.args.event
-    c.args.body.now c.requires.spelled c.requires.proper c.requires.legal c.requires.fits c.append.new.self
-    (record {
-      told = c.in_ok-append.ensures.told;
-      ok = c.in_ok-append.ensures.ok;
-      err = c.in_ok-append.ensures.err;
-      counts = c.in_ok-append.ensures.counts;
-      cause = c.in_ok-append.ensures.cause;
-      appended = c.in_ok-append.ensures.appended;
-      failed = c.in_ok-append.ensures.failed;
-      any_moment = c.in_ok-append.ensures.any_moment;
-      images = c.in_ok-append.ensures.images;
-    })
-    c.take_event.new.rows.items c.take_event.ensures
+    c.args.body.now c.requires.spelled c.requires.proper c.requires.legal c.requires.fits c.append.new.journal
+    c.in_ok-append.ensures c.take_event.new.rows.items c.take_event.ensures

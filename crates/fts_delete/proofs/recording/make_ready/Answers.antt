@@ -15,77 +15,29 @@ returns-then-used-size-gt-JOURNAL_END-clause-readied g c = λ rows tied.
     (deletes_of g.D.Disk.state rows c.args.journal.now) c.args.size (Err (JournalFull n))) (sym c.used-used.ensures.used)
     (readied_full g.D.Disk.state g.D.Disk.faults g.met.D.Disk.lawful rows c.args.journal.now tied c.args.size full)
 
-pub returns-in_err-settle-clause-readied : goal.returns-in_err-settle-clause-readied
-returns-in_err-settle-clause-readied g c = λ rows tied.
+pub returns-in_err-end_doubt-clause-readied : goal.returns-in_err-end_doubt-clause-readied
+returns-in_err-end_doubt-clause-readied g c = λ rows tied.
     let room : has_room c.args.journal.now.used c.args.size ≡ true =
     room_at c.args.journal.now.used c.args.size (omega (arith, c.if-used-size-gt-JOURNAL_END.false, c.used-used.ensures.used)) in
-    let is : c.from_residual.result ≡ Err (fault_of c.in_err-settle.field-0.0) = search rules in
+    let is : c.from_residual.result ≡ Err (fault_of c.in_err-end_doubt.field-0.0) = search rules in
     subst (λ r. Readied g.D.Disk.state g.D.Disk.faults (deletes_of g.D.Disk.state rows c.args.journal.now)
-    (deletes_of g.D.Disk.state rows c.settle.new.self) c.args.size r) (sym is)
-    (readied_not g.D.Disk.state g.D.Disk.faults g.met.D.Disk.lawful rows c.args.journal.now tied c.settle.new.self c.args.size c.in_err-settle.field-0.0 room
-    (record {
-      told = c.in_err-settle.ensures.told;
-      kept = c.in_err-settle.ensures.kept;
-      ok = c.in_err-settle.ensures.ok;
-      err = c.in_err-settle.ensures.err;
-      counts = c.in_err-settle.ensures.counts;
-      cause = c.in_err-settle.ensures.cause;
-      bodies = c.in_err-settle.ensures.bodies;
-      settled = c.in_err-settle.ensures.settled;
-      doubt = c.in_err-settle.ensures.doubt;
-      any_moment = c.in_err-settle.ensures.any_moment;
-      images = c.in_err-settle.ensures.images;
-    }))
+    (deletes_of g.D.Disk.state rows c.end_doubt.new.journal) c.args.size r) (sym is)
+    (readied_not g.D.Disk.state g.D.Disk.faults g.met.D.Disk.lawful rows c.args.journal.now tied c.end_doubt.new.journal c.args.size c.in_err-end_doubt.field-0.0 room
+    c.in_err-end_doubt.ensures)
 
-pub returns-in_err-settle-clause-tied : goal.returns-in_err-settle-clause-tied
-returns-in_err-settle-clause-tied g c = λ rows tied.
-    unsettled_tied g.D.Disk.state g.D.Disk.faults g.met.D.Disk.lawful rows c.args.journal.now tied c.settle.new.self c.in_err-settle.field-0.0
-    (record {
-      told = c.in_err-settle.ensures.told;
-      kept = c.in_err-settle.ensures.kept;
-      ok = c.in_err-settle.ensures.ok;
-      err = c.in_err-settle.ensures.err;
-      counts = c.in_err-settle.ensures.counts;
-      cause = c.in_err-settle.ensures.cause;
-      bodies = c.in_err-settle.ensures.bodies;
-      settled = c.in_err-settle.ensures.settled;
-      doubt = c.in_err-settle.ensures.doubt;
-      any_moment = c.in_err-settle.ensures.any_moment;
-      images = c.in_err-settle.ensures.images;
-    })
+pub returns-in_err-end_doubt-clause-tied : goal.returns-in_err-end_doubt-clause-tied
+returns-in_err-end_doubt-clause-tied g c = λ rows tied.
+    unsettled_tied g.D.Disk.state g.D.Disk.faults g.met.D.Disk.lawful rows c.args.journal.now tied c.end_doubt.new.journal c.in_err-end_doubt.field-0.0
+    c.in_err-end_doubt.ensures
 
 pub returns-clause-tied : goal.returns-clause-tied
 returns-clause-tied g c = λ rows tied.
-    settled_tied g.D.Disk.state g.D.Disk.faults g.met.D.Disk.lawful rows c.args.journal.now tied c.settle.new.self
-    (record {
-      told = c.in_ok-settle.ensures.told;
-      kept = c.in_ok-settle.ensures.kept;
-      ok = c.in_ok-settle.ensures.ok;
-      err = c.in_ok-settle.ensures.err;
-      counts = c.in_ok-settle.ensures.counts;
-      cause = c.in_ok-settle.ensures.cause;
-      bodies = c.in_ok-settle.ensures.bodies;
-      settled = c.in_ok-settle.ensures.settled;
-      doubt = c.in_ok-settle.ensures.doubt;
-      any_moment = c.in_ok-settle.ensures.any_moment;
-      images = c.in_ok-settle.ensures.images;
-    })
+    settled_tied g.D.Disk.state g.D.Disk.faults g.met.D.Disk.lawful rows c.args.journal.now tied c.end_doubt.new.journal
+    c.in_ok-end_doubt.ensures
 
 pub returns-clause-readied : goal.returns-clause-readied
 returns-clause-readied g c = λ rows tied.
     let room : has_room c.args.journal.now.used c.args.size ≡ true =
     room_at c.args.journal.now.used c.args.size (omega (arith, c.if-used-size-gt-JOURNAL_END.false, c.used-used.ensures.used)) in
-    readied g.D.Disk.state g.D.Disk.faults g.met.D.Disk.lawful rows c.args.journal.now tied c.settle.new.self c.args.size room
-    (record {
-      told = c.in_ok-settle.ensures.told;
-      kept = c.in_ok-settle.ensures.kept;
-      ok = c.in_ok-settle.ensures.ok;
-      err = c.in_ok-settle.ensures.err;
-      counts = c.in_ok-settle.ensures.counts;
-      cause = c.in_ok-settle.ensures.cause;
-      bodies = c.in_ok-settle.ensures.bodies;
-      settled = c.in_ok-settle.ensures.settled;
-      doubt = c.in_ok-settle.ensures.doubt;
-      any_moment = c.in_ok-settle.ensures.any_moment;
-      images = c.in_ok-settle.ensures.images;
-    })
+    readied g.D.Disk.state g.D.Disk.faults g.met.D.Disk.lawful rows c.args.journal.now tied c.end_doubt.new.journal c.args.size room
+    c.in_ok-end_doubt.ensures
