@@ -1,4 +1,5 @@
 pub mod Behind
+pub mod Listed
 pub mod Order
 pub mod Floats
 pub mod Turns

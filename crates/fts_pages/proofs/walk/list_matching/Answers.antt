@@ -5,9 +5,10 @@ use Rattle.std.specs.List.{slice_range}
 use Rattle.std.proofs.lemmas.List.{length-take}
 use Rattle.serde_json.specs.View.{view}
 use Rattle.fts_tables.specs.declared.rows.JobRow.{JobRow}
-use Rattle.fts_routes.proofs.Listed.{so-far-next, all-shown, nothing-past, nothing-over}
+use Rattle.fts_routes.proofs.Listed.{all-shown, nothing-over}
 use Rattle.fts_routes.proofs.Numbered.{own-number}
 use Rattle.fts_pages.specs.Pages.{question_of, is_asked, in_order, job_shown}
+use Rattle.fts_pages.proofs.Listed.{so-far-next, nothing-past}
 use Rattle.fts_pages.proofs.Order.{order-length}
 use Rattle.fts_pages.proofs.Turns.{turn-shown}
 use Rattle.fts_pages.proofs.walk.list_matching.Goals.{else-loop-turn-test, then-loop-turn-test+then-as_slice-asked}
