@@ -4,4 +4,16 @@
 #![tactic(auto)]
 
 #[cfg(test)]
-mod tests;
+mod accepting;
+#[cfg(test)]
+mod folders;
+#[cfg(test)]
+mod outside;
+#[cfg(test)]
+mod paths;
+#[cfg(test)]
+mod sockets;
+#[cfg(test)]
+mod stand;
+#[cfg(test)]
+mod threads;

@@ -3,7 +3,7 @@
 //! What a failed call of the disk leaves in doubt is tried with its gate closed and with it open.
 ghost use Rattle.std.specs.Prelude.{◌≡◌, length, IfOk};
 
-use crate::stand::{SETTINGS, StillHand, empty_disk, hands_with, no_memory, session, tell};
+use crate::stand::{SETTINGS, StillHand, empty_disk, hands_with, no_memory, session};
 use crate::wanted::{
     ENDS, ENTRIES, Entry, INPUT, INPUT_WITH_RETRY, NOT_MADE, NOT_WRITTEN, NOTHING_READ, READ,
     READS, REPLIES, REPLIES_WITH_RETRY, START, STORE, STORE_CALLS, STORE_WITH_RETRY,
@@ -296,9 +296,13 @@ fn play_sink(rt: &HostRuntime) -> io::Result<u32> {
 
 /// Plays each failing call, and prints what is otherwise than wanted, and how many sessions were as wanted.
 pub fn play_all(rt: &HostRuntime) -> io::Result<()> {
-    tell(rt, "failing calls of the disk", play_disk(rt)?)?;
-    tell(rt, "failing calls of the store", play_store(rt)?)?;
-    tell(rt, "failing reads", play_source(rt)?)?;
-    tell(rt, "failing writes", play_sink(rt)?)?;
+    let disk = play_disk(rt)?;
+    println!(rt; "failing calls of the disk as wanted: {disk}")?;
+    let store = play_store(rt)?;
+    println!(rt; "failing calls of the store as wanted: {store}")?;
+    let source = play_source(rt)?;
+    println!(rt; "failing reads as wanted: {source}")?;
+    let sink = play_sink(rt)?;
+    println!(rt; "failing writes as wanted: {sink}")?;
     Ok(())
 }

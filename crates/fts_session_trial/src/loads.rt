@@ -1,7 +1,7 @@
 //! Loads: what is seen where a call of the store or a write of its line fails, and which files a load leaves.
 //! The files of number 7 have the sizes that `acceptance/load.py` gives, a program of its own.
 use crate::stand::{
-    Ended, Given, SETTINGS, count_row, hands_with, make_given, run_on_empty_disks, source, tell,
+    Ended, Given, SETTINGS, count_row, empty_disk, hands_with, make_given, run_words, source,
 };
 use fts_disk::MemoryDisk;
 use fts_store::{MemoryStore, Store};
@@ -40,17 +40,6 @@ struct Row {
     tally: Tally,
 }
 
-/// A load whose store fails.
-const STORE_FAILED: Row = Row {
-    row: "",
-    call: 0,
-    write: 0,
-    status: 13,
-    output: "",
-    noted: "fts: store failed\n",
-    tally: NONE,
-};
-
 const ROWS: [Row; 4] = [
     Row {
         row: "nothing fails",
@@ -64,12 +53,20 @@ const ROWS: [Row; 4] = [
     Row {
         row: "the store's first call",
         call: 1,
-        ..STORE_FAILED
+        write: 0,
+        status: 13,
+        output: "",
+        noted: "fts: store failed\n",
+        tally: NONE,
     },
     Row {
         row: "the append to the last file",
         call: 4000,
-        ..STORE_FAILED
+        write: 0,
+        status: 13,
+        output: "",
+        noted: "fts: store failed\n",
+        tally: NONE,
     },
     Row {
         row: "the third part of the line",
@@ -96,8 +93,14 @@ fn load(
         output: MemorySink::new(alloc, [write].to_vec(alloc)?),
         ..make_given(alloc, SETTINGS, source(alloc, b"never read")?)?
     };
-    let hands = hands_with(alloc, &[], [call].to_vec(alloc)?)?;
-    run_on_empty_disks(alloc, words, given, hands)
+    run_words(
+        alloc,
+        words,
+        given,
+        MemoryDisk::new(alloc, Vec::new(alloc)),
+        empty_disk(alloc),
+        hands_with(alloc, &[], [call].to_vec(alloc)?)?,
+    )
 }
 
 /// Plays each load.
@@ -136,7 +139,9 @@ fn play_files(rt: &HostRuntime) -> io::Result<u32> {
 
 /// Plays each of them, and prints what is otherwise than wanted, and how many were as wanted.
 pub fn play_all(rt: &HostRuntime) -> io::Result<()> {
-    tell(rt, "loads", play_loads(rt)?)?;
-    tell(rt, "files of a load", play_files(rt)?)?;
+    let loads = play_loads(rt)?;
+    println!(rt; "loads as wanted: {loads}")?;
+    let files = play_files(rt)?;
+    println!(rt; "files of a load as wanted: {files}")?;
     Ok(())
 }

@@ -4,9 +4,7 @@
 ghost use Rattle.std.specs.Prelude.{◌≡◌, ◌≤◌, length, IfOk};
 
 use crate::journals::{ANSWERED, TWO};
-use crate::stand::{
-    NOW, SETTINGS, all_hands, count_row, lanes, no_link, no_memory, owned, source, store,
-};
+use crate::stand::{NOW, SETTINGS, count_row, lanes, no_link, no_memory, owned, source, store};
 use fts_disk::MemoryDisk;
 use fts_store::MemoryStore;
 use fts_tables::{Clock, ListWords, Memory};
@@ -130,7 +128,11 @@ fn noting_hands<'a>(
             return Err(no_memory(Memory));
         }
     }
-    all_hands(hands)
+    if hands.len() == 16 {
+        Ok(hands)
+    } else {
+        Err(io::Error::from(io::ErrorKind::InvalidInput))
+    }
 }
 
 /// A clock that notes for each lane.

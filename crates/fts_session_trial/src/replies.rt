@@ -2,15 +2,16 @@
 //! What no clause says is that the definitions mean what a client sends and reads, and that calls succeed with ample memory. The rows of a file are
 //! sent one after the other, as one writer, at one moment; claims and reports stand between two files. Prints each row that is otherwise than
 //! wanted with its reply, and then for each play how many were as wanted.
-ghost use Rattle.std.specs.Prelude.{IsTrue};
+ghost use Rattle.std.specs.Prelude.{IfOk, IsTrue};
 ghost use Rattle.fts_record.specs.Proper.{has_priority};
 
 use crate::reply_rows::{ANEW, BETWEEN, REMARK, Row, read_row};
-use crate::stand::{NOW, no_memory, settings_of, tell};
+use crate::stand::{NOW, no_memory};
 use fts_disk::MemoryDisk;
 use fts_keep::Keep;
+use fts_record::read_entry;
 use fts_routes::{Routes, answer};
-use fts_tables::{Command, Memory, Outcome};
+use fts_tables::{Command, Memory, Outcome, Settings};
 use fts_wire::{Allow, Reply};
 use std::alloc::Global;
 use std::{fs, io};
@@ -22,10 +23,28 @@ const RESTART: &[u8] =
 /// The submission of a job, whose one file is the first.
 const FIRST: &str = "replies-to-a-first-job.rows";
 
+/// The command of an entry.
+fn command(alloc: Global, entry: &[u8]) -> Result<Command, Memory>
+    ensures { IfOk result (λ command. IsTrue (has_priority command)) }
+{
+    match read_entry(alloc, entry) {
+        Ok(entry) => Ok(entry.command),
+        Err(_) => Err(Memory),
+    }
+}
+
+/// The settings of a Restart.
+fn settings(alloc: Global) -> Result<Settings, Memory> {
+    match command(alloc, RESTART)? {
+        Command::Restart { now: _, settings } => Ok(settings),
+        _ => Err(Memory),
+    }
+}
+
 /// A keep over an empty disk, of which these calls fail.
 fn keep(alloc: Global, fail: Vec<u32>) -> io::Result<Keep<MemoryDisk>> {
     let disk = MemoryDisk::new(alloc, fail);
-    let settings = settings_of(alloc, RESTART)?;
+    let settings = settings(alloc).map_err(no_memory)?;
     match Keep::start(alloc, disk, settings, NOW) {
         Ok(keep) => Ok(keep),
         Err((_fault, _disk)) => Err(no_memory(Memory)),
@@ -194,20 +213,26 @@ fn to_looks_at_entries(rt: &HostRuntime) -> io::Result<u32> {
 pub fn play_all(rt: &HostRuntime) -> io::Result<()> {
     let alloc = rt.alloc();
     let none = over_a_new_keep(rt, Vec::new(alloc), "replies-over-no-job.rows")?;
-    tell(rt, "replies over no job", none)?;
-    tell(rt, "replies to each method", to_each_method(rt)?)?;
-    tell(rt, "replies over two jobs", over_two_jobs(rt)?)?;
-    tell(rt, "replies over a finished job", over_a_finished_job(rt)?)?;
+    println!(rt; "replies over no job as wanted: {none}")?;
+    let methods = to_each_method(rt)?;
+    println!(rt; "replies to each method as wanted: {methods}")?;
+    let jobs = over_two_jobs(rt)?;
+    println!(rt; "replies over two jobs as wanted: {jobs}")?;
+    let finished = over_a_finished_job(rt)?;
+    println!(rt; "replies over a finished job as wanted: {finished}")?;
     let own = over_a_new_keep(rt, Vec::new(alloc), "replies-to-an-own-id-twice.rows")?;
-    tell(rt, "replies to an own id twice", own)?;
+    println!(rt; "replies to an own id twice as wanted: {own}")?;
     let failing = over_a_new_keep(
         rt,
         [8].to_vec(alloc)?,
         "replies-over-a-disk-that-fails-once.rows",
     )?;
-    tell(rt, "replies over a disk that fails once", failing)?;
-    tell(rt, "replies to each change", to_each_change(rt)?)?;
-    tell(rt, "replies to bans", to_bans(rt)?)?;
-    tell(rt, "replies to looks at entries", to_looks_at_entries(rt)?)?;
+    println!(rt; "replies over a disk that fails once as wanted: {failing}")?;
+    let changes = to_each_change(rt)?;
+    println!(rt; "replies to each change as wanted: {changes}")?;
+    let bans = to_bans(rt)?;
+    println!(rt; "replies to bans as wanted: {bans}")?;
+    let looks = to_looks_at_entries(rt)?;
+    println!(rt; "replies to looks at entries as wanted: {looks}")?;
     Ok(())
 }

@@ -5,11 +5,8 @@ ghost use Rattle.std.specs.Prelude.{◌≡◌, length, IfOk};
 
 use fts_client::MemoryLink;
 use fts_disk::{Disk, MemoryDisk};
-use fts_record::read_entry;
 use fts_store::{MemoryStore, Store, StoredFile};
-use fts_tables::{
-    Clock, Command, EndpointName, Items, ListClock, ListWords, Memory, PathKey, Place, Settings,
-};
+use fts_tables::{Clock, EndpointName, Items, ListClock, ListWords, Memory, PathKey, Place};
 use fts_top::{Ending, Lane, MemoryDoors, Outside, run_alone};
 use fts_wire::{MemorySink, MemorySource, Source};
 use fts_workers::{Hand, NoGate};
@@ -57,27 +54,6 @@ pub fn count_row(rt: &HostRuntime, row: &str, is_wanted: bool) -> io::Result<u32
     }
     println!(rt; "otherwise: {row}")?;
     Ok(0)
-}
-
-/// Prints how many of a kind there were, each as wanted.
-pub fn tell(rt: &HostRuntime, what: &str, played: u32) -> io::Result<()> {
-    println!(rt; "{what} as wanted: {played}")
-}
-
-/// The answer to what can't be: a journal that a session left is none, say.
-pub fn otherwise() -> io::Error {
-    io::Error::from(io::ErrorKind::InvalidData)
-}
-
-/// The settings of a Restart, by its entry.
-pub fn settings_of(alloc: Global, entry: &[u8]) -> io::Result<Settings> {
-    let Ok(entry) = read_entry(alloc, entry) else {
-        return Err(otherwise());
-    };
-    match entry.command {
-        Command::Restart { now: _, settings } => Ok(settings),
-        _ => Err(otherwise()),
-    }
 }
 
 fn clock(alloc: Global) -> io::Result<ListClock> {
@@ -161,13 +137,6 @@ pub fn hands_over<E: Store + Drop>(alloc: Global, stores: Vec<E>) -> io::Result<
             return Err(no_memory(Memory));
         }
     }
-    all_hands(hands)
-}
-
-/// These hands, where there are sixteen, as a run asks for.
-pub fn all_hands<H: Drop>(hands: Vec<H>) -> io::Result<Vec<H>>
-    ensures { IfOk result (λ hands. length hands.items ≡ 16) }
-{
     if hands.len() == 16 {
         Ok(hands)
     } else {
@@ -282,20 +251,6 @@ pub fn run_words<S: Source + Drop, D: Disk + Drop, E: Store + Drop>(
         // The words are not to serve, and the disk comes back.
         (None, _) | (_, None) => Err(io::Error::from(io::ErrorKind::InvalidInput)),
     }
-}
-
-/// Runs these words over two empty disks.
-pub fn run_on_empty_disks<S: Source + Drop>(
-    alloc: Global,
-    words: &[&str],
-    given: Given<S>,
-    hands: Vec<StillHand<MemoryStore>>,
-) -> io::Result<Ended<MemoryDisk, MemoryStore>>
-    requires { length hands.items ≡ 16 }
-    ensures { IfOk result (λ ended. length ended.hands.items ≡ 16) }
-{
-    let deletes = empty_disk(alloc);
-    run_words(alloc, words, given, empty_disk(alloc), deletes, hands)
 }
 
 /// Runs a session of this input under these settings.

@@ -2,15 +2,13 @@
 //! What opens behind a stop is the list of what was acknowledged by then, or that and the entry under way, and a Restart behind it (`opens`). An
 //! entry has four calls: its body with a closed gate, a sync, its open gate, a sync. Only behind the third may it be there or not.
 //! A file that was moved and not reported is tried again by the next run, as its second attempt, which finds the destination.
-ghost use Rattle.std.specs.Prelude.{◌≡◌, length, IfOk};
-
 use crate::failing::hands;
-use crate::stand::{Ended, NOW, SETTINGS, empty_disk, no_memory, otherwise, session, settings_of};
+use crate::stand::{NOW, SETTINGS, empty_disk, no_memory, session};
 use fts_disk::MemoryDisk;
 use fts_journal::Journal;
 use fts_keep::Keep;
-use fts_store::MemoryStore;
-use fts_tables::Settings;
+use fts_record::read_entry;
+use fts_tables::{Command, Settings};
 use fts_wire::{MemorySink, MemorySource};
 use std::alloc::Global;
 use std::io;
@@ -65,6 +63,11 @@ const BYTES: [u8; 4] = [0, 1, 7, 255];
 /// The byte of an open gate.
 const OPEN: u8 = 1;
 
+/// The answer to what can't be: a journal that a session left is none, say.
+fn otherwise() -> io::Error {
+    io::Error::from(io::ErrorKind::InvalidData)
+}
+
 /// The bodies of the journal on a disk.
 fn bodies(alloc: Global, disk: MemoryDisk) -> io::Result<Vec<Vec<u8>>> {
     let Ok(mut journal) = Journal::load(alloc, disk) else {
@@ -83,9 +86,15 @@ fn bodies(alloc: Global, disk: MemoryDisk) -> io::Result<Vec<Vec<u8>>> {
 
 /// The settings of a run, by its first entry.
 fn settings(alloc: Global, run: &[Vec<u8>]) -> io::Result<Settings> {
-    match run.first() {
-        Some(first) => settings_of(alloc, first),
-        None => Err(otherwise()),
+    let Some(first) = run.first() else {
+        return Err(otherwise());
+    };
+    let Ok(entry) = read_entry(alloc, first) else {
+        return Err(otherwise());
+    };
+    match entry.command {
+        Command::Restart { now: _, settings } => Ok(settings),
+        _ => Err(otherwise()),
     }
 }
 
@@ -119,11 +128,9 @@ fn opens(alloc: Global, left: Vec<u8>, run: &[Vec<u8>], wanted: usize) -> io::Re
     Ok(are_front(&found, run, wanted))
 }
 
-/// A session of this input in which nothing fails.
-fn run_whole(alloc: Global, input: &str) -> io::Result<Ended<MemoryDisk, MemoryStore>>
-    ensures { IfOk result (λ ended. length ended.hands.items ≡ 16) }
-{
-    session(
+/// The disk behind a session of this input in which nothing fails.
+fn disk_behind(alloc: Global, input: &str) -> io::Result<MemoryDisk> {
+    let ended = session(
         alloc,
         SETTINGS.as_bytes(),
         MemorySource::new(input.as_bytes().to_vec(alloc)?, Vec::new(alloc)),
@@ -131,7 +138,8 @@ fn run_whole(alloc: Global, input: &str) -> io::Result<Ended<MemoryDisk, MemoryS
         MemoryDisk::new(alloc, Vec::new(alloc)),
         empty_disk(alloc),
         hands(alloc, Vec::new(alloc))?,
-    )
+    )?;
+    Ok(ended.disk)
 }
 
 /// Tries each byte behind so many calls, and answers how many were as wanted.
@@ -160,7 +168,7 @@ fn stop_behind(
 /// A stop behind each call of a session of five requests, from the making of its journal on.
 fn stop_everywhere(rt: &HostRuntime) -> io::Result<u32> {
     let alloc = rt.alloc();
-    let Ended { disk, .. } = run_whole(alloc, FIVE)?;
+    let disk = disk_behind(alloc, FIVE)?;
     let whole = disk.after_stop(disk.calls(), 0).map_err(no_memory)?;
     let run = bodies(alloc, MemoryDisk::holding(alloc, whole, Vec::new(alloc)))?;
     if run.len() != left_by(disk.calls(), 0) {
@@ -175,7 +183,15 @@ fn stop_everywhere(rt: &HostRuntime) -> io::Result<u32> {
 
 /// Whether a run that is stopped behind the move of its file and before the report, and a next one on what it left, show the file so.
 fn ends_so(alloc: Global, input: &str, wanted: &str) -> io::Result<bool> {
-    let ended = run_whole(alloc, input)?;
+    let ended = session(
+        alloc,
+        SETTINGS.as_bytes(),
+        MemorySource::new(input.as_bytes().to_vec(alloc)?, Vec::new(alloc)),
+        MemorySink::new(alloc, Vec::new(alloc)),
+        MemoryDisk::new(alloc, Vec::new(alloc)),
+        empty_disk(alloc),
+        hands(alloc, Vec::new(alloc))?,
+    )?;
     // The report is the last entry, so the file was moved before its first call.
     let calls = ended.disk.calls().saturating_sub(EACH);
     let left = ended.disk.after_stop(calls, 0).map_err(no_memory)?;

@@ -1,4 +1,6 @@
 //! The command over links and disks in memory: its status, what it writes and notes, and what its journal holds then.
+ghost use Rattle.std.specs.Prelude.{◌≤◌};
+
 use crate::answers::{
     DISK_FAILED, FIRST, NEVER, NO_DIAL, NO_ENTRY, NO_ROUTE, OTHER_FOURTH, PORT, SECOND, THIRD, has,
     journal, link,
@@ -54,7 +56,9 @@ fn stays_so(
     answers: [&str; 4],
     tries: u32,
     want: (u8, &str),
-) -> Result<bool, Fail> {
+) -> Result<bool, Fail>
+    requires tries { 1 ≤ tries }
+{
     let disk = journal(alloc, entries, NO_CALL)?.close();
     let mut link = link(alloc, answers, NO_DIAL)?;
     let mut output = MemorySink::new(alloc, vec![in alloc; NEVER]?);

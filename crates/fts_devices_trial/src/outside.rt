@@ -1,6 +1,6 @@
 //! What no clause says of the clock, of words and of settings: that the clock gives the time, goes on and rests, that words are the generator's and each
 //! hand's its own, and that settings are read to their end or not at all.
-use super::stand::{memory_stores, run_over};
+use crate::stand::{memory_stores, run_over};
 use fts_devices::{OpenedFile, PcgWords, StopFile, SystemClock, closed_doors, hands_over};
 use fts_disk::MemoryDisk;
 use fts_tables::{Clock, Words};

@@ -1,9 +1,8 @@
 //! What no clause says: how the doors and lines of a port meet clients over real sockets, and a client's link the services there, under short limits, or
 //! by a clock that is set.
-ghost use Rattle.std.specs.Prelude.{IsTrue};
+ghost use Rattle.std.specs.Prelude.{◌<◌, IfOk, IsTrue};
 ghost use Rattle.fts_wire.specs.Response.{has_phrase, has_methods};
 
-use super::lines::{Opened, load_next, next_line, short_limits};
 use fts_client::Link;
 use fts_devices::{LineLimits, LinkLimits, SocketDoors, SocketLine, StopFile, TcpLink};
 use fts_service::{Doors, DoorsFailed};
@@ -19,6 +18,19 @@ use std::test::Fail;
 use std::time::Duration;
 use std::{io, thread};
 
+/// Doors of a free port.
+type Opened<'a> = SocketDoors<'a, &'a HostRuntime>;
+
+/// Limits under which a client is soon let go.
+fn short_limits() -> LineLimits {
+    LineLimits {
+        wait: Duration::from_secs(1),
+        request: Duration::from_secs(2),
+        drain: Duration::from_secs(1),
+        ..LineLimits::of_service()
+    }
+}
+
 /// Doors that listen on a free port, and the port.
 fn open_doors(rt: &HostRuntime, limits: LineLimits) -> Result<(Opened<'_>, u16), Fail> {
     let mut doors = SocketDoors::new(rt, rt.alloc(), limits, StopFile::none());
@@ -31,6 +43,25 @@ fn open_doors(rt: &HostRuntime, limits: LineLimits) -> Result<(Opened<'_>, u16),
 /// A client of a port.
 fn connect(rt: &HostRuntime, port: u16) -> io::Result<TcpStream> {
     TcpStream::connect(rt, (Ipv4Addr::LOCALHOST, port))
+}
+
+/// The next line of the doors.
+fn next_line<'a>(doors: &mut Opened<'a>) -> Result<SocketLine<'a, &'a HostRuntime>, Fail>
+    ensures { IfOk result (λ _. 0 < doors.new.out) }
+{
+    match doors.next() {
+        Ok(Some(line)) => Ok(line),
+        Ok(None) | Err(DoorsFailed) => Err(Fail::new("no line")),
+    }
+}
+
+/// What the next load of a line with one client finds.
+fn load_next(rt: &HostRuntime, doors: &mut Opened<'_>) -> Result<Result<bool, WireFault>, Fail> {
+    let mut room = Room::new(rt.alloc())?;
+    let mut line = next_line(doors)?;
+    let loaded = room.load(&mut line);
+    doors.done(line);
+    Ok(loaded)
 }
 
 #[test]

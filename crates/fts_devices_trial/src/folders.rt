@@ -1,6 +1,6 @@
 //! What no clause says of a run over the real devices: that a folder is served, by one service at a time, and that a client over a socket is told of the
 //! copy of its file. What a run prints is in `examples/`, and in `stdin` and `stdout` beside the program.
-use super::stand::{SETTINGS, run_in_folder};
+use crate::stand::{SETTINGS, run_in_folder};
 use fts_disk::FileDisk;
 use std::io::{Read, Write};
 use std::net::{Ipv4Addr, TcpStream};
