@@ -237,6 +237,11 @@ module _ {D E : Type 0} (disks : disk.Ghosts D) (stores : store.Ghosts E) where
               (extends.doubt told_keep);
         }
 
+    -- what it leaves in doubt is the thread's at its end
+    left_doubt : (told : IsTold (disks.state disk)) → (left_list told).doubt ≡ serves.last.keep.doubt
+    unfolding left_list
+    left_doubt told = refl
+
     -- the claims of the run
     claims_are : serves.last.claims ≡ claims_in since
     claims_are = omega (arith, serves.session.counted)
@@ -272,7 +277,7 @@ module _ {D E : Type 0} (disks : disk.Ghosts D) (stores : store.Ghosts E) where
       };
       tells = ap (λ (d : D). (disks.state d).told) serves.closed ∙ serves.session.extends.told ∙ starts.told;
       leaves = left_list;
-      owner = λ told. refl;
+      owner = left_doubt;
     }
 
     -- its settings
