@@ -1,5 +1,5 @@
 -- Rounds and a session by rows that compute: what the definitions hold of, and what they refuse.
-use Rattle.std.proofs.Common.{◌≡◌, refl, inl, inr, ⊎_elim, subst, ℕ, Bool, true, false, List, [], ◌∷◌, ◌++◌, map, Option, Some, None, Ok, Err, arith}
+use Rattle.std.proofs.Common.{◌≡◌, refl, ap, inl, inr, ⊎_elim, subst, ℕ, Bool, true, false, List, [], ◌∷◌, ◌++◌, map, Option, Some, None, Ok, Err, arith}
 use Rattle.std.specs.Prelude.{codes, replicate}
 use Rattle.fts_tables.specs.JobData.{JobData}
 use Rattle.fts_tables.specs.SettingsData.{SettingsData}
@@ -21,7 +21,7 @@ use Rattle.fts_keep.specs.Keeps.{used_of}
 use Rattle.fts_keep.specs.Applied.{Applies, DoubtMoves, entry_by}
 use Rattle.fts_keep.specs.declared.fault.KeepFault.TheVariants.{Rule}
 use Rattle.fts_workers.specs.Benches.{attempt_of}
-use Rattle.fts_workers.specs.Rounds.{Walk, IsRound, Claims, ClaimStops, FindsNone, FindsNoneOverdue, StopsBy, applied_at}
+use Rattle.fts_workers.specs.Rounds.{Walk, IsRound, Claims, ClaimStops, FindsNone, FindsNoneOverdue, StopsBy, applied_at, is_claim}
 use Rattle.fts_workers.specs.declared.ends.RoundEnd.TheVariants.{Clear, Busy, DiskFailed}
 
 -- 2023-11-14, in seconds since 1970
@@ -289,11 +289,16 @@ claim-in-doubt = record {
 
 -- ---- what the definitions refuse
 
+-- whether a claim is in doubt
+abbrev is_claim_doubted : Option Entry → Bool
+is_claim_doubted None = false
+is_claim_doubted (Some entry) = is_claim entry.command
+
 -- another entry than the one that was tried is in doubt
 doubt-of-another : DoubtMoves 0 1 None (Some (entry_by 0 (Expire the_moment))) claim → ⊥
 doubt-of-another (inl same) = cc
 doubt-of-another (inr (inl none)) = cc
-doubt-of-another (inr (inr own)) = let same = own.0 in cc
+doubt-of-another (inr (inr own)) = let same : false ≡ true = ap is_claim_doubted own.0 in cc
 
 -- an entry is in doubt though the disk counted no failure
 doubt-without-failure : DoubtMoves 0 0 None (Some claim) claim → ⊥
