@@ -1,7 +1,7 @@
 //! The state machine at 200,000 files that wait, so often asked that no step may cost what the whole costs.
 //! No contract bounds a step, so a body that counts all files anew at each claim, or a tree that never balances, is proved as any other. Here each line
-//! stands for as many steps as there are files, or more: where one of them walks over all files they come to billions, and to no end within the time that the
-//! gate gives a program.
+//! stands for as many steps as there are files, or more: where each claim walks over all files, that is some 90,000,000,000 looks, in the two minutes that
+//! the gate gives a program.
 //! Order: 1,000 jobs of 200 files in one queue; six copies of each file of half of them, which all fail, each claim at a moment of its own; cancellations of
 //! the others.
 #![tactic(auto)]
