@@ -2,7 +2,7 @@
 use Rattle.std.proofs.Common.{◌≡◌, ◌⊎◌, inl, inr, ℕ, ◌+◌, ◌<◌, ◌≤◌, Bool, true, false, cond, List}
 use Rattle.std.proofs.Common.{[], ◌∷◌, ◌++◌, length, take, get_or, Option, Some, None, refl, ap, sym, ◌∙◌, arith}
 use Rattle.std.specs.Prelude.{not, ◌||◌, ◌==◌, nat_lt, bytes_eq, position, slice_get}
-use Rattle.std.specs.List.{position_or_len, fold}
+use Rattle.std.specs.List.{position_or_len}
 use Rattle.std.specs.Option.{option_map_or}
 use Rattle.std.proofs.lemmas.Bool.{and_parts, eqb-true, eq-eqb, lt-ltb, cases_lt}
 use Rattle.std.proofs.lemmas.Bool.Decides.{nat_tests}
@@ -18,7 +18,7 @@ use Rattle.ordered.specs.ByNumbers.{is_first_by}
 use Rattle.fts_tables.specs.Places.{is_same_place}
 use Rattle.fts_tables.specs.declared.places.Place.{Place}
 use Rattle.fts_tables.specs.declared.rows.FileRow.{FileRow}
-use Rattle.fts_heads.specs.Digests.{with_byte, digest_of, is_digested_before, digests_in_order}
+use Rattle.fts_heads.specs.Digests.{digest_of, is_digested_before, digests_in_order}
 use Rattle.fts_heads.specs.Dests.{DestsData, dests_of, number_of, has_digest, AreNumbersOf}
 use Rattle.fts_heads.specs.declared.digest.Digested.{Digested}
 use Rattle.fts_heads.proofs.Found.{no, IsFound, is_found, none_found}
@@ -34,11 +34,11 @@ text_same (byte ∷ one) (next ∷ other) is =
     ap (λ number. number ∷ one) (eqb-true byte next both.0) ∙ ap (λ numbers. next ∷ numbers) (text_same one other both.1)
 
 -- places that are the same have one digest
-same_digest : (seed : ℕ) (one other : Place) → is_same_place one other ≡ true → digest_of seed one ≡ digest_of seed other
-same_digest seed one other is =
+same_digest : (one other : Place) → is_same_place one other ≡ true → digest_of one ≡ digest_of other
+same_digest one other is =
     let both = and_parts (bytes_eq one.endpoint other.endpoint) (bytes_eq one.path other.path) is in
-    ap (λ name. fold (with_byte seed) (fold (with_byte seed) 0 name) one.path) (text_same one.endpoint other.endpoint both.0)
-    ∙ ap (λ path. fold (with_byte seed) (fold (with_byte seed) 0 other.endpoint) path) (text_same one.path other.path both.1)
+    ap (λ name. digest_of (record one { endpoint = name })) (text_same one.endpoint other.endpoint both.0)
+    ∙ ap (λ path. digest_of (record one { endpoint = other.endpoint; path = path })) (text_same one.path other.path both.1)
 
 -- whether the item at a place passes
 abbrev pub passes_at : {Item : Type 0} → (Item → Bool) → List Item → ℕ → Bool
@@ -142,7 +142,7 @@ module _ (keys : List Digested) (sorted : AreSortedBy is_digested_before keys) (
 
 -- where no number of its digest is, no place is the same
 pub goes_elsewhere : (places : List Place) (dests : DestsData) (place : Place) (number : ℕ) → AreNumbersOf places dests
-    → has_key is_digested_before (numbered (digest_of dests.seed place) number) dests.keys ≡ false
+    → has_key is_digested_before (numbered (digest_of place) number) dests.keys ≡ false
     → passes_at (λ other. is_same_place other place) places number ≡ false
 goes_elsewhere places dests place number are absent = by_place (slice_get places number) refl
   where
@@ -151,9 +151,9 @@ goes_elsewhere places dests place number are absent = by_place (slice_get places
     by_place (Some other) at =
         ap (λ some. option_map_or (λ other. is_same_place other place) some false) at
         ∙ to_false (is_same_place other place) (λ same.
-        sym (are.digests (numbered (digest_of dests.seed place) number)
-        ∙ (ap (λ some. option_map_or (λ other. digest_of dests.seed other == digest_of dests.seed place) some false) at
-        ∙ eq-eqb (digest_of dests.seed other) (digest_of dests.seed place) (same_digest dests.seed other place same)))
+        sym (are.digests (numbered (digest_of place) number)
+        ∙ (ap (λ some. option_map_or (λ other. digest_of other == digest_of place) some false) at
+        ∙ eq-eqb (digest_of other) (digest_of place) (same_digest other place same)))
         ∙ absent)
 
 -- none so far goes there, none between, and this one does not: so none up to it does
@@ -171,7 +171,7 @@ none_further test from number before between here other less = by_case (cases_lt
 -- a number that goes there, behind none
 pub this_one : (places : List Place) (dests : DestsData) (place : Place) (from number : ℕ) → AreNumbersOf places dests
     → ((other : ℕ) → other < from → passes_at (λ other. is_same_place other place) places other ≡ false)
-    → ((other : ℕ) → from ≤ other → other < number → has_key is_digested_before (numbered (digest_of dests.seed place) other) dests.keys ≡ false)
+    → ((other : ℕ) → from ≤ other → other < number → has_key is_digested_before (numbered (digest_of place) other) dests.keys ≡ false)
     → passes_at (λ other. is_same_place other place) places number ≡ true → Some number ≡ number_of places place
 this_one places dests place from number are before between here = sym (first_place (λ other. is_same_place other place) places number here in_front)
   where
@@ -185,7 +185,7 @@ this_one places dests place from number are before between here = sym (first_pla
 -- none so far, and none from there on
 pub none_there : (places : List Place) (dests : DestsData) (place : Place) (from : ℕ) → AreNumbersOf places dests
     → ((other : ℕ) → other < from → passes_at (λ other. is_same_place other place) places other ≡ false)
-    → ((other : ℕ) → from ≤ other → has_key is_digested_before (numbered (digest_of dests.seed place) other) dests.keys ≡ false)
+    → ((other : ℕ) → from ≤ other → has_key is_digested_before (numbered (digest_of place) other) dests.keys ≡ false)
     → None ≡ number_of places place
 none_there places dests place from are before behind = sym (no_place (λ other. is_same_place other place) places (λ other inside. anywhere other))
   where
@@ -244,34 +244,34 @@ or_false false = refl
 -- a place more has its number
 pub number_more : (places : List Place) (place : Place) (dests : DestsData) → AreNumbersOf places dests
     → AreNumbersOf (places ++ place ∷ [])
-    (record dests { keys = put_by is_digested_before (numbered (digest_of dests.seed place) (length places)) dests.keys })
+    (record dests { keys = put_by is_digested_before (numbered (digest_of place) (length places)) dests.keys })
 number_more places place dests are = record {
   count = omega (arith, length-put_by is_digested_before new dests.keys, are.count, length_push places place);
   digests = λ key. has_put is_digested_before new key dests.keys
       ∙ (ap (λ (test : Bool). not (differs is_digested_before new key) || test) (are.digests key)
       ∙ (by_number key (key.number == length places) refl
-      ∙ sym (ap (λ some. option_map_or (λ place. digest_of dests.seed place == key.digest) some false) (pushed places place key.number))));
+      ∙ sym (ap (λ some. option_map_or (λ place. digest_of place == key.digest) some false) (pushed places place key.number))));
 }
   where
     new : Digested
-    new = numbered (digest_of dests.seed place) (length places)
+    new = numbered (digest_of place) (length places)
 
     by_number : (key : Digested) (answer : Bool) → (key.number == length places) ≡ answer
-        → (not (differs is_digested_before new key) || has_digest dests.seed places key)
-        ≡ option_map_or (λ place. digest_of dests.seed place == key.digest)
+        → (not (differs is_digested_before new key) || has_digest places key)
+        ≡ option_map_or (λ place. digest_of place == key.digest)
         (cond (key.number == length places) (Some place) (slice_get places key.number)) false
     by_number key true is =
         let same : key.number ≡ length places = eqb-true key.number (length places) is in
         let most : length places ≤ key.number = omega (arith, same) in
-        ap (λ some. not (differs is_digested_before new key) || option_map_or (λ place. digest_of dests.seed place == key.digest) some false)
+        ap (λ some. not (differs is_digested_before new key) || option_map_or (λ place. digest_of place == key.digest) some false)
         (slice_get_past places key.number most)
         ∙ (or_false (not (differs is_digested_before new key))
-        ∙ (same_number (digest_of dests.seed place) key.digest (length places) key.number (sym same)
-        ∙ sym (ap (λ (test : Bool). option_map_or (λ place. digest_of dests.seed place == key.digest)
+        ∙ (same_number (digest_of place) key.digest (length places) key.number (sym same)
+        ∙ sym (ap (λ (test : Bool). option_map_or (λ place. digest_of place == key.digest)
         (cond test (Some place) (slice_get places key.number)) false) is)))
     by_number key false is =
-        ap (λ (test : Bool). test || has_digest dests.seed places key) (other_number (digest_of dests.seed place) key.digest (length places) key.number is)
-        ∙ sym (ap (λ (test : Bool). option_map_or (λ place. digest_of dests.seed place == key.digest)
+        ap (λ (test : Bool). test || has_digest places key) (other_number (digest_of place) key.digest (length places) key.number is)
+        ∙ sym (ap (λ (test : Bool). option_map_or (λ place. digest_of place == key.digest)
         (cond test (Some place) (slice_get places key.number)) false) is)
 
 -- a number that none of the places has isn't there yet
@@ -279,12 +279,12 @@ pub number_new : (places : List Place) (digest number : ℕ) (dests : DestsData)
     → has_key is_digested_before (numbered digest number) dests.keys ≡ false
 number_new places digest number dests are past =
     are.digests (numbered digest number)
-    ∙ ap (λ some. option_map_or (λ place. digest_of dests.seed place == digest) some false) (slice_get_past places number past)
+    ∙ ap (λ some. option_map_or (λ place. digest_of place == digest) some false) (slice_get_past places number past)
 
 -- a number that does not go there, behind none, where no place has a greater one
 pub none_left : (places : List Place) (dests : DestsData) (place : Place) (from number : ℕ) → AreNumbersOf places dests
     → ((other : ℕ) → other < from → passes_at (λ other. is_same_place other place) places other ≡ false)
-    → ((other : ℕ) → from ≤ other → other < number → has_key is_digested_before (numbered (digest_of dests.seed place) other) dests.keys ≡ false)
+    → ((other : ℕ) → from ≤ other → other < number → has_key is_digested_before (numbered (digest_of place) other) dests.keys ≡ false)
     → passes_at (λ other. is_same_place other place) places number ≡ false → length places ≤ number + 1 → None ≡ number_of places place
 none_left places dests place from number are before between here few =
     sym (no_place (λ other. is_same_place other place) places (λ other inside.
@@ -305,31 +305,31 @@ dests_before rows place inside = length-take-le place (dests_of rows) (omega (ar
 
 -- a row more has its number
 pub row_more : (rows : List FileRow) (place : ℕ) (row : FileRow) (digest : ℕ) (dests : DestsData) (new : KeySet Digested) → place < length rows
-    → row ≡ get_or rows place row → AreNumbersOf (take place (dests_of rows)) dests → digest ≡ digest_of dests.seed row.dest
+    → row ≡ get_or rows place row → AreNumbersOf (take place (dests_of rows)) dests → digest ≡ digest_of row.dest
     → new.keys ≡ put_by is_digested_before (numbered digest place) dests.keys
-    → AreNumbersOf (take (place + 1) (dests_of rows)) (record { seed = dests.seed; keys = new.keys; room = new.room })
+    → AreNumbersOf (take (place + 1) (dests_of rows)) (record { keys = new.keys; room = new.room })
 row_more rows place row digest dests new inside at are is put = record {
   count = ap length keys ∙ (more.count ∙ ap length (sym places));
-  digests = λ key. ap (has_key is_digested_before key) keys ∙ (more.digests key ∙ ap (λ places. has_digest dests.seed places key) (sym places));
+  digests = λ key. ap (has_key is_digested_before key) keys ∙ (more.digests key ∙ ap (λ places. has_digest places key) (sym places));
 }
   where
     places : take (place + 1) (dests_of rows) ≡ take place (dests_of rows) ++ row.dest ∷ []
     places = dests_more rows place row inside at
 
     more : AreNumbersOf (take place (dests_of rows) ++ row.dest ∷ [])
-        (record dests { keys = put_by is_digested_before (numbered (digest_of dests.seed row.dest) (length (take place (dests_of rows)))) dests.keys })
+        (record dests { keys = put_by is_digested_before (numbered (digest_of row.dest) (length (take place (dests_of rows)))) dests.keys })
     more = number_more (take place (dests_of rows)) row.dest dests are
 
-    keys : new.keys ≡ put_by is_digested_before (numbered (digest_of dests.seed row.dest) (length (take place (dests_of rows)))) dests.keys
+    keys : new.keys ≡ put_by is_digested_before (numbered (digest_of row.dest) (length (take place (dests_of rows)))) dests.keys
     keys =
         put
         ∙ (ap (λ digest. put_by is_digested_before (numbered digest place) dests.keys) is
-        ∙ ap (λ number. put_by is_digested_before (numbered (digest_of dests.seed row.dest) number) dests.keys) (sym (dests_before rows place inside)))
+        ∙ ap (λ number. put_by is_digested_before (numbered (digest_of row.dest) number) dests.keys) (sym (dests_before rows place inside)))
 
 -- where no key is, the numbers are those of no place
 pub no_numbers : (dests : DestsData) → dests.keys ≡ [] → AreNumbersOf [] dests
 no_numbers dests none = record {
   count = ap length none;
   digests = λ key. ap (has_key is_digested_before key) none
-      ∙ sym (ap (λ some. option_map_or (λ place. digest_of dests.seed place == key.digest) some false) (slice_get_past [] key.number (omega arith)));
+      ∙ sym (ap (λ some. option_map_or (λ place. digest_of place == key.digest) some false) (slice_get_past [] key.number (omega arith)));
 }

@@ -10,7 +10,6 @@ use Rattle.fts_heads.specs.declared.digest.Digested.{Digested}
 
 -- the places that have numbers, each by its digest, and how many there is room for
 pub record DestsData : Type 0 where
-  pub seed : ℕ
   pub keys : List Digested
   pub room : ℕ
 
@@ -23,10 +22,10 @@ abbrev pub number_of : List Place → Place → Option ℕ
 number_of places place = position (λ other. is_same_place other place) places
 
 -- whether the place of a number has a digest
-abbrev pub has_digest : ℕ → List Place → Digested → Bool
-has_digest seed places key = option_map_or (λ place. digest_of seed place == key.digest) (slice_get places key.number) false
+abbrev pub has_digest : List Place → Digested → Bool
+has_digest places key = option_map_or (λ place. digest_of place == key.digest) (slice_get places key.number) false
 
 -- the numbers are those of these places: each place has one, by its digest
 pub record AreNumbersOf (places : List Place) (dests : DestsData) : Type 0 where
   pub count : length dests.keys ≡ length places
-  pub digests : (key : Digested) → has_key is_digested_before key dests.keys ≡ has_digest dests.seed places key
+  pub digests : (key : Digested) → has_key is_digested_before key dests.keys ≡ has_digest places key

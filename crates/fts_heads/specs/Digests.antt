@@ -1,7 +1,7 @@
--- The digest of a place: its texts as one number in the base of a seed, below a prime. Any other function of the place would do: places are compared
--- themselves.
-use Rattle.std.specs.Prelude.{◌≡◌, ℕ, ◌+◌, ◌*◌, ◌%◌, Bool, nat_lt}
-use Rattle.std.specs.List.{fold}
+-- The digest of a place: the hash of its two texts. Any other function of the place would do: places are compared themselves.
+use Rattle.std.specs.Prelude.{◌≡◌, ℕ, ◌++◌, Bool, nat_lt, fold}
+use Rattle.std.specs.Hash as fed
+use Rattle.std.specs.Hash.DefaultHasher as sip
 use Rattle.std.proofs.Common.{ap, ◌∙◌}
 use Rattle.ordered.specs.Orders.{IsStrictOrder}
 use Rattle.ordered.specs.ByNumbers.{is_first_by}
@@ -9,13 +9,9 @@ use Rattle.ordered.proofs.ByNumbers.{by_least, least_then, strict}
 use Rattle.fts_tables.specs.declared.places.Place.{Place}
 use Rattle.fts_heads.specs.declared.digest.Digested.{Digested}
 
--- a digest with a byte behind
-abbrev pub with_byte : ℕ → ℕ → ℕ → ℕ
-with_byte seed digest byte = (digest * seed + byte + 1) % 4294967291
-
 -- the digest of a place: of the endpoint's name, and then of the path
-abbrev pub digest_of : ℕ → Place → ℕ
-digest_of seed place = fold (with_byte seed) (fold (with_byte seed) 0 place.endpoint) place.path
+abbrev pub digest_of : Place → ℕ
+digest_of place = sip.finish (fold sip.write sip.initial (fed.str place.endpoint ++ fed.str place.path))
 
 -- by the digest, then the lesser number first
 abbrev pub is_digested_before : Digested → Digested → Bool

@@ -35,7 +35,6 @@ use std::marker::Model;
 /// The numbers of the destinations of rows.
 #[derive(Drop)]
 pub struct Dests {
-    seed: u32,
     keys: Ordered<Digested>,
 }
 
@@ -44,11 +43,11 @@ impl Model for Dests {
 
     ghost Value = { DestsData };
 
-    ghost view = { λ dests. record { seed = dests.seed; keys = dests.keys.keys; room = dests.keys.room } };
+    ghost view = { λ dests. record { keys = dests.keys.keys; room = dests.keys.room } };
 }
 
 /// The least number of a digest, from one on.
-fn next_number(keys: &Ordered<Digested>, digest: u32, from: u32) -> Option<u32>
+fn next_number(keys: &Ordered<Digested>, digest: u64, from: u32) -> Option<u32>
     ensures there { IfSome result (λ number. has_key is_digested_before (record { digest = digest; number = number }) keys.now.keys ≡ true) }
     ensures from { IfSome result (λ number. from ≤ number) }
     ensures least { IfSome result (λ number. (other : ℕ) → from ≤ other → other < number
@@ -84,13 +83,12 @@ fn goes_to(rows: &[FileRow], number: u32, place: &Place) -> bool
 }
 
 impl Dests {
-    /// No number, and no room. What grows later takes its memory from `alloc`. Digests are taken by the seed.
-    pub fn new(alloc: Global, seed: u32) -> Dests
-        ensures dests { result ≡ record { seed = seed; keys = []; room = 0 } }
+    /// No number, and no room. What grows later takes its memory from `alloc`.
+    pub fn new(alloc: Global) -> Dests
+        ensures dests { result ≡ record { keys = []; room = 0 } }
         ensures numbers { AreNumbersOf [] result }
     {
         Dests {
-            seed,
             keys: Ordered::new(alloc),
         }
     }
@@ -110,7 +108,7 @@ impl Dests {
         requires numbers { AreNumbersOf (dests_of rows.now) self.now }
         ensures number { result ≡ number_of (dests_of rows.now) place.now }
     {
-        let digest = digest_of(self.seed, place);
+        let digest = digest_of(place);
         let mut from = 0;
         while let Some(number) = next_number(&self.keys, digest, from) {
             if goes_to(rows, number, place) {
@@ -133,7 +131,7 @@ impl Dests {
         ensures numbers { AreNumbersOf (take (place + 1) (dests_of rows.now)) self.new }
         ensures room { self.new.room ≡ self.old.room }
     {
-        let digest = digest_of(self.seed, &rows[place].dest);
+        let digest = digest_of(&rows[place].dest);
         self.keys.insert(Digested {
             digest,
             number: place as u32,

@@ -7,12 +7,10 @@
 mod dests;
 mod digest;
 mod heads;
-mod laws;
 mod line;
 mod ripe_file;
 mod walk;
 
 pub use dests::Dests;
 pub use heads::{Heads, MOST_QUEUES};
-pub use laws::numbers_are_of_places;
 pub use ripe_file::RipeFile;

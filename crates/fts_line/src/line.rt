@@ -378,6 +378,13 @@ impl Line {
         }
     }
 
+    /// The number of a file's destination, and 0 where the file has none.
+    pub fn dest(&self, file: u32) -> u32
+        ensures dest { result ≡ dest_of self.now.dests file }
+    {
+        dest_of(self.dests.as_slice(), file)
+    }
+
     /// Whether a destination is busy.
     pub fn is_busy(&self, dest: u32) -> bool
         ensures answer { result ≡ slice_index_or self.now.busy dest false }

@@ -2,3 +2,4 @@ mod LinkCounts
 mod ListedLimits
 mod NamedPlaces
 pub mod Tallied
+pub mod Ranked

@@ -9,6 +9,7 @@
 mod counts;
 mod limits;
 mod link_limits;
+mod ranks;
 mod slots;
 
 pub use limits::{endpoint_at, limits_by_place_are_by_name, link_limit};

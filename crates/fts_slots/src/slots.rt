@@ -1,6 +1,7 @@
 //! The list of links held, with the limits that it keeps.
 //! Counters beside the list hold what is taken of each link and at each end (`AreTallied`), so `held`, `inbound`, `outbound` and `free` walk none of it;
-//! the limits of links stand beside the counters (`AreLimits`), so `free` walks over no listed link either.
+//! the limits of links stand beside the counters (`AreLimits`), so `free` walks over no listed link either, and the ranks of endpoints, so nobody compares
+//! names.
 //! Order of a call: the list and the counters change together. `give` looks for the link's first place in the list, four bytes a link held.
 //! `take` writes into room that `new` made: as many links as the outbound limits add up to, which no list within the limits passes.
 ghost use Rattle.std.specs.Prelude.{◌≡◌, ◌<◌, ◌+◌, ◌↔◌, [], ◌∷◌, ◌++◌, Bool, length, count_by, if◌then◌else◌, IsTrue, IsFalse, IfOk, None};
@@ -18,12 +19,14 @@ ghost use Rattle.fts_slots.specs.SlotsData.{
   inbound_of,
   without_link,
 };
+ghost use Rattle.fts_slots.specs.Ranks.{rank_at};
 
 use crate::counts::{Counts, index_of, place_of_link};
 use crate::limits::{
     count_endpoints, inbound_limit_of, outbound_limit_of, place_of_endpoint, whole_outbound,
 };
 use crate::link_limits::link_limits;
+use crate::ranks::name_ranks;
 use fts_tables::{EndpointName, LinkAt, Memory, Settings};
 use std::alloc::Global;
 use std::marker::Model;
@@ -34,6 +37,7 @@ pub struct Slots {
     links: Vec<LinkAt>,
     counts: Counts,
     limits: Vec<u32>,
+    ranks: Vec<u16>,
 }
 
 impl Drop for Slots {
@@ -43,6 +47,7 @@ impl Drop for Slots {
             links: _,
             counts: _,
             limits: _,
+            ranks: _,
         } = self;
     }
 }
@@ -67,11 +72,13 @@ impl Slots {
         let links = Vec::with_capacity(alloc, whole_outbound(settings))?;
         let counts = Counts::new(alloc, count_endpoints(settings))?;
         let limits = link_limits(alloc, settings)?;
+        let ranks = name_ranks(alloc, settings)?;
         Ok(Slots {
             settings: settings.copy(alloc)?,
             links,
             counts,
             limits,
+            ranks,
         })
     }
 
@@ -110,6 +117,14 @@ impl Slots {
         ensures limit { result ≡ link_limit_at self.now.settings link }
     {
         self.limits[index_of(link)]
+    }
+
+    /// Where the endpoint at a place stands in the order of names, from 0.
+    pub fn rank(&self, place: u16) -> u16
+        requires inside { place < length self.now.settings.endpoints }
+        ensures rank { result ≡ rank_at self.now.settings place }
+    {
+        self.ranks[usize::from(place)]
     }
 
     /// Takes a slot of a free link, in room that is there.

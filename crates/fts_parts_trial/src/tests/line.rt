@@ -34,6 +34,7 @@ fn files_for_a_busy_destination_are_passed_as_one(rt: HostRuntime) -> Result<(),
     line.add_row(0);
     line.add_row(0);
     line.add_row(2);
+    assert!(rt; line.dest(2) == 0 && line.dest(3) == 2 && line.dest(4) == 0);
     line.make_room(LINK, 3, 3)?;
     line.make_places(3)?;
     line.insert(make_waiter(1, 3, 0));

@@ -35,36 +35,22 @@ fn make_pair(one: u32, two: u32) -> Pair
     Pair { one, two }
 }
 
-/// A sentence, a pair, the first from it on, and the next behind it.
-type PairCase = (&'static str, Pair, Option<Pair>, Option<Pair>);
+const FIRST: Pair = Pair { one: 1, two: 9 };
 
-/// Looks among the pairs (1, 9), (2, 0) and (2, 1).
+const SECOND: Pair = Pair { one: 2, two: 0 };
+
+const LAST: Pair = Pair { one: 2, two: 1 };
+
+/// A sentence, the numbers of a pair, the first from it on, and the next behind it.
+type PairCase = (&'static str, (u32, u32), Option<Pair>, Option<Pair>);
+
+/// Looks among these three.
 const LOOKS: [PairCase; 5] = [
-    (
-        "in front of all",
-        Pair { one: 0, two: 10 },
-        Some(Pair { one: 1, two: 9 }),
-        Some(Pair { one: 1, two: 9 }),
-    ),
-    (
-        "the first itself",
-        Pair { one: 1, two: 9 },
-        Some(Pair { one: 1, two: 9 }),
-        Some(Pair { one: 2, two: 0 }),
-    ),
-    (
-        "a pair that isn't there",
-        Pair { one: 1, two: 10 },
-        Some(Pair { one: 2, two: 0 }),
-        Some(Pair { one: 2, two: 0 }),
-    ),
-    (
-        "the last itself",
-        Pair { one: 2, two: 1 },
-        Some(Pair { one: 2, two: 1 }),
-        None,
-    ),
-    ("behind all", Pair { one: 2, two: 2 }, None, None),
+    ("in front of all", (0, 10), Some(FIRST), Some(FIRST)),
+    ("the first itself", (1, 9), Some(FIRST), Some(SECOND)),
+    ("one that isn't there", (1, 10), Some(SECOND), Some(SECOND)),
+    ("the last itself", (2, 1), Some(LAST), None),
+    ("behind all", (2, 2), None, None),
 ];
 
 #[test]
@@ -75,9 +61,10 @@ fn pairs_stand_in_their_order(rt: HostRuntime) -> Result<(), Fail> {
     set.insert(make_pair(2, 1));
     set.insert(make_pair(1, 9));
     set.insert(make_pair(2, 0));
-    for (case, key, from, next) in &LOOKS {
-        assert!(rt; set.first_from(key) == *from, "{case}");
-        assert!(rt; set.next_after(key) == *next, "behind: {case}");
+    for (case, (one, two), from, next) in LOOKS {
+        let key = make_pair(one, two);
+        assert!(rt; set.first_from(&key) == from, "{case}");
+        assert!(rt; set.next_after(&key) == next, "behind: {case}");
     }
     set.remove(&make_pair(2, 0));
     assert!(rt;

@@ -9,7 +9,7 @@ fn the_narrowest_limit_decides(rt: HostRuntime) -> Result<(), Fail> {
     let settings = settings(rt.alloc())?;
     let mut slots = Slots::new(rt.alloc(), &settings)?;
     let link = LinkAt { source: 0, dest: 0 };
-    assert!(rt; slots.free(link), "nothing is taken");
+    assert!(rt; slots.free(link) && slots.rank(0) == 0, "nothing is taken");
     slots.take(link);
     let is_full = !slots.free(link);
     let is_counted = slots.held(link) == 1 && slots.inbound(0) == 1 && slots.outbound(0) == 1;

@@ -9,7 +9,7 @@ returns-clause-numbers c =
     let row = c.index-rows-place.result in
     row_more c.args.rows.now c.args.place row c.digest_of-digest.result _ _ c.requires.inside c.index-rows-place.is
     (subst (AreNumbersOf (take c.args.place (dests_of c.args.rows.now))) (sym c.self.view_is) c.requires.numbers)
-    (c.digest_of-digest.ensures.digest ∙ ap (λ row. digest_of c.self.inside.seed row.dest) (sym c.index-rows-place.is))
+    (c.digest_of-digest.ensures.digest ∙ ap (λ row. digest_of row.dest) (sym c.index-rows-place.is))
     (ap (λ set. set.keys) c.insert.ensures.keys)
 
 pub insert-requires : goal.insert-requires

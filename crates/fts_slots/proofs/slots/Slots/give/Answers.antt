@@ -18,6 +18,7 @@ invariant_of-self c =
           (c.lower.ensures.tallied (length c.self.inside.settings.endpoints) c.self.inside.links.items c.in-Some.place
           (found.at ∙ ap (λ link. Some link) (sym (same_link c.args.link found.item found.passes))) c.self.invariant.tallied);
       limits = c.self.invariant.limits;
+      ranks = c.self.invariant.ranks;
       room = omega (arith, c.self.invariant.room, c.remove.ensures.capacity);
     }
 

@@ -30,6 +30,7 @@ invariant_of-self c =
           (c.raise.ensures.tallied (length c.self.inside.settings.endpoints) c.self.inside.links.items
           (omega (arith, few_links slots c.self.invariant.settings c.self.invariant.within)) c.self.invariant.tallied);
       limits = c.self.invariant.limits;
+      ranks = c.self.invariant.ranks;
       room = omega (arith, c.self.invariant.room, c.push_reserved.ensures.capacity);
     }
 
