@@ -14,8 +14,9 @@ use Rattle.fts_tables.specs.declared.rows.FileState.TheVariants.{Submitted, Acti
 use Rattle.fts_claims.specs.Changes.{AreTiedTo, IsSamePart, AreSameParts}
 use Rattle.fts_claims.specs.declared.parts.ClaimParts.{ClaimParts}
 use Rattle.fts_desk.specs.Cancels.{cancelled_of}
-use Rattle.fts_desk.specs.Parts.{limits_of, AreTiedParts, MayWaitIn, HaveSameRooms}
+use Rattle.fts_desk.specs.Parts.{limits_of, AreTiedParts, AreInLineParts, MayWaitIn, HaveSameRooms}
 use Rattle.fts_desk.specs.Places.{change_at}
+use Rattle.fts_desk.proofs.InLineParts.{line-set}
 
 -- a row after a cancellation, by its state
 abbrev pub cancelled_in : Reason → FileState → FileRow → FileRow
@@ -188,6 +189,11 @@ module _ (reason : Reason) (rows : List FileRow) (place : ℕ) (read written cha
   pub numbered_then : AreNumberedFrom (λ row. row.id) 1 rows → AreNumberedFrom (λ row. row.id) 1 (set rows place changed)
   numbered_then numbered = numbered-set 1 rows place (get_or rows place written) changed stood
       (ap (λ (row : FileRow). row.id) is ∙ id_cancelled reason (get_or rows place written)) numbered
+
+  -- what is in line stays so
+  pub line_then : (parts : Option ClaimParts) → AreInLineParts rows parts → AreInLineParts (set rows place changed) parts
+  line_then parts = line-set rows place (get_or rows place written) changed parts stood
+      (ap (λ (row : FileRow). row.dest) is ∙ ap (λ (file : FileOfRow). file.dest) (file_cancelled reason (get_or rows place written)))
 
   -- where it didn't run, it doesn't now
   pub idle_then : answer ≡ false → (row : FileRow) → slice_get (set rows place changed) place ≡ Some row → is_active row.state ≡ false

@@ -11,24 +11,42 @@ use Rattle.fts_tables.specs.declared.rows.FileState.TheVariants.{Submitted, Acti
 use Rattle.fts_tables.specs.Limits.{has_known_ends, is_eligible}
 use Rattle.fts_tables.specs.Choice.{pick}
 use Rattle.fts_tables.specs.Moves.{claimed}
+use Rattle.fts_tables.specs.declared.places.Place.{Place}
 use Rattle.fts_tables.specs.declared.rows.FileRow.{FileRow}
 use Rattle.fts_tables.specs.declared.rows.JobRow.{JobRow}
 use Rattle.fts_slots.specs.SlotsData.{SlotsData, is_free}
-use Rattle.fts_queue.specs.WaitingData.{WaitingData}
+use Rattle.fts_line.specs.LineData.{LineData}
 use Rattle.fts_claims.specs.BusyData.{BusyData, is_busy}
+use Rattle.fts_claims.specs.InLine.{IsInLine, AreInLine}
 use Rattle.fts_claims.specs.Ties.{AreTied, AreOfActive, link_of}
 use Rattle.fts_claims.specs.Claims.{parts_data}
 use Rattle.fts_claims.specs.Changes.{AreTiedTo, all_but}
 use Rattle.fts_claims.specs.declared.parts.ClaimParts.{ClaimParts}
-use Rattle.fts_desk.specs.Parts.{limits_of, AreTiedParts, HaveSameRooms, HaveSameSlots, MayRunIn, HasRoomToRun}
+use Rattle.fts_desk.specs.Parts.{limits_of, AreTiedParts, AreInLineParts, HaveSameRooms, HaveSameSlots, MayRunIn, HasRoomToRun}
+use Rattle.fts_desk.proofs.InLineParts.{line-set}
 
--- at another moment the parts are those that a claim needs
-pub may_be_claimed : (jobs : List JobRow) (rows : List FileRow) (parts : ClaimParts) (settings : SettingsData) (waiting : WaitingData) (moment : ℕ)
-    → waiting ≡ record parts.waiting { moment = moment } → parts.slots.settings ≡ settings → AreTied (parts_data parts rows jobs parts.slots.settings)
-    → AreTied (record { waiting = waiting; slots = parts.slots; busy = parts.busy; rows = rows; jobs = jobs; settings = settings })
-may_be_claimed jobs rows parts settings waiting moment is same tied =
-    subst (λ settings. AreTied (record { waiting = waiting; slots = parts.slots; busy = parts.busy; rows = rows; jobs = jobs; settings = settings })) same
-    (subst (λ waiting. AreTied (record { waiting = waiting; slots = parts.slots; busy = parts.busy; rows = rows; jobs = jobs; settings = parts.slots.settings }))
+-- the files in line at another moment
+abbrev pub at_moment : ℕ → LineData → LineData
+at_moment moment line = record line { waiting = record line.waiting { moment = moment } }
+
+-- they are in line as before
+pub ripe_line : (places : List Place) (parts : ClaimParts) (line : LineData) (moment : ℕ) → line ≡ at_moment moment parts.line
+    → IsInLine places parts.line parts.busy → IsInLine places line parts.busy
+ripe_line places parts line moment is lined = subst (λ line. IsInLine places line parts.busy) (sym is) (record {
+  numbers = lined.numbers;
+  count = lined.count;
+  flags = lined.flags;
+  room = lined.room;
+  known = lined.known;
+})
+
+-- and the parts are those that a claim needs
+pub may_be_claimed : (jobs : List JobRow) (rows : List FileRow) (parts : ClaimParts) (settings : SettingsData) (line : LineData) (moment : ℕ)
+    → line ≡ at_moment moment parts.line → parts.slots.settings ≡ settings → AreTied (parts_data parts rows jobs parts.slots.settings)
+    → AreTied (record { line = line; slots = parts.slots; busy = parts.busy; rows = rows; jobs = jobs; settings = settings })
+may_be_claimed jobs rows parts settings line moment is same tied =
+    subst (λ settings. AreTied (record { line = line; slots = parts.slots; busy = parts.busy; rows = rows; jobs = jobs; settings = settings })) same
+    (subst (λ line. AreTied (record { line = line; slots = parts.slots; busy = parts.busy; rows = rows; jobs = jobs; settings = parts.slots.settings }))
     (sym is) (record {
       numbered = tied.numbered;
       settings = tied.settings;
@@ -39,10 +57,10 @@ may_be_claimed jobs rows parts settings waiting moment is same tied =
     }))
 
 -- at another moment they are tied as before
-pub ripe_tied : (jobs : List JobRow) (rows : List FileRow) (parts : ClaimParts) (waiting : WaitingData) (moment : ℕ)
-    → waiting ≡ record parts.waiting { moment = moment } → AreTiedTo jobs rows parts → AreTiedTo jobs rows (record parts { waiting = waiting })
-ripe_tied jobs rows parts waiting moment is tied = record {
-  waiting = ap (λ (waiting : WaitingData). waiting.waiters) is ∙ tied.waiting;
+pub ripe_tied : (jobs : List JobRow) (rows : List FileRow) (parts : ClaimParts) (line : LineData) (moment : ℕ) → line ≡ at_moment moment parts.line
+    → AreTiedTo jobs rows parts → AreTiedTo jobs rows (record parts { line = line })
+ripe_tied jobs rows parts line moment is tied = record {
+  waiting = ap (λ (line : LineData). line.waiting.waiters) is ∙ tied.waiting;
   slots = tied.slots;
   known = tied.known;
   busy = tied.busy;
@@ -56,6 +74,20 @@ room_tied jobs rows parts busy same tied = record {
   slots = tied.slots;
   known = tied.known;
   busy = subst (AreOfActive (λ (row : FileRow). row.dest) rows) (sym same) tied.busy;
+}
+
+-- and in line
+pub room_line : (places : List Place) (parts : ClaimParts) (busy : BusyData) → busy.places ≡ parts.busy.places → AreInLine places parts
+    → AreInLine places (record parts { busy = busy })
+room_line places parts busy same are = record {
+  line = record {
+    numbers = are.line.numbers;
+    count = are.line.count;
+    flags = λ place number is. are.line.flags place number is ∙ ap (λ places. is_busy places place) (sym same);
+    room = are.line.room;
+    known = λ place is. are.line.known place (ap (λ places. is_busy places place) (sym same) ∙ is);
+  };
+  found = are.found;
 }
 
 -- the row of a file that was found
@@ -143,6 +175,11 @@ module _ (rows seen : List FileRow) (place : ℕ) (before after : FileRow) (ther
   pub claimed_numbered : AreNumberedFrom (λ row. row.id) 1 rows → AreNumberedFrom (λ row. row.id) 1 seen
   claimed_numbered numbered = subst (AreNumberedFrom (λ (row : FileRow). row.id) 1) (sym same)
       (numbered-set 1 rows place before after numbered there (ap (λ (row : FileRow). row.id) changed))
+
+  -- what is in line stays so
+  pub claimed_line : (parts : Option ClaimParts) → AreInLineParts rows parts → AreInLineParts seen parts
+  claimed_line parts lined = subst (λ rows. AreInLineParts rows parts) (sym same)
+      (line-set rows place before after parts there (ap (λ (row : FileRow). row.dest) changed) lined)
 
   -- the row that stands there now is the claimed one
   pub claimed_there : (row : FileRow) → slice_get seen place ≡ Some row → row ≡ claimed before

@@ -3,7 +3,7 @@ use Rattle.std.proofs.Common.{◌≡◌, ℕ, zero, suc, ◌<◌, true, false, L
 use Rattle.std.specs.Prelude.{◌+◌, ◌&&◌, ◌==◌, Bool, Option, count_by, slice_get, slice_set, if◌then◌else◌}
 use Rattle.std.proofs.lemmas.List.{length-set}
 use Rattle.std.proofs.lemmas.Option.{same_Some, slice_get_cases, slice_get-get_or}
-use Rattle.fts_tables.specs.Tables.{AreNumberedFrom, AreFirstsFrom, owners, is_live}
+use Rattle.fts_tables.specs.Tables.{AreNumberedFrom, AreFirstsFrom, owners}
 use Rattle.fts_tables.specs.Waits.{overdue_from}
 use Rattle.fts_tables.specs.Step.{with_priority}
 use Rattle.fts_tables.specs.Laws.{FileOfRow, file_of}

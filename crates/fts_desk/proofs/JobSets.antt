@@ -1,9 +1,9 @@
 -- The places at each rank, where those at one change.
-use Rattle.std.proofs.Common.{◌≡◌, ◌≢◌, ℕ, ◌+◌, ◌<◌, ◌≤◌, Bool, true, false, List, [], ◌∷◌, ◌++◌, length, set, Some, refl, ap, sym, ◌∙◌, subst, arith}
-use Rattle.std.specs.Prelude.{◌==◌, nat_lt, max, slice_get}
+use Rattle.std.proofs.Common.{◌≡◌, ◌≢◌, ℕ, ◌<◌, ◌≤◌, Bool, true, false, List, [], ◌∷◌, ◌++◌, length, set, Some, refl, ap, sym, ◌∙◌, subst, arith}
+use Rattle.std.specs.Prelude.{◌==◌, nat_lt, slice_get}
 use Rattle.std.proofs.lemmas.Bool.{eqb-true, eq-eqb, ne_eqb}
 use Rattle.ordered.specs.Orders.{KeySet, put_by, without, has_key}
-use Rattle.fts_desk.specs.JobLists.{rank, is_at, places_of, places_at, with_keys, with_room, ArePlacesOf, HaveRooms}
+use Rattle.fts_desk.specs.JobLists.{rank, places_of, places_at, with_keys, ArePlacesOf, HaveRooms}
 use Rattle.fts_desk.specs.declared.job_states.Progress.{Progress}
 use Rattle.fts_desk.proofs.JobPlaces.{places_stay, place_put, place_taken, place_there, place_added, places_with, absent_behind, few_places, fewer_places}
 

@@ -1,5 +1,5 @@
 -- The job at the place that was found, and how many there are, by how each stands.
-use Rattle.std.proofs.Common.{◌≡◌, ℕ, zero, suc, ◌+◌, Bool, true, false, cond, List, [], ◌∷◌, drop, map, Option, Some, None, refl, ap, sym, ◌∙◌, arith, add-one}
+use Rattle.std.proofs.Common.{◌≡◌, ℕ, zero, suc, ◌+◌, Bool, true, false, cond, List, [], ◌∷◌, drop, map, Some, refl, ap, sym, ◌∙◌, arith}
 use Rattle.std.specs.Prelude.{find, count_by, slice_get, option_and_then}
 use Rattle.std.specs.List.{position_from}
 use Rattle.std.proofs.lemmas.List.Sums.{sum_by-cons}

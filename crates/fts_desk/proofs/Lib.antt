@@ -3,6 +3,7 @@ mod Banned
 mod Bounded
 mod ChangedRows
 mod Claiming
+mod InLineParts
 mod ClaimedParts
 mod Follows
 mod Found

@@ -8,8 +8,10 @@ use Rattle.std.proofs.lemmas.Option.{same_Some, slice_get_cases, slice_get-get_o
 use Rattle.fts_tables.specs.Tables.{is_active}
 use Rattle.fts_tables.specs.Moves.{submitted, canceled}
 use Rattle.fts_tables.specs.Step.{released}
-use Rattle.fts_tables.specs.Laws.{file_of}
+use Rattle.fts_tables.specs.Laws.{FileOfRow, file_of}
+use Rattle.fts_tables.specs.declared.places.Place.{Place}
 use Rattle.fts_tables.specs.declared.rows.FileRow.{FileRow}
+use Rattle.fts_heads.specs.Dests.{dests_of}
 use Rattle.fts_desk.specs.Places.{change_at}
 use Rattle.fts_claims.specs.declared.parts.ClaimParts.{ClaimParts}
 use Rattle.fts_desk.specs.Parts.{count_active, HasRoomToWait}
@@ -44,6 +46,13 @@ released_file row = by_tests (is_active row.state) row.cancel_asked
     by_tests true true = refl
     by_tests true false = refl
     by_tests false asked = refl
+
+-- a restart leaves all destinations
+pub dests_released : (rows : List FileRow) → dests_of (map released rows) ≡ dests_of rows
+dests_released [] = refl
+dests_released (row ∷ rows) =
+    ap (λ (dest : Place). dest ∷ dests_of (map released rows)) (ap (λ (file : FileOfRow). file.dest) (released_file row))
+    ∙ ap (λ (dests : List Place). row.dest ∷ dests) (dests_released rows)
 
 -- a row that was given up doesn't run
 pub released_idle : (row : FileRow) → is_active (released row).state ≡ false

@@ -29,11 +29,12 @@ use Rattle.fts_queue.specs.WaitingData.{room_of, waiting_in, in_order}
 use Rattle.fts_claims.specs.Ties.{link_of, activity_of, waiters_of, active_rows, AreOfActive}
 use Rattle.fts_claims.specs.Changes.{HasQueueRoom}
 use Rattle.fts_claims.specs.declared.parts.ClaimParts.{ClaimParts}
-use Rattle.fts_desk.specs.Parts.{limits_of, AreTiedParts, HasRoomToWait, MayWaitIn, HaveSameRooms, HaveRisenRooms, HasRoomToFollow, IsFollowOf, HasRoomToReport}
+use Rattle.fts_desk.specs.Parts.{limits_of, AreTiedParts, AreInLineParts, HasRoomToWait, MayWaitIn, HaveSameRooms, HaveRisenRooms, HasRoomToFollow, IsFollowOf, HasRoomToReport}
 use Rattle.fts_desk.specs.Places.{change_at, woken}
 use Rattle.fts_desk.specs.Standing.{StandTogether}
 use Rattle.fts_desk.proofs.Follows.{part_at}
 use Rattle.fts_desk.proofs.Hops.{change_at-same}
+use Rattle.fts_desk.proofs.InLineParts.{line-set}
 
 -- what was written at a place stands there
 pub written_at : (rows : List FileRow) (place : ℕ) (written row : FileRow) → place < length rows → slice_get (set rows place written) place ≡ Some row
@@ -87,6 +88,14 @@ risen_twice (Some old) (Some between) (Some new) first second = record {
   slots = second.slots ∙ first.slots;
   places = second.places ∙ first.places;
   busy = omega (arith, first.busy, second.busy);
+  line = record {
+    dests = second.line.dests ∙ first.line.dests;
+    flags = second.line.flags ∙ first.line.flags;
+    places = omega (arith, first.line.places, second.line.places);
+    rows = omega (arith, first.line.rows, second.line.rows);
+    keys = second.line.keys ∙ first.line.keys;
+    numbers = omega (arith, first.line.numbers, second.line.numbers);
+  };
 }
 
 -- where rooms have risen there is room as before
@@ -95,7 +104,7 @@ risen_room count row None None risen room = tt
 risen_room count row None (Some new) risen room = absurd risen
 risen_room count row (Some old) None risen room = absurd risen
 risen_room count row (Some old) (Some new) risen room =
-    subst (λ (slots : SlotsData). has_known_ends (Some slots.settings) row ≡ true → HasQueueRoom slots.settings count row new.waiting) (sym risen.slots)
+    subst (λ (slots : SlotsData). has_known_ends (Some slots.settings) row ≡ true → HasQueueRoom slots.settings count row new.line.waiting) (sym risen.slots)
     (λ known.
     let link = link_of old.slots.settings row in
     let activity = activity_of old.slots.settings row in
@@ -109,7 +118,7 @@ room_left more count row None None same room = tt
 room_left more count row None (Some new) same room = absurd same
 room_left more count row (Some old) None same room = absurd same
 room_left more count row (Some old) (Some new) same room =
-    subst (λ (settings : SettingsData). has_known_ends (Some settings) row ≡ true → HasQueueRoom settings count row new.waiting) (sym same.0.limits)
+    subst (λ (settings : SettingsData). has_known_ends (Some settings) row ≡ true → HasQueueRoom settings count row new.line.waiting) (sym same.0.limits)
     (λ known.
     let link = link_of old.slots.settings row in
     let activity = activity_of old.slots.settings row in
@@ -246,6 +255,10 @@ module _ (rows : List FileRow) (place : ℕ) (change : FileRow → FileRow) (kee
   pub site_numbered : AreNumberedFrom (λ row. row.id) 1 rows → AreNumberedFrom (λ row. row.id) 1 (set rows place written)
   site_numbered numbered =
       numbered-set 1 rows place (get_or rows place default) written numbered site_stood (ap (λ (file : FileOfRow). file.id) site_file)
+
+  -- what is in line stays so
+  pub site_line : (parts : Option ClaimParts) → AreInLineParts rows parts → AreInLineParts (set rows place written) parts
+  site_line parts = line-set rows place (get_or rows place default) written parts site_stood (ap (λ (file : FileOfRow). file.dest) site_file)
 
   -- it doesn't run
   pub site_idle : is_active (change (get_or rows place default)).state ≡ false → (row : FileRow) → slice_get (set rows place written) place ≡ Some row

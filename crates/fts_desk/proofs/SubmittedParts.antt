@@ -28,7 +28,7 @@ use Rattle.fts_claims.specs.declared.parts.ClaimParts.{ClaimParts}
 use Rattle.fts_index.specs.DueLists.{DueList}
 use Rattle.fts_index.specs.RowDues.{AreDuesOf, MayAdd, HasAdded}
 use Rattle.fts_desk.specs.Counted.{HasRoomForDues}
-use Rattle.fts_desk.specs.Parts.{AreTiedParts, HaveRoomForFiles, HaveRoomForRows}
+use Rattle.fts_desk.specs.Parts.{AreTiedParts, AreInLineParts, HaveRoomForFiles, HaveRoomForRows}
 use Rattle.fts_desk.specs.Places.{woken}
 use Rattle.fts_desk.proofs.KeptFiles.{numbered-map, one_file}
 use Rattle.fts_desk.proofs.NewRows.{new_rows-numbered}
@@ -261,6 +261,10 @@ module _ (tables : Tables) (formed : AreWellFormed tables) (kind : JobKind) (num
       → AreTiedParts tables.jobs tables.rows parts → AreTiedParts jobs (take from rows) parts
   submitted_tied law tied = subst (λ others. AreTiedParts jobs others parts) (sym before)
       (subst (λ others. AreTiedParts others tables.rows parts) (sym with_job) (more_stay_tied tables job parts formed law tied))
+
+  -- so does what is in line
+  pub submitted_line : AreInLineParts tables.rows parts → AreInLineParts (take from rows) parts
+  submitted_line lined = subst (λ others. AreInLineParts others parts) (sym before) lined
 
   -- the moment of each new row is the job's
   moments : number ≡ job.number → AllByRecursion (λ row. row_overdue_from jobs row ≡ overdue_from job) (rows_of_kind kind tables.rows number id new)

@@ -16,6 +16,8 @@ use Rattle.fts_desk.specs.Parts.{HaveRoomToRelease}
 use Rattle.fts_desk.specs.declared.kept.Kept.{Kept}
 use Rattle.fts_desk.specs.declared.commands.Decided.{Decided}
 use Rattle.fts_desk.specs.declared.commands.Decided.TheVariants.{Nothing, Claim as Claimed, Restart as Restarted, Resume as Resumed}
+use Rattle.fts_heads.specs.Dests.{dests_of}
+use Rattle.fts_claims.specs.InLine.{AreInLine}
 use Rattle.fts_claims.specs.Ties.{flags_of}
 use Rattle.fts_claims.specs.Changes.{AreTiedTo}
 use Rattle.fts_claims.specs.declared.parts.ClaimParts.{ClaimParts}
@@ -46,6 +48,7 @@ pub record IsPickedAt (tables : Tables) (now word place : ℕ) : Type 0 where
 -- what a claim looks at after a restart, and for each endpoint whether it is banned
 pub record IsReleased (kept : Kept) (settings : SettingsData) (parts : ClaimParts) (flags : List Bool) : Type 0 where
   pub tied : AreTiedTo kept.jobs.items (map released kept.rows.items) parts
+  pub line : AreInLine (dests_of kept.rows.items) parts
   pub limits : parts.slots.settings ≡ settings
   pub bans : flags ≡ flags_of settings kept.banned.items
 

@@ -1,5 +1,5 @@
 -- How jobs stand, in order of number, and the places of those that are in a state.
-use Rattle.std.specs.Prelude.{◌≡◌, ◌<◌, ◌≤◌, ℕ, suc, min, max, Bool, false, ◌==◌, if◌then◌else◌, List, [], ◌∷◌, count_by, slice_index_or, Option, Some, None}
+use Rattle.std.specs.Prelude.{◌≡◌, ◌<◌, ◌≤◌, ℕ, suc, min, max, Bool, false, ◌==◌, if◌then◌else◌, List, [], ◌∷◌, slice_index_or, Option, Some, None}
 use Rattle.fts_tables.specs.declared.rows.JobState.{JobState}
 use Rattle.fts_tables.specs.declared.rows.JobState.TheVariants.{Submitted, Active, Finished, FinishedDirty, Failed, Canceled}
 use Rattle.ordered.specs.Orders.{KeySet}

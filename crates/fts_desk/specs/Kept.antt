@@ -10,7 +10,7 @@ use Rattle.fts_desk.specs.Loaded.{are_known, link_of_file}
 use Rattle.fts_tables.specs.declared.rows.NewFile.{NewFile}
 use Rattle.fts_tables.specs.declared.rows.FileRow.{FileRow}
 use Rattle.fts_tables.specs.declared.rows.JobRow.{JobRow}
-use Rattle.fts_desk.specs.Parts.{HaveRoomForFiles, HasRoomToRun, HasRoomToReport}
+use Rattle.fts_desk.specs.Parts.{HaveRoomForFiles, HaveRoomInLine, HasRoomToRun, HasRoomToReport}
 use Rattle.fts_desk.specs.declared.kept.Kept.{Kept}
 use Rattle.fts_desk.specs.declared.desk.DeskFault.{DeskFault}
 use Rattle.fts_desk.specs.declared.desk.DeskFault.TheVariants.{Rule, Memory}
@@ -39,13 +39,14 @@ pub record HasRoomFor (kept : Kept) (count : ℕ) : Type 0 where
   pub row_limit : length kept.rows.items + count ≤ MAX_ROWS
 
 -- room for one job more of these hours in the queue and these files, for the link of each among the loads, for each among the moments where there are
--- hours, for the job among those in each state, and for each file among those that wait
+-- hours, for the job among those in each state, and for each file among those that wait and in line
 pub record HasRoomForFiles (kept : Kept) (hours : ℕ) (files : List NewFile) : Type 0 where
   pub count : HasRoomFor kept (length files)
   pub links : are_known kept.beside.counts.loads (map link_of_file files) ≡ true
   pub dues : HasRoomForDues hours (length files) kept.beside.counts.dues
   pub states : length kept.beside.counts.states.jobs < kept.beside.counts.states.room
   pub queues : HaveRoomForFiles files kept.beside.parts
+  pub places : HaveRoomInLine (length kept.rows.items + length files) kept.beside.parts
 
 -- room for what a command adds
 abbrev pub HasRoom : Kept → Command → Type 0

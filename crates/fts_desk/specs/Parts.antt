@@ -10,6 +10,8 @@ use Rattle.fts_tables.specs.declared.rows.JobKind.{JobKind}
 use Rattle.fts_tables.specs.declared.rows.JobKind.TheVariants.{Plain}
 use Rattle.fts_states.specs.declared.reports.Follow.{Follow}
 use Rattle.fts_states.specs.declared.reports.Follow.TheVariants.{Nothing, NextHop, NextAlternative}
+use Rattle.fts_heads.specs.Dests.{dests_of}
+use Rattle.fts_claims.specs.InLine.{AreInLine, HasRoomInLine}
 use Rattle.fts_claims.specs.Ties.{flags_of}
 use Rattle.fts_claims.specs.Changes.{AreTiedTo, HasQueueRoom, IsSameRoom, HaveAtMostMore, HasRoomForFiles, HasRoomForRows, HasRoomsRisen, MayWait, MayRun}
 use Rattle.fts_claims.specs.declared.parts.ClaimParts.{ClaimParts}
@@ -29,15 +31,24 @@ flags_in (Some settings) banned = flags_of settings banned
 abbrev pub AreTiedParts : List JobRow → List FileRow → Option ClaimParts → Type 0
 AreTiedParts jobs rows parts = IfSome parts (λ parts. AreTiedTo jobs rows parts)
 
--- what is counted is that of these rows, and what a claim looks at is tied to them, each with the jobs
+-- what is in line is so by the destinations of these rows
+abbrev pub AreInLineParts : List FileRow → Option ClaimParts → Type 0
+AreInLineParts rows parts = IfSome parts (λ parts. AreInLine (dests_of rows) parts)
+
+-- there is room in line for so many files in all
+abbrev pub HaveRoomInLine : ℕ → Option ClaimParts → Type 0
+HaveRoomInLine count parts = IfSome parts (λ parts. HasRoomInLine count parts)
+
+-- what is counted is that of these rows, and what a claim looks at is tied to them, each with the jobs; and it is in line by their destinations
 pub record IsBeside (jobs : List JobRow) (rows : List FileRow) (beside : Beside) : Type 0 where
   pub counts : AreCountsOf jobs rows beside.counts
   pub parts : AreTiedParts jobs rows beside.parts
+  pub line : AreInLineParts rows beside.parts
 
 -- the queue of a row has room for so many more, where its ends are known
 abbrev pub HasRoomToWait : ℕ → FileRow → Option ClaimParts → Type 0
 HasRoomToWait more row None = Unit {0}
-HasRoomToWait more row (Some parts) = has_known_ends (Some parts.slots.settings) row ≡ true → HasQueueRoom parts.slots.settings more row parts.waiting
+HasRoomToWait more row (Some parts) = has_known_ends (Some parts.slots.settings) row ≡ true → HasQueueRoom parts.slots.settings more row parts.line.waiting
 
 -- a row may come in that doesn't run: there is room, where it waits and its ends are known
 abbrev pub MayWaitIn : FileRow → Option ClaimParts → Type 0
@@ -49,7 +60,7 @@ abbrev pub HaveSameRooms : ℕ → Option ClaimParts → Option ClaimParts → T
 HaveSameRooms more None None = Unit {0}
 HaveSameRooms more None (Some new) = ⊥
 HaveSameRooms more (Some old) None = ⊥
-HaveSameRooms more (Some old) (Some new) = IsSameRoom old new × HaveAtMostMore more old.waiting new.waiting
+HaveSameRooms more (Some old) (Some new) = IsSameRoom old new × HaveAtMostMore more old.line.waiting new.line.waiting
 
 -- slots and busy destinations stay too
 abbrev pub HaveSameSlots : Option ClaimParts → Option ClaimParts → Type 0

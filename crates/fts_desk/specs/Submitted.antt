@@ -8,7 +8,7 @@ use Rattle.fts_tables.specs.declared.rows.FileRow.{FileRow}
 use Rattle.fts_tables.specs.declared.rows.JobRow.{JobRow}
 use Rattle.fts_desk.specs.Counted.{HasRoomForDues}
 use Rattle.fts_desk.specs.Loaded.{are_known, link_of_file}
-use Rattle.fts_desk.specs.Parts.{IsBeside, HaveRoomForFiles}
+use Rattle.fts_desk.specs.Parts.{IsBeside, HaveRoomForFiles, HaveRoomInLine}
 use Rattle.fts_desk.specs.declared.kept.Beside.{Beside}
 
 -- what the tables were before it, and what was submitted; what stands beside the rows is that of those tables, with room for the job and its files
@@ -31,3 +31,4 @@ pub record HasComeIn (jobs : List JobRow) (rows : List FileRow) (from : ℕ) (jo
   pub dues : HasRoomForDues new.queue_hours (length new.files) beside.counts.dues
   pub states : length beside.counts.states.jobs < beside.counts.states.room
   pub queues : HaveRoomForFiles new.files beside.parts
+  pub places : HaveRoomInLine (length tables.rows + length new.files) beside.parts

@@ -12,7 +12,7 @@ ghost use Rattle.fts_tables.specs.declared.rows.Reason.TheVariants.{Cancelled};
 ghost use Rattle.fts_desk.specs.Cancels.{cancelled_of, after_file, gone_with, count_canceled, IsInside};
 ghost use Rattle.fts_tables.specs.History.{IsAccepted};
 ghost use Rattle.fts_tables.specs.declared.commands.Command.TheVariants.{CancelJob, CancelFile};
-ghost use Rattle.fts_desk.specs.Parts.{limits_of, AreTiedParts, IsBeside};
+ghost use Rattle.fts_desk.specs.Parts.{limits_of, AreTiedParts, AreInLineParts, IsBeside};
 ghost use Rattle.fts_desk.specs.Places.{change_at};
 ghost use Rattle.fts_desk.specs.Kept.{tables_kept};
 ghost use Rattle.fts_desk.specs.Standing.{StandTogether, AreFormed};
@@ -308,10 +308,12 @@ fn cancel_place_of(
     requires jobs_numbered { AreNumberedFrom (λ job. job.number) 1 jobs.now }
     requires numbered { AreNumberedFrom (λ row. row.id) 1 rows.old }
     requires tied { AreTiedParts jobs.now rows.old parts.old }
+    requires line { AreInLineParts rows.old parts.old }
     requires inside { place < length rows.old }
     ensures rows { rows.new ≡ change_at place (cancelled_of reason job) rows.old }
     ensures count { count_canceled rows.new ≡ count_canceled rows.old + (if result then 1 else 0) }
     ensures tied { AreTiedParts jobs.now rows.new parts.new }
+    ensures line { AreInLineParts rows.new parts.new }
     ensures limits { limits_of parts.new ≡ limits_of parts.old }
 {
     if rows[place].job == job {
@@ -332,10 +334,12 @@ fn cancel_place(
     requires jobs_numbered { AreNumberedFrom (λ job. job.number) 1 jobs.now }
     requires numbered { AreNumberedFrom (λ row. row.id) 1 rows.old }
     requires tied { AreTiedParts jobs.now rows.old parts.old }
+    requires line { AreInLineParts rows.old parts.old }
     requires inside { place < length rows.old }
     ensures rows { rows.new ≡ change_at place (cancelled_for reason) rows.old }
     ensures count { count_canceled rows.new ≡ count_canceled rows.old + (if result then 1 else 0) }
     ensures tied { AreTiedParts jobs.now rows.new parts.new }
+    ensures line { AreInLineParts rows.new parts.new }
     ensures limits { limits_of parts.new ≡ limits_of parts.old }
 {
     same_parts_stay_tied();

@@ -28,10 +28,12 @@ ghost use Rattle.fts_tables.specs.declared.commands.Answer.TheVariants.{Claimed}
 ghost use Rattle.fts_tables.specs.declared.rows.FileRow.{FileRow};
 ghost use Rattle.fts_tables.specs.declared.rows.JobRow.{JobRow};
 ghost use Rattle.fts_tables.specs.declared.limits.TheConstants.{MAX_COMMANDS};
+ghost use Rattle.fts_heads.specs.Dests.{dests_of};
+ghost use Rattle.fts_claims.specs.InLine.{AreInLine};
 ghost use Rattle.fts_claims.specs.Ties.{flags_of};
 ghost use Rattle.fts_claims.specs.Changes.{AreTiedTo};
 ghost use Rattle.fts_desk.specs.Kept.{tables_kept};
-ghost use Rattle.fts_desk.specs.Parts.{limits_of, flags_in, AreTiedParts, HasRoomToRun, MayRunIn};
+ghost use Rattle.fts_desk.specs.Parts.{limits_of, flags_in, AreTiedParts, AreInLineParts, HasRoomToRun, MayRunIn};
 ghost use Rattle.fts_desk.specs.Prepared.{IsPrepared};
 
 use crate::DeskFault;
@@ -58,15 +60,17 @@ fn pick_file(
     requires numbered { AreNumberedFrom (λ row. row.id) 1 rows.now }
     requires settings { parts.old.slots.settings ≡ settings.now }
     requires tied { AreTiedTo jobs.now rows.now parts.old }
+    requires line { AreInLine (dests_of rows.now) parts.old }
     ensures tied { AreTiedTo jobs.now rows.now parts.new }
+    ensures line { AreInLine (dests_of rows.now) parts.new }
     ensures settings { parts.new.slots.settings ≡ settings.now }
     ensures file { (banned : List (List ℕ)) → flags.now ≡ flags_of settings.now banned → option_map (λ row. row.id)
         (pick (record { jobs = jobs.now; rows = rows.now; moment = 0; settings = Some settings.now; banned = banned }) moment word) ≡ result }
 {
     tied_rows_may_be_claimed();
-    parts.waiting.ripen(moment);
+    parts.line.ripen(moment);
     let view = ClaimView {
-        waiting: &parts.waiting,
+        line: &parts.line,
         slots: &parts.slots,
         busy: &parts.busy,
         rows,
@@ -91,7 +95,9 @@ fn find_file(
     requires numbered { AreNumberedFrom (λ row. row.id) 1 rows.now }
     requires settings { limits_of parts.old ≡ settings.now }
     requires tied { AreTiedParts jobs.now rows.now parts.old }
+    requires line { AreInLineParts rows.now parts.old }
     ensures tied { AreTiedParts jobs.now rows.now parts.new }
+    ensures line { AreInLineParts rows.now parts.new }
     ensures settings { limits_of parts.new ≡ settings.now }
     ensures file { (banned : List (List ℕ)) → flags.now ≡ flags_in settings.now banned → option_map (λ row. row.id)
         (pick (record { jobs = jobs.now; rows = rows.now; moment = 0; settings = settings.now; banned = banned }) moment word) ≡ result }
@@ -108,6 +114,7 @@ fn find_file(
 /// Room for one destination more among the busy ones.
 fn make_room_to_run(parts: &mut Option<ClaimParts>) -> Result<(), Memory>
     ensures tied { (jobs : List JobRow) (rows : List FileRow) → AreTiedParts jobs rows parts.old → AreTiedParts jobs rows parts.new }
+    ensures line { (rows : List FileRow) → AreInLineParts rows parts.old → AreInLineParts rows parts.new }
     ensures settings { limits_of parts.new ≡ limits_of parts.old }
     ensures room { OnOk result (HasRoomToRun parts.new) }
 {
@@ -120,6 +127,7 @@ fn make_room_to_run(parts: &mut Option<ClaimParts>) -> Result<(), Memory>
 /// A copy of a row's destination, and room for it among the busy ones.
 fn copy_dest(alloc: Global, parts: &mut Option<ClaimParts>, row: &FileRow) -> Result<Place, Memory>
     ensures tied { (jobs : List JobRow) (rows : List FileRow) → AreTiedParts jobs rows parts.old → AreTiedParts jobs rows parts.new }
+    ensures line { (rows : List FileRow) → AreInLineParts rows parts.old → AreInLineParts rows parts.new }
     ensures settings { limits_of parts.new ≡ limits_of parts.old }
     ensures room { OnOk result (HasRoomToRun parts.new) }
     ensures dest { IfOk result (λ dest. row.now.dest ≡ dest) }

@@ -59,6 +59,7 @@ pub fn decide(alloc: Global, kept: &mut Kept, command: &Command) -> Result<Decid
 /// Decides a restart: under the settings in force all that waits stays where it is.
 fn decide_restart(alloc: Global, kept: &mut Kept, settings: &Settings) -> Result<Decided, DeskFault>
     requires formed { AreWellFormed (tables_kept kept.old) }
+    requires limits { IsWithinLimits kept.old }
     ensures tables { tables_kept kept.new ≡ tables_kept kept.old }
     ensures answer { (now : ℕ) → IsPrepared (step (tables_kept kept.old) (Restart now settings.now)) result }
     ensures decided { IfOk result (λ decided. (now : ℕ) → IsDecided kept.new (Restart now settings.now) decided) }

@@ -1,13 +1,15 @@
 //! What a claim looks at, beside the rows, from the first Restart on: before there is none, each of these does nothing.
 //! Order: a row is left before it changes, and comes in again behind its change, by `wait` or by `start`. Room is made as a command is prepared.
-ghost use Rattle.std.specs.Prelude.{◌≡◌, ◌<◌, ◌≤◌, Some, true, false, length, slice_get, take, drop, OnOk};
+ghost use Rattle.std.specs.Prelude.{◌≡◌, ◌<◌, ◌≤◌, ◌+◌, List, Some, true, false, length, slice_get, take, drop, OnOk};
 ghost use Rattle.std.specs.List.{AllByRecursion};
 ghost use Rattle.fts_tables.specs.Tables.{AreNumberedFrom, is_active};
+ghost use Rattle.fts_tables.specs.declared.limits.TheConstants.{MAX_ROWS};
 ghost use Rattle.fts_tables.specs.declared.rows.FileRow.{FileRow};
 ghost use Rattle.fts_claims.specs.Changes.{all_but};
 ghost use Rattle.fts_desk.specs.Parts.{
   limits_of,
   AreTiedParts,
+  AreInLineParts,
   HasRoomToWait,
   MayWaitIn,
   HaveSameRooms,
@@ -17,6 +19,7 @@ ghost use Rattle.fts_desk.specs.Parts.{
   HasRoomToRun,
   HaveRoomForFiles,
   HaveRoomForRows,
+  HaveRoomInLine,
 };
 
 use fts_claims::ClaimParts;
@@ -28,7 +31,9 @@ pub fn leave(parts: &mut Option<ClaimParts>, jobs: &[JobRow], rows: &[FileRow], 
     requires rows_numbered { AreNumberedFrom (λ row. row.id) 1 rows.now }
     requires inside { place < length rows.now }
     requires tied { AreTiedParts jobs.now rows.now parts.old }
+    requires line { AreInLineParts rows.now parts.old }
     ensures tied { AreTiedParts jobs.now (all_but place rows.now) parts.new }
+    ensures line { AreInLineParts rows.now parts.new }
     ensures same { HaveSameRooms 0 parts.old parts.new }
     ensures slots { (row : FileRow) → slice_get rows.now place ≡ Some row → is_active row.state ≡ false → HaveSameSlots parts.old parts.new }
 {
@@ -44,9 +49,11 @@ pub fn wait(parts: &mut Option<ClaimParts>, jobs: &[JobRow], rows: &[FileRow], p
     requires rows_numbered { AreNumberedFrom (λ row. row.id) 1 rows.now }
     requires inside { place < length rows.now }
     requires tied { AreTiedParts jobs.now (all_but place rows.now) parts.old }
+    requires line { AreInLineParts rows.now parts.old }
     requires idle { (row : FileRow) → slice_get rows.now place ≡ Some row → is_active row.state ≡ false }
     requires room { (row : FileRow) → slice_get rows.now place ≡ Some row → MayWaitIn row parts.old }
     ensures tied { AreTiedParts jobs.now rows.now parts.new }
+    ensures line { AreInLineParts rows.now parts.new }
     ensures same { HaveSameRooms 1 parts.old parts.new }
 {
     match parts {
@@ -66,10 +73,12 @@ pub fn start(
     requires rows_numbered { AreNumberedFrom (λ row. row.id) 1 rows.now }
     requires inside { place < length rows.now }
     requires tied { AreTiedParts jobs.now (all_but place rows.now) parts.old }
+    requires line { AreInLineParts rows.now parts.old }
     requires runs { (row : FileRow) → slice_get rows.now place ≡ Some row → is_active row.state ≡ true }
     requires may { (row : FileRow) → slice_get rows.now place ≡ Some row → MayRunIn row parts.old }
     requires dest { (row : FileRow) → slice_get rows.now place ≡ Some row → row.dest ≡ dest }
     ensures tied { AreTiedParts jobs.now rows.now parts.new }
+    ensures line { AreInLineParts rows.now parts.new }
     ensures same { HaveSameRooms 0 parts.old parts.new }
 {
     match parts {
@@ -83,10 +92,14 @@ pub fn wait_from(parts: &mut Option<ClaimParts>, jobs: &[JobRow], rows: &[FileRo
     requires jobs_numbered { AreNumberedFrom (λ job. job.number) 1 jobs.now }
     requires rows_numbered { AreNumberedFrom (λ row. row.id) 1 rows.now }
     requires inside { from ≤ length rows.now }
+    requires few { length rows.now ≤ MAX_ROWS }
     requires tied { AreTiedParts jobs.now (take from rows.now) parts.old }
+    requires line { AreInLineParts (take from rows.now) parts.old }
     requires idle { AllByRecursion (λ row. is_active row.state ≡ false) (drop from rows.now) }
     requires room { HaveRoomForRows (drop from rows.now) parts.old }
+    requires places { HaveRoomInLine (length rows.now) parts.old }
     ensures tied { AreTiedParts jobs.now rows.now parts.new }
+    ensures line { AreInLineParts rows.now parts.new }
     ensures limits { limits_of parts.new ≡ limits_of parts.old }
 {
     match parts {
@@ -113,6 +126,7 @@ pub fn make_room_to_wait(
 /// Makes room for the files of a submission.
 pub fn make_room_for_files(parts: &mut Option<ClaimParts>, files: &[NewFile]) -> Result<(), Memory>
     ensures room { OnOk result (HaveRoomForFiles files.now parts.new) }
+    ensures places { OnOk result ((rows : List FileRow) → AreInLineParts rows parts.old → HaveRoomInLine (length rows + length files.now) parts.new) }
     ensures risen { HaveRisenRooms parts.old parts.new }
 {
     match parts {

@@ -5,7 +5,7 @@ ghost use Rattle.fts_tables.specs.Step.{step};
 ghost use Rattle.fts_tables.specs.History.{IsAccepted};
 ghost use Rattle.fts_tables.specs.declared.commands.Command.TheVariants.{SetPriority};
 ghost use Rattle.fts_desk.specs.Kept.{tables_kept};
-ghost use Rattle.fts_desk.specs.Parts.{limits_of, AreTiedParts};
+ghost use Rattle.fts_desk.specs.Parts.{limits_of, AreTiedParts, AreInLineParts};
 ghost use Rattle.fts_desk.specs.Standing.{prioritized, StandTogether};
 ghost use Rattle.fts_desk.specs.Prepared.{IsChecked};
 
@@ -73,6 +73,8 @@ fn prioritize_waiting(
     requires job { job_at jobs.now job.now.number ≡ Some job.now }
     requires together { StandTogether rows.now job.now }
     requires tied { AreTiedParts jobs.now rows.now parts.old }
+    requires line { AreInLineParts rows.now parts.old }
+    ensures line { AreInLineParts rows.now parts.new }
     ensures tied { AreTiedParts (map (prioritized job.now.number priority) jobs.now) rows.now parts.new }
     ensures limits { limits_of parts.new ≡ limits_of parts.old }
 {

@@ -10,6 +10,8 @@ ghost use Rattle.fts_tables.specs.declared.limits.TheConstants.{MAX_ROWS};
 ghost use Rattle.fts_tables.specs.declared.rows.FileRow.{FileRow};
 ghost use Rattle.fts_tables.specs.SettingsData.{SettingsData};
 ghost use Rattle.fts_desk.specs.Places.{change_at};
+ghost use Rattle.fts_heads.specs.Dests.{dests_of};
+ghost use Rattle.fts_claims.specs.InLine.{AreInLine};
 ghost use Rattle.fts_claims.specs.Ties.{flags_of};
 ghost use Rattle.fts_claims.specs.Changes.{AreTiedTo};
 ghost use Rattle.fts_desk.specs.Kept.{tables_kept};
@@ -37,7 +39,9 @@ pub fn prepare_restart(
     settings: &Settings,
 ) -> Result<(ClaimParts, Vec<bool>), Memory>
     requires formed { AreWellFormed (tables_kept kept.now) }
+    requires few { length kept.now.rows.items ≤ MAX_ROWS }
     ensures tied { IfOk result (λ made. AreTiedTo kept.now.jobs.items (map released kept.now.rows.items) made.0) }
+    ensures line { IfOk result (λ made. AreInLine (dests_of kept.now.rows.items) made.0) }
     ensures settings { IfOk result (λ made. made.0.slots.settings ≡ settings.now) }
     ensures flags { IfOk result (λ made. made.1.items ≡ flags_of settings.now kept.now.banned.items) }
 {
@@ -101,6 +105,7 @@ pub fn restart(
 ) -> Answer
     requires formed { AreWellFormed (tables_kept kept.old) }
     requires tied { AreTiedTo kept.old.jobs.items (map released kept.old.rows.items) parts }
+    requires line { AreInLine (dests_of kept.old.rows.items) parts }
     requires settings { parts.slots.settings ≡ settings }
     requires flags { flags.items ≡ flags_of settings kept.old.banned.items }
     ensures step { step (tables_kept kept.old) (Restart now settings) ≡ Ok (tables_kept kept.new, result) }

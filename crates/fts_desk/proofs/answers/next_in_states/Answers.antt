@@ -1,5 +1,5 @@
 -- The place that is found is that of the first job asked for.
-use Rattle.std.proofs.Common.{◌≡◌, List, None, Option, Some, drop, refl, ap, sym, ◌∙◌}
+use Rattle.std.proofs.Common.{List, drop, ap, ◌∙◌}
 use Rattle.std.specs.Prelude.{slice_get, option_and_then}
 use Rattle.std.specs.List.{position_from}
 use Rattle.fts_tables.specs.declared.rows.JobRow.{JobRow}

@@ -1,6 +1,6 @@
 -- A row that runs keeps its part; another is left before it changes, and comes in again behind the change.
 use Rattle.fts_tables.specs.Moves.{cancelled_for}
-use Rattle.fts_desk.proofs.CancelledParts.{alike_stay_tied, running_alike, numbered_then, idle_then, may_wait_then}
+use Rattle.fts_desk.proofs.CancelledParts.{alike_stay_tied, running_alike, numbered_then, line_then, idle_then, may_wait_then}
 use Rattle.fts_desk.proofs.ChangedRows.{change_at-set}
 use Rattle.fts_desk.proofs.cancels.cancel_place.Goals as goal
 
@@ -34,3 +34,13 @@ pub returns-clause-rows : goal.returns-clause-rows
 returns-clause-rows c =
     change_at-set c.args.rows.now c.args.place (cancelled_for c.args.reason) c.index-rows-place-2.result c.cancel-canceled.new.row c.requires.inside
     c.cancel-canceled.ensures.row
+
+pub returns-then-is_active-clause-line : goal.returns-then-is_active-clause-line
+returns-then-is_active-clause-line c =
+    line_then c.args.reason c.args.rows.now c.args.place c.index-rows-place.result c.index-rows-place-then-is_active.result c.cancel.new.row
+    c.is_active.result c.requires.inside c.is_active.ensures c.cancel.ensures.row c.args.parts.now c.requires.line
+
+pub wait-requires-clause-line : goal.wait-requires-clause-line
+wait-requires-clause-line c =
+    line_then c.args.reason c.args.rows.now c.args.place c.index-rows-place.result c.index-rows-place-2.result c.cancel-canceled.new.row
+    c.is_active.result c.requires.inside c.is_active.ensures c.cancel-canceled.ensures.row c.leave.new.parts c.leave.ensures.line

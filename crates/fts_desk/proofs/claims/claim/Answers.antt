@@ -10,8 +10,8 @@ use Rattle.fts_tables.specs.Tables.{is_active}
 use Rattle.fts_tables.specs.declared.rows.FileRow.{FileRow}
 use Rattle.fts_tables.specs.declared.rows.JobRow.{JobRow}
 use Rattle.fts_desk.specs.Counted.{AreCountsOf, AreCountsBefore, IsCountedAt}
-use Rattle.fts_desk.specs.Parts.{AreTiedParts, MayRunIn}
-use Rattle.fts_desk.proofs.ClaimedParts.{claimed_numbered, claimed_there, still_may_run, same_limits}
+use Rattle.fts_desk.specs.Parts.{AreTiedParts, AreInLineParts, MayRunIn}
+use Rattle.fts_desk.proofs.ClaimedParts.{claimed_numbered, claimed_line, claimed_there, still_may_run, same_limits}
 use Rattle.fts_desk.proofs.Claiming.{claim_at}
 use Rattle.fts_desk.proofs.Counted.{counts_before}
 use Rattle.fts_desk.proofs.claims.claim.Goals as goal
@@ -55,6 +55,14 @@ start-requires-clause-rows_numbered c =
     claimed_numbered rows c.deref-6.result.now c.args.place (get_or rows c.args.place c.index_mut.result.now) c.claim_row-answer.new.row
     (slice_get-get_or rows c.args.place c.index_mut.result.now c.requires.place) (c.claim_row-answer.ensures.row ∙ ap claimed c.index_mut.ensures.value)
     c.deref-6.ensures.value c.requires.formed.rows
+
+pub start-requires-clause-line : goal.start-requires-clause-line
+start-requires-clause-line c =
+    let rows = c.args.kept.now.rows.items in
+    claimed_line rows c.deref-6.result.now c.args.place (get_or rows c.args.place c.index_mut.result.now) c.claim_row-answer.new.row
+    (slice_get-get_or rows c.args.place c.index_mut.result.now c.requires.place) (c.claim_row-answer.ensures.row ∙ ap claimed c.index_mut.ensures.value)
+    c.deref-6.ensures.value c.leave.new.parts
+    (subst (λ rows. AreInLineParts rows c.leave.new.parts) c.deref-4.ensures.value c.leave.ensures.line)
 
 pub start-requires-clause-runs : goal.start-requires-clause-runs
 start-requires-clause-runs c = λ row at.
@@ -100,6 +108,7 @@ invariant_of-kept c =
             (subst (λ (rows : List FileRow). AreCountsOf c.deref-7.result.now rows c.recount.new.counts) c.deref-8.ensures.value c.recount.ensures.counts);
         parts = subst (λ jobs. AreTiedParts jobs (set rows c.args.place c.claim_row-answer.new.row) c.start.new.parts) c.deref-5.ensures.value
             (subst (λ rows. AreTiedParts c.deref-5.result.now rows c.start.new.parts) c.deref-6.ensures.value c.start.ensures.tied);
+        line = subst (λ rows. AreInLineParts rows c.start.new.parts) c.deref-6.ensures.value c.start.ensures.line;
       };
       of_settings = same_limits 0 c.leave.new.parts c.start.new.parts c.start.ensures.same
           ∙ (same_limits 0 c.args.kept.now.beside.parts c.leave.new.parts c.leave.ensures.same ∙ c.args.kept.now.of_settings);

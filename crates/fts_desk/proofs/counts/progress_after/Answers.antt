@@ -1,6 +1,6 @@
 -- The live rows are counted on from those before the change.
-use Rattle.std.proofs.Common.{◌≡◌, ◌+◌, ◌≤◌, ℕ, Bool, true, false, cond, length, refl, ap, sym, ◌∙◌, arith}
-use Rattle.std.specs.Prelude.{count_by, slice_get, Some}
+use Rattle.std.proofs.Common.{◌≡◌, ◌≤◌, ℕ, Bool, true, false, cond, length, refl, ap, sym, ◌∙◌, arith}
+use Rattle.std.specs.Prelude.{count_by}
 use Rattle.std.proofs.lemmas.Option.{slice_get_read}
 use Rattle.std.proofs.lemmas.List.Sums.{count_by-le-length}
 use Rattle.fts_tables.specs.Tables.{is_live, rows_of_job}

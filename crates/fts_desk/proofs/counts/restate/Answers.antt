@@ -1,5 +1,5 @@
 -- The job stands as its rows say.
-use Rattle.std.proofs.Common.{◌≡◌, [], length, None, refl, ap, sym, ◌∙◌, arith}
+use Rattle.std.proofs.Common.{◌≡◌, [], length, None, refl, ap, sym, ◌∙◌}
 use Rattle.std.proofs.lemmas.Option.{slice_get_read, same_Some}
 use Rattle.fts_tables.specs.declared.rows.FileRow.{FileRow}
 use Rattle.fts_desk.proofs.JobProgress.{follow_now, found_read, own_read, live_read, restated_read, restated_none}

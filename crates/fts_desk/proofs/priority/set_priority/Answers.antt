@@ -8,7 +8,7 @@ use Rattle.fts_tables.specs.declared.rows.FileRow.{FileRow}
 use Rattle.fts_tables.specs.declared.rows.JobRow.{JobRow}
 use Rattle.fts_desk.specs.Kept.{tables_kept}
 use Rattle.fts_desk.specs.Counted.{AreCountsOf}
-use Rattle.fts_desk.specs.Parts.{AreTiedParts}
+use Rattle.fts_desk.specs.Parts.{AreTiedParts, AreInLineParts}
 use Rattle.fts_desk.specs.Standing.{prioritized, StandTogether}
 use Rattle.fts_desk.proofs.Counted.{counts_prioritized}
 use Rattle.fts_desk.proofs.JobIds.{ids-prioritized}
@@ -73,6 +73,8 @@ invariant_of-kept c =
             ∙ ap (λ number. map (prioritized number c.args.priority) jobs) (number_at jobs c.args.job job found) ∙ changed)
             (subst (λ (rows : List FileRow). AreTiedParts (map (prioritized job.number c.args.priority) c.deref-in-Some.result.now) rows
             c.prioritize_waiting.new.parts) c.deref-in-Some-2.ensures.value c.prioritize_waiting.ensures.tied);
+        line = subst (λ (rows : List FileRow). AreInLineParts rows c.prioritize_waiting.new.parts) c.deref-in-Some-2.ensures.value
+            c.prioritize_waiting.ensures.line;
       };
       of_settings = c.prioritize_waiting.ensures.limits ∙ c.args.kept.now.of_settings;
       of_bans = c.args.kept.now.of_bans;

@@ -8,6 +8,7 @@ use Rattle.fts_tables.specs.declared.rows.JobRow.{JobRow}
 use Rattle.fts_desk.specs.Kept.{tables_kept}
 use Rattle.fts_desk.specs.Standing.{StandTogether}
 use Rattle.fts_desk.proofs.Reported.{found_there}
+use Rattle.fts_desk.proofs.InLineParts.{line_risen}
 use Rattle.fts_desk.proofs.RowsBeside.{risen_tied, risen_limits, same_report}
 use Rattle.fts_desk.proofs.reports.make_room.Goals as goal
 
@@ -35,6 +36,7 @@ invariant_of-kept c =
       beside_rows = record {
         counts = c.args.kept.now.beside_rows.counts;
         parts = risen_tied c.args.kept.now.jobs.items c.args.kept.now.rows.items old new risen c.args.kept.now.beside_rows.parts;
+        line = line_risen c.args.kept.now.rows.items old new risen c.args.kept.now.beside_rows.line;
       };
       of_settings = risen_limits old new risen ∙ c.args.kept.now.of_settings;
       of_bans = c.args.kept.now.of_bans;

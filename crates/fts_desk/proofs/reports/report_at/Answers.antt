@@ -11,7 +11,7 @@ use Rattle.fts_desk.specs.Standing.{StandTogether}
 use Rattle.fts_desk.proofs.ChangedRows.{change_row-set, id_at}
 use Rattle.fts_desk.proofs.KeptFiles.{reported_file, one_file, numbered-map, together-map}
 use Rattle.fts_desk.proofs.Counted.{counts_before}
-use Rattle.fts_desk.proofs.RowsBeside.{room_fewer, reported_idle, room_to_follow, site_stood, site_file, site_numbered, site_idle, site_room}
+use Rattle.fts_desk.proofs.RowsBeside.{room_fewer, reported_idle, room_to_follow, site_stood, site_file, site_numbered, site_line, site_idle, site_room}
 use Rattle.fts_desk.proofs.reports.report_at.Goals as goal
 
 pub follow-requires-clause-numbered : goal.follow-requires-clause-numbered
@@ -64,6 +64,12 @@ wait-requires-clause-rows_numbered c =
     site_numbered c.args.rows.now c.args.place (reported job c.args.now c.args.outcome.now) (reported_file job c.args.now c.args.outcome.now)
     c.index-rows-place-2.result c.report_row-after.new.row c.requires.inside c.report_row-after.ensures.row c.requires.numbered
 
+pub wait-requires-clause-line : goal.wait-requires-clause-line
+wait-requires-clause-line c =
+    let job = c.args.job.now in
+    site_line c.args.rows.now c.args.place (reported job c.args.now c.args.outcome.now) (reported_file job c.args.now c.args.outcome.now)
+    c.index-rows-place-2.result c.report_row-after.new.row c.requires.inside c.report_row-after.ensures.row c.leave.new.parts c.leave.ensures.line
+
 pub wait-requires-clause-idle : goal.wait-requires-clause-idle
 wait-requires-clause-idle c = λ row at.
     let job = c.args.job.now in
@@ -97,7 +103,7 @@ recount-requires-clause-before c =
     c.requires.beside.counts c.index-rows-place-2.result (ap (set c.args.rows.now c.args.place) c.report_row-after.ensures.row)
 
 pub follow-requires-clause-beside : goal.follow-requires-clause-beside
-follow-requires-clause-beside c = record { counts = c.recount.ensures.counts; parts = c.wait.ensures.tied }
+follow-requires-clause-beside c = record { counts = c.recount.ensures.counts; parts = c.wait.ensures.tied; line = c.wait.ensures.line }
 
 pub follow-requires-clause-room : goal.follow-requires-clause-room
 follow-requires-clause-room c =

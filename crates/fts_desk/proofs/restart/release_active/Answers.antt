@@ -5,13 +5,18 @@ use Rattle.fts_desk.proofs.ChangedRows.{change_at-set}
 use Rattle.fts_desk.proofs.CancelledParts.{same_limits}
 use Rattle.fts_desk.proofs.Counted.{counts_before}
 use Rattle.fts_desk.proofs.Released.{released_file, released_idle}
-use Rattle.fts_desk.proofs.RowsBeside.{room_fewer, room_left, site_numbered, site_idle, site_room, site_stood}
+use Rattle.fts_desk.proofs.RowsBeside.{room_fewer, room_left, site_numbered, site_line, site_idle, site_room, site_stood}
 use Rattle.fts_desk.proofs.restart.release_active.Goals as goal
 
 pub wait-requires-clause-rows_numbered : goal.wait-requires-clause-rows_numbered
 wait-requires-clause-rows_numbered c =
     site_numbered c.args.rows.now c.args.place released released_file c.index-rows-place.result c.release_row.new.row c.requires.inside
     c.release_row.ensures.row c.requires.numbered
+
+pub wait-requires-clause-line : goal.wait-requires-clause-line
+wait-requires-clause-line c =
+    site_line c.args.rows.now c.args.place released released_file c.index-rows-place.result c.release_row.new.row c.requires.inside
+    c.release_row.ensures.row c.leave.new.parts c.leave.ensures.line
 
 pub wait-requires-clause-idle : goal.wait-requires-clause-idle
 wait-requires-clause-idle c = λ row at.

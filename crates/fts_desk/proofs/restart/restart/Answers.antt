@@ -4,8 +4,11 @@ use Rattle.std.proofs.lemmas.List.{with_items_is}
 use Rattle.fts_tables.specs.Step.{released}
 use Rattle.fts_tables.specs.declared.rows.FileRow.{FileRow}
 use Rattle.fts_tables.specs.declared.rows.JobRow.{JobRow}
+use Rattle.fts_heads.specs.Dests.{dests_of}
+use Rattle.fts_claims.specs.InLine.{AreInLine}
 use Rattle.fts_claims.specs.Changes.{AreTiedTo}
 use Rattle.fts_desk.specs.Counted.{AreCountsOf}
+use Rattle.fts_desk.proofs.Released.{dests_released}
 use Rattle.fts_desk.proofs.restart.restart.Goals as goal
 
 pub invariant_of-kept : goal.invariant_of-kept
@@ -20,6 +23,7 @@ invariant_of-kept c =
             (subst (λ (jobs : List JobRow). AreCountsOf jobs c.release-released.new.rows c.release-released.new.beside.counts) c.deref.ensures.value
             c.release-released.ensures.beside.counts);
         parts = subst (λ (rows : List FileRow). AreTiedTo jobs rows c.args.parts) (sym left) c.requires.tied;
+        line = subst (λ places. AreInLine places c.args.parts) (sym (ap dests_of left ∙ dests_released c.args.kept.now.rows.items)) c.requires.line;
       };
       of_settings = ap (λ settings. Some settings) c.requires.settings;
       of_bans = c.requires.flags;

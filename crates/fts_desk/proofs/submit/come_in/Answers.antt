@@ -1,16 +1,16 @@
 -- The new rows count, their files wait, and their job stands as they say.
-use Rattle.std.proofs.Common.{◌≡◌, ◌+◌, List, [], ◌∷◌, ◌++◌, length, drop, length-drop, length-append, refl, ap, sym, ◌∙◌, arith, subst}
+use Rattle.std.proofs.Common.{◌+◌, List, [], ◌∷◌, ◌++◌, length, drop, length-drop, length-append, refl, ap, sym, ◌∙◌, arith, subst}
 use Rattle.fts_tables.specs.Moves.{rows_of_kind, state_of_job}
 use Rattle.fts_tables.specs.declared.rows.FileRow.{FileRow}
 use Rattle.fts_tables.specs.declared.rows.JobRow.{JobRow}
 use Rattle.fts_index.specs.RowDues.{MayAdd, HasAdded}
 use Rattle.fts_desk.specs.Counted.{HasRoomForDues, AreStatesOf, count_live}
-use Rattle.fts_desk.specs.declared.job_states.Progress.{Progress}
+use Rattle.fts_desk.specs.Parts.{HaveRoomInLine}
 use Rattle.fts_desk.specs.Loaded.{are_known}
 use Rattle.fts_desk.proofs.RowLinks.{links_of_kind}
 use Rattle.fts_desk.proofs.KnownLinks.{rest_may_count, rest_counted}
 use Rattle.fts_desk.proofs.NewProgress.{states_more}
-use Rattle.fts_desk.proofs.SubmittedParts.{submitted_may, submitted_dues, rest_whole, behind, kind-owned, submitted_jobs, submitted_rows, submitted_idle, submitted_room, submitted_tied}
+use Rattle.fts_desk.proofs.SubmittedParts.{submitted_may, submitted_dues, rest_whole, behind, kind-owned, submitted_jobs, submitted_rows, submitted_idle, submitted_room, submitted_tied, submitted_line}
 use Rattle.fts_desk.proofs.submit.come_in.Goals as goal
 
 pub count_new-requires : goal.count_new-requires
@@ -71,6 +71,20 @@ wait_from-requires-clause-tied c =
     c.args.beside.now.parts added.with_job added.with_rows added.number refl added.behind
     c.jobs_more_stay_tied.ensures.tied added.earlier.parts
 
+pub wait_from-requires-clause-line : goal.wait_from-requires-clause-line
+wait_from-requires-clause-line c =
+    let added = c.requires.added in
+    let tables = added.tables in
+    let job = c.args.job.now in
+    let rows = c.args.rows.now in
+    submitted_line tables added.formed job.kind job.number (length tables.rows + 1) c.args.from added.new job c.args.jobs.now rows
+    c.args.beside.now.parts added.with_job added.with_rows added.number refl added.behind added.earlier.line
+
+pub wait_from-requires-clause-places : goal.wait_from-requires-clause-places
+wait_from-requires-clause-places c =
+    let added = c.requires.added in
+    subst (λ count. HaveRoomInLine count c.args.beside.now.parts) (sym added.long) added.places
+
 pub wait_from-requires-clause-idle : goal.wait_from-requires-clause-idle
 wait_from-requires-clause-idle c =
     let added = c.requires.added in
@@ -121,4 +135,5 @@ returns-clause-beside c =
             c.add.ensures.jobs));
       };
       parts = c.wait_from.ensures.tied;
+      line = c.wait_from.ensures.line;
     }

@@ -3,7 +3,7 @@ use Rattle.std.proofs.Common.{get_or, set, ap, sym, ◌∙◌}
 use Rattle.fts_desk.specs.Places.{woken}
 use Rattle.fts_desk.proofs.ChangedRows.{change_at-set, change_at-past}
 use Rattle.fts_desk.proofs.Counted.{counts_before}
-use Rattle.fts_desk.proofs.RowsBeside.{woken_file, woken_idle, woken_stays, unused_again, site_stood, site_numbered, site_idle, site_room}
+use Rattle.fts_desk.proofs.RowsBeside.{woken_file, woken_idle, woken_stays, unused_again, site_stood, site_numbered, site_line, site_idle, site_room}
 use Rattle.fts_desk.proofs.waking.wake_counted.Goals as goal
 use Rattle.fts_desk.proofs.waking.wake_counted.Goals.{else-place-rows-via-then-place-rows+else-is_not_used, else-place-rows-via-else-place-rows}
 
@@ -11,6 +11,11 @@ pub wait-requires-clause-rows_numbered : goal.wait-requires-clause-rows_numbered
 wait-requires-clause-rows_numbered c =
     site_numbered c.args.rows.now c.args.place woken woken_file c.index-rows-place-then-is_not_used.result c.wake.new.row c.if-place-rows.true
     c.wake.ensures.row c.requires.numbered
+
+pub wait-requires-clause-line : goal.wait-requires-clause-line
+wait-requires-clause-line c =
+    site_line c.args.rows.now c.args.place woken woken_file c.index-rows-place-then-is_not_used.result c.wake.new.row c.if-place-rows.true
+    c.wake.ensures.row c.leave.new.parts c.leave.ensures.line
 
 pub wait-requires-clause-idle : goal.wait-requires-clause-idle
 wait-requires-clause-idle c = λ row at.

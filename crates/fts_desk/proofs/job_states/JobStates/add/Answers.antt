@@ -1,5 +1,5 @@
 -- The new job's place comes in behind the others of its state.
-use Rattle.std.proofs.Common.{◌≡◌, ◌<◌, [], ◌∷◌, length, length-append, ap, sym, subst, ◌∙◌, arith}
+use Rattle.std.proofs.Common.{◌≡◌, ◌<◌, [], ◌∷◌, length, length-append, ap, sym, subst, arith}
 use Rattle.fts_desk.specs.JobLists.{JobList, ArePlacesOf}
 use Rattle.fts_desk.proofs.JobSets.{may_add, room_to_add, places_more, rooms_more}
 use Rattle.fts_desk.proofs.job_states.JobStates.add.Goals as goal

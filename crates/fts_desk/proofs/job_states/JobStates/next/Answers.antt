@@ -1,11 +1,9 @@
 -- One state more is looked up where it is asked for.
-use Rattle.std.proofs.Common.{◌≡◌, ℕ, drop, false, refl, ap, sym, ◌∙◌, arith}
-use Rattle.std.specs.Prelude.{nat_lt, slice_index_or}
+use Rattle.std.proofs.Common.{drop, ap, sym, ◌∙◌, arith}
+use Rattle.std.specs.Prelude.{nat_lt}
 use Rattle.std.specs.List.{position_from}
-use Rattle.std.proofs.lemmas.List.{get_or_read}
-use Rattle.ordered.specs.Orders.{KeySet, first_from}
-use Rattle.fts_desk.specs.JobLists.{JobList, is_at, no_places, least_of}
-use Rattle.fts_desk.specs.declared.job_states.Progress.{Progress}
+use Rattle.ordered.specs.Orders.{first_from}
+use Rattle.fts_desk.specs.JobLists.{JobList, is_at, least_of}
 use Rattle.fts_desk.proofs.JobPlaces.{is_asked_before, first_place, asked_first, asked_here, not_asked}
 use Rattle.fts_desk.proofs.job_states.JobStates.next.Goals.{then-asked-at, else-asked-at}
 use Rattle.fts_desk.proofs.job_states.JobStates.next.Goals as goal

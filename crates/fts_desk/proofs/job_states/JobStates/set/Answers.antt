@@ -1,9 +1,8 @@
 -- The job's place goes from one state to another, or stays.
-use Rattle.std.proofs.Common.{◌≡◌, ◌<◌, length, length-set, refl, ap, sym, subst, ◌∙◌, arith}
-use Rattle.std.specs.Prelude.{slice_get, Some}
+use Rattle.std.proofs.Common.{◌<◌, length, length-set, refl, ap, sym, subst, ◌∙◌, arith}
 use Rattle.std.specs.Vec.{with_item}
 use Rattle.std.proofs.lemmas.Option.{slice_get_read}
-use Rattle.fts_desk.specs.JobLists.{JobList, ArePlacesOf, HaveRooms}
+use Rattle.fts_desk.specs.JobLists.{JobList}
 use Rattle.fts_desk.specs.JobStates.{AreJobStates}
 use Rattle.fts_desk.specs.declared.job_states.JobStates.TheInside.{Inside}
 use Rattle.fts_desk.proofs.JobSets.{may_take, may_put, room_to_put, places_moved, rooms_moved, places_same}
