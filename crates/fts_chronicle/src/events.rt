@@ -36,11 +36,6 @@ pub fn event_by(place: usize, command: &Command, answer: Answer) -> Option<FileE
     ensures { result ≡ event_by place command.now answer }
 {
     match command {
-        Command::Restart {
-            now: _,
-            settings: _,
-        } => None,
-        Command::Submit { now: _, job: _ } => None,
         Command::CancelJob { now, job } => Some(FileEvent::JobCancelled {
             moment: *now,
             job: *job,
@@ -50,25 +45,14 @@ pub fn event_by(place: usize, command: &Command, answer: Answer) -> Option<FileE
             job: *job,
             file: *file,
         }),
-        Command::SetPriority {
-            now: _,
-            job: _,
-            priority: _,
-        } => None,
-        Command::Claim { now, word: _ } => claim_by(*now, answer),
-        Command::Report {
-            now: _,
-            file: _,
-            attempt: _,
-            outcome: _,
-        } => ending_by(place, answer),
-        Command::Ban {
-            now: _,
-            storage: _,
-            cancel: _,
-        } => None,
-        Command::Unban { now: _, storage: _ } => None,
-        Command::Expire { now: _ } => None,
+        Command::Claim { now, .. } => claim_by(*now, answer),
+        Command::Report { .. } => ending_by(place, answer),
+        Command::Restart { .. }
+        | Command::Submit { .. }
+        | Command::SetPriority { .. }
+        | Command::Ban { .. }
+        | Command::Unban { .. }
+        | Command::Expire { .. } => None,
     }
 }
 
@@ -76,39 +60,22 @@ pub fn event_by(place: usize, command: &Command, answer: Answer) -> Option<FileE
 fn claim_by(now: u64, answer: Answer) -> Option<FileEvent>
     ensures { result ≡ claim_by now answer }
 {
-    match answer {
-        Answer::Claimed { file, attempt } => Some(FileEvent::Claimed {
-            moment: now,
-            file,
-            attempt,
-        }),
-        Answer::Restarted { released: _ }
-        | Answer::Submitted { job: _, id: _ }
-        | Answer::Cancelled { job: _ }
-        | Answer::PrioritySet { job: _ }
-        | Answer::Reported { file: _, state: _ }
-        | Answer::Banned { cancelled: _ }
-        | Answer::Unbanned
-        | Answer::Expired { cancelled: _ } => None,
-    }
+    let Answer::Claimed { file, attempt } = answer else {
+        return None;
+    };
+    Some(FileEvent::Claimed {
+        moment: now,
+        file,
+        attempt,
+    })
 }
 
 /// The report of this place, and the state of its file that an answer names.
 fn ending_by(place: usize, answer: Answer) -> Option<FileEvent>
     ensures { result ≡ ending_by place answer }
 {
-    match answer {
-        Answer::Reported { file: _, state } => Some(FileEvent::Reported { place, state }),
-        Answer::Restarted { released: _ }
-        | Answer::Submitted { job: _, id: _ }
-        | Answer::Cancelled { job: _ }
-        | Answer::PrioritySet { job: _ }
-        | Answer::Claimed {
-            file: _,
-            attempt: _,
-        }
-        | Answer::Banned { cancelled: _ }
-        | Answer::Unbanned
-        | Answer::Expired { cancelled: _ } => None,
-    }
+    let Answer::Reported { state, .. } = answer else {
+        return None;
+    };
+    Some(FileEvent::Reported { place, state })
 }

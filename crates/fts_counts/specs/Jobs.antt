@@ -3,17 +3,12 @@ use Rattle.std.specs.Prelude.{ℕ, Bool, false, ◌==◌, count_by, Option}
 use Rattle.std.specs.Option.{option_map_or}
 use Rattle.fts_tables.specs.Tables.{Tables}
 use Rattle.fts_tables.specs.declared.rows.JobState.{JobState}
-use Rattle.fts_tables.specs.declared.rows.JobState.TheVariants.{FinishedDirty, Submitted, Active, Finished, Failed, Canceled}
 use Rattle.fts_desk.specs.DeskData.{state_at}
+use Rattle.fts_desk.specs.JobLists.{rank}
 
 -- the place of a job's state in their order
 abbrev pub place_of : JobState → ℕ
-place_of Submitted = 0
-place_of Active = 1
-place_of Finished = 2
-place_of FinishedDirty = 3
-place_of Failed = 4
-place_of Canceled = 5
+place_of state = rank state
 
 -- whether a job's state, where it has one, is that of this place
 abbrev pub stands_in : ℕ → Option JobState → Bool

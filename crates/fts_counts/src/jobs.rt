@@ -3,7 +3,7 @@ ghost use Rattle.std.specs.Prelude.{◌≡◌, map, count_by, IfOk};
 ghost use Rattle.fts_desk.specs.DeskData.{state_at};
 ghost use Rattle.fts_counts.specs.Jobs.{place_of, stands_in};
 
-use fts_desk::Desk;
+use fts_desk::{Desk, rank};
 use fts_tables::{JobState, Memory};
 use std::alloc::Global;
 
@@ -23,7 +23,7 @@ pub fn job_states(alloc: Global, desk: &Desk) -> Result<Vec<Option<JobState>>, M
 pub fn jobs_in(states: &[Option<JobState>], state: JobState) -> u64
     ensures { result ≡ count_by (stands_in (place_of state)) states.now }
 {
-    let place = place_of(state);
+    let place = rank(state);
     states
         .iter()
         .filter(|found| stands_in(place, **found))
@@ -31,25 +31,11 @@ pub fn jobs_in(states: &[Option<JobState>], state: JobState) -> u64
 }
 
 // Whether this is the state of a place.
-fn stands_in(place: u8, found: Option<JobState>) -> bool
+fn stands_in(place: usize, found: Option<JobState>) -> bool
     ensures { result ≡ stands_in place found }
 {
     match found {
-        Some(state) => place_of(state) == place,
+        Some(state) => rank(state) == place,
         None => false,
-    }
-}
-
-// The place of a job's state in their order.
-fn place_of(state: JobState) -> u8
-    ensures { result ≡ place_of state }
-{
-    match state {
-        JobState::Submitted => 0,
-        JobState::Active => 1,
-        JobState::Finished => 2,
-        JobState::FinishedDirty => 3,
-        JobState::Failed => 4,
-        JobState::Canceled => 5,
     }
 }

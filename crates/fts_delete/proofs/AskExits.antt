@@ -16,7 +16,7 @@ use Rattle.fts_delete.specs.Asked.{rows_with, asked_to, KeepsAll, AskAnswer, Ask
 use Rattle.fts_delete.proofs.Beginnings.{some_is}
 use Rattle.fts_delete.proofs.Moments.{rose_later}
 use Rattle.fts_delete.proofs.Images.{images_start}
-use Rattle.fts_delete.proofs.Lists.{none_more}
+use Rattle.std.proofs.lemmas.List.{append-nil}
 use Rattle.fts_delete.proofs.Since.{readied_list, with_images}
 
 -- what isn't passed
@@ -60,13 +60,13 @@ module _ {D : Type 0} (state : D → DiskState) (faults : D → ℕ) (old : Dele
 
     -- there was no memory before any call
     pub asked_memory : (IsTold (state old.disk) → LeavesOnly (state old.disk) (state old.disk) (IsImageOf old))
-        → Asked state faults old old places (Err Memory)
-    asked_memory still = record {
+        → (result : Result (Unit {0}) DeleteFault) → result ≡ Err Memory → Asked state faults old old places result
+    asked_memory still result is = subst (λ r. Asked state faults old old places r) (sym is) (record {
       answer = (few, record { list = record { rows = refl; count = refl; used = refl; events = refl }; doubt = λ told. inr (inl refl) });
       told = refl;
       counts = omega arith;
       moments = λ told. weakened (state old.disk) (state old.disk) (IsImageOf old) (IsImageWith old (Ask places)) (still told) (λ content there. inl there);
-    }
+    })
 
     module _ (mid : DeletesData D) where
       -- the journal wasn't made ready
@@ -184,7 +184,7 @@ asked_images {D = D} state faults lawful old new places kept result asked = by r
     -- no event was added
     kept_by : nat_lt most_rows (length old.rows + length places) ≡ false → KeepsAll state old new places → KeepsImages state old new
     kept_by few all = with_images state faults old new kept (Ask places) (rows_with old.rows places) (legal_ask old.rows places few)
-        (λ told. ([], all.list.events ∙ sym (none_more old.events))) asked.moments
+        (λ told. ([], all.list.events ∙ sym (append-nil old.events))) asked.moments
 
     by : (r : Result (Unit {0}) DeleteFault) → AskAnswer state faults old new places r → KeepsImages state old new
     by (Ok done) adds = with_images state faults old new kept (Ask places) (rows_with old.rows places)

@@ -11,7 +11,9 @@ use Rattle.fts_tables.specs.declared.places.Place.{Place}
 use Rattle.fts_delete.specs.declared.document.DeleteDocFault.{DeleteDocFault}
 use Rattle.fts_delete.specs.declared.document.DeleteDocFault.TheVariants.{NotObject, NoDeletes, TooMany, NotText, UnknownEndpoint, Memory}
 use Rattle.fts_delete.specs.Rows.{most_asked}
-use Rattle.fts_delete.specs.Documents.{Reads, is_object, is_text, asked_items, rules_of, texts_of, places_of, first_url_fault, url_refused, places_read, is_elsewhere, asked_by}
+use Rattle.fts_jobdoc.specs.Json.{is_object, is_text}
+use Rattle.fts_jobdoc.specs.Ends.{places_of, first_url_fault, is_elsewhere}
+use Rattle.fts_delete.specs.Documents.{Reads, asked_items, rules_of, texts_of, url_refused, places_read, asked_by}
 use Rattle.fts_delete.proofs.AskExits.{not_more}
 use Rattle.fts_delete.proofs.UrlLemmas.{gives-Ok, all_read, none_read}
 

@@ -1,12 +1,12 @@
 -- The exits of recording an event: no room, a doubt that couldn't be ended, one that was, an append that failed, and one that was done.
-use Rattle.std.proofs.Common.{◌≡◌, ◌⊎◌, refl, ap, sym, ◌∙◌, subst, inl, inr, ⊎_elim, ℕ, ◌+◌, ◌≤◌, ◌<◌, Bool, true, false, leb, List, [], ◌∷◌, ◌++◌, length, Option, Some, None, IsSome, is_some, Result, Ok, Err, arith}
+use Rattle.std.proofs.Common.{◌≡◌, ◌⊎◌, refl, ap, sym, ◌∙◌, subst, inl, inr, ⊎_elim, ℕ, ◌+◌, ◌≤◌, ◌<◌, Bool, true, false, leb, List, [], ◌∷◌, ◌++◌, length, Option, Some, None, option_map, All, IsSome, is_some, Result, Ok, Err, arith}
 use Rattle.std.proofs.lemmas.Bool.{leb-true, le-leb, false_from_ne_true}
 use Rattle.std.proofs.lemmas.List.{length-append}
 use Rattle.std.proofs.lemmas.List.Elements.{All-push}
 use Rattle.fts_tables.specs.declared.limits.TheConstants.{JOURNAL_END}
 use Rattle.fts_disk.specs.Disk.{DiskState, IsTold, IsLawful, LeavesOnly}
 use Rattle.fts_journal.specs.Format.{Stands}
-use Rattle.fts_journal.specs.Journal.{JournalData, FailsToAppend, AppendCause, IsBeforeOrAfter, IsImageOf as IsJournalImage}
+use Rattle.fts_journal.specs.Journal.{JournalData, FailsToAppend, AppendCause, IsBeforeOrAfter, IsSound, IsImageOf as IsJournalImage}
 use Rattle.fts_journal.specs.declared.fault.JournalFault.{JournalFault}
 use Rattle.fts_journal.specs.declared.fault.JournalFault.TheVariants.{DiskFailed as JournalDiskFailed, Full, NotJournal, Cut, Memory as JournalMemory}
 use Rattle.fts_journal.proofs.Moments.{started, weakened}
@@ -79,6 +79,25 @@ module _ {D : Type 0} (state : D → DiskState) (faults : D → ℕ) (lawful : (
   untouched told = started (state journal.disk) (lawful journal.disk told) (IsImageOf old)
       (λ content left. image_seen told content (tied.held.images told content left))
 
+  -- the list as it was, with this doubt
+  still_held : (mid : JournalData D) (doubt : Option Event) → IsLegal (with_doubt tied.events doubt) → All IsProper (with_doubt tied.events doubt)
+      → (mid.count ≡ journal.count) × (mid.used ≡ journal.used) → mid.in_doubt ≡ is_some doubt → (state mid.disk).told ≡ (state journal.disk).told
+      → (IsTold (state journal.disk) → mid.bodies ≡ journal.bodies) → (IsTold (state mid.disk) → mid.doubt ≡ option_map body_of doubt)
+      → IsSound (state mid.disk) mid.bodies mid.doubt → IsHeld state rows mid tied.events doubt
+  still_held mid doubt legal proper kept sure told bodies doubts images = let h = tied.held in record {
+    folded = h.folded;
+    legal = legal;
+    proper = proper;
+    counted = kept.0 ∙ h.counted;
+    low = omega (arith, h.low, kept.0, kept.1);
+    high = omega (arith, h.high, kept.1);
+    fills = kept.1 ∙ h.fills;
+    sure = sure;
+    bodies = λ is. bodies (sym told ∙ is) ∙ h.bodies (sym told ∙ is);
+    doubts = doubts;
+    images = images;
+  }
+
   -- there was no room
   pub readied_full : (size : ℕ) → has_room journal.used size ≡ false → Readied state faults old old size (Err (JournalFull journal.used))
   readied_full size full = record {
@@ -91,19 +110,8 @@ module _ {D : Type 0} (state : D → DiskState) (faults : D → ℕ) (lawful : (
   module _ (mid : JournalData D) where
     -- a doubt that couldn't be ended
     unsettled_held : (fault : JournalFault) → Settles state faults journal mid (Err fault) → IsHeld state rows mid tied.events tied.doubt
-    unsettled_held fault settles = let h = tied.held in record {
-      folded = h.folded;
-      legal = h.legal;
-      proper = h.proper;
-      counted = settles.kept.0 ∙ h.counted;
-      low = omega (arith, h.low, settles.kept.0, settles.kept.1);
-      high = omega (arith, h.high, settles.kept.1);
-      fills = settles.kept.1 ∙ h.fills;
-      sure = settles.err ∙ h.sure;
-      bodies = λ told. settles.bodies (sym settles.told ∙ told) ∙ h.bodies (sym settles.told ∙ told);
-      doubts = λ told. settles.doubt (sym settles.told ∙ told) ∙ h.doubts (sym settles.told ∙ told);
-      images = settles.images;
-    }
+    unsettled_held fault settles = let h = tied.held in still_held mid tied.doubt h.legal h.proper settles.kept (settles.err ∙ h.sure) settles.told settles.bodies
+        (λ told. settles.doubt (sym settles.told ∙ told) ∙ h.doubts (sym settles.told ∙ told)) settles.images
 
     pub unsettled_tied : (fault : JournalFault) → Settles state faults journal mid (Err fault) → IsTied state rows mid
     unsettled_tied fault settles = record { events = tied.events; doubt = tied.doubt; held = unsettled_held fault settles }
@@ -132,19 +140,9 @@ module _ {D : Type 0} (state : D → DiskState) (faults : D → ℕ) (lawful : (
 
     -- and one that was
     settled_held : Settles state faults journal mid (Ok tt) → IsHeld state rows mid tied.events None
-    settled_held settles = let h = tied.held in record {
-      folded = h.folded;
-      legal = legal_list tied.events tied.doubt h.legal;
-      proper = proper_list tied.events tied.doubt h.proper;
-      counted = settles.kept.0 ∙ h.counted;
-      low = omega (arith, h.low, settles.kept.0, settles.kept.1);
-      high = omega (arith, h.high, settles.kept.1);
-      fills = settles.kept.1 ∙ h.fills;
-      sure = settles.ok;
-      bodies = λ told. settles.bodies (sym settles.told ∙ told) ∙ h.bodies (sym settles.told ∙ told);
-      doubts = λ told. settles.settled (sym settles.told ∙ told);
-      images = settles.images;
-    }
+    settled_held settles = let h = tied.held in
+        still_held mid None (legal_list tied.events tied.doubt h.legal) (proper_list tied.events tied.doubt h.proper) settles.kept settles.ok settles.told
+        settles.bodies (λ told. settles.settled (sym settles.told ∙ told)) settles.images
 
     pub settled_tied : Settles state faults journal mid (Ok tt) → IsTied state rows mid
     settled_tied settles = record { events = tied.events; doubt = None; held = settled_held settles }
@@ -198,32 +196,10 @@ module _ {D : Type 0} (state : D → DiskState) (faults : D → ℕ) (lawful : (
           failing told = appends.failed (sym appends.told ∙ told)
 
           by : (b : Bool) → b ≡ last.in_doubt → IsHeld state rows last tied.events None ⊎ IsHeld state rows last tied.events (Some event)
-          by false is = inl (record {
-            folded = h.folded;
-            legal = h.legal;
-            proper = h.proper;
-            counted = appends.err.0 ∙ h.counted;
-            low = omega (arith, h.low, appends.err.0, appends.err.1);
-            high = omega (arith, h.high, appends.err.1);
-            fills = appends.err.1 ∙ h.fills;
-            sure = sym is;
-            bodies = λ told. (failing told).same ∙ h.bodies (sym appends.told ∙ told);
-            doubts = λ told. ((failing told).closed (sym is)).0;
-            images = appends.images;
-          })
-          by true is = inr (record {
-            folded = h.folded;
-            legal = legal_with;
-            proper = All-push IsProper tied.events event h.proper proper;
-            counted = appends.err.0 ∙ h.counted;
-            low = omega (arith, h.low, appends.err.0, appends.err.1);
-            high = omega (arith, h.high, appends.err.1);
-            fills = appends.err.1 ∙ h.fills;
-            sure = sym is;
-            bodies = λ told. (failing told).same ∙ h.bodies (sym appends.told ∙ told);
-            doubts = λ told. (failing told).open_to_both (sym is) ∙ ap (λ x. Some x) is_body;
-            images = appends.images;
-          })
+          by false is = inl (still_held last None h.legal h.proper appends.err (sym is) appends.told (λ told. (appends.failed told).same)
+              (λ told. ((failing told).closed (sym is)).0) appends.images)
+          by true is = inr (still_held last (Some event) legal_with (All-push IsProper tied.events event h.proper proper) appends.err (sym is) appends.told
+              (λ told. (appends.failed told).same) (λ told. (failing told).open_to_both (sym is) ∙ ap (λ x. Some x) is_body) appends.images)
 
       pub failed_tied : IsTied state rows last
       failed_tied = ⊎_elim (λ h. record { events = tied.events; doubt = None; held = h }) (λ h. record { events = tied.events; doubt = Some event; held = h })

@@ -1,7 +1,8 @@
 -- The loop over the bodies of a journal: one event more, a fault, and the end.
-use Rattle.std.proofs.Common.{◌≡◌, refl, ap, sym, ◌∙◌, subst, ℕ, zero, suc, ◌+◌, ◌≤◌, List, [], ◌∷◌, ◌++◌, length, take, drop, slice_get, Option, Some, None, Result, Ok, Err, IfErr, inl, inr, ◌⊎◌, arith, add-one, true, false, is_some}
+use Rattle.std.proofs.Common.{◌≡◌, refl, ap, sym, ◌∙◌, subst, ℕ, suc, ◌+◌, ◌≤◌, List, [], ◌∷◌, ◌++◌, length, take, drop, take-suc, drop-cons, slice_get, Option, Some, None, Result, Ok, Err, IfErr, inl, inr, ◌⊎◌, arith, add-one, true, false, is_some}
 use Rattle.std.proofs.lemmas.List.{length-append}
 use Rattle.std.proofs.lemmas.List.Elements.{All-nil, All-push}
+use Rattle.std.proofs.lemmas.Option.{slice_get_within, get_or_from_slice_get}
 use Rattle.std.proofs.lemmas.List.Sums.{sum_by_push, sum_by-take-le}
 use Rattle.std.specs.List.{sum_by}
 use Rattle.std.specs.Result.{IsErrAnd}
@@ -30,26 +31,13 @@ use Rattle.fts_delete.proofs.Moments.{same_still, more_still, rose_later}
 
 -- the items from a place on
 drop_at_place : {A : Type 0} (items : List A) (n : ℕ) (item : A) → slice_get items n ≡ Some item → drop n items ≡ item ∷ drop (suc n) items
-drop_at_place [] n item is = absurd cc
-drop_at_place (first ∷ items) zero item is = let same : first ≡ item = cc in ap (λ x. x ∷ items) same
-drop_at_place (first ∷ items) (suc n) item is = drop_at_place items n item is
+drop_at_place items n item is = drop-cons items n item (slice_get_within items n item is)
+    ∙ ap (λ x. x ∷ drop (suc n) items) (get_or_from_slice_get items n item item is)
 
 -- the items up to a place
 take_at_place : {A : Type 0} (items : List A) (n : ℕ) (item : A) → slice_get items n ≡ Some item → take (suc n) items ≡ take n items ++ item ∷ []
-take_at_place [] n item is = absurd cc
-take_at_place (first ∷ items) zero item is = let same : first ≡ item = cc in ap (λ x. x ∷ []) same
-take_at_place (first ∷ items) (suc n) item is = ap (λ rest. first ∷ rest) (take_at_place items n item is)
-
--- none of no items
-take_none : {A : Type 0} (n : ℕ) → take {A = A} n [] ≡ []
-take_none zero = refl
-take_none (suc n) = refl
-
--- all items
-pub take_all : {A : Type 0} (items : List A) (n : ℕ) → length items ≡ n → take n items ≡ items
-take_all [] n is = take_none n
-take_all (item ∷ items) zero is = absurd (omega (arith, is))
-take_all (item ∷ items) (suc n) is = ap (λ rest. item ∷ rest) (take_all items n (omega (arith, is)))
+take_at_place items n item is = take-suc items n item (slice_get_within items n item is)
+    ∙ ap (λ x. take n items ++ x ∷ []) (get_or_from_slice_get items n item item is)
 
 -- the first so many sizes fill no more than all
 pub filled_to : (sizes : List ℕ) (n : ℕ) → filled_by (take n sizes) ≤ filled_by sizes

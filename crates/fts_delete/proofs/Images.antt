@@ -1,31 +1,12 @@
 -- Images through several calls, and before the first.
-use Rattle.std.proofs.Common.{◌≡◌, ◌⊎◌, inl, inr, sym, ◌∙◌, ap, subst, ℕ, ◌≤◌, Option, None, List, [], ◌++◌, append_assoc, arith}
+use Rattle.std.proofs.Common.{◌≡◌, ◌⊎◌, inl, inr, sym, ◌∙◌, ap, subst, ℕ, Option, None, List, [], ◌++◌, append_assoc}
 use Rattle.std.proofs.lemmas.List.{append-nil}
-use Rattle.fts_disk.specs.Disk.{DiskState, IsTold, LeavesOnly, IsLawful}
+use Rattle.fts_disk.specs.Disk.{DiskState, IsTold, IsLawful}
+use Rattle.fts_journal.proofs.Moments.{started, joins, weakened}
 use Rattle.fts_delete.specs.declared.events.Event.{Event}
 use Rattle.fts_delete.specs.Laws.{AreNumbered}
 use Rattle.fts_delete.specs.Journals.{DeletesData, StandsFor, with_doubt, IsLegal, IsImageSince, IsDeletes, KeepsImages}
 use Rattle.fts_delete.proofs.Forming.{legal_rows_are_formed}
-
--- one run of calls behind another
-both_leave : (a b c : DiskState) (P Q : List ℕ → Type 0) → LeavesOnly a b P → LeavesOnly b c Q → ((content : List ℕ) → P content → Q content) → LeavesOnly a c Q
-both_leave a b c P Q first second into = record {
-  later = omega (arith, first.later, second.later);
-  each = λ content left. each_of content (second.before a.moment content first.later left);
-  before = λ t content le left. before_of t content le (second.before t content (omega (arith, le, first.later)) left);
-}
-  where
-    each_of : (content : List ℕ) → b.left_since a.moment content ⊎ Q content → Q content
-    each_of content (inl left) = into content (first.each content left)
-    each_of content (inr q) = q
-
-    first_of : (t : ℕ) (content : List ℕ) → a.left_since t content ⊎ P content → a.left_since t content ⊎ Q content
-    first_of t content (inl left) = inl left
-    first_of t content (inr p) = inr (into content p)
-
-    before_of : (t : ℕ) (content : List ℕ) → t ≤ a.moment → b.left_since t content ⊎ Q content → a.left_since t content ⊎ Q content
-    before_of t content le (inl left) = first_of t content (first.before t content le left)
-    before_of t content le (inr q) = inr q
 
 -- an image of a list is one of a longer one
 pub image_more : (opening list more : List Event) (content : List ℕ) → IsImageSince opening list content → IsImageSince opening (list ++ more) content
@@ -46,9 +27,10 @@ module _ {D : Type 0} (state : D → DiskState) where
   images_more old mid new xs ys same first second one two = λ opening since parts told.
       let told_then : IsTold (state mid.disk) = same ∙ told in
       let parts_then : mid.events ≡ opening ++ (since ++ xs) = first told ∙ ap (λ l. l ++ xs) parts ∙ append_assoc opening since xs in
-      both_leave (state old.disk) (state mid.disk) (state new.disk) (IsImageSince opening mid.events) (IsImageSince opening new.events)
-      (one opening since parts told) (two opening (since ++ xs) parts_then told_then)
-      (λ content image. subst (λ l. IsImageSince opening l content) (sym (second told_then)) (image_more opening mid.events ys content image))
+      joins (state old.disk) (state mid.disk) (state new.disk) (IsImageSince opening new.events)
+      (weakened (state old.disk) (state mid.disk) (IsImageSince opening mid.events) (IsImageSince opening new.events) (one opening since parts told)
+      (λ content image. subst (λ l. IsImageSince opening l content) (sym (second told_then)) (image_more opening mid.events ys content image)))
+      (two opening (since ++ xs) parts_then told_then)
 
   -- an image of what is held
   pub image_now : (events opening since : List Event) (doubt : Option Event) (content : List ℕ) → events ≡ opening ++ since → IsLegal events → IsLegal (with_doubt events doubt)
@@ -74,12 +56,8 @@ module _ {D : Type 0} (state : D → DiskState) where
   pub images_start : (old : DeletesData D) → IsDeletes state old → (IsTold (state old.disk) → IsLawful (state old.disk)) → KeepsImages state old old
   images_start old kept lawful = λ opening since parts told.
       let holds = kept.holds told in
-      record {
-        later = omega arith;
-        each = λ content left. image_now old.events opening since old.doubt content parts (record { rows = old.rows; are = holds.folded }) holds.legal
-            (holds.images content ((lawful told).only_now content left));
-        before = λ t content le left. inl left;
-      }
+      started (state old.disk) (lawful told) (IsImageSince opening old.events) (λ content left. image_now old.events opening since old.doubt content parts
+      (record { rows = old.rows; are = holds.folded }) holds.legal (holds.images content left))
 
   -- the rows of what is kept are numbered
   pub rows_numbered : (old : DeletesData D) → IsDeletes state old → AreNumbered 1 old.rows

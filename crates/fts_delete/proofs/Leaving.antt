@@ -1,8 +1,7 @@
 -- What a pass leaves of a store that tells its files.
 use Rattle.std.proofs.Common.{◌≡◌, refl, sym, ◌∙◌, ap, ℕ, Bool, true, false, None, List, [], ◌∷◌}
-use Rattle.std.specs.Bool.{Decides}
 use Rattle.std.specs.Prelude.{bytes_eq}
-use Rattle.std.proofs.lemmas.Bool.Decides.{Decides-like, Decides-and}
+use Rattle.std.proofs.lemmas.Bool.{and_parts}
 use Rattle.std.proofs.lemmas.Slice.Eq.{bytes_eq-Decides}
 use Rattle.fts_tables.specs.Places.{is_same_place}
 use Rattle.fts_tables.specs.declared.places.Place.{Place}
@@ -18,17 +17,12 @@ place_of endpoint path = record { endpoint = endpoint; path = path }
 pub by_texts : (e f p q : List ℕ) → e ≡ f → p ≡ q → place_of e p ≡ place_of f q
 by_texts e f p q one other = cc
 
--- the test of two places is true exactly where they are equal
-same_place-Decides : (one other : Place) → Decides (is_same_place one other) (one ≡ other)
-same_place-Decides one other = Decides-like (is_same_place one other)
-    (λ both. by_texts one.endpoint other.endpoint one.path other.path both.0 both.1)
-    (λ is. (ap (λ (p : Place). p.endpoint) is, ap (λ (p : Place). p.path) is))
-    (Decides-and (bytes_eq one.endpoint other.endpoint) (bytes_eq one.path other.path)
-    (bytes_eq-Decides one.endpoint other.endpoint) (bytes_eq-Decides one.path other.path))
-
 -- places that are the same are equal
 same_place : (one other : Place) → is_same_place one other ≡ true → one ≡ other
-same_place one other e = (same_place-Decides one other).0 e
+same_place one other e =
+    let both = and_parts (bytes_eq one.endpoint other.endpoint) (bytes_eq one.path other.path) e in
+    by_texts one.endpoint other.endpoint one.path other.path ((bytes_eq-Decides one.endpoint other.endpoint).0 both.0)
+    ((bytes_eq-Decides one.path other.path).0 both.1)
 
 module _ {E : Type 0} (files : E → StoreState) (failures : E → ℕ) where
   -- a visit makes no file, here or elsewhere

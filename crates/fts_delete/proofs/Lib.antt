@@ -23,9 +23,6 @@ pub mod Starting
 pub mod Since
 pub mod AskExits
 pub mod RowExits
-pub mod PlacesLoop
-pub mod JsonLemmas
 pub mod UrlLemmas
-pub mod Left
 pub mod AskedBy
 pub mod SomeAsked

@@ -1,9 +1,9 @@
 -- Lists of events: their bodies, what one event more makes of them, and the bytes that it fills.
 use Rattle.std.proofs.Common.{◌≡◌, refl, ap, sym, ◌∙◌, subst, ◌⊎◌, ℕ, ◌+◌, inl, inr, List, [], ◌∷◌, ◌++◌, length, Option, Some, None, option_map, option_and_then, All, arith}
-use Rattle.std.proofs.lemmas.List.{map-append, length-append}
-use Rattle.std.proofs.lemmas.List.Elements.{All-nil, All-cons, All-head, All-tail}
-use Rattle.std.specs.List.{flat_map}
-use Rattle.fts_journal.specs.Format.{used_by, header, block, size_bytes, Stands}
+use Rattle.std.proofs.lemmas.List.{map-append}
+use Rattle.std.proofs.lemmas.List.Elements.{All-head, All-tail, All-pop}
+use Rattle.fts_journal.specs.Format.{used_by, Stands}
+use Rattle.fts_journal.proofs.Gates.{used_by-snoc}
 use Rattle.fts_journal.specs.Journal.{IsImageOf as IsJournalImage}
 use Rattle.fts_delete.specs.declared.events.Event.{Event}
 use Rattle.fts_delete.specs.declared.rows.DeleteRow.{DeleteRow}
@@ -13,21 +13,6 @@ use Rattle.fts_delete.specs.Journals.{used_of, with_doubt, IsLegal, StandsFor}
 use Rattle.fts_delete.specs.Views.{ok_of, read_of, events_in}
 use Rattle.fts_delete.proofs.Beginnings.{from-append, beginning_is_legal}
 use Rattle.fts_delete.proofs.ReadBack.{spelled_is_read}
-
--- nothing more
-pub none_more : {A : Type 0} (items : List A) → items ++ [] ≡ items
-none_more [] = refl
-none_more (item ∷ items) = ap (λ rest. item ∷ rest) (none_more items)
-
--- what holds of all holds of those at the front
-pub all_front : {A : Type 0} (P : A → Type 0) (items more : List A) → All P (items ++ more) → All P items
-all_front P [] more all = All-nil P
-all_front P (item ∷ items) more all = All-cons P item items (All-head P item (items ++ more) all) (all_front P items more (All-tail P item (items ++ more) all))
-
--- and of the one behind them
-pub all_last : {A : Type 0} (P : A → Type 0) (items : List A) (item : A) → All P (items ++ item ∷ []) → P item
-all_last P [] item all = All-head P item [] all
-all_last P (first ∷ items) item all = all_last P items item (All-tail P first (items ++ item ∷ []) all)
 
 -- one event more, which is legal
 pub rows_more : (rows next : List DeleteRow) (events : List Event) (event : Event) → AreRowsOf rows events → rows_after rows event ≡ Some next
@@ -47,29 +32,15 @@ legal_list events (Some event) legal = legal_front events (event ∷ []) legal
 -- and its events are proper
 pub proper_list : (events : List Event) (doubt : Option Event) → All IsProper (with_doubt events doubt) → All IsProper events
 proper_list events None proper = proper
-proper_list events (Some event) proper = all_front IsProper events (event ∷ []) proper
+proper_list events (Some event) proper = (All-pop IsProper (events ++ event ∷ []) events (Some event) refl proper).0
 
 -- the bodies of one event more
 pub bodies_more : (events : List Event) (event : Event) → bodies_of (events ++ event ∷ []) ≡ bodies_of events ++ body_of event ∷ []
 bodies_more events event = map-append body_of events (event ∷ [])
 
--- the blocks of one body more
-blocks_more : (bodies : List (List ℕ)) (body : List ℕ) → length (flat_map block (bodies ++ body ∷ [])) ≡ length (flat_map block bodies) + 5 + length body
-blocks_more [] body = omega (arith, ap length (none_more (block body)), length-append (size_bytes (length body)) body, size body)
-  where
-    size : (b : List ℕ) → length (size_bytes (length b)) ≡ 4
-    size b = refl
-blocks_more (first ∷ bodies) body = omega
-    (arith, blocks_more bodies body, length-append (block first) (flat_map block (bodies ++ body ∷ [])), length-append (block first) (flat_map block bodies))
-
--- the bytes that one body more fills
-pub bytes_more : (bodies : List (List ℕ)) (body : List ℕ) → used_by (bodies ++ body ∷ []) ≡ used_by bodies + 5 + length body
-bytes_more bodies body = omega
-    (arith, blocks_more bodies body, length-append header (flat_map block (bodies ++ body ∷ [])), length-append header (flat_map block bodies))
-
--- and one event more
+-- the bytes that one event more fills
 pub filled_more : (events : List Event) (event : Event) → used_of (events ++ event ∷ []) ≡ used_of events + 5 + length (body_of event)
-filled_more events event = ap used_by (bodies_more events event) ∙ bytes_more (bodies_of events) (body_of event)
+filled_more events event = ap used_by (bodies_more events event) ∙ used_by-snoc (bodies_of events) (body_of event)
 
 -- a proper event is read back
 pub reads : (event : Event) → IsProper event → read_of (body_of event) ≡ Some event
@@ -86,7 +57,7 @@ events_again (event ∷ events) proper =
 pub doubt_again : (events : List Event) (doubt : Option Event) → All IsProper (with_doubt events doubt)
     → option_and_then read_of (option_map body_of doubt) ≡ doubt
 doubt_again events None proper = refl
-doubt_again events (Some event) proper = reads event (all_last IsProper events event proper)
+doubt_again events (Some event) proper = reads event (All-pop IsProper (events ++ event ∷ []) events (Some event) refl proper).1
 
 -- an image of the bodies, with the one in doubt, is one of the events, or of them with the doubt
 pub image_of : (events : List Event) (doubt : Option Event) (content : List ℕ) → IsJournalImage (bodies_of events) (option_map body_of doubt) content

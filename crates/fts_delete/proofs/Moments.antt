@@ -1,18 +1,11 @@
 -- What a crash leaves at the moments of calls of a disk that are still, or look alone, and what follows from what is left.
-use Rattle.std.proofs.Common.{inl, inr, ⊎_elim, ℕ, List, ◌≤◌, ◌⊎◌, arith}
+use Rattle.std.proofs.Common.{inl, inr, ⊎_elim, ℕ, ◌≤◌, arith}
 use Rattle.fts_tables.specs.Counts.{Rose}
 use Rattle.fts_disk.specs.Disk.{DiskState, LeavesOnly, IsLawful, Looks}
 use Rattle.fts_journal.specs.Loading.{IsQuiet}
 use Rattle.fts_journal.specs.Journal.{IsMaking}
-use Rattle.fts_journal.proofs.Moments.{started, joins, weakened}
+use Rattle.fts_journal.proofs.Moments.{started, goes_on, joins, weakened}
 use Rattle.fts_delete.specs.Opened.{IsStill}
-
--- a run that is still, and one after it that leaves what has P
-pub behind_still : (old mid new : DiskState) (P : List ℕ → Type 0) → IsStill old mid → LeavesOnly mid new P
-    → LeavesOnly old new (λ content. old.may_leave content ⊎ P content)
-behind_still old mid new P still only = joins old mid new (λ content. old.may_leave content ⊎ P content)
-    (weakened old mid old.may_leave (λ content. old.may_leave content ⊎ P content) still.moments (λ c there. inl there))
-    (weakened mid new P (λ content. old.may_leave content ⊎ P content) only (λ c there. inr there))
 
 -- two runs that are still
 pub still_still : (old mid new : DiskState) → IsStill old mid → IsStill mid new → IsStill old new
@@ -34,28 +27,13 @@ pub more_still : (old mid new : DiskState) → IsStill old mid → IsLawful new 
 more_still old mid new first lawful only =
     still_still old mid new first (record { images = λ c left. only.each c (lawful.counts_now mid.moment c only.later left); moments = only })
 
--- a look leaves what might have been left before
-looked : (old new : DiskState) → IsLawful old → Looks old new → LeavesOnly old new old.may_leave
-looked old new lawful looks = record {
-  later = looks.time.later;
-  each = λ c left. ⊎_elim (λ past. lawful.only_now c past) (λ now. looks.crash c now) (looks.time.nothing_else old.moment c (omega arith) left);
-  before = λ t c le left. ⊎_elim (λ past. inl past) (λ now. inr (looks.crash c now)) (looks.time.nothing_else t c le left);
-}
-
--- where nothing more was called, nothing is made
-pub made_none : (old new : DiskState) → IsLawful old → Looks old new → LeavesOnly old new (IsMaking old)
-made_none old new lawful looks = weakened old new old.may_leave (IsMaking old) (looked old new lawful looks) (λ c there. inl there)
-
--- and behind a look a journal is made as without it
+-- behind a look a journal is made as without it
 pub made_behind : (old mid new : DiskState) → IsLawful old → Looks old mid → LeavesOnly mid new (IsMaking mid) → LeavesOnly old new (IsMaking old)
-made_behind old mid new lawful looks only = joins old mid new (IsMaking old) (made_none old mid lawful looks)
+made_behind old mid new lawful looks only = joins old mid new (IsMaking old)
+    (goes_on old old mid (IsMaking old) (started old lawful (IsMaking old) (λ c there. inl there)) looks.time (λ c there. inl (looks.crash c there)))
     (weakened mid new (IsMaking mid) (IsMaking old) only
     (λ c there. ⊎_elim (λ same. inl (looks.crash c same)) (λ torn. inr (torn.0, (looks.crash torn.0 torn.1.0, torn.1.1))) there))
 
 -- a count that rose later rose
 pub rose_later : (old mid new : ℕ) → old ≤ mid → Rose mid new → Rose old new
 rose_later old mid new keeps rose = ⊎_elim (λ more. inl (omega arith)) (λ most. inr most) rose
-
--- a count that rose before rose
-pub rose_before : (old mid new : ℕ) → mid ≤ new → Rose old mid → Rose old new
-rose_before old mid new keeps rose = ⊎_elim (λ more. inl (omega arith)) (λ most. inr (omega arith)) rose

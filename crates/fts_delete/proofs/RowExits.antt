@@ -18,7 +18,7 @@ use Rattle.fts_delete.specs.Recording.{has_room, fits, KeepsList, ReadyAnswer, R
 use Rattle.fts_delete.specs.Walking.{StopFault, RecordAnswer, PassesBy, PassesAt, PassesRow}
 use Rattle.fts_delete.proofs.Moments.{rose_later}
 use Rattle.fts_delete.proofs.Images.{images_more}
-use Rattle.fts_delete.proofs.Lists.{none_more}
+use Rattle.std.proofs.lemmas.List.{append-nil}
 use Rattle.fts_delete.proofs.Since.{readied_list, added_list, readied_images, added_images}
 use Rattle.fts_delete.proofs.Sizes.{same_size}
 
@@ -162,7 +162,7 @@ module _ {D E : Type 0} (state : D → DiskState) (faults : D → ℕ) (files : 
         counts = omega (arith, readied.counts, added.counts);
         images = λ opening since parts told.
             let more = added_list state faults mid new event result added.answer (readied.told ∙ told) in
-            images_more state old mid new [] more.0 readied.told (λ there. same.events ∙ sym (none_more old.events)) (λ there. more.1)
+            images_more state old mid new [] more.0 readied.told (λ there. same.events ∙ sym (append-nil old.events)) (λ there. more.1)
             (readied_images state faults old mid kept (length (body_of (Gone row.id))) (Ok tt) readied)
             (added_images state faults mid new kept_then event next taken result added) opening since parts told;
       }

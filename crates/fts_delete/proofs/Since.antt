@@ -10,7 +10,8 @@ use Rattle.fts_delete.specs.Rows.{rows_after}
 use Rattle.fts_delete.specs.Journals.{DeletesData, StandsFor, IsLegal, IsImageSince, IsDeletes, KeepsImages}
 use Rattle.fts_delete.specs.Recording.{KeepsList, IsImageOf, IsImageWith, ReadyAnswer, Readied, AddAnswer, Added}
 use Rattle.fts_delete.proofs.Images.{image_more, image_now}
-use Rattle.fts_delete.proofs.Lists.{rows_more, none_more}
+use Rattle.fts_delete.proofs.Lists.{rows_more}
+use Rattle.std.proofs.lemmas.List.{append-nil}
 
 -- nothing changed
 same_list : {D : Type 0} (state : D → DiskState) (old new : DeletesData D) → new ≡ old → KeepsList state old new
@@ -35,8 +36,8 @@ readied_list state faults old new size (Err (Damaged offset)) answer = absurd an
 pub added_list : {D : Type 0} (state : D → DiskState) (faults : D → ℕ) (old new : DeletesData D) (event : Event) (result : Result (Unit {0}) DeleteFault)
     → AddAnswer state faults old new event result → IsTold (state old.disk) → (added : List Event) × (new.events ≡ old.events ++ added)
 added_list state faults old new event (Ok done) answer told = (event ∷ [], answer.listed told)
-added_list state faults old new event (Err DiskFailed) answer told = ([], answer.2.events ∙ sym (none_more old.events))
-added_list state faults old new event (Err Memory) answer told = ([], ap (λ (d : DeletesData _). d.events) answer ∙ sym (none_more old.events))
+added_list state faults old new event (Err DiskFailed) answer told = ([], answer.2.events ∙ sym (append-nil old.events))
+added_list state faults old new event (Err Memory) answer told = ([], ap (λ (d : DeletesData _). d.events) answer ∙ sym (append-nil old.events))
 added_list state faults old new event (Err (JournalFull used)) answer told = absurd answer
 added_list state faults old new event (Err (RowsFull rows)) answer told = absurd answer
 added_list state faults old new event (Err (Damaged offset)) answer told = absurd answer

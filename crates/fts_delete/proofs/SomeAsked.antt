@@ -11,7 +11,9 @@ use Rattle.fts_joburl.specs.declared.fault.UrlFault.{UrlFault}
 use Rattle.fts_delete.specs.declared.document.DeleteDocFault.{DeleteDocFault}
 use Rattle.fts_delete.specs.declared.document.DeleteDocFault.TheVariants.{NotObject, NoDeletes, TooMany, NotText}
 use Rattle.fts_delete.specs.Rows.{most_asked}
-use Rattle.fts_delete.specs.Documents.{value_of, is_object, is_text, asked_items, rules_of, texts_of, place_read, place_kept, fault_or, places_of, first_url_fault, url_refused, asked_by, deletes_in, AsksForSome, AskedAreSome}
+use Rattle.fts_jobdoc.specs.Json.{value_of, is_object, is_text}
+use Rattle.fts_jobdoc.specs.Ends.{place_read, place_kept, fault_or, places_of, first_url_fault}
+use Rattle.fts_delete.specs.Documents.{asked_items, rules_of, texts_of, url_refused, asked_by, deletes_in, AsksForSome, AskedAreSome}
 
 -- rules that are all kept
 record AreKept {T : Type 0} (none many texts : Bool) (url : Option DeleteDocFault) (found places : T) : Type 0 where

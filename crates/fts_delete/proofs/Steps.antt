@@ -1,5 +1,5 @@
 -- The walk of a pass over the rows: where it begins, one row more, where it stops, and where it ends.
-use Rattle.std.proofs.Common.{◌≡◌, ◌⊎◌, ⊎_elim, inl, inr, refl, sym, ◌∙◌, ap, subst, ℕ, zero, suc, ◌+◌, ◌≤◌, Bool, true, false, if◌then◌else◌, cond, Option, Some, None, List, [], ◌∷◌, ◌++◌, length, take, arith, append_assoc, length-append, Ok, Err}
+use Rattle.std.proofs.Common.{◌≡◌, ◌⊎◌, ⊎_elim, inl, inr, refl, sym, ◌∙◌, ap, subst, ℕ, zero, suc, ◌+◌, ◌≤◌, Bool, true, false, if◌then◌else◌, cond, Option, Some, None, List, [], ◌∷◌, ◌++◌, length, take, take_all, arith, append_assoc, length-append, Ok, Err}
 use Rattle.std.specs.Prelude.{slice_get, option_map}
 use Rattle.std.proofs.lemmas.List.{append-nil}
 use Rattle.std.proofs.lemmas.Option.{slice_get-map, slice_get_within}
@@ -111,11 +111,6 @@ calls_both (Some list) xs ys = ap Some (append_assoc list xs ys)
 calls_none : (told : Option (List Call)) → told ≡ with_calls told []
 calls_none None = refl
 calls_none (Some list) = ap Some (sym (append-nil list))
-
--- the whole of a list
-take_all : (rows : List DeleteRow) → take (length rows) rows ≡ rows
-take_all [] = refl
-take_all (row ∷ rows) = ap (λ l. row ∷ l) (take_all rows)
 
 -- a cause since a later moment is one since an earlier one
 rose_since : (old mid new : ℕ) → old ≤ mid → Rose mid new → Rose old new
@@ -323,6 +318,6 @@ module _ {D E : Type 0} (state : D → DiskState) (faults : D → ℕ) (files : 
   walk_end old new store left place all walked = record {
     done = walked.done;
     last = None;
-    ends = (walked.far ∙ ap (λ n. length (waiting_of (take n old.rows))) all ∙ ap (λ l. length (waiting_of l)) (take_all old.rows), refl);
+    ends = (walked.far ∙ ap (λ n. length (waiting_of (take n old.rows))) all ∙ ap (λ l. length (waiting_of l)) (take_all (length old.rows) old.rows (omega arith)), refl);
     by = walked.by;
   }

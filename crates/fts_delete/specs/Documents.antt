@@ -1,18 +1,16 @@
 -- The document that asks for deletions: an object whose `delete` is a list of 1 to 200 URLs of files on endpoints of the settings.
--- JSON (RFC 8259) is what `serde_json` reads, a URL what `fts_joburl` reads.
-use Rattle.std.specs.Prelude.{◌≡◌, ◌⊎◌, ℕ, ◌≤◌, Bool, not, ◌==◌, nat_lt, if◌then◌else◌, Option, Some, None, option_map, option_and_then, is_some, Result, Ok, Err, List, [], ◌∷◌, length, codes}
+-- JSON (RFC 8259) is what `serde_json` reads, a URL what `fts_joburl` reads; values and URLs are looked into as in the documents of jobs.
+use Rattle.std.specs.Prelude.{◌≡◌, ◌⊎◌, ℕ, ◌≤◌, ◌==◌, nat_lt, Option, Some, None, option_map, option_and_then, Result, Ok, Err, List, [], ◌∷◌, length, codes}
 use Rattle.std.specs.List.{list_any, list_all, filter_map}
 use Rattle.std.specs.Option.{option_map_or}
-use Rattle.std.specs.Str.{is_utf8}
-use Rattle.serde_json.specs.Data.{Data, Items, no_items, item}
-use Rattle.serde_json.specs.Read.{read}
-use Rattle.serde_json.specs.Find.{get, as_str, as_array, as_object}
+use Rattle.serde_json.specs.Data.{Data}
+use Rattle.serde_json.specs.Find.{get, as_str, as_array}
 use Rattle.fts_tables.specs.FirstFault.{fault_if, fault_unless, first_fault, unless}
-use Rattle.fts_tables.specs.SettingsData.{SettingsData, is_listed}
+use Rattle.fts_tables.specs.SettingsData.{SettingsData}
 use Rattle.fts_tables.specs.declared.places.Place.{Place}
-use Rattle.fts_joburl.specs.Urls.{surl_of}
-use Rattle.fts_joburl.specs.declared.read.Surl.{Surl}
 use Rattle.fts_joburl.specs.declared.fault.UrlFault.{UrlFault}
+use Rattle.fts_jobdoc.specs.Json.{value_of, list_of, is_object, is_text}
+use Rattle.fts_jobdoc.specs.Ends.{places_of, first_url_fault, is_elsewhere}
 use Rattle.fts_delete.specs.declared.document.DeleteDocFault.{DeleteDocFault}
 use Rattle.fts_delete.specs.declared.document.DeleteDocFault.TheVariants.{NotJson, NotObject, NoDeletes, TooMany, NotText, BadUrl, UnknownEndpoint, Memory}
 use Rattle.fts_delete.specs.Rows.{most_asked}
@@ -21,59 +19,14 @@ use Rattle.fts_delete.specs.Rows.{most_asked}
 abbrev pub Reads : {T : Type 0} → Result T DeleteDocFault → Result T DeleteDocFault → Type 0
 Reads result expected = (result ≡ expected) ⊎ (result ≡ Err Memory)
 
--- the JSON value that a body is, or none
-abbrev pub value_of : List ℕ → Option Data
-value_of body = if is_utf8 body then read body else None
-
--- the items of a list, in order
-abbrev pub list_of : Items → List Data
-list_of no_items = []
-list_of (item value items) = value ∷ list_of items
-
 -- what is asked for: the items of the list under `delete`, and none where no list is there
 unfoldable pub asked_items : Data → List Data
 asked_items document = option_map_or list_of (option_and_then as_array (get (codes "delete") document)) []
-
--- whether a value is an object
-abbrev pub is_object : Data → Bool
-is_object value = is_some (as_object value)
-
--- whether a value is a text
-abbrev pub is_text : Data → Bool
-is_text value = is_some (as_str value)
-
--- the place that a URL names
-abbrev pub place_in : Result Surl UrlFault → Result Place UrlFault
-place_in (Ok surl) = Ok (record { endpoint = surl.endpoint; path = surl.path })
-place_in (Err fault) = Err fault
-
--- the place that a text is the URL of, or the URL's fault
-unfoldable pub place_read : List ℕ → Result Place UrlFault
-place_read text = place_in (surl_of text)
 
 -- what reading a URL gives: its place, or that it is refused
 abbrev pub bad_url : Result Place UrlFault → Result Place DeleteDocFault
 bad_url (Ok place) = Ok place
 bad_url (Err fault) = Err (BadUrl fault)
-
--- a place that was read
-abbrev pub place_kept : Result Place UrlFault → Option Place
-place_kept (Ok place) = Some place
-place_kept (Err fault) = None
-
--- the places that texts are the URLs of, in order
-unfoldable pub places_of : List (List ℕ) → List Place
-places_of texts = filter_map (λ text. place_kept (place_read text)) texts
-
--- a URL's fault, or else that of a later one
-abbrev pub fault_or : Result Place UrlFault → Option UrlFault → Option UrlFault
-fault_or (Ok place) later = later
-fault_or (Err fault) later = Some fault
-
--- the fault of the first text that is no URL of a place
-unfoldable pub first_url_fault : List (List ℕ) → Option UrlFault
-first_url_fault [] = None
-first_url_fault (text ∷ texts) = fault_or (place_read text) (first_url_fault texts)
 
 -- a broken URL is a fault of the document
 abbrev pub url_refused : Option UrlFault → Option DeleteDocFault
@@ -86,10 +39,6 @@ places_read texts = unless (url_refused (first_url_fault texts)) (places_of text
 -- the texts of a document's list, in order
 abbrev pub texts_of : List Data → List (List ℕ)
 texts_of items = filter_map as_str items
-
--- a place on an endpoint that the settings don't list
-abbrev pub is_elsewhere : SettingsData → Place → Bool
-is_elsewhere settings place = not (is_listed settings.endpoints place.endpoint)
 
 -- the rules of a document in the order of their numbers, from 2 on; rule 1 is that the body is JSON
 unfoldable pub rules_of : Data → SettingsData → List (Option DeleteDocFault)

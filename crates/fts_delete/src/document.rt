@@ -5,7 +5,9 @@ ghost use Rattle.std.specs.Prelude.{◌≡◌, ◌⊎◌, ◌++◌, ◌∷◌, [
 ghost use Rattle.std.specs.List.{list_any, list_all, filter_map};
 ghost use Rattle.serde_json.specs.Find.{as_str};
 ghost use Rattle.serde_json.specs.View.{view};
-ghost use Rattle.fts_delete.specs.Documents.{Reads, value_of, asked_items, is_text, bad_url, place_read, places_read, is_elsewhere, asked_by, deletes_in, rule_of};
+ghost use Rattle.fts_jobdoc.specs.Json.{value_of, is_text};
+ghost use Rattle.fts_jobdoc.specs.Ends.{place_read, is_elsewhere};
+ghost use Rattle.fts_delete.specs.Documents.{Reads, asked_items, bad_url, places_read, asked_by, deletes_in, rule_of};
 ghost use Rattle.fts_delete.specs.declared.document.DeleteDocFault.TheVariants.{Memory as TheMemory};
 
 use crate::limits::MAX_ASKED;
@@ -157,7 +159,7 @@ fn read_places(alloc: Global, list: &[Value]) -> Result<Items<Place>, DeleteDocF
 }
 
 /// Reads a URL.
-#[tactic(auto, unfolding(crate::specs::Documents::place_read))]
+#[tactic(auto, unfolding(fts_jobdoc::specs::Ends::place_read))]
 fn read_place(alloc: Global, text: &str) -> Result<Place, DeleteDocFault>
     ensures { Reads result (bad_url (place_read text.now)) }
 {

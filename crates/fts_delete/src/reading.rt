@@ -60,6 +60,7 @@ fn text_of(alloc: Global, bytes: &[u8]) -> Result<Option<(Label, &[u8])>, Memory
 }
 
 /// The number at the front, from `low` to `high`.
+#[tactic(auto, unfolding(fts_record::specs::Reading::number_at))]
 fn number_at(bytes: &[u8], low: u64, high: u64) -> Result<(u64, &[u8]), Stop>
     ensures read { Gives (λ x. (x.0, x.1.now)) result (number_at low high bytes.now) }
     ensures range { IfOk result (λ x. (low ≤ x.0) × (x.0 ≤ high)) }
@@ -79,6 +80,7 @@ fn id_at(bytes: &[u8]) -> Result<(u32, &[u8]), Stop>
 }
 
 /// The name of an endpoint at the front.
+#[tactic(auto, using(fts_record::proofs::TextReader::rule_is_kept, fts_record::proofs::TextReader::rule_is_broken), unfolding(fts_record::specs::Reading::name_at))]
 fn name_at(alloc: Global, bytes: &[u8]) -> Result<(EndpointName, &[u8]), Stop>
     ensures { Gives (λ x. (x.0, x.1.now)) result (name_at bytes.now) }
 {
@@ -93,6 +95,7 @@ fn name_at(alloc: Global, bytes: &[u8]) -> Result<(EndpointName, &[u8]), Stop>
 }
 
 /// The path of a file at the front.
+#[tactic(auto, unfolding(fts_record::specs::Reading::path_at))]
 fn path_at(alloc: Global, bytes: &[u8]) -> Result<(PathKey, &[u8]), Stop>
     ensures { Gives (λ x. (x.0, x.1.now)) result (path_at bytes.now) }
 {

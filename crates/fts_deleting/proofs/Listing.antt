@@ -75,6 +75,13 @@ asked_made opening asked rows are = record {
 
 module _ {D E : Type 0} (disks : disk.Ghosts D) (stores : store.Ghosts E) (lawful : (d : D) → IsTold (disks.state d) → IsLawful (disks.state d))
     (settings : SettingsData) where
+  -- where nothing was in doubt, what is as it was is none
+  kept_doubt : (old new : DeletesData D) (places : List Place) → old.doubt ≡ None
+      → (new.doubt ≡ None) ⊎ ((new.doubt ≡ old.doubt) ⊎ (new.doubt ≡ Some (Ask places))) → (new.doubt ≡ None) ⊎ (new.doubt ≡ Some (Ask places))
+  kept_doubt old new places none (inl nothing) = inl nothing
+  kept_doubt old new places none (inr (inl same)) = inl (same ∙ none)
+  kept_doubt old new places none (inr (inr asked)) = inr asked
+
   -- what an asking that was refused leaves in doubt
   refused_doubt : (old new : DeletesData D) (places : List Place) (fault : DeleteFault) → IsTold (disks.state old.disk) → old.doubt ≡ None
       → AskAnswer disks.state disks.faults old new places (Err fault) → (new.events ≡ old.events) × ((new.doubt ≡ None) ⊎ (new.doubt ≡ Some (Ask places)))
@@ -83,18 +90,8 @@ module _ {D E : Type 0} (disks : disk.Ghosts D) (stores : store.Ghosts E) (lawfu
       (ap (λ (d : DeletesData D). d.events) answer.1, inl (ap (λ (d : DeletesData D). d.doubt) answer.1 ∙ none))
   refused_doubt old new places (faults_of.JournalFull used) is none answer =
       (ap (λ (d : DeletesData D). d.events) answer.1, inl (ap (λ (d : DeletesData D). d.doubt) answer.1 ∙ none))
-  refused_doubt old new places faults_of.DiskFailed is none answer = (answer.2.list.events, kept_doubt (answer.2.doubt is))
-    where
-      kept_doubt : (new.doubt ≡ None) ⊎ ((new.doubt ≡ old.doubt) ⊎ (new.doubt ≡ Some (Ask places))) → (new.doubt ≡ None) ⊎ (new.doubt ≡ Some (Ask places))
-      kept_doubt (inl nothing) = inl nothing
-      kept_doubt (inr (inl same)) = inl (same ∙ none)
-      kept_doubt (inr (inr asked)) = inr asked
-  refused_doubt old new places faults_of.Memory is none answer = (answer.1.list.events, kept_doubt (answer.1.doubt is))
-    where
-      kept_doubt : (new.doubt ≡ None) ⊎ ((new.doubt ≡ old.doubt) ⊎ (new.doubt ≡ Some (Ask places))) → (new.doubt ≡ None) ⊎ (new.doubt ≡ Some (Ask places))
-      kept_doubt (inl nothing) = inl nothing
-      kept_doubt (inr (inl same)) = inl (same ∙ none)
-      kept_doubt (inr (inr asked)) = inr asked
+  refused_doubt old new places faults_of.DiskFailed is none answer = (answer.2.list.events, kept_doubt old new places none (answer.2.doubt is))
+  refused_doubt old new places faults_of.Memory is none answer = (answer.1.list.events, kept_doubt old new places none (answer.1.doubt is))
 
   -- the list behind an asking
   record HasAsked (old new : DeletesData D) (asked : List Event) : Type 0 where

@@ -76,37 +76,22 @@ asked_reports writer opening entries asked earlier later now file attempt outcom
     absurd (asked_at writer earlier (entry_by writer (Report now file attempt outcome)) later (subst (AddsAsked writer) is asked) refl)
 
 -- neither a worker's command nor a client's is a restart
-work_no_restart : (command : Command) → IsWork command → IsRestart command → ⊥
-work_no_restart (Restart now settings) work restart = absurd work
-work_no_restart (Submit now job) work restart = absurd restart
-work_no_restart (CancelJob now job) work restart = absurd restart
-work_no_restart (CancelFile now job file) work restart = absurd restart
-work_no_restart (SetPriority now job priority) work restart = absurd restart
-work_no_restart (Claim now word) work restart = absurd restart
-work_no_restart (Report now file attempt outcome) work restart = absurd restart
-work_no_restart (Ban now storage cancel) work restart = absurd restart
-work_no_restart (Unban now storage) work restart = absurd restart
-work_no_restart (Expire now) work restart = absurd restart
-
-asked_no_restart : (command : Command) → IsAsked command → IsRestart command → ⊥
-asked_no_restart (Restart now settings) asked restart = absurd asked
-asked_no_restart (Submit now job) asked restart = absurd restart
-asked_no_restart (CancelJob now job) asked restart = absurd restart
-asked_no_restart (CancelFile now job file) asked restart = absurd restart
-asked_no_restart (SetPriority now job priority) asked restart = absurd restart
-asked_no_restart (Claim now word) asked restart = absurd restart
-asked_no_restart (Report now file attempt outcome) asked restart = absurd restart
-asked_no_restart (Ban now storage cancel) asked restart = absurd restart
-asked_no_restart (Unban now storage) asked restart = absurd restart
-asked_no_restart (Expire now) asked restart = absurd restart
+no_restart : (command : Command) → IsWork command ⊎ IsAsked command → IsRestart command → ⊥
+no_restart (Restart now settings) either restart = ⊎_elim (λ work. work) (λ asked. asked) either
+no_restart (Submit now job) either restart = absurd restart
+no_restart (CancelJob now job) either restart = absurd restart
+no_restart (CancelFile now job file) either restart = absurd restart
+no_restart (SetPriority now job priority) either restart = absurd restart
+no_restart (Claim now word) either restart = absurd restart
+no_restart (Report now file attempt outcome) either restart = absurd restart
+no_restart (Ban now storage cancel) either restart = absurd restart
+no_restart (Unban now storage) either restart = absurd restart
+no_restart (Expire now) either restart = absurd restart
 
 pub no_restarts : (entries : List Entry) → ((writer : ℕ) → AddsWork writer entries ⊎ AddsAsked writer entries) → HasNoRestart entries
 no_restarts [] each = tt
 no_restarts (entry ∷ entries) each = (
-  (λ restart. ⊎_elim
-      (λ work. work_no_restart entry.command (work.0 refl) restart)
-      (λ asked. asked_no_restart entry.command (asked.0 refl) restart)
-      (each entry.writer)),
+  no_restart entry.command (⊎_elim (λ work. inl (work.0 refl)) (λ asked. inr (asked.0 refl)) (each entry.writer)),
   no_restarts entries (λ writer. ⊎_elim (λ work. inl work.1) (λ asked. inr asked.1) (each writer)),
 )
 

@@ -25,7 +25,7 @@ use Rattle.fts_shop.specs.Turns.{held_with}
 use Rattle.fts_ledger.specs.Reports.{IsUndisturbed}
 use Rattle.fts_ledger.specs.Fitting.{Fits, IsLastOwn}
 use Rattle.fts_ledger.proofs.Fresh.{undisturbed_out}
-use Rattle.fts_ledger.proofs.Moved.{Machine}
+use Rattle.fts_ledger.specs.Machine.{Machine}
 use Rattle.fts_ledger.proofs.Turned.{last_own_more, legal_back}
 use Rattle.fts_ledger.proofs.Walks.{out_active, own_or_later, stands_at}
 use Rattle.fts_store.specs.declared.store.Store as store

@@ -18,7 +18,8 @@ use Rattle.fts_ledger.specs.Reports.{IsReportOf, IsUndisturbed, Takes}
 use Rattle.fts_ledger.specs.Fitting.{IsLastOwn}
 use Rattle.fts_ledger.proofs.Lists.{among_counted, among_end, among_front, among_still, no_test, none_at}
 use Rattle.fts_ledger.proofs.Sound.{Behaves}
-use Rattle.fts_ledger.proofs.Moved.{Machine, legal_before, moves}
+use Rattle.fts_ledger.specs.Machine.{Machine}
+use Rattle.fts_ledger.proofs.Moved.{legal_before, moves}
 use Rattle.fts_ledger.proofs.Turned.{legal_back}
 use Rattle.fts_ledger.proofs.Walks.{attempt_by_own, report_accepted, walk_legal}
 

@@ -1,20 +1,20 @@
 -- One entry more behind a list: what it makes of the files that are out, of the last claims, and of attempts.
 use Rattle.std.proofs.Common.{◌≡◌, refl, sym, ap, ◌∙◌, subst, ℕ, Bool, true, false, cond, List, [], ◌∷◌, ◌++◌, Option, Some, None, IsSome, Ok, Err, append_assoc}
-use Rattle.std.specs.Prelude.{◌==◌, count_by}
-use Rattle.fts_tables.specs.Tables.{Tables, AreWellFormed, empty_tables, row_at}
+use Rattle.std.specs.Prelude.{◌==◌}
+use Rattle.fts_tables.specs.Tables.{Tables, empty_tables, row_at}
 use Rattle.fts_tables.specs.Step.{Outcomes, step}
-use Rattle.fts_tables.specs.History.{IsAccepted, IsLegal, claimed_file, out_after, out_of_list, out_step, tables_after, tables_from, tables_of}
-use Rattle.fts_tables.specs.Laws.{AreTheActive, FileOfRow, RowsStay}
+use Rattle.fts_tables.specs.History.{IsAccepted, IsLegal, out_after, out_of_list, out_step, tables_after, tables_from, tables_of}
+use Rattle.fts_tables.specs.Laws.{FileOfRow, RowsStay}
 use Rattle.fts_tables.specs.declared.rows.FileRow.{FileRow}
 use Rattle.fts_tables.specs.declared.commands.Entry.{Entry}
-use Rattle.fts_tables.specs.declared.commands.Command.TheVariants.{Claim}
 use Rattle.fts_tables.specs.declared.commands.Answer.{Answer}
 use Rattle.fts_workers.proofs.Accepted.{legal_front}
 use Rattle.fts_workers.proofs.Copied.{tables_from-append}
 use Rattle.fts_workers.proofs.OutFiles.{out_of_list-last}
+use Rattle.fts_ledger.specs.Machine.{Machine}
 use Rattle.fts_ledger.specs.Claims.{Claimant, claim_after, claim_step, last_claim, last_claim_from}
 use Rattle.fts_ledger.proofs.Lists.{accepted_last}
-use Rattle.fts_ledger.proofs.Sound.{Behaves, PicksStand, step_behaves}
+use Rattle.fts_ledger.proofs.Sound.{Behaves, step_behaves}
 
 -- what was accepted made something
 pub accepted_done : (came : Outcomes) → IsAccepted came → (done : Tables × Answer) × (came ≡ Ok done)
@@ -34,15 +34,6 @@ pub last_more : (file : ℕ) (opening entries : List Entry) (entry : Entry) → 
 last_more file opening entries entry =
     last_from file (tables_of opening) None entries entry
     ∙ ap (λ t. claim_step file (last_claim file opening entries) entry.writer (step t entry.command)) (sym (tables_from-append empty_tables opening entries))
-
--- the laws of the machine that are cited here
-pub record Machine : Type 0 where
-  pub formed : (entries : List Entry) → IsLegal entries → AreWellFormed (tables_of entries)
-  pub outs : (entries : List Entry) → IsLegal entries → AreTheActive (out_of_list entries) (tables_of entries).rows
-  pub stay : (entries more : List Entry) → IsLegal (entries ++ more) → RowsStay (tables_of entries).rows (tables_of (entries ++ more)).rows
-  pub picks : PicksStand
-  pub fresh : (entries : List Entry) (now word file : ℕ) → IsLegal entries → claimed_file (step (tables_of entries) (Claim now word)) ≡ Some file
-      → count_by (λ other. other == file) (out_of_list entries) ≡ 0
 
 -- one entry more behind a list
 pub record Moves (opening entries : List Entry) (entry : Entry) : Type 0 where

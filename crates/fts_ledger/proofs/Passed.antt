@@ -1,5 +1,5 @@
 -- Turns of a pass, as the shop says them, make of its reports and its bench what entries behind entries do.
-use Rattle.std.proofs.Common.{◌≡◌, Bool, ◌≢◌, refl, sym, ap, ◌∙◌, subst, ℕ, zero, suc, true, List, [], ◌∷◌, ◌++◌, Option, Result, Ok, Err, append-nil, append_assoc}
+use Rattle.std.proofs.Common.{◌≡◌, Bool, refl, sym, ap, ◌∙◌, subst, ℕ, zero, suc, true, List, [], ◌∷◌, ◌++◌, Option, Result, Ok, Err, append-nil, append_assoc}
 use Rattle.std.proofs.lemmas.List.{append_cancel_left}
 use Rattle.fts_tables.specs.Coming.{Coming}
 use Rattle.fts_tables.specs.History.{IsLegal, tables_of}
@@ -25,7 +25,7 @@ use Rattle.fts_shop.specs.declared.ends.Turn.{Turn}
 use Rattle.fts_ledger.specs.Fitting.{Fits}
 use Rattle.fts_ledger.specs.Ledger.{KeepsLedger, MayKeep}
 use Rattle.fts_ledger.specs.Reports.{AddsWork, ReportsOwn, StopsAsked}
-use Rattle.fts_ledger.proofs.Moved.{Machine}
+use Rattle.fts_ledger.specs.Machine.{Machine}
 use Rattle.fts_ledger.proofs.InTurns.{legal_tried, stepped_for, tried_for}
 use Rattle.fts_ledger.proofs.Turned.{Tried, Turned, claim_turned, expiry_tried, legal_back, report_tried, turned_as, turned_on, turned_others}
 use Rattle.fts_store.specs.declared.store.Store as store

@@ -1,6 +1,6 @@
 -- What one accepted step leaves of the attempts at which files stand, and which command an answer comes from.
-use Rattle.std.proofs.Common.{◌≡◌, ◌≢◌, refl, sym, ap, subst, ℕ, ◌+◌, ◌-◌, ◌≤◌, Bool, true, false, cond, List, [], ◌∷◌, ◌++◌, length, max, Option, Some, None, IsSome, Ok, Err, arith}
-use Rattle.std.specs.Prelude.{◌==◌, ◌&&◌, ◌||◌, not, nat_lt, is_some, option_and_then, slice_get}
+use Rattle.std.proofs.Common.{◌≡◌, ◌≢◌, refl, sym, ap, subst, ℕ, ◌+◌, ◌-◌, Bool, true, false, cond, List, [], ◌∷◌, ◌++◌, length, max, Option, Some, None, IsSome, Ok, Err, arith}
+use Rattle.std.specs.Prelude.{◌==◌, ◌&&◌, ◌||◌, not, nat_lt, is_some, option_and_then}
 use Rattle.std.specs.Option.{option_map_or}
 use Rattle.std.specs.List.{list_any}
 use Rattle.fts_tables.specs.SettingsData.{SettingsData}
@@ -28,6 +28,7 @@ use Rattle.fts_workers.specs.Benches.{attempt_of}
 use Rattle.fts_workers.proofs.Attempts.{IsSameAttempt, attempt_among, attempts_map, attempts_one, either_attempt, same_attempt, report_attempts, claim_others, claim_own}
 use Rattle.fts_workers.proofs.Numbered.{found_at, row_at-id}
 use Rattle.fts_ledger.specs.Reports.{IsAsked, IsRestart, IsReportOf}
+use Rattle.fts_ledger.specs.Machine.{PicksStand}
 
 -- each row that is there stays at its attempt
 abbrev pub KeepsAttempts : Tables → Tables → Type 0
@@ -257,11 +258,6 @@ report_behaves before now file attempt outcome after (Reported reported state) f
 report_behaves before now file attempt outcome after (Banned count) fine keeps = absurd fine
 report_behaves before now file attempt outcome after Unbanned fine keeps = absurd fine
 report_behaves before now file attempt outcome after (Expired count) fine keeps = absurd fine
-
--- the row that a claim picks stands at the place before its id
-abbrev pub PicksStand : Type 0
-PicksStand = (tables : Tables) (now word : ℕ) (row : FileRow) → AreWellFormed tables → pick tables now word ≡ Some row
-    → (1 ≤ row.id) × (slice_get tables.rows (row.id - 1) ≡ Some row)
 
 module _ (picks_stand : PicksStand) (tables : Tables) (formed : AreWellFormed tables) where
   -- so it is found by it

@@ -34,7 +34,7 @@ use Rattle.fts_ledger.specs.Fitting.{Fits, IsLastOwn}
 use Rattle.fts_ledger.specs.Ledger.{AreFresh, FollowsOwn, KeepsItsFiles, MayKeep}
 use Rattle.fts_ledger.proofs.Followed.{Followed, OrdersStay, followed_as, followed_claim, followed_expiry, followed_on, followed_others, followed_report, holds_own, copies_none}
 use Rattle.fts_ledger.proofs.Fresh.{undisturbed_accepted}
-use Rattle.fts_ledger.proofs.Moved.{Machine}
+use Rattle.fts_ledger.specs.Machine.{Machine}
 use Rattle.fts_ledger.proofs.InTurns.{stepped_for, tried_for}
 use Rattle.fts_ledger.proofs.Passed.{Grown, grown_copies, grown_on, grown_taken, grown_turn, grown_turns, items_grown, legal_grown, legal_of, turn_turned, turns_turned}
 use Rattle.fts_ledger.proofs.Stations.{undisturbed_before}

@@ -26,10 +26,11 @@ use Rattle.fts_shop.specs.Looking.{NoneOf}
 use Rattle.fts_shop.specs.Looked.{asked_stays, none_on}
 use Rattle.fts_shop.specs.Turns.{held_with, is_over}
 use Rattle.fts_ledger.specs.Claims.{Claimant, IsOut, IsOwn, claim_after, last_claim}
-use Rattle.fts_ledger.specs.Reports.{AddsWork, ReportsOwn, StopsAsked}
+use Rattle.fts_ledger.specs.Reports.{AddsWork, EachReport, IsWork, ReportsOwn, StopsAsked}
 use Rattle.fts_ledger.specs.Fitting.{AreHeldFor, Fits, IsLastOwn}
 use Rattle.fts_ledger.proofs.Lists.{among_last, among_without, each_append, each_claim, each_expiry, each_none, each_one, work_append, work_none}
-use Rattle.fts_ledger.proofs.Moved.{Machine, moves}
+use Rattle.fts_ledger.specs.Machine.{Machine}
+use Rattle.fts_ledger.proofs.Moved.{moves}
 use Rattle.fts_ledger.proofs.Walks.{attempt_by_own, own_by_attempt, report_accepted, reported_at, whole_still}
 
 -- what a command came to behind a list, where it was accepted or refused by the machine
@@ -169,6 +170,25 @@ module _ (machine : Machine) (opening : List Entry) (writer : ℕ) where
       let pair : one ≡ other = cc in
       ap (λ (d : Tables × Answer). d.1) pair
 
+  -- entries of others, and behind them one of the writer's
+  turned_one : (before others : List Entry) (entry : Entry) (left : List Held) → NoneOf writer others → (entry.writer ≡ writer → IsWork entry.command)
+      → EachReport writer (entry ∷ []) (λ earlier file outcome. IsOwn writer (last_claim file opening (before ++ (others ++ earlier))))
+      → EachReport writer (entry ∷ [])
+      (λ earlier file outcome. outcome ≡ Stopped → is_cancel_asked (tables_of ((opening ++ before) ++ (others ++ earlier))) file ≡ true)
+      → Fits writer opening ((before ++ others) ++ entry ∷ []) left → Turned opening writer before ((before ++ others) ++ entry ∷ []) left
+  turned_one before others entry left none work own stops fits = record {
+    since = others ++ entry ∷ [];
+    after_is = append_assoc before others (entry ∷ []);
+    work = work_append writer others (entry ∷ []) (work_none writer others none) (work, tt);
+    own = each_append writer others (entry ∷ []) (λ earlier file outcome. IsOwn writer (last_claim file opening (before ++ earlier)))
+        (each_none writer others (λ earlier file outcome. IsOwn writer (last_claim file opening (before ++ earlier))) none) own;
+    stops = each_append writer others (entry ∷ [])
+        (λ earlier file outcome. outcome ≡ Stopped → is_cancel_asked (tables_of ((opening ++ before) ++ earlier)) file ≡ true)
+        (each_none writer others
+        (λ earlier file outcome. outcome ≡ Stopped → is_cancel_asked (tables_of ((opening ++ before) ++ earlier)) file ≡ true) none) stops;
+    fits = fits;
+  }
+
   -- an expiry that was accepted, behind entries of others: it takes no file from the writer, is no claim and no report
   expiry_turned : (before others : List Entry) (now : ℕ) (tables : Tables) (count : ℕ) → NoneOf writer others
       → IsLegal (opening ++ ((before ++ others) ++ entry_by writer (Expire now) ∷ []))
@@ -180,26 +200,16 @@ module _ (machine : Machine) (opening : List Entry) (writer : ℕ) where
       let there = fits_more before others [] (legal_back opening middle (middle ++ entry ∷ []) (entry ∷ []) refl legal) none fits in
       let m = moves machine opening middle entry legal in
       let answer : m.done.1 ≡ Expired count = same_answer (step (tables_of (opening ++ middle)) (Expire now)) m.done (tables, Expired count) m.came came in
-      record {
-        since = others ++ entry ∷ [];
-        after_is = append_assoc before others (entry ∷ []);
-        work = work_append writer others (entry ∷ []) (work_none writer others none) ((λ is. tt), tt);
-        own = each_append writer others (entry ∷ []) (λ earlier one ended. IsOwn writer (last_claim one opening (before ++ earlier)))
-            (each_none writer others (λ earlier one ended. IsOwn writer (last_claim one opening (before ++ earlier))) none)
-            (each_expiry writer now (λ earlier one ended. IsOwn writer (last_claim one opening (before ++ (others ++ earlier)))));
-        stops = each_append writer others (entry ∷ [])
-            (λ earlier one ended. ended ≡ Stopped → is_cancel_asked (tables_of ((opening ++ before) ++ earlier)) one ≡ true)
-            (each_none writer others (λ earlier one ended. ended ≡ Stopped → is_cancel_asked (tables_of ((opening ++ before) ++ earlier)) one ≡ true) none)
-            (each_expiry writer now
-            (λ earlier one ended. ended ≡ Stopped → is_cancel_asked (tables_of ((opening ++ before) ++ (others ++ earlier))) one ≡ true));
-        fits = record {
-          ready = tt;
-          each = tt;
-          whole = λ one out own. there.whole one
-              (subst (λ a. Among one (out_after (out_of_list (opening ++ middle)) a)) answer (subst (Among one) m.out out))
-              (subst (λ a. IsOwn writer (claim_after one (last_claim one opening middle) writer a)) answer (subst (IsOwn writer) (m.last one) own));
-        };
-      }
+      turned_one before others entry [] none (λ is. tt)
+      (each_expiry writer now (λ earlier one ended. IsOwn writer (last_claim one opening (before ++ (others ++ earlier)))))
+      (each_expiry writer now (λ earlier one ended. ended ≡ Stopped → is_cancel_asked (tables_of ((opening ++ before) ++ (others ++ earlier))) one ≡ true))
+      (record {
+        ready = tt;
+        each = tt;
+        whole = λ one out own. there.whole one
+            (subst (λ a. Among one (out_after (out_of_list (opening ++ middle)) a)) answer (subst (Among one) m.out out))
+            (subst (λ a. IsOwn writer (claim_after one (last_claim one opening middle) writer a)) answer (subst (IsOwn writer) (m.last one) own));
+      })
 
   -- however it is answered
   pub expiry_tried : (before after : List Entry) (now : ℕ) (result : Result Answer KeepFault) → Tried opening writer before after (Expire now) result
@@ -263,33 +273,24 @@ module _ (machine : Machine) (opening : List Entry) (writer : ℕ) where
         let stands = reported_at (tables_of (opening ++ middle)) now held.file held.attempt outcome (tables, Reported file state) came in
         let own = own_by_attempt machine opening writer middle fine held.file held.attempt fits.each.0.claimed stands.attempt_is in
         let still = sym (append-nil others) in
-        record {
-          since = others ++ entry ∷ [];
-          after_is = append_assoc before others (entry ∷ []);
-          work = work_append writer others (entry ∷ []) (work_none writer others none) ((λ is. tt), tt);
-          own = each_append writer others (entry ∷ []) (λ earlier one ended. IsOwn writer (last_claim one opening (before ++ earlier)))
-              (each_none writer others (λ earlier one ended. IsOwn writer (last_claim one opening (before ++ earlier))) none)
-              (each_one writer now held.file held.attempt outcome (λ earlier one ended. IsOwn writer (last_claim one opening (before ++ (others ++ earlier))))
-              (subst (λ list. IsOwn writer (last_claim held.file opening (before ++ list))) still own));
-          stops = each_append writer others (entry ∷ [])
-              (λ earlier one ended. ended ≡ Stopped → is_cancel_asked (tables_of ((opening ++ before) ++ earlier)) one ≡ true)
-              (each_none writer others (λ earlier one ended. ended ≡ Stopped → is_cancel_asked (tables_of ((opening ++ before) ++ earlier)) one ≡ true) none)
-              (each_one writer now held.file held.attempt outcome
-              (λ earlier one ended. ended ≡ Stopped → is_cancel_asked (tables_of ((opening ++ before) ++ (others ++ earlier))) one ≡ true)
-              (λ is. subst (λ list. is_cancel_asked (tables_of list) held.file ≡ true)
-              (sym (append_assoc opening before others) ∙ ap (λ list. (opening ++ before) ++ list) still)
-              (fits.each.0.stopped (kept ∙ ap (λ o. Some o) is))));
-          fits = record {
-            ready = tt;
-            each = tt;
-            whole = λ one out is_own.
-                let there = among_without one file (out_of_list (opening ++ middle))
-                (subst (λ a. Among one (out_after (out_of_list (opening ++ middle)) a)) answer (subst (Among one) m.out out)) in
-                let was : IsOwn writer (last_claim one opening middle) =
-                subst (λ a. IsOwn writer (claim_after one (last_claim one opening middle) writer a)) answer (subst (IsOwn writer) (m.last one) is_own) in
-                absurd (there.1 (only_held one held.file (fits.whole one there.0 was) ∙ sym answers.0));
-          };
-        }
+        turned_one before others entry [] none (λ is. tt)
+        (each_one writer now held.file held.attempt outcome (λ earlier one ended. IsOwn writer (last_claim one opening (before ++ (others ++ earlier))))
+        (subst (λ list. IsOwn writer (last_claim held.file opening (before ++ list))) still own))
+        (each_one writer now held.file held.attempt outcome
+        (λ earlier one ended. ended ≡ Stopped → is_cancel_asked (tables_of ((opening ++ before) ++ (others ++ earlier))) one ≡ true)
+        (λ is. subst (λ list. is_cancel_asked (tables_of list) held.file ≡ true)
+        (sym (append_assoc opening before others) ∙ ap (λ list. (opening ++ before) ++ list) still)
+        (fits.each.0.stopped (kept ∙ ap (λ o. Some o) is))))
+        (record {
+          ready = tt;
+          each = tt;
+          whole = λ one out is_own.
+              let there = among_without one file (out_of_list (opening ++ middle))
+              (subst (λ a. Among one (out_after (out_of_list (opening ++ middle)) a)) answer (subst (Among one) m.out out)) in
+              let was : IsOwn writer (last_claim one opening middle) =
+              subst (λ a. IsOwn writer (claim_after one (last_claim one opening middle) writer a)) answer (subst (IsOwn writer) (m.last one) is_own) in
+              absurd (there.1 (only_held one held.file (fits.whole one there.0 was) ∙ sym answers.0));
+        })
     report_turned tables (Banned count) legal came answers = absurd answers
     report_turned tables Unbanned legal came answers = absurd answers
     report_turned tables (Expired count) legal came answers = absurd answers

@@ -26,7 +26,8 @@ use Rattle.fts_ledger.specs.Claims.{Claimant, IsOut, IsOwn, claim_after, claim_s
 use Rattle.fts_ledger.specs.Fitting.{IsLastOwn}
 use Rattle.fts_ledger.proofs.Lists.{among_counted, among_last, among_without, no_test, none_at, walk}
 use Rattle.fts_ledger.proofs.Sound.{Behaves}
-use Rattle.fts_ledger.proofs.Moved.{Machine, last_more, legal_before, moves, still_there}
+use Rattle.fts_ledger.specs.Machine.{Machine}
+use Rattle.fts_ledger.proofs.Moved.{last_more, legal_before, moves, still_there}
 
 -- where there is no claim there is none
 no_claim : (claim : Claimant) → ◌≡◌ {A = Option Claimant} None (Some claim) → ⊥

@@ -2,3 +2,4 @@ pub mod Claims
 pub mod Reports
 pub mod Fitting
 pub mod Ledger
+pub mod Machine

@@ -7,6 +7,7 @@ use Rattle.fts_tables.specs.declared.commands.Entry.{Entry}
 use Rattle.fts_tables.specs.declared.commands.Command.{Command}
 use Rattle.fts_tables.specs.declared.commands.Command.TheVariants.{Restart, Submit, CancelJob, CancelFile, SetPriority, Claim, Report, Ban, Unban, Expire}
 use Rattle.fts_keep.specs.Applied.{entry_by}
+use Rattle.fts_workers.specs.Requests.{IsOfRequest}
 use Rattle.fts_shop.specs.Within.{is_cancel_asked}
 use Rattle.fts_ledger.specs.Claims.{IsOwn, last_claim}
 
@@ -71,16 +72,7 @@ AddsWork writer (entry ∷ entries) = (entry.writer ≡ writer → IsWork entry.
 
 -- a command is a client's: one of those that requests bring
 abbrev pub IsAsked : Command → Type 0
-IsAsked (Restart now settings) = ⊥
-IsAsked (Submit now job) = Unit {0}
-IsAsked (CancelJob now job) = Unit {0}
-IsAsked (CancelFile now job file) = Unit {0}
-IsAsked (SetPriority now job priority) = Unit {0}
-IsAsked (Claim now word) = ⊥
-IsAsked (Report now file attempt outcome) = ⊥
-IsAsked (Ban now storage cancel) = Unit {0}
-IsAsked (Unban now storage) = Unit {0}
-IsAsked (Expire now) = ⊥
+IsAsked = IsOfRequest
 
 -- each entry of a writer among these is a client's command
 abbrev pub AddsAsked : ℕ → List Entry → Type 0

@@ -21,12 +21,24 @@ ghost use Rattle.fts_ledger.specs.Claims.{IsOut, IsOwn, last_claim};
 ghost use Rattle.fts_ledger.specs.Reports.{AddsAsked, AddsWork, HasNoRestart, IsUndisturbed, ReportsOwn};
 ghost use Rattle.fts_ledger.specs.Fitting.{FitsPass};
 ghost use Rattle.fts_ledger.specs.Ledger.{AreFresh, FollowsOwn, KeepsItsFiles, KeepsLedger, MayKeep};
+ghost use Rattle.fts_ledger.specs.Machine.{Machine};
 
 use fts_store::Store;
 use fts_tables::laws::{
     claimed_files_were_in, files_out_are_the_active_rows, orders_stay, picked_rows_stand,
     rows_stay, tables_are_well_formed,
 };
+
+/// The laws of the machine that are cited here.
+fn machine_laws()
+    ensures { Machine }
+{
+    tables_are_well_formed();
+    files_out_are_the_active_rows();
+    rows_stay();
+    picked_rows_stand();
+    claimed_files_were_in();
+}
 
 /// Each report that a pass adds is of a file whose last claim before it is the pass's own; one that says stopped is of a file of which cancel was
 /// asked; and each file that is out and was claimed last by the pass is held by its bench, which holds nothing else. Of one turn, of turns, of a worker.
@@ -39,11 +51,7 @@ pub fn turns_keep_the_ledger<E: Store>()
     ensures worker { (closes : Bool) (old new : StationData E) → WorkerDone E.Store closes old new → MayKeep old.pass new.pass old.held
         → KeepsLedger old.pass new.pass new.held }
 {
-    tables_are_well_formed();
-    files_out_are_the_active_rows();
-    rows_stay();
-    picked_rows_stand();
-    claimed_files_were_in();
+    machine_laws();
 }
 
 /// Where every writer reports only what it claimed last itself, and nothing is released, nobody takes a file from any writer.
@@ -105,10 +113,6 @@ pub fn undisturbed_stores_follow<E: Store>()
         → copies_from (λ writer. writer == old.number) (tables_of old.opening) (items_of ((old.seen ++ since) ++ later))
         ≡ copies_from (λ writer. writer == old.number) (tables_of (seen_list old)) (items_of since) }
 {
-    tables_are_well_formed();
-    files_out_are_the_active_rows();
-    rows_stay();
-    picked_rows_stand();
-    claimed_files_were_in();
+    machine_laws();
     orders_stay();
 }

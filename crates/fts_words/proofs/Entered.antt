@@ -63,13 +63,7 @@ begun command words options are apart = goes_on command words options [] None ar
 -- the level of a command passes
 level_taken : (command : Command) (words : List Text) (options : List Given) → Goes command (at [] None) words options [] → level_passes (shape_of_command command) [] nothing_held words false ≡ true
 level_taken Session words options goes = rw (goes.passes, goes.settles_at_end) refl
-level_taken Show words options goes = rw (goes.passes, goes.settles_at_end) refl
-level_taken Load words options goes = rw (goes.passes, goes.settles_at_end) refl
-level_taken Serve words options goes = rw (goes.passes, goes.settles_at_end) refl
-level_taken Submit words options goes = rw (goes.passes, goes.settles_at_end) refl
-level_taken Query words options goes = rw (goes.passes, goes.settles_at_end) refl
-level_taken Delete words options goes = rw (goes.passes, goes.settles_at_end) refl
-level_taken Follow words options goes = rw (goes.passes, goes.settles_at_end) refl
+level_taken command words options goes = rw (goes.passes, goes.settles_at_end) refl
 
 -- no option has a default
 abbrev kept : Text → List Row → List Row
@@ -115,24 +109,12 @@ names = names_of (built command_line)
 met_command : (command : Command) → walked top.rules names (walk_from nothing_held) (name_of command) ≡ stopped_at command []
 unfolding clap_on_literals
 met_command Session = refl
-met_command Show = refl
-met_command Load = refl
-met_command Serve = refl
-met_command Submit = refl
-met_command Query = refl
-met_command Delete = refl
-met_command Follow = refl
+met_command command = refl
 
 command_passes : (command : Command) → turn_passes top names (walk_from nothing_held) (name_of command) ≡ true
 unfolding clap_on_literals
 command_passes Session = refl
-command_passes Show = refl
-command_passes Load = refl
-command_passes Serve = refl
-command_passes Submit = refl
-command_passes Query = refl
-command_passes Delete = refl
-command_passes Follow = refl
+command_passes command = refl
 
 -- the words behind are kept for the command
 kept_words : (command : Command) (before words : List Text) → fold (walked top.rules names) (stopped_at command before) words ≡ stopped_at command (before ++ words)
@@ -156,23 +138,11 @@ top_passes command words = ap (λ b. b && walk_passes top names (walked top.rule
 entered_taken : (command : Command) (words : List Text) → level_passes (shape_of_command command) [] nothing_held words false ≡ true
     → entered_passes (built command_line) (Some (name_of command, words)) ≡ true
 entered_taken Session words passes = passes
-entered_taken Show words passes = passes
-entered_taken Load words passes = passes
-entered_taken Serve words passes = passes
-entered_taken Submit words passes = passes
-entered_taken Query words passes = passes
-entered_taken Delete words passes = passes
-entered_taken Follow words passes = passes
+entered_taken command words passes = passes
 
 entered_rows : (command : Command) (words : List Text) → entered (built command_line) (Some (name_of command, words)) ≡ Some (name_of command, rows_after (rules_of_command command) [] words)
 entered_rows Session words = refl
-entered_rows Show words = refl
-entered_rows Load words = refl
-entered_rows Serve words = refl
-entered_rows Submit words = refl
-entered_rows Query words = refl
-entered_rows Delete words = refl
-entered_rows Follow words = refl
+entered_rows command words = refl
 
 -- `clap` takes the list
 line_taken : (command : Command) (words : List Text) (options : List Given) → Goes command (at [] None) words options [] → takes command_line (name_of command ∷ words) ≡ true
@@ -191,90 +161,42 @@ only_given (Some option) = refl
 ports : (options : List Given) → option_and_then port_of (given_as ThePort options) ≡ first_number port_of options
 ports [] = refl
 ports (Port n ∷ options) = refl
-ports (Lanes n ∷ options) = ports options
-ports (Connections n ∷ options) = ports options
-ports (Number n ∷ options) = ports options
-ports (Tries n ∷ options) = ports options
-ports (Job n ∷ options) = ports options
-ports (Socket ∷ options) = ports options
-ports (Log ∷ options) = ports options
+ports (other ∷ options) = ports options
 
 lanes : (options : List Given) → option_and_then lanes_of (given_as TheLanes options) ≡ first_number lanes_of options
 lanes [] = refl
-lanes (Port n ∷ options) = lanes options
 lanes (Lanes n ∷ options) = refl
-lanes (Connections n ∷ options) = lanes options
-lanes (Number n ∷ options) = lanes options
-lanes (Tries n ∷ options) = lanes options
-lanes (Job n ∷ options) = lanes options
-lanes (Socket ∷ options) = lanes options
-lanes (Log ∷ options) = lanes options
+lanes (other ∷ options) = lanes options
 
 connections : (options : List Given) → option_and_then connections_of (given_as TheConnections options) ≡ first_number connections_of options
 connections [] = refl
-connections (Port n ∷ options) = connections options
-connections (Lanes n ∷ options) = connections options
 connections (Connections n ∷ options) = refl
-connections (Number n ∷ options) = connections options
-connections (Tries n ∷ options) = connections options
-connections (Job n ∷ options) = connections options
-connections (Socket ∷ options) = connections options
-connections (Log ∷ options) = connections options
+connections (other ∷ options) = connections options
 
 numbers : (options : List Given) → option_and_then number_given (given_as TheNumber options) ≡ first_number number_given options
 numbers [] = refl
-numbers (Port n ∷ options) = numbers options
-numbers (Lanes n ∷ options) = numbers options
-numbers (Connections n ∷ options) = numbers options
 numbers (Number n ∷ options) = refl
-numbers (Tries n ∷ options) = numbers options
-numbers (Job n ∷ options) = numbers options
-numbers (Socket ∷ options) = numbers options
-numbers (Log ∷ options) = numbers options
+numbers (other ∷ options) = numbers options
 
 tries : (options : List Given) → option_and_then tries_of (given_as TheTries options) ≡ first_number tries_of options
 tries [] = refl
-tries (Port n ∷ options) = tries options
-tries (Lanes n ∷ options) = tries options
-tries (Connections n ∷ options) = tries options
-tries (Number n ∷ options) = tries options
 tries (Tries n ∷ options) = refl
-tries (Job n ∷ options) = tries options
-tries (Socket ∷ options) = tries options
-tries (Log ∷ options) = tries options
+tries (other ∷ options) = tries options
 
 jobs : (options : List Given) → option_and_then job_of (given_as TheJob options) ≡ first_number job_of options
 jobs [] = refl
-jobs (Port n ∷ options) = jobs options
-jobs (Lanes n ∷ options) = jobs options
-jobs (Connections n ∷ options) = jobs options
-jobs (Number n ∷ options) = jobs options
-jobs (Tries n ∷ options) = jobs options
 jobs (Job n ∷ options) = refl
-jobs (Socket ∷ options) = jobs options
-jobs (Log ∷ options) = jobs options
+jobs (other ∷ options) = jobs options
 
 sockets : (options : List Given) → is_some (given_as TheSocket options) ≡ list_any (is_same_option Socket) options
 sockets [] = refl
-sockets (Port n ∷ options) = sockets options
-sockets (Lanes n ∷ options) = sockets options
-sockets (Connections n ∷ options) = sockets options
-sockets (Number n ∷ options) = sockets options
-sockets (Tries n ∷ options) = sockets options
-sockets (Job n ∷ options) = sockets options
 sockets (Socket ∷ options) = refl
-sockets (Log ∷ options) = sockets options
+sockets (other ∷ options) = sockets options
 
 logs : (options : List Given) → is_some (given_as TheLog options) ≡ list_any (is_same_option Log) options
 logs [] = refl
-logs (Port n ∷ options) = logs options
-logs (Lanes n ∷ options) = logs options
-logs (Connections n ∷ options) = logs options
-logs (Number n ∷ options) = logs options
-logs (Tries n ∷ options) = logs options
-logs (Job n ∷ options) = logs options
-logs (Socket ∷ options) = logs options
 logs (Log ∷ options) = refl
+logs (other ∷ options) = logs options
 
 values_are : (command : Command) (words : List Text) (options : List Given) → Goes command (at [] None) words options []
     → values_in command (rows_after (rules_of_command command) [] words) ≡ numbers_of options
@@ -316,13 +238,7 @@ name_is name command is =
 
 named_so : (command : Command) → command_named (name_of command) ≡ Some command
 named_so Session = refl
-named_so Show = refl
-named_so Load = refl
-named_so Serve = refl
-named_so Submit = refl
-named_so Query = refl
-named_so Delete = refl
-named_so Follow = refl
+named_so command = refl
 
 -- `clap` takes each list that asks for something, and enters what it asks for
 pub record IsAccepted (words : List Text) (asked : Asked) : Type 0 where

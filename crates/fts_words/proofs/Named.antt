@@ -24,13 +24,7 @@ named = codes "--socket"
 
 socket_word : (option : Given) → bytes_eq (word_of (name_of_given option)) named ≡ is_same_option Socket option
 socket_word (Port n) = refl
-socket_word (Lanes n) = refl
-socket_word (Connections n) = refl
-socket_word (Number n) = refl
-socket_word (Tries n) = refl
-socket_word (Job n) = refl
-socket_word Socket = refl
-socket_word Log = refl
+socket_word option = refl
 
 same_word : (command : Command) (word value : List ℕ) (option : Given) → option_of command word value ≡ Some option → bytes_eq word named ≡ is_same_option Socket option
 same_word command word value option is = ap (λ (w : List ℕ). bytes_eq w named) (option_is command word value option is).named.named ∙ socket_word option

@@ -125,46 +125,22 @@ options_ranged command None (word ∷ words) =
 port_ranged : (options : List Given) → AreRanged options → IsPort (first_of port_of options)
 port_ranged [] r = tt
 port_ranged (Port n ∷ options) r = r.0
-port_ranged (Lanes n ∷ options) r = port_ranged options r.1
-port_ranged (Connections n ∷ options) r = port_ranged options r.1
-port_ranged (Number n ∷ options) r = port_ranged options r.1
-port_ranged (Tries n ∷ options) r = port_ranged options r.1
-port_ranged (Job n ∷ options) r = port_ranged options r.1
-port_ranged (Socket ∷ options) r = port_ranged options r.1
-port_ranged (Log ∷ options) r = port_ranged options r.1
+port_ranged (other ∷ options) r = port_ranged options r.1
 
 lanes_ranged : (options : List Given) → AreRanged options → IfSome (first_of lanes_of options) (λ n. (1 ≤ n) × (n ≤ MAX_LANES))
 lanes_ranged [] r = tt
-lanes_ranged (Port n ∷ options) r = lanes_ranged options r.1
 lanes_ranged (Lanes n ∷ options) r = r.0
-lanes_ranged (Connections n ∷ options) r = lanes_ranged options r.1
-lanes_ranged (Number n ∷ options) r = lanes_ranged options r.1
-lanes_ranged (Tries n ∷ options) r = lanes_ranged options r.1
-lanes_ranged (Job n ∷ options) r = lanes_ranged options r.1
-lanes_ranged (Socket ∷ options) r = lanes_ranged options r.1
-lanes_ranged (Log ∷ options) r = lanes_ranged options r.1
+lanes_ranged (other ∷ options) r = lanes_ranged options r.1
 
 connections_ranged : (options : List Given) → AreRanged options → IfSome (first_of connections_of options) (λ n. 1 ≤ n)
 connections_ranged [] r = tt
-connections_ranged (Port n ∷ options) r = connections_ranged options r.1
-connections_ranged (Lanes n ∷ options) r = connections_ranged options r.1
 connections_ranged (Connections n ∷ options) r = r.0
-connections_ranged (Number n ∷ options) r = connections_ranged options r.1
-connections_ranged (Tries n ∷ options) r = connections_ranged options r.1
-connections_ranged (Job n ∷ options) r = connections_ranged options r.1
-connections_ranged (Socket ∷ options) r = connections_ranged options r.1
-connections_ranged (Log ∷ options) r = connections_ranged options r.1
+connections_ranged (other ∷ options) r = connections_ranged options r.1
 
 tries_ranged : (options : List Given) → AreRanged options → IfSome (first_of tries_of options) (λ n. AreTries n)
 tries_ranged [] r = tt
-tries_ranged (Port n ∷ options) r = tries_ranged options r.1
-tries_ranged (Lanes n ∷ options) r = tries_ranged options r.1
-tries_ranged (Connections n ∷ options) r = tries_ranged options r.1
-tries_ranged (Number n ∷ options) r = tries_ranged options r.1
 tries_ranged (Tries n ∷ options) r = r.0
-tries_ranged (Job n ∷ options) r = tries_ranged options r.1
-tries_ranged (Socket ∷ options) r = tries_ranged options r.1
-tries_ranged (Log ∷ options) r = tries_ranged options r.1
+tries_ranged (other ∷ options) r = tries_ranged options r.1
 
 some_or : (lanes : Option ℕ) → IfSome lanes (λ n. (1 ≤ n) × (n ≤ MAX_LANES)) → (1 ≤ unwrap_or lanes 4) × (unwrap_or lanes 4 ≤ MAX_LANES)
 some_or None r = (omega arith, omega arith)

@@ -40,49 +40,20 @@ word_of name = codes "--" ++ id_of name
 
 -- whether a command has an option
 abbrev pub Has : Command → Name → Type 0
-Has Session name = ⊥
-Has Show name = ⊥
-Has Load ThePort = ⊥
-Has Load TheLanes = ⊥
-Has Load TheConnections = ⊥
 Has Load TheNumber = Unit {0}
-Has Load TheTries = ⊥
-Has Load TheJob = ⊥
-Has Load TheSocket = ⊥
-Has Load TheLog = ⊥
 Has Serve ThePort = Unit {0}
 Has Serve TheLanes = Unit {0}
 Has Serve TheConnections = Unit {0}
-Has Serve TheNumber = ⊥
-Has Serve TheTries = ⊥
-Has Serve TheJob = ⊥
 Has Serve TheSocket = Unit {0}
 Has Serve TheLog = Unit {0}
 Has Submit ThePort = Unit {0}
-Has Submit TheLanes = ⊥
-Has Submit TheConnections = ⊥
-Has Submit TheNumber = ⊥
 Has Submit TheTries = Unit {0}
-Has Submit TheJob = ⊥
-Has Submit TheSocket = ⊥
-Has Submit TheLog = ⊥
 Has Query ThePort = Unit {0}
-Has Query TheLanes = ⊥
-Has Query TheConnections = ⊥
-Has Query TheNumber = ⊥
 Has Query TheTries = Unit {0}
 Has Query TheJob = Unit {0}
-Has Query TheSocket = ⊥
-Has Query TheLog = ⊥
-Has Delete name = ⊥
 Has Follow ThePort = Unit {0}
-Has Follow TheLanes = ⊥
-Has Follow TheConnections = ⊥
-Has Follow TheNumber = ⊥
 Has Follow TheTries = Unit {0}
-Has Follow TheJob = ⊥
-Has Follow TheSocket = ⊥
-Has Follow TheLog = ⊥
+Has command name = ⊥
 
 -- what holds of each option of each command
 pub of_each : (P : Command → Name → Type 0)
@@ -100,49 +71,20 @@ pub of_each : (P : Command → Name → Type 0)
     → P Follow ThePort
     → P Follow TheTries
     → (command : Command) (name : Name) → Has command name → P command name
-of_each P load_number serve_port serve_lanes serve_connections serve_socket serve_log submit_port submit_tries query_port query_tries query_job follow_port follow_tries Session name has = absurd has
-of_each P load_number serve_port serve_lanes serve_connections serve_socket serve_log submit_port submit_tries query_port query_tries query_job follow_port follow_tries Show name has = absurd has
-of_each P load_number serve_port serve_lanes serve_connections serve_socket serve_log submit_port submit_tries query_port query_tries query_job follow_port follow_tries Load ThePort has = absurd has
-of_each P load_number serve_port serve_lanes serve_connections serve_socket serve_log submit_port submit_tries query_port query_tries query_job follow_port follow_tries Load TheLanes has = absurd has
-of_each P load_number serve_port serve_lanes serve_connections serve_socket serve_log submit_port submit_tries query_port query_tries query_job follow_port follow_tries Load TheConnections has = absurd has
-of_each P load_number serve_port serve_lanes serve_connections serve_socket serve_log submit_port submit_tries query_port query_tries query_job follow_port follow_tries Load TheNumber has = load_number
-of_each P load_number serve_port serve_lanes serve_connections serve_socket serve_log submit_port submit_tries query_port query_tries query_job follow_port follow_tries Load TheTries has = absurd has
-of_each P load_number serve_port serve_lanes serve_connections serve_socket serve_log submit_port submit_tries query_port query_tries query_job follow_port follow_tries Load TheJob has = absurd has
-of_each P load_number serve_port serve_lanes serve_connections serve_socket serve_log submit_port submit_tries query_port query_tries query_job follow_port follow_tries Load TheSocket has = absurd has
-of_each P load_number serve_port serve_lanes serve_connections serve_socket serve_log submit_port submit_tries query_port query_tries query_job follow_port follow_tries Load TheLog has = absurd has
-of_each P load_number serve_port serve_lanes serve_connections serve_socket serve_log submit_port submit_tries query_port query_tries query_job follow_port follow_tries Serve ThePort has = serve_port
-of_each P load_number serve_port serve_lanes serve_connections serve_socket serve_log submit_port submit_tries query_port query_tries query_job follow_port follow_tries Serve TheLanes has = serve_lanes
-of_each P load_number serve_port serve_lanes serve_connections serve_socket serve_log submit_port submit_tries query_port query_tries query_job follow_port follow_tries Serve TheConnections has = serve_connections
-of_each P load_number serve_port serve_lanes serve_connections serve_socket serve_log submit_port submit_tries query_port query_tries query_job follow_port follow_tries Serve TheNumber has = absurd has
-of_each P load_number serve_port serve_lanes serve_connections serve_socket serve_log submit_port submit_tries query_port query_tries query_job follow_port follow_tries Serve TheTries has = absurd has
-of_each P load_number serve_port serve_lanes serve_connections serve_socket serve_log submit_port submit_tries query_port query_tries query_job follow_port follow_tries Serve TheJob has = absurd has
-of_each P load_number serve_port serve_lanes serve_connections serve_socket serve_log submit_port submit_tries query_port query_tries query_job follow_port follow_tries Serve TheSocket has = serve_socket
-of_each P load_number serve_port serve_lanes serve_connections serve_socket serve_log submit_port submit_tries query_port query_tries query_job follow_port follow_tries Serve TheLog has = serve_log
-of_each P load_number serve_port serve_lanes serve_connections serve_socket serve_log submit_port submit_tries query_port query_tries query_job follow_port follow_tries Submit ThePort has = submit_port
-of_each P load_number serve_port serve_lanes serve_connections serve_socket serve_log submit_port submit_tries query_port query_tries query_job follow_port follow_tries Submit TheLanes has = absurd has
-of_each P load_number serve_port serve_lanes serve_connections serve_socket serve_log submit_port submit_tries query_port query_tries query_job follow_port follow_tries Submit TheConnections has = absurd has
-of_each P load_number serve_port serve_lanes serve_connections serve_socket serve_log submit_port submit_tries query_port query_tries query_job follow_port follow_tries Submit TheNumber has = absurd has
-of_each P load_number serve_port serve_lanes serve_connections serve_socket serve_log submit_port submit_tries query_port query_tries query_job follow_port follow_tries Submit TheTries has = submit_tries
-of_each P load_number serve_port serve_lanes serve_connections serve_socket serve_log submit_port submit_tries query_port query_tries query_job follow_port follow_tries Submit TheJob has = absurd has
-of_each P load_number serve_port serve_lanes serve_connections serve_socket serve_log submit_port submit_tries query_port query_tries query_job follow_port follow_tries Submit TheSocket has = absurd has
-of_each P load_number serve_port serve_lanes serve_connections serve_socket serve_log submit_port submit_tries query_port query_tries query_job follow_port follow_tries Submit TheLog has = absurd has
-of_each P load_number serve_port serve_lanes serve_connections serve_socket serve_log submit_port submit_tries query_port query_tries query_job follow_port follow_tries Query ThePort has = query_port
-of_each P load_number serve_port serve_lanes serve_connections serve_socket serve_log submit_port submit_tries query_port query_tries query_job follow_port follow_tries Query TheLanes has = absurd has
-of_each P load_number serve_port serve_lanes serve_connections serve_socket serve_log submit_port submit_tries query_port query_tries query_job follow_port follow_tries Query TheConnections has = absurd has
-of_each P load_number serve_port serve_lanes serve_connections serve_socket serve_log submit_port submit_tries query_port query_tries query_job follow_port follow_tries Query TheNumber has = absurd has
-of_each P load_number serve_port serve_lanes serve_connections serve_socket serve_log submit_port submit_tries query_port query_tries query_job follow_port follow_tries Query TheTries has = query_tries
-of_each P load_number serve_port serve_lanes serve_connections serve_socket serve_log submit_port submit_tries query_port query_tries query_job follow_port follow_tries Query TheJob has = query_job
-of_each P load_number serve_port serve_lanes serve_connections serve_socket serve_log submit_port submit_tries query_port query_tries query_job follow_port follow_tries Query TheSocket has = absurd has
-of_each P load_number serve_port serve_lanes serve_connections serve_socket serve_log submit_port submit_tries query_port query_tries query_job follow_port follow_tries Query TheLog has = absurd has
-of_each P load_number serve_port serve_lanes serve_connections serve_socket serve_log submit_port submit_tries query_port query_tries query_job follow_port follow_tries Delete name has = absurd has
-of_each P load_number serve_port serve_lanes serve_connections serve_socket serve_log submit_port submit_tries query_port query_tries query_job follow_port follow_tries Follow ThePort has = follow_port
-of_each P load_number serve_port serve_lanes serve_connections serve_socket serve_log submit_port submit_tries query_port query_tries query_job follow_port follow_tries Follow TheLanes has = absurd has
-of_each P load_number serve_port serve_lanes serve_connections serve_socket serve_log submit_port submit_tries query_port query_tries query_job follow_port follow_tries Follow TheConnections has = absurd has
-of_each P load_number serve_port serve_lanes serve_connections serve_socket serve_log submit_port submit_tries query_port query_tries query_job follow_port follow_tries Follow TheNumber has = absurd has
-of_each P load_number serve_port serve_lanes serve_connections serve_socket serve_log submit_port submit_tries query_port query_tries query_job follow_port follow_tries Follow TheTries has = follow_tries
-of_each P load_number serve_port serve_lanes serve_connections serve_socket serve_log submit_port submit_tries query_port query_tries query_job follow_port follow_tries Follow TheJob has = absurd has
-of_each P load_number serve_port serve_lanes serve_connections serve_socket serve_log submit_port submit_tries query_port query_tries query_job follow_port follow_tries Follow TheSocket has = absurd has
-of_each P load_number serve_port serve_lanes serve_connections serve_socket serve_log submit_port submit_tries query_port query_tries query_job follow_port follow_tries Follow TheLog has = absurd has
+of_each P a b c d e f g h i j k l m Load TheNumber has = a
+of_each P a b c d e f g h i j k l m Serve ThePort has = b
+of_each P a b c d e f g h i j k l m Serve TheLanes has = c
+of_each P a b c d e f g h i j k l m Serve TheConnections has = d
+of_each P a b c d e f g h i j k l m Serve TheSocket has = e
+of_each P a b c d e f g h i j k l m Serve TheLog has = f
+of_each P a b c d e f g h i j k l m Submit ThePort has = g
+of_each P a b c d e f g h i j k l m Submit TheTries has = h
+of_each P a b c d e f g h i j k l m Query ThePort has = i
+of_each P a b c d e f g h i j k l m Query TheTries has = j
+of_each P a b c d e f g h i j k l m Query TheJob has = k
+of_each P a b c d e f g h i j k l m Follow ThePort has = l
+of_each P a b c d e f g h i j k l m Follow TheTries has = m
+of_each P a b c d e f g h i j k l m command name has = absurd has
 
 -- the names are apart
 abbrev pub same_name : Name → Name → Bool
@@ -158,69 +100,14 @@ same_name one other = false
 
 pub same_id : (one other : Name) → bytes_eq (id_of one) (id_of other) ≡ same_name one other
 same_id ThePort ThePort = refl
-same_id ThePort TheLanes = refl
-same_id ThePort TheConnections = refl
-same_id ThePort TheNumber = refl
-same_id ThePort TheTries = refl
-same_id ThePort TheJob = refl
-same_id ThePort TheSocket = refl
-same_id ThePort TheLog = refl
-same_id TheLanes ThePort = refl
 same_id TheLanes TheLanes = refl
-same_id TheLanes TheConnections = refl
-same_id TheLanes TheNumber = refl
-same_id TheLanes TheTries = refl
-same_id TheLanes TheJob = refl
-same_id TheLanes TheSocket = refl
-same_id TheLanes TheLog = refl
-same_id TheConnections ThePort = refl
-same_id TheConnections TheLanes = refl
 same_id TheConnections TheConnections = refl
-same_id TheConnections TheNumber = refl
-same_id TheConnections TheTries = refl
-same_id TheConnections TheJob = refl
-same_id TheConnections TheSocket = refl
-same_id TheConnections TheLog = refl
-same_id TheNumber ThePort = refl
-same_id TheNumber TheLanes = refl
-same_id TheNumber TheConnections = refl
 same_id TheNumber TheNumber = refl
-same_id TheNumber TheTries = refl
-same_id TheNumber TheJob = refl
-same_id TheNumber TheSocket = refl
-same_id TheNumber TheLog = refl
-same_id TheTries ThePort = refl
-same_id TheTries TheLanes = refl
-same_id TheTries TheConnections = refl
-same_id TheTries TheNumber = refl
 same_id TheTries TheTries = refl
-same_id TheTries TheJob = refl
-same_id TheTries TheSocket = refl
-same_id TheTries TheLog = refl
-same_id TheJob ThePort = refl
-same_id TheJob TheLanes = refl
-same_id TheJob TheConnections = refl
-same_id TheJob TheNumber = refl
-same_id TheJob TheTries = refl
 same_id TheJob TheJob = refl
-same_id TheJob TheSocket = refl
-same_id TheJob TheLog = refl
-same_id TheSocket ThePort = refl
-same_id TheSocket TheLanes = refl
-same_id TheSocket TheConnections = refl
-same_id TheSocket TheNumber = refl
-same_id TheSocket TheTries = refl
-same_id TheSocket TheJob = refl
 same_id TheSocket TheSocket = refl
-same_id TheSocket TheLog = refl
-same_id TheLog ThePort = refl
-same_id TheLog TheLanes = refl
-same_id TheLog TheConnections = refl
-same_id TheLog TheNumber = refl
-same_id TheLog TheTries = refl
-same_id TheLog TheJob = refl
-same_id TheLog TheSocket = refl
 same_id TheLog TheLog = refl
+same_id one other = refl
 
 -- a command as it is built
 abbrev pub built_one : App → Shape

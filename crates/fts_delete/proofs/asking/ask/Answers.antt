@@ -2,7 +2,7 @@
 use Rattle.std.proofs.Common.{◌≡◌, ◌≤◌, ◌+◌, true, rules, arith, sym, subst, Ok, Err, ap, ◌∙◌, length, nat_lt}
 use Rattle.std.proofs.lemmas.Bool.{lt-ltb}
 use Rattle.fts_delete.specs.declared.events.Event.TheVariants.{Ask}
-use Rattle.fts_delete.specs.declared.fault.DeleteFault.TheVariants.{Memory, RowsFull}
+use Rattle.fts_delete.specs.declared.fault.DeleteFault.TheVariants.{RowsFull}
 use Rattle.fts_delete.specs.Rows.{most_rows}
 use Rattle.fts_delete.specs.Spelling.{body_of}
 use Rattle.fts_delete.specs.Views.{deletes_of}
@@ -35,27 +35,24 @@ returns-then-len-places-gt-MAX_DELETE_ROWS-clause-asked g c =
     (asked_many g.D.Disk.state g.D.Disk.faults (deletes_of g.D.Disk.state c.args.rows.now.items c.args.journal.now) c.args.places.now many (untouched g.D.Disk.state g.D.Disk.faults g.met.D.Disk.lawful c.args.rows.now.items c.args.journal.now c.requires.tied))
 
 pub returns-in_err-copy-clause-asked : goal.returns-in_err-copy-clause-asked
-returns-in_err-copy-clause-asked g c =
-    let is : c.from_residual.result ≡ Err Memory = search rules in
-    subst (λ r. Asked g.D.Disk.state g.D.Disk.faults (deletes_of g.D.Disk.state c.args.rows.now.items c.args.journal.now) (deletes_of g.D.Disk.state c.args.rows.now.items c.args.journal.now) c.args.places.now r) (sym is)
-    (asked_memory g.D.Disk.state g.D.Disk.faults (deletes_of g.D.Disk.state c.args.rows.now.items c.args.journal.now) c.args.places.now (omega (arith, c.if-len-places-gt-MAX_DELETE_ROWS.false, c.len.ensures, c.args.rows.now.ok.0))
-    (untouched g.D.Disk.state g.D.Disk.faults g.met.D.Disk.lawful c.args.rows.now.items c.args.journal.now c.requires.tied))
+returns-in_err-copy-clause-asked g c = asked_memory g.D.Disk.state g.D.Disk.faults (deletes_of g.D.Disk.state c.args.rows.now.items c.args.journal.now)
+    c.args.places.now (omega (arith, c.if-len-places-gt-MAX_DELETE_ROWS.false, c.len.ensures, c.args.rows.now.ok.0))
+    (untouched g.D.Disk.state g.D.Disk.faults g.met.D.Disk.lawful c.args.rows.now.items c.args.journal.now c.requires.tied)
+    c.from_residual.result (search rules)
 
 pub returns-in_err-body-clause-asked : goal.returns-in_err-body-clause-asked
-returns-in_err-body-clause-asked g c =
-    let is : c.from_residual-in_err-body.result ≡ Err Memory = search rules in
-    subst (λ r. Asked g.D.Disk.state g.D.Disk.faults (deletes_of g.D.Disk.state c.args.rows.now.items c.args.journal.now) (deletes_of g.D.Disk.state c.args.rows.now.items c.args.journal.now) c.args.places.now r) (sym is)
-    (asked_memory g.D.Disk.state g.D.Disk.faults (deletes_of g.D.Disk.state c.args.rows.now.items c.args.journal.now) c.args.places.now (omega (arith, c.if-len-places-gt-MAX_DELETE_ROWS.false, c.len.ensures, c.args.rows.now.ok.0))
-    (untouched g.D.Disk.state g.D.Disk.faults g.met.D.Disk.lawful c.args.rows.now.items c.args.journal.now c.requires.tied))
+returns-in_err-body-clause-asked g c = asked_memory g.D.Disk.state g.D.Disk.faults (deletes_of g.D.Disk.state c.args.rows.now.items c.args.journal.now)
+    c.args.places.now (omega (arith, c.if-len-places-gt-MAX_DELETE_ROWS.false, c.len.ensures, c.args.rows.now.ok.0))
+    (untouched g.D.Disk.state g.D.Disk.faults g.met.D.Disk.lawful c.args.rows.now.items c.args.journal.now c.requires.tied)
+    c.from_residual-in_err-body.result (search rules)
 
 pub returns-in_err-make_room-clause-asked : goal.returns-in_err-make_room-clause-asked
 returns-in_err-make_room-clause-asked g c =
-    let is : c.from_residual-in_err-make_room.result ≡ Err Memory = search rules in
     subst (λ rows. Asked g.D.Disk.state g.D.Disk.faults (deletes_of g.D.Disk.state c.args.rows.now.items c.args.journal.now) (deletes_of g.D.Disk.state rows c.args.journal.now) c.args.places.now c.from_residual-in_err-make_room.result)
     (sym c.in_err-make_room.ensures.rows)
-    (subst (λ r. Asked g.D.Disk.state g.D.Disk.faults (deletes_of g.D.Disk.state c.args.rows.now.items c.args.journal.now) (deletes_of g.D.Disk.state c.args.rows.now.items c.args.journal.now) c.args.places.now r) (sym is)
     (asked_memory g.D.Disk.state g.D.Disk.faults (deletes_of g.D.Disk.state c.args.rows.now.items c.args.journal.now) c.args.places.now (omega (arith, c.if-len-places-gt-MAX_DELETE_ROWS.false, c.len.ensures, c.args.rows.now.ok.0))
-    (untouched g.D.Disk.state g.D.Disk.faults g.met.D.Disk.lawful c.args.rows.now.items c.args.journal.now c.requires.tied)))
+    (untouched g.D.Disk.state g.D.Disk.faults g.met.D.Disk.lawful c.args.rows.now.items c.args.journal.now c.requires.tied)
+    c.from_residual-in_err-make_room.result (search rules))
 
 pub make_ready-requires : goal.make_ready-requires
 make_ready-requires g c =

@@ -3,8 +3,8 @@ use Rattle.std.proofs.Common.{rules, tests}
 use Rattle.std.proofs.lemmas.Iterator.{YieldsList-from_slice}
 use Rattle.std.proofs.lemmas.Iterator.Search.{all_from_yields_List}
 use Rattle.serde_json.specs.View.{view}
-use Rattle.fts_delete.specs.Documents.{is_text}
-use Rattle.fts_delete.proofs.JsonLemmas.{all_of_viewed}
+use Rattle.fts_jobdoc.specs.Json.{is_text}
+use Rattle.fts_jobdoc.proofs.JsonLemmas.{all_of_viewed}
 use Rattle.fts_delete.proofs.document.are_texts.Goals as goal
 
 pub returns : goal.returns

@@ -2,7 +2,7 @@
 use Rattle.std.proofs.Common.{◌≡◌, Err, inl, sym, ap, ◌∙◌, rules, arith}
 use Rattle.std.specs.List.{list_any}
 use Rattle.serde_json.specs.View.{view}
-use Rattle.fts_delete.specs.Documents.{is_elsewhere}
+use Rattle.fts_jobdoc.specs.Ends.{is_elsewhere}
 use Rattle.fts_delete.proofs.AskedBy.{no_object, no_deletes, too_many, no_texts, broken_url, elsewhere, all_fine}
 use Rattle.fts_delete.proofs.document.asked_by.Goals as goal
 

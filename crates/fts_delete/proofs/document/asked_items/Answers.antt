@@ -3,7 +3,7 @@ use Rattle.std.proofs.Common.{◌≡◌, Some, sym, map, codes}
 use Rattle.serde_json.specs.Find.{get, as_array}
 use Rattle.serde_json.specs.View.{view, items_view}
 use Rattle.fts_delete.specs.Documents.{asked_items}
-use Rattle.fts_delete.proofs.JsonLemmas.{list_of-items_of}
+use Rattle.fts_jobdoc.proofs.JsonLemmas.{list_of-items_of}
 use Rattle.fts_delete.proofs.document.asked_items.Goals as goal
 
 pub returns-in-Some-as_array : goal.returns-in-Some-as_array

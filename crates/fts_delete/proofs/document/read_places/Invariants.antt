@@ -3,8 +3,8 @@ use Rattle.std.proofs.Common.{◌≡◌, drop, map}
 use Rattle.std.specs.List.{filter_map}
 use Rattle.serde_json.specs.Find.{as_str}
 use Rattle.serde_json.specs.View.{view}
-use Rattle.fts_delete.specs.Documents.{places_read}
-use Rattle.fts_delete.proofs.UrlLemmas.{extend}
+use Rattle.fts_jobdoc.specs.Ends.{places_read}
+use Rattle.fts_jobdoc.proofs.EndsLemmas.{extend}
 use Rattle.fts_delete.proofs.document.read_places.Given as goal
 
 -- the places so far, before those of the rest, are those of the whole

@@ -1,6 +1,6 @@
 -- A body that was read, and one that could not be.
 use Rattle.std.proofs.Common.{sym, rules, tests}
-use Rattle.fts_delete.proofs.JsonLemmas.{value_of-read, value_of-refused}
+use Rattle.fts_jobdoc.proofs.JsonLemmas.{value_of-read, value_of-refused}
 use Rattle.fts_delete.proofs.document.read_value.Goals as goal
 
 pub returns-in-Ok : goal.returns-in-Ok

@@ -1,10 +1,10 @@
 -- Each exit of the loop, by the lemmas of `Folded`.
-use Rattle.std.proofs.Common.{◌≡◌, ◌∙◌, ap, sym, subst, suc, ◌+◌, ◌≤◌, slice_get, Some, length, rules, arith}
+use Rattle.std.proofs.Common.{◌≡◌, ◌∙◌, ap, sym, subst, suc, ◌+◌, ◌≤◌, slice_get, Some, length, take_all, rules, arith}
 use Rattle.fts_tables.specs.declared.limits.TheConstants.{JOURNAL_END}
 use Rattle.fts_journal.specs.Journal.{filled_by}
 use Rattle.fts_delete.specs.Faults.{fault_of}
 use Rattle.fts_delete.specs.Folding.{HasFolded, FoldFault}
-use Rattle.fts_delete.proofs.Folded.{passes_more, filled_to, folded_none, folded_more, leaves_none, leaves_more, read_fault, take_fault, on_err, take_all}
+use Rattle.fts_delete.proofs.Folded.{passes_more, filled_to, folded_none, folded_more, leaves_none, leaves_more, read_fault, take_fault, on_err}
 use Rattle.fts_delete.proofs.Forming.{legal_rows_are_formed, legal_rows_are_few}
 use Rattle.fts_delete.proofs.folding.fold.Goals as goal
 
@@ -106,7 +106,7 @@ returns-clause-folded g c =
       high = omega (arith, c.used.ensures.most, c.used.ensures.used);
       proper = folded.proper;
       fills = sym c.used.ensures.used ∙ c.used.ensures.filled
-          ∙ ap filled_by (sym (take_all c.args.journal.now.sizes c.loop-n.n (c.count-n-end.ensures.sizes ∙ sym all)))
+          ∙ ap filled_by (sym (take_all c.loop-n.n c.args.journal.now.sizes (omega (arith, c.count-n-end.ensures.sizes, all))))
           ∙ sym folded.passes ∙ folded.fills;
-      spells = λ told. sym (take_all c.args.journal.now.bodies c.loop-n.n (c.count-n-end.ensures.told told ∙ sym all)) ∙ folded.spells told;
+      spells = λ told. sym (take_all c.loop-n.n c.args.journal.now.bodies (omega (arith, c.count-n-end.ensures.told told, all))) ∙ folded.spells told;
     }
