@@ -9,13 +9,16 @@ pub const JOURNAL_PATH: &str = "bench.journal";
 /// The plain file beside it.
 pub const FLOOR_PATH: &str = "bench.floor";
 
+/// A disk over the system's own files.
+pub type HostDisk<'a> = SystemDisk<&'a HostRuntime>;
+
 /// A disk for a journal, made where it is absent.
-pub fn open_disk<'a>(rt: &'a HostRuntime, path: &str) -> SystemDisk<&'a HostRuntime> {
+pub fn open_disk<'a>(rt: &'a HostRuntime, path: &str) -> HostDisk<'a> {
     FileDisk::open(rt, path)
 }
 
 /// A disk to look at a journal.
-pub fn view_disk<'a>(rt: &'a HostRuntime, path: &str) -> SystemDisk<&'a HostRuntime> {
+pub fn view_disk<'a>(rt: &'a HostRuntime, path: &str) -> HostDisk<'a> {
     FileDisk::view(rt, path)
 }
 

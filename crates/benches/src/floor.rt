@@ -12,6 +12,12 @@ pub const BATCH: u32 = 50;
 /// How many bytes an append takes beside its body: its length in four, and its gate.
 pub const AROUND_BYTES: usize = 5;
 
+/// What is measured beside the floor.
+pub trait Side {
+    /// The seconds that a batch of its calls takes.
+    fn batch(&mut self, rt: &HostRuntime) -> io::Result<f64>;
+}
+
 /// The seconds that each side took.
 #[derive(Clone, Copy)]
 pub struct Times {
@@ -28,13 +34,29 @@ fn write_piece(file: &File, at: u64, piece: &[u8]) -> io::Result<()> {
 }
 
 /// The seconds that a batch takes, by its number from 0; a piece is what stands behind a gate, with the next gate.
-pub fn batch(rt: &HostRuntime, file: &File, number: u32, piece: &[u8]) -> io::Result<f64> {
+fn batch(rt: &HostRuntime, file: &File, number: u32, piece: &[u8]) -> io::Result<f64> {
     let begun = clock::now(rt);
     for place in 0..BATCH {
         let before = u64::from(number) * u64::from(BATCH) + u64::from(place);
         write_piece(file, before.wrapping_mul(piece.len() as u64), piece)?;
     }
     Ok(clock::now(rt) - begun)
+}
+
+/// The seconds that so many calls of each side take, in turns; a piece is what stands for a call on the floor.
+pub fn take_turns<S: Side>(
+    rt: &HostRuntime,
+    side: &mut S,
+    file: &File,
+    count: u32,
+    piece: &[u8],
+) -> io::Result<Times> {
+    let (mut ours, mut floor) = (0.0, 0.0);
+    for number in 0..count / BATCH {
+        floor += batch(rt, file, number, piece)?;
+        ours += side.batch(rt)?;
+    }
+    Ok(Times { ours, floor })
 }
 
 /// Prints how many calls a second each side made, and their ratio.

@@ -1,58 +1,42 @@
 //! The measurement of the journal's appends beside the floor of the same calls: `journal 500` makes 500 appends of each.
 //! `journal append PATH COUNT` and `journal list PATH` make a journal of numbered bodies and print those of one, for `acceptance/failing-disk.sh`.
 use crate::clock;
-use crate::files::{self, FLOOR_PATH, JOURNAL_PATH};
-use crate::floor::{self, AROUND_BYTES, BATCH, Times};
-use fts_disk::{Disk, SystemDisk};
+use crate::files::{self, FLOOR_PATH, HostDisk, JOURNAL_PATH};
+use crate::floor::{self, AROUND_BYTES, BATCH, Side, Times};
+use fts_disk::Disk;
 use fts_journal::Journal;
-use std::fs::File;
 use std::io;
 
 /// The bytes of a body: about an entry of the service.
 const BODY: [u8; 200] = [7; 200];
 
 /// An empty journal in a file.
-fn new_journal<'a>(
-    rt: &'a HostRuntime,
-    path: &str,
-) -> io::Result<Journal<SystemDisk<&'a HostRuntime>>> {
+fn new_journal<'a>(rt: &'a HostRuntime, path: &str) -> io::Result<Journal<HostDisk<'a>>> {
     match Journal::create(rt.alloc(), files::open_disk(rt, path)) {
         Ok(journal) => Ok(journal),
         Err(_) => Err(io::Error::other("no journal is made")),
     }
 }
 
-/// The seconds that a batch of appends takes.
-fn append_batch<D: Disk>(rt: &HostRuntime, journal: &mut Journal<D>) -> io::Result<f64> {
-    let begun = clock::now(rt);
-    for _ in 0..BATCH {
-        if journal.doubt() || journal.append(&BODY).is_err() {
-            return Err(io::Error::other("an append failed"));
+impl<D: Disk> Side for Journal<D> {
+    /// Appends of bodies.
+    fn batch(&mut self, rt: &HostRuntime) -> io::Result<f64> {
+        let begun = clock::now(rt);
+        for _ in 0..BATCH {
+            if self.doubt() || self.append(&BODY).is_err() {
+                return Err(io::Error::other("an append failed"));
+            }
         }
+        Ok(clock::now(rt) - begun)
     }
-    Ok(clock::now(rt) - begun)
 }
 
-/// The seconds that so many appends of each side take, in turns.
-fn take_turns<D: Disk>(
-    rt: &HostRuntime,
-    journal: &mut Journal<D>,
-    file: &File,
-    appends: u32,
-) -> io::Result<Times> {
-    let (mut ours, mut floor) = (0.0, 0.0);
-    for batch in 0..appends / BATCH {
-        floor += floor::batch(rt, file, batch, &[0; BODY.len() + AROUND_BYTES])?;
-        ours += append_batch(rt, journal)?;
-    }
-    Ok(Times { ours, floor })
-}
-
-/// The same, on new files.
+/// The seconds that so many appends of each side take, on new files.
 fn time_both(rt: &HostRuntime, appends: u32) -> io::Result<Times> {
     let file = files::create(rt, FLOOR_PATH)?;
     let mut journal = new_journal(rt, JOURNAL_PATH)?;
-    take_turns(rt, &mut journal, &file, appends)
+    let piece = [0; BODY.len() + AROUND_BYTES];
+    floor::take_turns(rt, &mut journal, &file, appends, &piece)
 }
 
 /// Prints how many appends a second the journal makes, and how many the calls alone would allow.
@@ -103,10 +87,7 @@ fn append_numbered(rt: &HostRuntime, path: &str, count: u32) -> io::Result<()> {
 }
 
 /// A journal that is there, opened to look.
-pub fn seen_journal<'a>(
-    rt: &'a HostRuntime,
-    path: &str,
-) -> io::Result<Journal<SystemDisk<&'a HostRuntime>>> {
+pub fn seen_journal<'a>(rt: &'a HostRuntime, path: &str) -> io::Result<Journal<HostDisk<'a>>> {
     match Journal::load(rt.alloc(), files::view_disk(rt, path)) {
         Ok(journal) => Ok(journal),
         Err(_) => Err(io::Error::other("the journal is not opened")),

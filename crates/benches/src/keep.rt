@@ -4,9 +4,8 @@ mod accepting;
 mod starting;
 
 use crate::entries::entry;
-use crate::files;
+use crate::files::{self, HostDisk};
 use crate::journal::number;
-use fts_disk::SystemDisk;
 use fts_keep::Keep;
 use fts_tables::{Command, Settings};
 use std::alloc::Global;
@@ -32,7 +31,7 @@ fn started<'a>(
     rt: &'a HostRuntime,
     path: &str,
     settings: Settings,
-) -> io::Result<Keep<SystemDisk<&'a HostRuntime>>> {
+) -> io::Result<Keep<HostDisk<'a>>> {
     match Keep::start(rt.alloc(), files::open_disk(rt, path), settings, MOMENT) {
         Ok(keep) => Ok(keep),
         Err(_) => Err(io::Error::other("the keep is not started")),

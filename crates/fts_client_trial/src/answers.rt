@@ -49,7 +49,22 @@ pub const DISK_FAILED: &str =
 pub const NO_MEMORY: &str =
     "HTTP/1.1 500 Internal Server Error\r\nContent-Type: application/json\r\nContent-Length: 0\r\nConnection: close\r\n\r\n";
 
+pub const SHOWN: &str =
+    "HTTP/1.1 200 OK\r\nContent-Type: application/json\r\nContent-Length: 22\r\nConnection: close\r\n\r\n{\"job_state\":\"ACTIVE\"}";
+
+pub const NO_ID: &str =
+    "HTTP/1.1 200 OK\r\nContent-Type: application/json\r\nContent-Length: 2\r\n\r\n{}";
+
+pub const NUMBER_FOR_ID: &str =
+    "HTTP/1.1 409 Conflict\r\nContent-Type: application/json\r\nContent-Length: 12\r\n\r\n{\"job_id\":7}";
+
+pub const SHORT_ID: &str =
+    "HTTP/1.1 409 Conflict\r\nContent-Type: application/json\r\nContent-Length: 17\r\n\r\n{\"job_id\":\"8b35\"}";
+
 pub const CUT: &str = "HTTP/1.1 200 OK\r\nCon";
+
+/// What a command meets: the answers of three lines, the dial that fails, and how many tries it is allowed.
+pub type Tries = ([&'static str; 3], u32, u32);
 
 /// A line that answers this, and whose read and write of these numbers fail.
 pub fn line(alloc: Global, answer: &str, read: u64, write: u64) -> Result<MemoryLine, Fail>

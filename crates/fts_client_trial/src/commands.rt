@@ -4,7 +4,7 @@ ghost use Rattle.std.specs.Prelude.{◌≤◌};
 
 use crate::answers::{
     CREATED, CUT, DISK_FAILED, DOCUMENT, DUPLICATE, JOB, NEVER, NO_DIAL, NO_MEMORY, NOT_FOUND,
-    NOT_JSON, PORT, QUERY, REQUEST, link,
+    NOT_JSON, PORT, QUERY, REQUEST, SHOWN, Tries, link,
 };
 use fts_client::MemoryLink;
 use fts_submitting::{ClientEnd, run_query, run_submit, send_client_note};
@@ -13,9 +13,6 @@ use std::alloc::Global;
 use std::test::Fail;
 
 const ID_LINE: &str = "8b35c5cc-fec2-5479-8778-9cbe6f137978\n";
-
-const SHOWN: &str =
-    "HTTP/1.1 200 OK\r\nContent-Type: application/json\r\nContent-Length: 22\r\nConnection: close\r\n\r\n{\"job_state\":\"ACTIVE\"}";
 
 /// A source of these bytes. The read of this number fails.
 fn source(alloc: Global, bytes: &str, fail: u64) -> Result<MemorySource, Fail> {
@@ -53,27 +50,14 @@ pub fn is_asked_so(link: &MemoryLink, request: &str, back: usize, port: Option<u
     whole && link.back().len() == back && link.port() == port
 }
 
-/// A row: a sentence, the input, the answers of three lines, the dial that fails, how many tries are allowed; the status, the output, the note, and
-/// how many lines came back.
-type SubmitRow = (
-    &'static str,
-    &'static str,
-    [&'static str; 3],
-    u32,
-    u32,
-    u8,
-    &'static str,
-    &'static str,
-    usize,
-);
+/// A row: a sentence, the tries; the status, the output, the note, and how many lines came back.
+type CommandRow = (&'static str, Tries, u8, &'static str, &'static str, usize);
 
-const SUBMISSIONS: [SubmitRow; 7] = [
+/// Submissions of one document.
+const SUBMISSIONS: [CommandRow; 6] = [
     (
         "a job is made",
-        DOCUMENT,
-        [CREATED, "", ""],
-        NO_DIAL,
-        3,
+        ([CREATED, "", ""], NO_DIAL, 3),
         0,
         ID_LINE,
         "",
@@ -81,10 +65,7 @@ const SUBMISSIONS: [SubmitRow; 7] = [
     ),
     (
         "the first answer is cut, and the second tells of the job",
-        DOCUMENT,
-        [CUT, DUPLICATE, ""],
-        NO_DIAL,
-        3,
+        ([CUT, DUPLICATE, ""], NO_DIAL, 3),
         0,
         ID_LINE,
         "",
@@ -92,10 +73,7 @@ const SUBMISSIONS: [SubmitRow; 7] = [
     ),
     (
         "one try, and its dial fails",
-        DOCUMENT,
-        [CREATED, "", ""],
-        1,
-        1,
+        ([CREATED, "", ""], 1, 1),
         16,
         "",
         "fts: link failed\n",
@@ -103,10 +81,7 @@ const SUBMISSIONS: [SubmitRow; 7] = [
     ),
     (
         "a refusal",
-        DOCUMENT,
-        [NOT_JSON, CREATED, ""],
-        NO_DIAL,
-        3,
+        ([NOT_JSON, CREATED, ""], NO_DIAL, 3),
         15,
         "",
         "fts: service refused with 400\n",
@@ -114,10 +89,7 @@ const SUBMISSIONS: [SubmitRow; 7] = [
     ),
     (
         "no whole answer",
-        DOCUMENT,
-        [CUT, CUT, CUT],
-        NO_DIAL,
-        3,
+        ([CUT, CUT, CUT], NO_DIAL, 3),
         17,
         "",
         "fts: no whole answer\n",
@@ -125,41 +97,26 @@ const SUBMISSIONS: [SubmitRow; 7] = [
     ),
     (
         "a service without memory, and then with a failed disk",
-        DOCUMENT,
-        [NO_MEMORY, DISK_FAILED, CREATED],
-        NO_DIAL,
-        2,
+        ([NO_MEMORY, DISK_FAILED, CREATED], NO_DIAL, 2),
         18,
         "",
         "fts: service cannot serve: 503\n",
         2,
     ),
-    (
-        "more bytes behind the document's value",
-        "{} {}",
-        [CREATED, "", ""],
-        NO_DIAL,
-        3,
-        19,
-        "",
-        "fts: document rule 1\n",
-        0,
-    ),
 ];
 
 #[test]
 fn a_submission_tells_its_job_or_says_why_not(rt: HostRuntime) -> Result<(), Fail> {
-    for (case, document, answers, fail, tries, status, written, note, back) in SUBMISSIONS {
+    for (case, (answers, fail, tries), status, written, note, back) in SUBMISSIONS {
         if tries > 0 {
             let mut link = link(rt.alloc(), answers, fail)?;
-            let mut input = source(rt.alloc(), document, NEVER)?;
+            let mut input = source(rt.alloc(), DOCUMENT, NEVER)?;
             let mut output = sink(rt.alloc(), NEVER)?;
             let end = run_submit(rt.alloc(), PORT, tries, &mut input, &mut output, &mut link);
             let is_so = is_ended_so(rt.alloc(), end, &output, (status, written, note))?;
             assert!(rt; is_so, "{case}");
-            let port = if status == 19 { None } else { Some(PORT) };
             assert!(rt;
-                is_asked_so(&link, REQUEST, back, port),
+                is_asked_so(&link, REQUEST, back, Some(PORT)),
                 "{case}: the lines"
             );
         }
@@ -170,7 +127,7 @@ fn a_submission_tells_its_job_or_says_why_not(rt: HostRuntime) -> Result<(), Fai
 /// A row: a sentence, a document, and the note.
 type DocumentRow = (&'static str, &'static str, &'static str);
 
-const DOCUMENTS: [DocumentRow; 6] = [
+const DOCUMENTS: [DocumentRow; 7] = [
     ("no document", "", "fts: document rule 1\n"),
     ("a list", "[]", "fts: document rule 2\n"),
     (
@@ -192,6 +149,11 @@ const DOCUMENTS: [DocumentRow; 6] = [
         "a sid, and nothing of how the id is made",
         "{\"params\":{\"sid\":\"f1\"}}",
         "fts: document rule 24\n",
+    ),
+    (
+        "more bytes behind the document's value",
+        "{} {}",
+        "fts: document rule 1\n",
     ),
 ];
 
@@ -265,25 +227,10 @@ fn a_failing_input_or_output_is_told(rt: HostRuntime) -> Result<(), Fail> {
     Ok(())
 }
 
-/// A row: a sentence, the answers of three lines, the dial that fails, how many tries are allowed; the status, the output, the note, and how many
-/// lines came back.
-type QueryRow = (
-    &'static str,
-    [&'static str; 3],
-    u32,
-    u32,
-    u8,
-    &'static str,
-    &'static str,
-    usize,
-);
-
-const QUERIES: [QueryRow; 5] = [
+const QUERIES: [CommandRow; 5] = [
     (
         "a job is shown",
-        [SHOWN, "", ""],
-        NO_DIAL,
-        3,
+        ([SHOWN, "", ""], NO_DIAL, 3),
         0,
         "{\"job_state\":\"ACTIVE\"}\n",
         "",
@@ -291,9 +238,7 @@ const QUERIES: [QueryRow; 5] = [
     ),
     (
         "no such job",
-        [NOT_FOUND, SHOWN, ""],
-        NO_DIAL,
-        3,
+        ([NOT_FOUND, SHOWN, ""], NO_DIAL, 3),
         15,
         "",
         "fts: service refused with 404\n",
@@ -301,9 +246,7 @@ const QUERIES: [QueryRow; 5] = [
     ),
     (
         "more tries than lines",
-        [CUT, CUT, CUT],
-        NO_DIAL,
-        4,
+        ([CUT, CUT, CUT], NO_DIAL, 4),
         16,
         "",
         "fts: link failed\n",
@@ -311,9 +254,7 @@ const QUERIES: [QueryRow; 5] = [
     ),
     (
         "no whole answer",
-        [DISK_FAILED, CUT, SHOWN],
-        NO_DIAL,
-        2,
+        ([DISK_FAILED, CUT, SHOWN], NO_DIAL, 2),
         17,
         "",
         "fts: no whole answer\n",
@@ -321,9 +262,7 @@ const QUERIES: [QueryRow; 5] = [
     ),
     (
         "a service without memory",
-        [NO_MEMORY, SHOWN, ""],
-        NO_DIAL,
-        1,
+        ([NO_MEMORY, SHOWN, ""], NO_DIAL, 1),
         18,
         "",
         "fts: service cannot serve: 500\n",
@@ -333,7 +272,7 @@ const QUERIES: [QueryRow; 5] = [
 
 #[test]
 fn a_query_tells_its_job_or_says_why_not(rt: HostRuntime) -> Result<(), Fail> {
-    for (case, answers, fail, tries, status, written, note, back) in QUERIES {
+    for (case, (answers, fail, tries), status, written, note, back) in QUERIES {
         if tries > 0 {
             let mut link = link(rt.alloc(), answers, fail)?;
             let mut output = sink(rt.alloc(), NEVER)?;

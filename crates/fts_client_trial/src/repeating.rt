@@ -3,8 +3,9 @@
 ghost use Rattle.std.specs.Prelude.{◌≤◌};
 
 use crate::answers::{
-    CREATED, CUT, DISK_FAILED, DOCUMENT, DUPLICATE, JOB, NEVER, NO_DIAL, NO_MEMORY, NOT_FOUND,
-    NOT_JSON, PORT, QUERY, REQUEST, link, link_of_one,
+    CREATED, CUT, DISK_FAILED, DOCUMENT, DUPLICATE, JOB, NEVER, NO_DIAL, NO_ID, NO_MEMORY,
+    NOT_FOUND, NOT_JSON, NUMBER_FOR_ID, PORT, QUERY, REQUEST, SHORT_ID, SHOWN, Tries, link,
+    link_of_one,
 };
 use crate::commands::is_asked_so;
 use fts_client::{Link, MemoryLink, QueryEnd, SubmitEnd, Tried, query, submit, try_once};
@@ -22,133 +23,98 @@ const DONE_AGAIN: SubmitEnd = SubmitEnd::Done {
     again: true,
 };
 
-/// A row: a sentence, the answers of three lines, the dial that fails, how many tries are allowed, the end, and how many lines came back.
-type SubmitRow = (&'static str, [&'static str; 3], u32, u32, SubmitEnd, usize);
+/// A row: a sentence, the tries, the end, and how many lines came back.
+type SubmitRow = (&'static str, Tries, SubmitEnd, usize);
 
 const SUBMISSIONS: [SubmitRow; 16] = [
-    ("a job is made", [CREATED, "", ""], NO_DIAL, 3, DONE, 1),
+    ("a job is made", ([CREATED, "", ""], NO_DIAL, 3), DONE, 1),
     (
         "a job is there",
-        [DUPLICATE, "", ""],
-        NO_DIAL,
-        3,
+        ([DUPLICATE, "", ""], NO_DIAL, 3),
         DONE_AGAIN,
         1,
     ),
     (
         "an answer that is cut, and then the job is there",
-        [CUT, DUPLICATE, ""],
-        NO_DIAL,
-        3,
+        ([CUT, DUPLICATE, ""], NO_DIAL, 3),
         DONE_AGAIN,
         2,
     ),
     (
         "a refusal ends it",
-        [NOT_JSON, CREATED, ""],
-        NO_DIAL,
-        3,
+        ([NOT_JSON, CREATED, ""], NO_DIAL, 3),
         SubmitEnd::Refused { status: 400 },
         1,
     ),
     (
         "a service that can't serve, and then a job",
-        [DISK_FAILED, NO_MEMORY, CREATED],
-        NO_DIAL,
-        3,
+        ([DISK_FAILED, NO_MEMORY, CREATED], NO_DIAL, 3),
         DONE,
         3,
     ),
     (
         "a disk that failed to the last try",
-        [CUT, NO_MEMORY, DISK_FAILED],
-        NO_DIAL,
-        3,
+        ([CUT, NO_MEMORY, DISK_FAILED], NO_DIAL, 3),
         SubmitEnd::CannotServe { status: 503 },
         3,
     ),
     (
         "no memory at the last try",
-        [DISK_FAILED, NO_MEMORY, CREATED],
-        NO_DIAL,
-        2,
+        ([DISK_FAILED, NO_MEMORY, CREATED], NO_DIAL, 2),
         SubmitEnd::CannotServe { status: 500 },
         2,
     ),
     (
         "one try, and no line",
-        [CREATED, "", ""],
-        1,
-        1,
+        ([CREATED, "", ""], 1, 1),
         SubmitEnd::LinkFailed,
         0,
     ),
-    ("no line, and then a job", [CREATED, "", ""], 1, 2, DONE, 1),
+    (
+        "no line, and then a job",
+        ([CREATED, "", ""], 1, 2),
+        DONE,
+        1,
+    ),
     (
         "the last of three tries has no line",
-        [DISK_FAILED, CUT, CREATED],
-        3,
-        3,
+        ([DISK_FAILED, CUT, CREATED], 3, 3),
         SubmitEnd::LinkFailed,
         2,
     ),
     (
         "more tries than lines",
-        [CUT, CUT, CUT],
-        NO_DIAL,
-        4,
+        ([CUT, CUT, CUT], NO_DIAL, 4),
         SubmitEnd::LinkFailed,
         3,
     ),
     (
         "no byte at all",
-        ["", "", ""],
-        NO_DIAL,
-        3,
+        (["", "", ""], NO_DIAL, 3),
         SubmitEnd::NoAnswer,
         3,
     ),
     (
         "a cut answer at the last try",
-        [DISK_FAILED, CUT, CREATED],
-        NO_DIAL,
-        2,
+        ([DISK_FAILED, CUT, CREATED], NO_DIAL, 2),
         SubmitEnd::NoAnswer,
         2,
     ),
     (
         "an answer of 200 that names no job",
-        [
-            "HTTP/1.1 200 OK\r\nContent-Type: application/json\r\nContent-Length: 2\r\n\r\n{}",
-            "",
-            "",
-        ],
-        NO_DIAL,
-        1,
+        ([NO_ID, "", ""], NO_DIAL, 1),
         SubmitEnd::NoAnswer,
         1,
     ),
     (
         "an answer of 409 that names a number",
-        [
-            "HTTP/1.1 409 Conflict\r\nContent-Type: application/json\r\nContent-Length: 12\r\n\r\n{\"job_id\":7}",
-            "",
-            "",
-        ],
-        NO_DIAL,
-        1,
+        ([NUMBER_FOR_ID, "", ""], NO_DIAL, 1),
         SubmitEnd::NoAnswer,
         1,
     ),
     (
         "an answer of 409 whose id is no id",
-        [
-            "HTTP/1.1 409 Conflict\r\nContent-Type: application/json\r\nContent-Length: 17\r\n\r\n{\"job_id\":\"8b35\"}",
-            "",
-            "",
-        ],
-        NO_DIAL,
-        1,
+        ([SHORT_ID, "", ""], NO_DIAL, 1),
         SubmitEnd::NoAnswer,
         1,
     ),
@@ -184,7 +150,7 @@ fn is_submitted_so(
 
 #[test]
 fn a_submission_ends_by_its_answers(rt: HostRuntime) -> Result<(), Fail> {
-    for (case, answers, fail, tries, want, back) in SUBMISSIONS {
+    for (case, (answers, fail, tries), want, back) in SUBMISSIONS {
         if tries > 0 {
             let is_so = is_submitted_so(rt.alloc(), answers, fail, tries, want, back)?;
             assert!(rt; is_so, "{case}");
@@ -348,73 +314,49 @@ fn a_failing_read_or_write_is_the_link_s(rt: HostRuntime) -> Result<(), Fail> {
     Ok(())
 }
 
-/// A row: a sentence, the answers of three lines, the dial that fails, how many tries are allowed, the end, and the body that is held behind it.
-type QueryRow = (
-    &'static str,
-    [&'static str; 3],
-    u32,
-    u32,
-    QueryEnd,
-    &'static str,
-);
-
-const SHOWN: &str =
-    "HTTP/1.1 200 OK\r\nContent-Type: application/json\r\nContent-Length: 22\r\nConnection: close\r\n\r\n{\"job_state\":\"ACTIVE\"}";
+/// A row: a sentence, the tries, the end, and the body that is held behind it.
+type QueryRow = (&'static str, Tries, QueryEnd, &'static str);
 
 const QUERIES: [QueryRow; 7] = [
     (
         "a job is shown",
-        [SHOWN, "", ""],
-        NO_DIAL,
-        3,
+        ([SHOWN, "", ""], NO_DIAL, 3),
         QueryEnd::Found,
         "{\"job_state\":\"ACTIVE\"}",
     ),
     (
         "a job is shown behind a cut answer and a failed disk",
-        [CUT, DISK_FAILED, SHOWN],
-        NO_DIAL,
-        3,
+        ([CUT, DISK_FAILED, SHOWN], NO_DIAL, 3),
         QueryEnd::Found,
         "{\"job_state\":\"ACTIVE\"}",
     ),
     (
         "no such job",
-        [NOT_FOUND, SHOWN, ""],
-        NO_DIAL,
-        3,
+        ([NOT_FOUND, SHOWN, ""], NO_DIAL, 3),
         QueryEnd::Refused { status: 404 },
         "{\"message\":\"no job\",\"rule\":31,\"status\":404}",
     ),
     (
         "an answer that shows another thing is a refusal",
-        [DUPLICATE, "", ""],
-        NO_DIAL,
-        1,
+        ([DUPLICATE, "", ""], NO_DIAL, 1),
         QueryEnd::Refused { status: 409 },
         "{\"job_id\":\"8b35c5cc-fec2-5479-8778-9cbe6f137978\",\"message\":\"duplicate\",\"rule\":34,\"status\":409}",
     ),
     (
         "one try, and no line",
-        [SHOWN, "", ""],
-        1,
-        1,
+        ([SHOWN, "", ""], 1, 1),
         QueryEnd::LinkFailed,
         "",
     ),
     (
         "no memory at the last try",
-        [CUT, NO_MEMORY, SHOWN],
-        NO_DIAL,
-        2,
+        ([CUT, NO_MEMORY, SHOWN], NO_DIAL, 2),
         QueryEnd::CannotServe { status: 500 },
         "",
     ),
     (
         "a cut answer",
-        [CUT, CUT, CUT],
-        NO_DIAL,
-        3,
+        ([CUT, CUT, CUT], NO_DIAL, 3),
         QueryEnd::NoAnswer,
         "",
     ),
@@ -422,7 +364,7 @@ const QUERIES: [QueryRow; 7] = [
 
 #[test]
 fn a_query_ends_by_its_answers(rt: HostRuntime) -> Result<(), Fail> {
-    for (case, answers, fail, tries, want, body) in QUERIES {
+    for (case, (answers, fail, tries), want, body) in QUERIES {
         if tries > 0 {
             let mut link = link(rt.alloc(), answers, fail)?;
             let mut room = AnswerRoom::new(rt.alloc())?;

@@ -62,18 +62,14 @@ pub enum Kind {
     Replica,
 }
 
-/// A file: its job, its place in the job's list of files, the number of its path at both ends, and its link among those of as many ends.
-#[derive(Clone, Copy)]
-struct Planned {
-    job: u32,
-    index: u32,
-    path: u32,
-    link: u32,
-    ends: u32,
-}
+/// What a call answers that adds bytes.
+type Pushed = Result<(), AllocError>;
+
+/// The numbers of a source and of a destination.
+type Ends = (u32, u32);
 
 /// Adds pieces, one behind the other.
-fn push_all(bytes: &mut Vec<u8>, pieces: &[&[u8]]) -> Result<(), AllocError> {
+fn push_all(bytes: &mut Vec<u8>, pieces: &[&[u8]]) -> Pushed {
     for piece in pieces {
         bytes.extend_from_slice(piece)?;
     }
@@ -81,7 +77,7 @@ fn push_all(bytes: &mut Vec<u8>, pieces: &[&[u8]]) -> Result<(), AllocError> {
 }
 
 /// Adds a number below 16,384, as an entry spells it.
-fn push_number(bytes: &mut Vec<u8>, number: u32) -> Result<(), AllocError>
+fn push_number(bytes: &mut Vec<u8>, number: u32) -> Pushed
     requires { number < 16384 }
 {
     if number >= 128 {
@@ -105,31 +101,30 @@ fn digits(number: u32) -> u8
     }
 }
 
-/// A file of any size, behind its place in the list: the ends with the path, each text behind its length, and the activity.
-fn file_text(alloc: Global, file: Planned) -> Result<String, AllocError> {
-    let Planned {
-        job,
-        index,
-        path,
-        link,
-        ends,
-    } = file;
+/// The ends of a link, among those of as many ends.
+fn ends_of(link: u32, ends: u32) -> Ends {
     let ends = ends.clamp(1, MOST_ENDS);
-    let (source, dest) = (link % ends, link / ends % ends);
+    (link % ends, link / ends % ends)
+}
+
+/// A file of any size, behind its place in its job's list, which is also the number of its path: the ends with the path, each text behind its
+/// length, and the activity.
+fn file_text(alloc: Global, job: u32, index: u32, ends: Ends) -> Result<String, AllocError> {
+    let (source, dest) = ends;
     let (from, to) = (char::from(9 + digits(source)), char::from(9 + digits(dest)));
-    let at = char::from(6 + digits(job) + digits(path));
+    let at = char::from(6 + digits(job) + digits(index));
     let activity = ACTIVITIES[index as usize / 16 % 4];
     format!(in alloc;
-        "{from}https://s{source}{at}data/{job}/{path}{to}https://d{dest}{at}data/{job}/{path}\x00\x00{activity}"
+        "{from}https://s{source}{at}data/{job}/{index}{to}https://d{dest}{at}data/{job}/{index}\x00\x00{activity}"
     )
 }
 
-/// Adds a file.
-fn push_file(bytes: &mut Vec<u8>, alloc: Global, file: Planned) -> Result<(), AllocError>
-    requires { file.index < 16384 }
+/// Adds the file of a place in its job's list.
+fn push_file(bytes: &mut Vec<u8>, alloc: Global, job: u32, index: u32, ends: Ends) -> Pushed
+    requires { index < 16384 }
 {
-    push_number(bytes, file.index)?;
-    let text = file_text(alloc, file)?;
+    push_number(bytes, index)?;
+    let text = file_text(alloc, job, index, ends)?;
     bytes.extend_from_slice(text.as_bytes())
 }
 
@@ -143,7 +138,7 @@ fn link_of(job: u32, index: u32, links: u32) -> u32 {
 }
 
 /// Adds what stands before the kind of a job, whose files may wait for some hours or as long as it takes.
-fn push_submit(bytes: &mut Vec<u8>, hours: bool) -> Result<(), AllocError> {
+fn push_submit(bytes: &mut Vec<u8>, hours: bool) -> Pushed {
     if hours {
         bytes.extend_from_slice(SUBMIT_WITH_HOURS)
     } else {
@@ -152,30 +147,14 @@ fn push_submit(bytes: &mut Vec<u8>, hours: bool) -> Result<(), AllocError> {
 }
 
 /// Adds a plain job of `FILES` files. Links and priorities take turns.
-fn push_filling(
-    bytes: &mut Vec<u8>,
-    alloc: Global,
-    job: u32,
-    layout: Layout,
-) -> Result<(), AllocError> {
+fn push_filling(bytes: &mut Vec<u8>, alloc: Global, job: u32, layout: Layout) -> Pushed {
     let priority = (1 + job % layout.priorities.clamp(1, 5)) as u8;
     push_submit(bytes, layout.hours)?;
     push_all(bytes, &[&[0, 0, 0, priority], OPTIONS])?;
     push_number(bytes, FILES)?;
     for index in 0..FILES {
         let link = link_of(job, index, layout.links);
-        let (path, ends) = (index, layout.ends);
-        push_file(
-            bytes,
-            alloc,
-            Planned {
-                job,
-                index,
-                path,
-                link,
-                ends,
-            },
-        )?;
+        push_file(bytes, alloc, job, index, ends_of(link, layout.ends))?;
     }
     Ok(())
 }
@@ -188,7 +167,7 @@ pub fn filling(alloc: Global, job: u32, layout: Layout) -> io::Result<Entry> {
 }
 
 /// Adds what stands before the files of a job of a kind. The ids of jobs that follow each other lie far apart, above and below.
-fn push_kind(bytes: &mut Vec<u8>, job: u32, kind: Kind) -> Result<(), AllocError> {
+fn push_kind(bytes: &mut Vec<u8>, job: u32, kind: Kind) -> Pushed {
     let id = (job as u128 + 1).wrapping_mul(0xb504_f333_f9de_6484_597d_89b3_754a_be9f);
     match kind {
         Kind::Plain => push_all(bytes, &[SUBMIT, b"\x00\x00\x00\x03", OPTIONS, b"\x01"]),
@@ -208,28 +187,12 @@ fn push_kind(bytes: &mut Vec<u8>, job: u32, kind: Kind) -> Result<(), AllocError
 }
 
 /// Adds the first file of a job, over this link.
-fn push_first(bytes: &mut Vec<u8>, alloc: Global, job: u32, link: u32) -> Result<(), AllocError> {
-    let (index, path, ends) = (0, 0, ENDS);
-    push_file(
-        bytes,
-        alloc,
-        Planned {
-            job,
-            index,
-            path,
-            link,
-            ends,
-        },
-    )
+fn push_first(bytes: &mut Vec<u8>, alloc: Global, job: u32, link: u32) -> Pushed {
+    push_file(bytes, alloc, job, 0, ends_of(link, ENDS))
 }
 
 /// Adds a job of a kind.
-fn push_submission(
-    bytes: &mut Vec<u8>,
-    alloc: Global,
-    job: u32,
-    kind: Kind,
-) -> Result<(), AllocError> {
+fn push_submission(bytes: &mut Vec<u8>, alloc: Global, job: u32, kind: Kind) -> Pushed {
     push_kind(bytes, job, kind)?;
     match kind {
         Kind::Plain | Kind::WithId => push_first(bytes, alloc, job, job % 16),
@@ -248,7 +211,7 @@ pub fn submission(alloc: Global, job: u32, kind: Kind) -> io::Result<Entry> {
 }
 
 /// Adds endpoints whose names have ten bytes or eleven and begin alike.
-fn push_ends(bytes: &mut Vec<u8>, alloc: Global, begin: &str, ends: u32) -> Result<(), AllocError> {
+fn push_ends(bytes: &mut Vec<u8>, alloc: Global, begin: &str, ends: u32) -> Pushed {
     for end in 0..ends {
         let length = char::from(9 + digits(end));
         let name = format!(in alloc; "{length}{begin}{end}")?;
@@ -258,7 +221,7 @@ fn push_ends(bytes: &mut Vec<u8>, alloc: Global, begin: &str, ends: u32) -> Resu
 }
 
 /// Adds a restart with as many sources and destinations.
-fn push_restart(bytes: &mut Vec<u8>, alloc: Global, ends: u32) -> Result<(), AllocError> {
+fn push_restart(bytes: &mut Vec<u8>, alloc: Global, ends: u32) -> Pushed {
     let ends = ends.clamp(1, MOST_ENDS);
     push_all(bytes, &[RESTART])?;
     push_number(bytes, 2 * ends)?;

@@ -4,10 +4,9 @@ use super::{settings, started};
 use crate::clock;
 use crate::entries::{SUBMIT, entry};
 use crate::files::{self, FLOOR_PATH, JOURNAL_PATH};
-use crate::floor::{self, AROUND_BYTES, BATCH, Times};
+use crate::floor::{self, AROUND_BYTES, BATCH, Side, Times};
 use fts_disk::Disk;
 use fts_keep::Keep;
-use std::fs::File;
 use std::io;
 
 /// Has one submission accepted.
@@ -18,35 +17,23 @@ fn submit<D: Disk>(rt: &HostRuntime, keep: &mut Keep<D>) -> io::Result<()> {
     }
 }
 
-/// The seconds that a batch of submissions takes.
-fn submit_batch<D: Disk>(rt: &HostRuntime, keep: &mut Keep<D>) -> io::Result<f64> {
-    let begun = clock::now(rt);
-    for _ in 0..BATCH {
-        submit(rt, keep)?;
+impl<D: Disk> Side for Keep<D> {
+    /// Submissions.
+    fn batch(&mut self, rt: &HostRuntime) -> io::Result<f64> {
+        let begun = clock::now(rt);
+        for _ in 0..BATCH {
+            submit(rt, self)?;
+        }
+        Ok(clock::now(rt) - begun)
     }
-    Ok(clock::now(rt) - begun)
 }
 
-/// The seconds that so many calls of each side take, in turns.
-fn take_turns<D: Disk>(
-    rt: &HostRuntime,
-    keep: &mut Keep<D>,
-    file: &File,
-    count: u32,
-) -> io::Result<Times> {
-    let (mut ours, mut floor) = (0.0, 0.0);
-    for batch in 0..count / BATCH {
-        floor += floor::batch(rt, file, batch, &[0; SUBMIT.len() + AROUND_BYTES])?;
-        ours += submit_batch(rt, keep)?;
-    }
-    Ok(Times { ours, floor })
-}
-
-/// The same, on new files.
+/// The seconds that so many submissions of each side take, on new files.
 fn time_both(rt: &HostRuntime, count: u32) -> io::Result<Times> {
     let mut keep = started(rt, JOURNAL_PATH, settings(rt.alloc())?)?;
     let file = files::create(rt, FLOOR_PATH)?;
-    take_turns(rt, &mut keep, &file, count)
+    let piece = [0; SUBMIT.len() + AROUND_BYTES];
+    floor::take_turns(rt, &mut keep, &file, count, &piece)
 }
 
 /// Prints how many submissions a second are accepted, and how many the calls alone would allow.

@@ -1,10 +1,10 @@
-//! The entries of keeps: a Restart, and what an entry's bytes say.
+//! What several tests stand on: a Restart, what an entry's bytes say, and the numbers of calls that fail.
 ghost use Rattle.std.specs.Prelude.{IfOk, IsTrue};
 ghost use Rattle.fts_record.specs.Proper.{has_priority};
 
 use fts_record::read_entry;
 use fts_tables::{Command, Memory, Settings};
-use std::alloc::Global;
+use std::alloc::{AllocError, Global};
 
 /// Two endpoints, of which each link carries two files; the activity is `default`.
 pub const RESTART: &[u8] =
@@ -26,4 +26,13 @@ pub fn settings(alloc: Global) -> Result<Settings, Memory> {
         Command::Restart { now: _, settings } => Ok(settings),
         _ => Err(Memory),
     }
+}
+
+/// The numbers from one to another.
+pub fn numbers(alloc: Global, first: u32, last: u32) -> Result<Vec<u32>, AllocError> {
+    let mut numbers = Vec::new(alloc);
+    for number in first..=last {
+        numbers.push(number)?;
+    }
+    Ok(numbers)
 }

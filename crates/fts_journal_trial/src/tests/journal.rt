@@ -1,5 +1,6 @@
 //! Journals: worked bytes, calls with ample memory, every stop and every failing call of a run, and a real file.
 //! A run makes a journal and appends two bodies; its rows say what is opened afterwards, as written down by hand.
+use super::entries::numbers;
 use fts_disk::{Disk, FileDisk, MemoryDisk};
 use fts_journal::{Journal, JournalFault};
 use std::alloc::Global;
@@ -230,15 +231,6 @@ fn bytes_are_written_as_they_are_written_down(rt: HostRuntime) -> Result<(), Fai
         assert!(rt; is_written, "{case}");
     }
     Ok(())
-}
-
-/// The numbers from one to another.
-fn numbers(alloc: Global, first: u32, last: u32) -> Result<Vec<u32>, JournalFault> {
-    let mut numbers = Vec::new(alloc);
-    for number in first..=last {
-        numbers.push(number)?;
-    }
-    Ok(numbers)
 }
 
 /// Whether what a run left is opened with what it acknowledged, or with that and the body in doubt, whatever the rest became.

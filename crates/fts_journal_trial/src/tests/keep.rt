@@ -1,6 +1,6 @@
 //! Keeps: calls with ample memory, worked bytes, every failing call of a run, and every stop.
 //! A run starts a keep and has two submissions accepted; a file's size says which of them it is of.
-use super::entries::{command, settings};
+use super::entries::{command, numbers, settings};
 use fts_disk::MemoryDisk;
 use fts_keep::{Keep, KeepFault};
 use fts_tables::{Answer, FileState, Memory};
@@ -61,15 +61,6 @@ fn run(alloc: Global, fail: Vec<u32>) -> Result<Result<Ran, KeepFault>, Fail> {
         sizes,
         disk: keep.close(),
     }))
-}
-
-/// The numbers from one to another.
-fn numbers(alloc: Global, first: u32, last: u32) -> Result<Vec<u32>, AllocError> {
-    let mut numbers = Vec::new(alloc);
-    for number in first..=last {
-        numbers.push(number)?;
-    }
-    Ok(numbers)
 }
 
 /// Whether the disk is said to have failed exactly where a submission has no row.

@@ -252,119 +252,60 @@ fn breaks_at(alloc: Global, row: &BreakRow) -> Result<bool, AllocError> {
     Ok(place(alloc, &broken) == Some(row.4))
 }
 
-/// Each row's entry is broken at its place.
-fn are_broken(rt: &impl Abort, alloc: Global, rows: &[BreakRow]) -> Result<(), AllocError> {
-    for row in rows {
-        let is_broken = breaks_at(alloc, row)?;
-        assert!(rt; is_broken, "{}", row.0);
-    }
-    Ok(())
-}
-
-const JOB_HEADS: [BreakRow; 5] = [
+const BROKEN: [BreakRow; 37] = [
+    // The head of a job.
     ("a command byte past the last", SUBMIT, 1, 0x0c, 1),
     ("a moment with a needless byte", SUBMIT, 6, 0x00, 2),
     ("a kind past the last", SUBMIT, 7, 0x03, 7),
     ("a strategy past the last", SUBMIT, 8, 0x02, 8),
     ("an id behind the flag 02", SUBMIT, 9, 0x02, 9),
-];
-
-#[test]
-fn a_broken_head_of_a_job_is_named_by_its_place(rt: HostRuntime) -> Result<(), Fail> {
-    are_broken(&rt, rt.alloc(), &JOB_HEADS)?;
-    Ok(())
-}
-
-const JOB_NUMBERS: [BreakRow; 5] = [
+    // Its numbers.
     ("a priority past its range", SUBMIT, 26, 0x06, 26),
     ("a retry past its range", SUBMIT, 27, 0x0b, 27),
     ("a delay with a needless byte", SUBMIT, 29, 0x00, 28),
     ("a flag 02", SUBMIT, 30, 0x02, 30),
     ("no file", SUBMIT, 31, 0x00, 31),
-];
-
-#[test]
-fn a_broken_number_of_a_job_is_named_by_its_place(rt: HostRuntime) -> Result<(), Fail> {
-    are_broken(&rt, rt.alloc(), &JOB_NUMBERS)?;
-    Ok(())
-}
-
-const FILE_PLACES: [BreakRow; 5] = [
+    // The places of a file.
     ("a first file with index 1", SUBMIT, 32, 0x01, 7),
     ("a name that is no UTF-8", SUBMIT, 34, 0xff, 33),
     ("a name in capitals", SUBMIT, 34, 0x41, 33),
     ("a path that is a slash", SUBMIT, 40, 0x2f, 39),
     ("a file copied onto itself", SUBMIT, 48, 0x73, 7),
-];
-
-#[test]
-fn a_broken_place_of_a_file_is_named_by_its_place(rt: HostRuntime) -> Result<(), Fail> {
-    are_broken(&rt, rt.alloc(), &FILE_PLACES)?;
-    Ok(())
-}
-
-const FILE_ENDS: [BreakRow; 4] = [
+    // Its end.
     ("a size with a needless byte", SUBMIT, 50, 0x00, 49),
     ("a digest behind the flag 02", SUBMIT, 51, 0x02, 51),
     ("an activity past the end", SUBMIT, 68, 0x08, 68),
     ("a byte behind the last field", SUBMIT, 68, 0x06, 75),
-];
-
-#[test]
-fn a_broken_end_of_a_file_is_named_by_its_place(rt: HostRuntime) -> Result<(), Fail> {
-    are_broken(&rt, rt.alloc(), &FILE_ENDS)?;
-    Ok(())
-}
-
-const SETTINGS_HEADS: [BreakRow; 6] = [
+    // The head of settings.
     ("an empty VO", RESTART, 7, 0x00, 7),
     ("17 workers", RESTART, 12, 0x11, 12),
     ("no default limit", RESTART, 13, 0x00, 13),
     ("no endpoint", RESTART, 14, 0x00, 14),
     ("no inbound limit", RESTART, 21, 0x00, 21),
     ("an empty label", RESTART, 24, 0x00, 24),
-];
-
-#[test]
-fn a_broken_head_of_settings_is_named_by_its_place(rt: HostRuntime) -> Result<(), Fail> {
-    are_broken(&rt, rt.alloc(), &SETTINGS_HEADS)?;
-    Ok(())
-}
-
-const LINKS_AND_ACTIVITIES: [BreakRow; 5] = [
+    // Their links and activities.
     ("a link from an unknown endpoint", RESTART, 31, 0x62, 7),
     ("a link without a limit", RESTART, 38, 0x00, 38),
     ("65 activities", RESTART, 39, 0x41, 39),
     ("no default activity", RESTART, 41, 0x44, 7),
     ("no weight", RESTART, 48, 0x00, 48),
-];
-
-#[test]
-fn a_broken_link_or_activity_is_named_by_its_place(rt: HostRuntime) -> Result<(), Fail> {
-    are_broken(&rt, rt.alloc(), &LINKS_AND_ACTIVITIES)?;
-    Ok(())
-}
-
-const OUTCOMES: [BreakRow; 1] = [("an outcome past the last", REPORT, 9, 0x08, 9)];
-
-#[test]
-fn a_broken_outcome_is_named_by_its_place(rt: HostRuntime) -> Result<(), Fail> {
-    are_broken(&rt, rt.alloc(), &OUTCOMES)?;
-    Ok(())
-}
-
-const BANS: [BreakRow; 6] = [
+    // An outcome.
+    ("an outcome past the last", REPORT, 9, 0x08, 9),
+    // Bans and hours.
     ("a name past the end", BAN, 7, 0x13, 7),
-    ("a name in capitals", BAN, 8, 0x48, 7),
-    ("a flag 02", BAN, 25, 0x02, 25),
+    ("a ban of a name in capitals", BAN, 8, 0x48, 7),
+    ("a ban with a flag 02", BAN, 25, 0x02, 25),
     ("an empty name", UNBAN, 7, 0x00, 7),
     ("a byte behind the name", UNBAN, 7, 0x10, 24),
     ("no hours", LIMITED_SUBMIT, 7, 0x00, 7),
 ];
 
 #[test]
-fn a_broken_ban_is_named_by_its_place(rt: HostRuntime) -> Result<(), Fail> {
-    are_broken(&rt, rt.alloc(), &BANS)?;
+fn a_broken_field_is_named_by_its_place(rt: HostRuntime) -> Result<(), Fail> {
+    for row in &BROKEN {
+        let is_broken = breaks_at(rt.alloc(), row)?;
+        assert!(rt; is_broken, "{}", row.0);
+    }
     Ok(())
 }
 

@@ -13,10 +13,19 @@ use std::test::Fail;
 /// The folder of all stores. Each script begins without it.
 pub(crate) const ROOT: &str = "grid";
 
-/// The endpoint of all places; its own folder is `grid/https:,,b.example:8443`.
+/// The endpoint of all places.
 pub(crate) const ENDPOINT: &str = "https://b.example:8443";
 
 pub(crate) const PART: &str = ".fts/part-1";
+
+/// The endpoint's own folder, the folder of its parts, that part, and a destination, as the system names them.
+pub(crate) const OWN: &str = "grid/https:,,b.example:8443";
+
+pub(crate) const PARTS: &str = "grid/https:,,b.example:8443/.fts";
+
+pub(crate) const OWN_PART: &str = "grid/https:,,b.example:8443/.fts/part-1";
+
+pub(crate) const DEST: &str = "grid/https:,,b.example:8443/d";
 
 /// Who does what a step says: one of the stores over the grid, or the system.
 #[derive(Clone, Copy)]

@@ -6,7 +6,7 @@ use super::deeds::Act::{
 };
 use super::deeds::Said::{Done, Failed, Nothing};
 use super::grid::Who::{Beside, One};
-use super::grid::{Asked, ENDPOINT, PART, Row, ask_all, play};
+use super::grid::{Asked, DEST, ENDPOINT, OWN_PART, PART, PARTS, Row, ask_all, play};
 use fts_store::{MemoryStore, StoredFile};
 use fts_tables::{Items, Memory};
 use std::alloc::Global;
@@ -35,23 +35,11 @@ fn holding(alloc: Global, fail: &[u32], drop: &[u32]) -> Result<MemoryStore, Mem
 
 const EACH_CALL: [Asked; 12] = [
     ("a file has its size", Size, "data/f1", "abc", Done),
-    (
-        "a place without one has none",
-        Size,
-        "store/f1",
-        "",
-        Nothing,
-    ),
+    ("another place has none", Size, "store/f1", "", Nothing),
     ("a part is made", Create, "part", "", Done),
     ("it is extended", Append, "part", "ab", Done),
     ("and once more", Append, "part", "cd", Done),
-    (
-        "it is read from its second byte on",
-        ReadOn,
-        "part",
-        "bcd",
-        Done,
-    ),
+    ("it is read behind one byte", ReadOn, "part", "bcd", Done),
     ("it replaces the file", Rename, "part", "data/f1", Done),
     ("no part is left", Size, "part", "", Nothing),
     ("the file has its size", Size, "data/f1", "abcd", Done),
@@ -112,20 +100,15 @@ fn calls_that_no_number_lists_are_done(rt: HostRuntime) -> Result<(), Fail> {
     Ok(())
 }
 
+const BELOW: &str = "grid/https:,,b.example:8443/a/b/c";
+
 /// What is moved: a part of two pieces, which is read from its second byte on.
 const MOVED: [Row; 27] = [
     ("a part is made", One, Create, PART, "", Done),
     ("it gets a piece", One, Append, PART, "abc", Done),
     ("and another", One, Append, PART, "d", Done),
     ("it is read", One, ReadOn, PART, "bcd", Done),
-    (
-        "folders are made, and it is moved",
-        One,
-        Rename,
-        PART,
-        "a/b/c",
-        Done,
-    ),
+    ("it moves to new folders", One, Rename, PART, "a/b/c", Done),
     ("it has its size", One, Size, "a/b/c", "abcd", Done),
     ("nothing is behind it", One, End, "a/b/c", "abcd", Done),
     ("no part is left", One, Size, PART, "", Nothing),
@@ -133,44 +116,16 @@ const MOVED: [Row; 27] = [
     ("the second gets a piece", One, Append, PART, "efg", Done),
     ("the second gets another", One, Append, PART, "h", Done),
     ("the second is read", One, ReadOn, PART, "fgh", Done),
-    (
-        "the second replaces the first",
-        One,
-        Rename,
-        PART,
-        "a/b/c",
-        Done,
-    ),
+    ("the second replaces it", One, Rename, PART, "a/b/c", Done),
     ("the second has its size", One, Size, "a/b/c", "abcd", Done),
-    (
-        "nothing is behind the second",
-        One,
-        End,
-        "a/b/c",
-        "abcd",
-        Done,
-    ),
+    ("nothing is behind it now", One, End, "a/b/c", "abcd", Done),
     ("no second part is left", One, Size, PART, "", Nothing),
-    (
-        "the second one is held",
-        Beside,
-        Holds,
-        "grid/https:,,b.example:8443/a/b/c",
-        "efgh",
-        Done,
-    ),
+    ("the second one is held", Beside, Holds, BELOW, "efgh", Done),
     ("a third one is made", One, Create, PART, "", Done),
     ("the third gets a piece", One, Append, PART, "ijk", Done),
     ("the third gets another", One, Append, PART, "l", Done),
     ("the third is read", One, ReadOn, PART, "jkl", Done),
-    (
-        "it is moved into the endpoint's own folder",
-        One,
-        Rename,
-        PART,
-        "d",
-        Done,
-    ),
+    ("it moves to the top folder", One, Rename, PART, "d", Done),
     ("the third has its size", One, Size, "d", "abcd", Done),
     ("nothing is behind the third", One, End, "d", "abcd", Done),
     ("no third part is left", One, Size, PART, "", Nothing),
@@ -194,73 +149,24 @@ const NO_FILES: [Row; 22] = [
     ("a folder is there", One, Size, "a", "", Failed),
     ("a folder is no file", One, Refuse, "a", "", Done),
     ("a folder isn't removed", One, Remove, "a", "", Failed),
-    (
-        "a part of the path is a file",
-        One,
-        Size,
-        "a/file/b",
-        "",
-        Nothing,
-    ),
-    (
-        "nothing is made below a file",
-        One,
-        Refuse,
-        "a/file/b",
-        "",
-        Done,
-    ),
+    ("its folder is a file", One, Size, "a/file/b", "", Nothing),
+    ("nothing is made in it", One, Refuse, "a/file/b", "", Done),
     ("nothing is below a file", One, Remove, "a/file/b", "", Done),
     ("a name that is too long", One, Size, LONG, "", Failed),
     ("it names no file", One, Refuse, LONG, "", Done),
     ("it isn't removed", One, Remove, LONG, "", Failed),
-    (
-        "a path that leaves the folder",
-        One,
-        Size,
-        "../x",
-        "",
-        Failed,
-    ),
+    ("a path out of the folder", One, Size, "../x", "", Failed),
     ("it leads to no file", One, Refuse, "../x", "", Done),
-    (
-        "nothing outside is removed",
-        One,
-        Remove,
-        "../x",
-        "",
-        Failed,
-    ),
+    ("nothing there is removed", One, Remove, "../x", "", Failed),
     ("an empty part", One, Size, "a//b", "", Failed),
     ("a path with it is no file's", One, Refuse, "a//b", "", Done),
     ("nothing is removed by it", One, Remove, "a//b", "", Failed),
     ("no such name", One, Size, "b", "", Nothing),
     ("the file is as it was", One, Size, "a/file", "", Done),
     ("a folder isn't moved", One, Rename, "a", "b", Failed),
-    (
-        "nor is what isn't being written",
-        One,
-        Rename,
-        "a/file",
-        "b",
-        Failed,
-    ),
-    (
-        "what isn't there isn't extended",
-        One,
-        Append,
-        "b",
-        "x",
-        Failed,
-    ),
-    (
-        "nor is what isn't being written",
-        One,
-        Append,
-        "a/file",
-        "x",
-        Failed,
-    ),
+    ("nor is a whole file", One, Rename, "a/file", "b", Failed),
+    ("what isn't there can't grow", One, Append, "b", "x", Failed),
+    ("nor can a whole file", One, Append, "a/file", "x", Failed),
 ];
 
 #[test]
@@ -268,102 +174,32 @@ fn a_folder_refuses_what_is_no_file_of_its_own(rt: HostRuntime) -> Result<(), Fa
     play(&rt, &NO_FILES)
 }
 
-const HELD: &str = "grid/https:,,b.example:8443/d";
+const OUTSIDE: &str = "grid/outside";
 
 /// The part is a link to a file outside of the folder at first.
 const MADE_ANEW: [Row; 22] = [
-    (
-        "the folder of parts",
-        Beside,
-        Folder,
-        "grid/https:,,b.example:8443/.fts",
-        "",
-        Done,
-    ),
-    ("a file outside", Beside, File, "grid/outside", "kept", Done),
-    (
-        "a link to it",
-        Beside,
-        Link,
-        "../../outside",
-        "grid/https:,,b.example:8443/.fts/part-1",
-        Done,
-    ),
+    ("the folder of parts", Beside, Folder, PARTS, "", Done),
+    ("a file outside", Beside, File, OUTSIDE, "kept", Done),
+    ("a link", Beside, Link, "../../outside", OWN_PART, Done),
     ("nothing is at the destination", One, Size, "d", "", Nothing),
-    (
-        "a part is made in the link's place",
-        One,
-        Create,
-        PART,
-        "",
-        Done,
-    ),
+    ("a part takes the link's place", One, Create, PART, "", Done),
     ("it is extended", One, Append, PART, "abcd", Done),
-    (
-        "nothing was there, and nothing is",
-        One,
-        Rename,
-        PART,
-        "d",
-        Done,
-    ),
-    ("it is held", Beside, Holds, HELD, "abcd", Done),
-    ("it is taken away", Beside, Unlink, HELD, "", Done),
-    (
-        "nothing is at the destination again",
-        One,
-        Size,
-        "d",
-        "",
-        Nothing,
-    ),
+    ("there was and is nothing", One, Rename, PART, "d", Done),
+    ("it is held", Beside, Holds, DEST, "abcd", Done),
+    ("it is taken away", Beside, Unlink, DEST, "", Done),
+    ("nothing is there again", One, Size, "d", "", Nothing),
     ("another part is made", One, Create, PART, "", Done),
     ("the other is extended", One, Append, PART, "abcd", Done),
-    (
-        "a file appears at the destination",
-        Beside,
-        File,
-        HELD,
-        "other",
-        Done,
-    ),
-    (
-        "nothing was there, and a file is now",
-        One,
-        Rename,
-        PART,
-        "d",
-        Failed,
-    ),
-    ("that file is kept", Beside, Holds, HELD, "other", Done),
-    (
-        "the link's target is kept",
-        Beside,
-        Holds,
-        "grid/outside",
-        "kept",
-        Done,
-    ),
+    ("a file appears there", Beside, File, DEST, "other", Done),
+    ("there was nothing before", One, Rename, PART, "d", Failed),
+    ("that file is kept", Beside, Holds, DEST, "other", Done),
+    ("the target is kept", Beside, Holds, OUTSIDE, "kept", Done),
     ("a look at the file", One, Size, "d", "abcde", Done),
     ("a third part is made", One, Create, PART, "", Done),
     ("the third is extended", One, Append, PART, "abcd", Done),
-    (
-        "a file that was seen is replaced",
-        One,
-        Rename,
-        PART,
-        "d",
-        Done,
-    ),
+    ("what was seen is replaced", One, Rename, PART, "d", Done),
     ("by that part", One, Size, "d", "abcd", Done),
-    (
-        "the target is kept still",
-        Beside,
-        Holds,
-        "grid/outside",
-        "kept",
-        Done,
-    ),
+    ("the target stays", Beside, Holds, OUTSIDE, "kept", Done),
 ];
 
 #[test]

@@ -7,74 +7,33 @@ use super::deeds::Act::{
 use super::deeds::Said::{Done, Failed, Nothing};
 use super::deeds::{Deed, do_all, has_rights, have_rights, holds};
 use super::grid::Who::{Beside, One, Other};
-use super::grid::{PART, Row, clear, go_on, is_put, play, refusing, store_of};
+use super::grid::{
+    DEST, OWN, OWN_PART, PART, PARTS, Row, clear, go_on, is_put, play, refusing, store_of,
+};
 use fts_store::Store;
 use std::alloc::{Alloc, Global};
 use std::fs::{self, Files};
 use std::process::Abort;
 use std::test::Fail;
 
+const F1: &str = "grid/https:,,b.example:8443/f1";
+
+const F2: &str = "grid/https:,,b.example:8443/f2";
+
+const F3: &str = "grid/https:,,b.example:8443/f3";
+
 const TWO_STORES: [Row; 11] = [
     ("one writes its part", One, Write, "f1", "one", Done),
-    (
-        "the other doesn't get a part that is held",
-        Other,
-        Create,
-        PART,
-        "",
-        Failed,
-    ),
-    (
-        "nor does it take the name of that part away",
-        Other,
-        Remove,
-        PART,
-        "",
-        Failed,
-    ),
-    (
-        "what it tried changes nothing of the first",
-        One,
-        Rename,
-        PART,
-        "f1",
-        Done,
-    ),
+    ("the other can't make it", Other, Create, PART, "", Failed),
+    ("nor take its name away", Other, Remove, PART, "", Failed),
+    ("that changed nothing", One, Rename, PART, "f1", Done),
     ("now it has the name", Other, Put, "f2", "other", Done),
-    (
-        "the first destination holds its own",
-        Beside,
-        Holds,
-        "grid/https:,,b.example:8443/f1",
-        "one",
-        Done,
-    ),
-    (
-        "so does the other",
-        Beside,
-        Holds,
-        "grid/https:,,b.example:8443/f2",
-        "other",
-        Done,
-    ),
+    ("the first has its own", Beside, Holds, F1, "one", Done),
+    ("so has the other", Beside, Holds, F2, "other", Done),
     ("a part is left", One, Write, "f3", "again", Done),
     ("a look lets it go", One, Size, "f3", "", Nothing),
-    (
-        "a part that nobody holds is made anew",
-        Other,
-        Put,
-        "f3",
-        "taken",
-        Done,
-    ),
-    (
-        "by that one",
-        Beside,
-        Holds,
-        "grid/https:,,b.example:8443/f3",
-        "taken",
-        Done,
-    ),
+    ("a free part is made anew", Other, Put, "f3", "taken", Done),
+    ("by that one", Beside, Holds, F3, "taken", Done),
 ];
 
 #[test]
@@ -84,65 +43,19 @@ fn two_stores_over_one_grid_keep_their_parts_apart(rt: HostRuntime) -> Result<()
 
 const OTHER: &str = "grid/other";
 
-const OWN_PART: &str = "grid/https:,,b.example:8443/.fts/part-1";
-
-const DEST: &str = "grid/https:,,b.example:8443/d";
-
 const SWAPPED: [Row; 13] = [
     ("the folder is made", One, Create, "x", "", Done),
     ("a part is read back", One, Write, "d", "abcd", Done),
     ("another file is made", Beside, File, OTHER, "other", Done),
-    (
-        "it is put in the part's place",
-        Beside,
-        Move,
-        OTHER,
-        OWN_PART,
-        Done,
-    ),
-    (
-        "nothing is at the destination",
-        One,
-        Rename,
-        PART,
-        "d",
-        Failed,
-    ),
+    ("it replaces the part", Beside, Move, OTHER, OWN_PART, Done),
+    ("the destination is free", One, Rename, PART, "d", Failed),
     ("nothing is put there", Beside, Find, DEST, "", Nothing),
     ("another part is made", One, Create, "x", "", Done),
-    (
-        "something is at the destination",
-        Beside,
-        File,
-        DEST,
-        "there",
-        Done,
-    ),
+    ("a destination is there", Beside, File, DEST, "there", Done),
     ("a second part is read back", One, Write, "d", "abcd", Done),
-    (
-        "another file is made again",
-        Beside,
-        File,
-        OTHER,
-        "other",
-        Done,
-    ),
-    (
-        "it is put in the second part's place",
-        Beside,
-        Move,
-        OTHER,
-        OWN_PART,
-        Done,
-    ),
-    (
-        "what is at the destination may be replaced",
-        One,
-        Rename,
-        PART,
-        "d",
-        Failed,
-    ),
+    ("another is made again", Beside, File, OTHER, "other", Done),
+    ("it replaces that part", Beside, Move, OTHER, OWN_PART, Done),
+    ("a replacement fails too", One, Rename, PART, "d", Failed),
     ("it is kept", Beside, Holds, DEST, "there", Done),
 ];
 
@@ -208,8 +121,6 @@ fn a_move_that_failed_leaves_no_name_and_is_made_again(rt: HostRuntime) -> Resul
     Ok(())
 }
 
-const OWN: &str = "grid/https:,,b.example:8443";
-
 const AWAY: &str = "grid/away";
 
 const GOES_AWAY: [Row; 18] = [
@@ -230,14 +141,7 @@ const GOES_AWAY: [Row; 18] = [
     ("the other device goes away", Beside, Unlink, OWN, "", Done),
     ("the folder comes back", Beside, Move, AWAY, OWN, Done),
     ("it is served again", One, Put, "d", "abcd", Done),
-    (
-        "the first file is there",
-        Beside,
-        Holds,
-        "grid/https:,,b.example:8443/f1",
-        "abcd",
-        Done,
-    ),
+    ("the first file is there", Beside, Holds, F1, "abcd", Done),
 ];
 
 #[test]
@@ -268,150 +172,53 @@ fn a_replaced_file_leaves_its_rights(rt: HostRuntime) -> Result<(), Fail> {
     Ok(())
 }
 
+const PART_2: &str = "grid/https:,,b.example:8443/.fts/part-2";
+
+const PART_20: &str = "grid/https:,,b.example:8443/.fts/part-20";
+
+const PART_3: &str = "grid/https:,,b.example:8443/.fts/part-3";
+
+const PART_4: &str = "grid/https:,,b.example:8443/.fts/part-4";
+
+const NO_PART: &str = "grid/https:,,b.example:8443/.fts/other";
+
+const NO_NUMBER: &str = "grid/https:,,b.example:8443/.fts/part-";
+
+const PART_2X: &str = "grid/https:,,b.example:8443/.fts/part-2x";
+
+const NO_HYPHEN: &str = "grid/https:,,b.example:8443/.fts/part";
+
+const X_PART_2: &str = "grid/https:,,b.example:8443/.fts/xpart-2";
+
 /// A folder of parts, with what may stand there.
 const FILL: [Deed; 11] = [
-    (
-        "the folder of parts",
-        Folder,
-        "grid/https:,,b.example:8443/.fts/part-3",
-        "",
-    ),
+    ("the folder of parts", Folder, PART_3, ""),
     ("an empty folder", Folder, "grid/empty", ""),
     ("a file in the root", File, "grid/part-5", "a"),
-    (
-        "a part",
-        File,
-        "grid/https:,,b.example:8443/.fts/part-2",
-        "a",
-    ),
-    (
-        "another",
-        File,
-        "grid/https:,,b.example:8443/.fts/part-20",
-        "a",
-    ),
-    (
-        "what is none",
-        File,
-        "grid/https:,,b.example:8443/.fts/other",
-        "a",
-    ),
-    (
-        "no number",
-        File,
-        "grid/https:,,b.example:8443/.fts/part-",
-        "a",
-    ),
-    (
-        "more than one",
-        File,
-        "grid/https:,,b.example:8443/.fts/part-2x",
-        "a",
-    ),
-    (
-        "no hyphen",
-        File,
-        "grid/https:,,b.example:8443/.fts/part",
-        "a",
-    ),
-    (
-        "a letter before",
-        File,
-        "grid/https:,,b.example:8443/.fts/xpart-2",
-        "a",
-    ),
-    (
-        "a link",
-        Link,
-        "other",
-        "grid/https:,,b.example:8443/.fts/part-4",
-    ),
+    ("a part", File, PART_2, "a"),
+    ("another", File, PART_20, "a"),
+    ("what is none", File, NO_PART, "a"),
+    ("no number", File, NO_NUMBER, "a"),
+    ("more than one", File, PART_2X, "a"),
+    ("no hyphen", File, NO_HYPHEN, "a"),
+    ("a letter before", File, X_PART_2, "a"),
+    ("a link", Link, "other", PART_4),
 ];
 
 const SWEPT: [Row; 18] = [
     ("a part is held", One, Write, "f1", "held", Done),
     ("the first sweep", Other, Sweep, "", "", Done),
     ("what is held is left", Beside, Find, OWN_PART, "", Done),
-    (
-        "a part is swept",
-        Beside,
-        Find,
-        "grid/https:,,b.example:8443/.fts/part-2",
-        "",
-        Nothing,
-    ),
-    (
-        "so is another",
-        Beside,
-        Find,
-        "grid/https:,,b.example:8443/.fts/part-20",
-        "",
-        Nothing,
-    ),
-    (
-        "a folder is left",
-        Beside,
-        Find,
-        "grid/https:,,b.example:8443/.fts/part-3",
-        "",
-        Done,
-    ),
-    (
-        "a link is left",
-        Beside,
-        Find,
-        "grid/https:,,b.example:8443/.fts/part-4",
-        "",
-        Done,
-    ),
-    (
-        "what is none is left",
-        Beside,
-        Find,
-        "grid/https:,,b.example:8443/.fts/other",
-        "",
-        Done,
-    ),
-    (
-        "no number is left",
-        Beside,
-        Find,
-        "grid/https:,,b.example:8443/.fts/part-",
-        "",
-        Done,
-    ),
-    (
-        "more than one is left",
-        Beside,
-        Find,
-        "grid/https:,,b.example:8443/.fts/part-2x",
-        "",
-        Done,
-    ),
-    (
-        "no hyphen is left",
-        Beside,
-        Find,
-        "grid/https:,,b.example:8443/.fts/part",
-        "",
-        Done,
-    ),
-    (
-        "a letter before is left",
-        Beside,
-        Find,
-        "grid/https:,,b.example:8443/.fts/xpart-2",
-        "",
-        Done,
-    ),
-    (
-        "no part lies in the root itself",
-        Beside,
-        Find,
-        "grid/part-5",
-        "",
-        Done,
-    ),
+    ("a part is swept", Beside, Find, PART_2, "", Nothing),
+    ("so is another", Beside, Find, PART_20, "", Nothing),
+    ("a folder is left", Beside, Find, PART_3, "", Done),
+    ("a link is left", Beside, Find, PART_4, "", Done),
+    ("what is none is left", Beside, Find, NO_PART, "", Done),
+    ("no number is left", Beside, Find, NO_NUMBER, "", Done),
+    ("more than one is left", Beside, Find, PART_2X, "", Done),
+    ("no hyphen is left", Beside, Find, NO_HYPHEN, "", Done),
+    ("a letter before is left", Beside, Find, X_PART_2, "", Done),
+    ("the root's is left", Beside, Find, "grid/part-5", "", Done),
     ("what is held is whole", One, Rename, PART, "f1", Done),
     ("another is left", One, Write, "f2", "left", Done),
     ("by a look", One, Size, "f2", "", Nothing),
@@ -430,9 +237,8 @@ fn a_sweep_takes_what_no_run_holds(rt: HostRuntime) -> Result<(), Fail> {
 
 /// Whether one of two parts at most is left, and each other file.
 fn is_one_left_at_most<R: Files<File = fs::File>>(rt: &R) -> bool {
-    let is_one = is_gone(rt, "grid/https:,,b.example:8443/.fts/part-2")
-        || is_gone(rt, "grid/https:,,b.example:8443/.fts/part-20");
-    is_one && !is_gone(rt, "grid/https:,,b.example:8443/.fts/other")
+    let is_one = is_gone(rt, PART_2) || is_gone(rt, PART_20);
+    is_one && !is_gone(rt, NO_PART)
 }
 
 /// Whether a sweep is done where this call is refused.
@@ -466,50 +272,15 @@ fn a_refused_call_leaves_one_part_at_most(rt: HostRuntime) -> Result<(), Fail> {
 
 const MET: [Row; 10] = [
     ("the endpoint's own folder", Beside, Folder, OWN, "", Done),
-    (
-        "a file beside it",
-        Beside,
-        File,
-        "grid/a-file",
-        "no folder",
-        Done,
-    ),
+    ("a file", Beside, File, "grid/a-file", "no folder", Done),
     ("a store looks at all folders", Other, Meet, "", "", Done),
-    (
-        "the folder goes away",
-        Beside,
-        Move,
-        OWN,
-        "grid/moved",
-        Done,
-    ),
-    (
-        "what it met and is gone is not made anew",
-        Other,
-        Create,
-        PART,
-        "",
-        Failed,
-    ),
+    ("the folder goes away", Beside, Move, OWN, AWAY, Done),
+    ("what is gone isn't made", Other, Create, PART, "", Failed),
     ("nor told as empty", Other, Size, "f1", "", Failed),
     ("it is still gone", Beside, Find, OWN, "", Nothing),
-    (
-        "the folder comes back",
-        Beside,
-        Move,
-        "grid/moved",
-        OWN,
-        Done,
-    ),
+    ("the folder comes back", Beside, Move, AWAY, OWN, Done),
     ("it is served again", Other, Put, "f1", "abcd", Done),
-    (
-        "a store that met nothing makes what it needs",
-        One,
-        Put,
-        "f2",
-        "ab",
-        Done,
-    ),
+    ("one that met none makes it", One, Put, "f2", "ab", Done),
 ];
 
 #[test]
@@ -518,14 +289,7 @@ fn a_store_that_met_all_misses_a_folder_that_went_away(rt: HostRuntime) -> Resul
 }
 
 const SHUT_PART: [Row; 8] = [
-    (
-        "the folder of parts",
-        Beside,
-        Folder,
-        "grid/https:,,b.example:8443/.fts",
-        "",
-        Done,
-    ),
+    ("the folder of parts", Beside, Folder, PARTS, "", Done),
     ("a part is left", Beside, File, OWN_PART, "left", Done),
     ("it may only be read", Beside, Shut, OWN_PART, "", Done),
     ("a part is made in its place", One, Put, "f1", "abcd", Done),

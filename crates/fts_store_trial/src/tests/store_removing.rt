@@ -4,7 +4,7 @@ use super::deeds::Act::{File, Find, Folder, Link, Remove, Size, Unlink};
 use super::deeds::Said::{Done, Failed, Nothing};
 use super::deeds::{Act, Deed, Said, do_act, do_all};
 use super::grid::Who::{Beside, Deleting, One};
-use super::grid::{Row, ask, clear, go_on, play, refusing_to_delete};
+use super::grid::{OWN_PART, PARTS, Row, ask, clear, go_on, play, refusing_to_delete};
 use std::alloc::{Alloc, Global};
 use std::fs::{self, Files};
 use std::process::Abort;
@@ -14,35 +14,25 @@ const FILE: &str = "grid/https:,,b.example:8443/f";
 
 const LOWER_FILE: &str = "grid/https:,,b.example:8443/a/b/f";
 
-const LINK: &str = "grid/https:,,b.example:8443/to-a-file";
+const LINK: &str = "grid/https:,,b.example:8443/out-f";
 
-const FOLDER_LINK: &str = "grid/https:,,b.example:8443/to-a-folder";
+const FOLDER_LINK: &str = "grid/https:,,b.example:8443/out";
 
-const SIBLING_LINK: &str = "grid/https:,,b.example:8443/to-a-sibling";
+const SIBLING_LINK: &str = "grid/https:,,b.example:8443/to-f";
 
-const PART: &str = "grid/https:,,b.example:8443/.fts/part-1";
+const LOWER: &str = "grid/https:,,b.example:8443/a/b";
 
 const BESIDE_PARTS: &str = "grid/https:,,b.example:8443/.fts/other";
 
 /// Files in folders and links to some of them; one file and its folder are outside of the endpoint's own.
 const FILL: [Deed; 11] = [
     ("a folder outside", Folder, "grid/outside", ""),
-    (
-        "two folders above each other",
-        Folder,
-        "grid/https:,,b.example:8443/a/b",
-        "",
-    ),
-    (
-        "that of the parts",
-        Folder,
-        "grid/https:,,b.example:8443/.fts",
-        "",
-    ),
+    ("two folders above each other", Folder, LOWER, ""),
+    ("that of the parts", Folder, PARTS, ""),
     ("a file outside", File, "grid/outside/f", "out"),
     ("a file", File, FILE, "abc"),
     ("a file in folders", File, LOWER_FILE, "abc"),
-    ("a part", File, PART, "abc"),
+    ("a part", File, OWN_PART, "abc"),
     ("a file beside it", File, BESIDE_PARTS, "abc"),
     ("a link to the file outside", Link, "../outside/f", LINK),
     ("a link to its folder", Link, "../outside", FOLDER_LINK),
@@ -56,12 +46,7 @@ const OTHERS: [Deed; 6] = [
     ("the link to its folder is left", Find, FOLDER_LINK, ""),
     ("the link to a file is left", Find, SIBLING_LINK, ""),
     ("the file beside the parts is left", Find, BESIDE_PARTS, ""),
-    (
-        "the folders are left",
-        Find,
-        "grid/https:,,b.example:8443/a/b",
-        "",
-    ),
+    ("the folders are left", Find, LOWER, ""),
 ];
 
 /// Takes these steps over the filled grid, behind which all others are left.
@@ -81,15 +66,8 @@ const A_FILE: [Row; 6] = [
     ("its size", Deleting, Size, "f", "abc", Done),
     ("it is removed", Deleting, Remove, "f", "", Done),
     ("its name is gone", Beside, Find, FILE, "", Nothing),
-    (
-        "the one of its name is left",
-        Beside,
-        Find,
-        LOWER_FILE,
-        "",
-        Done,
-    ),
-    ("the part is left", Beside, Find, PART, "", Done),
+    ("its namesake is left", Beside, Find, LOWER_FILE, "", Done),
+    ("the part is left", Beside, Find, OWN_PART, "", Done),
     ("there is none now", Deleting, Size, "f", "", Nothing),
 ];
 
@@ -101,8 +79,8 @@ fn a_file_goes_and_nothing_else(rt: HostRuntime) -> Result<(), Fail> {
 const A_LOWER_FILE: [Row; 4] = [
     ("it is removed", Deleting, Remove, "a/b/f", "", Done),
     ("its name is gone", Beside, Find, LOWER_FILE, "", Nothing),
-    ("the one of its name is left", Beside, Find, FILE, "", Done),
-    ("the part is left", Beside, Find, PART, "", Done),
+    ("its namesake is left", Beside, Find, FILE, "", Done),
+    ("the part is left", Beside, Find, OWN_PART, "", Done),
 ];
 
 #[test]
@@ -115,14 +93,7 @@ const A_FOLDER: [Row; 5] = [
     ("nor is it removed", Deleting, Remove, "a/b", "", Failed),
     ("what is in it is left", Beside, Find, LOWER_FILE, "", Done),
     ("it is made empty", Beside, Unlink, LOWER_FILE, "", Done),
-    (
-        "nor is it removed then",
-        Deleting,
-        Remove,
-        "a/b",
-        "",
-        Failed,
-    ),
+    ("nor is it removed now", Deleting, Remove, "a/b", "", Failed),
 ];
 
 #[test]
@@ -131,32 +102,11 @@ fn a_folder_is_not_removed(rt: HostRuntime) -> Result<(), Fail> {
 }
 
 const NO_NAMES: [Row; 6] = [
-    (
-        "no such name is removed",
-        Deleting,
-        Remove,
-        "none",
-        "",
-        Done,
-    ),
+    ("no such name is there", Deleting, Remove, "none", "", Done),
     ("no such folder", Deleting, Size, "a/none/f", "", Nothing),
-    (
-        "nor anything to remove in it",
-        Deleting,
-        Remove,
-        "a/none/f",
-        "",
-        Done,
-    ),
+    ("nor a file in it", Deleting, Remove, "a/none/f", "", Done),
     ("a path through a file", Deleting, Size, "f/x", "", Nothing),
-    (
-        "nor anything to remove behind it",
-        Deleting,
-        Remove,
-        "f/x",
-        "",
-        Done,
-    ),
+    ("nor a file behind it", Deleting, Remove, "f/x", "", Done),
     ("that file is left", Beside, Find, FILE, "", Done),
 ];
 
@@ -166,46 +116,11 @@ fn names_that_are_not_there_are_gone(rt: HostRuntime) -> Result<(), Fail> {
 }
 
 const LINKS: [Row; 6] = [
-    (
-        "a link to a file outside",
-        Deleting,
-        Size,
-        "to-a-file",
-        "",
-        Failed,
-    ),
-    (
-        "it isn't removed",
-        Deleting,
-        Remove,
-        "to-a-file",
-        "",
-        Failed,
-    ),
-    (
-        "a link to one beside it",
-        Deleting,
-        Size,
-        "to-a-sibling",
-        "",
-        Failed,
-    ),
-    (
-        "nor is this one",
-        Deleting,
-        Remove,
-        "to-a-sibling",
-        "",
-        Failed,
-    ),
-    (
-        "nor one to a folder",
-        Deleting,
-        Remove,
-        "to-a-folder",
-        "",
-        Failed,
-    ),
+    ("a link to one outside", Deleting, Size, "out-f", "", Failed),
+    ("it isn't removed", Deleting, Remove, "out-f", "", Failed),
+    ("a link to one beside", Deleting, Size, "to-f", "", Failed),
+    ("nor is this one", Deleting, Remove, "to-f", "", Failed),
+    ("nor one to a folder", Deleting, Remove, "out", "", Failed),
     ("the file beside it is left", Beside, Find, FILE, "", Done),
 ];
 
@@ -215,31 +130,10 @@ fn a_link_is_not_removed(rt: HostRuntime) -> Result<(), Fail> {
 }
 
 const BEHIND_A_LINK: [Row; 4] = [
-    (
-        "a file isn't told",
-        Deleting,
-        Size,
-        "to-a-folder/f",
-        "",
-        Failed,
-    ),
-    ("nor removed", Deleting, Remove, "to-a-folder/f", "", Failed),
-    (
-        "nor that none is there",
-        Deleting,
-        Size,
-        "to-a-folder/none",
-        "",
-        Failed,
-    ),
-    (
-        "nor that it is gone",
-        Deleting,
-        Remove,
-        "to-a-folder/none",
-        "",
-        Failed,
-    ),
+    ("a file isn't told", Deleting, Size, "out/f", "", Failed),
+    ("nor removed", Deleting, Remove, "out/f", "", Failed),
+    ("nor told as none", Deleting, Size, "out/none", "", Failed),
+    ("nor told as gone", Deleting, Remove, "out/none", "", Failed),
 ];
 
 #[test]
@@ -248,25 +142,11 @@ fn nothing_behind_a_link_is_told_or_removed(rt: HostRuntime) -> Result<(), Fail>
 }
 
 const AMONG_PARTS: [Row; 5] = [
-    (
-        "a part isn't told",
-        Deleting,
-        Size,
-        ".fts/part-1",
-        "",
-        Failed,
-    ),
+    ("no part is told", Deleting, Size, ".fts/part-1", "", Failed),
     ("nor removed", Deleting, Remove, ".fts/part-1", "", Failed),
-    (
-        "nor is a file beside it told",
-        Deleting,
-        Size,
-        ".fts/other",
-        "",
-        Failed,
-    ),
+    ("nor a file there", Deleting, Size, ".fts/other", "", Failed),
     ("or removed", Deleting, Remove, ".fts/other", "", Failed),
-    ("the part is left", Beside, Find, PART, "", Done),
+    ("the part is left", Beside, Find, OWN_PART, "", Done),
 ];
 
 #[test]
@@ -275,25 +155,11 @@ fn nothing_among_the_parts_is_removed_for_deletions(rt: HostRuntime) -> Result<(
 }
 
 const BY_A_SERVICE: [Row; 5] = [
-    (
-        "a link is not removed",
-        One,
-        Remove,
-        "to-a-file",
-        "",
-        Failed,
-    ),
-    (
-        "nor what lies behind one",
-        One,
-        Remove,
-        "to-a-folder/f",
-        "",
-        Failed,
-    ),
-    ("the part is left", Beside, Find, PART, "", Done),
+    ("a link is not removed", One, Remove, "out-f", "", Failed),
+    ("nor what lies behind one", One, Remove, "out/f", "", Failed),
+    ("the part is left", Beside, Find, OWN_PART, "", Done),
     ("a part is removed", One, Remove, ".fts/part-1", "", Done),
-    ("its name is gone", Beside, Find, PART, "", Nothing),
+    ("its name is gone", Beside, Find, OWN_PART, "", Nothing),
 ];
 
 #[test]
