@@ -1,6 +1,6 @@
 //! What is counted of the rows and of the reports of each pair of endpoints, each in one walk.
 //! Keeps: behind each row or report, the table says what those so far come to (`specs/Tallied.antt`).
-ghost use Rattle.std.specs.Prelude.{◌≡◌, ◌<◌, ◌≤◌, ℕ, List, length, map, [], slice_index_or, true, false, None, IfOk, IfSome};
+ghost use Rattle.std.specs.Prelude.{◌≡◌, ◌<◌, ◌≤◌, ℕ, List, length, map, [], slice_index_or, cond, true, false, None, IfOk, IfSome};
 ghost use Rattle.fts_tables.specs.declared.settings.Endpoint.{Endpoint};
 ghost use Rattle.fts_counts.specs.Outcomes.{bytes_by};
 ghost use Rattle.fts_board.specs.Tallied.{going_of, goes_by, pairs_of, row_tally_of, report_tally_of, row_tally_with, AreBelow, row_tallies_of, report_tally_with, report_tallies_of, is_report_by};
@@ -46,36 +46,23 @@ impl RowTally {
         requires { AreBelow u64.MAX self }
         ensures { result ≡ row_tally_with self state }
     {
-        let rows = self.rows + 1;
-        match state {
-            FileState::Submitted => RowTally {
-                rows,
-                submitted: self.submitted + 1,
-                ..self
-            },
-            FileState::Active => RowTally {
-                rows,
-                active: self.active + 1,
-                ..self
-            },
-            FileState::Finished => RowTally {
-                rows,
-                finished: self.finished + 1,
-                ..self
-            },
-            FileState::Failed => RowTally {
-                rows,
-                failed: self.failed + 1,
-                ..self
-            },
-            FileState::Canceled => RowTally {
-                rows,
-                canceled: self.canceled + 1,
-                ..self
-            },
-            FileState::NotUsed => RowTally { rows, ..self },
+        RowTally {
+            rows: self.rows + 1,
+            active: self.active + one_if(state.is_active()),
+            canceled: self.canceled + one_if(state.is_canceled()),
+            failed: self.failed + one_if(state.is_failed()),
+            finished: self.finished + one_if(state.is_finished()),
+            submitted: self.submitted + one_if(state.is_submitted()),
         }
     }
+}
+
+// One where something is so, and nothing where it isn't.
+fn one_if(is: bool) -> u64
+    ensures one { result ≡ cond is 1 0 }
+    ensures most { result ≤ 1 }
+{
+    if is { 1 } else { 0 }
 }
 
 impl ReportTally {

@@ -1,6 +1,6 @@
 -- Texts that grow part by part, and line by line.
-use Rattle.std.proofs.Common.{◌≡◌, ap, sym, subst, Result, ◌∙◌, ℕ, ◌+◌, ◌<◌, List, [], ◌∷◌, ◌++◌, length, get_or, take, append_assoc, append-nil, Bor}
-use Rattle.std.specs.Prelude.{map, OnOk}
+use Rattle.std.proofs.Common.{◌≡◌, ap, sym, ◌∙◌, ℕ, ◌+◌, ◌<◌, List, [], ◌∷◌, ◌++◌, length, get_or, take, append_assoc, append-nil, Bor}
+use Rattle.std.specs.Prelude.{map}
 use Rattle.std.proofs.lemmas.List.{take_more, map-append}
 use Rattle.std.proofs.lemmas.Grind.{flat_map-append}
 use Rattle.std.proofs.lemmas.List.Folds.{concat-append}
@@ -9,12 +9,6 @@ use Rattle.std.specs.List.{concat, flat_map}
 -- two parts
 pub goes_on : (old mid new x y : List ℕ) → mid ≡ old ++ x → new ≡ mid ++ y → new ≡ old ++ (x ++ y)
 goes_on old mid new x y first rest = rest ∙ ap (λ (l : List ℕ). l ++ y) first ∙ append_assoc old x y
-
--- a head, and behind it what a call writes where it succeeds
-pub headed : {Fault : Type 0} (result : Result (Unit {0}) Fault) (old mid new heading text : List ℕ) → mid ≡ old ++ heading
-    → OnOk result (new ≡ mid ++ text) → OnOk result (new ≡ old ++ (heading ++ text))
-headed result old mid new heading text first rest =
-    subst (λ (l : List ℕ). OnOk result (new ≡ l)) (ap (λ (l : List ℕ). l ++ text) first ∙ append_assoc old heading text) rest
 
 -- a line more
 pub line_more : {Item : Type 0} (line : Item → List ℕ) (items : List Item) (i : ℕ) (item : Item) → i < length items → get_or items i item ≡ item

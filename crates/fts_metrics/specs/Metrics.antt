@@ -59,6 +59,10 @@ files_text rows endpoints =
     head (codes "fts_files") (codes "Files of each link by state.") (codes "gauge")
     ++ flat_map (λ (endpoint : Endpoint). files_from rows endpoints endpoint.name) endpoints
 
+-- a gauge: its name, what it counts, and the samples of each of some items
+abbrev pub gauge : {Item : Type 0} → List ℕ → List ℕ → (Item → List ℕ) → List Item → List ℕ
+gauge name help samples items = head name help (codes "gauge") ++ flat_map samples items
+
 -- the ACTIVE files of a link
 abbrev pub link_active_sample : List FileRow → LinkRule → List ℕ
 link_active_sample rows link = sample (codes "fts_link_active") (link_labels link.source link.dest) (held rows link.source link.dest)
@@ -69,15 +73,11 @@ link_limit_sample link = sample (codes "fts_link_limit") (link_labels link.sourc
 
 -- fts_link_active: the ACTIVE files of each listed link
 abbrev pub link_active_text : List FileRow → List LinkRule → List ℕ
-link_active_text rows links =
-    head (codes "fts_link_active") (codes "Files that are being copied over a listed link.") (codes "gauge")
-    ++ flat_map (link_active_sample rows) links
+link_active_text rows links = gauge (codes "fts_link_active") (codes "Files that are being copied over a listed link.") (link_active_sample rows) links
 
 -- fts_link_limit: how many there may be
 abbrev pub link_limit_text : List LinkRule → List ℕ
-link_limit_text links =
-    head (codes "fts_link_limit") (codes "How many files may be copied at once over a listed link.") (codes "gauge")
-    ++ flat_map link_limit_sample links
+link_limit_text links = gauge (codes "fts_link_limit") (codes "How many files may be copied at once over a listed link.") link_limit_sample links
 
 -- the labels of an endpoint in a direction
 abbrev pub endpoint_labels : List ℕ → List ℕ → List ℕ
@@ -99,14 +99,12 @@ endpoint_limit_samples endpoint = both_directions (codes "fts_endpoint_limit") e
 -- fts_endpoint_active: the ACTIVE files to each endpoint, and from it
 abbrev pub endpoint_active_text : List FileRow → List Endpoint → List ℕ
 endpoint_active_text rows endpoints =
-    head (codes "fts_endpoint_active") (codes "Files that are being copied to or from a storage.") (codes "gauge")
-    ++ flat_map (endpoint_active_samples rows) endpoints
+    gauge (codes "fts_endpoint_active") (codes "Files that are being copied to or from a storage.") (endpoint_active_samples rows) endpoints
 
 -- fts_endpoint_limit: how many there may be
 abbrev pub endpoint_limit_text : List Endpoint → List ℕ
 endpoint_limit_text endpoints =
-    head (codes "fts_endpoint_limit") (codes "How many files may be copied at once to or from a storage.") (codes "gauge")
-    ++ flat_map endpoint_limit_samples endpoints
+    gauge (codes "fts_endpoint_limit") (codes "How many files may be copied at once to or from a storage.") endpoint_limit_samples endpoints
 
 -- a sample of the jobs in a state
 abbrev pub jobs_sample : List ℕ → ℕ → List ℕ

@@ -1,5 +1,5 @@
 -- What is gathered of each link: how many rows it has, what was copied over it, and its reports by outcome, at places of links and outcomes.
-use Rattle.std.specs.Prelude.{◌≡◌, ℕ, ◌+◌, ◌*◌, ◌<◌, true, ◌==◌, List, count_by, slice_index, Option, option_map}
+use Rattle.std.specs.Prelude.{◌≡◌, ℕ, ◌+◌, ◌*◌, ◌<◌, true, ◌==◌, List, ◌++◌, codes, count_by, slice_index, Option, option_map}
 use Rattle.fts_tables.specs.SettingsData.{is_listed}
 use Rattle.fts_tables.specs.Tables.{Tables, row_at}
 use Rattle.fts_tables.specs.Limits.{is_on_link}
@@ -10,7 +10,8 @@ use Rattle.fts_tables.specs.declared.settings.Endpoint.{Endpoint}
 use Rattle.fts_chronicle.specs.declared.chronicle.CopyReport.{CopyReport}
 use Rattle.fts_counts.specs.Listed.{place_among}
 use Rattle.fts_counts.specs.Outcomes.{bytes_by}
-use Rattle.fts_metrics.specs.Metrics.{reports_on, copied_on, copied_sample, reports_samples}
+use Rattle.fts_metrics.specs.Form.{head}
+use Rattle.fts_metrics.specs.Metrics.{reports_on, copied_on, copied_sample, reports_samples, each_link}
 use Rattle.fts_metrics.specs.declared.sums.Share.{Share}
 use Rattle.fts_metrics.specs.declared.totals.LinkMetric.{LinkMetric}
 use Rattle.fts_metrics.specs.declared.totals.LinkMetric.TheVariants.{Copied, Reports}
@@ -72,3 +73,12 @@ AreTotals endpoints tables reports totals = (source dest : List ℕ) → is_list
 abbrev pub samples_of : LinkMetric → Tables → List CopyReport → List ℕ → List ℕ → List ℕ
 samples_of Copied tables reports = copied_sample tables reports
 samples_of Reports tables reports = reports_samples tables reports
+
+-- what a metric of the links is
+abbrev pub copies_head : LinkMetric → List ℕ
+copies_head Copied = head (codes "fts_copied_bytes_total") (codes "Bytes of verified copies over each link.") (codes "counter")
+copies_head Reports = head (codes "fts_reports_total") (codes "Reports of copies over each link by outcome.") (codes "counter")
+
+-- a metric of the links: copied_text, or reports_text
+abbrev pub copies_text : LinkMetric → Tables → List CopyReport → List Endpoint → List ℕ
+copies_text metric tables reports endpoints = copies_head metric ++ each_link (samples_of metric tables reports) tables.rows endpoints

@@ -1,13 +1,13 @@
 //! `fts_copied_bytes_total` and `fts_reports_total`: what was copied over each link between listed endpoints, and how its copies ended.
 //! A link without rows has no samples. The numbers of a link stand at its place (`totals.rt`).
-ghost use Rattle.std.specs.Prelude.{◌≡◌, ◌*◌, ◌≤◌, ◌++◌, not, ◌==◌, List, true, length, codes, slice_index, OnOk};
+ghost use Rattle.std.specs.Prelude.{◌≡◌, ℕ, ◌*◌, ◌≤◌, ◌++◌, not, ◌==◌, List, true, length, codes, slice_index, OnOk};
 ghost use Rattle.fts_tables.specs.SettingsData.{is_listed};
 ghost use Rattle.fts_tables.specs.Tables.{Tables};
 ghost use Rattle.fts_tables.specs.declared.limits.TheConstants.{MAX_ENDPOINTS};
 ghost use Rattle.fts_chronicle.specs.declared.chronicle.CopyReport.{CopyReport};
 ghost use Rattle.fts_metrics.specs.Form.{label, sample, two_labels};
-ghost use Rattle.fts_metrics.specs.Metrics.{link_where, links_from, each_link, copied_text, reports_text, outcome_samples};
-ghost use Rattle.fts_metrics.specs.Totals.{samples_of, StandByOutcome, StandsAt, AreTotals};
+ghost use Rattle.fts_metrics.specs.Metrics.{link_labels, link_where, links_from, outcome_samples};
+ghost use Rattle.fts_metrics.specs.Totals.{copies_head, copies_text, samples_of, StandByOutcome, StandsAt, AreTotals};
 
 use crate::goings::place_of;
 use crate::lines::{labels_of, labels_with, put_head, put_total};
@@ -16,48 +16,8 @@ use crate::totals::{LinkMetric, Totals, link_at};
 use fts_tables::{Endpoint, Memory};
 use std::alloc::Global;
 
-/// What there is of `fts_copied_bytes_total`.
-pub fn put_copied(
-    alloc: Global,
-    text: &mut Vec<u8>,
-    totals: &Totals,
-    endpoints: &[Endpoint],
-) -> Result<(), Memory>
-    requires few { length endpoints.now ≤ MAX_ENDPOINTS }
-    ensures { (tables : Tables) (reports : List CopyReport) → AreTotals endpoints.now tables reports totals.now
-        → OnOk result (text.new.items ≡ text.old.items ++ copied_text tables reports endpoints.now) }
-{
-    put_head(
-        text,
-        "fts_copied_bytes_total",
-        "Bytes of verified copies over each link.",
-        "counter",
-    )?;
-    put_links(alloc, text, LinkMetric::Copied, totals, endpoints)
-}
-
-/// What there is of `fts_reports_total`.
-pub fn put_reports(
-    alloc: Global,
-    text: &mut Vec<u8>,
-    totals: &Totals,
-    endpoints: &[Endpoint],
-) -> Result<(), Memory>
-    requires few { length endpoints.now ≤ MAX_ENDPOINTS }
-    ensures { (tables : Tables) (reports : List CopyReport) → AreTotals endpoints.now tables reports totals.now
-        → OnOk result (text.new.items ≡ text.old.items ++ reports_text tables reports endpoints.now) }
-{
-    put_head(
-        text,
-        "fts_reports_total",
-        "Reports of copies over each link by outcome.",
-        "counter",
-    )?;
-    put_links(alloc, text, LinkMetric::Reports, totals, endpoints)
-}
-
-// The samples of all links.
-fn put_links(
+/// What there is of a metric of the links.
+pub fn put_copies(
     alloc: Global,
     text: &mut Vec<u8>,
     metric: LinkMetric,
@@ -66,13 +26,31 @@ fn put_links(
 ) -> Result<(), Memory>
     requires few { length endpoints.now ≤ MAX_ENDPOINTS }
     ensures { (tables : Tables) (reports : List CopyReport) → AreTotals endpoints.now tables reports totals.now
-        → OnOk result (text.new.items ≡ text.old.items ++ each_link (samples_of metric tables reports) tables.rows endpoints.now) }
+        → OnOk result (text.new.items ≡ text.old.items ++ copies_text metric tables reports endpoints.now) }
 {
+    put_copies_head(text, metric)?;
     for endpoint in endpoints {
         let source = endpoint.name.as_str();
         put_links_from(alloc, text, metric, totals, endpoints, source)?;
     }
     Ok(())
+}
+
+// What a metric of the links is.
+fn put_copies_head(text: &mut Vec<u8>, metric: LinkMetric) -> Result<(), Memory>
+    ensures { OnOk result (text.new.items ≡ text.old.items ++ copies_head metric) }
+{
+    let (name, help) = match metric {
+        LinkMetric::Copied => (
+            "fts_copied_bytes_total",
+            "Bytes of verified copies over each link.",
+        ),
+        LinkMetric::Reports => (
+            "fts_reports_total",
+            "Reports of copies over each link by outcome.",
+        ),
+    };
+    put_head(text, name, help, "counter")
 }
 
 // The samples of the links from an endpoint.
@@ -112,7 +90,8 @@ fn put_link(
         → OnOk result (text.new.items ≡ text.old.items ++ link_where (samples_of metric tables reports) tables.rows source.now dest.now) }
 {
     if has_rows(totals, place) {
-        put_samples(alloc, text, metric, totals, place, source, dest)
+        let labels = labels_of(alloc, "source", source, "destination", dest)?;
+        put_samples(alloc, text, metric, totals, place, &labels)
     } else {
         Ok(())
     }
@@ -125,26 +104,25 @@ fn has_rows(totals: &Totals, place: u32) -> bool
     number_at(&totals.rows, place as usize) != 0
 }
 
-// The samples of a link.
+// The samples of a link with these labels.
 fn put_samples(
     alloc: Global,
     text: &mut Vec<u8>,
     metric: LinkMetric,
     totals: &Totals,
     place: u32,
-    source: &str,
-    dest: &str,
+    labels: &[u8],
 ) -> Result<(), Memory>
-    ensures { (tables : Tables) (reports : List CopyReport) → StandsAt tables reports source.now dest.now place totals.now
-        → OnOk result (text.new.items ≡ text.old.items ++ samples_of metric tables reports source.now dest.now) }
+    ensures { (tables : Tables) (reports : List CopyReport) (source dest : List ℕ) → labels.now ≡ link_labels source dest
+        → StandsAt tables reports source dest place totals.now
+        → OnOk result (text.new.items ≡ text.old.items ++ samples_of metric tables reports source dest) }
 {
-    let labels = labels_of(alloc, "source", source, "destination", dest)?;
     match metric {
         LinkMetric::Copied => {
             let bytes = number_at(&totals.copied, place as usize);
-            put_total(text, "fts_copied_bytes_total", &labels, bytes)
+            put_total(text, "fts_copied_bytes_total", labels, bytes)
         }
-        LinkMetric::Reports => put_outcomes(alloc, text, &labels, &totals.reports, place),
+        LinkMetric::Reports => put_outcomes(alloc, text, labels, &totals.reports, place),
     }
 }
 
@@ -160,35 +138,41 @@ fn put_outcomes(
         → OnOk result (text.new.items ≡ text.old.items ++ outcome_samples labels.now reports) }
 {
     let first = place as usize * 8;
-    let verified = number_at(numbers, first);
-    put_outcome(alloc, text, labels, "verified", verified)?;
-    let missing = number_at(numbers, first + 1);
-    put_outcome(alloc, text, labels, "source_missing", missing)?;
-    let exists = number_at(numbers, first + 2);
-    put_outcome(alloc, text, labels, "destination_exists", exists)?;
-    let size = number_at(numbers, first + 3);
-    put_outcome(alloc, text, labels, "source_size", size)?;
-    let digest = number_at(numbers, first + 4);
-    put_outcome(alloc, text, labels, "source_digest", digest)?;
-    let differs = number_at(numbers, first + 5);
-    put_outcome(alloc, text, labels, "read_back_differs", differs)?;
-    let failed = number_at(numbers, first + 6);
-    put_outcome(alloc, text, labels, "store_failed", failed)?;
-    let stopped = number_at(numbers, first + 7);
-    put_outcome(alloc, text, labels, "stopped", stopped)?;
+    put_outcome(alloc, text, labels, "verified", numbers, first)?;
+    put_outcome(alloc, text, labels, "source_missing", numbers, first + 1)?;
+    put_outcome(
+        alloc,
+        text,
+        labels,
+        "destination_exists",
+        numbers,
+        first + 2,
+    )?;
+    put_outcome(alloc, text, labels, "source_size", numbers, first + 3)?;
+    put_outcome(alloc, text, labels, "source_digest", numbers, first + 4)?;
+    put_outcome(alloc, text, labels, "read_back_differs", numbers, first + 5)?;
+    put_outcome(alloc, text, labels, "store_failed", numbers, first + 6)?;
+    put_outcome(alloc, text, labels, "stopped", numbers, first + 7)?;
     Ok(())
 }
 
-// A sample of a link's reports with an outcome.
+// A sample of a link's reports with an outcome, whose number stands at this place.
 fn put_outcome(
     alloc: Global,
     text: &mut Vec<u8>,
     labels: &[u8],
     word: &str,
-    number: u128,
+    numbers: &[u128],
+    place: usize,
 ) -> Result<(), Memory>
-    ensures { OnOk result (text.new.items ≡ text.old.items ++ sample (codes "fts_reports_total") (two_labels labels.now (label (codes "outcome") word.now)) number) }
+    ensures { OnOk result (text.new.items ≡ text.old.items
+        ++ sample (codes "fts_reports_total") (two_labels labels.now (label (codes "outcome") word.now)) (slice_index numbers.now place)) }
 {
     let labels = labels_with(alloc, labels, "outcome", word)?;
-    put_total(text, "fts_reports_total", &labels, number)
+    put_total(
+        text,
+        "fts_reports_total",
+        &labels,
+        number_at(numbers, place),
+    )
 }

@@ -2,13 +2,13 @@
 ghost use Rattle.std.specs.Prelude.{◌≡◌, ◌++◌, OnOk, IfOk};
 ghost use Rattle.fts_metrics.specs.Metrics.{last_entry_text, sizes_text, metrics_text};
 
-use crate::copies::{put_copied, put_reports};
+use crate::copies::put_copies;
 use crate::files::put_files;
 use crate::goings::goings_of;
 use crate::jobs::put_jobs;
 use crate::lines::{put_head, put_plain};
 use crate::slots::{put_endpoint_active, put_endpoint_limit, put_link_active, put_link_limit};
-use crate::totals::totals_of;
+use crate::totals::{LinkMetric, totals_of};
 use fts_chronicle::Chronicle;
 use fts_counts::{active_rows, endpoints_of, links_of};
 use fts_desk::Desk;
@@ -34,8 +34,8 @@ pub fn metrics(
     let totals = totals_of(alloc, desk, endpoints, &goings, chronicle.reports())?;
     put_jobs(alloc, &mut text, desk)?;
     put_files(alloc, &mut text, &goings, endpoints)?;
-    put_copied(alloc, &mut text, &totals, endpoints)?;
-    put_reports(alloc, &mut text, &totals, endpoints)?;
+    put_copies(alloc, &mut text, LinkMetric::Copied, &totals, endpoints)?;
+    put_copies(alloc, &mut text, LinkMetric::Reports, &totals, endpoints)?;
     let active = active_rows(alloc, rows)?;
     put_link_active(alloc, &mut text, &active, links)?;
     put_link_limit(alloc, &mut text, links)?;

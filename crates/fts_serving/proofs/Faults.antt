@@ -20,7 +20,7 @@ use Rattle.fts_keep.specs.declared.fault.KeepFault.{KeepFault}
 use Rattle.fts_keep.specs.declared.fault.KeepFault.TheVariants.{Rule, DiskFailed, JournalFull, Damaged, Memory}
 use Rattle.fts_workers.specs.Rounds.{applied_over}
 use Rattle.fts_workers.specs.declared.held.Held.{Held}
-use Rattle.fts_shop.specs.Shops.{CameTo, HasFault, StepInTurn, TriedInTurn, added_by, added_by_claim, faults_shown, point, step_answer}
+use Rattle.fts_shop.specs.Shops.{CameTo, HasFault, StepInTurn, TakesTurn, TriedInTurn, added_by, added_by_claim, faults_shown, point, step_answer}
 use Rattle.fts_shop.specs.Turns.{GoesOn, HandData, IsTurn, ReportsHeld, end_by_claim, end_by_report, end_by_state, idle_end}
 use Rattle.fts_shop.specs.Workers.{EndsBehind, end_without_lanes, stopped_instead, worker_end_of}
 use Rattle.fts_shop.specs.declared.ends.Turn.{Turn}
@@ -41,66 +41,42 @@ pub record TriesLast (pass : PassView Entry) (result : Result Answer KeepFault) 
   pub entry : Entry
   pub full : (used : ℕ) → result ≡ Err (JournalFull used) → applied_over ((pass.opening ++ items_of before) ++ own) entry ≡ Err (JournalFull used)
 
--- so is each that is tried
-full_as : {old new : PassView Entry} {command : Command} {result : Result Answer KeepFault} {lanes : ℕ} (used : ℕ)
-    (tried : TriedInTurn old new command result lanes) → result ≡ Err (JournalFull used)
-    → applied_over (point tried.taken) (entry_by old.number command) ≡ Err (JournalFull used)
-full_as {old} {command = command} used tried is =
-    subst (λ (r : Result Answer KeepFault). CameTo (applied_over (point tried.taken) (entry_by old.number command)) (HasFault tried.taken) r) is tried.came
+-- one that was tried behind what the turn had added until then
+tried_behind : {old new : PassView Entry} (taken : TakesTurn old new) (own rest : List Entry) (entry : Entry) (result : Result Answer KeepFault)
+    → taken.turn.items ≡ own ++ rest → (result ≡ Err DiskFailed → HasFault taken) → CameTo (applied_over (point taken ++ own) entry) (HasFault taken) result
+    → TriesLast new result
+tried_behind {old} taken own rest entry result items cause came = record {
+  before = old.seen ++ taken.between;
+  turn = taken.turn;
+  seen = taken.seen;
+  cause = λ failed. subst (λ s. Rose (faults_shown (shown_after s (old.seen ++ taken.between))) (faults_shown taken.turn.shows)) (sym taken.same.2)
+      (cause failed);
+  own = own;
+  rest = rest;
+  items = items;
+  entry = entry;
+  full = λ used is. subst (λ o. applied_over ((o ++ items_of (old.seen ++ taken.between)) ++ own) entry ≡ Err (JournalFull used)) (sym taken.same.1)
+      (subst (λ (r : Result Answer KeepFault). CameTo (applied_over (point taken ++ own) entry) (HasFault taken) r) is came);
+}
+
+-- one that was tried first in the turn
+tried_first : {old new : PassView Entry} (taken : TakesTurn old new) (entry : Entry) (result : Result Answer KeepFault)
+    → (result ≡ Err DiskFailed → HasFault taken) → CameTo (applied_over (point taken) entry) (HasFault taken) result → TriesLast new result
+tried_first taken entry result cause came = tried_behind taken [] taken.turn.items entry result refl cause
+    (subst (λ list. CameTo (applied_over list entry) (HasFault taken) result) (sym (append-nil (point taken))) came)
 
 pub tries_last : {old new : PassView Entry} {command : Command} {result : Result Answer KeepFault} {lanes : ℕ}
     → TriedInTurn old new command result lanes → TriesLast new result
-tries_last {old} {new} {command} {result} {lanes} tried = record {
-  before = old.seen ++ tried.taken.between;
-  turn = tried.taken.turn;
-  seen = tried.taken.seen;
-  cause = λ failed. subst (λ s. Rose (faults_shown (shown_after s (old.seen ++ tried.taken.between))) (faults_shown tried.taken.turn.shows))
-      (sym tried.taken.same.2) (tried.cause failed);
-  own = [];
-  rest = tried.taken.turn.items;
-  items = refl;
-  entry = entry_by old.number command;
-  full = λ used is. subst (λ o. applied_over ((o ++ items_of (old.seen ++ tried.taken.between)) ++ []) (entry_by old.number command) ≡ Err (JournalFull used))
-      (sym tried.taken.same.1)
-      (subst (λ l. applied_over l (entry_by old.number command) ≡ Err (JournalFull used)) (sym (append-nil (point tried.taken))) (full_as used tried is));
-}
+tries_last {old} {command = command} {result = result} tried = tried_first tried.taken (entry_by old.number command) result tried.cause tried.came
 
 -- so is the last command of a worker's step
 pub step_last : {old new : PassView Entry} {now word lanes : ℕ} (expiry : Result Answer KeepFault) (claim : Option (Result Answer KeepFault))
     → StepInTurn old new now word expiry claim lanes → TriesLast new (step_answer expiry claim)
-step_last {old} {new} {now} {word} expiry None tried = record {
-  before = old.seen ++ tried.taken.between;
-  turn = tried.taken.turn;
-  seen = tried.taken.seen;
-  cause = λ failed. subst (λ s. Rose (faults_shown (shown_after s (old.seen ++ tried.taken.between))) (faults_shown tried.taken.turn.shows))
-      (sym tried.taken.same.2) (tried.expiry_cause failed);
-  own = [];
-  rest = tried.taken.turn.items;
-  items = refl;
-  entry = entry_by old.number (Expire now);
-  full = λ used is. subst (λ o. applied_over ((o ++ items_of (old.seen ++ tried.taken.between)) ++ []) (entry_by old.number (Expire now)) ≡ Err (JournalFull used))
-      (sym tried.taken.same.1)
-      (subst (λ l. applied_over l (entry_by old.number (Expire now)) ≡ Err (JournalFull used)) (sym (append-nil (point tried.taken)))
-      (subst (λ (r : Result Answer KeepFault). CameTo (applied_over (point tried.taken) (entry_by old.number (Expire now))) (HasFault tried.taken) r) is
-      tried.expired));
-}
-step_last {old} {new} {now} {word} expiry (Some result) tried = record {
-  before = old.seen ++ tried.taken.between;
-  turn = tried.taken.turn;
-  seen = tried.taken.seen;
-  cause = λ failed. subst (λ s. Rose (faults_shown (shown_after s (old.seen ++ tried.taken.between))) (faults_shown tried.taken.turn.shows))
-      (sym tried.taken.same.2) (tried.claim_cause (ap (λ (r : Result Answer KeepFault). Some r) failed));
-  own = added_by (entry_by old.number (Expire now)) expiry;
-  rest = added_by_claim (entry_by old.number (Claim now word)) (Some result);
-  items = tried.added;
-  entry = entry_by old.number (Claim now word);
-  full = λ used is. subst (λ o. applied_over ((o ++ items_of (old.seen ++ tried.taken.between)) ++ added_by (entry_by old.number (Expire now)) expiry)
-      (entry_by old.number (Claim now word)) ≡ Err (JournalFull used))
-      (sym tried.taken.same.1)
-      (subst (λ (r : Result Answer KeepFault). CameTo (applied_over (point tried.taken ++ added_by (entry_by old.number (Expire now)) expiry)
-      (entry_by old.number (Claim now word))) (HasFault tried.taken) r) is
-      tried.claimed.came);
-}
+step_last {old} {now = now} expiry None tried = tried_first tried.taken (entry_by old.number (Expire now)) expiry tried.expiry_cause tried.expired
+step_last {old} {now = now} {word = word} expiry (Some result) tried =
+    tried_behind tried.taken (added_by (entry_by old.number (Expire now)) expiry) (added_by_claim (entry_by old.number (Claim now word)) (Some result))
+    (entry_by old.number (Claim now word)) result tried.added (λ failed. tried.claim_cause (ap (λ (r : Result Answer KeepFault). Some r) failed))
+    tried.claimed.came
 
 -- the fault by which a turn ended
 abbrev pub fault_of : Turn → Option KeepFault

@@ -1,8 +1,8 @@
 -- Of lanes and workers that ran over one list: what each pass added, by its number, and what follows for all of them.
 use Rattle.std.proofs.Common.{◌≡◌, ◌≢◌, refl, sym, ap, ◌∙◌, subst, inl, inr, ⊎_elim, ℕ, zero, suc, ◌+◌, ◌<◌, ◌≤◌, Bool, true, false, List, [], ◌∷◌, ◌++◌, length, map, drop, Option, Some, None, Err, append-nil, append_assoc, arith}
 use Rattle.std.specs.Prelude.{◌⊎◌, max}
-use Rattle.fts_tables.specs.SettingsData.{SettingsData, IsSettings}
-use Rattle.fts_tables.specs.Tables.{Tables, empty_tables}
+use Rattle.fts_tables.specs.SettingsData.{SettingsData}
+use Rattle.fts_tables.specs.Tables.{empty_tables}
 use Rattle.fts_tables.specs.Limits.{eligible_rows}
 use Rattle.fts_tables.specs.Step.{step}
 use Rattle.fts_tables.specs.History.{IsLegal, out_of_list, tables_of}
@@ -27,8 +27,7 @@ use Rattle.fts_shop.specs.Looking.{LeaveLanes, NoneOf}
 use Rattle.fts_shop.specs.Looked.{items_on}
 use Rattle.fts_workers.proofs.Accepted.{legal_front}
 use Rattle.fts_shop.specs.Shops.{ShopData, doubt_bytes, doubt_shown, faults_shown, flag, lanes_shown, shop_of, shop_shows, writer_of}
-use Rattle.fts_shop.specs.Workers.{StationData, WorkerDone, station_data}
-use Rattle.fts_shop.specs.declared.ends.Turn.TheVariants.{Stale}
+use Rattle.fts_shop.specs.Workers.{station_data}
 use Rattle.fts_shop.specs.declared.ends.WorkerEnd.{WorkerEnd}
 use Rattle.fts_shop.specs.declared.ends.WorkerEnd.TheVariants.{Drained, Stopped, DiskFailed as DiskFailedEnd, JournalFull as JournalFullEnd, Memory as MemoryEnd}
 use Rattle.fts_shop.specs.declared.station.Station.{Station}
@@ -45,7 +44,7 @@ use Rattle.std.specs.List.{list_any}
 use Rattle.fts_service.specs.declared.lane.Booth.{Booth}
 use Rattle.fts_service.specs.declared.lane.Lane.{Lane}
 use Rattle.fts_ledger.specs.Claims.{IsOut, IsOwn, last_claim}
-use Rattle.fts_ledger.specs.Ledger.{AreFresh, FollowsOwn, KeepsItsFiles, KeepsLedger, MayKeep}
+use Rattle.fts_ledger.specs.Ledger.{KeepsItsFiles, KeepsLedger, MayKeep}
 use Rattle.fts_ledger.specs.Reports.{AddsAsked, AddsWork, HasNoRestart, IsUndisturbed, ReportsOwn}
 use Rattle.fts_serving.specs.Ends.{AreAtRest, AreDrained, DoubtBegins, EndsSure, IsOpenedBy, KeepTheLedger, KeepsOwn, LeavesNothing}
 use Rattle.fts_serving.proofs.Last.{HasLast, given_last, last_of, last_or_behind, last_there, none_above, none_among, none_last, not_behind, within}
@@ -56,38 +55,9 @@ use Rattle.fts_serving.specs.Finishes.{NoneRises, RecordPasses}
 use Rattle.fts_serving.proofs.Finishing.{doors_rose, ended_by, failed_doors, none_rises_at, rose_before, some_end}
 use Rattle.fts_serving.proofs.Faults.{Failed, full_by, fault_behind, turn_fails, worker_fault}
 use Rattle.fts_serving.proofs.Stations.{FindsNone, between_same, drained_finds_none, stopped_holds}
-use Rattle.fts_serving.proofs.Whole.{Laws, OfWorker, keeps, may, of_lane, of_worker}
-use Rattle.fts_store.specs.declared.store.Store as store
+use Rattle.fts_serving.specs.Cited.{ListLaws, StoreLaws}
+use Rattle.fts_serving.proofs.Whole.{OfWorker, keeps, may, of_lane, of_worker}
 use Rattle.fts_service.specs.Worlds.{World}
-
--- the laws of lists that are cited here
-pub record ListLaws : Type 0 where
-  pub claimed : (opening entries : List Entry) (file : ℕ) → out_of_list opening ≡ [] → IsOut file (opening ++ entries)
-      → (writer : ℕ) × IsOwn writer (last_claim file opening entries)
-  pub asked : (writer file : ℕ) (opening entries : List Entry) → AddsAsked writer entries → IsOwn writer (last_claim file opening entries) → ⊥
-  pub before : (writer file : ℕ) (opening entries later : List Entry) → NoneOf writer later → IsOut file (opening ++ (entries ++ later))
-      → IsOwn writer (last_claim file opening (entries ++ later)) → IsOut file (opening ++ entries) × IsOwn writer (last_claim file opening entries)
-  pub restarted : (entries : List Entry) (writer now : ℕ) (settings : SettingsData) → IsLegal (entries ++ entry_by writer (Restart now settings) ∷ [])
-      → out_of_list (entries ++ entry_by writer (Restart now settings) ∷ []) ≡ []
-  pub settings : (entries : List Entry) (writer now : ℕ) (settings : SettingsData) (more : List Entry) → HasNoRestart more
-      → IsLegal ((entries ++ entry_by writer (Restart now settings) ∷ []) ++ more)
-      → (tables_of ((entries ++ entry_by writer (Restart now settings) ∷ []) ++ more)).settings ≡ Some settings
-  pub none : (entries : List Entry) → ((writer : ℕ) → AddsWork writer entries ⊎ AddsAsked writer entries) → HasNoRestart entries
-  pub reports : (writer : ℕ) (opening entries : List Entry) → AddsAsked writer entries → ReportsOwn writer opening [] entries
-  pub others : (writer : ℕ) (opening before entries : List Entry) → NoneOf writer entries → ReportsOwn writer opening before entries
-  pub undisturbed : (opening entries : List Entry) → HasNoRestart entries → ((writer : ℕ) → ReportsOwn writer opening [] entries)
-      → (writer : ℕ) → IsUndisturbed writer opening entries
-  pub idle : (tables : Tables) (settings : SettingsData) (now word : ℕ) → tables.settings ≡ Some settings → IsSettings settings
-      → step tables (Claim now word) ≡ Err Idle → eligible_rows tables (max now tables.moment) ≡ []
-  pub earlier : (tables : Tables) (now later : ℕ) → now ≤ later → eligible_rows tables later ≡ [] → eligible_rows tables now ≡ []
-
--- the laws of stations that are cited here
-pub record StoreLaws {E : Type 0} (stores : store.Ghosts E) : Type 0 where
-  pub own : Laws stores
-  pub before : (pass : PassView Entry) (later : List (LoggedTurn Entry)) → IsUndisturbed pass.number pass.opening (items_of (pass.seen ++ later)) → KeepsItsFiles pass
-  pub follow : (closes : Bool) (old new : StationData E) (done : WorkerDone stores closes old new) → MayKeep old.pass new.pass old.held
-      → KeepsItsFiles new.pass
-      → FollowsOwn stores old new × AreFresh stores done.more old done.between × ((file : ℕ) → done.last ≢ Stale file)
 
 -- what adds nothing works and asks for nothing
 work_none : (writer : ℕ) (entries : List Entry) → NoneOf writer entries → AddsWork writer entries

@@ -1,5 +1,5 @@
 -- A run that serves, from its start to its closed shop.
-use Rattle.std.proofs.Common.{◌≡◌, ◌≢◌, refl, sym, ap, ◌∙◌, subst, inl, inr, ⊎_elim, ℕ, zero, suc, ◌≤◌, Bool, true, false, cond, List, [], ◌∷◌, ◌++◌, length, map, All, Option, Some, None, Result, Err, arith}
+use Rattle.std.proofs.Common.{◌≡◌, ◌≢◌, refl, sym, ap, ◌∙◌, subst, inl, inr, ⊎_elim, ℕ, ◌≤◌, Bool, true, false, cond, List, [], ◌∷◌, ◌++◌, length, map, All, Option, Some, None, Result, Err, arith}
 use Rattle.std.proofs.lemmas.Bool.{leb-true, ltb-false, ltb-true}
 use Rattle.std.specs.Prelude.{◌⊎◌, ◌==◌, ◌&&◌, nat_le, nat_lt, unwrap_or, IfSome, IsOk, IsSome, IsTrue}
 use Rattle.std.specs.List.{AllByRecursion, list_any}
@@ -23,7 +23,7 @@ use Rattle.fts_shop.specs.declared.station.Station.{Station}
 use Rattle.fts_top.specs.Ends.{status_of, end_when_served}
 use Rattle.fts_service.specs.Halls.{IsStationWorked}
 use Rattle.fts_top.specs.Complete.{HasGoodSettings, IsUndamaged, RestartPasses, Stays}
-use Rattle.fts_service.specs.Openings.{AreOpened, SomeRose}
+use Rattle.fts_service.specs.Openings.{SomeRose}
 use Rattle.fts_service.specs.Served.{served_end, severity_of, worse_of, worst_from, worst_of, are_doors_failed}
 use Rattle.fts_top.specs.Serves.{Closes, ClosesServed, HoldsBehind, IsServingRun, ManyThreads, RunsServing, WhyNoLane}
 use Rattle.fts_top.specs.Runs.{IsStop}
@@ -35,22 +35,15 @@ use Rattle.fts_service.specs.declared.lane.LaneStop.{LaneStop}
 use Rattle.fts_top.specs.declared.tally.Tally.{Tally}
 use Rattle.fts_service.specs.declared.together.ServedEnd.{ServedEnd}
 use Rattle.fts_service.specs.declared.together.ServedEnd.TheVariants as served_ends
-use Rattle.fts_serving.specs.Ends.{IsOpenedBy, KeepTheLedger, KeptWhereServed, LeavesDisk, LeavesNoneOut, LeavesNothing, stations_before}
+use Rattle.fts_serving.specs.Ends.{IsOpenedBy, KeepTheLedger, KeptWhereServed, LeavesDisk, LeavesList, LeavesNoneOut, LeavesNothing, stations_before}
 use Rattle.fts_serving.specs.Finishes.{BreaksNoRule, EndsWell, Finishes, RecordPasses}
-use Rattle.fts_serving.proofs.Ledger.{ListLaws, StoreLaws, ends_well, ledger, none_rises_by}
+use Rattle.fts_service.proofs.Opened.{opened_length}
+use Rattle.fts_serving.specs.Cited.{ListLaws, StoreLaws}
+use Rattle.fts_serving.proofs.Ledger.{ends_well, ledger, none_rises_by}
 use Rattle.fts_disk.specs.declared.disk.Disk as disk
 use Rattle.fts_service.specs.declared.doors.Doors as doors
 use Rattle.fts_service.specs.Worlds.{World}
 use Rattle.fts_tables.specs.declared.limits.TheConstants.{MAX_LANES, MAX_WORKERS}
-
--- opened lanes are as many
-pub opened_length : {A C L : Type 0} (all_doors : doors.Ghosts A L) (count : ℕ) (olds news : List (Lane A C L)) → AreOpened all_doors count olds news
-    → length news ≡ length olds
-opened_length all_doors zero olds news opened = ap length opened
-opened_length all_doors (suc more) [] [] opened = refl
-opened_length all_doors (suc more) [] (new ∷ news) opened = absurd opened
-opened_length all_doors (suc more) (old ∷ olds) [] opened = absurd opened
-opened_length all_doors (suc more) (old ∷ olds) (new ∷ news) opened = ap suc (opened_length all_doors more olds news opened.1)
 
 -- the worst of ends is drained only where all are
 not_less : (end : WorkerEnd) → severity_of end ≡ 0 → end ≡ worker_ends.Drained
@@ -293,52 +286,46 @@ module _ {D A E C W L : Type 0} (world : World D A E C W L)
         by (inl unserved) = tt
         by (inr served) = ledger_of served.0 served.1
 
-    pub leaves_disk : status_of end ≡ 0 → LeavesDisk world.disks before.disk after.disk
-    leaves_disk zero_is = by runs.serves.closes
+    -- what lanes and workers leave, that began since the status is no early one, and whose list is so
+    leaves_list : (IsSo : List Entry → Type 0) → (is_early (status_of end) ≡ true → ⊥)
+        → ((serves : Serves) → runs.serves.added ≡ items_of serves.ran.history.turns → IsSo (runs.keep.entries ++ items_of serves.ran.history.turns))
+        → LeavesList world.disks IsSo before.disk after.disk
+    leaves_list IsSo late so = by runs.serves.closes
       where
         by : Closes world lanes runs.settings.workers connections
-            runs.keep before.lanes before.hands after.lanes after.hands runs.serves.closed end runs.serves.added → LeavesDisk world.disks before.disk after.disk
-        by (inl unserved) = absurd (late_zero (status_of end) (no_lane_status world.doors before.lanes after.lanes end unserved.0.why) zero_is)
+            runs.keep before.lanes before.hands after.lanes after.hands runs.serves.closed end runs.serves.added
+            → LeavesList world.disks IsSo before.disk after.disk
+        by (inl unserved) = absurd (late (no_lane_status world.doors before.lanes after.lanes end unserved.0.why))
         by (inr served) =
-            let serves = served.0 in
-            let told_stays : (world.disks.state runs.serves.closed.keep.disk).told ≡ (world.disks.state before.disk).told =
-            (ledger_of serves served.1).sure.told ∙ runs.starts.told in
-            let worst = worked_worst (map (λ (booth : Booth D A C L). booth.end) serves.ran.booths) (map (λ (station : Station D E C W). station.end) serves.ran.stations) (sym serves.ran.ended ∙ served_zero serves.served (ap status_of (sym serves.ended) ∙ zero_is)) in
-            let drained = drained_all worker_ends.Drained serves.ran.stations worst (ended_all (stations_before world serves) serves.ran.stations serves.ran.worked) in
+            let sure = (ledger_of served.0 served.1).sure in
+            let told_stays : (world.disks.state runs.serves.closed.keep.disk).told ≡ (world.disks.state before.disk).told = sure.told ∙ runs.starts.told in
             record {
               keep = runs.serves.closed.keep;
               disk_is = runs.serves.left_is;
               filled = behind.filled;
               told = ap (λ d. (world.disks.state d).told) runs.serves.left_is ∙ told_stays;
               holds = λ told. behind.holds (told_stays ∙ told);
-              counts = omega (arith, runs.starts.counts, (ledger_of serves served.1).sure.counts, ap world.disks.faults runs.serves.left_is);
-              cause = λ told. caused (ledger_of serves served.1) told;
-              is_so = subst LeavesNothing (sym (behind.listed ∙ ap (λ l. runs.keep.entries ++ l) served.1)) ((ledger_of serves served.1).nothing_left drained);
+              counts = omega (arith, runs.starts.counts, sure.counts, ap world.disks.faults runs.serves.left_is);
+              cause = λ told. caused (ledger_of served.0 served.1) told;
+              is_so = subst IsSo (sym (behind.listed ∙ ap (λ l. runs.keep.entries ++ l) served.1)) (so served.0 served.1);
             }
 
+    pub leaves_disk : status_of end ≡ 0 → LeavesDisk world.disks before.disk after.disk
+    leaves_disk zero_is = leaves_list LeavesNothing (λ early. late_zero (status_of end) early zero_is) (λ serves is.
+        let worst = worked_worst (map (λ (booth : Booth D A C L). booth.end) serves.ran.booths)
+        (map (λ (station : Station D E C W). station.end) serves.ran.stations)
+        (sym serves.ran.ended ∙ served_zero serves.served (ap status_of (sym serves.ended) ∙ zero_is)) in
+        let drained = drained_all worker_ends.Drained serves.ran.stations worst
+        (ended_all (stations_before world serves) serves.ran.stations serves.ran.worked) in
+        (ledger_of serves is).nothing_left drained)
+
     pub leaves_none_out : status_of end ≡ 23 → LeavesNoneOut world.disks before.disk after.disk
-    leaves_none_out stop_is = by runs.serves.closes
-      where
-        by : Closes world lanes runs.settings.workers connections
-            runs.keep before.lanes before.hands after.lanes after.hands runs.serves.closed end runs.serves.added → LeavesNoneOut world.disks before.disk after.disk
-        by (inl unserved) = absurd (late_stop (status_of end) (no_lane_status world.doors before.lanes after.lanes end unserved.0.why) stop_is)
-        by (inr served) =
-            let serves = served.0 in
-            let told_stays : (world.disks.state runs.serves.closed.keep.disk).told ≡ (world.disks.state before.disk).told =
-            (ledger_of serves served.1).sure.told ∙ runs.starts.told in
-            let worst = stopped_worst (map (λ (booth : Booth D A C L). booth.end) serves.ran.booths) (map (λ (station : Station D E C W). station.end) serves.ran.stations)
-            (sym serves.ran.ended ∙ served_stopped serves.served (ap status_of (sym serves.ended) ∙ stop_is)) in
-            let rest = rest_all worker_ends.Drained serves.ran.stations worst (ended_all (stations_before world serves) serves.ran.stations serves.ran.worked) in
-            record {
-              keep = runs.serves.closed.keep;
-              disk_is = runs.serves.left_is;
-              filled = behind.filled;
-              told = ap (λ d. (world.disks.state d).told) runs.serves.left_is ∙ told_stays;
-              holds = λ told. behind.holds (told_stays ∙ told);
-              counts = omega (arith, runs.starts.counts, (ledger_of serves served.1).sure.counts, ap world.disks.faults runs.serves.left_is);
-              cause = λ told. caused (ledger_of serves served.1) told;
-              is_so = subst (λ entries. out_of_list entries ≡ []) (sym (behind.listed ∙ ap (λ l. runs.keep.entries ++ l) served.1)) ((ledger_of serves served.1).none_out rest);
-            }
+    leaves_none_out stop_is = leaves_list (λ entries. out_of_list entries ≡ []) (λ early. late_stop (status_of end) early stop_is) (λ serves is.
+        let worst = stopped_worst (map (λ (booth : Booth D A C L). booth.end) serves.ran.booths)
+        (map (λ (station : Station D E C W). station.end) serves.ran.stations)
+        (sym serves.ran.ended ∙ served_stopped serves.served (ap status_of (sym serves.ended) ∙ stop_is)) in
+        let rest = rest_all worker_ends.Drained serves.ran.stations worst (ended_all (stations_before world serves) serves.ran.stations serves.ran.worked) in
+        (ledger_of serves is).none_out rest)
 
   -- what comes of a run that nothing was in the way of
   module _ (lanes : ℕ) (connections : Option ℕ) (text : Option (List ℕ)) (before after : ManyThreads D A E C W L) (end : RunEnd) (tally : Tally)

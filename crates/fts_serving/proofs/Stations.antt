@@ -1,5 +1,5 @@
 -- How a worker's turns leave the lanes, and what its last turn found, where it ended drained.
-use Rattle.std.proofs.Common.{◌≡◌, refl, sym, ap, ◌∙◌, subst, inl, inr, ℕ, zero, suc, Bool, true, false, List, [], ◌∷◌, ◌++◌, append-nil, append_assoc, Option, Some, None, Result, Ok, Err}
+use Rattle.std.proofs.Common.{◌≡◌, ◌≢◌, refl, sym, ap, ◌∙◌, subst, inl, inr, ℕ, zero, suc, Bool, true, false, List, [], ◌∷◌, ◌++◌, append-nil, append_assoc, Option, Some, None, Result, Ok, Err}
 use Rattle.fts_tables.specs.Coming.{Coming}
 use Rattle.fts_tables.specs.Step.{step}
 use Rattle.fts_tables.specs.History.{tables_of}
@@ -143,37 +143,21 @@ items_with opening before turn own is =
     ap (λ l. opening ++ l) (items_on before (turn ∷ []) ∙ ap (λ l. items_of before ++ l) (append-nil turn.items ∙ is ∙ append-nil own))
     ∙ sym (append_assoc opening (items_of before) own)
 
--- a turn that ends so
-drained_end : (end : Turn) → worker_end_of end ≡ Some worker_ends.Drained → end ≡ turn_ends.Stopping
-drained_end turn_ends.Idle is = absurd cc
-drained_end turn_ends.Stopping is = refl
-drained_end (turn_ends.Done file) is = absurd cc
-drained_end (turn_ends.Failed file) is = absurd cc
-drained_end (turn_ends.Retried file) is = absurd cc
-drained_end (turn_ends.Cancelled file) is = absurd cc
-drained_end (turn_ends.Stale file) is = absurd cc
-drained_end (turn_ends.DiskFailed zero) is = absurd cc
-drained_end (turn_ends.DiskFailed (suc more)) is = absurd cc
-drained_end (turn_ends.JournalFull used zero) is = absurd cc
-drained_end (turn_ends.JournalFull used (suc more)) is = absurd cc
-drained_end (turn_ends.Memory zero) is = absurd cc
-drained_end (turn_ends.Memory (suc more)) is = absurd cc
-
--- no turn stops a worker
-never_stopped : (end : Turn) → worker_end_of end ≡ Some worker_ends.Stopped → ⊥
-never_stopped turn_ends.Idle is = absurd cc
-never_stopped turn_ends.Stopping is = absurd cc
-never_stopped (turn_ends.Done file) is = absurd cc
-never_stopped (turn_ends.Failed file) is = absurd cc
-never_stopped (turn_ends.Retried file) is = absurd cc
-never_stopped (turn_ends.Cancelled file) is = absurd cc
-never_stopped (turn_ends.Stale file) is = absurd cc
-never_stopped (turn_ends.DiskFailed zero) is = absurd cc
-never_stopped (turn_ends.DiskFailed (suc more)) is = absurd cc
-never_stopped (turn_ends.JournalFull used zero) is = absurd cc
-never_stopped (turn_ends.JournalFull used (suc more)) is = absurd cc
-never_stopped (turn_ends.Memory zero) is = absurd cc
-never_stopped (turn_ends.Memory (suc more)) is = absurd cc
+-- a turn by which a worker drains is one that stops, and no turn stops a worker
+ends_by : (end : Turn) (by : WorkerEnd) → worker_end_of end ≡ Some by → (by ≡ worker_ends.Drained → end ≡ turn_ends.Stopping) × (by ≢ worker_ends.Stopped)
+ends_by turn_ends.Idle by is = absurd cc
+ends_by turn_ends.Stopping by is = ((λ drained. refl), (λ stopped. cc))
+ends_by (turn_ends.Done file) by is = absurd cc
+ends_by (turn_ends.Failed file) by is = absurd cc
+ends_by (turn_ends.Retried file) by is = absurd cc
+ends_by (turn_ends.Cancelled file) by is = absurd cc
+ends_by (turn_ends.Stale file) by is = absurd cc
+ends_by (turn_ends.DiskFailed zero) by is = ((λ drained. absurd cc), (λ stopped. cc))
+ends_by (turn_ends.DiskFailed (suc more)) by is = absurd cc
+ends_by (turn_ends.JournalFull used zero) by is = ((λ drained. absurd cc), (λ stopped. cc))
+ends_by (turn_ends.JournalFull used (suc more)) by is = absurd cc
+ends_by (turn_ends.Memory zero) by is = ((λ drained. absurd cc), (λ stopped. cc))
+ends_by (turn_ends.Memory (suc more)) by is = absurd cc
 
 -- at a closed gate no worker drains
 never_drained : (would : Option WorkerEnd) → stopped_instead would ≡ Some worker_ends.Drained → ⊥
@@ -187,12 +171,12 @@ never_drained (Some worker_ends.Memory) is = absurd cc
 -- a worker that ended drained did so by its last turn, and one that was stopped by none
 drained_behind : {closes : Bool} {last : Turn} {held : List Held} {end : Option WorkerEnd} → EndsBehind closes last held end → end ≡ Some worker_ends.Drained
     → last ≡ turn_ends.Stopping
-drained_behind {last = last} (inl by_turn) is = drained_end last (sym by_turn ∙ is)
+drained_behind {last = last} (inl by_turn) is = (ends_by last worker_ends.Drained (sym by_turn ∙ is)).0 refl
 drained_behind {last = last} (inr stopped) is = absurd (never_drained (worker_end_of last) (sym stopped.2 ∙ is))
 
 stopped_behind : {closes : Bool} {held : List Held} {end : Option WorkerEnd} (last : Turn) → EndsBehind closes last held end → end ≡ Some worker_ends.Stopped
     → (held ≡ []) × (closes ≡ true)
-stopped_behind last (inl by_turn) is = absurd (never_stopped last (sym by_turn ∙ is))
+stopped_behind last (inl by_turn) is = absurd ((ends_by last worker_ends.Stopped (sym by_turn ∙ is)).1 refl)
 stopped_behind last (inr stopped) is = (stopped.1, stopped.0)
 
 -- no report ends a turn so

@@ -4,8 +4,7 @@ use Rattle.fts_tables.specs.History.{IsLegal}
 use Rattle.fts_tables.specs.declared.commands.Entry.{Entry}
 use Rattle.fts_turnstile.specs.declared.turn.LoggedTurn.{LoggedTurn}
 use Rattle.fts_turnstile.specs.History.{AllNamed, NoneBy, OnlyOthersSince, items_of}
-use Rattle.fts_turnstile.specs.Passes.{PassView, IsSame, seen_list}
-use Rattle.fts_workers.specs.declared.held.Held.{Held}
+use Rattle.fts_turnstile.specs.Passes.{PassView, IsSame}
 use Rattle.fts_shop.specs.Looking.{LeaveLanes, NoneOf}
 use Rattle.fts_shop.specs.Shops.{writer_of}
 use Rattle.fts_shop.specs.Workers.{StationData, WorkerDone}
@@ -16,6 +15,7 @@ use Rattle.fts_service.specs.declared.lane.Booth.{Booth}
 use Rattle.fts_ledger.specs.Ledger.{KeepsLedger, MayKeep}
 use Rattle.fts_ledger.specs.Fitting.{FitsPass}
 use Rattle.fts_ledger.specs.Reports.{AddsAsked, AddsWork, ReportsOwn}
+use Rattle.fts_serving.specs.Cited.{Laws}
 use Rattle.fts_serving.proofs.Lanes.{ended_asked, ended_there, ended_turns, lane_ended}
 use Rattle.fts_serving.proofs.Open.{LaneTurns, has_turn, none_there}
 use Rattle.fts_serving.proofs.Own.{leave_none, leave_on, none_items, named_back}
@@ -65,18 +65,6 @@ of_lane sides all_doors clocks connections turns old new unseen named since serv
           (ended_turns old.pass new.pass seen.later ended seen.none (none_there old.pass.number seen.later seen.none));
       there = ap (has_turn old.pass.number) seen.is ∙ ended_there old.pass new.pass seen.later ended;
     }
-
--- the laws of `fts_ledger` that are cited here
-pub record Laws {E : Type 0} (stores : store.Ghosts E) : Type 0 where
-  pub begins : (pass : PassView Entry) → NoneOf pass.number (items_of pass.seen) → FitsPass pass []
-  pub worker : (closes : Bool) (old new : StationData E) → WorkerDone stores closes old new → MayKeep old.pass new.pass old.held
-      → KeepsLedger old.pass new.pass new.held
-  pub legal : (pass : PassView Entry) (later : List (LoggedTurn Entry)) → IsLegal (pass.opening ++ items_of (pass.seen ++ later)) → IsLegal (seen_list pass)
-  pub own : (old new : PassView Entry) (held : List Held) (later : List (LoggedTurn Entry)) → KeepsLedger old new held
-      → NoneOf old.number (items_of old.seen) → NoneOf old.number (items_of later)
-      → ReportsOwn old.number old.opening [] (items_of (new.seen ++ later))
-  pub work : (old new : PassView Entry) (held : List Held) (later : List (LoggedTurn Entry)) → KeepsLedger old new held
-      → NoneOf old.number (items_of old.seen) → NoneOf old.number (items_of later) → AddsWork old.number (items_of (new.seen ++ later))
 
 module _ {E : Type 0} (stores : store.Ghosts E) (laws : Laws stores)
     (turns : List (LoggedTurn Entry)) (old new : StationData E) (unseen : old.pass.seen ≡ []) (empty : old.held ≡ [])

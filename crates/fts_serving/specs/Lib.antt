@@ -1,2 +1,3 @@
+pub mod Cited
 pub mod Ends
 pub mod Finishes

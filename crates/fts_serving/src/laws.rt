@@ -14,6 +14,7 @@ ghost use Rattle.fts_top.specs.Serves.{ClosesServed, IsServingRun, ManyThreads, 
 ghost use Rattle.fts_top.specs.declared.ends.RunEnd.{RunEnd};
 ghost use Rattle.fts_service.specs.declared.lane.Lane.{Lane};
 ghost use Rattle.fts_top.specs.declared.tally.Tally.{Tally};
+ghost use Rattle.fts_serving.specs.Cited.{ListLaws, StoreLaws};
 ghost use Rattle.fts_serving.specs.Ends.{IsOpenedBy, KeepTheLedger, KeptWhereServed, LeavesDisk, LeavesNoneOut, entries_added};
 ghost use Rattle.fts_serving.specs.Finishes.{BreaksNoRule, DoorsRose, EachLane, Finishes, LinesAre};
 ghost use Rattle.fts_service.specs.Worlds.{world_of};
@@ -28,6 +29,19 @@ use fts_store::Store;
 use fts_tables::{Clock, Words};
 use fts_top::Doors;
 
+/// The laws that are cited here: of every list, and of every station over this kind of store.
+fn cited_laws<E: Store>()
+    ensures lists { ListLaws }
+    ensures stores { StoreLaws E.Store }
+{
+    turns_keep_the_ledger::<E>();
+    own_reports_disturb_nobody();
+    passes_see_one_list();
+    undisturbed_stores_follow::<E>();
+    files_out_have_claimants();
+    idle_claims_find_none();
+}
+
 /// Lanes and workers that ran over a list, which is legal, keep the ledger: lanes add clients' commands alone and workers claims and reports;
 /// each report is of a file whose last claim is the writer's own, so nobody takes a file from a worker; each station's store follows from the reports
 /// of its pass, and no turn is stale. An entry in doubt at the end, where none was at the beginning, came into doubt in a turn of its writer, in which the
@@ -41,12 +55,7 @@ pub fn lanes_and_workers_keep_the_ledger<D: Disk, E: Store, C: Clock, W: Words, 
         → lanes ≤ length before → workers ≤ length hands → 1 ≤ workers
         → KeepTheLedger (world_of D.Disk E.Store A.Doors A.Line.Source A.Line.Sink C.Clock W.Words closes) serves }
 {
-    turns_keep_the_ledger::<E>();
-    own_reports_disturb_nobody();
-    passes_see_one_list();
-    undisturbed_stores_follow::<E>();
-    files_out_have_claimants();
-    idle_claims_find_none();
+    cited_laws::<E>();
 }
 
 /// A run that serves keeps the ledger where its lanes began (`ledger`), over every disk. Where it ended with status 0, it left a list behind which no
@@ -67,12 +76,7 @@ pub fn runs_that_serve_leave_nothing<D: Disk, E: Store, C: Clock, W: Words, A: D
         → status_of end ≡ 23 → length before.lanes ≡ MAX_LANES → lanes ≤ MAX_LANES → length before.hands ≡ MAX_WORKERS
         → LeavesNoneOut D.Disk before.disk after.disk }
 {
-    turns_keep_the_ledger::<E>();
-    own_reports_disturb_nobody();
-    passes_see_one_list();
-    undisturbed_stores_follow::<E>();
-    files_out_have_claimants();
-    idle_claims_find_none();
+    cited_laws::<E>();
 }
 
 /// A run that serves comes to its end: where what it is given is told and breaks no rule, no doors fail, and the disk counts no failure from its
@@ -85,12 +89,7 @@ pub fn runs_that_serve_come_to_their_end<D: Disk, E: Store, C: Clock, W: Words, 
         → (ran : IsServingRun (world_of D.Disk E.Store A.Doors A.Line.Source A.Line.Sink C.Clock W.Words closes) lanes connections end tally text before after)
         → Finishes (world_of D.Disk E.Store A.Doors A.Line.Source A.Line.Sink C.Clock W.Words closes) ran }
 {
-    turns_keep_the_ledger::<E>();
-    own_reports_disturb_nobody();
-    passes_see_one_list();
-    undisturbed_stores_follow::<E>();
-    files_out_have_claimants();
-    idle_claims_find_none();
+    cited_laws::<E>();
 }
 
 /// Of each used lane whose doors' count didn't rise the lines are accounted for: its doors gave them in order and have them back, and none is to come, or

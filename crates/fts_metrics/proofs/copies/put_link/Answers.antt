@@ -17,12 +17,12 @@ told samples rows source dest text number answer counted is =
     ap (λ answer. text ++ cond answer (samples source dest) [])
     (any_counted (is_on_link source dest) rows ∙ ap (λ (number : ℕ). not (number == 0)) (sym counted) ∙ sym is)
 
-pub returns-then-has_rows : goal.returns-then-has_rows
-returns-then-has_rows c = λ tables reports stands.
+pub returns-in_ok-labels : goal.returns-in_ok-labels
+returns-in_ok-labels c = λ tables reports stands.
     subst (λ (l : List ℕ). OnOk c.put_samples.result (c.put_samples.new.text.items ≡ l))
     (sym (told (samples_of c.args.metric tables reports) tables.rows c.args.source.now c.args.dest.now c.args.text.now.items _ true stands.rows
     (sym c.if-has_rows.true ∙ c.has_rows.ensures)))
-    (c.put_samples.ensures tables reports stands)
+    (c.put_samples.ensures tables reports c.args.source.now c.args.dest.now (c.deref.ensures.value ∙ c.in_ok-labels.ensures) stands)
 
 pub returns-else-has_rows : goal.returns-else-has_rows
 returns-else-has_rows c = λ tables reports stands.

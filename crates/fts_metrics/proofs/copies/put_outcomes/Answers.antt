@@ -14,18 +14,18 @@ unfolding outcome_samples
 returns c = λ reports stand.
     let line : List ℕ → ℕ → List ℕ =
     λ word number. sample (codes "fts_reports_total") (two_labels c.args.labels.now (label (codes "outcome") word)) number in
-    let told : (word : List ℕ) (place number at : ℕ) → number ≡ slice_index c.args.numbers.now at → place < 8 → at ≡ c.args.place * 8 + place
+    let told : (word : List ℕ) (place at : ℕ) → place < 8 → at ≡ c.args.place * 8 + place
     → count_by (λ (report : CopyReport). outcome_place report.outcome == place) reports ≡ reports_of_word reports word
-    → number ≡ reports_of_word reports word
-    = λ word place number at read low is counted. read ∙ ap (slice_index c.args.numbers.now) is ∙ stand place low ∙ counted in
-    let verified = told (codes "verified") 0 _ _ c.number_at-verified.ensures (omega arith) (omega arith) (reports_like reports (Verified 0 [])) in
-    let missing = told (codes "source_missing") 1 _ _ c.number_at-missing.ensures (omega arith) (omega arith) (reports_like reports SourceMissing) in
-    let exists = told (codes "destination_exists") 2 _ _ c.number_at-exists.ensures (omega arith) (omega arith) (reports_like reports DestinationExists) in
-    let size = told (codes "source_size") 3 _ _ c.number_at-size.ensures (omega arith) (omega arith) (reports_like reports (SourceSize 0)) in
-    let digest = told (codes "source_digest") 4 _ _ c.number_at-digest.ensures (omega arith) (omega arith) (reports_like reports (SourceDigest [])) in
-    let differs = told (codes "read_back_differs") 5 _ _ c.number_at-differs.ensures (omega arith) (omega arith) (reports_like reports (ReadBackDiffers 0)) in
-    let failed = told (codes "store_failed") 6 _ _ c.number_at-failed.ensures (omega arith) (omega arith) (reports_like reports StoreFailed) in
-    let stopped = told (codes "stopped") 7 _ _ c.number_at-stopped.ensures (omega arith) (omega arith) (reports_like reports Stopped) in
+    → slice_index c.args.numbers.now at ≡ reports_of_word reports word
+    = λ word place at low is counted. ap (slice_index c.args.numbers.now) is ∙ stand place low ∙ counted in
+    let verified = told (codes "verified") 0 (c.args.place * 8) (omega arith) (omega arith) (reports_like reports (Verified 0 [])) in
+    let missing = told (codes "source_missing") 1 (c.args.place * 8 + 1) (omega arith) (omega arith) (reports_like reports SourceMissing) in
+    let exists = told (codes "destination_exists") 2 (c.args.place * 8 + 2) (omega arith) (omega arith) (reports_like reports DestinationExists) in
+    let size = told (codes "source_size") 3 (c.args.place * 8 + 3) (omega arith) (omega arith) (reports_like reports (SourceSize 0)) in
+    let digest = told (codes "source_digest") 4 (c.args.place * 8 + 4) (omega arith) (omega arith) (reports_like reports (SourceDigest [])) in
+    let differs = told (codes "read_back_differs") 5 (c.args.place * 8 + 5) (omega arith) (omega arith) (reports_like reports (ReadBackDiffers 0)) in
+    let failed = told (codes "store_failed") 6 (c.args.place * 8 + 6) (omega arith) (omega arith) (reports_like reports StoreFailed) in
+    let stopped = told (codes "stopped") 7 (c.args.place * 8 + 7) (omega arith) (omega arith) (reports_like reports Stopped) in
     let one = c.in_ok-put_outcome.ensures ∙ (λ i. c.args.text.now.items ++ line (codes "verified") (verified i)) in
     let two = c.in_ok-put_outcome-2.ensures ∙ (λ i. one i ++ line (codes "source_missing") (missing i)) in
     let three = c.in_ok-put_outcome-3.ensures ∙ (λ i. two i ++ line (codes "destination_exists") (exists i)) in

@@ -1,12 +1,10 @@
 -- The samples of the links from one endpoint more.
 use Rattle.std.proofs.Common.{codes, ◌≡◌, ◌++◌, ◌∙◌, List, ℕ, take, ap, sym, arith, rules}
 use Rattle.std.proofs.lemmas.Grind.{common_steps}
-use Rattle.std.specs.Prelude.{◌==◌, filter}
 use Rattle.std.specs.List.{flat_map}
 use Rattle.fts_tables.specs.declared.settings.Endpoint.{Endpoint}
 use Rattle.fts_metrics.specs.Form.{head}
 use Rattle.fts_metrics.specs.Metrics.{files_from}
-use Rattle.fts_metrics.specs.declared.goings.Going.{Going}
 use Rattle.fts_tables.specs.SettingsData.{is_listed}
 use Rattle.fts_counts.proofs.Places.{listed_at}
 use Rattle.fts_metrics.proofs.Texts.{goes_on, line_more}
@@ -19,10 +17,9 @@ loop-endpoint-preserved c = λ rows goings.
     let name = c.as_str-source.ensures.text in
     let listed = ap (is_listed endpoints) name
     ∙ listed_at endpoints c.loop-endpoint.endpoint-index endpoint c.loop-endpoint-test.true (sym c.endpoint-item.is) in
-    let away = c.deref.ensures.value ∙ c.in_ok-away.ensures ∙ (λ i. filter (λ (going : Going). going.source == c.place_of.ensures i) (goings i)) in
     line_more (λ (endpoint : Endpoint). files_from rows endpoints endpoint.name) endpoints c.loop-endpoint.endpoint-index endpoint c.loop-endpoint-test.true
     (sym c.endpoint-item.is) c.put_head.new.text.items c.loop-endpoint.text.items c.put_files_from.new.text.items (c.loop-endpoint.invariant rows goings)
-    (c.in_ok-put_files_from.ensures rows listed away ∙ ap (λ (name : List ℕ). c.loop-endpoint.text.items ++ files_from rows endpoints name) name)
+    (c.in_ok-put_files_from.ensures rows listed goings ∙ ap (λ (name : List ℕ). c.loop-endpoint.text.items ++ files_from rows endpoints name) name)
 
 pub returns : goal.returns
 returns c = λ rows goings.

@@ -20,8 +20,8 @@ returns-then-is_empty c = λ rows are.
     let text = c.args.text.now.items in
     sym (told c.args.states.now c.args.source.now c.args.dest.now rows text true are (sym c.if-is_empty.true ∙ c.is_empty.ensures) ∙ append-nil text)
 
-pub returns-else-is_empty : goal.returns-else-is_empty
-returns-else-is_empty c = λ rows are.
+pub returns-in_ok-labels : goal.returns-in_ok-labels
+returns-in_ok-labels c = λ rows are.
     subst (λ (l : List ℕ). OnOk c.put_files_on.result (c.put_files_on.new.text.items ≡ l))
     (sym (told c.args.states.now c.args.source.now c.args.dest.now rows c.args.text.now.items false are (sym c.if-is_empty.false ∙ c.is_empty.ensures)))
-    (c.put_files_on.ensures rows are)
+    (c.put_files_on.ensures rows c.args.source.now c.args.dest.now (c.deref.ensures.value ∙ c.in_ok-labels.ensures) are)

@@ -17,9 +17,9 @@ returns c =
     let goings = c.deref-2.ensures.value ∙ c.in_ok-goings.ensures in
     let jobs = c.in_ok-put_jobs.ensures ∙ ap (λ (l : List ℕ). l ++ jobs_text tables) c.new-text.ensures.items in
     let files = c.in_ok-put_files.ensures c.rows-rows.result.now goings ∙ (λ i. jobs i ++ files_text (rows i) (endpoints i)) in
-    let copied = c.in_ok-put_copied.ensures tables c.reports.result.now c.in_ok-totals.ensures
+    let copied = c.in_ok-put_copies.ensures tables c.reports.result.now c.in_ok-totals.ensures
     ∙ (λ i. files i ++ copied_text tables (reports i) (endpoints i)) in
-    let reported = c.in_ok-put_reports.ensures tables c.reports.result.now c.in_ok-totals.ensures
+    let reported = c.in_ok-put_copies-2.ensures tables c.reports.result.now c.in_ok-totals.ensures
     ∙ (λ i. copied i ++ reports_text tables (reports i) (endpoints i)) in
     let rows_of = λ (seen : List (Bor FileRow)). map (λ (row : Bor FileRow). row.now) seen in
     let active = ap rows_of c.deref-3.ensures.value ∙ c.in_ok-active.ensures ∙ (λ i. active_of (rows i)) in

@@ -5,7 +5,7 @@ use Rattle.fts_tables.specs.declared.settings.Endpoint.{Endpoint}
 use Rattle.fts_chronicle.specs.declared.chronicle.CopyReport.{CopyReport}
 use Rattle.fts_metrics.specs.Metrics.{links_from}
 use Rattle.fts_metrics.specs.Totals.{samples_of, AreTotals}
-use Rattle.fts_metrics.proofs.copies.put_links.Given as goal
+use Rattle.fts_metrics.proofs.copies.put_copies.Given as goal
 
 abbrev pub invariant-loop-endpoint : goal.invariant-loop-endpoint
 invariant-loop-endpoint l = (tables : Tables) (reports : List CopyReport) → AreTotals l.endpoints tables reports l.totals
