@@ -1,14 +1,14 @@
 //! Chunks in order, whose keys one after the other are the keys of a set, and spare ones.
 //! A search goes over the last keys of the chunks, and then over the keys of one. A key more or less moves only keys of one chunk, or of two neighbours.
-//! A chunk that gets full is split in halves. One that has, with a neighbour, less than half of what a chunk holds takes on that neighbour's keys: so
-//! there are never more chunks than `chunks_for`. Nothing here takes or gives back memory.
+//! Each chunk is at least half full, but for one that stands alone, so there are never more of them than `chunks_for`. A chunk that gets full is split in
+//! halves. One that has a key less than half takes a key from a neighbour that has more than half, or else the two become one. Nothing here takes or
+//! gives back memory.
 //! A place of a key is one word, `IsGapFor`: all in front of it stand before the key, and none from there on does.
 ghost use Rattle.std.specs.Prelude.{
   ◌≡◌,
   ◌<◌,
   ◌≤◌,
   ◌+◌,
-  ◌++◌,
   ◌∷◌,
   ◌-◌,
   suc,
@@ -17,7 +17,6 @@ ghost use Rattle.std.specs.Prelude.{
   take,
   drop,
   insert,
-  remove,
   slice_get,
   slice_set,
   true,
@@ -35,6 +34,8 @@ ghost use Rattle.ordered.specs.Chunks.{
   front_of,
   back_of,
   IsGapFor,
+  parted_at,
+  merged_at,
   AreFit,
   HasLostOne,
 };
@@ -73,7 +74,7 @@ fn chunk_for<K: Key>(chunks: &[Chunk<K>], key: &K) -> usize
 pub fn spot_for<K: Key>(chunks: &[Chunk<K>], key: &K) -> Spot
     requires some { 0 < length chunks.now }
     requires order { AreSortedBy K.before (joined chunks.now) }
-    requires fit { AreFit CHUNK_HALF chunks.now }
+    requires fit { AreFit chunks.now }
     ensures chunk { result.chunk < length chunks.now }
     ensures at { result.at ≤ length (chunk_at chunks.now result.chunk) }
     ensures inside { result.chunk + 1 < length chunks.now → result.at < length (chunk_at chunks.now result.chunk) }
@@ -88,7 +89,7 @@ pub fn spot_for<K: Key>(chunks: &[Chunk<K>], key: &K) -> Spot
 pub fn key_at<K: Key>(chunks: &[Chunk<K>], spot: Spot) -> Option<K>
     requires chunk { spot.chunk < length chunks.now }
     requires at { spot.at ≤ length (chunk_at chunks.now spot.chunk) }
-    requires fit { AreFit CHUNK_HALF chunks.now }
+    requires fit { AreFit chunks.now }
     ensures key { result ≡ slice_get (back_of chunks.now spot.chunk spot.at) 0 }
 {
     if spot.at < chunks[spot.chunk].len() {
@@ -118,8 +119,7 @@ fn merge<K: Key>(chunks: &mut Vec<Chunk<K>>, spare: &mut Vec<Chunk<K>>, at: usiz
     requires inside { at + 1 < length chunks.old.items }
     requires few { length (chunk_at chunks.old.items at) + length (chunk_at chunks.old.items (at + 1)) < CHUNK_ROOM }
     requires memory { length spare.old.items < vec_capacity spare.old }
-    ensures chunks { chunks.new.items ≡ slice_set (remove chunks.old.items (at + 1)) at
-        (chunk_at chunks.old.items at ++ chunk_at chunks.old.items (at + 1)) }
+    ensures chunks { chunks.new.items ≡ merged_at chunks.old.items at }
     ensures spare { length spare.new.items ≡ length spare.old.items + 1 }
     ensures capacity { vec_capacity chunks.new ≡ vec_capacity chunks.old }
     ensures spare_capacity { vec_capacity spare.new ≡ vec_capacity spare.old }
@@ -127,6 +127,34 @@ fn merge<K: Key>(chunks: &mut Vec<Chunk<K>>, spare: &mut Vec<Chunk<K>>, at: usiz
     let behind = chunks.remove(at + 1);
     chunks[at].append(&behind);
     spare.push_reserved(behind);
+}
+
+/// Moves the first key of the next chunk into one.
+fn take_from_next<K: Key>(chunks: &mut Vec<Chunk<K>>, at: usize)
+    requires inside { at + 1 < length chunks.old.items }
+    requires some { 0 < length (chunk_at chunks.old.items (at + 1)) }
+    requires room { length (chunk_at chunks.old.items at) < CHUNK_ROOM }
+    ensures chunks { chunks.new.items ≡ parted_at chunks.old.items at (length (chunk_at chunks.old.items at) + 1) }
+    ensures capacity { vec_capacity chunks.new ≡ vec_capacity chunks.old }
+{
+    let key = chunks[at + 1].get(0);
+    let end = chunks[at].len();
+    chunks[at].insert(end, key);
+    chunks[at + 1].remove(0);
+}
+
+/// Moves the last key of a chunk into the next.
+fn give_to_next<K: Key>(chunks: &mut Vec<Chunk<K>>, at: usize)
+    requires inside { at + 1 < length chunks.old.items }
+    requires some { 0 < length (chunk_at chunks.old.items at) }
+    requires room { length (chunk_at chunks.old.items (at + 1)) < CHUNK_ROOM }
+    ensures chunks { chunks.new.items ≡ parted_at chunks.old.items at (length (chunk_at chunks.old.items at) - 1) }
+    ensures capacity { vec_capacity chunks.new ≡ vec_capacity chunks.old }
+{
+    let last = chunks[at].len() - 1;
+    let key = chunks[at].get(last);
+    chunks[at].remove(last);
+    chunks[at + 1].insert(0, key);
 }
 
 /// Puts a key into a spare chunk, where there is no other.
@@ -143,12 +171,12 @@ fn put_first<K: Key>(chunks: &mut Vec<Chunk<K>>, mut spare: Chunk<K>, key: K)
 /// Puts a key where it is to stand. A spare chunk is there in case.
 pub fn put<K: Key>(chunks: &mut Vec<Chunk<K>>, spare: &mut Vec<Chunk<K>>, key: K)
     requires order { AreSortedBy K.before (joined chunks.old.items) }
-    requires fit { AreFit CHUNK_HALF chunks.old.items }
+    requires fit { AreFit chunks.old.items }
     requires absent { IsFalse (has_key K.before key (joined chunks.old.items)) }
     requires spare { 0 < length spare.old.items }
     requires memory { length chunks.old.items < vec_capacity chunks.old }
     ensures keys { joined chunks.new.items ≡ put_by K.before key (joined chunks.old.items) }
-    ensures fit { AreFit CHUNK_HALF chunks.new.items }
+    ensures fit { AreFit chunks.new.items }
     ensures whole { length chunks.new.items + length spare.new.items ≡ length chunks.old.items + length spare.old.items }
     ensures capacity { vec_capacity chunks.old ≤ vec_capacity chunks.new }
     ensures spare_capacity { vec_capacity spare.new ≡ vec_capacity spare.old }
@@ -176,30 +204,40 @@ fn close_up<K: Key>(chunks: &mut Vec<Chunk<K>>, spare: &mut Vec<Chunk<K>>, at: u
     requires lost { HasLostOne chunks.old.items at }
     requires memory { length spare.old.items < vec_capacity spare.old }
     ensures keys { joined chunks.new.items ≡ joined chunks.old.items }
-    ensures fit { AreFit CHUNK_HALF chunks.new.items }
+    ensures fit { AreFit chunks.new.items }
     ensures whole { length chunks.new.items + length spare.new.items ≡ length chunks.old.items + length spare.old.items }
     ensures capacity { vec_capacity chunks.new ≡ vec_capacity chunks.old }
     ensures spare_capacity { vec_capacity spare.new ≡ vec_capacity spare.old }
 {
     let here = chunks[at].len();
-    if here == 0 {
-        let empty = chunks.remove(at);
-        spare.push_reserved(empty);
-    } else if at + 1 < chunks.len() && here + chunks[at + 1].len() < CHUNK_HALF {
-        merge(chunks, spare, at);
-    } else if at > 0 && here + chunks[at - 1].len() < CHUNK_HALF {
-        merge(chunks, spare, at - 1);
+    if chunks.len() == 1 {
+        if here == 0 {
+            let empty = chunks.remove(at);
+            spare.push_reserved(empty);
+        }
+    } else if here < CHUNK_HALF {
+        if at + 1 < chunks.len() {
+            if chunks[at + 1].len() > CHUNK_HALF {
+                take_from_next(chunks, at);
+            } else {
+                merge(chunks, spare, at);
+            }
+        } else if chunks[at - 1].len() > CHUNK_HALF {
+            give_to_next(chunks, at - 1);
+        } else {
+            merge(chunks, spare, at - 1);
+        }
     }
 }
 
 /// Takes a key away that is there.
 pub fn take_out<K: Key>(chunks: &mut Vec<Chunk<K>>, spare: &mut Vec<Chunk<K>>, key: &K)
     requires order { AreSortedBy K.before (joined chunks.old.items) }
-    requires fit { AreFit CHUNK_HALF chunks.old.items }
+    requires fit { AreFit chunks.old.items }
     requires there { IsTrue (has_key K.before key.now (joined chunks.old.items)) }
     requires memory { length spare.old.items < vec_capacity spare.old }
     ensures keys { joined chunks.new.items ≡ without K.before key.now (joined chunks.old.items) }
-    ensures fit { AreFit CHUNK_HALF chunks.new.items }
+    ensures fit { AreFit chunks.new.items }
     ensures whole { length chunks.new.items + length spare.new.items ≡ length chunks.old.items + length spare.old.items }
     ensures capacity { vec_capacity chunks.new ≡ vec_capacity chunks.old }
     ensures spare_capacity { vec_capacity spare.new ≡ vec_capacity spare.old }

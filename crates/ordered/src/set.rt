@@ -33,8 +33,8 @@ use crate::key::Key;
 use std::alloc::{AllocError, Global};
 use std::marker::Model;
 
-/// How many keys a chunk has at least, on an average of two neighbours.
-const KEYS_A_CHUNK: usize = CHUNK_HALF / 2;
+/// How many keys a chunk has at least, but for one that stands alone.
+const KEYS_A_CHUNK: usize = CHUNK_HALF;
 
 /// Keys in their order.
 pub struct Ordered<K: Key> {

@@ -1,9 +1,8 @@
 use Rattle.std.proofs.Common.{suc, ◌+◌, ◌<◌, ◌≤◌, [], length, ap, sym, ◌∙◌, subst, arith}
 use Rattle.std.specs.Prelude.{slice_get}
 use Rattle.std.proofs.lemmas.List.{get_or_read}
-use Rattle.ordered.specs.declared.chunk.TheConstants.{CHUNK_HALF}
 use Rattle.ordered.specs.Chunks.{chunk_at}
-use Rattle.ordered.proofs.Fits.{fit_filled}
+use Rattle.ordered.proofs.Fits.{fit_some, fit_filled}
 use Rattle.ordered.proofs.Places.{first_within, first_behind, none_behind}
 use Rattle.ordered.proofs.chunks.key_at.Goals as goal
 
@@ -13,7 +12,7 @@ get-requires-then-spot-chunks g c =
     c.index-chunks-spot-then-spot-chunks.is [] in
     record {
       inside = subst (λ keys. 0 < length keys) (sym same)
-          (fit_filled CHUNK_HALF c.args.chunks.now (c.args.spot.chunk + 1) c.requires.fit c.if-spot-chunks.true);
+          (fit_filled c.args.chunks.now (c.args.spot.chunk + 1) c.requires.fit c.if-spot-chunks.true);
     }
 
 pub returns-then-spot-len : goal.returns-then-spot-len
@@ -40,7 +39,7 @@ returns-then-spot-chunks g c =
       key = sym c.get-then-spot-chunks.ensures.key
           ∙ (ap (λ keys. slice_get keys 0) same
           ∙ (ap (λ n. slice_get (chunk_at c.args.chunks.now n) 0) {x = c.args.spot.chunk + 1} {y = suc c.args.spot.chunk} (omega arith)
-          ∙ sym (first_behind CHUNK_HALF c.args.chunks.now c.args.spot.chunk c.args.spot.at c.requires.fit (omega (arith, c.if-spot-chunks.true)) past)));
+          ∙ sym (first_behind c.args.chunks.now c.args.spot.chunk c.args.spot.at (fit_some c.args.chunks.now c.requires.fit) (omega (arith, c.if-spot-chunks.true)) past)));
     }
 
 pub returns-else-spot-chunks : goal.returns-else-spot-chunks
