@@ -1,6 +1,6 @@
--- The first of a queue in line goes first of all files of the queue whose destination is free.
-use Rattle.std.proofs.Common.{◌≡◌, ℕ, suc, zero, Bool, true, false, List, [], ◌∷◌, ◌++◌, Option, Some, None, map, refl, ap, sym, ◌∙◌, arith}
-use Rattle.std.specs.Prelude.{not, nat_lt, ◌==◌, ◌||◌, ◌&&◌, find, slice_index_or, IfSome, IfNone}
+-- The first of a queue in line goes first of all files of the queue whose destination is known and free.
+use Rattle.std.proofs.Common.{◌≡◌, ℕ, suc, zero, Bool, true, false, List, [], ◌∷◌, ◌++◌, length, Option, Some, None, map, refl, ap, sym, ◌∙◌, arith}
+use Rattle.std.specs.Prelude.{not, nat_lt, ◌==◌, ◌||◌, ◌&&◌, find, IfSome, IfNone}
 use Rattle.std.specs.List.{AllByRecursion, list_any}
 use Rattle.std.proofs.lemmas.Bool.{and_parts, and_from, and_right}
 use Rattle.std.proofs.lemmas.Bool.Decides.{nat_tests}
@@ -11,7 +11,7 @@ use Rattle.fts_heads.specs.declared.ripe_file.RipeFile.{RipeFile}
 use Rattle.fts_heads.specs.declared.ripe_file.Lined.{Lined}
 use Rattle.fts_heads.specs.RipeFiles.{goes_by_group, goes_in_line, by_group, in_line, is_in}
 use Rattle.fts_heads.specs.Keys.{is_line_before}
-use Rattle.fts_heads.specs.Heads.{leads, is_lined, is_free, AreHeads, IsFirstOf, is_one, goes_ahead}
+use Rattle.fts_heads.specs.Heads.{leads, is_lined, is_open, AreHeads, IsFirstOf, is_one, goes_ahead}
 use Rattle.fts_heads.proofs.Found.{no, IsFound, is_found, none_found}
 use Rattle.fts_heads.proofs.Ranges.{start_at, IsNext, next, next_leads, not_before_start, to_false, both_same, any_there, leader}
 use Rattle.fts_heads.proofs.Upkeep.{lined_waits, passes_on}
@@ -36,8 +36,8 @@ pub record IsOfGroup (dest queue other_dest other_queue : ℕ) : Type 0 where
   pub same_dest : other_dest ≡ dest
   pub same_queue : other_queue ≡ queue
 
-of_group : (dest queue other_dest other_queue : ℕ) (rest other_rest : Bool) → is_first_by other_dest dest (is_first_by other_queue queue rest) ≡ false
-    → is_first_by dest other_dest (is_first_by queue other_queue other_rest) ≡ false → IsOfGroup dest queue other_dest other_queue
+of_group : (dest queue other_dest other_queue : ℕ) (rest other_rest : Bool) → is_first_by dest other_dest (is_first_by other_queue queue rest) ≡ false
+    → is_first_by other_dest dest (is_first_by queue other_queue other_rest) ≡ false → IsOfGroup dest queue other_dest other_queue
 of_group dest queue other_dest other_queue rest other_rest first second = record {
   same_dest = grind (arith, nat_tests);
   same_queue = grind (arith, nat_tests);
@@ -45,7 +45,7 @@ of_group dest queue other_dest other_queue rest other_rest first second = record
 
 -- in one group the orders agree
 line_in_group : (queue other_queue dest other_dest rank other_rank file other_file : ℕ) → other_queue ≡ queue → other_dest ≡ dest
-    → is_first_by dest other_dest (is_first_by queue other_queue (is_first_by rank other_rank (nat_lt file other_file))) ≡ false
+    → is_first_by other_dest dest (is_first_by queue other_queue (is_first_by rank other_rank (nat_lt file other_file))) ≡ false
     → is_first_by queue other_queue (is_first_by rank other_rank (is_first_by file other_file (nat_lt dest other_dest))) ≡ false
 line_in_group queue other_queue dest other_dest rank other_rank file other_file same_queue same_dest is = grind (arith, nat_tests)
 
@@ -83,30 +83,30 @@ module _ (busy : List Bool) (files : List RipeFile) (line : List Lined) (queue :
     (sorted : AreSortedBy goes_by_group files)
     (lines : AreSortedBy is_line_before line) where
   -- the head of a file that passes stands in line
-  head_lined : (waiter : RipeFile) (has : HasHead files waiter) → (is_in queue waiter && is_free busy waiter.dest) ≡ true
+  head_lined : (waiter : RipeFile) (has : HasHead files waiter) → (is_in queue waiter && is_open busy waiter.dest) ≡ true
       → (is_lined line has.head ≡ true) × (is_in queue has.head ≡ true)
   head_lined waiter has passed =
-      let parts = and_parts (is_in queue waiter) (is_free busy waiter.dest) passed in (
+      let parts = and_parts (is_in queue waiter) (is_open busy waiter.dest) passed in (
         heads.lined has.head
-            ∙ (ap (λ (test : Bool). test && leads files has.head) (ap (is_free busy) has.dest ∙ parts.1)
+            ∙ (ap (λ (test : Bool). test && leads files has.head) (ap (is_open busy) has.dest ∙ parts.1)
             ∙ has.leading),
         ap (λ n. n == queue) has.queue ∙ parts.0,
       )
 
   pub first_is : (first : RipeFile) → find (is_in queue) (map (λ key. key.waiter) line) ≡ Some first
-      → IsFirstOf (λ waiter. is_in queue waiter && is_free busy waiter.dest) files first
+      → IsFirstOf (λ waiter. is_in queue waiter && is_open busy waiter.dest) files first
   first_is first is =
       let found = is_found goes_in_line in_line (is_in queue) (map (λ key. key.waiter) line) first (sorted_files line lines) is in
       let lined = sym (same_lined line first) ∙ found.there in
-      let free = (and_parts (is_free busy first.dest) (leads files first) (sym (heads.lined first) ∙ lined)).0 in
+      let free = (and_parts (is_open busy first.dest) (leads files first) (sym (heads.lined first) ∙ lined)).0 in
       record {
         there = lined_waits busy files line heads first lined;
-        passing = and_from (is_in queue first) (is_free busy first.dest) found.passing free;
+        passing = and_from (is_in queue first) (is_open busy first.dest) found.passing free;
         least = λ other there passed. least found other (has_head files other sorted there) passed;
       }
     where
       least : IsFound goes_in_line (is_in queue) (map (λ key. key.waiter) line) first → (other : RipeFile) → HasHead files other
-          → (is_in queue other && is_free busy other.dest) ≡ true → goes_in_line other first ≡ false
+          → (is_in queue other && is_open busy other.dest) ≡ true → goes_in_line other first ≡ false
       least found other has passed = to_false (goes_in_line other first) (λ goes.
           let stands = head_lined other has passed in
           let not_front : goes_in_line has.head first ≡ false =
@@ -120,19 +120,36 @@ module _ (busy : List Bool) (files : List RipeFile) (line : List Lined) (queue :
               sym goes ∙ (ap (λ some. goes_in_line some first) (sym (in_line.total has.head other is has.behind)) ∙ not_front)
 
   pub none_is : find (is_in queue) (map (λ key. key.waiter) line) ≡ None → (waiter : RipeFile) → has_key goes_by_group waiter files ≡ true
-      → (is_in queue waiter && is_free busy waiter.dest) ≡ false
-  none_is is waiter there = to_false (is_in queue waiter && is_free busy waiter.dest) (λ passed.
+      → (is_in queue waiter && is_open busy waiter.dest) ≡ false
+  none_is is waiter there = to_false (is_in queue waiter && is_open busy waiter.dest) (λ passed.
       let has = has_head files waiter sorted there in
       let stands = head_lined waiter has passed in
       sym stands.1
       ∙ none_found goes_in_line in_line (is_in queue) (map (λ key. key.waiter) line) is has.head (same_lined line has.head ∙ stands.0))
 
--- a destination more, and no file
-pub free_more : (busy : List Bool) (dest : ℕ) → slice_index_or (busy ++ (false ∷ [])) dest false ≡ slice_index_or busy dest false
-free_more [] zero = refl
-free_more [] (suc n) = refl
-free_more (first ∷ rest) zero = refl
-free_more (first ∷ rest) (suc n) = free_more rest n
+-- two numbers that differ, each one less
+another : (m n : ℕ) → (suc m == suc n) ≡ false → (m == n) ≡ false
+another m n is = grind (arith, nat_tests)
+
+-- a destination more opens no other
+open_more : (busy : List Bool) (dest : ℕ) → (dest == length busy) ≡ false → is_open (busy ++ (false ∷ [])) dest ≡ is_open busy dest
+open_more [] zero other = cc
+open_more [] (suc n) other = refl
+open_more (first ∷ rest) zero other = refl
+open_more (first ∷ rest) (suc n) other = open_more rest n (another n (length rest) other)
+
+-- so with one more, for which no file waits, the line stays as it is
+pub heads_more : (busy : List Bool) (files : List RipeFile) (line : List Lined) → AreHeads busy files line
+    → ((waiter : RipeFile) → has_key goes_by_group waiter files ≡ true → (waiter.dest == length busy) ≡ false)
+    → AreHeads (busy ++ (false ∷ [])) files line
+heads_more busy files line heads new = record { lined = λ waiter. heads.lined waiter ∙ by_test waiter (leads files waiter) refl }
+  where
+    by_test : (waiter : RipeFile) (answer : Bool) → leads files waiter ≡ answer
+        → (is_open busy waiter.dest && leads files waiter) ≡ (is_open (busy ++ (false ∷ [])) waiter.dest && leads files waiter)
+    by_test waiter true is =
+        ap (λ (test : Bool). test && leads files waiter) (sym (open_more busy waiter.dest (new waiter (leader files waiter is).there)))
+    by_test waiter false is =
+        and_right (is_open busy waiter.dest) (leads files waiter) is ∙ sym (and_right (is_open (busy ++ (false ∷ [])) waiter.dest) (leads files waiter) is)
 
 -- by what was found
 pub if_some : {A : Type 0} (P : A → Type 0) (answer : Option A) → ((found : A) → answer ≡ Some found → P found) → IfSome answer P
@@ -143,8 +160,8 @@ pub if_none : {A : Type 0} (P : Type 0) (answer : Option A) → (answer ≡ None
 if_none P None none = none refl
 if_none P (Some found) none = tt
 
-pub no_heads : (waiter : RipeFile) → is_lined [] waiter ≡ (is_free [] waiter.dest && leads [] waiter)
-no_heads waiter = sym (and_right (is_free [] waiter.dest) (leads [] waiter) refl)
+pub no_heads : (waiter : RipeFile) → is_lined [] waiter ≡ (is_open [] waiter.dest && leads [] waiter)
+no_heads waiter = sym (and_right (is_open [] waiter.dest) (leads [] waiter) refl)
 
 -- of two of a group, the one that is another than the file and not behind it goes ahead of it
 ahead_of : (file head : RipeFile) → head.dest ≡ file.dest → head.queue ≡ file.queue → goes_by_group file head ≡ false → is_one file head ≡ false

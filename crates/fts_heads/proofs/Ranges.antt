@@ -19,17 +19,17 @@ start_at dest queue = record { queue = queue; dest = dest; rank = 0; file = 0 }
 
 -- a file of the destination and of no lesser queue is not before the start
 pub not_before_start : (dest from other queue rank file : ℕ) → other ≡ dest → from ≤ queue
-    → is_first_by other dest (is_first_by queue from (is_first_by rank 0 (nat_lt file 0))) ≡ false
+    → is_first_by dest other (is_first_by queue from (is_first_by rank 0 (nat_lt file 0))) ≡ false
 not_before_start dest from other queue rank file same least = grind (arith, nat_tests)
 
 -- and one that is not before it is of no lesser queue
-no_lesser : (dest from other queue rank file : ℕ) → other ≡ dest → is_first_by other dest (is_first_by queue from (is_first_by rank 0 (nat_lt file 0))) ≡ false
+no_lesser : (dest from other queue rank file : ℕ) → other ≡ dest → is_first_by dest other (is_first_by queue from (is_first_by rank 0 (nat_lt file 0))) ≡ false
     → from ≤ queue
 no_lesser dest from other queue rank file same goes = grind (arith, nat_tests)
 
--- nor of a lesser destination
-pub no_lesser_dest : (dest from other queue : ℕ) (rest : Bool) → is_first_by other dest (is_first_by queue from rest) ≡ false → dest ≤ other
-no_lesser_dest dest from other queue rest goes = grind (arith, nat_tests)
+-- nor of a greater destination
+pub no_greater_dest : (dest from other queue : ℕ) (rest : Bool) → is_first_by dest other (is_first_by queue from rest) ≡ false → other ≤ dest
+no_greater_dest dest from other queue rest goes = grind (arith, nat_tests)
 
 -- what a range says
 pub record AreWithin (dest from to other queue : ℕ) : Type 0 where
@@ -49,26 +49,26 @@ pub to_within : (dest from to other queue : ℕ) → other ≡ dest → from ≤
 to_within dest from to other queue same least less = grind (arith, nat_tests)
 
 -- of two files of a destination the one of no greater queue, if it is behind, is in the same queue
-same_queue : (dest other queue other_queue : ℕ) (rest : Bool) → dest ≡ other → is_first_by dest other (is_first_by queue other_queue rest) ≡ true
+same_queue : (dest other queue other_queue : ℕ) (rest : Bool) → dest ≡ other → is_first_by other dest (is_first_by queue other_queue rest) ≡ true
     → other_queue < queue + 1 → queue ≡ other_queue
 same_queue dest other queue other_queue rest same goes less = grind (arith, nat_tests)
 
 -- one in front by destination or queue goes before
-before_by_dest : (dest other queue other_queue : ℕ) (rest : Bool) → dest < other → is_first_by dest other (is_first_by queue other_queue rest) ≡ true
-before_by_dest dest other queue other_queue rest smaller = grind (arith, nat_tests)
+before_by_dest : (dest other queue other_queue : ℕ) (rest : Bool) → other < dest → is_first_by other dest (is_first_by queue other_queue rest) ≡ true
+before_by_dest dest other queue other_queue rest greater = grind (arith, nat_tests)
 
 before_by_queue : (dest other queue other_queue : ℕ) (rest : Bool) → dest ≡ other → queue < other_queue
-    → is_first_by dest other (is_first_by queue other_queue rest) ≡ true
+    → is_first_by other dest (is_first_by queue other_queue rest) ≡ true
 before_by_queue dest other queue other_queue rest same smaller = grind (arith, nat_tests)
 
-goes_before : (dest other queue other_queue : ℕ) (rest : Bool) → dest ≤ other → (dest ≡ other → queue < other_queue)
-    → is_first_by dest other (is_first_by queue other_queue rest) ≡ true
-goes_before dest other queue other_queue rest least less = by_case (cases_lt dest other)
+goes_before : (dest other queue other_queue : ℕ) (rest : Bool) → other ≤ dest → (dest ≡ other → queue < other_queue)
+    → is_first_by other dest (is_first_by queue other_queue rest) ≡ true
+goes_before dest other queue other_queue rest most less = by_case (cases_lt other dest)
   where
-    by_case : (dest < other) ⊎ (other ≤ dest) → is_first_by dest other (is_first_by queue other_queue rest) ≡ true
-    by_case (inl smaller) = before_by_dest dest other queue other_queue rest smaller
-    by_case (inr greater) =
-        let same : dest ≡ other = omega (arith, least, greater) in
+    by_case : (other < dest) ⊎ (dest ≤ other) → is_first_by other dest (is_first_by queue other_queue rest) ≡ true
+    by_case (inl greater) = before_by_dest dest other queue other_queue rest greater
+    by_case (inr no_greater) =
+        let same : dest ≡ other = omega (arith, most, no_greater) in
         before_by_queue dest other queue other_queue rest same (less same)
 
 pub past_of : {Same Past : Type 0} → (Same × Past) ⊎ (Same → ⊥) → Same → Past
@@ -209,8 +209,8 @@ module _ (files : List RipeFile) (sorted : AreSortedBy goes_by_group files) (des
       let parts = and_parts (is_within dest from to waiter) (leads files waiter) both in
       let range = within dest from to waiter.dest waiter.queue parts.0 in
       let first = leader files waiter parts.1 in
-      let no_less : dest ≤ found.dest = no_lesser_dest dest from found.dest found.queue _ is.passing in
-      sym (goes_before waiter.dest found.dest waiter.queue found.queue _ (subst (λ n. n ≤ found.dest) (sym range.same) no_less)
+      let no_more : found.dest ≤ dest = no_greater_dest dest from found.dest found.queue _ is.passing in
+      sym (goes_before waiter.dest found.dest waiter.queue found.queue _ (subst (λ n. found.dest ≤ n) (sym range.same) no_more)
       (λ one. omega (arith, past (sym one ∙ range.same), range.less)))
       ∙ is.least waiter first.there range.same range.least)
 

@@ -1,5 +1,5 @@
 -- The line has the heads, and no others, after each call.
-use Rattle.std.proofs.Common.{◌≡◌, ℕ, ◌<◌, ◌+◌, ◌⊎◌, inl, inr, Bool, true, false, List, length, refl, ap, sym, ◌∙◌, subst, arith}
+use Rattle.std.proofs.Common.{◌≡◌, ℕ, ◌<◌, ◌≤◌, ◌+◌, ◌⊎◌, inl, inr, Bool, true, false, List, length, refl, ap, sym, ◌∙◌, subst, arith}
 use Rattle.std.specs.Prelude.{not, nat_lt, ◌==◌, ◌||◌, ◌&&◌, slice_set, slice_index_or}
 use Rattle.std.specs.List.{list_any}
 use Rattle.std.proofs.lemmas.Bool.{and_parts, cases_eq}
@@ -10,7 +10,7 @@ use Rattle.fts_heads.proofs.Tests.{same_answer}
 use Rattle.fts_heads.specs.declared.ripe_file.RipeFile.{RipeFile}
 use Rattle.fts_heads.specs.declared.ripe_file.Lined.{Lined}
 use Rattle.fts_heads.specs.RipeFiles.{goes_by_group, by_group}
-use Rattle.fts_heads.specs.Heads.{is_one, goes_ahead, leads, is_lined, is_within, is_free, AreHeads}
+use Rattle.fts_heads.specs.Heads.{is_one, goes_ahead, leads, is_lined, is_within, is_open, AreHeads}
 use Rattle.fts_heads.proofs.Found.{no}
 use Rattle.fts_heads.proofs.Ranges.{within, to_within, leader, ahead, to_false, both_same, any_there}
 
@@ -149,30 +149,32 @@ module _ (busy : List Bool) (files : List RipeFile) (line : List Lined) (heads :
   -- all in line wait
   pub lined_waits : (waiter : RipeFile) → is_lined line waiter ≡ true → has_key goes_by_group waiter files ≡ true
   lined_waits waiter lined =
-      (leader files waiter (and_parts (is_free busy waiter.dest) (leads files waiter) (sym (heads.lined waiter) ∙ lined)).1).there
+      (leader files waiter (and_parts (is_open busy waiter.dest) (leads files waiter) (sym (heads.lined waiter) ∙ lined)).1).there
 
   module _ (dest from to : ℕ) where
-    -- for a free destination all who lead stand in line
-    pub free_stand : is_free busy dest ≡ true → (waiter : RipeFile) → (is_within dest from to waiter && leads files waiter) ≡ true → is_lined line waiter ≡ true
-    free_stand free waiter is =
+    -- for an open destination all who lead stand in line
+    pub open_stand : is_open busy dest ≡ true → (waiter : RipeFile) → (is_within dest from to waiter && leads files waiter) ≡ true → is_lined line waiter ≡ true
+    open_stand opens waiter is =
         let parts = and_parts (is_within dest from to waiter) (leads files waiter) is in
         let range = within dest from to waiter.dest waiter.queue parts.0 in
         heads.lined waiter
-        ∙ (ap (λ (test : Bool). test && leads files waiter) (ap (is_free busy) range.same ∙ free)
+        ∙ (ap (λ (test : Bool). test && leads files waiter) (ap (is_open busy) range.same ∙ opens)
         ∙ parts.1)
 
-    -- for a busy one none does
-    pub busy_apart : is_free busy dest ≡ false → (waiter : RipeFile) → (is_within dest from to waiter && leads files waiter) ≡ true
+    -- for any other none does
+    pub shut_apart : is_open busy dest ≡ false → (waiter : RipeFile) → (is_within dest from to waiter && leads files waiter) ≡ true
         → is_lined line waiter ≡ false
-    busy_apart not_free waiter is =
+    shut_apart not_open waiter is =
         let parts = and_parts (is_within dest from to waiter) (leads files waiter) is in
         let range = within dest from to waiter.dest waiter.queue parts.0 in
-        heads.lined waiter ∙ ap (λ (test : Bool). test && leads files waiter) (ap (is_free busy) range.same ∙ not_free)
+        heads.lined waiter ∙ ap (λ (test : Bool). test && leads files waiter) (ap (is_open busy) range.same ∙ not_open)
 
-  module _ (dest bound : ℕ) (known : dest < length busy) (below : (waiter : RipeFile) → has_key goes_by_group waiter files ≡ true → waiter.queue < bound) where
+  module _ (dest bound most : ℕ) (known : dest < length busy) (few : length busy ≤ most)
+      (below : (waiter : RipeFile) → has_key goes_by_group waiter files ≡ true → waiter.dest < most → waiter.queue < bound) where
     all_within : (waiter : RipeFile) → waiter.dest ≡ dest → leads files waiter ≡ true → is_within dest 0 bound waiter ≡ true
     all_within waiter same leading =
-        to_within dest 0 bound waiter.dest waiter.queue same (omega arith) (below waiter (leader files waiter leading).there)
+        to_within dest 0 bound waiter.dest waiter.queue same (omega arith)
+        (below waiter (leader files waiter leading).there (omega (arith, same, known, few)))
 
     not_within : (waiter : RipeFile) → (waiter.dest ≡ dest → ⊥) → is_within dest 0 bound waiter ≡ false
     not_within waiter other = to_false (is_within dest 0 bound waiter) (λ is. absurd (other (within dest 0 bound waiter.dest waiter.queue is).same))
@@ -184,66 +186,66 @@ module _ (busy : List Bool) (files : List RipeFile) (line : List Lined) (heads :
     heads_busy after left = record { lined = λ waiter. by_case waiter (cases_eq waiter.dest dest) }
       where
         by_case : (waiter : RipeFile) → (waiter.dest ≡ dest) ⊎ (waiter.dest ≡ dest → ⊥)
-            → is_lined after waiter ≡ (is_free (slice_set busy dest true) waiter.dest && leads files waiter)
+            → is_lined after waiter ≡ (is_open (slice_set busy dest true) waiter.dest && leads files waiter)
         by_case waiter (inl same) =
             to_false (is_lined after waiter) (λ lined.
             let parts =
             and_parts (is_lined line waiter) (not (is_within dest 0 bound waiter && leads files waiter)) (sym (left waiter) ∙ lined) in
-            let leading = (and_parts (is_free busy waiter.dest) (leads files waiter) (sym (heads.lined waiter) ∙ parts.0)).1 in
+            let leading = (and_parts (is_open busy waiter.dest) (leads files waiter) (sym (heads.lined waiter) ∙ parts.0)).1 in
             sym parts.1 ∙ ap not (ap (λ (test : Bool). test && leads files waiter) (all_within waiter same leading) ∙ leading))
             ∙ sym (ap (λ (test : Bool). not test && leads files waiter)
-            (ap (λ n. slice_index_or (slice_set busy dest true) n false) same ∙ get_or-set_same busy dest true false known))
+            (ap (λ n. slice_index_or (slice_set busy dest true) n true) same ∙ get_or-set_same busy dest true true known))
         by_case waiter (inr other) =
             left waiter
             ∙ (ap (λ (test : Bool). is_lined line waiter && not (test && leads files waiter)) (not_within waiter other)
             ∙ (and_not_false (is_lined line waiter)
             ∙ (heads.lined waiter
-            ∙ ap (λ (test : Bool). not test && leads files waiter) (sym (get_or-set_other busy dest waiter.dest true false other)))))
+            ∙ ap (λ (test : Bool). not test && leads files waiter) (sym (get_or-set_other busy dest waiter.dest true true other)))))
 
     -- one that gets free: its heads have come in
-    pub heads_free : (after : List Lined) → is_free busy dest ≡ false
+    pub heads_free : (after : List Lined) → is_open busy dest ≡ false
         → ((waiter : RipeFile) → is_lined after waiter ≡ (is_lined line waiter || (is_within dest 0 bound waiter && leads files waiter)))
         → AreHeads (slice_set busy dest false) files after
     heads_free after was entered = record { lined = λ waiter. by_case waiter (cases_eq waiter.dest dest) }
       where
         by_case : (waiter : RipeFile) → (waiter.dest ≡ dest) ⊎ (waiter.dest ≡ dest → ⊥)
-            → is_lined after waiter ≡ (is_free (slice_set busy dest false) waiter.dest && leads files waiter)
+            → is_lined after waiter ≡ (is_open (slice_set busy dest false) waiter.dest && leads files waiter)
         by_case waiter (inl same) =
             entered waiter
             ∙ (ap (λ (test : Bool). test || (is_within dest 0 bound waiter && leads files waiter))
-            (heads.lined waiter ∙ ap (λ (test : Bool). test && leads files waiter) (ap (is_free busy) same ∙ was))
+            (heads.lined waiter ∙ ap (λ (test : Bool). test && leads files waiter) (ap (is_open busy) same ∙ was))
             ∙ (same_answer (is_within dest 0 bound waiter && leads files waiter) (leads files waiter)
             (λ both. (and_parts (is_within dest 0 bound waiter) (leads files waiter) both).1)
             (λ leading. ap (λ (test : Bool). test && leads files waiter) (all_within waiter same leading) ∙ leading)
             ∙ sym (ap (λ (test : Bool). not test && leads files waiter)
-            (ap (λ n. slice_index_or (slice_set busy dest false) n false) same ∙ get_or-set_same busy dest false false known))))
+            (ap (λ n. slice_index_or (slice_set busy dest false) n true) same ∙ get_or-set_same busy dest false true known))))
         by_case waiter (inr other) =
             entered waiter
             ∙ (ap (λ (test : Bool). is_lined line waiter || (test && leads files waiter)) (not_within waiter other)
             ∙ (or_false (is_lined line waiter)
             ∙ (heads.lined waiter
-            ∙ ap (λ (test : Bool). not test && leads files waiter) (sym (get_or-set_other busy dest waiter.dest false false other)))))
+            ∙ ap (λ (test : Bool). not test && leads files waiter) (sym (get_or-set_other busy dest waiter.dest false true other)))))
 
   -- files changed so that all lead as before
   pub heads_same : (changed : List RipeFile) → ((waiter : RipeFile) → leads changed waiter ≡ leads files waiter) → AreHeads busy changed line
   heads_same changed same = record {
-    lined = λ waiter. heads.lined waiter ∙ ap (λ (test : Bool). is_free busy waiter.dest && test) (sym (same waiter));
+    lined = λ waiter. heads.lined waiter ∙ ap (λ (test : Bool). is_open busy waiter.dest && test) (sym (same waiter));
   }
 
   module _ (dest queue : ℕ) (changed : List RipeFile)
       (apart : (waiter : RipeFile) → is_within dest queue (queue + 1) waiter ≡ false → leads changed waiter ≡ leads files waiter) where
-    -- files changed in one group of a busy destination
-    pub heads_apart : is_free busy dest ≡ false → AreHeads busy changed line
-    heads_apart not_free = record { lined = λ waiter. heads.lined waiter ∙ by_test waiter (is_within dest queue (queue + 1) waiter) refl }
+    -- files changed in one group of a destination that is not open
+    pub heads_apart : is_open busy dest ≡ false → AreHeads busy changed line
+    heads_apart not_open = record { lined = λ waiter. heads.lined waiter ∙ by_test waiter (is_within dest queue (queue + 1) waiter) refl }
       where
         by_test : (waiter : RipeFile) (answer : Bool) → is_within dest queue (queue + 1) waiter ≡ answer
-            → (is_free busy waiter.dest && leads files waiter) ≡ (is_free busy waiter.dest && leads changed waiter)
+            → (is_open busy waiter.dest && leads files waiter) ≡ (is_open busy waiter.dest && leads changed waiter)
         by_test waiter true is =
-            let none = ap (is_free busy) (within dest queue (queue + 1) waiter.dest waiter.queue is).same ∙ not_free in
+            let none = ap (is_open busy) (within dest queue (queue + 1) waiter.dest waiter.queue is).same ∙ not_open in
             ap (λ (test : Bool). test && leads files waiter) none ∙ sym (ap (λ (test : Bool). test && leads changed waiter) none)
-        by_test waiter false is = ap (λ (test : Bool). is_free busy waiter.dest && test) (sym (apart waiter is))
+        by_test waiter false is = ap (λ (test : Bool). is_open busy waiter.dest && test) (sym (apart waiter is))
 
-    module _ (between : List Lined) (free : is_free busy dest ≡ true)
+    module _ (between : List Lined) (opens : is_open busy dest ≡ true)
         (left : (waiter : RipeFile)
         → is_lined between waiter ≡ (is_lined line waiter && not (is_within dest queue (queue + 1) waiter && leads files waiter))) where
       -- where the group's head has left, none of the group stands in line
@@ -252,7 +254,7 @@ module _ (busy : List Bool) (files : List RipeFile) (line : List Lined) (heads :
           to_false (is_lined between waiter) (λ lined.
           let parts =
           and_parts (is_lined line waiter) (not (is_within dest queue (queue + 1) waiter && leads files waiter)) (sym (left waiter) ∙ lined) in
-          let leading = (and_parts (is_free busy waiter.dest) (leads files waiter) (sym (heads.lined waiter) ∙ parts.0)).1 in
+          let leading = (and_parts (is_open busy waiter.dest) (leads files waiter) (sym (heads.lined waiter) ∙ parts.0)).1 in
           sym parts.1 ∙ ap not (ap (λ (test : Bool). test && leads files waiter) is ∙ leading))
 
       pub left_apart : (waiter : RipeFile) → (is_within dest queue (queue + 1) waiter && leads changed waiter) ≡ true → is_lined between waiter ≡ false
@@ -268,7 +270,7 @@ module _ (busy : List Bool) (files : List RipeFile) (line : List Lined) (heads :
               let parts =
               and_parts (is_lined line waiter) (not (is_within dest queue (queue + 1) waiter && leads files waiter)) (sym (left waiter) ∙ lined) in
               (leader changed waiter
-              (apart waiter is ∙ (and_parts (is_free busy waiter.dest) (leads files waiter) (sym (heads.lined waiter) ∙ parts.0)).1)).there
+              (apart waiter is ∙ (and_parts (is_open busy waiter.dest) (leads files waiter) (sym (heads.lined waiter) ∙ parts.0)).1)).there
 
       -- and with the new head all is as it should be
       pub heads_again : (after : List Lined)
@@ -283,33 +285,33 @@ module _ (busy : List Bool) (files : List RipeFile) (line : List Lined) (heads :
       }
         where
           by_test : (waiter : RipeFile) (answer : Bool) → is_within dest queue (queue + 1) waiter ≡ answer
-              → (((is_free busy waiter.dest && leads files waiter) && not (is_within dest queue (queue + 1) waiter && leads files waiter))
+              → (((is_open busy waiter.dest && leads files waiter) && not (is_within dest queue (queue + 1) waiter && leads files waiter))
               || (is_within dest queue (queue + 1) waiter && leads changed waiter))
-              ≡ (is_free busy waiter.dest && leads changed waiter)
+              ≡ (is_open busy waiter.dest && leads changed waiter)
           by_test waiter true is =
               ap
-              (λ (test : Bool). ((is_free busy waiter.dest && leads files waiter) && not (test && leads files waiter)) || (test && leads changed waiter)) is
-              ∙ drop_all (is_free busy waiter.dest) (leads files waiter) (leads changed waiter)
-              (ap (is_free busy) (within dest queue (queue + 1) waiter.dest waiter.queue is).same ∙ free)
+              (λ (test : Bool). ((is_open busy waiter.dest && leads files waiter) && not (test && leads files waiter)) || (test && leads changed waiter)) is
+              ∙ drop_all (is_open busy waiter.dest) (leads files waiter) (leads changed waiter)
+              (ap (is_open busy) (within dest queue (queue + 1) waiter.dest waiter.queue is).same ∙ opens)
           by_test waiter false is =
               ap
-              (λ (test : Bool). ((is_free busy waiter.dest && leads files waiter) && not (test && leads files waiter)) || (test && leads changed waiter)) is
-              ∙ keep_all (is_free busy waiter.dest) (leads files waiter) (leads changed waiter) (apart waiter is)
+              (λ (test : Bool). ((is_open busy waiter.dest && leads files waiter) && not (test && leads files waiter)) || (test && leads changed waiter)) is
+              ∙ keep_all (is_open busy waiter.dest) (leads files waiter) (leads changed waiter) (apart waiter is)
 
--- no file has too great a queue, after one more or one less
-pub below_put : (file : RipeFile) (files : List RipeFile) (bound : ℕ) → file.queue < bound
-    → ((waiter : RipeFile) → has_key goes_by_group waiter files ≡ true → waiter.queue < bound)
-    → (waiter : RipeFile) → has_key goes_by_group waiter (put_by goes_by_group file files) ≡ true → waiter.queue < bound
-below_put file files bound less below waiter there = by_test (is_one file waiter) refl
+-- no file of a number that a destination may have has too great a queue, after one more or one less
+pub below_put : (file : RipeFile) (files : List RipeFile) (bound most : ℕ) → (file.dest < most → file.queue < bound)
+    → ((waiter : RipeFile) → has_key goes_by_group waiter files ≡ true → waiter.dest < most → waiter.queue < bound)
+    → (waiter : RipeFile) → has_key goes_by_group waiter (put_by goes_by_group file files) ≡ true → waiter.dest < most → waiter.queue < bound
+below_put file files bound most less below waiter there = by_test (is_one file waiter) refl
   where
-    by_test : (answer : Bool) → is_one file waiter ≡ answer → waiter.queue < bound
-    by_test true is = subst (λ some. some.queue < bound) (one_of goes_by_group by_group file waiter is) less
+    by_test : (answer : Bool) → is_one file waiter ≡ answer → waiter.dest < most → waiter.queue < bound
+    by_test true is = subst (λ some. some.dest < most → some.queue < bound) (one_of goes_by_group by_group file waiter is) less
     by_test false is =
         below waiter (sym (ap (λ (test : Bool). test || has_key goes_by_group waiter files) is) ∙ (sym (has_put goes_by_group file waiter files) ∙ there))
 
-pub below_without : (file : RipeFile) (files : List RipeFile) (bound : ℕ)
-    → ((waiter : RipeFile) → has_key goes_by_group waiter files ≡ true → waiter.queue < bound)
-    → (waiter : RipeFile) → has_key goes_by_group waiter (without goes_by_group file files) ≡ true → waiter.queue < bound
-below_without file files bound below waiter there =
+pub below_without : (file : RipeFile) (files : List RipeFile) (bound most : ℕ)
+    → ((waiter : RipeFile) → has_key goes_by_group waiter files ≡ true → waiter.dest < most → waiter.queue < bound)
+    → (waiter : RipeFile) → has_key goes_by_group waiter (without goes_by_group file files) ≡ true → waiter.dest < most → waiter.queue < bound
+below_without file files bound most below waiter there =
     below waiter
     (and_parts (has_key goes_by_group waiter files) (differs goes_by_group file waiter) (sym (has_without goes_by_group by_group file waiter files) ∙ there)).0

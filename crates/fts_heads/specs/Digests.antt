@@ -1,5 +1,5 @@
--- The digest of a place: the hash of its two texts. Any other function of the place would do: places are compared themselves.
-use Rattle.std.specs.Prelude.{◌≡◌, ℕ, ◌++◌, Bool, nat_lt, fold}
+-- The digest of a place: 32 bits of the hash of its two texts. Any other function of the place would do: places are compared themselves.
+use Rattle.std.specs.Prelude.{◌≡◌, ℕ, ◌%◌, ◌++◌, Bool, nat_lt, fold}
 use Rattle.std.specs.Hash as fed
 use Rattle.std.specs.Hash.DefaultHasher as sip
 use Rattle.std.proofs.Common.{ap, ◌∙◌}
@@ -9,9 +9,9 @@ use Rattle.ordered.proofs.ByNumbers.{by_least, least_then, strict}
 use Rattle.fts_tables.specs.declared.places.Place.{Place}
 use Rattle.fts_heads.specs.declared.digest.Digested.{Digested}
 
--- the digest of a place: of the endpoint's name, and then of the path
+-- the digest of a place: of the endpoint's name, and then of the path, the low half of the hash
 abbrev pub digest_of : Place → ℕ
-digest_of place = sip.finish (fold sip.write sip.initial (fed.str place.endpoint ++ fed.str place.path))
+digest_of place = sip.finish (fold sip.write sip.initial (fed.str place.endpoint ++ fed.str place.path)) % 4294967296
 
 -- by the digest, then the lesser number first
 abbrev pub is_digested_before : Digested → Digested → Bool

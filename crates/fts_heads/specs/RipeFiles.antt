@@ -3,13 +3,13 @@ use Rattle.std.specs.Prelude.{◌≡◌, ℕ, Bool, nat_lt, ◌==◌}
 use Rattle.std.proofs.Common.{ap, ◌∙◌}
 use Rattle.ordered.specs.Orders.{IsStrictOrder}
 use Rattle.ordered.specs.ByNumbers.{is_first_by}
-use Rattle.ordered.proofs.ByNumbers.{by_least, least_then, strict}
+use Rattle.ordered.proofs.ByNumbers.{by_least, least_then, greatest_then, strict}
 use Rattle.fts_heads.specs.declared.ripe_file.RipeFile.{RipeFile}
 
--- by destination and queue; in one group the lesser rank, then the lesser number
+-- by destination, the greater number first, and queue; in one group the lesser rank, then the lesser number
 abbrev pub goes_by_group : RipeFile → RipeFile → Bool
 goes_by_group one other =
-    is_first_by one.dest other.dest
+    is_first_by other.dest one.dest
     (is_first_by one.queue other.queue
     (is_first_by one.rank other.rank
     (nat_lt one.file other.file)))
@@ -39,7 +39,7 @@ pub by_group : IsStrictOrder goes_by_group
 by_group =
     strict goes_by_group
     (λ one other. (one.dest ≡ other.dest) × ((one.queue ≡ other.queue) × ((one.rank ≡ other.rank) × (one.file ≡ other.file))))
-    (least_then (λ (waiter : RipeFile). waiter.dest) _ (λ one other. (one.queue ≡ other.queue) × ((one.rank ≡ other.rank) × (one.file ≡ other.file)))
+    (greatest_then (λ (waiter : RipeFile). waiter.dest) _ (λ one other. (one.queue ≡ other.queue) × ((one.rank ≡ other.rank) × (one.file ≡ other.file)))
     (least_then (λ (waiter : RipeFile). waiter.queue) _ (λ one other. (one.rank ≡ other.rank) × (one.file ≡ other.file))
     (least_then (λ (waiter : RipeFile). waiter.rank) _ (λ one other. one.file ≡ other.file) (by_least (λ (waiter : RipeFile). waiter.file)))))
     (λ one other same. same_waiter one other same.1.0 same.0 same.1.1.0 same.1.1.1)

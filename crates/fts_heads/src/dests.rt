@@ -47,7 +47,7 @@ impl Model for Dests {
 }
 
 /// The least number of a digest, from one on.
-fn next_number(keys: &Ordered<Digested>, digest: u64, from: u32) -> Option<u32>
+fn next_number(keys: &Ordered<Digested>, digest: u32, from: u32) -> Option<u32>
     ensures there { IfSome result (λ number. has_key is_digested_before (record { digest = digest; number = number }) keys.now.keys ≡ true) }
     ensures from { IfSome result (λ number. from ≤ number) }
     ensures least { IfSome result (λ number. (other : ℕ) → from ≤ other → other < number

@@ -1,5 +1,6 @@
 //! The digest of a place, by which its number is sought, and a number under its digest. A digest only makes a search short: places are compared themselves.
-//! It is SipHash-1-3 of both texts, so that nobody finds many places of one digest by reckoning.
+//! It is the low half of SipHash-1-3 of both texts, so that nobody finds many places of one digest without trying billions. 32 bits keep a key at 8 bytes, and
+//! of 200,000 places some five pairs share a digest.
 ghost use Rattle.std.specs.Prelude.{◌≡◌};
 ghost use Rattle.fts_heads.specs.Digests.{digest_of};
 
@@ -10,7 +11,7 @@ use std::hash::{DefaultHasher, Hash, Hasher};
 /// The number of a place, under the digest of the place.
 #[derive(Clone, Copy)]
 pub struct Digested {
-    pub digest: u64,
+    pub digest: u32,
     pub number: u32,
 }
 
@@ -28,11 +29,11 @@ impl Key for Digested {
 }
 
 /// The digest of a place.
-pub fn digest_of(place: &Place) -> u64
+pub fn digest_of(place: &Place) -> u32
     ensures digest { result ≡ digest_of place.now }
 {
     let mut hasher = DefaultHasher::new();
     place.endpoint.as_str().hash(&mut hasher);
     place.path.as_str().hash(&mut hasher);
-    hasher.finish()
+    (hasher.finish() % (1 << 32)) as u32
 }

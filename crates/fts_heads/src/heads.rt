@@ -1,6 +1,8 @@
 //! The ripe files, and the line in which those stand that may start.
-//! Kept in its type (`AreKept`): those in line are the best of each queue and destination, where the destination is free (`AreHeads`); no queue's number is as
-//! great as `MOST_QUEUES`; and the line has as much room as the files.
+//! A file may have a number that no destination has: it is kept, and never stands in line. These files stand first among all (`goes_by_group`).
+//! Kept in its type (`AreKept`): those in line are the best of each queue and destination, where the destination is known and free (`AreHeads`); there are no
+//! more destinations than `MOST_DESTS`; no file that may ever stand in line is of a queue as great as `MOST_QUEUES`; and the line has as much room as the
+//! files.
 //! Order: what stands in line of a group leaves, the files change, and what leads then comes in. `make_room` and `make_dests` come before; no other call
 //! takes memory.
 ghost use Rattle.std.specs.Prelude.{
@@ -15,18 +17,21 @@ ghost use Rattle.std.specs.Prelude.{
   false,
   max,
   length,
+  slice_get,
   slice_set,
   slice_index_or,
   ◌&&◌,
+  ◌==◌,
   IfSome,
   IfNone,
   OnOk,
   OnErr,
 };
-ghost use Rattle.ordered.specs.Orders.{AreSortedBy, has_key, put_by, without};
+ghost use Rattle.ordered.specs.Orders.{AreSortedBy, has_key, put_by, without, first_from, next_after};
 ghost use Rattle.fts_heads.specs.declared.ripe_file.RipeFile.{RipeFile};
+ghost use Rattle.fts_heads.specs.declared.heads.TheConstants.{MOST_QUEUES, MOST_DESTS};
 ghost use Rattle.fts_heads.specs.RipeFiles.{goes_by_group, is_in};
-ghost use Rattle.fts_heads.specs.Heads.{HeadsData, is_free, IsFirstOf};
+ghost use Rattle.fts_heads.specs.Heads.{HeadsData, is_open, IsFirstOf};
 
 use crate::line::first_in_line;
 use crate::ripe_file::{Lined, RipeFile};
@@ -35,10 +40,13 @@ use ordered::Ordered;
 use std::alloc::{AllocError, Global};
 use std::marker::Model;
 
-/// Each queue's number is less.
+/// Each file's queue is less, where its destination's number is less than `MOST_DESTS`.
 pub const MOST_QUEUES: u32 = u32::MAX;
 
-/// The ripe files, of which those stand in line that go first with their queue and destination, where the destination is free.
+/// Each known destination's number is less, so no destination ever has this one.
+pub const MOST_DESTS: u32 = u32::MAX;
+
+/// The ripe files, of which those stand in line that go first with their queue and destination, where the destination is known and free.
 #[derive(Drop)]
 pub struct Heads {
     files: Ordered<RipeFile>,
@@ -52,12 +60,19 @@ impl Model for Heads {
     ghost Value = { HeadsData };
 
     ghost use Rattle.fts_heads.specs.Heads.{AreKept};
-    ghost use Rattle.fts_heads.specs.declared.heads.TheConstants.{MOST_QUEUES};
+    ghost use Rattle.fts_heads.specs.declared.heads.TheConstants.{MOST_QUEUES, MOST_DESTS};
     ghost use Rattle.std.specs.Prelude.{vec_capacity};
 
     ghost view = { λ heads. record { files = heads.files.keys; busy = heads.busy.items; room = heads.files.room; dest_room = vec_capacity heads.busy } };
 
-    ghost invariant = { λ heads. AreKept MOST_QUEUES heads.busy.items heads.files heads.line };
+    ghost invariant = { λ heads. AreKept MOST_QUEUES MOST_DESTS heads.busy.items heads.files heads.line };
+}
+
+/// Whether a destination is known and free.
+fn is_open(busy: &[bool], dest: u32) -> bool
+    ensures open { result ≡ is_open busy.now dest }
+{
+    (dest as usize) < busy.len() && !busy[dest as usize]
 }
 
 impl Heads {
@@ -93,9 +108,11 @@ impl Heads {
         Ok(())
     }
 
-    /// Takes on one destination more, which is free, in room that is there.
+    /// Takes on one destination more, which is free, in room that is there. No file is there of its number, so the line stays as it is.
     pub fn add_dest(&mut self)
         requires room { length self.old.busy < self.old.dest_room }
+        requires few { length self.old.busy < MOST_DESTS }
+        requires new { (waiter : RipeFile) → has_key goes_by_group waiter self.old.files ≡ true → (waiter.dest == length self.old.busy) ≡ false }
         ensures busy { self.new ≡ record self.old { busy = self.old.busy ++ (false ∷ []) } }
     {
         self.busy.push_reserved(false);
@@ -125,6 +142,27 @@ impl Heads {
         self.files.has(file)
     }
 
+    /// The file that stands first among all.
+    pub fn first(&self) -> Option<RipeFile>
+        ensures file { result ≡ slice_get self.now.files 0 }
+    {
+        self.files.first()
+    }
+
+    /// The first file that does not stand before one, which need not be there.
+    pub fn first_from(&self, file: &RipeFile) -> Option<RipeFile>
+        ensures file { result ≡ first_from goes_by_group file.now self.now.files }
+    {
+        self.files.first_from(file)
+    }
+
+    /// The first file that stands behind one, which need not be there.
+    pub fn next_after(&self, file: &RipeFile) -> Option<RipeFile>
+        ensures file { result ≡ next_after goes_by_group file.now self.now.files }
+    {
+        self.files.next_after(file)
+    }
+
     /// How many files there are. Its clauses also say that they are sorted, and no more than the room.
     pub fn len(&self) -> usize
         ensures len { result ≡ length self.now.files }
@@ -134,11 +172,11 @@ impl Heads {
         self.files.len()
     }
 
-    /// The first file of a queue whose destination is free, of all that are ripe. None exactly where there is none.
+    /// The first file of a queue whose destination is known and free, of all that are there. None exactly where there is none.
     pub fn first_of(&self, queue: u32) -> Option<RipeFile>
-        ensures first { IfSome result (λ first. IsFirstOf (λ waiter. is_in queue waiter && is_free self.now.busy waiter.dest) self.now.files first) }
+        ensures first { IfSome result (λ first. IsFirstOf (λ waiter. is_in queue waiter && is_open self.now.busy waiter.dest) self.now.files first) }
         ensures none { IfNone result ((waiter : RipeFile) → has_key goes_by_group waiter self.now.files ≡ true
-            → (is_in queue waiter && is_free self.now.busy waiter.dest) ≡ false) }
+            → (is_in queue waiter && is_open self.now.busy waiter.dest) ≡ false) }
     {
         let _ = self.files.len();
         let _ = self.line.len();
@@ -166,15 +204,14 @@ impl Heads {
         self.busy[dest as usize] = false;
     }
 
-    /// A file comes in, in room that is there.
+    /// A file comes in, in room that is there. Where its number is of no destination, it never stands in line.
     pub fn insert(&mut self, file: RipeFile)
         requires room { length self.old.files < self.old.room }
-        requires queue { file.queue < MOST_QUEUES }
-        requires known { file.dest < length self.old.busy }
+        requires queue { file.dest < MOST_DESTS → file.queue < MOST_QUEUES }
         requires absent { has_key goes_by_group file self.old.files ≡ false }
         ensures files { self.new ≡ record self.old { files = put_by goes_by_group file self.old.files } }
     {
-        if self.busy[file.dest as usize] {
+        if !is_open(self.busy.as_slice(), file.dest) {
             self.files.insert(file);
         } else if is_behind(&self.files, &file) {
             self.files.insert(file);
@@ -199,11 +236,10 @@ impl Heads {
 
     /// A file goes that is there.
     pub fn remove(&mut self, file: RipeFile)
-        requires known { file.dest < length self.old.busy }
         requires there { has_key goes_by_group file self.old.files ≡ true }
         ensures files { self.new ≡ record self.old { files = without goes_by_group file self.old.files } }
     {
-        if self.busy[file.dest as usize] {
+        if !is_open(self.busy.as_slice(), file.dest) {
             self.files.remove(&file);
         } else if !self.line.has(&Lined { waiter: file }) {
             let _ = self.files.len();

@@ -3,7 +3,7 @@ ghost use Rattle.std.specs.Prelude.{◌≡◌};
 
 use ordered::Key;
 
-/// A ripe file: its queue, the number of its destination, its rank, and its own number.
+/// A ripe file: its queue, the number of its destination, which may be one that no destination has, its rank, and its own number.
 /// A lesser rank goes first: it is what its job's priority lacks of the greatest one, so that each queue and each group begins at zeros.
 #[derive(Clone, Copy, Debug, PartialEq, Eq)]
 pub struct RipeFile {
@@ -19,15 +19,15 @@ pub struct Lined {
     pub waiter: RipeFile,
 }
 
-// Among all that wait: by destination and queue.
+// Among all that wait: by destination, the greater number first, and queue. So the files of a number that no destination has stand first.
 impl Key for RipeFile {
     ghost use Rattle.fts_heads.specs.RipeFiles.{goes_by_group, by_group};
 
     ghost before = { goes_by_group };
 
     fn is_before(&self, other: &RipeFile) -> bool {
-        self.dest < other.dest
-            || (self.dest == other.dest
+        other.dest < self.dest
+            || (other.dest == self.dest
                 && (self.queue < other.queue
                     || (self.queue == other.queue
                         && (self.rank < other.rank

@@ -1,5 +1,8 @@
-pub mod Files
-pub mod Keys
-pub mod Edits
-pub mod Moves
-pub mod Firsts
+mod Files
+mod Between
+mod Keyed
+mod Lines
+mod Firsts
+mod Passed
+mod Starts
+mod Walks

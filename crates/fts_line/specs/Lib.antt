@@ -1,3 +1,3 @@
-pub mod Laters
 pub mod LineData
+pub mod Keys
 pub mod Line

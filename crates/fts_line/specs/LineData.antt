@@ -3,9 +3,7 @@ use Rattle.std.specs.Prelude.{ℕ, ◌+◌, ◌-◌, ◌*◌, ◌<◌, Bool, ◌
 use Rattle.fts_tables.specs.declared.settings.LinkAt.{LinkAt}
 use Rattle.fts_queue.specs.declared.waiter.Waiter.{Waiter}
 use Rattle.fts_queue.specs.WaitingData.{WaitingData, is_in, is_ripe, is_same_place}
-use Rattle.fts_heads.specs.declared.ripe_file.RipeFile.{RipeFile}
 use Rattle.fts_heads.specs.Heads.{is_free}
-use Rattle.fts_line.specs.declared.later.Later.{Later}
 
 -- the files that wait; the number of each file's destination, the first file's first; for each number whether that destination is busy; how many files may
 -- stand in line in all; and how many files may have a number
@@ -20,26 +18,6 @@ pub record LineData : Type 0 where
 abbrev pub dest_of : List ℕ → ℕ → ℕ
 dest_of dests file = slice_index_or dests (file - 1) 0
 
--- the number of a queue
-abbrev pub queue_of : LinkAt → ℕ → ℕ
-queue_of link activity = (link.source * 256 + link.dest) * 256 + activity
-
--- what a priority lacks of the greatest
-abbrev pub rank_of : ℕ → ℕ
-rank_of priority = 4294967295 - priority
-
--- a file as it stands in line, and as it stands while its moment has not come
-abbrev pub ripe_of : List ℕ → Waiter → RipeFile
-ripe_of dests waiter = record {
-  queue = queue_of waiter.link waiter.activity;
-  dest = dest_of dests waiter.file;
-  rank = rank_of waiter.priority;
-  file = waiter.file;
-}
-
-abbrev pub later_of : List ℕ → Waiter → Later
-later_of dests waiter = record { not_before = waiter.not_before; file = ripe_of dests waiter }
-
 -- whether a file is another, with the same moment
 abbrev pub is_same_waiter : Waiter → Waiter → Bool
 is_same_waiter one other = is_same_place one other && (other.not_before == one.not_before)
@@ -50,10 +28,11 @@ pub record IsInside (link : LinkAt) (activity : ℕ) : Type 0 where
   pub to : link.dest < 256
   pub under : activity < 256
 
--- a file's queue has a number of its own, and its destination has a number
+-- a file's queue has a number of its own, its priority is one of 32 bits, files are numbered from 1, and its destination has a number
 pub record IsKnown (dests : List ℕ) (dest_count : ℕ) (waiter : Waiter) : Type 0 where
   pub queue : IsInside waiter.link waiter.activity
   pub priority : waiter.priority < 4294967296
+  pub first : 0 < waiter.file
   pub numbered : waiter.file - 1 < length dests
   pub dest : dest_of dests waiter.file < dest_count
 

@@ -1,14 +1,11 @@
 //! The files that wait, with those in line that may start.
-//! Kept in its type (`IsLine`): the files whose moment had come at the latest ripening stand in the groups of `fts_heads`, the others in order of their
-//! moments.
-//! Where the clock has gone back since, files in the groups may not be ripe: then `first_open` asks the files that wait one by one.
+//! Kept in its type (`IsLine`): a file stands with its destination in the groups of `fts_heads` exactly where its moment has come, and else by its moment.
 //! Order: `make_room`, `make_places` and `make_rows` come before; no other call takes memory.
 ghost use Rattle.std.specs.Prelude.{
   ◌≡◌,
   ◌<◌,
   ◌≤◌,
   ◌+◌,
-  ◌-◌,
   ◌++◌,
   ◌∷◌,
   [],
@@ -23,36 +20,29 @@ ghost use Rattle.std.specs.Prelude.{
   Some,
   IsTrue,
   IsFalse,
-  IfSome,
-  IfNone,
   OnOk,
   OnErr,
 };
 ghost use Rattle.std.specs.List.{list_any};
 ghost use Rattle.fts_queue.specs.WaitingData.{with_waiter, without_file, with_room, waiting_in, room_of, is_waiting, AreWaiting};
-ghost use Rattle.ordered.specs.Orders.{AreSortedBy, has_key};
-ghost use Rattle.fts_line.specs.Laters.{is_later_before};
-ghost use Rattle.fts_line.specs.declared.later.Later.{Later};
-ghost use Rattle.fts_line.specs.Line.{IsLine};
-ghost use Rattle.fts_line.specs.LineData.{LineData, IsInside, IsKnown, dest_of, queue_of, ripe_of, is_same_waiter, first_open};
+ghost use Rattle.fts_line.specs.LineData.{IsInside, IsKnown, dest_of, is_same_waiter, first_open};
 
-use crate::later::Later;
-use fts_heads::{Heads, RipeFile};
-use fts_queue::{Waiter, Waiting, ripe_files_are_numbered};
+use crate::key::{dest_of, key_of, queue_of};
+use crate::moves::{come_in, go_out, ripen, unripen};
+use fts_heads::{Heads, MOST_DESTS};
+use fts_queue::{QueueRoom, Waiter, filters_keep_the_order, raise, rooms_are_raised};
 use fts_tables::{LinkAt, Memory};
-use ordered::Ordered;
 use std::alloc::Global;
 use std::marker::Model;
 
 /// The files that wait, in line for their destinations.
 #[derive(Drop)]
 pub struct Line {
-    waiting: Waiting,
     heads: Heads,
-    later: Ordered<Later>,
+    rests: Vec<u64>,
+    rooms: Vec<QueueRoom>,
     dests: Vec<u32>,
     moment: u64,
-    peak: u64,
 }
 
 impl Model for Line {
@@ -60,184 +50,19 @@ impl Model for Line {
 
     ghost Value = { LineData };
 
-    ghost use Rattle.fts_line.specs.Line.{IsLineAt};
+    ghost use Rattle.fts_line.specs.Line.{waiting_of, IsLine};
+    ghost use Rattle.fts_line.specs.declared.key.TheConstants.{LATER};
     ghost use Rattle.std.specs.Prelude.{min, vec_capacity};
 
     ghost view = { λ line. record {
-      waiting = line.waiting;
+      waiting = waiting_of line.heads line.rests.items line.rooms.items line.moment;
       dests = line.dests.items;
       busy = line.heads.busy;
       room = line.heads.room;
-      row_room = min (vec_capacity line.dests) line.heads.dest_room;
+      row_room = min LATER (min line.heads.dest_room (min (vec_capacity line.dests) (vec_capacity line.rests)));
     } };
 
-    ghost invariant = { λ line. IsLineAt line.moment line.waiting line.heads line.later line.dests.items line.peak };
-}
-
-/// The number of a file's destination.
-fn dest_of(dests: &[u32], file: u32) -> u32
-    ensures dest { result ≡ dest_of dests.now file }
-{
-    match dests.get((file as usize).saturating_sub(1)) {
-        Some(dest) => *dest,
-        None => 0,
-    }
-}
-
-/// The number of a queue.
-fn queue_of(link: LinkAt, activity: u16) -> u32
-    requires inside { IsInside link activity }
-    ensures queue { result ≡ queue_of link activity }
-{
-    (u32::from(link.source) * 256 + u32::from(link.dest)) * 256 + u32::from(activity)
-}
-
-/// A file as it stands in line.
-fn ripe_of(dests: &[u32], waiter: &Waiter) -> RipeFile
-    requires inside { IsInside waiter.now.link waiter.now.activity }
-    ensures file { result ≡ ripe_of dests.now waiter.now }
-{
-    RipeFile {
-        queue: queue_of(waiter.link, waiter.activity),
-        dest: dest_of(dests, waiter.file),
-        rank: u32::MAX - waiter.priority,
-        file: waiter.file,
-    }
-}
-
-/// The file with the least moment, where that has come.
-fn first_due(later: &Ordered<Later>, now: u64) -> Option<Later>
-    ensures there { IfSome result (λ key. has_key is_later_before key later.now.keys ≡ true) }
-    ensures due { IfSome result (λ key. key.not_before ≤ now) }
-    ensures none { IfNone result ((key : Later) → has_key is_later_before key later.now.keys ≡ true → now < key.not_before) }
-    ensures order { AreSortedBy is_later_before later.now.keys }
-{
-    let _ = later.len();
-    match later.first() {
-        Some(key) => {
-            if key.not_before <= now {
-                Some(key)
-            } else {
-                None
-            }
-        },
-        None => None,
-    }
-}
-
-/// Moves the files whose moment has come from those that wait for theirs to the ripe ones.
-fn ripen(
-    waiting: &Waiting,
-    dests: &[u32],
-    heads: &mut Heads,
-    later: &mut Ordered<Later>,
-    peak: u64,
-    now: u64,
-)
-    requires line { IsLine waiting.now heads.old later.old dests.now peak }
-    requires later { peak ≤ now }
-    ensures line { IsLine waiting.now heads.new later.new dests.now now }
-    ensures busy { heads.new.busy ≡ heads.old.busy }
-    ensures room { heads.new.room ≡ heads.old.room }
-    ensures dest_room { heads.new.dest_room ≡ heads.old.dest_room }
-{
-    let _ = waiting.queues();
-    while let Some(key) = first_due(later, now) {
-        later.remove(&key);
-        heads.insert(key.file);
-    }
-}
-
-/// A file comes among the ripe ones, or among those whose moment has not come.
-fn come_in(
-    waiting: &Waiting,
-    dests: &[u32],
-    heads: &mut Heads,
-    later: &mut Ordered<Later>,
-    peak: u64,
-    waiter: &Waiter,
-)
-    requires line { IsLine waiting.now heads.old later.old dests.now peak }
-    requires fresh { IsFalse (is_waiting waiter.now.file waiting.now.waiters) }
-    requires room { length waiting.now.waiters < heads.old.room }
-    requires known { IsKnown dests.now (length heads.old.busy) waiter.now }
-    ensures line { IsLine (record waiting.now { waiters = with_waiter waiter.now waiting.now.waiters }) heads.new later.new dests.now peak }
-    ensures busy { heads.new.busy ≡ heads.old.busy }
-    ensures room { heads.new.room ≡ heads.old.room }
-    ensures dest_room { heads.new.dest_room ≡ heads.old.dest_room }
-{
-    let file = ripe_of(dests, waiter);
-    if waiter.not_before <= peak {
-        heads.insert(file);
-    } else {
-        later.insert(Later {
-            not_before: waiter.not_before,
-            file,
-        });
-    }
-}
-
-/// A file goes from among the ripe ones, or from those whose moment has not come.
-fn go_out(
-    waiting: &Waiting,
-    dests: &[u32],
-    heads: &mut Heads,
-    later: &mut Ordered<Later>,
-    peak: u64,
-    waiter: &Waiter,
-)
-    requires line { IsLine waiting.now heads.old later.old dests.now peak }
-    requires inside { IsInside waiter.now.link waiter.now.activity }
-    requires waits { IsTrue (list_any (is_same_waiter waiter.now) waiting.now.waiters) }
-    ensures line { IsLine (record waiting.now { waiters = without_file waiter.now.file waiting.now.waiters }) heads.new later.new dests.now peak }
-    ensures busy { heads.new.busy ≡ heads.old.busy }
-    ensures room { heads.new.room ≡ heads.old.room }
-    ensures dest_room { heads.new.dest_room ≡ heads.old.dest_room }
-{
-    let _ = waiting.queues();
-    let _ = heads.len();
-    let _ = later.len();
-    let file = ripe_of(dests, waiter);
-    if waiter.not_before <= peak {
-        heads.remove(file);
-    } else {
-        later.remove(&Later {
-            not_before: waiter.not_before,
-            file,
-        });
-    }
-}
-
-/// The first file of a queue that may start, asked for one by one.
-fn first_by_number(
-    waiting: &Waiting,
-    heads: &Heads,
-    dests: &[u32],
-    count: usize,
-    link: LinkAt,
-    activity: u16,
-) -> Option<u32>
-    requires count { length waiting.now.waiters ≤ count }
-    ensures file { result ≡ first_open (record {
-      waiting = waiting.now;
-      dests = dests.now;
-      busy = heads.now.busy;
-      room = heads.now.room;
-      row_room = 0;
-    }) link activity }
-{
-    ripe_files_are_numbered();
-    for number in 0..count {
-        match waiting.nth(link, activity, number) {
-            Some(file) => {
-                if !heads.is_busy(dest_of(dests, file)) {
-                    return Some(file);
-                }
-            },
-            None => return None,
-        }
-    }
-    None
+    ghost invariant = { λ line. IsLine line.heads line.rests.items line.rooms.items line.dests.items line.moment };
 }
 
 impl Line {
@@ -246,25 +71,29 @@ impl Line {
         ensures line { result ≡ record { waiting = record { waiters = []; moment = 0; rooms = [] }; dests = []; busy = []; room = 0; row_room = 0 } }
     {
         Line {
-            waiting: Waiting::new(alloc),
             heads: Heads::new(alloc),
-            later: Ordered::new(alloc),
+            rests: Vec::new(alloc),
+            rooms: Vec::new(alloc),
             dests: Vec::new(alloc),
             moment: 0,
-            peak: 0,
         }
     }
 
-    /// Makes the room of a queue at least as many files as wait there and `more`. No room falls, and at an `Err` all stays as it is.
+    /// Makes the room of a queue at least as many files as wait in all and `more`. No room falls, and at an `Err` all stays as it is.
     pub fn make_room(&mut self, link: LinkAt, activity: u16, more: u32) -> Result<(), Memory>
         ensures ok { OnOk result (self.new ≡ record self.old {
-          waiting = record self.old.waiting {
-            rooms = with_room link activity (length (waiting_in link activity self.old.waiting.waiters) + more) self.old.waiting.rooms;
-          };
+          waiting = record self.old.waiting { rooms = with_room link activity (length self.old.waiting.waiters + more) self.old.waiting.rooms };
         }) }
         ensures err { OnErr result (self.new ≡ self.old) }
     {
-        self.waiting.make_room(link, activity, more)
+        rooms_are_raised();
+        let wanted = match self.heads.len().checked_add(more as usize) {
+            Some(wanted) => wanted,
+            None => return Err(Memory),
+        };
+        self.rooms.reserve(1)?;
+        raise(&mut self.rooms, link, activity, wanted);
+        Ok(())
     }
 
     /// Makes places in line for so many files in all. No room falls, and at an `Err` all stays as it is.
@@ -272,18 +101,21 @@ impl Line {
         ensures ok { OnOk result (self.new ≡ record self.old { room = max self.old.room files }) }
         ensures err { OnErr result (self.new ≡ self.old) }
     {
-        self.later.make_room(files)?;
         self.heads.make_room(files)?;
         Ok(())
     }
 
-    /// Makes room for the numbers of so many files more. No room falls; at an `Err` no other thing changes.
+    /// Makes room for the numbers of so many files more. No room falls; at an `Err` no other thing changes. There are less than 2^32 numbers.
     pub fn make_rows(&mut self, more: usize) -> Result<(), Memory>
         ensures same { self.new ≡ record self.old { row_room = self.new.row_room } }
         ensures ok { OnOk result (length self.old.dests + more ≤ self.new.row_room) }
         ensures room { self.old.row_room ≤ self.new.row_room }
     {
+        if more > (MOST_DESTS as usize).saturating_sub(self.dests.len()) {
+            return Err(Memory);
+        }
         self.dests.reserve(more)?;
+        self.rests.reserve(more)?;
         self.heads.make_dests(more)?;
         Ok(())
     }
@@ -294,6 +126,7 @@ impl Line {
         ensures row { self.new ≡ record self.old { dests = self.old.dests ++ dest ∷ []; busy = self.old.busy ++ false ∷ [] } }
     {
         self.heads.add_dest();
+        self.rests.push_reserved(0);
         self.dests.push_reserved(dest);
     }
 
@@ -306,15 +139,14 @@ impl Line {
         requires known { IsKnown self.old.dests (length self.old.busy) waiter }
         ensures line { self.new ≡ record self.old { waiting = record self.old.waiting { waiters = with_waiter waiter self.old.waiting.waiters } } }
     {
+        filters_keep_the_order();
         come_in(
-            &self.waiting,
-            self.dests.as_slice(),
             &mut self.heads,
-            &mut self.later,
-            self.peak,
+            &mut self.rests,
+            self.dests.as_slice(),
             &waiter,
+            self.moment,
         );
-        self.waiting.insert(waiter);
     }
 
     /// Takes a file out that waits.
@@ -324,34 +156,22 @@ impl Line {
         ensures line { self.new
             ≡ record self.old { waiting = record self.old.waiting { waiters = without_file waiter.now.file self.old.waiting.waiters } } }
     {
-        go_out(
-            &self.waiting,
-            self.dests.as_slice(),
-            &mut self.heads,
-            &mut self.later,
-            self.peak,
-            waiter,
-        );
-        self.waiting.remove_waiter(waiter);
+        filters_keep_the_order();
+        let dests = self.dests.as_slice();
+        let key = key_of(dests, waiter, self.moment);
+        go_out(&mut self.heads, self.rests.as_slice(), dests, key);
     }
 
-    /// Ripens the files whose moment has come. For a lesser moment than before, what was ripe may not be so afterwards.
+    /// Ripens the files whose moment has come. For a lesser moment than before, what was ripe may not be so afterwards: that takes as long as there are files.
     pub fn ripen(&mut self, now: u64)
         ensures line { self.new ≡ record self.old { waiting = record self.old.waiting { moment = now } } }
     {
-        if now > self.peak {
-            let dests = self.dests.as_slice();
-            ripen(
-                &self.waiting,
-                dests,
-                &mut self.heads,
-                &mut self.later,
-                self.peak,
-                now,
-            );
-            self.peak = now;
+        let dests = self.dests.as_slice();
+        if self.moment <= now {
+            ripen(&mut self.heads, &mut self.rests, dests, self.moment, now);
+        } else {
+            unripen(&mut self.heads, &mut self.rests, dests, self.moment, now);
         }
-        self.waiting.ripen(now);
         self.moment = now;
     }
 
@@ -360,18 +180,7 @@ impl Line {
         requires inside { IsInside link activity }
         ensures file { result ≡ first_open self.now link activity }
     {
-        let _ = self.waiting.queues();
-        if self.moment < self.peak {
-            let count = self.heads.len() + self.later.len();
-            return first_by_number(
-                &self.waiting,
-                &self.heads,
-                self.dests.as_slice(),
-                count,
-                link,
-                activity,
-            );
-        }
+        let _ = self.heads.len();
         match self.heads.first_of(queue_of(link, activity)) {
             Some(first) => Some(first.file),
             None => None,
@@ -398,6 +207,7 @@ impl Line {
         ensures dests { length self.now.busy ≡ length self.now.dests }
         ensures places { length self.now.waiting.waiters ≤ self.now.room }
     {
+        let _ = self.heads.len();
         self.dests.len()
     }
 
@@ -406,7 +216,7 @@ impl Line {
         ensures count { result ≡ length self.now.waiting.rooms }
         ensures waiting { AreWaiting self.now.waiting }
     {
-        self.waiting.queues()
+        self.rooms.len()
     }
 
     /// The n-th queue, from 0, in order of the link's source, its destination and the activity.
@@ -415,7 +225,8 @@ impl Line {
         ensures link { option_map (λ room. room.link) (slice_get self.now.waiting.rooms n) ≡ Some result.0 }
         ensures activity { option_map (λ room. room.activity) (slice_get self.now.waiting.rooms n) ≡ Some result.1 }
     {
-        self.waiting.queue(n)
+        let room = self.rooms[n];
+        (room.link, room.activity)
     }
 
     /// A destination that was free gets busy.

@@ -1,3 +1,1 @@
 pub mod WaitingData
-pub mod Waiting
-pub mod Trees

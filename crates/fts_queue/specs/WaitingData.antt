@@ -77,18 +77,6 @@ waiting_in link activity waiters = filter (is_in link activity) waiters
 abbrev pub is_ripe : ℕ → Waiter → Bool
 is_ripe moment waiter = nat_le waiter.not_before moment
 
--- the files of a queue that were ripe at the last ripening
-abbrev pub ripe_in : LinkAt → ℕ → WaitingData → List Waiter
-ripe_in link activity waiting = filter (λ waiter. is_in link activity waiter && is_ripe waiting.moment waiter) waiting.waiters
-
--- the n-th of them, from 0
-abbrev pub nth_of : LinkAt → ℕ → ℕ → WaitingData → Option ℕ
-nth_of link activity n waiting = option_map (λ waiter. waiter.file) (slice_get (ripe_in link activity waiting) n)
-
--- the first place at which a file may stand, where another of its queue stands sooner: in that one's priority, or in the next
-abbrev pub next_bound : ℕ → Waiter → Waiter
-next_bound file found = record found { file = file; priority = if nat_lt found.file file then found.priority else found.priority - 1 }
-
 -- whether a queue stands before another: by the link's source, its destination, the activity
 abbrev pub is_queue_before : LinkAt → ℕ → LinkAt → ℕ → Bool
 is_queue_before link activity other_link other_activity =

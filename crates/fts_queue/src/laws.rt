@@ -2,15 +2,12 @@
 //! Their words stand in `specs/WaitingData.antt`. A crate above cites a law by calling it.
 ghost use Rattle.std.specs.Prelude.{
   ◌≡◌,
-  ◌≢◌,
   ◌+◌,
-  ◌<◌,
   ◌&&◌,
   ◌||◌,
   ◌==◌,
   ◌++◌,
   ◌∷◌,
-  ◌↔◌,
   ℕ,
   Bool,
   true,
@@ -20,13 +17,8 @@ ghost use Rattle.std.specs.Prelude.{
   max,
   filter,
   find,
-  slice_get,
-  Some,
-  None,
-  option_map,
   if◌then◌else◌,
   IsTrue,
-  IsSome,
   IsFalse,
 };
 ghost use Rattle.std.specs.List.{list_any};
@@ -35,8 +27,6 @@ ghost use Rattle.fts_tables.specs.declared.settings.LinkAt.{LinkAt};
 ghost use Rattle.fts_queue.specs.declared.waiter.Waiter.{Waiter};
 ghost use Rattle.fts_queue.specs.declared.rooms.QueueRoom.{QueueRoom};
 ghost use Rattle.fts_queue.specs.WaitingData.{
-  WaitingData,
-  AreWaiting,
   AreSortedBy,
   AreApart,
   AreQueuesInOrder,
@@ -45,10 +35,7 @@ ghost use Rattle.fts_queue.specs.WaitingData.{
   without_file,
   in_order,
   is_waiting,
-  is_in,
   is_room_of,
-  ripe_in,
-  nth_of,
   room_of,
   with_room,
 };
@@ -79,26 +66,6 @@ pub fn filters_keep_the_order()
 pub fn first_is_the_best()
     ensures best { (passes : Waiter → Bool) (waiters : List Waiter) → AreApart waiters
         → find passes (in_order waiters) ≡ least goes_before (filter passes waiters) }
-{}
-
-/// The ripe files of a queue are those with a number: as many as there are, each one at its own, and those with a lesser number go before.
-/// So who asks by numbers from 0 on until a file passes has found the first that passes, and who comes to none has found that none does.
-pub fn ripe_files_are_numbered()
-    ensures some { (waiting : WaitingData) (link : LinkAt) (activity n : ℕ)
-        → IsSome (nth_of link activity n waiting) ↔ (n < length (ripe_in link activity waiting)) }
-    ensures each { (waiting : WaitingData) (link : LinkAt) (activity : ℕ) (waiter : Waiter) (before after : List Waiter)
-        → ripe_in link activity waiting ≡ before ++ waiter ∷ after → nth_of link activity (length before) waiting ≡ Some waiter.file }
-    ensures order { (waiting : WaitingData) (link : LinkAt) (activity m n : ℕ) (one other : Waiter) → AreWaiting waiting → m < n
-        → slice_get (ripe_in link activity waiting) m ≡ Some one → slice_get (ripe_in link activity waiting) n ≡ Some other
-        → IsTrue (goes_before one other) }
-    ensures found { (waiting : WaitingData) (link : LinkAt) (activity n file : ℕ) (passes : ℕ → Bool)
-        → ((m earlier : ℕ) → m < n → nth_of link activity m waiting ≡ Some earlier → passes earlier ≡ false)
-        → nth_of link activity n waiting ≡ Some file → passes file ≡ true
-        → option_map (λ waiter. waiter.file) (find (λ waiter. passes waiter.file) (ripe_in link activity waiting)) ≡ Some file }
-    ensures none { (waiting : WaitingData) (link : LinkAt) (activity n : ℕ) (passes : ℕ → Bool)
-        → ((m earlier : ℕ) → m < n → nth_of link activity m waiting ≡ Some earlier → passes earlier ≡ false)
-        → nth_of link activity n waiting ≡ None
-        → find (λ waiter. passes waiter.file) (ripe_in link activity waiting) ≡ None }
 {}
 
 /// A queue's room is raised to what is asked for, and never falls; every other queue's stays.

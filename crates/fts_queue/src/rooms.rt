@@ -3,20 +3,14 @@ ghost use Rattle.std.specs.Prelude.{
   ◌≡◌,
   ◌≤◌,
   ◌<◌,
-  ◌^◌,
   length,
-  slice_get,
-  if◌then◌else◌,
   vec_len,
   vec_capacity,
-  sum_by,
 };
 ghost use Rattle.std.specs.List.{prefix_len};
-ghost use Rattle.std.specs.Option.{option_map_or};
 ghost use Rattle.fts_queue.specs.WaitingData.{
   is_queue_before,
   is_room_of,
-  room_of,
   with_room,
   AreQueuesInOrder,
 };
@@ -55,30 +49,6 @@ fn place_of(rooms: &[QueueRoom], link: LinkAt, activity: u16) -> usize
     ensures inside { result ≤ length rooms.now }
 {
     rooms.partition_point(|room| is_queue_before(room, link, activity))
-}
-
-/// How many files the room at a place is for, where it is a queue's, and 0 where it isn't or there is none.
-fn room_at(rooms: &[QueueRoom], place: usize, link: LinkAt, activity: u16) -> usize
-    ensures room { result ≡ option_map_or (λ room. if is_room_of link activity room then room.room else 0) (slice_get rooms.now place) 0 }
-{
-    match rooms.get(place) {
-        Some(room) => {
-            if is_room_of(room, link, activity) {
-                room.room
-            } else {
-                0
-            }
-        },
-        None => 0,
-    }
-}
-
-/// How many files a queue has room for.
-pub fn room_of(rooms: &[QueueRoom], link: LinkAt, activity: u16) -> usize
-    requires order { AreQueuesInOrder rooms.now }
-    ensures room { result ≡ room_of link activity rooms.now }
-{
-    room_at(rooms, place_of(rooms, link, activity), link, activity)
 }
 
 /// Raises the room of a queue to a number, or puts it in, in memory that is there.

@@ -3,7 +3,7 @@ use Rattle.std.specs.Prelude.{◌&&◌, IfSome, IfNone}
 use Rattle.ordered.specs.Orders.{has_key}
 use Rattle.fts_heads.specs.declared.ripe_file.RipeFile.{RipeFile}
 use Rattle.fts_heads.specs.RipeFiles.{goes_by_group, is_in}
-use Rattle.fts_heads.specs.Heads.{HeadsData, is_free, IsFirstOf}
+use Rattle.fts_heads.specs.Heads.{HeadsData, is_open, IsFirstOf}
 use Rattle.fts_heads.proofs.Firsts.{first_is, none_is, if_some, if_none}
 use Rattle.fts_heads.proofs.heads.Heads.first_of.Goals as goal
 
@@ -11,8 +11,8 @@ pub returns-clause-first : goal.returns-clause-first
 returns-clause-first c =
     subst
     (λ (waiting : HeadsData). IfSome c.first_in_line.result (λ first.
-    IsFirstOf (λ waiter. is_in c.args.queue waiter && is_free waiting.busy waiter.dest) waiting.files first)) c.self.view_is
-    (if_some (IsFirstOf (λ waiter. is_in c.args.queue waiter && is_free c.self.inside.busy.items waiter.dest) c.self.inside.files.keys) c.first_in_line.result
+    IsFirstOf (λ waiter. is_in c.args.queue waiter && is_open waiting.busy waiter.dest) waiting.files first)) c.self.view_is
+    (if_some (IsFirstOf (λ waiter. is_in c.args.queue waiter && is_open c.self.inside.busy.items waiter.dest) c.self.inside.files.keys) c.first_in_line.result
     (λ first is. first_is c.self.inside.busy.items c.self.inside.files.keys c.self.inside.line.keys c.args.queue c.self.invariant.heads c.len.ensures.order
     c.len-2.ensures.order first (sym c.first_in_line.ensures.first ∙ is)))
 
@@ -20,8 +20,8 @@ pub returns-clause-none : goal.returns-clause-none
 returns-clause-none c =
     subst
     (λ (waiting : HeadsData). IfNone c.first_in_line.result ((waiter : RipeFile) → has_key goes_by_group waiter waiting.files ≡ true
-    → (is_in c.args.queue waiter && is_free waiting.busy waiter.dest) ≡ false)) c.self.view_is
+    → (is_in c.args.queue waiter && is_open waiting.busy waiter.dest) ≡ false)) c.self.view_is
     (if_none ((waiter : RipeFile) → has_key goes_by_group waiter c.self.inside.files.keys ≡ true
-    → (is_in c.args.queue waiter && is_free c.self.inside.busy.items waiter.dest) ≡ false) c.first_in_line.result
+    → (is_in c.args.queue waiter && is_open c.self.inside.busy.items waiter.dest) ≡ false) c.first_in_line.result
     (λ is. none_is c.self.inside.busy.items c.self.inside.files.keys c.self.inside.line.keys c.args.queue c.self.invariant.heads c.len.ensures.order
     c.len-2.ensures.order (sym c.first_in_line.ensures.first ∙ is)))

@@ -1,56 +1,54 @@
-use Rattle.std.proofs.Common.{◌≡◌, ◌<◌, true, false, length, ap, sym, ◌∙◌, subst, arith}
-use Rattle.std.specs.Prelude.{not}
-use Rattle.std.proofs.lemmas.List.{get_or_read}
+use Rattle.std.proofs.Common.{◌≡◌, Bool, ◌<◌, true, false, List, ap, sym, ◌∙◌, subst, arith}
 use Rattle.ordered.specs.Orders.{KeySet, put_by, has_key}
-use Rattle.fts_heads.specs.declared.heads.TheConstants.{MOST_QUEUES}
+use Rattle.fts_heads.specs.declared.heads.TheConstants.{MOST_QUEUES, MOST_DESTS}
 use Rattle.fts_heads.specs.declared.ripe_file.RipeFile.{RipeFile}
 use Rattle.fts_heads.specs.RipeFiles.{goes_by_group}
-use Rattle.fts_heads.specs.Heads.{AreKept, is_free, leads}
+use Rattle.fts_heads.specs.Heads.{AreKept, is_open, leads}
 use Rattle.fts_heads.proofs.Upkeep.{leads_put, heads_same, heads_apart, heads_again, left_waits, below_put}
 use Rattle.fts_heads.proofs.heads.Heads.insert.Goals as goal
 
 pub invariant_of-self : goal.invariant_of-self
 invariant_of-self c =
     let files = c.self.inside.files.keys in
-    let known : c.args.file.dest < length c.self.inside.busy.items =
-    omega (arith, c.requires.known, ap (λ waiting. length waiting.busy) c.self.view_is) in
-    let busy : is_free c.self.inside.busy.items c.args.file.dest ≡ false =
-    ap not (sym (get_or_read c.self.inside.busy.items c.args.file.dest c.index.result.now known c.index.ensures false) ∙ c.if-index.true) in
-    subst (λ (set : KeySet RipeFile). AreKept MOST_QUEUES c.self.inside.busy.items set c.self.inside.line) (sym c.insert.ensures.keys)
+    let shut : is_open c.self.inside.busy.items c.args.file.dest ≡ false =
+    ap (λ (busy : List Bool). is_open busy c.args.file.dest) (sym c.as_slice.ensures.value)
+    ∙ (sym c.is_open.ensures.open ∙ c.if-not-is_open.true) in
+    subst (λ (set : KeySet RipeFile). AreKept MOST_QUEUES MOST_DESTS c.self.inside.busy.items set c.self.inside.line) (sym c.insert.ensures.keys)
     (record {
       heads = heads_apart c.self.inside.busy.items files c.self.inside.line.keys c.self.invariant.heads c.args.file.dest c.args.file.queue
-          (put_by goes_by_group c.args.file files) (leads_put c.args.file files) busy;
-      below = below_put c.args.file files MOST_QUEUES c.requires.queue c.self.invariant.below;
+          (put_by goes_by_group c.args.file files) (leads_put c.args.file files) shut;
+      few = c.self.invariant.few;
+      below = below_put c.args.file files MOST_QUEUES MOST_DESTS c.requires.queue c.self.invariant.below;
       room = c.self.invariant.room;
     })
 
 pub enter-requires-clause-wait : goal.enter-requires-clause-wait
 enter-requires-clause-wait c =
     let files = c.self.inside.files.keys in
-    let known : c.args.file.dest < length c.self.inside.busy.items =
-    omega (arith, c.requires.known, ap (λ waiting. length waiting.busy) c.self.view_is) in
-    let free : is_free c.self.inside.busy.items c.args.file.dest ≡ true =
-    ap not (sym (get_or_read c.self.inside.busy.items c.args.file.dest c.index.result.now known c.index.ensures false) ∙ c.if-index.false) in
+    let opens : is_open c.self.inside.busy.items c.args.file.dest ≡ true =
+    ap (λ (busy : List Bool). is_open busy c.args.file.dest) (sym c.as_slice.ensures.value)
+    ∙ (sym c.is_open.ensures.open ∙ c.if-not-is_open.false) in
     left_waits c.self.inside.busy.items files c.self.inside.line.keys c.self.invariant.heads c.args.file.dest c.args.file.queue
     c.insert-else-is_behind.new.self.keys
     (λ waiter apart. ap (λ (set : KeySet RipeFile). leads set.keys waiter) c.insert-else-is_behind.ensures.keys ∙ leads_put c.args.file files waiter apart)
-    c.leave.new.line.keys free c.leave.ensures.lined
+    c.leave.new.line.keys opens c.leave.ensures.lined
 
 pub invariant_of-self-else-is_behind : goal.invariant_of-self-else-is_behind
 invariant_of-self-else-is_behind c =
     let files = c.self.inside.files.keys in
-    let known : c.args.file.dest < length c.self.inside.busy.items =
-    omega (arith, c.requires.known, ap (λ waiting. length waiting.busy) c.self.view_is) in
-    let free : is_free c.self.inside.busy.items c.args.file.dest ≡ true =
-    ap not (sym (get_or_read c.self.inside.busy.items c.args.file.dest c.index.result.now known c.index.ensures false) ∙ c.if-index.false) in
+    let opens : is_open c.self.inside.busy.items c.args.file.dest ≡ true =
+    ap (λ (busy : List Bool). is_open busy c.args.file.dest) (sym c.as_slice.ensures.value)
+    ∙ (sym c.is_open.ensures.open ∙ c.if-not-is_open.false) in
     record {
       heads = heads_again c.self.inside.busy.items files c.self.inside.line.keys c.self.invariant.heads c.args.file.dest c.args.file.queue
           c.insert-else-is_behind.new.self.keys
           (λ waiter apart. ap (λ (set : KeySet RipeFile). leads set.keys waiter) c.insert-else-is_behind.ensures.keys
           ∙ leads_put c.args.file files waiter apart)
-          c.leave.new.line.keys free c.leave.ensures.lined c.enter.new.line.keys c.enter.ensures.lined;
-      below = subst (λ (set : KeySet RipeFile). (waiter : RipeFile) → has_key goes_by_group waiter set.keys ≡ true → waiter.queue < MOST_QUEUES)
-          (sym c.insert-else-is_behind.ensures.keys) (below_put c.args.file files MOST_QUEUES c.requires.queue c.self.invariant.below);
+          c.leave.new.line.keys opens c.leave.ensures.lined c.enter.new.line.keys c.enter.ensures.lined;
+      few = c.self.invariant.few;
+      below = subst
+          (λ (set : KeySet RipeFile). (waiter : RipeFile) → has_key goes_by_group waiter set.keys ≡ true → waiter.dest < MOST_DESTS → waiter.queue < MOST_QUEUES)
+          (sym c.insert-else-is_behind.ensures.keys) (below_put c.args.file files MOST_QUEUES MOST_DESTS c.requires.queue c.self.invariant.below);
       room = omega (
         arith,
         c.self.invariant.room,
@@ -63,10 +61,11 @@ invariant_of-self-else-is_behind c =
 pub invariant_of-self-then-is_behind : goal.invariant_of-self-then-is_behind
 invariant_of-self-then-is_behind c =
     let files = c.self.inside.files.keys in
-    subst (λ (set : KeySet RipeFile). AreKept MOST_QUEUES c.self.inside.busy.items set c.self.inside.line) (sym c.insert-then-is_behind.ensures.keys)
+    subst (λ (set : KeySet RipeFile). AreKept MOST_QUEUES MOST_DESTS c.self.inside.busy.items set c.self.inside.line) (sym c.insert-then-is_behind.ensures.keys)
     (record {
       heads = heads_same c.self.inside.busy.items files c.self.inside.line.keys c.self.invariant.heads (put_by goes_by_group c.args.file files)
           (c.is_behind.ensures.settled c.if-is_behind.true);
-      below = below_put c.args.file files MOST_QUEUES c.requires.queue c.self.invariant.below;
+      few = c.self.invariant.few;
+      below = below_put c.args.file files MOST_QUEUES MOST_DESTS c.requires.queue c.self.invariant.below;
       room = c.self.invariant.room;
     })
