@@ -1,6 +1,6 @@
 -- A row more in line: the number of its destination, and a flag of its own, which is free.
 use Rattle.std.proofs.Common.{◌≡◌, ◌⊎◌, inl, inr, ℕ, suc, ◌+◌, ◌<◌, ◌≤◌, true, false, List, [], ◌∷◌, ◌++◌, length, get_or, take, map, Option, Some, None}
-use Rattle.std.proofs.Common.{refl, ap, sym, ◌∙◌, subst, arith}
+use Rattle.std.proofs.Common.{zero, refl, ap, sym, ◌∙◌, subst, arith}
 use Rattle.std.specs.Prelude.{Bool, filter, count_by, is_some, slice_get, slice_index_or, unwrap_or}
 use Rattle.std.proofs.lemmas.Bool.{cases_lt}
 use Rattle.std.proofs.lemmas.Option.{same_Some, slice_get-get_or}
@@ -20,7 +20,6 @@ use Rattle.fts_queue.specs.declared.waiter.Waiter.{Waiter}
 use Rattle.fts_queue.specs.WaitingData.{WaitingData, in_order}
 use Rattle.fts_heads.specs.Dests.{DestsData, dests_of, number_of, AreNumbersOf}
 use Rattle.fts_heads.proofs.Apart.{number_stays, number_listed}
-use Rattle.fts_heads.proofs.Firsts.{free_more}
 use Rattle.fts_line.specs.LineData.{LineData, IsKnown}
 use Rattle.fts_claims.specs.BusyData.{BusyData, is_busy}
 use Rattle.fts_claims.specs.Ties.{AreTied, waiter_of, is_waiter, waiters_of}
@@ -31,6 +30,13 @@ use Rattle.fts_claims.specs.declared.parts.ClaimParts.{ClaimParts}
 use Rattle.fts_claims.proofs.PlacesInOrder.{place_same}
 use Rattle.fts_claims.proofs.InLineRows.{has_number, inside_row}
 use Rattle.fts_claims.proofs.OneMore.{numbered_take}
+
+-- a destination more is free, and the others are as they were
+free_more : (busy : List Bool) (dest : ℕ) → slice_index_or (busy ++ (false ∷ [])) dest false ≡ slice_index_or busy dest false
+free_more [] zero = refl
+free_more [] (suc n) = refl
+free_more (first ∷ rest) zero = refl
+free_more (first ∷ rest) (suc n) = free_more rest n
 
 -- images are the same where those of each item are
 map_alike : {Item Image : Type 0} (read other : Item → Image) (items : List Item)
@@ -143,6 +149,7 @@ waiter_known settings jobs row line waiter rules known is small has =
     subst (IsKnown line.dests (length line.busy)) (sym is) (record {
       queue = inside_row settings rules row known;
       priority = subst (λ (other : Waiter). other.priority < 4294967296) is small;
+      first = has.first;
       numbered = has.numbered;
       dest = has.dest;
     })

@@ -69,6 +69,7 @@ module _ (rows : List FileRow) (line : LineData) (busy : BusyData) (place : ℕ)
       let inside = slice_get_within rows place row at in
       let many = length-map rows (λ (other : FileRow). other.dest) in
       let id = id_here 1 rows place row numbered at in record {
+        first = omega (arith, id);
         numbered = omega (
           arith,
           id,

@@ -25,8 +25,9 @@ pub record AreInLine (places : List Place) (parts : ClaimParts) : Type 0 where
   pub line : IsInLine places parts.line parts.busy
   pub found : AreNumbersOf places parts.dests
 
--- the file of a row has a number, which is that of a destination
+-- the file of a row has a number, from 1 on, which is that of a destination
 pub record HasNumber (row : FileRow) (line : LineData) : Type 0 where
+  pub first : 0 < row.id
   pub numbered : row.id - 1 < length line.dests
   pub dest : dest_of line.dests row.id < length line.busy
 
