@@ -28,9 +28,8 @@ fn apply(desk: &mut Desk, command: &Command) -> Option<Answer> {
     }
 }
 
-/// Starts under the settings. False where they are refused.
-pub fn start(alloc: Global, desk: &mut Desk) -> Result<bool, AllocError> {
-    let text = texts::settings(alloc)?;
+/// Starts under settings. False where they are refused.
+pub fn start(alloc: Global, desk: &mut Desk, text: &str) -> Result<bool, AllocError> {
     let Ok(settings) = read_settings(alloc, text.as_bytes()) else {
         return Ok(false);
     };
@@ -38,9 +37,29 @@ pub fn start(alloc: Global, desk: &mut Desk) -> Result<bool, AllocError> {
     Ok(apply(desk, &command).is_some())
 }
 
+/// What the jobs are of.
+#[derive(Clone, Copy)]
+pub enum Jobs {
+    /// Files of one link, each with a destination of its own.
+    OneLink,
+    /// Files of the links of a grid, in turn.
+    Grid,
+    /// Files of one link and one destination.
+    OneDestination,
+}
+
+/// The document of a job of 200 files.
+fn document(alloc: Global, jobs: Jobs, number: u32) -> Result<String, AllocError> {
+    match jobs {
+        Jobs::OneLink => texts::job(alloc, number),
+        Jobs::Grid => texts::grid_job(alloc, number),
+        Jobs::OneDestination => texts::same_job(alloc, number),
+    }
+}
+
 /// Submits a job of 200 files.
-fn submit(alloc: Global, desk: &mut Desk, number: u32) -> Result<bool, AllocError> {
-    let text = texts::job(alloc, number)?;
+fn submit(alloc: Global, desk: &mut Desk, jobs: Jobs, number: u32) -> Result<bool, AllocError> {
+    let text = document(alloc, jobs, number)?;
     let Some(settings) = desk.settings() else {
         return Ok(false);
     };
@@ -51,13 +70,18 @@ fn submit(alloc: Global, desk: &mut Desk, number: u32) -> Result<bool, AllocErro
 }
 
 /// Submits so many jobs, and tells how many were accepted.
-pub fn submit_jobs(alloc: Global, desk: &mut Desk, jobs: u32) -> Result<u32, AllocError> {
-    for number in 0..jobs {
-        if !submit(alloc, desk, number)? {
+pub fn submit_jobs(
+    alloc: Global,
+    desk: &mut Desk,
+    jobs: Jobs,
+    count: u32,
+) -> Result<u32, AllocError> {
+    for number in 0..count {
+        if !submit(alloc, desk, jobs, number)? {
             return Ok(number);
         }
     }
-    Ok(jobs)
+    Ok(count)
 }
 
 /// Claims a file and reports that its store failed, both at this moment. None where no file was claimed, and else whether it failed for good.
@@ -77,6 +101,23 @@ fn copy_one(desk: &mut Desk, now: u64) -> Option<bool> {
         Some(_) | None => return Some(false),
     };
     Some(state == FileState::Failed)
+}
+
+/// Claims a file, and tells whether there was one.
+pub fn claim(desk: &mut Desk) -> bool {
+    let command = Command::Claim { now: NOW, word: 0 };
+    let answer = apply(desk, &command);
+    if let Some(
+        Answer::Claimed {
+            file: _,
+            attempt: _,
+        },
+    ) = answer
+    {
+        true
+    } else {
+        false
+    }
 }
 
 /// Claims a file so often, each reported before the next one is claimed, and each a second behind the one before.

@@ -5,7 +5,6 @@ mod heads;
 mod index;
 mod line;
 mod made;
-mod queue;
 mod sets;
 mod slots;
 mod states;

@@ -4,9 +4,10 @@ ghost use Rattle.std.specs.Prelude.{◌≡◌, IfOk, OnOk};
 ghost use Rattle.fts_rounds_trial.specs.Ready.{IsReady};
 
 use crate::Bed;
+use fts_routes::{file_state_text, job_state_text};
 use fts_store::{MemoryStore, Store, StoredFile};
 use fts_tables::{
-    Command, EndpointName, FileState, Items, JobState, Memory, Outcome, PathKey, Place, PlaceRef,
+    Command, EndpointName, FileRow, Items, JobState, Memory, Outcome, PathKey, Place, PlaceRef,
     Reason,
 };
 use fts_workers::RoundEnd;
@@ -70,201 +71,168 @@ const SOURCES_FOR_AN_HOUR: &str =
 const RETRIED_FOR_AN_HOUR: &str =
     "{\"files\":[{\"sources\":[\"https://a.example/f1\"],\"destinations\":[\"https://b.example/f1\"]}],\"params\":{\"retry\":1,\"retry_delay\":3600,\"max_time_in_queue\":1}}";
 
-/// What a row has.
-struct Row {
-    case: &'static str,
+/// What a row begins with.
+#[derive(Clone, Copy)]
+struct Start {
     settings: &'static str,
     limit: &'static str,
     submitted: u64,
-    document: &'static str,
     fail: &'static [u32],
     drop: &'static [u32],
+}
+
+/// Two storages, two files at once over a link, a job of the first moment, and a store that does its part.
+const AT_ONCE: Start = Start {
+    settings: TWO,
+    limit: "2",
+    submitted: 0,
+    fail: &[],
+    drop: &[],
+};
+
+/// The same with a job of a later moment.
+const LATER: Start = Start {
+    submitted: 1000,
+    ..AT_ONCE
+};
+
+/// What a row has.
+struct Row {
+    case: &'static str,
+    start: Start,
+    document: &'static str,
     script: &'static str,
 }
 
 const ROWS: [Row; 18] = [
     Row {
         case: "a link carries as many files as its limit",
-        settings: TWO,
-        limit: "2",
-        submitted: 0,
+        start: AT_ONCE,
         document: FIVE,
-        fail: &[],
-        drop: &[],
         script: "round 0 = busy 2\nstates = ACTIVE ACTIVE SUBMITTED SUBMITTED SUBMITTED ACTIVE\nround 0 = busy 2\nstates = FINISHED FINISHED ACTIVE ACTIVE SUBMITTED ACTIVE",
     },
     Row {
         case: "an endpoint takes as many files as its limit, and of links with none the one of the least name is first",
-        settings: THREE,
-        limit: "2",
-        submitted: 0,
+        start: Start {
+            settings: THREE,
+            ..AT_ONCE
+        },
         document: INTO_THIRD,
-        fail: &[],
-        drop: &[],
         script: "round 0 = busy 1\nstates = SUBMITTED ACTIVE ACTIVE",
     },
     Row {
         case: "behind a missing source the next one is copied",
-        settings: TWO,
-        limit: "2",
-        submitted: 0,
+        start: AT_ONCE,
         document: SOURCES,
-        fail: &[],
-        drop: &[],
         script: "round 0 = busy 1\nround 0 = busy 1\nreason 1 = source missing\nround 0 = clear\nstates = FAILED FINISHED NOT_USED FINISHED",
     },
     Row {
         case: "behind a failed hop nothing is copied",
-        settings: TWO,
-        limit: "2",
-        submitted: 0,
+        start: AT_ONCE,
         document: HOPS,
-        fail: &[],
-        drop: &[],
         script: "round 0 = busy 1\nround 0 = busy 1\nround 0 = clear\nstates = FINISHED FAILED NOT_USED FAILED\nreason 2 = destination exists",
     },
     Row {
         case: "a cancelled file keeps its slot until its report, though its copy was verified",
-        settings: TWO,
-        limit: "1",
-        submitted: 0,
+        start: Start {
+            limit: "1",
+            ..AT_ONCE
+        },
         document: THREE_FILES,
-        fail: &[],
-        drop: &[],
         script: "round 0 = busy 1\ncancel = ok\nstates = ACTIVE CANCELED CANCELED ACTIVE\nround 0 = clear\nstates = CANCELED CANCELED CANCELED CANCELED\nsize f1 = 3",
     },
     Row {
         case: "an empty file is copied",
-        settings: TWO,
-        limit: "2",
-        submitted: 0,
+        start: AT_ONCE,
         document: EMPTY,
-        fail: &[],
-        drop: &[],
         script: "round 0 = busy 1\nround 0 = clear\nstates = FINISHED FINISHED\nsize f1 = 0",
     },
     Row {
         case: "another digest than the wanted one fails at once",
-        settings: TWO,
-        limit: "2",
-        submitted: 0,
+        start: AT_ONCE,
         document: WRONG,
-        fail: &[],
-        drop: &[],
         script: "round 0 = busy 1\nround 0 = clear\nstates = FAILED FAILED\nreason 1 = source digest of abc\nwaits 1 = attempt 1 not before 0\nsize f1 = none\nsize .fts/part-1 = none",
     },
     Row {
         case: "a retry waits until its moment",
-        settings: TWO,
-        limit: "2",
-        submitted: 0,
+        start: Start {
+            fail: &[1],
+            ..AT_ONCE
+        },
         document: RETRIED,
-        fail: &[1],
-        drop: &[],
         script: "round 1000 = busy 1\nround 1000 = clear\nstates = SUBMITTED SUBMITTED\nwaits 1 = attempt 1 not before 1060\n\
                  reason 1 = store failed\nround 1059 = clear\nround 1060 = busy 1\nround 1060 = clear\nstates = FINISHED FINISHED\n\
                  waits 1 = attempt 2 not before 1060",
     },
     Row {
         case: "a byte that the store lost is found where it is missing",
-        settings: TWO,
-        limit: "2",
-        submitted: 0,
+        start: Start {
+            drop: &[1],
+            ..AT_ONCE
+        },
         document: ONE,
-        fail: &[],
-        drop: &[1],
         script: "round 0 = busy 1\nround 0 = clear\nstates = FAILED FAILED\nreason 1 = read back differs at 2\nsize f1 = none\nsize .fts/part-1 = none",
     },
     Row {
         case: "a part whose removal fails stays, and its file ends as its copy did",
-        settings: TWO,
-        limit: "2",
-        submitted: 0,
+        start: Start {
+            fail: &[6],
+            ..AT_ONCE
+        },
         document: WRONG,
-        fail: &[6],
-        drop: &[],
         script: "round 0 = busy 1\nround 0 = clear\nstates = FAILED FAILED\nreason 1 = source digest of abc\nsize f1 = none\nsize .fts/part-1 = 3",
     },
     Row {
         case: "a file that waits at a banned storage is cancelled once its hour is over, and no second before",
-        settings: TWO,
-        limit: "2",
-        submitted: 1000,
+        start: LATER,
         document: HOUR,
-        fail: &[],
-        drop: &[],
         script: "ban wait = ok\nround 4599 = clear\nstates = SUBMITTED SUBMITTED\nreason 1 = none\nround 4600 = clear\nstates = CANCELED CANCELED\nreason 1 = expired",
     },
     Row {
         case: "with a replica job's file all its sources are cancelled",
-        settings: TWO,
-        limit: "2",
-        submitted: 1000,
+        start: LATER,
         document: SOURCES_FOR_AN_HOUR,
-        fail: &[],
-        drop: &[],
         script: "ban wait = ok\nround 4599 = clear\nstates = SUBMITTED NOT_USED NOT_USED SUBMITTED\nround 4600 = clear\n\
                  states = CANCELED CANCELED CANCELED CANCELED\nreason 1 = expired\nreason 2 = expired\nreason 3 = expired",
     },
     Row {
         case: "a file whose hour is over is cancelled before it could be claimed",
-        settings: TWO,
-        limit: "2",
-        submitted: 1000,
+        start: LATER,
         document: HOUR,
-        fail: &[],
-        drop: &[],
         script: "round 4600 = clear\nstates = CANCELED CANCELED\nwaits 1 = attempt 0 not before 0\nsize f1 = none",
     },
     Row {
         case: "a file that is copied when its hour is over goes on",
-        settings: TWO,
-        limit: "2",
-        submitted: 1000,
+        start: LATER,
         document: HOUR,
-        fail: &[],
-        drop: &[],
         script: "round 1000 = busy 1\nround 4600 = clear\nstates = FINISHED FINISHED\nsize f1 = 3",
     },
     Row {
         case: "a file that came back by a retry waits no longer than its hour",
-        settings: TWO,
-        limit: "2",
-        submitted: 1000,
+        start: Start {
+            fail: &[1],
+            ..LATER
+        },
         document: RETRIED_FOR_AN_HOUR,
-        fail: &[1],
-        drop: &[],
         script: "round 2000 = busy 1\nround 2000 = clear\nstates = SUBMITTED SUBMITTED\nwaits 1 = attempt 1 not before 5600\nround 4599 = clear\n\
                  states = SUBMITTED SUBMITTED\nround 4600 = clear\nstates = CANCELED CANCELED\nreason 1 = expired",
     },
     Row {
         case: "a file without a limit waits at a banned storage, and is copied behind the ban",
-        settings: TWO,
-        limit: "2",
-        submitted: 1000,
+        start: LATER,
         document: ONE,
-        fail: &[],
-        drop: &[],
         script: "ban wait = ok\nround 1000000000 = clear\nstates = SUBMITTED SUBMITTED\nunban = ok\nround 1000000000 = busy 1\nround 1000000000 = clear\nstates = FINISHED FINISHED",
     },
     Row {
         case: "a ban that cancels takes the files that wait",
-        settings: TWO,
-        limit: "2",
-        submitted: 0,
+        start: AT_ONCE,
         document: ONE,
-        fail: &[],
-        drop: &[],
         script: "ban wait = ok\nban cancel = ok\nstates = CANCELED CANCELED\nreason 1 = cancelled\nround 0 = clear",
     },
     Row {
         case: "a ban that cancels leaves a file that is copied",
-        settings: TWO,
-        limit: "2",
-        submitted: 0,
+        start: AT_ONCE,
         document: ONE,
-        fail: &[],
-        drop: &[],
         script: "round 0 = busy 1\nban cancel = ok\nstates = ACTIVE ACTIVE\nround 0 = clear\nstates = FINISHED FINISHED\nsize f1 = 3",
     },
 ];
@@ -322,26 +290,11 @@ fn end_text(alloc: Global, end: RoundEnd) -> Result<String, AllocError> {
     }
 }
 
-fn state_text(state: FileState) -> &'static str {
-    match state {
-        FileState::Submitted => "SUBMITTED",
-        FileState::Active => "ACTIVE",
-        FileState::Finished => "FINISHED",
-        FileState::Failed => "FAILED",
-        FileState::Canceled => "CANCELED",
-        FileState::NotUsed => "NOT_USED",
-    }
-}
-
-fn job_state_text(state: Option<JobState>) -> &'static str {
+/// The word of the state of a job, and of one that there is not.
+fn state_of_job(state: Option<JobState>) -> &'static str {
     match state {
         None => "none",
-        Some(JobState::Submitted) => "SUBMITTED",
-        Some(JobState::Active) => "ACTIVE",
-        Some(JobState::Finished) => "FINISHED",
-        Some(JobState::FinishedDirty) => "FINISHEDDIRTY",
-        Some(JobState::Failed) => "FAILED",
-        Some(JobState::Canceled) => "CANCELED",
+        Some(state) => job_state_text(state),
     }
 }
 
@@ -368,22 +321,25 @@ fn outcome_text(alloc: Global, outcome: Outcome) -> Result<String, AllocError> {
 fn states(bed: &Bed) -> Result<String, AllocError> {
     let mut text = String::new(bed.alloc);
     for row in bed.keep.desk().rows() {
-        text.push_str(state_text(row.state))?;
+        text.push_str(file_state_text(row.state))?;
         text.push_str(" ")?;
     }
-    text.push_str(job_state_text(bed.keep.desk().state(1)))?;
+    text.push_str(state_of_job(bed.keep.desk().state(1)))?;
     Ok(text)
 }
 
-/// Why the row of an id is as it is.
-fn reason(bed: &Bed, id: u64) -> Result<String, AllocError> {
-    match bed
-        .keep
+/// The row of an id.
+fn row_of(bed: &Bed, id: u64) -> Option<&FileRow> {
+    bed.keep
         .desk()
         .rows()
         .iter()
         .find(|row| u64::from(row.id) == id)
-    {
+}
+
+/// Why the row of an id is as it is.
+fn reason(bed: &Bed, id: u64) -> Result<String, AllocError> {
+    match row_of(bed, id) {
         None => String::from_str(bed.alloc, "no row"),
         Some(row) => match row.reason {
             Reason::None => String::from_str(bed.alloc, "none"),
@@ -396,13 +352,7 @@ fn reason(bed: &Bed, id: u64) -> Result<String, AllocError> {
 
 /// At which attempt the row of an id is, and until when it waits.
 fn waits(bed: &Bed, id: u64) -> Result<String, AllocError> {
-    match bed
-        .keep
-        .desk()
-        .rows()
-        .iter()
-        .find(|row| u64::from(row.id) == id)
-    {
+    match row_of(bed, id) {
         None => String::from_str(bed.alloc, "no row"),
         Some(row) => {
             format!(in bed.alloc; "attempt {} not before {}", row.attempt, row.not_before)
@@ -473,8 +423,8 @@ fn told(bed: &mut Bed, asked: &str, of: &str) -> Result<String, Memory>
 
 /// The settings of a row.
 fn settings(alloc: Global, row: &Row) -> Result<String, AllocError> {
-    let limit = row.limit;
-    let storages = row.settings;
+    let limit = row.start.limit;
+    let storages = row.start.settings;
     format!(in alloc; "vo = \"demo\"\nworkers = 4\ndefault_max_active = {limit}\n{storages}")
 }
 
@@ -483,9 +433,9 @@ fn bed(alloc: Global, row: &Row) -> Result<Bed, Memory>
     ensures { IfOk result (λ bed. IsReady bed.keep bed.bench) }
 {
     let settings = settings(alloc, row)?;
-    let store = store(alloc, row.fail, row.drop)?;
+    let store = store(alloc, row.start.fail, row.start.drop)?;
     let mut bed = Bed::new(alloc, settings.as_str(), 4, store)?;
-    bed.submit(row.submitted, row.document)?;
+    bed.submit(row.start.submitted, row.document)?;
     Ok(bed)
 }
 

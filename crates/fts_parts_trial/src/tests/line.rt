@@ -38,38 +38,57 @@ fn files_for_a_busy_destination_are_passed_as_one(rt: HostRuntime) -> Result<(),
     line.make_room(LINK, 3, 3)?;
     line.make_places(3)?;
     line.insert(make_waiter(1, 3, 0));
-    line.insert(make_waiter(2, 5, 10));
+    line.insert(make_waiter(2, 5, 0));
     line.insert(make_waiter(3, 1, 0));
+    assert_eq!(rt; line.first_open(LINK, 3), Some(2), "the greatest priority");
+    line.busy(0);
+    assert_eq!(rt; line.first_open(LINK, 3), Some(3), "both are passed");
+    line.free(0);
+    assert_eq!(rt; line.first_open(LINK, 3), Some(2));
+    assert_eq!(rt; line.first_open(LINK, 2), None, "another queue");
+    let is_one_queue = line.queues() == 1 && line.queue(0) == (LINK, 3);
+    assert!(rt; is_one_queue && !line.is_busy(0) && line.rows() == 3);
+    Ok(())
+}
+
+#[test]
+fn a_better_file_goes_first_once_its_moment_has_come(rt: HostRuntime) -> Result<(), Fail> {
+    let mut line = Line::new(rt.alloc());
+    line.make_rows(3)?;
+    line.add_row(0);
+    line.add_row(1);
+    line.add_row(1);
+    line.make_room(LINK, 3, 3)?;
+    line.make_places(3)?;
+    line.insert(make_waiter(1, 3, 0));
+    line.insert(make_waiter(2, 5, 10));
+    line.insert(make_waiter(3, 1, 5_000_000_000));
+    line.ripen(9);
+    assert_eq!(rt; line.first_open(LINK, 3), Some(1), "before its moment");
+    line.ripen(10);
+    assert_eq!(rt; line.first_open(LINK, 3), Some(2), "at its moment");
+    line.ripen(9);
     assert_eq!(rt;
         line.first_open(LINK, 3),
         Some(1),
-        "the second waits for its moment"
+        "the clock has gone back"
     );
-    line.ripen(10);
-    assert_eq!(rt; line.first_open(LINK, 3), Some(2), "the greatest priority");
+    line.ripen(5_000_000_000);
+    assert_eq!(rt; line.first_open(LINK, 3), Some(2), "and is there again");
+    line.remove(&make_waiter(2, 5, 10));
+    assert_eq!(rt; line.first_open(LINK, 3), Some(1));
     line.busy(0);
     assert_eq!(rt;
         line.first_open(LINK, 3),
         Some(3),
-        "both files for the busy destination are passed"
+        "whose moment takes more than 32 bits"
     );
-    line.ripen(9);
+    line.ripen(0);
     assert_eq!(rt;
         line.first_open(LINK, 3),
-        Some(3),
-        "the clock has gone back"
+        None,
+        "none is ripe for a free destination"
     );
-    line.free(0);
-    assert_eq!(rt;
-        line.first_open(LINK, 3),
-        Some(1),
-        "the second is not ripe any more"
-    );
-    line.ripen(11);
-    assert_eq!(rt; line.first_open(LINK, 3), Some(2), "and is again");
-    line.remove(&make_waiter(2, 5, 10));
-    assert_eq!(rt; line.first_open(LINK, 3), Some(1));
-    assert_eq!(rt; line.first_open(LINK, 2), None, "another queue");
-    assert!(rt; line.queues() == 1 && !line.is_busy(0));
+    line.remove(&make_waiter(3, 1, 5_000_000_000));
     Ok(())
 }
