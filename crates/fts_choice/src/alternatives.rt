@@ -1,31 +1,10 @@
 //! Which row of a replica job comes in next.
-ghost use Rattle.std.specs.Prelude.{
-  ◌≡◌,
-  ◌↔◌,
-  ◌<◌,
-  ◌&&◌,
-  List,
-  length,
-  map,
-  position,
-  slice_get,
-  None,
-  IfSome,
-  IsFalse,
-  option_and_then,
-};
+ghost use Rattle.std.specs.Prelude.{◌≡◌, ◌↔◌, ◌<◌, ◌&&◌, List, length, map, position, slice_get, None, IfSome, IsFalse, option_and_then};
 ghost use Rattle.std.specs.List.{list_any};
 ghost use Rattle.fts_tables.specs.Tables.{is_not_used};
 ghost use Rattle.fts_tables.specs.Choice.{load, next_alternative};
 ghost use Rattle.fts_tables.specs.declared.rows.FileRow.{FileRow};
-ghost use Rattle.fts_choice.specs.LeastPlaces.{
-  is_lighter,
-  is_better,
-  least_place,
-  is_not_used_at,
-  load_of,
-  alternative_place,
-};
+ghost use Rattle.fts_choice.specs.LeastPlaces.{is_lighter, is_better, least_place, is_not_used_at, load_of, alternative_place};
 
 use fts_tables::{FileRow, Strategy};
 

@@ -1,39 +1,12 @@
 //! Which link a claim takes its file from, given all links in order with what each holds. It is for whoever keeps such a list.
 //! `picked_links_are_the_claims`: it is the link of the machine's own claim.
-ghost use Rattle.std.specs.Prelude.{
-  ◌≡◌,
-  ◌↔◌,
-  ◌<◌,
-  ◌&&◌,
-  ℕ,
-  List,
-  length,
-  map,
-  slice_get,
-  None,
-  IfSome,
-  IsFalse,
-  option_map,
-  option_and_then,
-};
+ghost use Rattle.std.specs.Prelude.{◌≡◌, ◌↔◌, ◌<◌, ◌&&◌, ℕ, List, length, map, slice_get, None, IfSome, IsFalse, option_map, option_and_then};
 ghost use Rattle.std.specs.List.{list_any};
 ghost use Rattle.fts_tables.specs.Tables.{Tables};
 ghost use Rattle.fts_tables.specs.Limits.{eligible_rows};
 ghost use Rattle.fts_tables.specs.Choice.{least, is_link_before};
-ghost use Rattle.fts_choice.specs.LinkOrder.{
-  LinkNames,
-  link_of,
-  AreInOrder,
-  AreAllLinks,
-  chance_of,
-};
-ghost use Rattle.fts_choice.specs.LeastPlaces.{
-  is_lighter,
-  is_better,
-  least_place,
-  is_eligible_at,
-  held_of,
-};
+ghost use Rattle.fts_choice.specs.LinkOrder.{LinkNames, link_of, AreInOrder, AreAllLinks, chance_of};
+ghost use Rattle.fts_choice.specs.LeastPlaces.{is_lighter, is_better, least_place, is_eligible_at, held_of};
 
 /// A link: how many files it has ACTIVE, and whether one of its files may be claimed.
 #[derive(Clone, Copy, Debug, PartialEq, Eq)]

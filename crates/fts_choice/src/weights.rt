@@ -1,23 +1,5 @@
 //! The draw of an activity by the weights of those that take part.
-ghost use Rattle.std.specs.Prelude.{
-  ◌≡◌,
-  ◌<◌,
-  ◌≤◌,
-  ◌↔◌,
-  ℕ,
-  List,
-  Bool,
-  false,
-  All,
-  None,
-  IfSome,
-  IsTrue,
-  IsFalse,
-  sum,
-  length,
-  count_by,
-  get_or,
-};
+ghost use Rattle.std.specs.Prelude.{◌≡◌, ◌<◌, ◌≤◌, ◌↔◌, ℕ, List, Bool, false, All, None, IfSome, IsTrue, IsFalse, sum, length, count_by, get_or};
 ghost use Rattle.std.specs.List.{range_with_len, list_any};
 ghost use Rattle.fts_tables.specs.SettingsData.{is_within};
 ghost use Rattle.fts_tables.specs.Choice.{draw, shares};

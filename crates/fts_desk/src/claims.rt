@@ -1,23 +1,6 @@
 //! Claim: a worker takes a file to copy. `find_claim` says which row that is, or that the machine refuses, and copies its destination; `claim`
 //! makes it ACTIVE. Idle is the only refusal. `claim` takes no memory and can't fail.
-ghost use Rattle.std.specs.Prelude.{
-  ◌≡◌,
-  ◌+◌,
-  ◌-◌,
-  ◌<◌,
-  ℕ,
-  List,
-  false,
-  max,
-  length,
-  slice_get,
-  option_map,
-  Ok,
-  Some,
-  IfOk,
-  IfSome,
-  OnOk,
-};
+ghost use Rattle.std.specs.Prelude.{◌≡◌, ◌+◌, ◌-◌, ◌<◌, ℕ, List, false, max, length, slice_get, option_map, Ok, Some, IfOk, IfSome, OnOk};
 ghost use Rattle.fts_tables.specs.SettingsData.{IsSettings};
 ghost use Rattle.fts_tables.specs.Tables.{AreNumberedFrom, AreWellFormed, is_active};
 ghost use Rattle.fts_tables.specs.Choice.{pick};

@@ -2,27 +2,7 @@
 //! those in a state are counted, without a walk over the others.
 //! Contracts see how the jobs stand, and the room. Kept in its type (`AreJobStates`): the places of a state are those of its jobs, in order.
 //! Order: `make_room` before `add`. That and `set` take no memory.
-ghost use Rattle.std.specs.Prelude.{
-  ◌≡◌,
-  ◌≢◌,
-  ℕ,
-  ◌<◌,
-  ◌≤◌,
-  ◌++◌,
-  ◌∷◌,
-  [],
-  length,
-  drop,
-  count_by,
-  slice_get,
-  slice_set,
-  Some,
-  nat_lt,
-  true,
-  false,
-  OnOk,
-  OnErr,
-};
+ghost use Rattle.std.specs.Prelude.{◌≡◌, ◌≢◌, ℕ, ◌<◌, ◌≤◌, ◌++◌, ◌∷◌, [], length, drop, count_by, slice_get, slice_set, Some, nat_lt, true, false, OnOk, OnErr};
 ghost use Rattle.std.specs.List.{position_from};
 ghost use Rattle.ordered.specs.Orders.{put_by, without, has_key, first_from};
 ghost use Rattle.fts_desk.specs.JobLists.{rank, is_among, is_at, places_at, with_keys, with_room, least_of};

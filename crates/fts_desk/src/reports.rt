@@ -2,37 +2,9 @@
 //! What becomes of the row, and which kind of row follows, `after_report` says; behind a finished hop comes the row after it,
 //! after a failed replica the next alternative, with loads over all rows as the report leaves them, which are kept beside the rows.
 //! Order: the row is written first, then the one that follows is woken. `make_room` makes room for either to wait, before the report is done.
-ghost use Rattle.std.specs.Prelude.{
-  ◌≡◌,
-  ◌≢◌,
-  ℕ,
-  ◌+◌,
-  ◌-◌,
-  ◌<◌,
-  ◌≤◌,
-  List,
-  length,
-  slice_get,
-  Some,
-  Ok,
-  IsTrue,
-  OnOk,
-};
-ghost use Rattle.fts_tables.specs.Tables.{
-  Tables,
-  AreNumberedFrom,
-  AreWellFormed,
-  is_active,
-  job_at,
-  row_at,
-};
-ghost use Rattle.fts_tables.specs.Moves.{
-  change_row,
-  reported,
-  followed,
-  followed_finish,
-  followed_failure,
-};
+ghost use Rattle.std.specs.Prelude.{◌≡◌, ◌≢◌, ℕ, ◌+◌, ◌-◌, ◌<◌, ◌≤◌, List, length, slice_get, Some, Ok, IsTrue, OnOk};
+ghost use Rattle.fts_tables.specs.Tables.{Tables, AreNumberedFrom, AreWellFormed, is_active, job_at, row_at};
+ghost use Rattle.fts_tables.specs.Moves.{change_row, reported, followed, followed_finish, followed_failure};
 ghost use Rattle.fts_tables.specs.Step.{step, report_of};
 ghost use Rattle.fts_tables.specs.History.{IsAccepted};
 ghost use Rattle.fts_tables.specs.declared.commands.Command.TheVariants.{Report};
@@ -44,16 +16,7 @@ ghost use Rattle.fts_tables.specs.declared.rows.Outcome.{Outcome};
 ghost use Rattle.fts_tables.specs.declared.rows.JobKind.TheVariants.{Plain, Multihop, Replica};
 ghost use Rattle.fts_states.specs.Afters.{with_follow};
 ghost use Rattle.fts_desk.specs.Kept.{tables_kept, IsWithinLimits};
-ghost use Rattle.fts_desk.specs.Parts.{
-  limits_of,
-  IsBeside,
-  HasRoomToReport,
-  HasRoomToFollow,
-  HaveRoomToWait,
-  HasRoomToWait,
-  HaveRisenRooms,
-  IsFollowOf,
-};
+ghost use Rattle.fts_desk.specs.Parts.{limits_of, IsBeside, HasRoomToReport, HasRoomToFollow, HaveRoomToWait, HasRoomToWait, HaveRisenRooms, IsFollowOf};
 ghost use Rattle.fts_desk.specs.Prepared.{IsChecked};
 ghost use Rattle.fts_desk.specs.Reports.{HaveFewFiles};
 ghost use Rattle.fts_desk.specs.Standing.{StandTogether};

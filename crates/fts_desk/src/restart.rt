@@ -15,14 +15,7 @@ ghost use Rattle.fts_claims.specs.InLine.{AreInLine};
 ghost use Rattle.fts_claims.specs.Ties.{flags_of};
 ghost use Rattle.fts_claims.specs.Changes.{AreTiedTo};
 ghost use Rattle.fts_desk.specs.Kept.{tables_kept};
-ghost use Rattle.fts_desk.specs.Parts.{
-  limits_of,
-  count_active,
-  IsBeside,
-  HasRoomToWait,
-  HaveRisenRooms,
-  HaveRoomToRelease,
-};
+ghost use Rattle.fts_desk.specs.Parts.{limits_of, count_active, IsBeside, HasRoomToWait, HaveRisenRooms, HaveRoomToRelease};
 
 use crate::counts::{counted, recount};
 use crate::kept::{Beside, Kept};

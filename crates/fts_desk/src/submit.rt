@@ -3,33 +3,10 @@
 //! Loads count the rows that were there before the submission.
 //! `make_room` refuses an id that a job has and what would pass the limits, and takes all the memory that `submit` needs. The new rows count
 //! among the loads and the moments once they all stand (`come_in`), and the job then stands as they say.
-ghost use Rattle.std.specs.Prelude.{
-  ◌≡◌,
-  ℕ,
-  ◌+◌,
-  ◌<◌,
-  ◌≤◌,
-  ◌++◌,
-  List,
-  length,
-  map,
-  true,
-  vec_capacity,
-  option_and_then,
-  unwrap_or,
-  Ok,
-  OnOk,
-};
+ghost use Rattle.std.specs.Prelude.{◌≡◌, ℕ, ◌+◌, ◌<◌, ◌≤◌, ◌++◌, List, length, map, true, vec_capacity, option_and_then, unwrap_or, Ok, OnOk};
 ghost use Rattle.fts_tables.specs.JobData.{JobData};
 ghost use Rattle.fts_tables.specs.Tables.{AreNumberedFrom, AreWellFormed, number_of_id};
-ghost use Rattle.fts_tables.specs.Moves.{
-  new_row,
-  new_rows,
-  standard_id,
-  rows_of_kind,
-  submit_if_not_used,
-  submit_chosen,
-};
+ghost use Rattle.fts_tables.specs.Moves.{new_row, new_rows, standard_id, rows_of_kind, submit_if_not_used, submit_chosen};
 ghost use Rattle.fts_tables.specs.Choice.{next_alternative};
 ghost use Rattle.fts_tables.specs.Step.{step};
 ghost use Rattle.fts_tables.specs.History.{IsAccepted};

@@ -3,23 +3,7 @@
 //! files have one than may, and there is room for those.
 //! Order: `make_room` for the files of a job before `add_rows`; that and `change` take no memory. A file's moment comes from its job and never changes
 //! while it waits: it comes in where the file begins to wait, and goes where it no longer does.
-ghost use Rattle.std.specs.Prelude.{
-  ◌≡◌,
-  ◌<◌,
-  ◌≤◌,
-  ◌+◌,
-  ◌==◌,
-  Bool,
-  [],
-  max,
-  length,
-  count_by,
-  slice_get,
-  IsTrue,
-  OnOk,
-  OnErr,
-  IfSome,
-};
+ghost use Rattle.std.specs.Prelude.{◌≡◌, ◌<◌, ◌≤◌, ◌+◌, ◌==◌, Bool, [], max, length, count_by, slice_get, IsTrue, OnOk, OnErr, IfSome};
 ghost use Rattle.ordered.specs.Orders.{AreSortedBy, has_key};
 ghost use Rattle.fts_tables.specs.Dues.{is_due_before, is_first_due};
 ghost use Rattle.fts_index.specs.DueLists.{due_at, counted, MayChange, HasChanged};

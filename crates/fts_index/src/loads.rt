@@ -1,33 +1,10 @@
 //! How many rows wait or run on each link, by the names of the link's ends, in their order, so that a link is found by a binary search.
 //! Contracts see the list of links counted and that of the links known. Kept in its type (`AreLoads`): each link goes before those behind it.
 //! Order: `make_room` for a link before `add`, which takes no memory. A link that was known stays known.
-ghost use Rattle.std.specs.Prelude.{
-  ◌≡◌,
-  ◌<◌,
-  ◌≤◌,
-  [],
-  length,
-  map,
-  false,
-  slice_get,
-  IsTrue,
-  OnOk,
-  OnErr,
-};
+ghost use Rattle.std.specs.Prelude.{◌≡◌, ◌<◌, ◌≤◌, [], length, map, false, slice_get, IsTrue, OnOk, OnErr};
 ghost use Rattle.std.specs.List.{prefix_len, position_from};
 ghost use Rattle.std.specs.Option.{option_map_or};
-ghost use Rattle.fts_index.specs.Links.{
-  Link,
-  LinkLists,
-  HasOneMore,
-  link_between,
-  is_link,
-  is_link_before,
-  count_of,
-  is_among,
-  with_link,
-  AreInOrder,
-};
+ghost use Rattle.fts_index.specs.Links.{Link, LinkLists, HasOneMore, link_between, is_link, is_link_before, count_of, is_among, with_link, AreInOrder};
 ghost use Rattle.fts_index.specs.Loads.{link_of_known};
 
 use fts_tables::{EndpointName, Memory};

@@ -1,19 +1,7 @@
 //! The rooms of queues, in their order: how many files each may hold.
-ghost use Rattle.std.specs.Prelude.{
-  ◌≡◌,
-  ◌≤◌,
-  ◌<◌,
-  length,
-  vec_len,
-  vec_capacity,
-};
+ghost use Rattle.std.specs.Prelude.{◌≡◌, ◌≤◌, ◌<◌, length, vec_len, vec_capacity};
 ghost use Rattle.std.specs.List.{prefix_len};
-ghost use Rattle.fts_queue.specs.WaitingData.{
-  is_queue_before,
-  is_room_of,
-  with_room,
-  AreQueuesInOrder,
-};
+ghost use Rattle.fts_queue.specs.WaitingData.{is_queue_before, is_room_of, with_room, AreQueuesInOrder};
 
 use fts_tables::LinkAt;
 

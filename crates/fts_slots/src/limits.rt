@@ -1,31 +1,10 @@
 //! The limits of links and endpoints: by the names of endpoints, and by their places in the settings. Both ways read one rule or one endpoint.
-ghost use Rattle.std.specs.Prelude.{
-  ◌≡◌,
-  ◌<◌,
-  ◌≤◌,
-  ◌&&◌,
-  ◌↔◌,
-  ℕ,
-  Some,
-  None,
-  IfSome,
-  IsFalse,
-  option_map,
-  find,
-  position,
-  bytes_eq,
-  length,
-  sum_by,
-};
+ghost use Rattle.std.specs.Prelude.{◌≡◌, ◌<◌, ◌≤◌, ◌&&◌, ◌↔◌, ℕ, Some, None, IfSome, IsFalse, option_map, find, position, bytes_eq, length, sum_by};
 ghost use Rattle.std.specs.Option.{option_map_or};
 ghost use Rattle.fts_tables.specs.SettingsData.{SettingsData, IsSettings, is_listed};
 ghost use Rattle.fts_tables.specs.Limits.{endpoint_at, link_limit, outbound_limit, inbound_limit};
 ghost use Rattle.fts_tables.specs.declared.limits.TheConstants.{MAX_ENDPOINTS};
-ghost use Rattle.fts_slots.specs.SlotsData.{
-  name_at,
-  outbound_limit_at,
-  inbound_limit_at,
-};
+ghost use Rattle.fts_slots.specs.SlotsData.{name_at, outbound_limit_at, inbound_limit_at};
 
 use fts_tables::{Endpoint, LinkRule, Settings};
 

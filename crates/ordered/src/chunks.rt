@@ -27,18 +27,7 @@ ghost use Rattle.std.specs.Prelude.{
 };
 ghost use Rattle.ordered.specs.declared.chunk.TheConstants.{CHUNK_HALF};
 ghost use Rattle.ordered.specs.Orders.{AreSortedBy, put_by, without, has_key};
-ghost use Rattle.ordered.specs.Chunks.{
-  joined,
-  chunk_at,
-  ends_before,
-  front_of,
-  back_of,
-  IsGapFor,
-  parted_at,
-  merged_at,
-  AreFit,
-  HasLostOne,
-};
+ghost use Rattle.ordered.specs.Chunks.{joined, chunk_at, ends_before, front_of, back_of, IsGapFor, parted_at, merged_at, AreFit, HasLostOne};
 
 use crate::chunk::{CHUNK_HALF, CHUNK_ROOM, Chunk};
 use crate::key::Key;

@@ -2,29 +2,8 @@
 //! Kept in its type (`IsSet`): the keys are sorted, in chunks that are fit; they are no more than the room; and there are chunks for the room, used or
 //! spare, with memory in both lists for all of them. So an insertion finds a spare chunk where it needs one (`spare_left`).
 //! The keys, one chunk after the other, are what contracts see.
-ghost use Rattle.std.specs.Prelude.{
-  ◌≡◌,
-  ◌<◌,
-  ◌≤◌,
-  ◌+◌,
-  [],
-  max,
-  length,
-  slice_get,
-  IsTrue,
-  IsFalse,
-  OnOk,
-  OnErr,
-  vec_capacity,
-};
-ghost use Rattle.ordered.specs.Orders.{
-  AreSortedBy,
-  put_by,
-  without,
-  has_key,
-  first_from,
-  next_after,
-};
+ghost use Rattle.std.specs.Prelude.{◌≡◌, ◌<◌, ◌≤◌, ◌+◌, [], max, length, slice_get, IsTrue, IsFalse, OnOk, OnErr, vec_capacity};
+ghost use Rattle.ordered.specs.Orders.{AreSortedBy, put_by, without, has_key, first_from, next_after};
 ghost use Rattle.ordered.specs.Chunks.{chunks_for};
 
 use crate::chunk::{CHUNK_HALF, Chunk};
