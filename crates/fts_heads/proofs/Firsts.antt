@@ -12,8 +12,8 @@ use Rattle.fts_heads.specs.declared.ripe_file.Lined.{Lined}
 use Rattle.fts_heads.specs.RipeFiles.{goes_by_group, goes_in_line, by_group, in_line, is_in}
 use Rattle.fts_heads.specs.Keys.{is_line_before}
 use Rattle.fts_heads.specs.Heads.{leads, is_lined, is_open, AreHeads, IsFirstOf, is_one, goes_ahead}
-use Rattle.fts_heads.proofs.Found.{no, IsFound, is_found, none_found}
-use Rattle.fts_heads.proofs.Ranges.{start_at, IsNext, next, next_leads, not_before_start, to_false, both_same, any_there, leader}
+use Rattle.fts_heads.proofs.Found.{any_there, no, IsFound, is_found, none_found}
+use Rattle.fts_heads.proofs.Ranges.{start_at, IsNext, next, next_leads, not_before_start, to_false, both_same, leader}
 use Rattle.fts_heads.proofs.Upkeep.{lined_waits, passes_on}
 
 -- the files in line without their wrapping
@@ -224,11 +224,11 @@ leads_less file files sorted there behind waiter = by_test (is_one file waiter) 
             by_ahead true goes =
                 let in_front = ahead_of file has.head has.dest has.queue has.in_front other_head in
                 let further = passes_on has.head file waiter in_front goes in
-                any_there (λ other. goes_ahead other waiter) has.head (without goes_by_group file files)
+                any_there goes_by_group by_group (λ other. goes_ahead other waiter) has.head (without goes_by_group file files)
                 (has_without goes_by_group by_group file has.head files
                 ∙ (keep (has_key goes_by_group has.head files) (differs goes_by_group file has.head) other_head
                 ∙ (leader files has.head has.leading).there)) further
-                ∙ sym (any_there (λ other. goes_ahead other waiter) has.head files (leader files has.head has.leading).there further)
+                ∙ sym (any_there goes_by_group by_group (λ other. goes_ahead other waiter) has.head files (leader files has.head has.leading).there further)
             by_ahead false goes =
                 any_filter (λ other. goes_ahead other waiter) (λ other. differs goes_by_group other file) files
                 ∙ any_same (λ other. differs goes_by_group other file && goes_ahead other waiter) (λ other. goes_ahead other waiter) files

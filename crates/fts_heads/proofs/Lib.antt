@@ -5,5 +5,6 @@ pub mod Walks
 pub mod Upkeep
 pub mod Firsts
 pub mod Starts
+pub mod Blocks
 pub mod Numbers
 pub mod Apart

@@ -11,7 +11,7 @@ use Rattle.fts_heads.proofs.Tests.{same_answer}
 use Rattle.fts_heads.specs.declared.ripe_file.RipeFile.{RipeFile}
 use Rattle.fts_heads.specs.RipeFiles.{goes_by_group, by_group}
 use Rattle.fts_heads.specs.Heads.{is_one, goes_ahead, leads, is_within}
-use Rattle.fts_heads.proofs.Found.{no, is_found, none_found, is_one_of, has_first, has_rest}
+use Rattle.fts_heads.proofs.Found.{any_there, is_found, none_found, has_first, has_rest}
 
 -- before all files of a destination and a queue
 abbrev pub start_at : ℕ → ℕ → RipeFile
@@ -91,21 +91,7 @@ pub both_same : (dest other queue other_queue : ℕ) (rest : Bool) → dest ≡ 
     → ((dest == other) && ((queue == other_queue) && rest)) ≡ true
 both_same dest other queue other_queue rest same same_too is = grind (arith, nat_tests)
 
--- a test that passes a key that is there passes some; one that passes none that is there passes none
-pub any_there : (passes : RipeFile → Bool) (key : RipeFile) (keys : List RipeFile) → has_key goes_by_group key keys ≡ true → passes key ≡ true
-    → list_any passes keys ≡ true
-any_there passes key [] there passed = no (sym there)
-any_there passes key (first ∷ rest) there passed = by_side (any_there passes key rest) (is_one_of goes_by_group by_group key first rest there)
-  where
-    or_true : (test : Bool) → (test || true) ≡ true
-    or_true true = refl
-    or_true false = refl
-
-    by_side : (has_key goes_by_group key rest ≡ true → passes key ≡ true → list_any passes rest ≡ true)
-        → (first ≡ key) ⊎ (has_key goes_by_group key rest ≡ true) → (passes first || list_any passes rest) ≡ true
-    by_side behind (inl same) = ap (λ (test : Bool). test || list_any passes rest) (ap passes same ∙ passed)
-    by_side behind (inr later) = ap (λ (test : Bool). passes first || test) (behind later passed) ∙ or_true (passes first)
-
+-- a test that passes none that is there passes none
 pub none_there : (passes : RipeFile → Bool) (keys : List RipeFile) → ((key : RipeFile) → has_key goes_by_group key keys ≡ true → passes key ≡ false)
     → list_any passes keys ≡ false
 none_there passes [] none = refl
@@ -189,7 +175,7 @@ module _ (files : List RipeFile) (sorted : AreSortedBy goes_by_group files) (des
           let behind : goes_by_group waiter found ≡ false = is.least waiter first.there range.same range.least in
           let ahead_of : goes_by_group found waiter ≡ false =
           to_false (goes_by_group found waiter) (λ goes.
-          sym (any_there (λ other. goes_ahead other waiter) found files is.there
+          sym (any_there goes_by_group by_group (λ other. goes_ahead other waiter) found files is.there
           (both_same found.dest waiter.dest found.queue waiter.queue (goes_by_group found waiter) (same ∙ sym range.same)
           (same_queue found.dest waiter.dest found.queue waiter.queue _ (same ∙ sym range.same) goes range.less) goes)) ∙ first.none) in
           subst (λ some. is_one found some ≡ true) (by_group.total found waiter ahead_of behind) (itself goes_by_group by_group found)

@@ -11,8 +11,8 @@ use Rattle.fts_heads.specs.declared.ripe_file.RipeFile.{RipeFile}
 use Rattle.fts_heads.specs.declared.ripe_file.Lined.{Lined}
 use Rattle.fts_heads.specs.RipeFiles.{goes_by_group, by_group}
 use Rattle.fts_heads.specs.Heads.{is_one, goes_ahead, leads, is_lined, is_within, is_open, AreHeads}
-use Rattle.fts_heads.proofs.Found.{no}
-use Rattle.fts_heads.proofs.Ranges.{within, to_within, leader, ahead, to_false, both_same, any_there}
+use Rattle.fts_heads.proofs.Found.{any_there, no}
+use Rattle.fts_heads.proofs.Ranges.{within, to_within, leader, ahead, to_false, both_same}
 
 -- the range of one queue
 pub own_range : (dest queue : ℕ) → ((dest == dest) && (not (nat_lt queue queue) && nat_lt queue (queue + 1))) ≡ true
@@ -108,11 +108,11 @@ leads_behind head file files there goes waiter =
         ≡ leads files waiter
     by_tests true is is1 is2 =
         blocked (is_one file waiter) (goes_ahead file waiter) (has_key goes_by_group waiter files) (list_any (λ other. goes_ahead other waiter) files)
-        (any_there (λ other. goes_ahead other waiter) head files there
+        (any_there goes_by_group by_group (λ other. goes_ahead other waiter) head files there
         (subst (λ some. goes_ahead head some ≡ true) (one_of goes_by_group by_group file waiter is1) goes))
     by_tests false true is1 is2 =
         blocked (is_one file waiter) (goes_ahead file waiter) (has_key goes_by_group waiter files) (list_any (λ other. goes_ahead other waiter) files)
-        (any_there (λ other. goes_ahead other waiter) head files there (passes_on head file waiter goes is2))
+        (any_there goes_by_group by_group (λ other. goes_ahead other waiter) head files there (passes_on head file waiter goes is2))
     by_tests false false is1 is2 =
         ap
         (λ (test : Bool). (test || has_key goes_by_group waiter files) && not (goes_ahead file waiter || list_any (λ other. goes_ahead other waiter) files)) is1

@@ -2,24 +2,7 @@
 //! The texts stay in the rows: here are digests and numbers, in order. A look goes over the rows of one digest and compares their destinations themselves, so
 //! it is right for every digest.
 //! Order: `make_room` before `add`, which takes no memory. Kept by the caller: the numbers are those of its rows (`AreNumbersOf`).
-ghost use Rattle.std.specs.Prelude.{
-  ◌≡◌,
-  ◌<◌,
-  ℕ,
-  ◌≤◌,
-  ◌+◌,
-  false,
-  true,
-  [],
-  max,
-  length,
-  take,
-  slice_get,
-  IfSome,
-  IfNone,
-  OnOk,
-  OnErr,
-};
+ghost use Rattle.std.specs.Prelude.{◌≡◌, ◌<◌, ℕ, ◌≤◌, ◌+◌, false, true, [], max, length, take, slice_get, IfSome, IfNone, OnOk, OnErr};
 ghost use Rattle.std.specs.Option.{option_map_or};
 ghost use Rattle.ordered.specs.Orders.{has_key};
 ghost use Rattle.fts_tables.specs.Places.{is_same_place};

@@ -27,12 +27,16 @@ ghost use Rattle.std.specs.Prelude.{
   OnOk,
   OnErr,
 };
+ghost use Rattle.std.specs.List.{list_any};
 ghost use Rattle.ordered.specs.Orders.{AreSortedBy, has_key, put_by, without, first_from, next_after};
 ghost use Rattle.fts_heads.specs.declared.ripe_file.RipeFile.{RipeFile};
 ghost use Rattle.fts_heads.specs.declared.heads.TheConstants.{MOST_QUEUES, MOST_DESTS};
+ghost use Rattle.fts_heads.specs.declared.counted.TheConstants.{BLOCKS};
 ghost use Rattle.fts_heads.specs.RipeFiles.{goes_by_group, is_in};
 ghost use Rattle.fts_heads.specs.Heads.{HeadsData, is_open, IsFirstOf};
+ghost use Rattle.fts_heads.specs.Blocks.{is_in_block};
 
+use crate::counted::Counted;
 use crate::line::first_in_line;
 use crate::ripe_file::{Lined, RipeFile};
 use crate::walk::{enter, is_behind, leave};
@@ -50,7 +54,7 @@ pub const MOST_DESTS: u32 = u32::MAX;
 #[derive(Drop)]
 pub struct Heads {
     files: Ordered<RipeFile>,
-    line: Ordered<Lined>,
+    line: Counted,
     busy: Vec<bool>,
 }
 
@@ -82,7 +86,7 @@ impl Heads {
     {
         Heads {
             files: Ordered::new(alloc),
-            line: Ordered::new(alloc),
+            line: Counted::new(alloc),
             busy: Vec::new(alloc),
         }
     }
@@ -179,9 +183,20 @@ impl Heads {
             → (is_in queue waiter && is_open self.now.busy waiter.dest) ≡ false) }
     {
         let _ = self.files.len();
-        let _ = self.line.len();
+        let _ = self.line.files().len();
         let _ = &self.busy;
-        first_in_line(&self.line, queue)
+        first_in_line(self.line.files(), queue)
+    }
+
+    /// Whether a file of a block of queues is there whose destination is known and free: those from 256 times its number on, 256 of them.
+    pub fn has_open_in(&self, block: usize) -> bool
+        requires inside { block < BLOCKS }
+        ensures answer { result ≡ list_any (λ waiter. is_in_block block waiter && is_open self.now.busy waiter.dest) self.now.files }
+    {
+        let _ = self.files.len();
+        let _ = self.line.files().len();
+        let _ = &self.busy;
+        self.line.has_block(block)
     }
 
     /// A destination that was free gets busy: none of its files stands in line any more.
@@ -241,7 +256,7 @@ impl Heads {
     {
         if !is_open(self.busy.as_slice(), file.dest) {
             self.files.remove(&file);
-        } else if !self.line.has(&Lined { waiter: file }) {
+        } else if !self.line.files().has(&Lined { waiter: file }) {
             let _ = self.files.len();
             self.files.remove(&file);
         } else {

@@ -4,6 +4,7 @@
 //! For `fts_claims`. It knows nothing of links, states and jobs.
 #![tactic(auto)]
 
+mod counted;
 mod dests;
 mod digest;
 mod heads;
@@ -11,6 +12,7 @@ mod line;
 mod ripe_file;
 mod walk;
 
+pub use counted::{BLOCK_QUEUES, BLOCKS};
 pub use dests::Dests;
 pub use heads::{Heads, MOST_DESTS, MOST_QUEUES};
 pub use ripe_file::RipeFile;

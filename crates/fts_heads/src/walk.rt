@@ -1,23 +1,12 @@
 //! Who leads, of a destination and a range of queues, and the line with these or without them.
-ghost use Rattle.std.specs.Prelude.{
-  ◌≡◌,
-  ◌<◌,
-  ◌≤◌,
-  ◌+◌,
-  ◌&&◌,
-  ◌||◌,
-  not,
-  true,
-  false,
-  IfSome,
-  IfNone,
-};
+ghost use Rattle.std.specs.Prelude.{◌≡◌, ◌<◌, ◌≤◌, ◌+◌, ◌&&◌, ◌||◌, not, true, false, IfSome, IfNone};
 ghost use Rattle.ordered.specs.Orders.{has_key, put_by};
 ghost use Rattle.fts_heads.specs.RipeFiles.{goes_by_group};
 ghost use Rattle.fts_heads.specs.declared.ripe_file.RipeFile.{RipeFile};
 ghost use Rattle.fts_heads.specs.declared.heads.TheConstants.{MOST_QUEUES};
 ghost use Rattle.fts_heads.specs.Heads.{is_one, leads, is_lined, is_within};
 
+use crate::counted::Counted;
 use crate::heads::MOST_QUEUES;
 use crate::ripe_file::{Lined, RipeFile};
 use ordered::{Key, Ordered};
@@ -64,7 +53,7 @@ pub fn is_behind(files: &Ordered<RipeFile>, file: &RipeFile) -> bool
 }
 
 /// Those who lead for a destination in a range of queues leave the line, where they all stand in it.
-pub fn leave(files: &Ordered<RipeFile>, line: &mut Ordered<Lined>, dest: u32, from: u32, to: u32)
+pub fn leave(files: &Ordered<RipeFile>, line: &mut Counted, dest: u32, from: u32, to: u32)
     requires range { from ≤ to }
     requires stand { (waiter : RipeFile) → (is_within dest from to waiter && leads files.now.keys waiter) ≡ true
         → is_lined line.old.keys waiter ≡ true }
@@ -80,7 +69,7 @@ pub fn leave(files: &Ordered<RipeFile>, line: &mut Ordered<Lined>, dest: u32, fr
 }
 
 /// Those who lead for a destination in a range of queues come into the line, where none of them stands in it.
-pub fn enter(files: &Ordered<RipeFile>, line: &mut Ordered<Lined>, dest: u32, from: u32, to: u32)
+pub fn enter(files: &Ordered<RipeFile>, line: &mut Counted, dest: u32, from: u32, to: u32)
     requires range { from ≤ to }
     requires apart { (waiter : RipeFile) → (is_within dest from to waiter && leads files.now.keys waiter) ≡ true
         → is_lined line.old.keys waiter ≡ false }
@@ -93,7 +82,7 @@ pub fn enter(files: &Ordered<RipeFile>, line: &mut Ordered<Lined>, dest: u32, fr
     let _ = files.len();
     let mut queue = from;
     while let Some(head) = next_head(files, dest, queue, to) {
-        let _ = line.len();
+        let _ = line.files().len();
         line.insert(Lined { waiter: head });
         queue = head.queue + 1;
     }

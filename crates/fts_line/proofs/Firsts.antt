@@ -31,12 +31,12 @@ no is = absurd (never is)
     never is = cc
 
 -- a known destination is open where it is free, and an unknown one is not
-open_is_free : (busy : List Bool) (dest : ℕ) → dest < length busy → is_open busy dest ≡ is_free busy dest
+pub open_is_free : (busy : List Bool) (dest : ℕ) → dest < length busy → is_open busy dest ≡ is_free busy dest
 open_is_free [] dest inside = absurd (omega (arith, inside))
 open_is_free (first ∷ rest) zero inside = refl
 open_is_free (first ∷ rest) (suc dest) inside = open_is_free rest dest (omega (arith, inside))
 
-unknown_is_shut : (busy : List Bool) (dest : ℕ) → length busy ≤ dest → is_open busy dest ≡ false
+pub unknown_is_shut : (busy : List Bool) (dest : ℕ) → length busy ≤ dest → is_open busy dest ≡ false
 unknown_is_shut [] dest past = refl
 unknown_is_shut (first ∷ rest) zero past = absurd (omega (arith, past))
 unknown_is_shut (first ∷ rest) (suc dest) past = unknown_is_shut rest dest (omega (arith, past))

@@ -1,5 +1,5 @@
 -- The files that wait with their destinations, which of these are busy, and the first file of a queue that may start.
-use Rattle.std.specs.Prelude.{ℕ, ◌+◌, ◌-◌, ◌*◌, ◌<◌, Bool, ◌&&◌, ◌==◌, List, length, find, slice_index_or, Option, option_map}
+use Rattle.std.specs.Prelude.{ℕ, ◌-◌, ◌<◌, Bool, ◌&&◌, ◌==◌, List, length, find, slice_index_or, Option, option_map}
 use Rattle.fts_tables.specs.declared.settings.LinkAt.{LinkAt}
 use Rattle.fts_queue.specs.declared.waiter.Waiter.{Waiter}
 use Rattle.fts_queue.specs.WaitingData.{WaitingData, is_in, is_ripe, is_same_place}
@@ -40,6 +40,14 @@ pub record IsKnown (dests : List ℕ) (dest_count : ℕ) (waiter : Waiter) : Typ
 abbrev pub may_start : LineData → LinkAt → ℕ → Waiter → Bool
 may_start line link activity waiter =
     (is_in link activity waiter && is_ripe line.waiting.moment waiter) && is_free line.busy (dest_of line.dests waiter.file)
+
+-- whether a file waits on a link, and whether it may start there, under any activity
+abbrev pub is_on : LinkAt → Waiter → Bool
+is_on link waiter = (waiter.link.source == link.source) && (waiter.link.dest == link.dest)
+
+abbrev pub may_start_on : LineData → LinkAt → Waiter → Bool
+may_start_on line link waiter =
+    (is_on link waiter && is_ripe line.waiting.moment waiter) && is_free line.busy (dest_of line.dests waiter.file)
 
 -- the first of the files that wait that may start in a queue
 abbrev pub first_open : LineData → LinkAt → ℕ → Option ℕ

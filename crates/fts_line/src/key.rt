@@ -1,6 +1,6 @@
 //! A file's key in the set of all files that wait, what that key leaves out, and the file of both.
 //! A key has four numbers of 32 bits: a file whose moment has come doesn't need its moment there, and one that waits for it doesn't need queue and rank.
-ghost use Rattle.std.specs.Prelude.{◌≡◌, ◌<◌, ◌≤◌, length};
+ghost use Rattle.std.specs.Prelude.{◌≡◌, ◌<◌, ◌≤◌, ◌+◌, ◌*◌, length};
 ghost use Rattle.fts_queue.specs.WaitingData.{is_ripe};
 ghost use Rattle.fts_line.specs.LineData.{IsInside, IsKnown, dest_of};
 ghost use Rattle.fts_line.specs.Keys.{queue_of, link_at, whole_of, ripe_of, later_of, key_of, rest_of, waiter_at, is_later, file_of, waiter_of};
@@ -31,6 +31,14 @@ pub fn queue_of(link: LinkAt, activity: u16) -> u32
     ensures queue { result ≡ queue_of link activity }
 {
     (u32::from(link.source) * 256 + u32::from(link.dest)) * 256 + u32::from(activity)
+}
+
+/// The number of the block of a link's queues.
+pub fn block_of(link: LinkAt) -> usize
+    requires inside { IsInside link 0 }
+    ensures block { result ≡ link.source * 256 + link.dest }
+{
+    usize::from(link.source) * 256 + usize::from(link.dest)
 }
 
 /// Two numbers of 32 bits in one.

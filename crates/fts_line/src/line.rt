@@ -22,12 +22,13 @@ ghost use Rattle.std.specs.Prelude.{
   IsFalse,
   OnOk,
   OnErr,
+  nat_le,
 };
-ghost use Rattle.std.specs.List.{list_any};
-ghost use Rattle.fts_queue.specs.WaitingData.{with_waiter, without_file, with_room, waiting_in, room_of, is_waiting, AreWaiting};
-ghost use Rattle.fts_line.specs.LineData.{IsInside, IsKnown, dest_of, is_same_waiter, first_open};
+ghost use Rattle.std.specs.List.{list_any, prefix_len};
+ghost use Rattle.fts_queue.specs.WaitingData.{with_waiter, without_file, with_room, waiting_in, room_of, is_waiting, AreWaiting, AreQueuesInOrder};
+ghost use Rattle.fts_line.specs.LineData.{IsInside, IsKnown, dest_of, is_same_waiter, may_start_on, first_open};
 
-use crate::key::{dest_of, key_of, queue_of};
+use crate::key::{block_of, dest_of, key_of, queue_of};
 use crate::moves::{come_in, go_out, ripen, unripen};
 use fts_heads::{Heads, MOST_DESTS};
 use fts_queue::{QueueRoom, Waiter, filters_keep_the_order, raise, rooms_are_raised};
@@ -63,6 +64,15 @@ impl Model for Line {
     } };
 
     ghost invariant = { λ line. IsLine line.heads line.rests.items line.rooms.items line.dests.items line.moment };
+}
+
+/// How many queues stand before the first from a greater source.
+fn count_up_to(rooms: &[QueueRoom], source: u16) -> usize
+    requires order { AreQueuesInOrder rooms.now }
+    ensures count { result ≡ prefix_len (λ room. nat_le room.link.source source) rooms.now }
+    ensures inside { result ≤ length rooms.now }
+{
+    rooms.partition_point(|room| room.link.source <= source)
 }
 
 impl Line {
@@ -187,6 +197,15 @@ impl Line {
         }
     }
 
+    /// Whether a file of a link may start: its moment has come, and its destination is free. It is had at once, however many activities the link has.
+    pub fn has_open(&self, link: LinkAt) -> bool
+        requires inside { IsInside link 0 }
+        ensures answer { result ≡ list_any (may_start_on self.now link) self.now.waiting.waiters }
+    {
+        let _ = self.heads.len();
+        self.heads.has_open_in(block_of(link))
+    }
+
     /// The number of a file's destination, and 0 where the file has none.
     pub fn dest(&self, file: u32) -> u32
         ensures dest { result ≡ dest_of self.now.dests file }
@@ -227,6 +246,14 @@ impl Line {
     {
         let room = self.rooms[n];
         (room.link, room.activity)
+    }
+
+    /// How many queues there are of the links from sources up to one: the number of the first queue behind those of that source.
+    pub fn queues_up_to(&self, source: u16) -> usize
+        ensures count { result ≡ prefix_len (λ room. nat_le room.link.source source) self.now.waiting.rooms }
+        ensures inside { result ≤ length self.now.waiting.rooms }
+    {
+        count_up_to(self.rooms.as_slice(), source)
     }
 
     /// A destination that was free gets busy.

@@ -1,6 +1,8 @@
-use Rattle.std.proofs.Common.{Bool, refl, ap, sym, ◌∙◌, arith}
+use Rattle.std.proofs.Common.{Bool, refl, ap, sym, ◌∙◌, subst, arith}
 use Rattle.std.specs.Prelude.{◌&&◌, ◌||◌}
-use Rattle.ordered.specs.Orders.{has_key}
+use Rattle.ordered.specs.Orders.{AreSortedBy, KeySet, has_key}
+use Rattle.fts_heads.specs.declared.ripe_file.Lined.{Lined}
+use Rattle.fts_heads.specs.Keys.{is_line_before}
 use Rattle.fts_heads.specs.RipeFiles.{goes_by_group}
 use Rattle.fts_heads.specs.Heads.{leads, is_lined, is_within}
 use Rattle.fts_heads.proofs.Ranges.{leader}
@@ -33,8 +35,9 @@ insert-requires-clause-room c =
     let files = c.args.files.now.keys in
     let is : IsHead files c.args.dest c.args.from c.loop-head.queue c.args.to c.loop-head.invariant.from head =
     record { past = c.in-Some.ensures.past.0; before = c.in-Some.ensures.past.1; alone = c.in-Some.ensures.alone } in
+    let lines = subst (λ (set : KeySet Lined). AreSortedBy is_line_before set.keys) c.files.ensures.files c.len-in-Some.ensures.order in
     let fewer =
-    fewer_lined c.loop-head.line.keys files head c.len-in-Some.ensures.order c.len.ensures.order
+    fewer_lined c.loop-head.line.keys files head lines c.len.ensures.order
     (λ waiter lined. still_wait (is_lined c.args.line.now.keys waiter) (is_within c.args.dest c.args.from c.loop-head.queue waiter) (leads files waiter)
     (has_key goes_by_group waiter files) (c.requires.wait waiter) (λ first. (leader files waiter first).there)
     (sym (c.loop-head.invariant.lined waiter) ∙ lined))

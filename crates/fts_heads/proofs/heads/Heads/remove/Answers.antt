@@ -3,8 +3,9 @@ use Rattle.std.specs.Prelude.{◌&&◌}
 use Rattle.ordered.specs.Orders.{KeySet, without, has_key}
 use Rattle.fts_heads.specs.declared.heads.TheConstants.{MOST_QUEUES, MOST_DESTS}
 use Rattle.fts_heads.specs.declared.ripe_file.RipeFile.{RipeFile}
+use Rattle.fts_heads.specs.declared.ripe_file.Lined.{Lined}
 use Rattle.fts_heads.specs.RipeFiles.{goes_by_group}
-use Rattle.fts_heads.specs.Heads.{HeadsData, AreKept, is_open, leads}
+use Rattle.fts_heads.specs.Heads.{HeadsData, AreKept, is_open, is_lined, leads}
 use Rattle.fts_heads.proofs.Upkeep.{leads_without, heads_same, heads_apart, heads_again, left_waits, below_without}
 use Rattle.fts_heads.proofs.Firsts.{leads_less}
 use Rattle.fts_heads.proofs.heads.Heads.remove.Goals as goal
@@ -70,7 +71,8 @@ invariant_of-self-then-not-has c =
     ap (λ (waiting : HeadsData). has_key goes_by_group c.args.file waiting.files) c.self.view_is ∙ c.requires.there in
     let behind : leads files c.args.file ≡ false =
     ap (λ (test : Bool). test && leads files c.args.file) (sym opens)
-    ∙ (sym (c.self.invariant.heads.lined c.args.file) ∙ (sym c.has.ensures.answer ∙ c.if-not-has.true)) in
+    ∙ (sym (c.self.invariant.heads.lined c.args.file)
+    ∙ (ap (λ (set : KeySet Lined). is_lined set.keys c.args.file) (sym c.files.ensures.files) ∙ (sym c.has.ensures.answer ∙ c.if-not-has.true))) in
     subst (λ (set : KeySet RipeFile). AreKept MOST_QUEUES MOST_DESTS c.self.inside.busy.items set c.self.inside.line) (sym c.remove-then-not-has.ensures.keys)
     (record {
       heads = heads_same c.self.inside.busy.items files c.self.inside.line.keys c.self.invariant.heads (without goes_by_group c.args.file files)
