@@ -1,4 +1,4 @@
-use Rattle.std.proofs.Common.{◌≡◌, Ok, ap, arith}
+use Rattle.std.proofs.Common.{Ok, ap, arith}
 use Rattle.fts_tables.specs.declared.names.Memory.{Memory}
 use Rattle.fts_line.specs.LineData.{LineData}
 use Rattle.fts_claims.proofs.RaisedRooms.{room_there}

@@ -1,4 +1,4 @@
-use Rattle.std.proofs.Common.{◌≡◌, Option, Some, ap, sym, ◌∙◌, subst}
+use Rattle.std.proofs.Common.{◌≡◌, Option, ap, sym, ◌∙◌, subst}
 use Rattle.std.specs.Prelude.{option_map, IfSome, IsTrue}
 use Rattle.fts_claims.specs.declared.links.Standing.{Standing}
 use Rattle.fts_claims.specs.Claims.{claim_data, is_inside, is_link_before, is_better, standing_of, stands_before}
