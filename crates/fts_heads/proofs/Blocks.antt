@@ -48,34 +48,47 @@ read_other numbers place number other apart = by_test (nat_lt place (length numb
     by_test true = get_or-set_other numbers place other number 0 apart
     by_test false = refl
 
+-- the line has changed in the block of a file alone, and so have the numbers
+changed : (numbers : List ℕ) (line after : List Lined) (key : Lined) (number : ℕ)
+    → ((block : ℕ) → block < length numbers → slice_index_or numbers block 0 ≡ count_in_block block line)
+    → (slice_index_or numbers (own_block key) 0 ≡ count_in_block (own_block key) line → number ≡ count_in_block (own_block key) after)
+    → ((block : ℕ) → (block ≡ own_block key → ⊥) → count_in_block block after ≡ count_in_block block line)
+    → (block : ℕ) → block < length (with_at numbers (own_block key) number)
+    → slice_index_or (with_at numbers (own_block key) number) block 0 ≡ count_in_block block after
+changed numbers line after key number each own others block inside = by_case (cases_eq block (own_block key))
+  where
+    within : block < length numbers
+    within = omega (arith, inside, length_with numbers (own_block key) number)
+
+    by_case : (block ≡ own_block key) ⊎ (block ≡ own_block key → ⊥)
+        → slice_index_or (with_at numbers (own_block key) number) block 0 ≡ count_in_block block after
+    by_case (inl same) =
+        ap (λ n. slice_index_or (with_at numbers (own_block key) number) n 0) same
+        ∙ (read_same numbers (own_block key) number (omega (arith, within, same))
+        ∙ (own (subst (λ n. slice_index_or numbers n 0 ≡ count_in_block n line) same (each block within))
+        ∙ ap (λ n. count_in_block n after) (sym same)))
+    by_case (inr apart) = read_other numbers (own_block key) number block apart ∙ (each block within ∙ sym (others block apart))
+
+-- a file counts in its own block, and in no other
+counts_in_own : (key : Lined) → ◌≡◌ {A = ℕ} (cond (own_block key == own_block key) 1 0) 1
+counts_in_own key = ap (λ (test : Bool). cond test 1 0) (eq-eqb (own_block key) (own_block key) refl)
+
+counts_in_no_other : (key : Lined) (block : ℕ) → (block ≡ own_block key → ⊥) → ◌≡◌ {A = ℕ} (cond (own_block key == block) 1 0) 0
+counts_in_no_other key block apart = ap (λ (test : Bool). cond test 1 0) (ne_eqb (own_block key) block (λ same. apart (sym same)))
+
 -- one file more
 pub raised : (numbers : List ℕ) (line : List Lined) (key : Lined)
     → ((block : ℕ) → block < length numbers → slice_index_or numbers block 0 ≡ count_in_block block line)
     → (block : ℕ) → block < length (with_at numbers (own_block key) (slice_index_or numbers (own_block key) 0 + 1))
     → slice_index_or (with_at numbers (own_block key) (slice_index_or numbers (own_block key) 0 + 1)) block 0
     ≡ count_in_block block (put_by is_line_before key line)
-raised numbers line key each block inside = by_case (cases_eq block (own_block key))
+raised numbers line key each =
+    changed numbers line (put_by is_line_before key line) key (slice_index_or numbers (own_block key) 0 + 1) each
+    (λ old. omega (arith, old, counted (own_block key), counts_in_own key))
+    (λ block apart. omega (arith, counted block, counts_in_no_other key block apart))
   where
-    more : ℕ
-    more = slice_index_or numbers (own_block key) 0 + 1
-
-    within : block < length numbers
-    within = omega (arith, inside, length_with numbers (own_block key) more)
-
-    counted : count_in_block block (put_by is_line_before key line) ≡ count_in_block block line + cond (own_block key == block) 1 0
-    counted = count_put is_line_before (λ some. is_in_block block some.waiter) key line
-
-    by_case : (block ≡ own_block key) ⊎ (block ≡ own_block key → ⊥)
-        → slice_index_or (with_at numbers (own_block key) more) block 0 ≡ count_in_block block (put_by is_line_before key line)
-    by_case (inl same) =
-        let here : slice_index_or (with_at numbers (own_block key) more) block 0 ≡ more =
-        ap (λ n. slice_index_or (with_at numbers (own_block key) more) n 0) same ∙ read_same numbers (own_block key) more (omega (arith, within, same)) in
-        let old : slice_index_or numbers (own_block key) 0 ≡ count_in_block block line = ap (λ n. slice_index_or numbers n 0) (sym same) ∙ each block within in
-        let one : ◌≡◌ {A = ℕ} (cond (own_block key == block) 1 0) 1 = ap (λ (test : Bool). cond test 1 0) (eq-eqb (own_block key) block (sym same)) in
-        omega (arith, here, old, one, counted)
-    by_case (inr apart) =
-        let one : ◌≡◌ {A = ℕ} (cond (own_block key == block) 1 0) 0 = ap (λ (test : Bool). cond test 1 0) (ne_eqb (own_block key) block (λ same. apart (sym same))) in
-        omega (arith, read_other numbers (own_block key) more block apart, each block within, one, counted)
+    counted : (block : ℕ) → count_in_block block (put_by is_line_before key line) ≡ count_in_block block line + cond (own_block key == block) 1 0
+    counted block = count_put is_line_before (λ some. is_in_block block some.waiter) key line
 
 -- and one less
 pub lowered : (numbers : List ℕ) (line : List Lined) (key : Lined) → AreSortedBy is_line_before line → has_key is_line_before key line ≡ true
@@ -83,28 +96,13 @@ pub lowered : (numbers : List ℕ) (line : List Lined) (key : Lined) → AreSort
     → (block : ℕ) → block < length (with_at numbers (own_block key) (slice_index_or numbers (own_block key) 0 - 1))
     → slice_index_or (with_at numbers (own_block key) (slice_index_or numbers (own_block key) 0 - 1)) block 0
     ≡ count_in_block block (without is_line_before key line)
-lowered numbers line key sorted there each block inside = by_case (cases_eq block (own_block key))
+lowered numbers line key sorted there each =
+    changed numbers line (without is_line_before key line) key (slice_index_or numbers (own_block key) 0 - 1) each
+    (λ old. omega (arith, old, counted (own_block key), counts_in_own key))
+    (λ block apart. omega (arith, counted block, counts_in_no_other key block apart))
   where
-    less : ℕ
-    less = slice_index_or numbers (own_block key) 0 - 1
-
-    within : block < length numbers
-    within = omega (arith, inside, length_with numbers (own_block key) less)
-
-    counted : count_in_block block (without is_line_before key line) + cond (own_block key == block) 1 0 ≡ count_in_block block line
-    counted = count_without is_line_before lines_in_order (λ some. is_in_block block some.waiter) key line sorted there
-
-    by_case : (block ≡ own_block key) ⊎ (block ≡ own_block key → ⊥)
-        → slice_index_or (with_at numbers (own_block key) less) block 0 ≡ count_in_block block (without is_line_before key line)
-    by_case (inl same) =
-        let here : slice_index_or (with_at numbers (own_block key) less) block 0 ≡ less =
-        ap (λ n. slice_index_or (with_at numbers (own_block key) less) n 0) same ∙ read_same numbers (own_block key) less (omega (arith, within, same)) in
-        let old : slice_index_or numbers (own_block key) 0 ≡ count_in_block block line = ap (λ n. slice_index_or numbers n 0) (sym same) ∙ each block within in
-        let one : ◌≡◌ {A = ℕ} (cond (own_block key == block) 1 0) 1 = ap (λ (test : Bool). cond test 1 0) (eq-eqb (own_block key) block (sym same)) in
-        omega (arith, here, old, one, counted)
-    by_case (inr apart) =
-        let one : ◌≡◌ {A = ℕ} (cond (own_block key == block) 1 0) 0 = ap (λ (test : Bool). cond test 1 0) (ne_eqb (own_block key) block (λ same. apart (sym same))) in
-        omega (arith, read_other numbers (own_block key) less block apart, each block within, one, counted)
+    counted : (block : ℕ) → count_in_block block (without is_line_before key line) + cond (own_block key == block) 1 0 ≡ count_in_block block line
+    counted block = count_without is_line_before lines_in_order (λ some. is_in_block block some.waiter) key line sorted there
 
 -- the numbers with one more at a place, and with one less
 abbrev pub with_one : List ℕ → ℕ → List ℕ

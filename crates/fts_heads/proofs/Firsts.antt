@@ -171,9 +171,7 @@ ahead_of file head dest queue not_front other =
     (goes (goes_by_group file head) (goes_by_group head file) not_front other)
   where
     goes : (front back : Bool) → front ≡ false → not (front || back) ≡ false → back ≡ true
-    goes true back is apart = cc
-    goes false true is apart = refl
-    goes false false is apart = cc
+    goes front back is too = grind (arith, nat_tests)
 
 -- one less that does not lead changes nothing at all
 pub leads_less : (file : RipeFile) (files : List RipeFile) → AreSortedBy goes_by_group files → has_key goes_by_group file files ≡ true
@@ -182,19 +180,13 @@ pub leads_less : (file : RipeFile) (files : List RipeFile) → AreSortedBy goes_
 leads_less file files sorted there behind waiter = by_test (is_one file waiter) refl
   where
     bits : (have any : Bool) → any ≡ true → (have && not any) ≡ false
-    bits true true is = refl
-    bits false true is = refl
-    bits have false is = cc
+    bits have any is = grind (arith, nat_tests)
 
     no_bits : (have apart rest : Bool) → not apart ≡ true → ((have && apart) && rest) ≡ false
-    no_bits true false rest is = refl
-    no_bits false false rest is = refl
-    no_bits have true rest is = cc
+    no_bits have apart rest is = grind (arith, nat_tests)
 
     keep : (have apart : Bool) → not apart ≡ false → (have && apart) ≡ have
-    keep true true is = refl
-    keep false true is = refl
-    keep have false is = cc
+    keep have apart is = grind (arith, nat_tests)
 
     has : HasHead files file
     has = has_head files file sorted there

@@ -8,3 +8,4 @@ pub mod Starts
 pub mod Blocks
 pub mod Numbers
 pub mod Apart
+pub mod Leads

@@ -4,13 +4,14 @@ use Rattle.std.specs.Prelude.{not, nat_lt, ◌==◌, ◌||◌, ◌&&◌, slice_s
 use Rattle.std.specs.List.{list_any}
 use Rattle.std.proofs.lemmas.Bool.{and_parts, cases_eq}
 use Rattle.std.proofs.lemmas.List.{get_or-set_same, get_or-set_other}
-use Rattle.ordered.specs.Orders.{has_key, put_by, without, differs}
+use Rattle.std.proofs.lemmas.Bool.Decides.{nat_tests}
+use Rattle.ordered.specs.Orders.{KeySet, has_key, put_by, without, differs}
 use Rattle.ordered.proofs.Members.{any_put, any_filter, any_same, has_put, has_without, one_of}
 use Rattle.fts_heads.proofs.Tests.{same_answer}
 use Rattle.fts_heads.specs.declared.ripe_file.RipeFile.{RipeFile}
 use Rattle.fts_heads.specs.declared.ripe_file.Lined.{Lined}
 use Rattle.fts_heads.specs.RipeFiles.{goes_by_group, by_group}
-use Rattle.fts_heads.specs.Heads.{is_one, goes_ahead, leads, is_lined, is_within, is_open, AreHeads}
+use Rattle.fts_heads.specs.Heads.{is_one, goes_ahead, leads, is_lined, is_within, is_open, AreHeads, AreKept}
 use Rattle.fts_heads.proofs.Found.{any_there, no}
 use Rattle.fts_heads.proofs.Ranges.{within, to_within, leader, ahead, to_false, both_same}
 
@@ -42,9 +43,7 @@ leads_put file files waiter apart =
     ∙ ap (λ (test : Bool). test || list_any (λ other. goes_ahead other waiter) files) (not_ahead file waiter apart))
 
 and_true : (test other : Bool) → not other ≡ false → (test && other) ≡ test
-and_true test false is = cc
-and_true true true is = refl
-and_true false true is = refl
+and_true test other is = grind (arith, nat_tests)
 
 pub leads_without : (file : RipeFile) (files : List RipeFile) (waiter : RipeFile) → is_within file.dest file.queue (file.queue + 1) waiter ≡ false
     → leads (without goes_by_group file files) waiter ≡ leads files waiter
@@ -120,22 +119,16 @@ leads_behind head file files there goes waiter =
 
 -- bits
 drop_all : (free lead other : Bool) → free ≡ true → (((free && lead) && not (true && lead)) || (true && other)) ≡ (free && other)
-drop_all true true other is = refl
-drop_all true false other is = refl
-drop_all false lead other is = cc
+drop_all free lead other is = grind (arith, nat_tests)
 
 keep_all : (free lead other : Bool) → other ≡ lead → (((free && lead) && not (false && lead)) || (false && other)) ≡ (free && other)
 keep_all free lead other is = cases free lead ∙ ap (λ (test : Bool). free && test) (sym is)
   where
     cases : (free lead : Bool) → (((free && lead) && true) || false) ≡ (free && lead)
-    cases true true = refl
-    cases true false = refl
-    cases false lead = refl
+    cases free lead = grind (arith, nat_tests)
 
 and_not_true : (have other : Bool) → other ≡ true → (have && not other) ≡ false
-and_not_true true true is = refl
-and_not_true false true is = refl
-and_not_true have false is = cc
+and_not_true have other is = grind (arith, nat_tests)
 
 or_false : (test : Bool) → (test || false) ≡ test
 or_false true = refl
@@ -315,3 +308,28 @@ pub below_without : (file : RipeFile) (files : List RipeFile) (bound most : ℕ)
 below_without file files bound most below waiter there =
     below waiter
     (and_parts (has_key goes_by_group waiter files) (differs goes_by_group file waiter) (sym (has_without goes_by_group by_group file waiter files) ∙ there)).0
+
+-- files changed in one group of a destination that is not open: all is kept, and the line with it
+pub kept_apart : (busy : List Bool) (files : KeySet RipeFile) (line : KeySet Lined) (bound most dest queue : ℕ) (changed : List RipeFile)
+    → AreKept bound most busy files line → is_open busy dest ≡ false
+    → ((waiter : RipeFile) → is_within dest queue (queue + 1) waiter ≡ false → leads changed waiter ≡ leads files.keys waiter)
+    → ((waiter : RipeFile) → has_key goes_by_group waiter changed ≡ true → waiter.dest < most → waiter.queue < bound)
+    → AreKept bound most busy (record files { keys = changed }) line
+kept_apart busy files line bound most dest queue changed kept shut apart below = record {
+  heads = heads_apart busy files.keys line.keys kept.heads dest queue changed apart shut;
+  few = kept.few;
+  below = below;
+  room = kept.room;
+}
+
+-- and files changed so that all lead as before
+pub kept_same : (busy : List Bool) (files : KeySet RipeFile) (line : KeySet Lined) (bound most : ℕ) (changed : List RipeFile)
+    → AreKept bound most busy files line → ((waiter : RipeFile) → leads changed waiter ≡ leads files.keys waiter)
+    → ((waiter : RipeFile) → has_key goes_by_group waiter changed ≡ true → waiter.dest < most → waiter.queue < bound)
+    → AreKept bound most busy (record files { keys = changed }) line
+kept_same busy files line bound most changed kept same below = record {
+  heads = heads_same busy files.keys line.keys kept.heads changed same;
+  few = kept.few;
+  below = below;
+  room = kept.room;
+}

@@ -44,29 +44,11 @@ not_yet dest from to other queue past = grind (arith, nat_tests)
 
 left_more : (have one other both lead : Bool) → both ≡ (one || other)
     → ((have && not (one && lead)) && not (other && lead)) ≡ (have && not (both && lead))
-left_more have one other both lead is = cases have one other lead ∙ ap (λ (test : Bool). have && not (test && lead)) (sym is)
-  where
-    cases : (have one other lead : Bool) → ((have && not (one && lead)) && not (other && lead)) ≡ (have && not ((one || other) && lead))
-    cases false one other lead = refl
-    cases true false other lead = refl
-    cases true true other true = refl
-    cases true true true false = refl
-    cases true true false false = refl
+left_more have one other both lead is = grind (arith, nat_tests)
 
 entered_more : (have one other both lead : Bool) → both ≡ (one || other)
     → ((other && lead) || (have || (one && lead))) ≡ (have || (both && lead))
-entered_more have one other both lead is = cases have one other lead ∙ ap (λ (test : Bool). have || (test && lead)) (sym is)
-  where
-    cases : (have one other lead : Bool) → ((other && lead) || (have || (one && lead))) ≡ (have || ((one || other) && lead))
-    cases true one true true = refl
-    cases true one true false = refl
-    cases true one false lead = refl
-    cases false true true true = refl
-    cases false true true false = refl
-    cases false true false lead = refl
-    cases false false true true = refl
-    cases false false true false = refl
-    cases false false false lead = refl
+entered_more have one other both lead is = grind (arith, nat_tests)
 
 module _ (files : List RipeFile) (dest from queue to : ℕ) (least : from ≤ queue) where
   -- the next that leads

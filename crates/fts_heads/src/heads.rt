@@ -39,7 +39,7 @@ ghost use Rattle.fts_heads.specs.Blocks.{is_in_block};
 use crate::counted::Counted;
 use crate::line::first_in_line;
 use crate::ripe_file::{Lined, RipeFile};
-use crate::walk::{enter, is_behind, leave};
+use crate::walk::{enter, leave, make_way};
 use ordered::Ordered;
 use std::alloc::{AllocError, Global};
 use std::marker::Model;
@@ -226,26 +226,16 @@ impl Heads {
         requires absent { has_key goes_by_group file self.old.files ≡ false }
         ensures files { self.new ≡ record self.old { files = put_by goes_by_group file self.old.files } }
     {
+        let _ = self.files.len();
         if !is_open(self.busy.as_slice(), file.dest) {
             self.files.insert(file);
-        } else if is_behind(&self.files, &file) {
+        } else if make_way(&self.files, &mut self.line, &file) {
             self.files.insert(file);
+            let _ = self.files.len();
+            let _ = self.line.files().len();
+            self.line.insert(Lined { waiter: file });
         } else {
-            leave(
-                &self.files,
-                &mut self.line,
-                file.dest,
-                file.queue,
-                file.queue + 1,
-            );
             self.files.insert(file);
-            enter(
-                &self.files,
-                &mut self.line,
-                file.dest,
-                file.queue,
-                file.queue + 1,
-            );
         }
     }
 
@@ -260,13 +250,7 @@ impl Heads {
             let _ = self.files.len();
             self.files.remove(&file);
         } else {
-            leave(
-                &self.files,
-                &mut self.line,
-                file.dest,
-                file.queue,
-                file.queue + 1,
-            );
+            self.line.remove(&Lined { waiter: file });
             self.files.remove(&file);
             enter(
                 &self.files,

@@ -40,15 +40,29 @@ fn next_head(files: &Ordered<RipeFile>, dest: u32, from: u32, to: u32) -> Option
     }
 }
 
-/// Whether one of its queue and destination that leads goes ahead of a file, so that nobody leads or leads no more because the file comes in.
-pub fn is_behind(files: &Ordered<RipeFile>, file: &RipeFile) -> bool
+/// Whether a file will lead its queue and destination once it comes in. Then who led there before leaves the line; else nobody leads or leads no more.
+pub fn make_way(files: &Ordered<RipeFile>, line: &mut Counted, file: &RipeFile) -> bool
     requires queue { file.now.queue < MOST_QUEUES }
-    ensures settled { result ≡ true → (waiter : RipeFile)
+    requires stand { (waiter : RipeFile) → (is_within file.now.dest file.now.queue (file.now.queue + 1) waiter && leads files.now.keys waiter) ≡ true
+        → is_lined line.old.keys waiter ≡ true }
+    ensures settled { result ≡ false → (waiter : RipeFile)
         → leads (put_by goes_by_group file.now files.now.keys) waiter ≡ leads files.now.keys waiter }
+    ensures stays { result ≡ false → line.new ≡ line.old }
+    ensures leads { result ≡ true → leads (put_by goes_by_group file.now files.now.keys) file.now ≡ true }
+    ensures left { result ≡ true → (waiter : RipeFile) → is_lined line.new.keys waiter
+        ≡ (is_lined line.old.keys waiter && not (is_within file.now.dest file.now.queue (file.now.queue + 1) waiter && leads files.now.keys waiter)) }
+    ensures room { line.new.room ≡ line.old.room }
 {
+    let _ = files.len();
     match next_head(files, file.dest, file.queue, file.queue + 1) {
-        Some(head) => head.is_before(file),
-        None => false,
+        Some(head) => {
+            if head.is_before(file) {
+                return false;
+            }
+            line.remove(&Lined { waiter: head });
+            true
+        }
+        None => true,
     }
 }
 

@@ -3,6 +3,7 @@ use Rattle.std.proofs.Common.{◌≡◌, ℕ, zero, suc, ◌<◌, ◌≤◌, Boo
 use Rattle.std.specs.Prelude.{not, ◌||◌, filter, slice_get}
 use Rattle.std.specs.List.{AllByRecursion, AllWithin}
 use Rattle.std.proofs.lemmas.Bool.{or_parts}
+use Rattle.std.proofs.lemmas.Bool.Decides.{nat_tests}
 use Rattle.ordered.specs.Orders.{IsStrictOrder, AreSortedBy, put_by, without, has_key, first_from, next_after}
 
 -- what holds up to a place holds of each in front of it
@@ -110,14 +111,10 @@ all_put before P key (first ∷ rest) own all = by_test (before key first) (all_
 
 -- of two keys that differ, one stands first
 one_first : (there back : Bool) → not (there || back) ≡ false → there ≡ false → back ≡ true
-one_first true back differ is = cc
-one_first false true differ is = refl
-one_first false false differ is = cc
+one_first there back is too = grind (arith, nat_tests)
 
 other_first : (there back : Bool) → not (there || back) ≡ false → back ≡ false → there ≡ true
-other_first true back differ is = refl
-other_first false true differ is = cc
-other_first false false differ is = cc
+other_first there back is too = grind (arith, nat_tests)
 
 module _ {K : Type 0} (before : K → K → Bool) (order : IsStrictOrder before) where
   -- what stands behind a key does not stand before it
@@ -212,10 +209,7 @@ module _ {K : Type 0} (before : K → K → Bool) (order : IsStrictOrder before)
     where
       by_test : (there back : Bool) → back ≡ true
           → cond (there || back) (first ∷ without before key rest) (without before key rest) ≡ first ∷ without before key rest
-      by_test true true is = refl
-      by_test false true is = refl
-      by_test true false is = cc
-      by_test false false is = cc
+      by_test there back is = grind (arith, nat_tests)
 
   -- the key itself goes
   pub without_at : (key first : K) (back : List K) → AreSortedBy before (first ∷ back) → before first key ≡ false → before key first ≡ false

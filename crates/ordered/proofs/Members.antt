@@ -5,6 +5,7 @@ use Rattle.std.specs.Prelude.{not, ◌||◌, ◌&&◌, find, filter, count_by}
 use Rattle.std.specs.List.{AllByRecursion, list_any}
 use Rattle.std.proofs.lemmas.Bool.{or_parts, not-true}
 use Rattle.std.proofs.lemmas.List.Sums.{sum_by-cons}
+use Rattle.std.proofs.lemmas.Bool.Decides.{nat_tests}
 use Rattle.ordered.specs.Orders.{IsStrictOrder, AreSortedBy, differs, has_key, put_by, without}
 use Rattle.ordered.proofs.Lists.{all_after, without_none}
 
@@ -17,9 +18,7 @@ same_answer false false there back = refl
 
 -- the first two of three tests change places
 swap : (one other rest : Bool) → (one || (other || rest)) ≡ (other || (one || rest))
-swap true true rest = refl
-swap true false rest = refl
-swap false other rest = refl
+swap one other rest = grind (arith, nat_tests)
 
 -- a key that stays is there as before
 stays : (other have is : Bool) → (other ≡ false → is ≡ true) → (not other || (have && is)) ≡ ((not other || have) && is)
@@ -28,16 +27,11 @@ stays false have is differ = sym (differ refl)
 
 -- a key that goes is not
 goes : (is have : Bool) → (have && is) ≡ ((not is || have) && is)
-goes true have = refl
-goes false true = refl
-goes false false = refl
+goes is have = grind (arith, nat_tests)
 
 -- two tests change places
 either : (one other : Bool) → (one || other) ≡ (other || one)
-either true true = refl
-either true false = refl
-either false true = refl
-either false false = refl
+either one other = grind (arith, nat_tests)
 
 -- whether some key passes, after a key more
 pub any_put : {K : Type 0} (before : K → K → Bool) (passes : K → Bool) (key : K) (keys : List K)

@@ -1,5 +1,7 @@
 //! Chunks in order, whose keys one after the other are the keys of a set, and spare ones.
-//! A search goes over the last keys of the chunks, and then over the keys of one. A key more or less moves only keys of one chunk, or of two neighbours.
+//! A search goes over the last keys of the chunks, and then over the keys of one. These last keys also stand in a list of their own, the ends, in one piece
+//! of memory: that says where to look, and as each answer of it is looked at, nothing but the time of a search hangs on it.
+//! A key more or less moves only keys of one chunk, or of two neighbours.
 //! Each chunk is at least half full, but for one that stands alone, so there are never more of them than `chunks_for`. A chunk that gets full is split in
 //! halves. One that has a key less than half takes a key from a neighbour that has more than half, or else the two become one. Nothing here takes or
 //! gives back memory.
@@ -39,8 +41,20 @@ pub struct Spot {
     pub at: usize,
 }
 
-/// The chunk to seek a key in: those in front of it end before the key, and it does not, where one is behind it.
-fn chunk_for<K: Key>(chunks: &[Chunk<K>], key: &K) -> usize
+/// Whether a key is to be sought in a chunk: the one in front ends before it, and this one does not, where one is behind it.
+fn is_chunk_for<K: Key>(chunks: &[Chunk<K>], at: usize, key: &K) -> bool
+    requires inside { at < length chunks.now }
+    ensures front { result ≡ true → 0 < at → ends_before K.before key.now (chunk_at chunks.now (at - 1)) ≡ true }
+    ensures back { result ≡ true → at + 1 < length chunks.now → ends_before K.before key.now (chunk_at chunks.now at) ≡ false }
+{
+    if at > 0 && !chunks[at - 1].ends_before(key) {
+        return false;
+    }
+    at + 1 == chunks.len() || !chunks[at].ends_before(key)
+}
+
+/// The chunk to seek a key in, by the chunks themselves: those in front of it end before the key, and it does not, where one is behind it.
+fn seek_chunk<K: Key>(chunks: &[Chunk<K>], key: &K) -> usize
     requires some { 0 < length chunks.now }
     ensures inside { result < length chunks.now }
     ensures front { 0 < result → ends_before K.before key.now (chunk_at chunks.now (result - 1)) ≡ true }
@@ -59,8 +73,52 @@ fn chunk_for<K: Key>(chunks: &[Chunk<K>], key: &K) -> usize
     from
 }
 
-/// A key's place: those that stand before it are in front.
-pub fn spot_for<K: Key>(chunks: &[Chunk<K>], key: &K) -> Spot
+/// The chunk to seek a key in, by the ends, which read little memory. What they say is looked at, and where it is not so, the chunks are searched.
+fn chunk_for<K: Key>(chunks: &[Chunk<K>], ends: &Vec<K>, key: &K) -> usize
+    requires some { 0 < length chunks.now }
+    ensures inside { result < length chunks.now }
+    ensures front { 0 < result → ends_before K.before key.now (chunk_at chunks.now (result - 1)) ≡ true }
+    ensures back { result + 1 < length chunks.now → ends_before K.before key.now (chunk_at chunks.now result) ≡ false }
+{
+    let guess = ends.partition_point(|end| end.is_before(key));
+    let guess = guess.min(chunks.len() - 1);
+    if is_chunk_for(chunks, guess, key) {
+        return guess;
+    }
+    seek_chunk(chunks, key)
+}
+
+/// Notes the last key of a chunk in its place among the ends, or behind them.
+fn note_end<K: Key>(chunks: &Vec<Chunk<K>>, ends: &mut Vec<K>, at: usize) {
+    if at >= chunks.len() {
+        return;
+    }
+    if let Some(last) = chunks[at].last() {
+        if at < ends.len() {
+            ends[at] = last;
+        } else {
+            let _ = ends.push(last);
+        }
+    }
+}
+
+/// Notes the last keys where a chunk and the one in front have changed, or it was split, or one of the two is gone.
+fn note_ends<K: Key>(chunks: &Vec<Chunk<K>>, ends: &mut Vec<K>, at: usize) {
+    if at < ends.len() {
+        if chunks.len() < ends.len() {
+            let _ = ends.remove(at);
+        } else if ends.len() < chunks.len() {
+            let end = ends[at];
+            let _ = ends.insert(at, end);
+            note_end(chunks, ends, at + 1);
+        }
+    }
+    note_end(chunks, ends, at.saturating_sub(1));
+    note_end(chunks, ends, at);
+}
+
+/// A key's place: those that stand before it are in front. The ends say where it may be.
+pub fn spot_for<K: Key>(chunks: &[Chunk<K>], ends: &Vec<K>, key: &K) -> Spot
     requires some { 0 < length chunks.now }
     requires order { AreSortedBy K.before (joined chunks.now) }
     requires fit { AreFit chunks.now }
@@ -69,7 +127,7 @@ pub fn spot_for<K: Key>(chunks: &[Chunk<K>], key: &K) -> Spot
     ensures inside { result.chunk + 1 < length chunks.now → result.at < length (chunk_at chunks.now result.chunk) }
     ensures gap { IsGapFor K.before key.now (front_of chunks.now result.chunk result.at) (back_of chunks.now result.chunk result.at) }
 {
-    let chunk = chunk_for(chunks, key);
+    let chunk = chunk_for(chunks, ends, key);
     let at = chunks[chunk].place_of(key);
     Spot { chunk, at }
 }
@@ -158,7 +216,7 @@ fn put_first<K: Key>(chunks: &mut Vec<Chunk<K>>, mut spare: Chunk<K>, key: K)
 }
 
 /// Puts a key where it is to stand. A spare chunk is there in case.
-pub fn put<K: Key>(chunks: &mut Vec<Chunk<K>>, spare: &mut Vec<Chunk<K>>, key: K)
+pub fn put<K: Key>(chunks: &mut Vec<Chunk<K>>, spare: &mut Vec<Chunk<K>>, ends: &mut Vec<K>, key: K)
     requires order { AreSortedBy K.before (joined chunks.old.items) }
     requires fit { AreFit chunks.old.items }
     requires absent { IsFalse (has_key K.before key (joined chunks.old.items)) }
@@ -175,15 +233,21 @@ pub fn put<K: Key>(chunks: &mut Vec<Chunk<K>>, spare: &mut Vec<Chunk<K>>, key: K
             Some(first) => put_first(chunks, first, key),
             None => unreachable!(),
         }
+        note_ends(chunks, ends, 0);
         return;
     }
-    let spot = spot_for(chunks.as_slice(), &key);
+    let spot = spot_for(chunks.as_slice(), ends, &key);
     chunks[spot.chunk].insert(spot.at, key);
     if chunks[spot.chunk].len() == CHUNK_ROOM {
         match spare.pop() {
-            Some(behind) => split(chunks, spot.chunk, behind),
+            Some(behind) => {
+                split(chunks, spot.chunk, behind);
+                note_ends(chunks, ends, spot.chunk);
+            }
             None => unreachable!(),
         }
+    } else {
+        note_ends(chunks, ends, spot.chunk);
     }
 }
 
@@ -220,7 +284,12 @@ fn close_up<K: Key>(chunks: &mut Vec<Chunk<K>>, spare: &mut Vec<Chunk<K>>, at: u
 }
 
 /// Takes a key away that is there.
-pub fn take_out<K: Key>(chunks: &mut Vec<Chunk<K>>, spare: &mut Vec<Chunk<K>>, key: &K)
+pub fn take_out<K: Key>(
+    chunks: &mut Vec<Chunk<K>>,
+    spare: &mut Vec<Chunk<K>>,
+    ends: &mut Vec<K>,
+    key: &K,
+)
     requires order { AreSortedBy K.before (joined chunks.old.items) }
     requires fit { AreFit chunks.old.items }
     requires there { IsTrue (has_key K.before key.now (joined chunks.old.items)) }
@@ -231,7 +300,8 @@ pub fn take_out<K: Key>(chunks: &mut Vec<Chunk<K>>, spare: &mut Vec<Chunk<K>>, k
     ensures capacity { vec_capacity chunks.new ≡ vec_capacity chunks.old }
     ensures spare_capacity { vec_capacity spare.new ≡ vec_capacity spare.old }
 {
-    let spot = spot_for(chunks.as_slice(), key);
+    let spot = spot_for(chunks.as_slice(), ends, key);
     chunks[spot.chunk].remove(spot.at);
     close_up(chunks, spare, spot.chunk);
+    note_ends(chunks, ends, spot.chunk);
 }

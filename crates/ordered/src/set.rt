@@ -1,6 +1,7 @@
 //! A set of keys in their order, which has room for as many as `make_room` was asked for.
 //! Kept in its type (`IsSet`): the keys are sorted, in chunks that are fit; they are no more than the room; and there are chunks for the room, used or
-//! spare, with memory in both lists for all of them. So an insertion finds a spare chunk where it needs one (`spare_left`).
+//! spare, with memory in both lists for all of them. So an insertion finds a spare chunk where it needs one (`spare_left`). The ends only make searches
+//! short, and are no part of that.
 //! The keys, one chunk after the other, are what contracts see.
 ghost use Rattle.std.specs.Prelude.{◌≡◌, ◌<◌, ◌≤◌, ◌+◌, [], max, length, slice_get, IsTrue, IsFalse, OnOk, OnErr, vec_capacity};
 ghost use Rattle.ordered.specs.Orders.{AreSortedBy, put_by, without, has_key, first_from, next_after};
@@ -19,6 +20,7 @@ const KEYS_A_CHUNK: usize = CHUNK_HALF;
 pub struct Ordered<K: Key> {
     chunks: Vec<Chunk<K>>,
     spare: Vec<Chunk<K>>,
+    ends: Vec<K>,
     len: usize,
     room: usize,
     alloc: Global,
@@ -29,6 +31,7 @@ impl<K: Key> Drop for Ordered<K> {
         let Ordered {
             chunks: _,
             spare: _,
+            ends: _,
             len: _,
             room: _,
             alloc: _,
@@ -87,6 +90,7 @@ impl<K: Key> Ordered<K> {
         Ordered {
             chunks: Vec::new(alloc),
             spare: Vec::new(alloc),
+            ends: Vec::new(alloc),
             len: 0,
             room: 0,
             alloc,
@@ -105,6 +109,8 @@ impl<K: Key> Ordered<K> {
         let more = chunks_for(keys).saturating_sub(whole);
         self.chunks.reserve(self.spare.len() + more)?;
         self.spare.reserve(self.chunks.len() + more)?;
+        self.ends
+            .reserve((whole + more).saturating_sub(self.ends.len()))?;
         add_spare(&mut self.spare, self.alloc, more)?;
         self.room = keys;
         Ok(())
@@ -116,7 +122,7 @@ impl<K: Key> Ordered<K> {
         requires absent { IsFalse (has_key K.before key self.old.keys) }
         ensures keys { self.new ≡ record self.old { keys = put_by K.before key self.old.keys } }
     {
-        put(&mut self.chunks, &mut self.spare, key);
+        put(&mut self.chunks, &mut self.spare, &mut self.ends, key);
         self.len += 1;
     }
 
@@ -125,7 +131,7 @@ impl<K: Key> Ordered<K> {
         requires there { IsTrue (has_key K.before key.now self.old.keys) }
         ensures keys { self.new ≡ record self.old { keys = without K.before key.now self.old.keys } }
     {
-        take_out(&mut self.chunks, &mut self.spare, key);
+        take_out(&mut self.chunks, &mut self.spare, &mut self.ends, key);
         self.len -= 1;
     }
 
@@ -159,7 +165,7 @@ impl<K: Key> Ordered<K> {
         if self.chunks.is_empty() {
             return None;
         }
-        let spot = spot_for(self.chunks.as_slice(), key);
+        let spot = spot_for(self.chunks.as_slice(), &self.ends, key);
         key_at(self.chunks.as_slice(), spot)
     }
 
@@ -170,7 +176,7 @@ impl<K: Key> Ordered<K> {
         if self.chunks.is_empty() {
             return None;
         }
-        let spot = spot_for(self.chunks.as_slice(), key);
+        let spot = spot_for(self.chunks.as_slice(), &self.ends, key);
         match key_at(self.chunks.as_slice(), spot) {
             Some(found) => {
                 if key.is_before(&found) {

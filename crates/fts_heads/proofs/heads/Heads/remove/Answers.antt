@@ -1,83 +1,99 @@
-use Rattle.std.proofs.Common.{◌≡◌, Bool, ◌<◌, true, false, List, ap, sym, ◌∙◌, subst, arith}
-use Rattle.std.specs.Prelude.{◌&&◌}
+use Rattle.std.proofs.Common.{◌≡◌, Bool, ◌<◌, ◌+◌, true, false, List, ap, sym, ◌∙◌, subst, arith}
+use Rattle.std.specs.Prelude.{not, ◌&&◌}
+use Rattle.std.proofs.lemmas.Bool.{and_parts}
 use Rattle.ordered.specs.Orders.{KeySet, without, has_key}
 use Rattle.fts_heads.specs.declared.heads.TheConstants.{MOST_QUEUES, MOST_DESTS}
 use Rattle.fts_heads.specs.declared.ripe_file.RipeFile.{RipeFile}
 use Rattle.fts_heads.specs.declared.ripe_file.Lined.{Lined}
 use Rattle.fts_heads.specs.RipeFiles.{goes_by_group}
-use Rattle.fts_heads.specs.Heads.{HeadsData, AreKept, is_open, is_lined, leads}
-use Rattle.fts_heads.proofs.Upkeep.{leads_without, heads_same, heads_apart, heads_again, left_waits, below_without}
+use Rattle.fts_heads.specs.Heads.{HeadsData, AreKept, is_open, is_lined, is_within, leads}
+use Rattle.fts_heads.proofs.Upkeep.{leads_without, kept_same, kept_apart, heads_again, left_apart, left_waits, below_without}
 use Rattle.fts_heads.proofs.Firsts.{leads_less}
+use Rattle.fts_heads.proofs.Leads.{sole_left}
 use Rattle.fts_heads.proofs.heads.Heads.remove.Goals as goal
+use Rattle.fts_heads.proofs.heads.Heads.remove.Goals.{After-remove-else-not-has-2}
 
 pub invariant_of-self : goal.invariant_of-self
 invariant_of-self c =
-    let files = c.self.inside.files.keys in
-    let shut : is_open c.self.inside.busy.items c.args.file.dest ≡ false =
-    ap (λ (busy : List Bool). is_open busy c.args.file.dest) (sym c.as_slice.ensures.value)
-    ∙ (sym c.is_open.ensures.open ∙ c.if-not-is_open.true) in
+    let files = c.self.inside.files in
     subst (λ (set : KeySet RipeFile). AreKept MOST_QUEUES MOST_DESTS c.self.inside.busy.items set c.self.inside.line) (sym c.remove.ensures.keys)
-    (record {
-      heads = heads_apart c.self.inside.busy.items files c.self.inside.line.keys c.self.invariant.heads c.args.file.dest c.args.file.queue
-          (without goes_by_group c.args.file files) (leads_without c.args.file files) shut;
-      few = c.self.invariant.few;
-      below = below_without c.args.file files MOST_QUEUES MOST_DESTS c.self.invariant.below;
-      room = c.self.invariant.room;
-    })
+    (kept_apart c.self.inside.busy.items files c.self.inside.line MOST_QUEUES MOST_DESTS c.args.file.dest c.args.file.queue
+    (without goes_by_group c.args.file files.keys) c.self.invariant
+    (ap (λ (busy : List Bool). is_open busy c.args.file.dest) (sym c.as_slice.ensures.value) ∙ (sym c.is_open.ensures.open ∙ c.if-not-is_open.true))
+    (leads_without c.args.file files.keys) (below_without c.args.file files.keys MOST_QUEUES MOST_DESTS c.self.invariant.below))
+
+-- a file less that led, and the line that it has left
+module _ (c : After-remove-else-not-has-2) where
+  opens : is_open c.self.inside.busy.items c.args.file.dest ≡ true
+  opens =
+      ap (λ (busy : List Bool). is_open busy c.args.file.dest) (sym c.as_slice.ensures.value)
+      ∙ (sym c.is_open.ensures.open ∙ c.if-not-is_open.false)
+
+  changed : (waiter : RipeFile) → is_within c.args.file.dest c.args.file.queue (c.args.file.queue + 1) waiter ≡ false
+      → leads c.remove-else-not-has-2.new.self.keys waiter ≡ leads c.self.inside.files.keys waiter
+  changed waiter apart =
+      ap (λ (set : KeySet RipeFile). leads set.keys waiter) c.remove-else-not-has-2.ensures.keys
+      ∙ leads_without c.args.file c.self.inside.files.keys waiter apart
+
+  leading : leads c.self.inside.files.keys c.args.file ≡ true
+  leading =
+      (and_parts (is_open c.self.inside.busy.items c.args.file.dest) (leads c.self.inside.files.keys c.args.file)
+      (sym (c.self.invariant.heads.lined c.args.file)
+      ∙ (ap (λ (set : KeySet Lined). is_lined set.keys c.args.file) (sym c.files.ensures.files) ∙ (sym c.has.ensures.answer ∙ c.if-not-has.false)))).1
+
+  left : (waiter : RipeFile) → is_lined c.remove-else-not-has.new.self.keys waiter
+      ≡ (is_lined c.self.inside.line.keys waiter
+      && not (is_within c.args.file.dest c.args.file.queue (c.args.file.queue + 1) waiter && leads c.self.inside.files.keys waiter))
+  left waiter =
+      ap (λ (set : KeySet Lined). is_lined set.keys waiter) c.remove-else-not-has.ensures.keys
+      ∙ sole_left c.args.file c.self.inside.files.keys c.self.inside.line.keys leading waiter
+
+pub enter-requires-clause-apart : goal.enter-requires-clause-apart
+enter-requires-clause-apart c =
+    let here = (goal.at.enter-requires-clause-apart c).After-remove-else-not-has-2 in
+    left_apart c.self.inside.busy.items c.self.inside.files.keys c.self.inside.line.keys c.self.invariant.heads c.args.file.dest c.args.file.queue
+    c.remove-else-not-has-2.new.self.keys (changed here) c.remove-else-not-has.new.self.keys (opens here) (left here)
 
 pub enter-requires-clause-wait : goal.enter-requires-clause-wait
 enter-requires-clause-wait c =
-    let files = c.self.inside.files.keys in
-    let opens : is_open c.self.inside.busy.items c.args.file.dest ≡ true =
-    ap (λ (busy : List Bool). is_open busy c.args.file.dest) (sym c.as_slice.ensures.value)
-    ∙ (sym c.is_open.ensures.open ∙ c.if-not-is_open.false) in
-    left_waits c.self.inside.busy.items files c.self.inside.line.keys c.self.invariant.heads c.args.file.dest c.args.file.queue
-    c.remove-else-not-has.new.self.keys
-    (λ waiter apart. ap (λ (set : KeySet RipeFile). leads set.keys waiter) c.remove-else-not-has.ensures.keys ∙ leads_without c.args.file files waiter apart)
-    c.leave.new.line.keys opens c.leave.ensures.lined
+    let here = (goal.at.enter-requires-clause-wait c).After-remove-else-not-has-2 in
+    left_waits c.self.inside.busy.items c.self.inside.files.keys c.self.inside.line.keys c.self.invariant.heads c.args.file.dest c.args.file.queue
+    c.remove-else-not-has-2.new.self.keys (changed here) c.remove-else-not-has.new.self.keys (opens here) (left here)
 
 pub invariant_of-self-else-not-has : goal.invariant_of-self-else-not-has
 invariant_of-self-else-not-has c =
+    let here = (goal.at.invariant_of-self-else-not-has c).After-remove-else-not-has-2 in
     let files = c.self.inside.files.keys in
-    let opens : is_open c.self.inside.busy.items c.args.file.dest ≡ true =
-    ap (λ (busy : List Bool). is_open busy c.args.file.dest) (sym c.as_slice.ensures.value)
-    ∙ (sym c.is_open.ensures.open ∙ c.if-not-is_open.false) in
     record {
       heads = heads_again c.self.inside.busy.items files c.self.inside.line.keys c.self.invariant.heads c.args.file.dest c.args.file.queue
-          c.remove-else-not-has.new.self.keys
-          (λ waiter apart. ap (λ (set : KeySet RipeFile). leads set.keys waiter) c.remove-else-not-has.ensures.keys
-          ∙ leads_without c.args.file files waiter apart)
-          c.leave.new.line.keys opens c.leave.ensures.lined c.enter.new.line.keys c.enter.ensures.lined;
+          c.remove-else-not-has-2.new.self.keys (changed here) c.remove-else-not-has.new.self.keys (opens here) (left here) c.enter.new.line.keys
+          c.enter.ensures.lined;
       few = c.self.invariant.few;
       below = subst
           (λ (set : KeySet RipeFile). (waiter : RipeFile) → has_key goes_by_group waiter set.keys ≡ true → waiter.dest < MOST_DESTS → waiter.queue < MOST_QUEUES)
-          (sym c.remove-else-not-has.ensures.keys) (below_without c.args.file files MOST_QUEUES MOST_DESTS c.self.invariant.below);
+          (sym c.remove-else-not-has-2.ensures.keys) (below_without c.args.file files MOST_QUEUES MOST_DESTS c.self.invariant.below);
       room = omega (
         arith,
         c.self.invariant.room,
         c.enter.ensures.room,
-        c.leave.ensures.room,
-        ap (λ (set : KeySet RipeFile). set.room) c.remove-else-not-has.ensures.keys,
+        ap (λ (set : KeySet Lined). set.room) c.remove-else-not-has.ensures.keys,
+        ap (λ (set : KeySet RipeFile). set.room) c.remove-else-not-has-2.ensures.keys,
       );
     }
 
 pub invariant_of-self-then-not-has : goal.invariant_of-self-then-not-has
 invariant_of-self-then-not-has c =
-    let files = c.self.inside.files.keys in
+    let files = c.self.inside.files in
     let opens : is_open c.self.inside.busy.items c.args.file.dest ≡ true =
     ap (λ (busy : List Bool). is_open busy c.args.file.dest) (sym c.as_slice.ensures.value)
     ∙ (sym c.is_open.ensures.open ∙ c.if-not-is_open.false) in
-    let there : has_key goes_by_group c.args.file files ≡ true =
+    let there : has_key goes_by_group c.args.file files.keys ≡ true =
     ap (λ (waiting : HeadsData). has_key goes_by_group c.args.file waiting.files) c.self.view_is ∙ c.requires.there in
-    let behind : leads files c.args.file ≡ false =
-    ap (λ (test : Bool). test && leads files c.args.file) (sym opens)
+    let behind : leads files.keys c.args.file ≡ false =
+    ap (λ (test : Bool). test && leads files.keys c.args.file) (sym opens)
     ∙ (sym (c.self.invariant.heads.lined c.args.file)
     ∙ (ap (λ (set : KeySet Lined). is_lined set.keys c.args.file) (sym c.files.ensures.files) ∙ (sym c.has.ensures.answer ∙ c.if-not-has.true))) in
     subst (λ (set : KeySet RipeFile). AreKept MOST_QUEUES MOST_DESTS c.self.inside.busy.items set c.self.inside.line) (sym c.remove-then-not-has.ensures.keys)
-    (record {
-      heads = heads_same c.self.inside.busy.items files c.self.inside.line.keys c.self.invariant.heads (without goes_by_group c.args.file files)
-          (leads_less c.args.file files c.len.ensures.order there behind);
-      few = c.self.invariant.few;
-      below = below_without c.args.file files MOST_QUEUES MOST_DESTS c.self.invariant.below;
-      room = c.self.invariant.room;
-    })
+    (kept_same c.self.inside.busy.items files c.self.inside.line MOST_QUEUES MOST_DESTS (without goes_by_group c.args.file files.keys) c.self.invariant
+    (leads_less c.args.file files.keys c.len.ensures.order there behind)
+    (below_without c.args.file files.keys MOST_QUEUES MOST_DESTS c.self.invariant.below))
