@@ -1,30 +1,15 @@
 -- The draw: its running sums, how many numbers draw each place, and when none is drawn.
 use Rattle.std.proofs.Common.{◌≡◌, ℕ, zero, suc, ◌+◌, ◌%◌, ◌<◌, ◌≤◌, Bool, true, false, cond, List, [], ◌∷◌, ◌++◌, length, get_or, take, Option, Some, None, refl, ap, sym, ◌∙◌, arith, add-zero, zero-add}
-use Rattle.std.specs.Prelude.{not, ◌==◌, nat_lt, sum, count_by, position, option_map}
-use Rattle.std.specs.List.{range_with_len, position_or_len, list_any}
+use Rattle.std.specs.Prelude.{◌==◌, nat_lt, sum, count_by, position, option_map}
+use Rattle.std.specs.List.{range_with_len, list_any}
 use Rattle.std.specs.Option.{option_map_or}
 use Rattle.std.proofs.Math.Nat.{mod-eq_of_lt}
 use Rattle.std.proofs.Math.Dec.{eqb-suc-suc, eqb-suc-zero, eqb-zero-suc}
-use Rattle.std.proofs.lemmas.Bool.{ltb-true, ltb-false, lt-ltb, le-ltb}
+use Rattle.std.proofs.lemmas.Bool.{ltb-false, lt-ltb, le-ltb}
 use Rattle.std.proofs.lemmas.List.Sums.{sum_by-cons, sum_by-append, sum_by_more}
 use Rattle.fts_tables.specs.Choice.{shares, running_sums}
 use Rattle.fts_choice.specs.Draws.{first_above, draws}
-
--- the first place of a list is its head's, or one behind it
-pub position-cons : {Item : Type 0} (test : Item → Bool) (item : Item) (items : List Item)
-    → position test (item ∷ items) ≡ cond (test item) (Some 0) (option_map suc (position test items))
-position-cons test item items = by_test (test item)
-  where
-    shifted : (place count : ℕ) (answer : Bool) → nat_lt place count ≡ answer → cond (nat_lt (1 + place) (suc count)) (Some (1 + place)) None
-        ≡ option_map suc (cond answer (Some place) None)
-    shifted place count true is = rw (lt-ltb (1 + place) (suc count) (omega (arith, ltb-true place count is))) (ap (λ found. Some found) (omega arith))
-    shifted place count false is = rw (le-ltb (1 + place) (suc count) (omega (arith, ltb-false place count is))) refl
-
-    by_test : (answer : Bool) → cond (nat_lt (cond (not answer) (1 + position_or_len test items) 0) (suc (length items)))
-        (Some (cond (not answer) (1 + position_or_len test items) 0)) None
-        ≡ cond answer (Some 0) (option_map suc (position test items))
-    by_test true = rw (lt-ltb 0 (suc (length items)) (omega arith)) refl
-    by_test false = shifted (position_or_len test items) (length items) (nat_lt (position_or_len test items) (length items)) refl
+use Rattle.fts_tables.proofs.Positions.{position-cons}
 
 -- the definition's place is the first above
 pub place_is_first_above : (number start : ℕ) (parts : List ℕ) → position (λ total. nat_lt number total) (running_sums start parts)

@@ -83,13 +83,14 @@ least_place-inside is_open count (suc number) =
     by_answer false None inside = tt
     by_answer false (Some place) inside = omega (arith, inside)
 
--- one step of a search for the least place
-pub least_place-step : (is_open : ℕ → Bool) (count : ℕ → ℕ) (place : ℕ) (best : Option ℕ) (takes : Bool) → best ≡ least_place is_open count place
-    → takes ≡ (is_open place && is_better (is_lighter count) best place) → cond takes (Some place) best ≡ least_place is_open count (place + 1)
-least_place-step is_open count place best takes so_far test =
+-- one step of a search for the least place, where the place is taken or not
+pub least_place-step : (is_open : ℕ → Bool) (count : ℕ → ℕ) (place : ℕ) (best : Option ℕ) (takes is_taken : Bool) → best ≡ least_place is_open count place
+    → takes ≡ (is_open place && is_better (is_lighter count) best place) → takes ≡ is_taken
+    → cond is_taken (Some place) best ≡ least_place is_open count (place + 1)
+least_place-step is_open count place best takes is_taken so_far test taken =
     sym (least_place-more is_open count place
     ∙ (ap (λ found. cond (is_open place && is_better (is_lighter count) found place) (Some place) found) (sym so_far)
-    ∙ ap (λ answer. cond answer (Some place) best) (sym test)))
+    ∙ ap (λ answer. cond answer (Some place) best) (sym test ∙ taken)))
 
 -- the least of a list is none only where the list is empty
 least-none : {Item : Type 0} (is_less : Item → Item → Bool) (items : List Item) → least is_less items ≡ None → items ≡ []

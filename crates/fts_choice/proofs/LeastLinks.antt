@@ -10,8 +10,9 @@ use Rattle.std.specs.Cmp.{IsTotalOrder, on_total, then_total}
 use Rattle.std.specs.Cmp.Lexicographic.{slice_cmp, on_texts}
 use Rattle.std.proofs.lemmas.Cmp.{nat_cmp_total}
 use Rattle.std.proofs.lemmas.Map.Text.{is_eq-slice_cmp}
-use Rattle.std.proofs.lemmas.Bool.{and_parts, eqb-true, eq-eqb}
+use Rattle.std.proofs.lemmas.Bool.{and_parts}
 use Rattle.std.proofs.lemmas.Option.{same_Some, slice_get-map}
+use Rattle.std.proofs.lemmas.Slice.Eq.{bytes_eq-Decides}
 use Rattle.fts_tables.specs.Tables.{Tables}
 use Rattle.fts_tables.specs.Limits.{is_on_link, held, eligible_rows}
 use Rattle.fts_tables.specs.Choice.{least, is_link_before}
@@ -19,6 +20,7 @@ use Rattle.fts_tables.specs.declared.rows.FileRow.{FileRow}
 use Rattle.fts_choice.specs.declared.links.LinkChance.{LinkChance}
 use Rattle.fts_choice.specs.LeastPlaces.{least_place, is_eligible_at, held_of}
 use Rattle.fts_choice.specs.LinkOrder.{LinkNames, link_of, name_cmp, AreInOrder, chance_of, AreAllLinks}
+use Rattle.fts_tables.proofs.EachRow.{each_weaker, each_of_all, each_filter, each_least}
 use Rattle.fts_choice.proofs.PlacedItems.{placed_least}
 
 -- what passes the test of less is less
@@ -136,50 +138,13 @@ unfiltered Holds test (item ∷ items) all = by_head (unfiltered Holds test item
     by_head behind false is kept =
         (λ passes. let clash : true ≡ false = sym passes ∙ is in cc, behind kept)
 
--- what holds of each item holds of each that a filter keeps
-filtered : {Item : Type 0} (Holds : Item → Type 0) (test : Item → Bool) (items : List Item) → AllByRecursion Holds items
-    → AllByRecursion (λ item. (test item ≡ true) × Holds item) (filter test items)
-filtered Holds test [] all = tt
-filtered Holds test (item ∷ items) all = by_head (filtered Holds test items all.1) (test item) refl
-  where
-    by_head : AllByRecursion (λ other. (test other ≡ true) × Holds other) (filter test items) → (answer : Bool) → test item ≡ answer
-        → AllByRecursion (λ other. (test other ≡ true) × Holds other) (cond answer (item ∷ filter test items) (filter test items))
-    by_head behind true is = ((is, all.0), behind)
-    by_head behind false is = behind
-
--- a weaker fact of each
-weaker : {Item : Type 0} (Holds Weaker : Item → Type 0) → ((item : Item) → Holds item → Weaker item) → (items : List Item) → AllByRecursion Holds items
-    → AllByRecursion Weaker items
-weaker Holds Weaker weaken [] all = tt
-weaker Holds Weaker weaken (item ∷ items) all = (weaken item all.0, weaker Holds Weaker weaken items all.1)
-
--- a fact of all items, of each of a list
-of_all : {Item : Type 0} (Holds : Item → Type 0) → ((item : Item) → Holds item) → (items : List Item) → AllByRecursion Holds items
-of_all Holds holds [] = tt
-of_all Holds holds (item ∷ items) = (holds item, of_all Holds holds items)
-
--- what holds of each item holds of the least
-holds_of_least : {Item : Type 0} (Holds : Item → Type 0) (is_less : Item → Item → Bool) (items : List Item) (best : Item) → AllByRecursion Holds items
-    → least is_less items ≡ Some best → Holds best
-holds_of_least {Item} Holds is_less [] best all is = cc
-holds_of_least {Item} Holds is_less (item ∷ items) best all is = subst Holds (same_Some (fold choose item items) best is) (folded item items all.0 all.1)
-  where
-    choose : Item → Item → Item
-    choose best item = if is_less item best then item else best
-
-    folded : (best : Item) (items : List Item) → Holds best → AllByRecursion Holds items
-        → Holds (fold (λ best item. if is_less item best then item else best) best items)
-    folded best [] here all = here
-    folded best (next ∷ items) here all = folded (if is_less next best then next else best) items
-        (elim (is_less next best) as (λ answer. Holds (cond answer next best)) [ true ↦ all.0 | false ↦ here ]) all.1
-
 -- each item passes its own test in the list
 found_by_itself : {Item : Type 0} (test : Item → Item → Bool) → ((item : Item) → test item item ≡ true) → (items : List Item)
     → AllByRecursion (λ item. list_any (test item) items ≡ true) items
 found_by_itself test same [] = tt
 found_by_itself test same (item ∷ items) = (
   ap (λ answer. answer || list_any (test item) items) (same item),
-  weaker (λ other. list_any (test other) items ≡ true) (λ other. list_any (test other) (item ∷ items) ≡ true)
+  each_weaker (λ other. list_any (test other) items ≡ true) (λ other. list_any (test other) (item ∷ items) ≡ true)
       (λ other found. ap (λ answer. test other item || answer) found ∙ or_true (test other item)) items (found_by_itself test same items),
 )
   where
@@ -194,8 +159,8 @@ filter_in_order test (link ∷ links) sorted = by_head (test link) (filter_in_or
   where
     by_head : (answer : Bool) → AreInOrder (filter test links) → AreInOrder (cond answer (link ∷ filter test links) (filter test links))
     by_head true behind = (
-      weaker (λ later. (test later ≡ true) × (name_cmp link later ≡ Less)) (λ later. name_cmp link later ≡ Less) (λ later both. both.1) (filter test links)
-          (filtered (λ later. name_cmp link later ≡ Less) test links sorted.0),
+      each_weaker (λ later. (test later ≡ true) × (name_cmp link later ≡ Less)) (λ later. name_cmp link later ≡ Less) (λ later both. both.1) (filter test links)
+          (each_filter (λ later. name_cmp link later ≡ Less) test links sorted.0),
       behind,
     )
     by_head false behind = behind
@@ -204,28 +169,14 @@ filter_in_order test (link ∷ links) sorted = by_head (test link) (filter_in_or
 names_total : IsTotalOrder name_cmp
 names_total = then_total (on_texts (λ (link : LinkNames). link.source)) (on_texts (λ (link : LinkNames). link.dest))
 
--- texts that are equal by the test are equal
-bytes_eq-same : (one other : List ℕ) → bytes_eq one other ≡ true → one ≡ other
-bytes_eq-same [] [] is = refl
-bytes_eq-same [] (byte ∷ other) is = cc
-bytes_eq-same (byte ∷ one) [] is = cc
-bytes_eq-same (byte ∷ one) (next ∷ other) is =
-    let both = and_parts (byte == next) (bytes_eq one other) is in
-    ap (λ number. number ∷ one) (eqb-true byte next both.0) ∙ ap (λ numbers. next ∷ numbers) (bytes_eq-same one other both.1)
-
--- a text is equal to itself
-bytes_eq-refl : (text : List ℕ) → bytes_eq text text ≡ true
-bytes_eq-refl [] = refl
-bytes_eq-refl (byte ∷ text) = ap (λ answer. answer && bytes_eq text text) (eq-eqb byte byte refl) ∙ bytes_eq-refl text
-
 -- level names are equal
 level_names : (one other : LinkNames) → name_cmp one other ≡ Equal → one ≡ other
 level_names one other is =
     let both = parts (slice_cmp nat_cmp one.source other.source) (slice_cmp nat_cmp one.dest other.dest) is in
     ap (λ source. record { source = source; dest = one.dest })
-    (bytes_eq-same one.source other.source (sym (is_eq-slice_cmp one.source other.source) ∙ ap is_eq both.0))
+    ((bytes_eq-Decides one.source other.source).0 (sym (is_eq-slice_cmp one.source other.source) ∙ ap is_eq both.0))
     ∙ ap (λ dest. record { source = other.source; dest = dest })
-    (bytes_eq-same one.dest other.dest (sym (is_eq-slice_cmp one.dest other.dest) ∙ ap is_eq both.1))
+    ((bytes_eq-Decides one.dest other.dest).0 (sym (is_eq-slice_cmp one.dest other.dest) ∙ ap is_eq both.1))
   where
     parts : (first second : Ordering) → ordering_then first second ≡ Equal → (first ≡ Equal) × (second ≡ Equal)
     parts Less second is = cc
@@ -242,12 +193,13 @@ level_rest Greater rest is = cc
 on_link_same : (link : LinkNames) (row : FileRow) → is_on_link link.source link.dest row ≡ true → link_of row ≡ link
 on_link_same link row is =
     let both = and_parts (bytes_eq row.source.endpoint link.source) (bytes_eq row.dest.endpoint link.dest) is in
-    ap (λ source. record { source = source; dest = row.dest.endpoint }) (bytes_eq-same row.source.endpoint link.source both.0)
-    ∙ ap (λ dest. record { source = link.source; dest = dest }) (bytes_eq-same row.dest.endpoint link.dest both.1)
+    ap (λ source. record { source = source; dest = row.dest.endpoint }) ((bytes_eq-Decides row.source.endpoint link.source).0 both.0)
+    ∙ ap (λ dest. record { source = link.source; dest = dest }) ((bytes_eq-Decides row.dest.endpoint link.dest).0 both.1)
 
 -- a row is on its own link
 on_own_link : (row : FileRow) → is_on_link row.source.endpoint row.dest.endpoint row ≡ true
-on_own_link row = ap (λ answer. answer && bytes_eq row.dest.endpoint row.dest.endpoint) (bytes_eq-refl row.source.endpoint) ∙ bytes_eq-refl row.dest.endpoint
+on_own_link row = ap (λ answer. answer && bytes_eq row.dest.endpoint row.dest.endpoint) ((bytes_eq-Decides row.source.endpoint row.source.endpoint).1 refl)
+    ∙ (bytes_eq-Decides row.dest.endpoint row.dest.endpoint).1 refl
 
 -- links by what they hold, then by name
 module _ (tables : Tables) (now : ℕ) where
@@ -336,15 +288,15 @@ module _ (tables : Tables) (now : ℕ) where
   rows_alike links listed None (Some best) first_is best_is =
       -- no row may be claimed, so no link has one
       absurd (none_has (eligible_rows tables now) first_is
-      (holds_of_least (λ link. has_row link ≡ true) (λ one other. is_lt (claim_cmp one other)) (filter has_row links) best
-      (weaker (λ link. (has_row link ≡ true) × Unit {0}) (λ link. has_row link ≡ true) (λ link both. both.0) (filter has_row links)
-      (filtered (λ link. Unit {0}) has_row links (of_all (λ link. Unit {0}) (λ link. tt) links))) best_is))
+      (each_least (λ link. has_row link ≡ true) (λ one other. is_lt (claim_cmp one other)) (filter has_row links) best
+      (each_weaker (λ link. (has_row link ≡ true) × Unit {0}) (λ link. has_row link ≡ true) (λ link both. both.0) (filter has_row links)
+      (each_filter (λ link. Unit {0}) has_row links (each_of_all (λ link. Unit {0}) (λ link. tt) links))) best_is))
     where
       none_has : (rows : List FileRow) → least (is_link_before tables.rows) rows ≡ None → list_any (is_on_link best.source best.dest) rows ≡ true → ⊥
       none_has [] none any = cc
       none_has (row ∷ rows) none any = cc
   rows_alike links listed (Some row) None first_is best_is =
-      absurd (link_of_row links row (holds_of_least (λ other. list_any (λ (link : LinkNames). is_on_link link.source link.dest other) links ≡ true)
+      absurd (link_of_row links row (each_least (λ other. list_any (λ (link : LinkNames). is_on_link link.source link.dest other) links ≡ true)
       (is_link_before tables.rows) (eligible_rows tables now) row listed first_is)
       (row_waits row first_is) (λ link. ⊥) (none_kept (filter has_row links) best_is))
     where
@@ -353,7 +305,7 @@ module _ (tables : Tables) (now : ℕ) where
       none_kept (link ∷ some) none = cc
 
       row_waits : (row : FileRow) → least (is_link_before tables.rows) (eligible_rows tables now) ≡ Some row → has_row (link_of row) ≡ true
-      row_waits row is = holds_of_least (λ other. has_row (link_of other) ≡ true) (is_link_before tables.rows) (eligible_rows tables now) row
+      row_waits row is = each_least (λ other. has_row (link_of other) ≡ true) (is_link_before tables.rows) (eligible_rows tables now) row
           (found_by_itself (λ one other. is_on_link one.source.endpoint one.dest.endpoint other) on_own_link (eligible_rows tables now)) is
   rows_alike links listed (Some row) (Some best) first_is best_is =
       ap (λ link. Some link) (level_names best (link_of row)
@@ -361,13 +313,13 @@ module _ (tables : Tables) (now : ℕ) where
       (level claim_cmp claim_total best (link_of row) not_before not_after)))
     where
       row_waits : has_row (link_of row) ≡ true
-      row_waits = holds_of_least (λ other. has_row (link_of other) ≡ true) (is_link_before tables.rows) (eligible_rows tables now) row
+      row_waits = each_least (λ other. has_row (link_of other) ≡ true) (is_link_before tables.rows) (eligible_rows tables now) row
           (found_by_itself (λ one other. is_on_link one.source.endpoint one.dest.endpoint other) on_own_link (eligible_rows tables now)) first_is
 
       best_has : has_row best ≡ true
-      best_has = holds_of_least (λ link. has_row link ≡ true) (λ one other. is_lt (claim_cmp one other)) (filter has_row links) best
-          (weaker (λ link. (has_row link ≡ true) × Unit {0}) (λ link. has_row link ≡ true) (λ link both. both.0) (filter has_row links)
-          (filtered (λ link. Unit {0}) has_row links (of_all (λ link. Unit {0}) (λ link. tt) links))) best_is
+      best_has = each_least (λ link. has_row link ≡ true) (λ one other. is_lt (claim_cmp one other)) (filter has_row links) best
+          (each_weaker (λ link. (has_row link ≡ true) × Unit {0}) (λ link. has_row link ≡ true) (λ link both. both.0) (filter has_row links)
+          (each_filter (λ link. Unit {0}) has_row links (each_of_all (λ link. Unit {0}) (λ link. tt) links))) best_is
 
       -- a row on the best link doesn't go before the first row
       not_before : is_lt (claim_cmp best (link_of row)) ≡ false
@@ -379,7 +331,7 @@ module _ (tables : Tables) (now : ℕ) where
       -- the first row's link doesn't go before the best
       not_after : is_lt (claim_cmp (link_of row) best) ≡ false
       not_after = link_of_row links row
-          (holds_of_least (λ other. list_any (λ (link : LinkNames). is_on_link link.source link.dest other) links ≡ true) (is_link_before tables.rows)
+          (each_least (λ other. list_any (λ (link : LinkNames). is_on_link link.source link.dest other) links ≡ true) (is_link_before tables.rows)
           (eligible_rows tables now) row listed first_is)
           row_waits (λ link. is_lt (claim_cmp link best) ≡ false) (least_below (λ link. link) claim_cmp claim_total (filter has_row links) best best_is)
 

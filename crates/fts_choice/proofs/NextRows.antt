@@ -10,7 +10,7 @@ use Rattle.fts_tables.specs.Tables.{is_not_used}
 use Rattle.fts_tables.specs.Choice.{least, load}
 use Rattle.fts_tables.specs.declared.rows.FileRow.{FileRow}
 use Rattle.fts_choice.specs.LeastPlaces.{least_place, is_not_used_at, load_of}
-use Rattle.fts_choice.proofs.Drawing.{position-cons}
+use Rattle.fts_tables.proofs.Positions.{position-cons}
 use Rattle.fts_choice.proofs.PlacedItems.{placed_least}
 
 -- what stands at the first place that passes

@@ -65,24 +65,30 @@ module _ (few many : BusyData) (dest : Place)
     flag_set flag other same =
         ap (λ at. slice_index_or (slice_set line.busy number flag) at false) same ∙ get_or-set_same line.busy number flag false inside
 
+    -- the flags, once that of the place says whether the place is busy now, where others are busy as before
+    flags_set : (flag : Bool) (old new : BusyData) → is_busy new.places dest ≡ flag
+        → ((place : Place) → is_same_place dest place ≡ false → is_busy old.places place ≡ is_busy new.places place) → IsInLine places line old
+        → (place : Place) (other : ℕ) → number_of places place ≡ Some other
+        → slice_index_or (slice_set line.busy number flag) other false ≡ is_busy new.places place
+    flags_set flag old new here beside lined place other is = by_case (cases_eq other number)
+      where
+        by_case : (other ≡ number) ⊎ (other ≡ number → ⊥) → slice_index_or (slice_set line.busy number flag) other false ≡ is_busy new.places place
+        by_case (inl same) =
+            flag_set flag other same ∙ sym (subst (λ some. is_busy new.places some ≡ flag) (own_place place other is same) here)
+        by_case (inr apart) =
+            get_or-set_other line.busy number other flag false apart
+            ∙ (lined.flags place other is ∙ beside place (apart_from place other is apart))
+
     -- a destination that gets free, of which no row is busy any more
     pub freed : is_busy few.places dest ≡ false → IsInLine places line many
         → IsInLine places (record line { busy = slice_set line.busy number false }) few
     freed gone lined = record {
       numbers = lined.numbers;
       count = length-set line.busy number false ∙ lined.count;
-      flags = λ place other is. by_case place other is (cases_eq other number);
+      flags = flags_set false many few gone other_busy lined;
       room = lined.room;
       known = λ place is. lined.known place (still_busy place is);
     }
-      where
-        by_case : (place : Place) (other : ℕ) → number_of places place ≡ Some other → (other ≡ number) ⊎ (other ≡ number → ⊥)
-            → slice_index_or (slice_set line.busy number false) other false ≡ is_busy few.places place
-        by_case place other is (inl same) =
-            flag_set false other same ∙ sym (subst (λ some. is_busy few.places some ≡ false) (own_place place other is same) gone)
-        by_case place other is (inr apart) =
-            get_or-set_other line.busy number other false false apart
-            ∙ (lined.flags place other is ∙ other_busy place (apart_from place other is apart))
 
     -- one that gets busy
     pub taken : IsInLine places line few
@@ -90,19 +96,11 @@ module _ (few many : BusyData) (dest : Place)
     taken lined = record {
       numbers = lined.numbers;
       count = length-set line.busy number true ∙ lined.count;
-      flags = λ place other is. by_case place other is (cases_eq other number);
+      flags = flags_set true few many now_busy (λ place apart. sym (other_busy place apart)) lined;
       room = lined.room;
       known = λ place is. by_place place is (is_same_place dest place) refl;
     }
       where
-        by_case : (place : Place) (other : ℕ) → number_of places place ≡ Some other → (other ≡ number) ⊎ (other ≡ number → ⊥)
-            → slice_index_or (slice_set line.busy number true) other false ≡ is_busy many.places place
-        by_case place other is (inl same) =
-            flag_set true other same ∙ sym (subst (λ some. is_busy many.places some ≡ true) (own_place place other is same) now_busy)
-        by_case place other is (inr apart) =
-            get_or-set_other line.busy number other true false apart
-            ∙ (lined.flags place other is ∙ sym (other_busy place (apart_from place other is apart)))
-
         by_place : (place : Place) → is_busy many.places place ≡ true → (answer : Bool) → is_same_place dest place ≡ answer
             → is_some (number_of places place) ≡ true
         by_place place is true same =

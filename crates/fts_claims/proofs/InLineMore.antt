@@ -154,20 +154,7 @@ waiter_known settings jobs row line waiter rules known is small has =
       dest = has.dest;
     })
 
--- where files come or go, all rows stay in line, and the room stays
-pub still_lined : (places : List Place) (old new : ClaimParts) (waiting : WaitingData) → new.line ≡ record old.line { waiting = waiting }
-    → new.busy ≡ old.busy → new.dests ≡ old.dests → AreInLine places old → AreInLine places new
-still_lined places old new waiting line busy dests lined = record {
-  line = subst (λ line. IsInLine places line new.busy) (sym line) (subst (IsInLine places (record old.line { waiting = waiting })) (sym busy) (record {
-    numbers = lined.line.numbers;
-    count = lined.line.count;
-    flags = lined.line.flags;
-    room = lined.line.room;
-    known = lined.line.known;
-  }));
-  found = subst (AreNumbersOf places) (sym dests) lined.found;
-}
-
+-- where files come or go, the room stays
 pub still_room : (count : ℕ) (old new : ClaimParts) (waiting : WaitingData) → new.line ≡ record old.line { waiting = waiting } → new.dests ≡ old.dests
     → HasRoomInLine count old → HasRoomInLine count new
 still_room count old new waiting line dests room = record {

@@ -3,6 +3,7 @@ use Rattle.std.proofs.Common.{◌≡◌, ℕ, zero, suc, ◌+◌, ◌<◌, ◌�
 use Rattle.std.specs.Prelude.{◌&&◌, nat_le, filter, slice_get, slice_index_or, option_map}
 use Rattle.std.specs.List.{prefix_len}
 use Rattle.std.proofs.lemmas.Bool.{le-leb, leb-true, leb-false, and_right}
+use Rattle.std.proofs.lemmas.List.{take_all}
 use Rattle.std.proofs.lemmas.List.Sums.{prefix_len_passes, prefix_len_stops}
 use Rattle.std.proofs.lemmas.Option.{same_Some, slice_get_cases, slice_get_within, get_or_from_slice_get}
 use Rattle.fts_tables.specs.Choice.{least}
@@ -12,7 +13,7 @@ use Rattle.fts_queue.specs.WaitingData.{AreQueuesInOrder}
 use Rattle.fts_line.proofs.Sources.{sources_rise, up_to}
 use Rattle.fts_claims.specs.declared.links.Standing.{Standing}
 use Rattle.fts_claims.specs.Ties.{ClaimData}
-use Rattle.fts_claims.specs.Claims.{is_inside, has_chance, is_link_before, standing_of, stands_before, ArePassed}
+use Rattle.fts_claims.specs.Claims.{is_inside, has_chance, chances, is_link_before, standing_of, stands_before, ArePassed}
 use Rattle.fts_claims.proofs.Picked.{next_best}
 use Rattle.fts_claims.proofs.Standings.{as_links}
 
@@ -95,6 +96,14 @@ sources_passed flags view best sorted own inside number first at past other room
 abbrev pub best_of : List Bool → ClaimData → ℕ → Option LinkAt
 best_of flags view number = least (is_link_before view)
     (map (λ (room : QueueRoom). room.link) (filter (λ (room : QueueRoom). has_chance flags view room.link room.activity) (take number view.line.waiting.rooms)))
+
+-- in front of the end stand all queues
+pub best_of_all : (flags : List Bool) (view : ClaimData) (number : ℕ) → length view.line.waiting.rooms ≤ number
+    → best_of flags view number ≡ least (is_link_before view) (chances flags view)
+best_of_all flags view number all =
+    ap (λ (rooms : List QueueRoom). least (is_link_before view)
+    (map (λ (room : QueueRoom). room.link) (filter (λ (room : QueueRoom). has_chance flags view room.link room.activity) rooms)))
+    (take_all number view.line.waiting.rooms all)
 
 -- it stays over queues that are passed
 pub best_stays : (flags : List Bool) (view : ClaimData) (best : Option LinkAt) (from more : ℕ) → from + more ≤ length view.line.waiting.rooms

@@ -5,6 +5,7 @@ mod InChunks
 mod Sought
 mod Counted
 mod LinksInOrder
+mod ReadEntries
 mod TableLists
 mod CountedDues
 mod RowsComing

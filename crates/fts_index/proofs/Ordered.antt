@@ -1,15 +1,16 @@
 -- What an id added to ids in order leaves of the order.
-use Rattle.std.proofs.Common.{◌≡◌, ◌≢◌, ◌⊎◌, inl, inr, ℕ, ◌+◌, ◌-◌, ◌<◌, ◌≤◌, ◌^◌, Bool, true, false, cond, List, [], ◌∷◌, ◌++◌, length, get_or, Some, None, refl, ap, sym, ◌∙◌, subst, arith}
-use Rattle.std.specs.Prelude.{◌==◌, insert}
+use Rattle.std.proofs.Common.{◌≡◌, ◌≢◌, ◌⊎◌, inl, inr, ℕ, ◌+◌, ◌-◌, ◌<◌, ◌≤◌, ◌^◌, Bool, true, false, cond, List, [], ◌∷◌, ◌++◌, length, get_or, Option, Some, None, refl, ap, sym, ◌∙◌, subst, arith, vec_capacity}
+use Rattle.std.specs.Prelude.{◌==◌, insert, IfSome}
 use Rattle.std.specs.List.{position_from}
 use Rattle.std.proofs.lemmas.List.Edits.{length-insert, get_or-insert_below, get_or-insert_at, get_or-insert_above}
 use Rattle.std.proofs.lemmas.Bool.{eq-eqb, cases_lt}
 use Rattle.std.proofs.lemmas.Bool.Decides.{nat_tests}
-use Rattle.fts_index.specs.Numbers.{number_in}
+use Rattle.fts_index.specs.Numbers.{IdList, number_in}
 use Rattle.fts_index.specs.IdOrder.{PlacedId, no_id, id_in_order, place_in_order, IsOrderOf, IsInOrderAt, IsPlaceOf, IsGapFor}
-use Rattle.fts_index.specs.JobIds.{AreJobIds}
-use Rattle.fts_index.specs.PlaceLists.{order_of}
+use Rattle.fts_index.specs.JobIds.{id_list, AreJobIds}
+use Rattle.fts_index.specs.PlaceLists.{PlaceLists, IsGapIn, order_of}
 use Rattle.fts_index.specs.declared.job_ids.JobIds.TheInside.{Inside}
+use Rattle.fts_index.specs.declared.job_ids.Sought.{Sought}
 use Rattle.fts_index.proofs.Found.{found_from}
 
 -- a place that was found stays where items follow
@@ -167,3 +168,27 @@ module _ (ids : List ℕ) (order : List PlacedId) (is : IsOrderOf ids order) (id
 pub place_fits : (index : Inside) → AreJobIds index → (id place : ℕ) → IsPlaceOf (order_of index.order.chunks) id place → place + 1 < 2 ^ 32
 place_fits index are id place found =
     omega (arith, inside_ids index.ids.items (order_of index.order.chunks) are.order found.at found.there.inside, found.is, are.inside, are.few)
+
+-- one id more, in room that was there, with an order that has it; nothing is remembered then
+pub with_id : (was then now : Inside) (order : PlaceLists) (sought : Option Sought) (seen : IdList) (id : ℕ) → AreJobIds was → id_list was ≡ seen
+    → length seen.ids < seen.room → then ≡ record was { order = order; sought = sought } → sought ≡ None → now ≡ record then { ids = now.ids }
+    → now.ids.items ≡ then.ids.items ++ id ∷ [] → vec_capacity then.ids ≤ vec_capacity now.ids → IsOrderOf (was.ids.items ++ id ∷ []) (order_of order.chunks)
+    → AreJobIds now
+with_id was then now order sought seen id are same fewer before none is pushed memory ordered =
+    let items : now.ids.items ≡ was.ids.items ++ id ∷ [] = pushed ∙ ap (λ (some : Inside). some.ids.items ++ id ∷ []) before in
+    let count = ap length items ∙ length-more was.ids.items id in
+    let less : length was.ids.items < was.room =
+    omega (arith, fewer, ap (λ (list : IdList). length list.ids) same, ap (λ (list : IdList). list.room) same) in
+    let room : now.room ≡ was.room = ap (λ (some : Inside). some.room) is ∙ ap (λ (some : Inside). some.room) before in
+    let new_order : now.order ≡ order = ap (λ (some : Inside). some.order) is ∙ ap (λ (some : Inside). some.order) before in
+    let forgotten : now.sought ≡ None = ap (λ (some : Inside). some.sought) is ∙ (ap (λ (some : Inside). some.sought) before ∙ none) in
+    record {
+      inside = omega (arith, count, room, less);
+      near = omega (arith, count, room, are.near);
+      room = omega (arith, room, memory, ap (λ (some : Inside). vec_capacity some.ids) before, are.room);
+      few = omega (arith, room, are.few);
+      ready = λ more. absurd (omega (arith, more, count, room, are.near));
+      order = subst (λ (lists : PlaceLists). IsOrderOf now.ids.items (order_of lists.chunks)) (sym new_order)
+          (subst (λ some. IsOrderOf some (order_of order.chunks)) (sym items) ordered);
+      sought = subst (λ (some : Option Sought). IfSome some (λ sought. IsGapIn now.order sought.id sought.spot.chunk sought.spot.at)) (sym forgotten) tt;
+    }

@@ -63,6 +63,11 @@ placed-insert (head ∷ ids) [] even (suc at) id place inside = absurd (omega (a
 placed-insert (head ∷ ids) (first ∷ places) even (suc at) id place inside =
     ap (λ behind. record { id = head; place = first } ∷ behind) (placed-insert ids places (omega (arith, even)) at id place (omega (arith, inside)))
 
+-- where a search by halves ends: at the id, or at the gap for it
+pub record IsSearched (order : List PlacedId) (id : ℕ) (result : Result ℕ ℕ) : Type 0 where
+  pub found : IfOk result (IsInOrderAt order id)
+  pub absent : IfErr result (IsGapFor order id)
+
 module _ (ids places : List ℕ) (even : length ids ≡ length places) (rising : AreRising (placed ids places)) where
   -- the comparisons with an id rise along the ids, as a search by halves asks
   comparisons_rise : (id : ℕ) → IsNonDecreasingBy (λ some. ordering_index (nat_cmp some id)) ids
@@ -82,7 +87,7 @@ module _ (ids places : List ℕ) (even : length ids ≡ length places) (rising :
 
   -- a search by halves ends at the id, or at the gap for it
   pub searched : (id : ℕ) (result : Result ℕ ℕ) → IsSearchInRange result (length ids) → IsBinarySearchResult (λ some. nat_cmp some id) ids result
-      → record { found : IfOk result (IsInOrderAt (placed ids places) id); absent : IfErr result (IsGapFor (placed ids places) id) }
+      → IsSearched (placed ids places) id result
   searched id (Ok at) in_range equal = record {
     found = record {
       inside = omega (arith, in_range, even, length-placed ids places even);

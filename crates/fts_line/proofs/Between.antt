@@ -2,7 +2,7 @@
 use Rattle.std.proofs.Common.{◌≡◌, Bool, true, false, cond, List, [], ◌∷◌, ◌++◌, refl, ap, sym, subst, ◌∙◌}
 use Rattle.std.specs.Prelude.{not, ◌||◌, map}
 use Rattle.std.specs.List.{list_any, AllByRecursion}
-use Rattle.ordered.specs.Orders.{IsStrictOrder, AreSortedBy, differs, has_key, put_by, without}
+use Rattle.ordered.specs.Orders.{IsStrictOrder, AreSortedBy, has_key, put_by, without}
 use Rattle.ordered.proofs.Lists.{has_at, without_at}
 
 pub record IsBetween {A : Type 0} (item : A) (whole rest : List A) : Type 0 where

@@ -1,8 +1,9 @@
 -- Files of a list: those that pass a test, and the list with one more or one less.
-use Rattle.std.proofs.Common.{◌≡◌, ◌⊎◌, inl, inr, ℕ, suc, Bool, true, false, cond, List, [], ◌∷◌, length, refl, ap, sym, ◌∙◌, subst}
+use Rattle.std.proofs.Common.{◌≡◌, ◌⊎◌, inl, inr, ℕ, suc, Bool, true, false, cond, List, [], ◌∷◌, length, refl, ap, sym, ◌∙◌, subst, arith}
 use Rattle.std.specs.Prelude.{not, ◌||◌, ◌==◌}
 use Rattle.std.specs.List.{list_any, AllByRecursion}
 use Rattle.std.proofs.lemmas.Bool.{or_parts, eqb-true, eq-eqb}
+use Rattle.std.proofs.lemmas.Bool.Decides.{nat_tests}
 use Rattle.fts_queue.specs.declared.waiter.Waiter.{Waiter}
 use Rattle.fts_queue.specs.WaitingData.{goes_before, with_waiter, without_file, is_waiting, AreApart}
 
@@ -72,9 +73,7 @@ one_file (head ∷ rest) one other apart first second same = by_sides (one_file 
     by_sides behind (inr here) (inr there) = behind here there same
 
 swap : (one other rest : Bool) → (one || (other || rest)) ≡ (other || (one || rest))
-swap true true rest = refl
-swap true false rest = refl
-swap false other rest = refl
+swap one other rest = grind (arith, nat_tests)
 
 -- with one more
 pub any_with : (passes : Waiter → Bool) (waiter : Waiter) (waiters : List Waiter)

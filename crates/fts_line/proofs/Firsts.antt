@@ -1,6 +1,6 @@
 -- The first of the files that wait that may start is the first in line.
 use Rattle.std.proofs.Common.{◌≡◌, ◌⊎◌, inl, inr, ℕ, ◌+◌, ◌*◌, ◌<◌, ◌≤◌, Bool, true, false, cond, List, [], ◌∷◌, length, zero, suc, Some, None, refl, ap, sym, ◌∙◌, arith}
-use Rattle.std.specs.Prelude.{not, ◌&&◌, ◌==◌, nat_lt, filter, find, option_map}
+use Rattle.std.specs.Prelude.{◌&&◌, ◌==◌, nat_lt, find, option_map}
 use Rattle.std.proofs.lemmas.Bool.{and_parts, eqb-true, eq-eqb, le-leb}
 use Rattle.std.proofs.lemmas.Bool.Decides.{nat_tests}
 use Rattle.ordered.specs.Orders.{has_key}
@@ -14,7 +14,7 @@ use Rattle.fts_heads.specs.Heads.{HeadsData, IsFirstOf, is_free, is_open}
 use Rattle.fts_heads.specs.declared.ripe_file.RipeFile.{RipeFile}
 use Rattle.fts_line.specs.declared.key.TheConstants.{LATER}
 use Rattle.fts_line.specs.LineData.{LineData, IsInside, IsKnown, dest_of, may_start, first_open}
-use Rattle.fts_line.specs.Keys.{queue_of, rank_of, ripe_of, later_of, is_later, waiter_of, waiters_of, IsKeyed, AreKeyed, IsDue, AreDue}
+use Rattle.fts_line.specs.Keys.{queue_of, rank_of, ripe_of, later_of, is_later, waiter_of, IsKeyed, AreKeyed, IsDue, AreDue}
 use Rattle.fts_line.specs.Line.{waiting_of}
 use Rattle.fts_line.proofs.Files.{IsOneOf, all_of}
 use Rattle.fts_line.proofs.Lines.{both, stands_then, waits_so, of_key, waits_known}

@@ -1,20 +1,19 @@
 -- Keys and what they leave out, as a file comes in among them and goes.
-use Rattle.std.proofs.Common.{◌≡◌, ◌⊎◌, inl, inr, ◌<◌, ◌≤◌, ◌+◌, ◌-◌, ◌*◌, ◌/◌, ◌%◌, ◌++◌, ◌∷◌, [], ℕ, Bool, true, false, cond, List, length, zero, suc, refl, ap, sym, ◌∙◌, subst, arith}
-use Rattle.std.specs.Prelude.{not, ◌&&◌, ◌||◌, ◌==◌, map, slice_set, slice_index_or}
+use Rattle.std.proofs.Common.{◌≡◌, ◌<◌, ◌≤◌, ◌+◌, ◌-◌, ◌*◌, ◌/◌, ◌%◌, ◌++◌, ◌∷◌, [], ℕ, Bool, true, false, cond, List, length, zero, suc, refl, ap, sym, ◌∙◌, subst, arith}
+use Rattle.std.specs.Prelude.{not, ◌||◌, ◌==◌, map, slice_set, slice_index_or}
 use Rattle.std.specs.List.{list_any, AllByRecursion}
-use Rattle.std.proofs.lemmas.Bool.{eqb-true, eqb-false, eq-eqb, ne_eqb, or_parts, leb-true, leb-false}
+use Rattle.std.proofs.lemmas.Bool.{eqb-false, eq-eqb, ne_eqb, or_parts, leb-true, leb-false}
 use Rattle.ordered.specs.Orders.{AreSortedBy, has_key, put_by, without, differs}
 use Rattle.ordered.proofs.Lists.{filter_sorted}
 use Rattle.ordered.proofs.Members.{one_of}
-use Rattle.fts_tables.specs.declared.settings.LinkAt.{LinkAt}
 use Rattle.fts_queue.specs.declared.waiter.Waiter.{Waiter}
 use Rattle.fts_queue.specs.WaitingData.{is_waiting, is_ripe, in_order, with_waiter, without_file, goes_before, AreApart}
 use Rattle.fts_queue.proofs.Sorting.{any_sorted, apart_middle}
 use Rattle.fts_heads.specs.RipeFiles.{goes_by_group, by_group}
 use Rattle.fts_heads.specs.declared.ripe_file.RipeFile.{RipeFile}
 use Rattle.fts_line.specs.declared.key.TheConstants.{LATER}
-use Rattle.fts_line.specs.LineData.{IsKnown, IsInside, dest_of}
-use Rattle.fts_line.specs.Keys.{queue_of, link_at, rank_of, whole_of, ripe_of, later_of, key_of, rest_of, waiter_at, is_later, file_of, waiter_of, waiters_of, IsKeyed, AreKeyed, IsDue, AreDue}
+use Rattle.fts_line.specs.LineData.{IsKnown, dest_of}
+use Rattle.fts_line.specs.Keys.{queue_of, rank_of, whole_of, ripe_of, later_of, key_of, rest_of, waiter_at, is_later, file_of, waiter_of, waiters_of, IsKeyed, AreKeyed, IsDue, AreDue}
 use Rattle.fts_line.proofs.Between.{IsBetween, put_is, gone_is, map_is, all_in, all_out, all_both, map_same, none_made}
 
 -- files with the same numbers are one

@@ -1,5 +1,5 @@
 -- What stands in line and what waits: each file that waits has its key, and each key is that of a file that waits.
-use Rattle.std.proofs.Common.{◌≡◌, ◌⊎◌, inl, inr, ◌<◌, ◌≤◌, ◌+◌, ◌-◌, ◌++◌, ◌∷◌, [], ℕ, Bool, true, false, cond, List, length, zero, suc, refl, ap, sym, ◌∙◌, subst, arith}
+use Rattle.std.proofs.Common.{◌≡◌, ◌⊎◌, inl, inr, ◌<◌, ◌≤◌, ◌-◌, ◌++◌, ◌∷◌, [], ℕ, Bool, true, false, cond, List, length, suc, refl, ap, sym, ◌∙◌, subst, arith}
 use Rattle.std.specs.Prelude.{not, ◌&&◌, ◌||◌, ◌==◌, map, take, drop, slice_index_or}
 use Rattle.std.specs.List.{list_any, AllByRecursion}
 use Rattle.std.proofs.lemmas.Bool.{and_parts, or_left, or_right, eqb-true, eq-eqb, ne_eqb, le-leb, lt-leb}
@@ -7,9 +7,8 @@ use Rattle.std.proofs.Math.ListN.{get_or-append}
 use Rattle.std.proofs.lemmas.List.{length_push}
 use Rattle.ordered.specs.Orders.{has_key, differs}
 use Rattle.ordered.proofs.Members.{itself, one_of}
-use Rattle.fts_tables.specs.declared.settings.LinkAt.{LinkAt}
 use Rattle.fts_queue.specs.declared.waiter.Waiter.{Waiter}
-use Rattle.fts_queue.specs.WaitingData.{is_waiting, is_ripe, is_in, in_order, is_same_place, with_waiter, goes_before, AreApart}
+use Rattle.fts_queue.specs.WaitingData.{is_ripe, is_in, in_order, is_same_place, with_waiter, goes_before, AreApart}
 use Rattle.fts_queue.proofs.Sorting.{any_sorted}
 use Rattle.fts_heads.specs.RipeFiles.{goes_by_group, by_group}
 use Rattle.fts_heads.specs.declared.ripe_file.RipeFile.{RipeFile}

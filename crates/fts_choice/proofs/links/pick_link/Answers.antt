@@ -1,4 +1,4 @@
-use Rattle.std.proofs.Common.{◌≡◌, ◌<◌, length, cond, Some, sym, ◌∙◌, ap, subst, arith}
+use Rattle.std.proofs.Common.{◌≡◌, ◌<◌, true, false, length, sym, ◌∙◌, ap, subst, arith}
 use Rattle.std.specs.Prelude.{IfSome}
 use Rattle.fts_choice.specs.LeastPlaces.{least_place, is_eligible_at, held_of}
 use Rattle.fts_choice.proofs.LeastFound.{least_place-step, least_place-inside, least_place-none}
@@ -7,13 +7,10 @@ use Rattle.fts_choice.proofs.links.pick_link.Goals.{then-is_next, else-is_next}
 
 pub loop-place-preserved : goal.loop-place-preserved
 loop-place-preserved c =
-    let links = c.args.links.now in
-    let place = c.loop-place.place in
-    let best = c.loop-place.best in
-    let step = least_place-step (is_eligible_at links) (held_of links) place best c.is_next.result c.loop-place.invariant.best c.is_next.ensures.answer in
+    let step = least_place-step (is_eligible_at c.args.links.now) (held_of c.args.links.now) c.loop-place.place c.loop-place.best c.is_next.result in
     elim c.if-is_next.branch [
-      | then-is_next taken ↦ record { best = taken.best-is ∙ (ap (λ answer. cond answer (Some place) best) (sym taken.if-is_next.true) ∙ step) }
-      | else-is_next left ↦ record { best = left.best-is ∙ (ap (λ answer. cond answer (Some place) best) (sym left.if-is_next.false) ∙ step) }
+      | then-is_next w ↦ record { best = w.best-is ∙ step true c.loop-place.invariant.best c.is_next.ensures.answer w.if-is_next.true }
+      | else-is_next w ↦ record { best = w.best-is ∙ step false c.loop-place.invariant.best c.is_next.ensures.answer w.if-is_next.false }
     ]
 
 pub returns-clause-none : goal.returns-clause-none

@@ -8,24 +8,26 @@ use Rattle.fts_choice.proofs.weights.total.Goals.{then-waiting-place, else-waiti
 
 pub loop-place-preserved : goal.loop-place-preserved
 loop-place-preserved c =
-    let weights = c.args.weights.now in
-    let waiting = c.args.waiting.now in
-    let place = c.loop-place.place in
-    let inv = c.loop-place.invariant in
+    let alike = c.requires.alike in
     elim c.if-waiting-place.branch [
       | then-waiting-place w ↦ record {
         total = omega (
           arith,
           w.total-is,
-          inv.total,
+          c.loop-place.invariant.total,
           w.from-total.ensures,
-          more_taking weights waiting place c.requires.alike (omega arith) w.if-waiting-place.true,
+          more_taking c.args.weights.now c.args.waiting.now c.loop-place.place alike (omega arith) w.if-waiting-place.true,
         );
-        small = omega (arith, w.total-is, inv.small, w.from-total.ensures, c.type_inv.weights place);
+        small = omega (arith, w.total-is, c.loop-place.invariant.small, w.from-total.ensures, c.type_inv.weights c.loop-place.place);
       }
       | else-waiting-place w ↦ record {
-        total = omega (arith, w.total-is, inv.total, more_idle weights waiting place c.requires.alike (omega arith) w.if-waiting-place.false);
-        small = omega (arith, w.total-is, inv.small);
+        total = omega (
+          arith,
+          w.total-is,
+          c.loop-place.invariant.total,
+          more_idle c.args.weights.now c.args.waiting.now c.loop-place.place alike (omega arith) w.if-waiting-place.false,
+        );
+        small = omega (arith, w.total-is, c.loop-place.invariant.small);
       }
     ]
 

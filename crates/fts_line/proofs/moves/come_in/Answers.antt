@@ -1,11 +1,9 @@
-use Rattle.std.proofs.Common.{◌≡◌, ◌≤◌, ◌-◌, ℕ, length, List, ap, sym, ◌∙◌, subst}
+use Rattle.std.proofs.Common.{◌-◌, length, ap, sym, ◌∙◌, subst}
 use Rattle.std.specs.Prelude.{slice_set}
 use Rattle.ordered.specs.Orders.{has_key, put_by}
-use Rattle.fts_queue.specs.WaitingData.{with_waiter}
 use Rattle.fts_heads.specs.RipeFiles.{goes_by_group}
 use Rattle.fts_heads.specs.Heads.{HeadsData}
-use Rattle.fts_heads.specs.declared.ripe_file.RipeFile.{RipeFile}
-use Rattle.fts_line.specs.Keys.{key_of, rest_of, waiters_of, AreKeyed, AreDue}
+use Rattle.fts_line.specs.Keys.{key_of, waiters_of, AreKeyed, AreDue}
 use Rattle.fts_line.proofs.Keyed.{came_absent, came_waiters, came_keyed, came_due}
 use Rattle.fts_line.proofs.moves.come_in.Goals as goal
 

@@ -1,4 +1,4 @@
-use Rattle.std.proofs.Common.{◌≡◌, length, ap, sym, ◌∙◌, subst}
+use Rattle.std.proofs.Common.{length, ap, sym, ◌∙◌, subst}
 use Rattle.fts_heads.specs.Heads.{HeadsData}
 use Rattle.fts_line.specs.Keys.{waiters_of, AreKeyed, AreDue}
 use Rattle.fts_line.proofs.Keyed.{gone_keyed, gone_due, gone_waiters}

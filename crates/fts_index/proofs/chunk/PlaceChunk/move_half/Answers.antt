@@ -7,6 +7,7 @@ use Rattle.fts_index.specs.declared.chunk.TheConstants.{CHUNK_ROOM, CHUNK_HALF}
 use Rattle.fts_index.specs.declared.chunk.PlaceChunk.TheInside.{Inside}
 use Rattle.fts_index.proofs.Placed.{lengths, placed-take, placed-drop}
 use Rattle.fts_index.proofs.chunk.PlaceChunk.move_half.Goals as goal
+use Rattle.fts_index.proofs.chunk.PlaceChunk.move_half.Goals.{After-extend_from_slice-2}
 
 -- a full chunk has as many ids, and as many places
 both_full : (chunk : Inside) (seen : List PlacedId) → IsChunk chunk → placed chunk.ids.items chunk.places.items ≡ seen → length seen ≡ CHUNK_ROOM
@@ -60,24 +61,31 @@ slice_bounds-extend_from_slice-start-2 c =
     omega (arith, full.1, ap length c.deref-2.ensures.value)
 
 -- there is memory for all that is moved
-pub invariant_of-spare : goal.invariant_of-spare
-invariant_of-spare c =
+both_moved : (c : After-extend_from_slice-2) → (c.extend_from_slice.new.self.items ≡ drop CHUNK_HALF c.self.inside.ids.items)
+    × (c.extend_from_slice-2.new.self.items ≡ drop CHUNK_HALF c.self.inside.places.items)
+both_moved c =
     let full = both_full c.self.inside c.args.self.now c.self.invariant c.self.view_is c.requires.full in
     let empty = both_empty c.spare.inside c.args.spare.now c.spare.invariant c.spare.view_is c.requires.empty in
     let few_ids = few c.deref.result.now c.self.inside.ids.items c.deref.ensures.value full.0 in
-    let few_places = few c.deref-2.result.now c.self.inside.places.items c.deref-2.ensures.value full.1 in
-    let ids = moved c.deref.result.now c.self.inside.ids.items c.spare.inside.ids.items c.extend_from_slice.new.self.items _ c.extend_from_slice.ensures.items
-    (c.extend_from_slice.ensures.succeeds (omega (arith, ap length empty.0, c.spare.inside.ids.ok.0, c.spare.invariant.ids, few_ids)))
-    empty.0 c.deref.ensures.value in
-    let places = moved c.deref-2.result.now c.self.inside.places.items c.spare.inside.places.items c.extend_from_slice-2.new.self.items _
-    c.extend_from_slice-2.ensures.items
-    (c.extend_from_slice-2.ensures.succeeds (omega (arith, ap length empty.1, c.spare.inside.places.ok.0, c.spare.invariant.places, few_places)))
-    empty.1 c.deref-2.ensures.value in
+    let few_places = few c.deref-2.result.now c.self.inside.places.items c.deref-2.ensures.value full.1 in (
+      moved c.deref.result.now c.self.inside.ids.items c.spare.inside.ids.items c.extend_from_slice.new.self.items _ c.extend_from_slice.ensures.items
+          (c.extend_from_slice.ensures.succeeds (omega (arith, ap length empty.0, c.spare.inside.ids.ok.0, c.spare.invariant.ids, few_ids)))
+          empty.0 c.deref.ensures.value,
+      moved c.deref-2.result.now c.self.inside.places.items c.spare.inside.places.items c.extend_from_slice-2.new.self.items _
+          c.extend_from_slice-2.ensures.items
+          (c.extend_from_slice-2.ensures.succeeds (omega (arith, ap length empty.1, c.spare.inside.places.ok.0, c.spare.invariant.places, few_places)))
+          empty.1 c.deref-2.ensures.value,
+    )
+
+pub invariant_of-spare : goal.invariant_of-spare
+invariant_of-spare c =
+    let full = both_full c.self.inside c.args.self.now c.self.invariant c.self.view_is c.requires.full in
+    let both = both_moved (goal.at.invariant_of-spare c).After-extend_from_slice-2 in
     record {
       even = omega (
         arith,
-        ap length ids,
-        ap length places,
+        ap length both.0,
+        ap length both.1,
         length-drop CHUNK_HALF c.self.inside.ids.items,
         length-drop CHUNK_HALF c.self.inside.places.items,
         full.0,
@@ -96,18 +104,8 @@ returns-clause-stays c =
 
 pub returns-clause-moves : goal.returns-clause-moves
 returns-clause-moves c =
-    let full = both_full c.self.inside c.args.self.now c.self.invariant c.self.view_is c.requires.full in
-    let empty = both_empty c.spare.inside c.args.spare.now c.spare.invariant c.spare.view_is c.requires.empty in
-    let few_ids = few c.deref.result.now c.self.inside.ids.items c.deref.ensures.value full.0 in
-    let few_places = few c.deref-2.result.now c.self.inside.places.items c.deref-2.ensures.value full.1 in
-    let ids = moved c.deref.result.now c.self.inside.ids.items c.spare.inside.ids.items c.extend_from_slice.new.self.items _ c.extend_from_slice.ensures.items
-    (c.extend_from_slice.ensures.succeeds (omega (arith, ap length empty.0, c.spare.inside.ids.ok.0, c.spare.invariant.ids, few_ids)))
-    empty.0 c.deref.ensures.value in
-    let places = moved c.deref-2.result.now c.self.inside.places.items c.spare.inside.places.items c.extend_from_slice-2.new.self.items _
-    c.extend_from_slice-2.ensures.items
-    (c.extend_from_slice-2.ensures.succeeds (omega (arith, ap length empty.1, c.spare.inside.places.ok.0, c.spare.invariant.places, few_places)))
-    empty.1 c.deref-2.ensures.value in
-    ap (λ some. placed some c.extend_from_slice-2.new.self.items) ids
-    ∙ (ap (λ some. placed (drop CHUNK_HALF c.self.inside.ids.items) some) places
+    let both = both_moved (goal.at.returns-clause-moves c).After-extend_from_slice-2 in
+    ap (λ some. placed some c.extend_from_slice-2.new.self.items) both.0
+    ∙ (ap (λ some. placed (drop CHUNK_HALF c.self.inside.ids.items) some) both.1
     ∙ (placed-drop c.self.inside.ids.items c.self.inside.places.items c.self.invariant.even CHUNK_HALF
     ∙ ap (λ (order : List PlacedId). drop CHUNK_HALF order) c.self.view_is))

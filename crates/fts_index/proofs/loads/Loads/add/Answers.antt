@@ -1,73 +1,38 @@
-use Rattle.std.proofs.Common.{◌≡◌, ◌+◌, sym, ap, ◌∙◌, subst, arith}
+use Rattle.std.proofs.Common.{◌+◌, sym, ap, ◌∙◌, subst, arith}
 use Rattle.std.proofs.Math.ListN.{set}
-use Rattle.std.specs.Prelude.{map}
-use Rattle.fts_index.specs.Links.{LinkLists, HasOneMore, count_of, is_link, link_between, AreInOrder}
-use Rattle.fts_index.specs.Loads.{link_of_known, links_counted}
-use Rattle.fts_index.specs.declared.loads.Known.{Known}
+use Rattle.fts_index.specs.Links.{LinkLists, HasOneMore, is_link, link_between}
+use Rattle.fts_index.specs.Loads.{links_counted}
 use Rattle.fts_index.proofs.Found.{some_from}
-use Rattle.fts_index.proofs.Counted.{IsEntryOf, entry_of, entry_is, counted, more_at, known_at}
-use Rattle.fts_index.proofs.LinksInOrder.{apart_of}
+use Rattle.fts_index.proofs.Counted.{more_at}
+use Rattle.fts_index.proofs.ReadEntries.{IsRead, with_count, found_entry, read_of}
 use Rattle.fts_index.proofs.loads.Loads.add.Goals as goal
-use Rattle.fts_index.proofs.loads.Loads.add.Goals.{In-Some}
-
--- the entry that was found
-the_entry : (c : In-Some) → IsEntryOf c.self.inside.known.items (link_between c.args.source.now c.args.dest.now) c.in-Some.place
-the_entry c = entry_of c.self.inside.known.items c.args.self.now.known (link_between c.args.source.now c.args.dest.now) c.in-Some.place
-    (ap (λ (lists : LinkLists). lists.known) c.self.view_is) c.in-Some.ensures.place
+use Rattle.fts_index.proofs.loads.Loads.add.Goals.{After-index_mut}
 
 pub index_mut-requires : goal.index_mut-requires
-index_mut-requires c = omega (arith, (the_entry (goal.at.index_mut-requires c).In-Some).inside, c.self.inside.known.ok.0)
+index_mut-requires c =
+    omega (arith, (found_entry c.self.inside c.args.self.now _ _ c.self.view_is c.in-Some.ensures.place).inside, c.self.inside.known.ok.0)
+
+-- the entry that was found, as it was read
+the_entry : (c : After-index_mut) → IsRead c.self.inside c.args.self.now (link_between c.args.source.now c.args.dest.now) c.in-Some.place c.index_mut.result.now
+the_entry c = read_of c.self.inside c.args.self.now _ _ c.self.view_is c.in-Some.ensures.place c.index_mut.result.now c.self.invariant c.index_mut.ensures.value
 
 pub overflow_add-index_mut : goal.overflow_add-index_mut
-overflow_add-index_mut c =
-    let entry = the_entry ((goal.at.overflow_add-index_mut c).In-Some) in
-    let link = link_between c.args.source.now c.args.dest.now in
-    let entries = c.self.inside.known.items in
-    let is = entry_is entries link c.in-Some.place c.index_mut.result.now entry c.index_mut.ensures.value in
-    let counts = counted entries link c.in-Some.place (apart_of (map link_of_known entries) c.self.invariant.order) entry in
-    let counts_seen : count_of c.args.self.now.links link ≡ entry.known.count = ap (λ (lists : LinkLists). count_of lists.links link) (sym c.self.view_is) ∙ counts in
-    let read : c.index_mut.result.now.count ≡ entry.known.count = ap (λ (known : Known). known.count) is in
-    omega (arith, c.requires.fewer, counts_seen, read)
+overflow_add-index_mut c = omega (arith, c.requires.fewer, (the_entry (goal.at.overflow_add-index_mut c).After-index_mut).counts)
 
 pub invariant_of-self : goal.invariant_of-self
-invariant_of-self c =
-    let entry = the_entry ((goal.at.invariant_of-self c).In-Some) in
-    let link = link_between c.args.source.now c.args.dest.now in
-    let entries = c.self.inside.known.items in
-    let is = entry_is entries link c.in-Some.place c.index_mut.result.now entry c.index_mut.ensures.value in
-    let counts = counted entries link c.in-Some.place (apart_of (map link_of_known entries) c.self.invariant.order) entry in
-    let counts_seen : count_of c.args.self.now.links link ≡ entry.known.count = ap (λ (lists : LinkLists). count_of lists.links link) (sym c.self.view_is) ∙ counts in
-    let read : c.index_mut.result.now.count ≡ entry.known.count = ap (λ (known : Known). known.count) is in
-    let new : Known = record { source = c.index_mut.result.now.source; dest = c.index_mut.result.now.dest; count = c.index_mut.result.now.count + 1 } in
-    let same : link_of_known new ≡ link = ap link_of_known is ∙ entry.named in
-    record { order = subst AreInOrder (sym (known_at entries link c.in-Some.place new entry same)) c.self.invariant.order }
+invariant_of-self c = record { order = (the_entry (goal.at.invariant_of-self c).After-index_mut).order (c.index_mut.result.now.count + 1) }
 
 pub returns-in-Some-clause-more : goal.returns-in-Some-clause-more
 returns-in-Some-clause-more c =
-    let entry = the_entry ((goal.at.returns-in-Some-clause-more c).In-Some) in
+    let read = the_entry (goal.at.returns-in-Some-clause-more c).After-index_mut in
     let link = link_between c.args.source.now c.args.dest.now in
-    let entries = c.self.inside.known.items in
-    let is = entry_is entries link c.in-Some.place c.index_mut.result.now entry c.index_mut.ensures.value in
-    let counts = counted entries link c.in-Some.place (apart_of (map link_of_known entries) c.self.invariant.order) entry in
-    let counts_seen : count_of c.args.self.now.links link ≡ entry.known.count = ap (λ (lists : LinkLists). count_of lists.links link) (sym c.self.view_is) ∙ counts in
-    let read : c.index_mut.result.now.count ≡ entry.known.count = ap (λ (known : Known). known.count) is in
-    let new : Known = record { source = c.index_mut.result.now.source; dest = c.index_mut.result.now.dest; count = c.index_mut.result.now.count + 1 } in
-    let same : link_of_known new ≡ link = ap link_of_known is ∙ entry.named in
-    subst (λ links. HasOneMore link links (links_counted (set entries c.in-Some.place new))) (ap (λ (lists : LinkLists). lists.links) c.self.view_is)
-    (more_at entries link c.in-Some.place new entry same (omega (arith, read)))
+    let new = with_count c.index_mut.result.now (c.index_mut.result.now.count + 1) in
+    subst (λ links. HasOneMore link links (links_counted (set c.self.inside.known.items c.in-Some.place new)))
+    (ap (λ (lists : LinkLists). lists.links) c.self.view_is)
+    (more_at c.self.inside.known.items link c.in-Some.place new read.entry read.named (omega (arith, read.count)))
 
 pub returns-in-Some-clause-known : goal.returns-in-Some-clause-known
-returns-in-Some-clause-known c =
-    let entry = the_entry ((goal.at.returns-in-Some-clause-known c).In-Some) in
-    let link = link_between c.args.source.now c.args.dest.now in
-    let entries = c.self.inside.known.items in
-    let is = entry_is entries link c.in-Some.place c.index_mut.result.now entry c.index_mut.ensures.value in
-    let counts = counted entries link c.in-Some.place (apart_of (map link_of_known entries) c.self.invariant.order) entry in
-    let counts_seen : count_of c.args.self.now.links link ≡ entry.known.count = ap (λ (lists : LinkLists). count_of lists.links link) (sym c.self.view_is) ∙ counts in
-    let read : c.index_mut.result.now.count ≡ entry.known.count = ap (λ (known : Known). known.count) is in
-    let new : Known = record { source = c.index_mut.result.now.source; dest = c.index_mut.result.now.dest; count = c.index_mut.result.now.count + 1 } in
-    let same : link_of_known new ≡ link = ap link_of_known is ∙ entry.named in
-    known_at entries link c.in-Some.place new entry same ∙ ap (λ (lists : LinkLists). lists.known) c.self.view_is
+returns-in-Some-clause-known c = (the_entry (goal.at.returns-in-Some-clause-known c).After-index_mut).known (c.index_mut.result.now.count + 1)
 
 pub returns-in_default-clause-more : goal.returns-in_default-clause-more
 returns-in_default-clause-more c =

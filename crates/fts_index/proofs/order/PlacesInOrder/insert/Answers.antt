@@ -8,6 +8,7 @@ use Rattle.fts_index.specs.Order.{IsFit, IsSpare}
 use Rattle.fts_index.specs.PlaceLists.{PlaceLists, places_before, order_of}
 use Rattle.fts_index.proofs.InChunks.{set-again, order_of-put, order_of-halves, fit-set, fit-halves}
 use Rattle.fts_index.proofs.order.PlacesInOrder.insert.Goals as goal
+use Rattle.fts_index.proofs.order.PlacesInOrder.insert.Goals.{After-index}
 
 -- a chunk with one id more among the chunks, and what is read of it then
 record IsPut (chunks seen : List (List PlacedId)) (at within : ℕ) (entry : PlacedId) (new read : List PlacedId) : Type 0 where
@@ -41,15 +42,21 @@ halves_are chunks at full within =
     ap (λ some. insert (set (set chunks at full) at (take CHUNK_HALF some)) (at + 1) (drop CHUNK_HALF some)) (get_or-set_same chunks at full [] within)
     ∙ ap (λ some. insert some (at + 1) (drop CHUNK_HALF full)) (set-again chunks at full (take CHUNK_HALF full))
 
+-- what this insertion puts
+the_put : (c : After-index) → IsPut c.self.inside.chunks.items c.args.self.now.chunks c.args.spot.chunk c.args.spot.at
+    (record { id = c.args.id; place = c.args.place }) c.insert.new.self c.index.result.now
+the_put c =
+    put_of c.self.inside.chunks.items c.args.self.now.chunks c.args.spot.chunk c.args.spot.at (record { id = c.args.id; place = c.args.place })
+    c.index_mut.result.now c.insert.new.self c.index.result.now (ap (λ (lists : PlaceLists). lists.chunks) c.self.view_is) c.requires.chunk c.requires.at
+    c.index_mut.ensures.value c.insert.ensures.ids c.index.ensures
+
 -- the chunk isn't full
 pub invariant_of-self-else-len-eq-CHUNK_ROOM : goal.invariant_of-self-else-len-eq-CHUNK_ROOM
 invariant_of-self-else-len-eq-CHUNK_ROOM c =
     let chunks : List (List PlacedId) = c.self.inside.chunks.items in
     let at : ℕ = c.args.spot.chunk in
     let new : List PlacedId = c.insert.new.self in
-    let put = put_of chunks c.args.self.now.chunks at c.args.spot.at (record { id = c.args.id; place = c.args.place })
-    c.index_mut.result.now new c.index.result.now
-    (ap (λ (lists : PlaceLists). lists.chunks) c.self.view_is) c.requires.chunk c.requires.at c.index_mut.ensures.value c.insert.ensures.ids c.index.ensures in
+    let put = the_put (goal.at.invariant_of-self-else-len-eq-CHUNK_ROOM c).After-index in
     let small : length new < CHUNK_ROOM =
     omega (
       arith,
@@ -64,11 +71,7 @@ invariant_of-self-else-len-eq-CHUNK_ROOM c =
     }
 
 pub returns-else-len-eq-CHUNK_ROOM : goal.returns-else-len-eq-CHUNK_ROOM
-returns-else-len-eq-CHUNK_ROOM c =
-    let put = put_of c.self.inside.chunks.items c.args.self.now.chunks c.args.spot.chunk c.args.spot.at (record { id = c.args.id; place = c.args.place })
-    c.index_mut.result.now c.insert.new.self c.index.result.now (ap (λ (lists : PlaceLists). lists.chunks) c.self.view_is) c.requires.chunk c.requires.at c.index_mut.ensures.value
-    c.insert.ensures.ids c.index.ensures in
-    record { order = put.order }
+returns-else-len-eq-CHUNK_ROOM c = record { order = (the_put (goal.at.returns-else-len-eq-CHUNK_ROOM c).After-index).order }
 
 -- a full chunk was split: its halves stand in its place, and no spare one waits
 pub invariant_of-self : goal.invariant_of-self
@@ -76,9 +79,7 @@ invariant_of-self c =
     let chunks : List (List PlacedId) = c.self.inside.chunks.items in
     let at : ℕ = c.args.spot.chunk in
     let full : List PlacedId = c.insert.new.self in
-    let put = put_of chunks c.args.self.now.chunks at c.args.spot.at (record { id = c.args.id; place = c.args.place })
-    c.index_mut.result.now full c.index.result.now
-    (ap (λ (lists : PlaceLists). lists.chunks) c.self.view_is) c.requires.chunk c.requires.at c.index_mut.ensures.value c.insert.ensures.ids c.index.ensures in
+    let put = the_put (goal.at.invariant_of-self c).After-index in
     let long : length full ≡ CHUNK_ROOM = omega (arith, c.if-len-eq-CHUNK_ROOM.true, c.len.ensures.len ∙ ap length put.read_is) in
     record {
       fit = subst IsFit (sym (c.split.ensures.halves ∙ halves_are chunks at full put.inside)) (fit-halves chunks at full c.self.invariant.fit put.inside long);
@@ -90,9 +91,7 @@ returns-in-Some c =
     let chunks : List (List PlacedId) = c.self.inside.chunks.items in
     let at : ℕ = c.args.spot.chunk in
     let full : List PlacedId = c.insert.new.self in
-    let put = put_of chunks c.args.self.now.chunks at c.args.spot.at (record { id = c.args.id; place = c.args.place })
-    c.index_mut.result.now full c.index.result.now
-    (ap (λ (lists : PlaceLists). lists.chunks) c.self.view_is) c.requires.chunk c.requires.at c.index_mut.ensures.value c.insert.ensures.ids c.index.ensures in
+    let put = the_put (goal.at.returns-in-Some c).After-index in
     record {
       order = ap order_of (c.split.ensures.halves ∙ halves_are chunks at full put.inside) ∙ (order_of-halves chunks at full put.inside ∙ put.order);
     }

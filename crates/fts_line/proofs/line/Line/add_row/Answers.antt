@@ -1,4 +1,4 @@
-use Rattle.std.proofs.Common.{◌≡◌, ◌<◌, ◌+◌, ◌++◌, ◌∷◌, [], ℕ, Bool, List, false, suc, length, ap, sym, ◌∙◌, subst, arith}
+use Rattle.std.proofs.Common.{◌≡◌, ◌<◌, ◌++◌, ◌∷◌, [], ℕ, Bool, List, false, suc, length, ap, sym, ◌∙◌, subst, arith}
 use Rattle.std.specs.Prelude.{min, vec_capacity}
 use Rattle.std.proofs.lemmas.List.{length_push}
 use Rattle.fts_queue.specs.declared.waiter.Waiter.{Waiter}
@@ -10,40 +10,38 @@ use Rattle.fts_line.specs.Line.{IsLine, waiting_of}
 use Rattle.fts_line.specs.Keys.{AreKeyed}
 use Rattle.fts_line.proofs.Lines.{row_waiters, row_keyed, row_due, row_new}
 use Rattle.fts_line.proofs.line.Line.add_row.Goals as goal
+use Rattle.fts_line.proofs.line.Line.add_row.Goals.{After-self}
 
 -- a line by its parts
 abbrev view_of : WaitingData → List ℕ → List Bool → ℕ → ℕ → LineData
 view_of waiting dests busy room row_room = record { waiting = waiting; dests = dests; busy = busy; room = room; row_room = row_room }
 
-pub add_dest-requires-clause-new : goal.add_dest-requires-clause-new
-add_dest-requires-clause-new c =
-    let inside = c.self.inside in
-    row_new inside.dests.items (length inside.heads.busy) inside.rests.items inside.heads.files c.self.invariant.keys c.args.dest
-    (omega (
+-- there are fewer rows than a number may say
+few : (c : After-self) → length c.self.inside.heads.busy < LATER
+few c =
+    omega (
       arith,
       c.requires.room,
       c.self.invariant.rows,
       ap (λ (view : LineData). length view.dests) c.self.view_is,
       ap (λ (view : LineData). view.row_room) c.self.view_is,
-    ))
+    )
+
+pub add_dest-requires-clause-new : goal.add_dest-requires-clause-new
+add_dest-requires-clause-new c =
+    let inside = c.self.inside in
+    row_new inside.dests.items (length inside.heads.busy) inside.rests.items inside.heads.files c.self.invariant.keys c.args.dest
+    (few (goal.at.add_dest-requires-clause-new c).After-self)
 
 pub invariant_of-self : goal.invariant_of-self
 invariant_of-self c =
     let inside = c.self.inside in
     let line = c.self.invariant in
-    let few : length inside.heads.busy < LATER =
-    omega (
-      arith,
-      c.requires.room,
-      line.rows,
-      ap (λ (view : LineData). length view.dests) c.self.view_is,
-      ap (λ (view : LineData). view.row_room) c.self.view_is,
-    ) in
     let rests : c.push_reserved.new.self.items ≡ inside.rests.items ++ 0 ∷ [] = c.push_reserved.ensures.items in
     let dests : c.push_reserved-2.new.self.items ≡ inside.dests.items ++ c.args.dest ∷ [] = c.push_reserved-2.ensures.items in
-    let keyed = row_keyed inside.dests.items (length inside.heads.busy) inside.rests.items inside.heads.files line.keys c.args.dest few in
-    let waiters = row_waiters inside.dests.items (length inside.heads.busy) inside.rests.items inside.heads.files line.keys c.args.dest few in
-    let due = row_due inside.dests.items (length inside.heads.busy) inside.rests.items inside.heads.files line.keys c.args.dest few
+    let keyed = row_keyed inside.dests.items (length inside.heads.busy) inside.rests.items inside.heads.files line.keys c.args.dest (few (goal.at.invariant_of-self c).After-self) in
+    let waiters = row_waiters inside.dests.items (length inside.heads.busy) inside.rests.items inside.heads.files line.keys c.args.dest (few (goal.at.invariant_of-self c).After-self) in
+    let due = row_due inside.dests.items (length inside.heads.busy) inside.rests.items inside.heads.files line.keys c.args.dest (few (goal.at.invariant_of-self c).After-self)
     inside.moment inside.moment line.due in
     let more : length (inside.heads.busy ++ false ∷ []) ≡ suc (length inside.heads.busy) = omega (arith, length_push inside.heads.busy false) in
     subst (λ (heads : HeadsData). IsLine heads c.push_reserved.new.self.items inside.rooms.items c.push_reserved-2.new.self.items inside.moment)
@@ -63,15 +61,7 @@ pub returns : goal.returns
 returns c =
     let inside = c.self.inside in
     let line = c.self.invariant in
-    let few : length inside.heads.busy < LATER =
-    omega (
-      arith,
-      c.requires.room,
-      line.rows,
-      ap (λ (view : LineData). length view.dests) c.self.view_is,
-      ap (λ (view : LineData). view.row_room) c.self.view_is,
-    ) in
-    let waiters = row_waiters inside.dests.items (length inside.heads.busy) inside.rests.items inside.heads.files line.keys c.args.dest few in
+    let waiters = row_waiters inside.dests.items (length inside.heads.busy) inside.rests.items inside.heads.files line.keys c.args.dest (few (goal.at.returns c).After-self) in
     record {
       row =
           ap (λ (heads : HeadsData). view_of (waiting_of heads c.push_reserved.new.self.items inside.rooms.items inside.moment) c.push_reserved-2.new.self.items

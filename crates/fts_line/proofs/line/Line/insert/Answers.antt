@@ -1,5 +1,4 @@
-use Rattle.std.proofs.Common.{◌≡◌, ◌<◌, false, ℕ, List, length, refl, ap, sym, ◌∙◌, subst, arith}
-use Rattle.fts_queue.specs.declared.waiter.Waiter.{Waiter}
+use Rattle.std.proofs.Common.{◌≡◌, ◌<◌, false, length, ap, sym, ◌∙◌, subst, arith}
 use Rattle.fts_queue.specs.WaitingData.{WaitingData, AreWaiting, waiting_in, room_of, is_waiting, with_waiter}
 use Rattle.fts_queue.proofs.QueueRooms.{waiting_more}
 use Rattle.fts_heads.specs.Heads.{HeadsData}

@@ -1,4 +1,4 @@
-use Rattle.std.proofs.Common.{◌≡◌, ◌+◌, ℕ, List, length, refl, ap, sym, ◌∙◌, subst, arith}
+use Rattle.std.proofs.Common.{◌≡◌, ◌+◌, List, length, ap, sym, ◌∙◌, subst, arith}
 use Rattle.fts_queue.specs.declared.rooms.QueueRoom.{QueueRoom}
 use Rattle.fts_queue.specs.WaitingData.{AreWaiting, with_room}
 use Rattle.fts_queue.proofs.QueueRooms.{waiting_raised}

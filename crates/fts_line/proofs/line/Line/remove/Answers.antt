@@ -1,15 +1,15 @@
-use Rattle.std.proofs.Common.{◌≡◌, true, Bool, cond, ℕ, List, length, refl, ap, sym, ◌∙◌, subst}
+use Rattle.std.proofs.Common.{◌≡◌, List, length, ap, sym, ◌∙◌, subst}
 use Rattle.std.specs.List.{list_any}
 use Rattle.ordered.specs.Orders.{has_key}
 use Rattle.fts_queue.specs.declared.waiter.Waiter.{Waiter}
-use Rattle.fts_queue.specs.WaitingData.{WaitingData, AreWaiting, without_file, is_ripe}
+use Rattle.fts_queue.specs.WaitingData.{WaitingData, AreWaiting, without_file}
 use Rattle.fts_queue.proofs.QueueRooms.{waiting_less}
 use Rattle.fts_heads.specs.RipeFiles.{goes_by_group}
 use Rattle.fts_heads.specs.Heads.{HeadsData}
 use Rattle.fts_heads.specs.declared.ripe_file.RipeFile.{RipeFile}
 use Rattle.fts_line.specs.LineData.{LineData, is_same_waiter}
-use Rattle.fts_line.specs.Keys.{AreKeyed, AreDue, waiters_of, key_of, ripe_of, later_of}
-use Rattle.fts_line.specs.Line.{IsLine, waiting_of}
+use Rattle.fts_line.specs.Keys.{AreKeyed, AreDue, waiters_of, key_of}
+use Rattle.fts_line.specs.Line.{waiting_of}
 use Rattle.fts_line.proofs.Lines.{has_its_key, key_number}
 use Rattle.fts_line.proofs.line.Line.remove.Goals as goal
 

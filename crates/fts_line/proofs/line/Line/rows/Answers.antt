@@ -1,4 +1,4 @@
-use Rattle.std.proofs.Common.{◌≤◌, length, ap, arith}
+use Rattle.std.proofs.Common.{length, ap, arith}
 use Rattle.fts_line.specs.LineData.{LineData}
 use Rattle.fts_line.proofs.Lines.{as_many}
 use Rattle.fts_line.proofs.line.Line.rows.Goals as goal
