@@ -1,6 +1,6 @@
 -- A row changed at its place: by writing there, by its id, and behind other rows.
-use Rattle.std.proofs.Common.{◌≡◌, ℕ, zero, suc, ◌+◌, ◌<◌, ◌≤◌, true, false, cond, List, [], ◌∷◌, ◌++◌, length, get_or, set, take, drop, Option, Some, None, refl, ap, sym, ◌∙◌, arith, add-zero, inl, inr}
-use Rattle.std.specs.Prelude.{◌==◌, ◌⊎◌, slice_get}
+use Rattle.std.proofs.Common.{◌≡◌, ◌≢◌, ℕ, zero, suc, ◌+◌, ◌<◌, ◌≤◌, cond, List, [], ◌∷◌, ◌++◌, length, get_or, set, take, drop, Option, Some, None, refl, ap, sym, ◌∙◌, arith, add-zero, inl, inr}
+use Rattle.std.specs.Prelude.{◌⊎◌, slice_get}
 use Rattle.std.proofs.lemmas.Bool.{ne_eqb, eq-eqb}
 use Rattle.std.proofs.lemmas.Option.{same_Some, slice_get_cases}
 use Rattle.fts_tables.specs.Tables.{AreNumberedFrom}
@@ -24,15 +24,18 @@ change_at-past [] place change past = refl
 change_at-past (row ∷ rows) zero change past = absurd (omega arith)
 change_at-past (row ∷ rows) (suc place) change past = ap (λ after. row ∷ after) (change_at-past rows place change (omega arith))
 
+-- a row of another id is passed
+change_row-past : (row : FileRow) (rows : List FileRow) (id : ℕ) (change : FileRow → FileRow) → row.id ≢ id
+    → change_row id change (row ∷ rows) ≡ row ∷ change_row id change rows
+change_row-past row rows id change apart = ap (λ answer. cond answer (change row) row ∷ change_row id change rows) (ne_eqb row.id id apart)
+
 -- no row has an id below the first one
 change_none : (start : ℕ) (rows : List FileRow) (id : ℕ) (change : FileRow → FileRow) → AreNumberedFrom (λ row. row.id) start rows → id < start
     → change_row id change rows ≡ rows
 change_none start [] id change numbered below = refl
 change_none start (row ∷ rows) id change numbered below =
-    let differs : (row.id == id) ≡ false = ne_eqb row.id id (λ is. omega (arith, numbered.0)) in
-    let behind : id < suc start = omega arith in
-    ap (λ answer. cond answer (change row) row ∷ change_row id change rows) differs
-    ∙ ap (λ after. row ∷ after) (change_none (suc start) rows id change numbered.1 behind)
+    change_row-past row rows id change (λ is. omega (arith, numbered.0))
+    ∙ ap (λ after. row ∷ after) (change_none (suc start) rows id change numbered.1 (omega arith))
 
 -- in a numbered list the row of an id stands as far behind the first as its id is above the first number
 pub change_row-place : (start : ℕ) (rows : List FileRow) (place id : ℕ) (change : FileRow → FileRow) → AreNumberedFrom (λ row. row.id) start rows
@@ -40,15 +43,11 @@ pub change_row-place : (start : ℕ) (rows : List FileRow) (place id : ℕ) (cha
     → change_row id change rows ≡ change_at place change rows
 change_row-place start [] place id change numbered is = refl
 change_row-place start (row ∷ rows) zero id change numbered is =
-    let same : (row.id == id) ≡ true = eq-eqb row.id id (omega (arith, numbered.0)) in
-    let below : id < suc start = omega arith in
-    ap (λ answer. cond answer (change row) row ∷ change_row id change rows) same
-    ∙ ap (λ after. change row ∷ after) (change_none (suc start) rows id change numbered.1 below)
+    ap (λ answer. cond answer (change row) row ∷ change_row id change rows) (eq-eqb row.id id (omega (arith, numbered.0)))
+    ∙ ap (λ after. change row ∷ after) (change_none (suc start) rows id change numbered.1 (omega arith))
 change_row-place start (row ∷ rows) (suc place) id change numbered is =
-    let differs : (row.id == id) ≡ false = ne_eqb row.id id (λ same. omega (arith, numbered.0)) in
-    let behind : id ≡ suc start + place = omega arith in
-    ap (λ answer. cond answer (change row) row ∷ change_row id change rows) differs
-    ∙ ap (λ after. row ∷ after) (change_row-place (suc start) rows place id change numbered.1 behind)
+    change_row-past row rows id change (λ same. omega (arith, numbered.0))
+    ∙ ap (λ after. row ∷ after) (change_row-place (suc start) rows place id change numbered.1 (omega arith))
 
 -- a change behind other rows
 pub change_at-behind : (before after : List FileRow) (place number : ℕ) (change : FileRow → FileRow) → number ≡ length before + place

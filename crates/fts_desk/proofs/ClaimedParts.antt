@@ -7,7 +7,7 @@ use Rattle.std.proofs.lemmas.List.{take-set, get_or-set_same, length-set}
 use Rattle.fts_tables.specs.SettingsData.{SettingsData, IsSettings}
 use Rattle.fts_tables.specs.Tables.{Tables, AreNumberedFrom, is_submitted, is_active}
 use Rattle.fts_tables.specs.declared.rows.FileState.{FileState}
-use Rattle.fts_tables.specs.declared.rows.FileState.TheVariants.{Submitted, Active, Finished, Failed, Canceled, NotUsed}
+use Rattle.fts_tables.specs.declared.rows.FileState.TheVariants.{Active}
 use Rattle.fts_tables.specs.Limits.{has_known_ends, is_eligible}
 use Rattle.fts_tables.specs.Choice.{pick}
 use Rattle.fts_tables.specs.Moves.{claimed}
@@ -207,12 +207,8 @@ still_may_run row (Some old) (Some new) same may = record {
 
 -- what waits doesn't run
 idle_waiting : (state : FileState) → is_submitted state ≡ true → is_active state ≡ false
-idle_waiting Submitted waits = refl
 idle_waiting Active waits = cc
-idle_waiting Finished waits = refl
-idle_waiting Failed waits = refl
-idle_waiting Canceled waits = refl
-idle_waiting NotUsed waits = refl
+idle_waiting other waits = refl
 
 -- nor does a row that may be claimed
 pub eligible_idle : (tables : Tables) (now : ℕ) (row : FileRow) → IsTrue (is_eligible tables now row) → is_active row.state ≡ false

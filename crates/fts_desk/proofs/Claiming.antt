@@ -1,7 +1,6 @@
 -- What a claim makes of the row at a place that was picked is the machine's step; and without settings no row is picked.
-use Rattle.std.proofs.Common.{◌≡◌, ℕ, zero, suc, ◌+◌, ◌<◌, Bool, true, false, cond, List, [], ◌∷◌, length, get_or, set, Option, Some, None, Ok, Err, refl, ap, sym, ◌∙◌, arith, subst}
-use Rattle.std.specs.Prelude.{◌==◌, ◌&&◌, not, nat_le, slice_get, filter, option_and_then}
-use Rattle.std.proofs.lemmas.Bool.{ne_eqb, eq-eqb}
+use Rattle.std.proofs.Common.{◌≡◌, ℕ, ◌+◌, ◌<◌, Bool, true, false, cond, List, [], ◌∷◌, length, get_or, set, Option, Some, None, Ok, Err, refl, ap, sym, ◌∙◌, subst}
+use Rattle.std.specs.Prelude.{◌&&◌, not, nat_le, slice_get, filter, option_and_then}
 use Rattle.std.proofs.lemmas.Option.{slice_get-get_or}
 use Rattle.fts_tables.specs.Tables.{Tables, AreNumberedFrom, is_submitted, is_same_link}
 use Rattle.fts_tables.specs.Limits.{has_slots, has_banned_end, has_known_ends, is_dest_busy, is_eligible}
@@ -13,39 +12,7 @@ use Rattle.fts_tables.specs.declared.commands.Answer.TheVariants.{Claimed}
 use Rattle.fts_tables.specs.declared.commands.Refusal.TheVariants.{Idle}
 use Rattle.fts_desk.specs.Prepared.{IsPrepared}
 use Rattle.fts_desk.specs.declared.desk.DeskFault.TheVariants.{Rule, Memory}
-
--- the row at a place has the id behind it
-id_at : (first : ℕ) (rows : List FileRow) (place : ℕ) (other : FileRow) → AreNumberedFrom (λ row. row.id) first rows → place < length rows
-    → (get_or rows place other).id ≡ first + place
-id_at first [] place other numbered inside = absurd (omega arith)
-id_at first (row ∷ rows) zero other numbered inside = numbered.0 ∙ omega arith
-id_at first (row ∷ rows) (suc place) other numbered inside = id_at (suc first) rows place other numbered.1 (omega arith) ∙ omega arith
-
--- a row whose id is not there is not changed
-change_none : (first : ℕ) (rows : List FileRow) (id : ℕ) (change : FileRow → FileRow) → AreNumberedFrom (λ row. row.id) first rows → id < first
-    → change_row id change rows ≡ rows
-change_none first [] id change numbered less = refl
-change_none first (row ∷ rows) id change numbered less =
-    let differs : (row.id == id) ≡ false = ne_eqb row.id id (λ same. omega (arith, numbered.0)) in
-    let below : id < suc first = omega arith in
-    ap (λ answer. cond answer (change row) row ∷ change_row id change rows) differs
-    ∙ ap (λ others. row ∷ others) (change_none (suc first) rows id change numbered.1 below)
-
--- changing the row of an id is changing the row at its place
-change_at : (first : ℕ) (rows : List FileRow) (place id : ℕ) (change : FileRow → FileRow) (other : FileRow) → AreNumberedFrom (λ row. row.id) first rows
-    → place < length rows → id ≡ first + place
-    → change_row id change rows ≡ set rows place (change (get_or rows place other))
-change_at first [] place id change other numbered inside is = absurd (omega arith)
-change_at first (row ∷ rows) zero id change other numbered inside is =
-    let same : (row.id == id) ≡ true = eq-eqb row.id id (omega (arith, numbered.0)) in
-    ap (λ answer. cond answer (change row) row ∷ change_row id change rows) same
-    ∙ ap (λ others. change row ∷ others) (change_none (suc first) rows id change numbered.1 (omega arith))
-change_at first (row ∷ rows) (suc place) id change other numbered inside is =
-    let differs : (row.id == id) ≡ false = ne_eqb row.id id (λ same. omega (arith, numbered.0)) in
-    let within : place < length rows = omega arith in
-    let next : id ≡ suc first + place = omega arith in
-    ap (λ answer. cond answer (change row) row ∷ change_row id change rows) differs
-    ∙ ap (λ others. row ∷ others) (change_at (suc first) rows place id change other numbered.1 within next)
+use Rattle.fts_desk.proofs.ChangedRows.{id_at, change_at-set, change_row-place}
 
 -- the machine's claim of the row at a place that was picked
 pub claim_at : (tables : Tables) (now word place : ℕ) (row after other : FileRow) → AreNumberedFrom (λ row. row.id) 1 tables.rows → place < length tables.rows
@@ -53,9 +20,9 @@ pub claim_at : (tables : Tables) (now word place : ℕ) (row after other : FileR
     → claim tables now (pick tables now word) ≡ Ok (with_rows tables now (set tables.rows place after), Claimed row.id (row.attempt + 1))
 claim_at tables now word place row after other numbered inside picked is done =
     let there : slice_get tables.rows place ≡ Some row = slice_get-get_or tables.rows place other inside ∙ ap (λ found. Some found) (sym is) in
-    let id : row.id ≡ 1 + place = ap (λ (found : FileRow). found.id) is ∙ id_at 1 tables.rows place other numbered inside in
+    let id = id_at 1 tables.rows place row numbered there in
     let left : change_row row.id claimed tables.rows ≡ set tables.rows place after =
-    change_at 1 tables.rows place row.id claimed other numbered inside id ∙ ap (set tables.rows place) (ap claimed (sym is) ∙ sym done) in
+    change_row-place 1 tables.rows place row.id claimed numbered id ∙ sym (change_at-set tables.rows place claimed other after inside (done ∙ ap claimed is)) in
     ap (claim tables now) (picked ∙ there) ∙ ap (λ (rows : List FileRow). Ok (with_rows tables now rows, Claimed row.id (row.attempt + 1))) left
 
 -- a test that no item passes keeps none

@@ -1,8 +1,7 @@
 -- What a command makes of the job that it names, where that is found; and the answer of a cancellation that is accepted.
 use Rattle.std.proofs.Common.{◌≡◌, ℕ, zero, suc, ◌+◌, ◌-◌, ◌<◌, ◌≤◌, Bool, true, false, cond, List, [], ◌∷◌, length, get_or, set, map, arith, Option, Some, None, Ok, Err, refl, ap, sym, ◌∙◌}
 use Rattle.std.specs.Prelude.{◌==◌, option_map}
-use Rattle.std.proofs.lemmas.Bool.{eqb-true, eq-eqb, ne_eqb}
-use Rattle.std.proofs.lemmas.Option.{same_Some}
+use Rattle.std.proofs.lemmas.Bool.{eq-eqb, ne_eqb}
 use Rattle.fts_tables.specs.Tables.{Tables, job_at, row_at, rows_of_job, AreNumberedFrom}
 use Rattle.fts_tables.specs.Moves.{change_row, cancelled, is_settled_job}
 use Rattle.fts_tables.specs.Step.{Outcomes, on_job, with_rows, cancel_rows, cancel_row, cancel_one, cancel_file, with_priority, set_priority}
@@ -18,7 +17,7 @@ use Rattle.fts_tables.specs.declared.rows.Reason.TheVariants.{Cancelled as Cance
 use Rattle.fts_tables.specs.declared.commands.Refusal.TheVariants.{NoJob, NoFile, Unchanged}
 use Rattle.fts_desk.specs.Cancels.{cancelled_of, after_file}
 use Rattle.fts_desk.specs.Standing.{prioritized}
-use Rattle.fts_desk.proofs.Numbered.{number_at, within_found}
+use Rattle.fts_desk.proofs.Numbered.{found-number, number_at, within_found}
 
 -- what a command makes of a job that may be missing
 abbrev pub on_option : (JobRow → Outcomes) → Option JobRow → Outcomes
@@ -66,13 +65,7 @@ job_cancelled tables now number accepted = by_job (job_at tables.jobs number) re
 
 -- the row that is found by an id has it
 pub id_at : (rows : List FileRow) (id : ℕ) (row : FileRow) → row_at rows id ≡ Some row → row.id ≡ id
-id_at [] id row is = cc
-id_at (head ∷ rows) id row is = by_head (id_at rows id row) (head.id == id) refl is
-  where
-    by_head : (row_at rows id ≡ Some row → row.id ≡ id) → (answer : Bool) → (head.id == id) ≡ answer → cond answer (Some head) (row_at rows id) ≡ Some row
-        → row.id ≡ id
-    by_head behind true same at = ap (λ (found : FileRow). found.id) (sym (same_Some head row at)) ∙ eqb-true head.id id same
-    by_head behind false other at = behind at
+id_at rows id row is = found-number (λ (other : FileRow). other.id) rows id row is
 
 -- the row that is cancelled alone
 row_cancelled : (tables : Tables) (now : ℕ) (job : JobRow) (row : FileRow) → IsAccepted (cancel_row tables now job row)

@@ -12,7 +12,7 @@ use Rattle.fts_tables.specs.declared.rows.JobRow.{JobRow}
 use Rattle.fts_tables.specs.declared.rows.JobKind.{JobKind}
 use Rattle.fts_tables.specs.declared.rows.JobState.{JobState}
 use Rattle.fts_tables.specs.declared.rows.JobState.TheVariants.{Submitted, Active, Canceled}
-use Rattle.fts_desk.specs.Counted.{is_live_of, progress_of, AreStatesOf}
+use Rattle.fts_desk.specs.Counted.{is_live_of, progress_of, AreStatesOf, AreStatesBefore}
 use Rattle.fts_desk.specs.JobLists.{JobList}
 use Rattle.fts_desk.proofs.Numbered.{number_at}
 use Rattle.fts_desk.specs.declared.job_states.Progress.{Progress}
@@ -195,37 +195,43 @@ job_has_rows rows place number inside own = elim (slice_get_cases rows place).1 
 ]
 
 -- jobs that stood as their rows said before one of them changed
-module _ (jobs : List JobRow) (rows : List FileRow) (place : ℕ) (row before : FileRow) (list : JobList) (numbered : AreNumberedFrom (λ job. job.number) 1 jobs)
-    (at_row : slice_get rows place ≡ Some row) (same : before.job ≡ row.job) (states : AreStatesOf jobs (set rows place before) list) where
+module _ {jobs : List JobRow} {rows : List FileRow} {place : ℕ} {was_live : Bool} {list : JobList} (numbered : AreNumberedFrom (λ job. job.number) 1 jobs)
+    (earlier : AreStatesBefore jobs rows place was_live list) {row : FileRow} (at_row : slice_get rows place ≡ Some row) where
   -- the rows follow the jobs as before
   pub follow_now : RowsFollow jobs rows
-  follow_now = record { firsts = states.follow.firsts; owners = sym (owners-set rows place row before at_row same) ∙ states.follow.owners }
+  follow_now = record {
+    firsts = earlier.of_rows.follow.firsts;
+    owners = sym (owners-set rows place row earlier.before at_row (earlier.job row at_row)) ∙ earlier.of_rows.follow.owners;
+  }
 
   -- how many rows of the job are live, with the one that changed
   pub live_now : (number : ℕ) → row.job ≡ number
-      → count_by (is_live_of number) (set rows place before) + cond (is_live row.state) 1 0 ≡ count_by (is_live_of number) rows + cond (is_live before.state) 1 0
+      → count_by (is_live_of number) (set rows place earlier.before) + cond (is_live row.state) 1 0
+      ≡ count_by (is_live_of number) rows + cond (is_live earlier.before.state) 1 0
   live_now number own =
-      omega (arith, count_by-set (is_live_of number) rows place row before at_row, counted row own, counted before (same ∙ own))
+      let was = counted earlier.before (earlier.job row at_row ∙ own) in
+      omega (arith, count_by-set (is_live_of number) rows place row earlier.before at_row, counted row own, was)
     where
       counted : (some : FileRow) → some.job ≡ number → ◌≡◌ {A = ℕ} (cond (is_live_of number some) 1 0) (cond (is_live some.state) 1 0)
       counted some is = ap (λ answer. cond (answer && is_live some.state) 1 0) (eq-eqb some.job number is)
 
   -- what is kept of the job at a place
   pub live_kept : (at : ℕ) (job : JobRow) (kept : Progress) → slice_get jobs at ≡ Some job → slice_get list.jobs at ≡ Some kept
-      → kept.live ≡ count_by (is_live_of job.number) (set rows place before)
+      → kept.live ≡ count_by (is_live_of job.number) (set rows place earlier.before)
   live_kept at job kept there is =
       ap (λ (progress : Progress). progress.live)
-      (same_Some kept (progress_of (set rows place before) job)
-      (sym is ∙ (ap (λ (all : List Progress). slice_get all at) states.stand ∙ mapped_at (progress_of (set rows place before)) jobs at job there)))
+      (same_Some kept (progress_of (set rows place earlier.before) job)
+      (sym is ∙ (ap (λ (all : List Progress). slice_get all at) earlier.of_rows.stand
+      ∙ mapped_at (progress_of (set rows place earlier.before)) jobs at job there)))
 
   -- the job stands as it does now
   pub restated : (at : ℕ) (job : JobRow) (after : JobList) → row.job ≡ at + 1 → slice_get jobs at ≡ Some job
       → after ≡ record list { jobs = set list.jobs at (progress_of rows job) } → AreStatesOf jobs rows after
   restated at job after own there is = record {
     stand = ap (λ (list : JobList). list.jobs) is
-        ∙ (ap (λ (all : List Progress). set all at (progress_of rows job)) states.stand
-        ∙ one_stands row.job (progress_of (set rows place before)) (progress_of rows)
-        (λ job apart. other_stands rows place row before job at_row same apart) 1 jobs at job numbered (omega (arith, own)) there);
+        ∙ (ap (λ (all : List Progress). set all at (progress_of rows job)) earlier.of_rows.stand
+        ∙ one_stands row.job (progress_of (set rows place earlier.before)) (progress_of rows)
+        (λ job apart. other_stands rows place row earlier.before job at_row (earlier.job row at_row) apart) 1 jobs at job numbered (omega (arith, own)) there);
     follow = follow_now;
   }
 
@@ -243,15 +249,14 @@ module _ (jobs : List JobRow) (rows : List FileRow) (place : ℕ) (row before : 
     pub own_read : row.job ≡ job_read.number
     own_read = sym (number_at jobs row.job job_read found_read)
 
-    pub live_read : (kept : Progress) (was_live : Bool) → was_live ≡ is_live before.state → slice_get list.jobs at ≡ Some kept → (some : FileRow)
-        → slice_get rows place ≡ Some some
+    pub live_read : (kept : Progress) → slice_get list.jobs at ≡ Some kept → (some : FileRow) → slice_get rows place ≡ Some some
         → kept.live + cond (is_live some.state) 1 0 ≡ count_by (is_live_of job_read.number) rows + cond was_live 1 0
-    live_read kept was_live was read some at_some =
+    live_read kept read some at_some =
         let same_row : some ≡ row = same_Some some row (sym at_some ∙ at_row) in
         let now : ◌≡◌ {A = ℕ} (cond (is_live some.state) 1 0) (cond (is_live row.state) 1 0) =
         ap (λ (row : FileRow). cond (is_live row.state) 1 0) same_row in
-        let earlier : ◌≡◌ {A = ℕ} (cond was_live 1 0) (cond (is_live before.state) 1 0) = ap (λ live. cond live 1 0) was in
-        omega (arith, now, earlier, live_kept at job_read kept there_read read, live_now job_read.number own_read)
+        let was : ◌≡◌ {A = ℕ} (cond was_live 1 0) (cond (is_live earlier.before.state) 1 0) = ap (λ live. cond live 1 0) earlier.live in
+        omega (arith, now, was, live_kept at job_read kept there_read read, live_now job_read.number own_read)
 
     pub restated_read : (after : JobList) → row.job ≡ at + 1 → (new : Progress) → new ≡ progress_of rows job_read
         → after ≡ record list { jobs = set list.jobs at new } → AreStatesOf jobs rows after
@@ -261,7 +266,7 @@ module _ (jobs : List JobRow) (rows : List FileRow) (place : ℕ) (row before : 
   -- where the row has no job, each stands as before
   pub restated_none : job_at jobs row.job ≡ None → AreStatesOf jobs rows list
   restated_none none = record {
-    stand = states.stand ∙ none_stands row.job (progress_of (set rows place before)) (progress_of rows)
-        (λ job apart. other_stands rows place row before job at_row same apart) jobs none;
+    stand = earlier.of_rows.stand ∙ none_stands row.job (progress_of (set rows place earlier.before)) (progress_of rows)
+        (λ job apart. other_stands rows place row earlier.before job at_row (earlier.job row at_row) apart) jobs none;
     follow = follow_now;
   }

@@ -22,6 +22,11 @@ by_place old new at changed here others Holds there elsewhere other = by_test (o
         clash : true ≡ false → ⊥
         clash same = cc
 
+-- a place may come in among those at a rank: it isn't there, and there is room for it
+pub record MayComeIn (place : ℕ) (set : KeySet ℕ) : Type 0 where
+  pub absent : has_key nat_lt place set.keys ≡ false
+  pub room : length set.keys < set.room
+
 -- a job that goes from one state to another
 module _ (jobs : List Progress) (place : ℕ) (was now : Progress) (from to room : ℕ) (there : slice_get jobs place ≡ Some was)
     (from_is : from ≡ rank was.state) (to_is : to ≡ rank now.state) (from_in : from < 6) (to_in : to < 6) (apart : from ≢ to)
@@ -38,24 +43,14 @@ module _ (jobs : List Progress) (place : ℕ) (was now : Progress) (from to room
     still : places_at taken to ≡ places_at old to
     still = taken_others to (λ same. apart (sym same))
 
-    -- its place isn't there
-    pub may_put : has_key nat_lt place (places_at taken to).keys ≡ false
+    -- its place may come in there
+    pub may_put : MayComeIn place (places_at taken to)
     may_put =
-        ap (λ (set : KeySet ℕ). has_key nat_lt place set.keys) still
-        ∙ (ap (has_key nat_lt place) (kept to to_in)
-        ∙ (place_there to jobs 0 place place was (omega arith) there ∙ ne_eqb (rank was.state) to (λ same. apart (from_is ∙ same))))
-
-    -- and there is room for it
-    pub room_to_put : length (places_at taken to).keys < (places_at taken to).room
-    room_to_put =
-        subst (λ (set : KeySet ℕ). length set.keys < set.room) (sym still)
-        (omega (
-          arith,
-          rooms to to_in,
-          few,
-          ap length (kept to to_in),
-          fewer_places to jobs 0 place was there (ne_eqb (rank was.state) to (λ same. apart (from_is ∙ same))),
-        ))
+        let differs = ne_eqb (rank was.state) to (λ same. apart (from_is ∙ same)) in
+        subst (MayComeIn place) (sym still) (record {
+          absent = ap (has_key nat_lt place) (kept to to_in) ∙ (place_there to jobs 0 place place was (omega arith) there ∙ differs);
+          room = omega (arith, rooms to to_in, few, ap length (kept to to_in), fewer_places to jobs 0 place was there differs);
+        })
 
     module _ (put : List (KeySet ℕ)) (put_here : places_at put to ≡ with_keys (put_by nat_lt place (places_at taken to).keys) (places_at taken to))
         (put_others : (other : ℕ) → other ≢ to → places_at put other ≡ places_at taken other) where
@@ -97,13 +92,12 @@ places_same jobs place was now sets there same kept at inside =
 -- a job that comes in behind the others
 module _ (jobs : List Progress) (job : Progress) (place to room : ℕ) (is : place ≡ length jobs) (to_is : to ≡ rank job.state) (to_in : to < 6)
     (old : List (KeySet ℕ)) (kept : ArePlacesOf jobs old) (rooms : HaveRooms room old) (few : length jobs < room) where
-  -- its place isn't there
-  pub may_add : has_key nat_lt place (places_at old to).keys ≡ false
-  may_add = ap (has_key nat_lt place) (kept to to_in) ∙ absent_behind to jobs 0 place (omega (arith, is))
-
-  -- and there is room for it
-  pub room_to_add : length (places_at old to).keys < (places_at old to).room
-  room_to_add = omega (arith, rooms to to_in, few, ap length (kept to to_in), few_places to jobs 0)
+  -- its place may come in
+  pub may_add : MayComeIn place (places_at old to)
+  may_add = record {
+    absent = ap (has_key nat_lt place) (kept to to_in) ∙ absent_behind to jobs 0 place (omega (arith, is));
+    room = omega (arith, rooms to to_in, few, ap length (kept to to_in), few_places to jobs 0);
+  }
 
   module _ (put : List (KeySet ℕ)) (put_here : places_at put to ≡ with_keys (put_by nat_lt place (places_at old to).keys) (places_at old to))
       (put_others : (other : ℕ) → other ≢ to → places_at put other ≡ places_at old other) where

@@ -11,7 +11,7 @@ use Rattle.fts_tables.specs.declared.rows.JobRow.{JobRow}
 use Rattle.fts_tables.specs.declared.rows.FileState.TheVariants.{Submitted, Failed}
 use Rattle.fts_tables.specs.declared.rows.Reason.TheVariants.{Ended}
 use Rattle.fts_tables.specs.declared.rows.Outcome.{Outcome}
-use Rattle.fts_tables.specs.declared.rows.Outcome.TheVariants.{Verified, SourceMissing, DestinationExists, SourceSize, SourceDigest, ReadBackDiffers, StoreFailed, Stopped}
+use Rattle.fts_tables.specs.declared.rows.Outcome.TheVariants.{Verified}
 use Rattle.fts_desk.specs.Standing.{StandTogether, AreFormed}
 
 -- a failure that may be tried again, or not, is the same file's
@@ -31,13 +31,7 @@ failed_file job now outcome row =
 -- each outcome leaves the file
 ended_file : (job : JobRow) (now : ℕ) (outcome : Outcome) (row : FileRow) → file_of (reported_without_cancel job now outcome row) ≡ file_of row
 ended_file job now (Verified size digest) row = refl
-ended_file job now SourceMissing row = failed_file job now SourceMissing row
-ended_file job now DestinationExists row = failed_file job now DestinationExists row
-ended_file job now (SourceSize seen) row = failed_file job now (SourceSize seen) row
-ended_file job now (SourceDigest seen) row = failed_file job now (SourceDigest seen) row
-ended_file job now (ReadBackDiffers at) row = failed_file job now (ReadBackDiffers at) row
-ended_file job now StoreFailed row = failed_file job now StoreFailed row
-ended_file job now Stopped row = failed_file job now Stopped row
+ended_file job now other row = failed_file job now other row
 
 -- a cancellation leaves it as well
 asked_file : (job : JobRow) (now : ℕ) (outcome : Outcome) (row : FileRow) (asked : Bool)

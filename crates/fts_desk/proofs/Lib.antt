@@ -13,6 +13,7 @@ mod JobSets
 mod JobsFound
 mod JobProgress
 mod KeptFiles
+mod LentTables
 mod NewProgress
 mod NewRows
 mod Numbered

@@ -2,7 +2,7 @@
 use Rattle.std.proofs.Common.{◌≡◌, ◌≢◌, ℕ, zero, suc, ◌+◌, ◌-◌, ◌<◌, ◌≤◌, Bool, true, false, cond, List, [], ◌∷◌, ◌++◌, length, map, take, drop, Some, None, refl, ap, sym, ◌∙◌, arith, subst, append-nil, length-drop}
 use Rattle.std.specs.Prelude.{◌==◌, ◌&&◌, nat_le, find, replicate, slice_get, option_and_then}
 use Rattle.std.proofs.Math.Seq.{drop-nil}
-use Rattle.std.proofs.lemmas.Bool.{eqb-true, eqb-false, ne_eqb, leb-false, leb-true, and_parts}
+use Rattle.std.proofs.lemmas.Bool.{eqb-true, eqb-false, eq-eqb, ne_eqb, leb-false, leb-true, and_parts}
 use Rattle.std.proofs.lemmas.Option.{same_Some}
 use Rattle.fts_tables.specs.Tables.{Tables, AreNumberedFrom, AreFirstsFrom, AreWellFormed, owners, job_at, rows_of_job}
 use Rattle.fts_tables.specs.declared.rows.FileRow.{FileRow}
@@ -12,34 +12,38 @@ use Rattle.fts_desk.specs.Standing.{place_in, StandTogether}
 use Rattle.fts_desk.specs.Bounds.{HaveFiles}
 
 module _ {Item : Type 0} (number_of : Item → ℕ) where
+  -- an item of another number is passed
+  find-past : (item : Item) (items : List Item) (number : ℕ) → number_of item ≢ number
+      → find (λ item. number_of item == number) (item ∷ items) ≡ find (λ item. number_of item == number) items
+  find-past item items number apart =
+      ap (λ answer. cond answer (Some item) (find (λ item. number_of item == number) items)) (ne_eqb (number_of item) number apart)
+
   -- a number below the first is found nowhere
   pub find-below : (start : ℕ) (items : List Item) (number : ℕ) → AreNumberedFrom number_of start items → number < start
       → find (λ item. number_of item == number) items ≡ None
   find-below start [] number numbered below = refl
-  find-below start (item ∷ items) number numbered below = by_head (find-below (suc start) items number numbered.1 (omega arith)) (number_of item == number) refl
-    where
-      by_head : find (λ item. number_of item == number) items ≡ None → (answer : Bool) → (number_of item == number) ≡ answer
-          → cond answer (Some item) (find (λ item. number_of item == number) items) ≡ None
-      by_head behind true same = absurd (omega (arith, eqb-true (number_of item) number same, numbered.0))
-      by_head behind false other = behind
+  find-below start (item ∷ items) number numbered below =
+      find-past item items number (λ same. omega (arith, numbered.0)) ∙ find-below (suc start) items number numbered.1 (omega arith)
 
   -- a number is found as far behind the first as it is above it
   pub find-at : (start : ℕ) (items : List Item) (number place : ℕ) → AreNumberedFrom number_of start items → number ≡ start + place
       → find (λ item. number_of item == number) items ≡ slice_get items place
   find-at start [] number zero numbered is = refl
   find-at start [] number (suc place) numbered is = refl
-  find-at start (item ∷ items) number zero numbered is = by_head (number_of item == number) refl
-    where
-      by_head : (answer : Bool) → (number_of item == number) ≡ answer → cond answer (Some item) (find (λ item. number_of item == number) items) ≡ Some item
-      by_head true same = refl
-      by_head false other = absurd (eqb-false (number_of item) number other (omega (arith, numbered.0)))
+  find-at start (item ∷ items) number zero numbered is =
+      ap (λ answer. cond answer (Some item) (find (λ item. number_of item == number) items)) (eq-eqb (number_of item) number (omega (arith, numbered.0)))
   find-at start (item ∷ items) number (suc place) numbered is =
-      by_head (find-at (suc start) items number place numbered.1 (omega arith)) (number_of item == number) refl
+      find-past item items number (λ same. omega (arith, numbered.0)) ∙ find-at (suc start) items number place numbered.1 (omega arith)
+
+  -- what is found by a number has it
+  pub found-number : (items : List Item) (number : ℕ) (found : Item) → find (λ item. number_of item == number) items ≡ Some found → number_of found ≡ number
+  found-number [] number found is = cc
+  found-number (item ∷ items) number found is = by_head (found-number items number found) (number_of item == number) refl is
     where
-      by_head : find (λ item. number_of item == number) items ≡ slice_get items place → (answer : Bool) → (number_of item == number) ≡ answer
-          → cond answer (Some item) (find (λ item. number_of item == number) items) ≡ slice_get items place
-      by_head behind true same = absurd (omega (arith, eqb-true (number_of item) number same, numbered.0))
-      by_head behind false other = behind
+      by_head : (find (λ item. number_of item == number) items ≡ Some found → number_of found ≡ number) → (answer : Bool) → (number_of item == number) ≡ answer
+          → cond answer (Some item) (find (λ item. number_of item == number) items) ≡ Some found → number_of found ≡ number
+      by_head behind true same here = ap number_of (sym (same_Some item found here)) ∙ eqb-true (number_of item) number same
+      by_head behind false other there = behind there
 
   -- past the end there is nothing
   slice_get-beyond : (items : List Item) (place : ℕ) → length items ≤ place → slice_get items place ≡ None
@@ -130,13 +134,7 @@ none_owned start (job ∷ jobs) rows wanted numbered owned below =
 
 -- the job that is found by a number has it
 pub number_at : (jobs : List JobRow) (number : ℕ) (job : JobRow) → job_at jobs number ≡ Some job → job.number ≡ number
-number_at [] number job is = cc
-number_at (head ∷ jobs) number job is = by_head (number_at jobs number job) (head.number == number) refl is
-  where
-    by_head : (job_at jobs number ≡ Some job → job.number ≡ number) → (answer : Bool) → (head.number == number) ≡ answer
-        → cond answer (Some head) (job_at jobs number) ≡ Some job → job.number ≡ number
-    by_head behind true same at = ap (λ (found : JobRow). found.number) (sym (same_Some head job at)) ∙ eqb-true head.number number same
-    by_head behind false other at = behind at
+number_at jobs number job is = found-number (λ (other : JobRow). other.number) jobs number job is
 
 -- what is left of a list behind some items and behind others more
 drop-drop : {Item : Type 0} (some more : ℕ) (items : List Item) → drop more (drop some items) ≡ drop (some + more) items

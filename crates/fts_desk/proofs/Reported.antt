@@ -13,10 +13,10 @@ use Rattle.fts_tables.specs.declared.commands.Answer.{Answer}
 use Rattle.fts_tables.specs.declared.commands.Answer.TheVariants.{Reported}
 
 -- what stands at the place that a look-up in a lent list gave is what the list's own look-up finds
-pub found_there : {Item : Type 0} (find_in : List Item → Option Item) (lent items : List Item) (place : ℕ) (item : Item) → lent ≡ items
+pub found_there : {Item : Type 0} (find_in : List Item → Option Item) {lent items : List Item} (place : ℕ) (item : Item) → lent ≡ items
     → slice_get lent place ≡ find_in lent → place < length lent
     → item ≡ get_or items place item → find_in items ≡ Some item
-found_there find_in lent items place item same found inside here =
+found_there find_in {items} place item same found inside here =
     let within : place < length items = omega (arith, ap length same) in
     sym (subst (λ some. slice_get some place ≡ find_in some) same found) ∙ slice_get_read items (length items) place item refl within here
 

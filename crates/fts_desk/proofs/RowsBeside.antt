@@ -20,7 +20,7 @@ use Rattle.fts_tables.specs.declared.rows.FileState.{FileState}
 use Rattle.fts_tables.specs.declared.rows.FileState.TheVariants.{Submitted, Failed}
 use Rattle.fts_tables.specs.declared.rows.Reason.TheVariants.{Ended}
 use Rattle.fts_tables.specs.declared.rows.Outcome.{Outcome}
-use Rattle.fts_tables.specs.declared.rows.Outcome.TheVariants.{Verified, SourceMissing, DestinationExists, SourceSize, SourceDigest, ReadBackDiffers, StoreFailed, Stopped}
+use Rattle.fts_tables.specs.declared.rows.Outcome.TheVariants.{Verified}
 use Rattle.fts_states.specs.Afters.{follow_of, follow_of_finish, follow_of_failure}
 use Rattle.fts_states.specs.declared.reports.Follow.TheVariants.{Nothing}
 use Rattle.fts_slots.specs.SlotsData.{SlotsData}
@@ -28,6 +28,7 @@ use Rattle.fts_queue.specs.declared.waiter.Waiter.{Waiter}
 use Rattle.fts_queue.specs.WaitingData.{room_of, waiting_in, in_order}
 use Rattle.fts_claims.specs.Ties.{link_of, activity_of, waiters_of, active_rows, AreOfActive}
 use Rattle.fts_claims.specs.Changes.{HasQueueRoom}
+use Rattle.fts_claims.proofs.RoomForFiles.{risen_twice as risen_parts_twice}
 use Rattle.fts_claims.specs.declared.parts.ClaimParts.{ClaimParts}
 use Rattle.fts_desk.specs.Parts.{limits_of, AreTiedParts, AreInLineParts, HasRoomToWait, MayWaitIn, HaveSameRooms, HaveRisenRooms, HasRoomToFollow, IsFollowOf, HasRoomToReport}
 use Rattle.fts_desk.specs.Places.{change_at, woken}
@@ -81,22 +82,7 @@ risen_twice None None (Some new) first second = absurd second
 risen_twice None (Some between) new first second = absurd first
 risen_twice (Some old) None new first second = absurd first
 risen_twice (Some old) (Some between) None first second = absurd second
-risen_twice (Some old) (Some between) (Some new) first second = record {
-  waiters = second.waiters ∙ first.waiters;
-  moment = second.moment ∙ first.moment;
-  rooms = λ link activity. omega (arith, first.rooms link activity, second.rooms link activity);
-  slots = second.slots ∙ first.slots;
-  places = second.places ∙ first.places;
-  busy = omega (arith, first.busy, second.busy);
-  line = record {
-    dests = second.line.dests ∙ first.line.dests;
-    flags = second.line.flags ∙ first.line.flags;
-    places = omega (arith, first.line.places, second.line.places);
-    rows = omega (arith, first.line.rows, second.line.rows);
-    keys = second.line.keys ∙ first.line.keys;
-    numbers = omega (arith, first.line.numbers, second.line.numbers);
-  };
-}
+risen_twice (Some old) (Some between) (Some new) first second = risen_parts_twice old between new first second
 
 -- where rooms have risen there is room as before
 pub risen_room : (count : ℕ) (row : FileRow) (old new : Option ClaimParts) → HaveRisenRooms old new → HasRoomToWait count row old → HasRoomToWait count row new
@@ -181,13 +167,7 @@ failed_idle job now outcome row =
 -- whatever the outcome
 ended_idle : (job : JobRow) (now : ℕ) (outcome : Outcome) (row : FileRow) → is_active (reported_without_cancel job now outcome row).state ≡ false
 ended_idle job now (Verified size digest) row = refl
-ended_idle job now SourceMissing row = failed_idle job now SourceMissing row
-ended_idle job now DestinationExists row = failed_idle job now DestinationExists row
-ended_idle job now (SourceSize seen) row = failed_idle job now (SourceSize seen) row
-ended_idle job now (SourceDigest seen) row = failed_idle job now (SourceDigest seen) row
-ended_idle job now (ReadBackDiffers at) row = failed_idle job now (ReadBackDiffers at) row
-ended_idle job now StoreFailed row = failed_idle job now StoreFailed row
-ended_idle job now Stopped row = failed_idle job now Stopped row
+ended_idle job now other row = failed_idle job now other row
 
 -- a reported row doesn't run
 pub reported_idle : (job : JobRow) (now : ℕ) (outcome : Outcome) (row : FileRow) → is_active (reported job now outcome row).state ≡ false

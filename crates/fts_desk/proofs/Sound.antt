@@ -51,6 +51,11 @@ pub made_as : (T U : Type 0) (outcome : Outcomes) (made : T) (other : U) → IsP
 made_as T U (Ok done) made other prepared = tt
 made_as T U (Err refusal) made other prepared = absurd prepared
 
+-- what answers a command answers the one that it is
+pub answered_as : (tables : Tables) (command : Command) {other : Command} (result : Result Decided DeskFault) → command ≡ other
+    → IsPrepared {T = Decided} (step tables other) result → IsPrepared {T = Decided} (step tables command) result
+answered_as tables command result is prepared = subst (λ command. IsPrepared {T = Decided} (step tables command) result) (sym is) prepared
+
 -- what was prepared is accepted
 accepted_of : (outcome : Outcomes) (decided : Decided) → IsPrepared {T = Decided} outcome (Ok decided) → IsAccepted outcome
 accepted_of (Ok done) decided prepared = tt

@@ -29,6 +29,8 @@ use Rattle.fts_index.specs.DueLists.{DueList}
 use Rattle.fts_index.specs.RowDues.{AreDuesOf, MayAdd, HasAdded}
 use Rattle.fts_desk.specs.Counted.{HasRoomForDues}
 use Rattle.fts_desk.specs.Parts.{AreTiedParts, AreInLineParts, HaveRoomForFiles, HaveRoomForRows}
+use Rattle.fts_desk.specs.Submitted.{HasComeIn}
+use Rattle.fts_desk.specs.declared.kept.Beside.{Beside}
 use Rattle.fts_desk.specs.Places.{woken}
 use Rattle.fts_desk.proofs.KeptFiles.{numbered-map, one_file}
 use Rattle.fts_desk.proofs.NewRows.{new_rows-numbered}
@@ -110,7 +112,7 @@ submitted-owned job id (row ∷ rows) owned =
     (ap (λ (file : FileOfRow). file.job) (one_file id woken woken_file row) ∙ owned.0, submitted-owned job id rows owned.1)
 
 -- a new job's rows are its own
-pub kind-owned : (kind : JobKind) (rows : List FileRow) (number id : ℕ) (job : JobData)
+kind-owned : (kind : JobKind) (rows : List FileRow) (number id : ℕ) (job : JobData)
     → AllByRecursion (λ row. row.job ≡ number) (rows_of_kind kind rows number id job)
 kind-owned Plain rows number id job = new_rows-owned number id Submitted job.files
 kind-owned Multihop rows number id job = submitted-owned number id (new_rows number id NotUsed job.files) (new_rows-owned number id NotUsed job.files)
@@ -224,87 +226,95 @@ more_stay_tied tables job (Some parts) formed law tied =
     law tables.jobs (job ∷ []) tables.rows parts (rows_have_jobs tables formed) tied
 
 -- the rows and jobs after a submission, where the new ones stand behind those that were there
-module _ (tables : Tables) (formed : AreWellFormed tables) (kind : JobKind) (number id from : ℕ) (new : JobData) (job : JobRow) (jobs : List JobRow)
-    (rows : List FileRow) (parts : Option ClaimParts) (with_job : jobs ≡ tables.jobs ++ job ∷ [])
-    (with_rows : rows ≡ tables.rows ++ rows_of_kind kind tables.rows number id new)
-    (numbers : job.number ≡ length tables.jobs + 1) (first : id ≡ length tables.rows + 1) (at : from ≡ length tables.rows) where
+module _ {jobs : List JobRow} {rows : List FileRow} {from : ℕ} {job : JobRow} {beside : Beside} (added : HasComeIn jobs rows from job beside) where
+  -- the new rows
+  abbrev pub newest : List FileRow
+  newest = rows_of_kind job.kind added.tables.rows job.number (length added.tables.rows + 1) added.new
+
   -- the jobs are numbered
   pub submitted_jobs : AreNumberedFrom (λ (job : JobRow). job.number) 1 jobs
-  submitted_jobs = subst (λ jobs. AreNumberedFrom (λ (job : JobRow). job.number) 1 jobs) (sym with_job)
-      (numbered-append (λ (job : JobRow). job.number) 1 job.number tables.jobs (job ∷ []) (omega (arith, numbers)) formed.jobs (refl, tt))
+  submitted_jobs = subst (λ jobs. AreNumberedFrom (λ (job : JobRow). job.number) 1 jobs) (sym added.with_job)
+      (numbered-append (λ (job : JobRow). job.number) 1 job.number added.tables.jobs (job ∷ []) (omega (arith, added.number)) added.formed.jobs (refl, tt))
 
   -- and so are the rows
   pub submitted_rows : AreNumberedFrom (λ (row : FileRow). row.id) 1 rows
-  submitted_rows = subst (λ rows. AreNumberedFrom (λ (row : FileRow). row.id) 1 rows) (sym with_rows)
-      (numbered-append (λ (row : FileRow). row.id) 1 id tables.rows (rows_of_kind kind tables.rows number id new) (omega (arith, first)) formed.rows
-      (kind-numbered kind tables.rows number id new))
+  submitted_rows = subst (λ rows. AreNumberedFrom (λ (row : FileRow). row.id) 1 rows) (sym added.with_rows)
+      (numbered-append (λ (row : FileRow). row.id) 1 (length added.tables.rows + 1) added.tables.rows newest (omega arith) added.formed.rows
+      (kind-numbered job.kind added.tables.rows job.number (length added.tables.rows + 1) added.new))
+
+  -- they are their job's
+  pub newest_owned : AllByRecursion (λ row. row.job ≡ job.number) newest
+  newest_owned = kind-owned job.kind added.tables.rows job.number (length added.tables.rows + 1) added.new
 
   -- the rows from the first new one on
-  pub behind : drop from rows ≡ rows_of_kind kind tables.rows number id new
-  behind = ap (drop from) with_rows ∙ drop_at tables.rows (rows_of_kind kind tables.rows number id new) from (sym at)
+  pub behind : drop from rows ≡ newest
+  behind = ap (drop from) added.with_rows ∙ drop_at added.tables.rows newest from (sym added.behind)
 
   -- those before it
-  before : take from rows ≡ tables.rows
-  before = ap (take from) with_rows ∙ take_at tables.rows (rows_of_kind kind tables.rows number id new) from (sym at)
+  before : take from rows ≡ added.tables.rows
+  before = ap (take from) added.with_rows ∙ take_at added.tables.rows newest from (sym added.behind)
 
   -- none of the new rows runs
   pub submitted_idle : AllByRecursion (λ row. is_active row.state ≡ false) (drop from rows)
-  submitted_idle = subst AreIdle (sym behind) (kind-idle kind tables.rows number id new)
+  submitted_idle =
+      subst AreIdle (sym behind) (kind-idle job.kind added.tables.rows job.number (length added.tables.rows + 1) added.new)
 
   -- there is room for them
-  pub submitted_room : HaveRoomForFiles new.files parts → HaveRoomForRows (drop from rows) parts
-  submitted_room room = subst (λ rows. HaveRoomForRows rows parts) (sym behind) (room_for_kind kind tables.rows number id new parts room)
+  pub submitted_room : HaveRoomForRows (drop from rows) beside.parts
+  submitted_room = subst (λ rows. HaveRoomForRows rows beside.parts) (sym behind)
+      (room_for_kind job.kind added.tables.rows job.number (length added.tables.rows + 1) added.new beside.parts added.queues)
 
   -- and what is tied to the others stays so
   pub submitted_tied : ((jobs more : List JobRow) (rows : List FileRow) (parts : ClaimParts)
       → AllByRecursion (λ row. IsTrue (is_some (job_at jobs row.job))) rows → AreTiedTo jobs rows parts → AreTiedTo (jobs ++ more) rows parts)
-      → AreTiedParts tables.jobs tables.rows parts → AreTiedParts jobs (take from rows) parts
-  submitted_tied law tied = subst (λ others. AreTiedParts jobs others parts) (sym before)
-      (subst (λ others. AreTiedParts others tables.rows parts) (sym with_job) (more_stay_tied tables job parts formed law tied))
+      → AreTiedParts jobs (take from rows) beside.parts
+  submitted_tied law = subst (λ others. AreTiedParts jobs others beside.parts) (sym before)
+      (subst (λ others. AreTiedParts others added.tables.rows beside.parts) (sym added.with_job)
+      (more_stay_tied added.tables job beside.parts added.formed law added.earlier.parts))
 
   -- so does what is in line
-  pub submitted_line : AreInLineParts tables.rows parts → AreInLineParts (take from rows) parts
-  submitted_line lined = subst (λ others. AreInLineParts others parts) (sym before) lined
+  pub submitted_line : AreInLineParts (take from rows) beside.parts
+  submitted_line = subst (λ others. AreInLineParts others beside.parts) (sym before) added.earlier.line
 
   -- the moment of each new row is the job's
-  moments : number ≡ job.number → AllByRecursion (λ row. row_overdue_from jobs row ≡ overdue_from job) (rows_of_kind kind tables.rows number id new)
-  moments same = by_rows (rows_of_kind kind tables.rows number id new) (kind-owned kind tables.rows number id new)
+  moments : AllByRecursion (λ row. row_overdue_from jobs row ≡ overdue_from job) newest
+  moments = by_rows newest newest_owned
     where
       found : job_at jobs job.number ≡ Some job
-      found = ap (λ (others : List JobRow). job_at others job.number) with_job
-          ∙ job_behind 1 tables.jobs job formed.jobs (omega (arith, numbers))
+      found = ap (λ (others : List JobRow). job_at others job.number) added.with_job
+          ∙ job_behind 1 added.tables.jobs job added.formed.jobs (omega (arith, added.number))
 
-      by_rows : (some : List FileRow) → AllByRecursion (λ row. row.job ≡ number) some
+      by_rows : (some : List FileRow) → AllByRecursion (λ row. row.job ≡ job.number) some
           → AllByRecursion (λ row. row_overdue_from jobs row ≡ overdue_from job) some
       by_rows [] owned = tt
       by_rows (row ∷ some) owned = (
-        ap (λ at. option_map_or overdue_from (job_at jobs at) None) (owned.0 ∙ same) ∙ ap (λ at. option_map_or overdue_from at None) found,
+        ap (λ at. option_map_or overdue_from (job_at jobs at) None) owned.0 ∙ ap (λ at. option_map_or overdue_from at None) found,
         by_rows some owned.1,
       )
 
   -- the moments of the rows that were there stay theirs
-  still_dues : (list : DueList)
-      → ((jobs more : List JobRow) (rows : List FileRow) (list : DueList) → AllByRecursion (λ row. IsTrue (is_some (job_at jobs row.job))) rows
+  still_dues : ((jobs more : List JobRow) (rows : List FileRow) (list : DueList) → AllByRecursion (λ row. IsTrue (is_some (job_at jobs row.job))) rows
       → AreDuesOf jobs rows list → AreDuesOf (jobs ++ more) rows list)
-      → AreDuesOf tables.jobs tables.rows list → AreDuesOf jobs tables.rows list
-  still_dues list law of_rows = subst (λ others. AreDuesOf others tables.rows list) (sym with_job)
-      (law tables.jobs (job ∷ []) tables.rows list (rows_have_jobs tables formed) of_rows)
+      → AreDuesOf jobs added.tables.rows beside.counts.dues
+  still_dues law = subst (λ others. AreDuesOf others added.tables.rows beside.counts.dues) (sym added.with_job)
+      (law added.tables.jobs (job ∷ []) added.tables.rows beside.counts.dues (rows_have_jobs added.tables added.formed) added.earlier.counts.dues)
 
   -- the new rows may come in, where there is room for them if their job limits their hours
-  pub submitted_may : (list : DueList)
-      → ((jobs more : List JobRow) (rows : List FileRow) (list : DueList) → AllByRecursion (λ row. IsTrue (is_some (job_at jobs row.job))) rows
-      → AreDuesOf jobs rows list → AreDuesOf (jobs ++ more) rows list)
+  pub submitted_may : ((jobs more : List JobRow) (rows : List FileRow) (list : DueList)
+      → AllByRecursion (λ row. IsTrue (is_some (job_at jobs row.job))) rows → AreDuesOf jobs rows list → AreDuesOf (jobs ++ more) rows list)
       → ((jobs : List JobRow) (rows more : List FileRow) (moment : Option ℕ) (list : DueList) → AreNumberedFrom (λ row. row.id) 1 (rows ++ more)
       → AreDuesOf jobs rows list → (is_some moment ≡ true → list.files + length more ≤ list.room) → MayAdd more moment list)
-      → AreDuesOf tables.jobs tables.rows list → HasRoomForDues job.queue_hours (length (drop from rows)) list
-      → (moment : Option ℕ) → moment ≡ overdue_from job → MayAdd (drop from rows) moment list
-  submitted_may list more may of_rows room moment is =
-      subst (λ some. MayAdd some moment list) (sym behind)
-      (may jobs tables.rows (rows_of_kind kind tables.rows number id new) moment list
-      (subst (λ all. AreNumberedFrom (λ (row : FileRow). row.id) 1 all) with_rows submitted_rows)
-      (still_dues list more of_rows) (λ some. subst (λ others. list.files + length others ≤ list.room) behind
+      → (moment : Option ℕ) → moment ≡ overdue_from job → MayAdd (drop from rows) moment beside.counts.dues
+  submitted_may more may moment is =
+      subst (λ some. MayAdd some moment beside.counts.dues) (sym behind)
+      (may jobs added.tables.rows newest moment beside.counts.dues
+      (subst (λ all. AreNumberedFrom (λ (row : FileRow). row.id) 1 all) added.with_rows submitted_rows)
+      (still_dues more) (λ some. subst (λ others. beside.counts.dues.files + length others ≤ beside.counts.dues.room) behind
       (room (hours (ap is_some (sym is) ∙ some)))))
     where
+      room : HasRoomForDues job.queue_hours (length (drop from rows)) beside.counts.dues
+      room = λ differs. omega (arith, added.dues (λ none. differs (added.hours ∙ none)), length-drop from rows, added.long, added.behind)
+
       hours : is_some (overdue_from job) ≡ true → job.queue_hours ≢ 0
       hours some none = clash (sym (ap (λ answer. is_some (cond {A = Option ℕ} answer None
           (Some (min (job.submitted_at + 3600 * job.queue_hours) LAST_MOMENT)))) (eq-eqb job.queue_hours 0 none)) ∙ some)
@@ -313,14 +323,15 @@ module _ (tables : Tables) (formed : AreWellFormed tables) (kind : JobKind) (num
           clash same = cc
 
   -- and once they have, the moments are those of all rows
-  pub submitted_dues : (old list : DueList)
+  pub submitted_dues : (list : DueList)
       → ((jobs more : List JobRow) (rows : List FileRow) (list : DueList) → AllByRecursion (λ row. IsTrue (is_some (job_at jobs row.job))) rows
       → AreDuesOf jobs rows list → AreDuesOf (jobs ++ more) rows list)
       → ((jobs : List JobRow) (rows more : List FileRow) (moment : Option ℕ) (old new : DueList) → AreDuesOf jobs rows old
       → AllByRecursion (λ row. row_overdue_from jobs row ≡ moment) more → HasAdded more moment old new → AreDuesOf jobs (rows ++ more) new)
-      → AreDuesOf tables.jobs tables.rows old → number ≡ job.number → (moment : Option ℕ) → moment ≡ overdue_from job
-      → HasAdded (drop from rows) moment old list → AreDuesOf jobs rows list
-  submitted_dues old list more done of_rows same moment is added =
-      subst (λ all. AreDuesOf jobs all list) (sym with_rows)
-      (done jobs tables.rows (rows_of_kind kind tables.rows number id new) (overdue_from job) old list (still_dues old more of_rows) (moments same)
-      (subst (λ some. HasAdded some (overdue_from job) old list) behind (subst (λ from_then. HasAdded (drop from rows) from_then old list) is added)))
+      → (moment : Option ℕ) → moment ≡ overdue_from job
+      → HasAdded (drop from rows) moment beside.counts.dues list → AreDuesOf jobs rows list
+  submitted_dues list more done moment is come =
+      let old = beside.counts.dues in
+      subst (λ all. AreDuesOf jobs all list) (sym added.with_rows)
+      (done jobs added.tables.rows newest (overdue_from job) old list (still_dues more) moments
+      (subst (λ some. HasAdded some (overdue_from job) old list) behind (subst (λ from_then. HasAdded (drop from rows) from_then old list) is come)))

@@ -16,9 +16,7 @@ cancelled_of reason number row = if row.job == number then cancelled_for reason 
 -- the rows after a cancellation of a file for a reason, by the kind of its job
 abbrev pub after_file : Reason → Option JobKind → ℕ → ℕ → List FileRow → List FileRow
 after_file reason (Some Plain) number file rows = change_row file (cancelled_for reason) rows
-after_file reason (Some Replica) number file rows = map (cancelled_of reason number) rows
-after_file reason (Some Multihop) number file rows = map (cancelled_of reason number) rows
-after_file reason None number file rows = map (cancelled_of reason number) rows
+after_file reason _ number file rows = map (cancelled_of reason number) rows
 
 -- whether a row goes with another that is cancelled: it is of the same job, where that goes as a whole, and else the row itself
 abbrev pub goes_by : List JobRow → FileRow → FileRow → Bool

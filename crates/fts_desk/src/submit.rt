@@ -276,23 +276,15 @@ fn add_rows(rows: &mut Vec<FileRow>, job: u32, state: FileState, files: Vec<NewF
 fn new_row(id: u32, job: u32, state: FileState, file: NewFile) -> FileRow
     ensures { result ≡ new_row job id state file }
 {
-    let NewFile {
-        index,
-        source,
-        dest,
-        size,
-        wanted,
-        activity,
-    } = file;
     FileRow {
         id,
         job,
-        index,
-        source,
-        dest,
-        size,
-        wanted,
-        activity,
+        index: file.index,
+        source: file.source,
+        dest: file.dest,
+        size: file.size,
+        wanted: file.wanted,
+        activity: file.activity,
         state,
         retries: 0,
         attempt: 0,

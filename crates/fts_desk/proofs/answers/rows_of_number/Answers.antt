@@ -1,28 +1,22 @@
-use Rattle.std.proofs.Common.{◌≡◌, List, Some, None, length, ap, sym, ◌∙◌, subst, arith}
-use Rattle.fts_tables.specs.Tables.{job_at, rows_of_job}
-use Rattle.fts_tables.specs.declared.rows.FileRow.{FileRow}
+use Rattle.std.proofs.Common.{◌≡◌, Some, None, length, ap, sym, ◌∙◌, arith}
+use Rattle.fts_tables.specs.Tables.{job_at}
 use Rattle.fts_desk.specs.Kept.{tables_kept}
-use Rattle.fts_desk.specs.Standing.{StandTogether}
-use Rattle.fts_desk.proofs.Numbered.{number_at, none_of_job, files_at}
+use Rattle.fts_desk.proofs.LentTables.{job_lent, together_lent, rows_lent}
+use Rattle.fts_desk.proofs.Numbered.{none_of_job, files_at}
 use Rattle.fts_desk.proofs.answers.rows_of_number.Goals as goal
 
 pub rows_of_job-requires : goal.rows_of_job-requires
-rows_of_job-requires c =
-    let found = sym (c.in-Some.ensures.job ∙ ap (λ jobs. job_at jobs c.args.number) c.deref.ensures.value) in
-    record {
-      together = subst (λ rows. StandTogether rows c.in-Some.job.now) (sym c.deref-in-Some.ensures.value)
-          (c.rows_stand_together.ensures.together (tables_kept c.args.kept.now) c.args.number c.in-Some.job.now c.requires.formed found);
-    }
+rows_of_job-requires c = record {
+  together = together_lent c.requires.formed c.args.number c.deref.ensures.value c.in-Some.ensures.job c.deref-in-Some.ensures.value;
+}
 
 pub returns-in-Some-clause-rows : goal.returns-in-Some-clause-rows
-returns-in-Some-clause-rows c =
-    let found = sym (c.in-Some.ensures.job ∙ ap (λ jobs. job_at jobs c.args.number) c.deref.ensures.value) in
-    c.rows_of_job.ensures.rows ∙ (ap (λ (rows : List FileRow). rows_of_job rows c.in-Some.job.now.number) c.deref-in-Some.ensures.value
-    ∙ ap (rows_of_job c.args.kept.now.rows.items) (number_at c.args.kept.now.jobs.items c.args.number c.in-Some.job.now found))
+returns-in-Some-clause-rows c = c.rows_of_job.ensures.rows
+    ∙ rows_lent c.requires.formed c.args.number c.deref.ensures.value c.in-Some.ensures.job c.deref-in-Some.ensures.value
 
 pub returns-in-Some-clause-none : goal.returns-in-Some-clause-none
 returns-in-Some-clause-none c =
-    let found = sym (c.in-Some.ensures.job ∙ ap (λ jobs. job_at jobs c.args.number) c.deref.ensures.value) in
+    let found = job_lent c.requires.formed c.args.number c.deref.ensures.value c.in-Some.ensures.job in
     let files = files_at c.args.kept.now.jobs.items c.args.number c.in-Some.job.now c.requires.files found in
     (λ empty. absurd (omega (arith, files, c.rows_of_job.ensures.count, ap length empty)), λ none. absurd (differ (sym none ∙ found)))
   where

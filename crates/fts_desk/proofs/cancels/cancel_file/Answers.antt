@@ -7,26 +7,21 @@ use Rattle.std.proofs.lemmas.Option.{slice_get_within}
 use Rattle.fts_tables.specs.Tables.{job_at, row_at}
 use Rattle.fts_tables.specs.Step.{cancel_file}
 use Rattle.fts_tables.specs.History.{IsAccepted}
-use Rattle.fts_tables.specs.declared.rows.FileRow.{FileRow}
 use Rattle.fts_tables.specs.declared.rows.JobRow.{JobRow}
 use Rattle.fts_tables.specs.declared.commands.Answer.TheVariants.{Cancelled}
 use Rattle.fts_tables.specs.declared.rows.Reason.TheVariants.{Cancelled as CancelledReason}
 use Rattle.fts_desk.specs.Kept.{tables_kept}
 use Rattle.fts_desk.specs.Parts.{IsBeside}
 use Rattle.fts_desk.specs.Cancels.{after_file, IsInside}
-use Rattle.fts_desk.specs.Standing.{StandTogether}
 use Rattle.fts_desk.proofs.Found.{on_option, file_found, file_cancelled, rows_done}
 use Rattle.fts_desk.proofs.Numbered.{number_at}
-use Rattle.fts_desk.proofs.Reported.{found_there}
+use Rattle.fts_desk.proofs.LentTables.{job_there, together_there, holds_there}
 use Rattle.fts_desk.proofs.cancels.cancel_file.Goals as goal
 
 pub cancel_by_kind-requires-clause-together : goal.cancel_by_kind-requires-clause-together
 cancel_by_kind-requires-clause-together c =
-    let job = c.index.result.now in
-    let found = found_there (λ (jobs : List JobRow). job_at jobs c.args.job) c.deref.result.now c.args.kept.now.jobs.items c.in-Some.place job
-    c.deref.ensures.value c.in-Some.ensures.job c.in-Some.ensures.inside.0 c.index.ensures in
-    subst (λ (rows : List FileRow). StandTogether rows job) (sym c.deref_mut.ensures.value)
-    (c.rows_stand_together.ensures.together (tables_kept c.args.kept.now) c.args.job job c.requires.formed found)
+    together_there c.requires.formed c.args.job c.in-Some.place c.index.result.now c.deref.ensures.value c.in-Some.ensures.job c.in-Some.ensures.inside.0
+    c.index.ensures c.deref_mut.ensures.value
 
 pub cancel_by_kind-requires-clause-inside : goal.cancel_by_kind-requires-clause-inside
 cancel_by_kind-requires-clause-inside c =
@@ -49,8 +44,8 @@ returns c =
     let tables = tables_kept c.args.kept.now in
     let now = max c.args.now c.args.kept.now.moment in
     let job = c.index.result.now in
-    let found = found_there (λ (jobs : List JobRow). job_at jobs c.args.job) c.deref.result.now c.args.kept.now.jobs.items c.in-Some.place job
-    c.deref.ensures.value c.in-Some.ensures.job c.in-Some.ensures.inside.0 c.index.ensures in
+    let found = job_there c.requires.formed c.args.job c.in-Some.place job c.deref.ensures.value c.in-Some.ensures.job c.in-Some.ensures.inside.0
+    c.index.ensures in
     let rows = ap (λ found. after_file CancelledReason found c.args.job c.args.file tables.rows) (ap (option_map (λ (job : JobRow). job.kind)) found)
     ∙ (ap (λ number. after_file CancelledReason (Some job.kind) number c.args.file tables.rows) (sym (number_at tables.jobs c.args.job job found))
     ∙ (ap (after_file CancelledReason (Some job.kind) job.number c.args.file) (sym c.deref_mut.ensures.value) ∙ (sym c.cancel_by_kind.ensures.rows
@@ -63,8 +58,5 @@ returns c =
     }
 
 pub invariant_of-kept-clause-beside_rows : goal.invariant_of-kept-clause-beside_rows
-invariant_of-kept-clause-beside_rows c =
-    subst (λ (rows : List FileRow). IsBeside c.args.kept.now.jobs.items rows c.cancel_by_kind.new.beside)
-    (sym (with_items_is c.args.kept.now.rows c.cancel_by_kind.new.rows (c.cancel_by_kind.auto.rows ∙ c.deref_mut.ensures.len)))
-    (subst (λ (jobs : List JobRow). IsBeside jobs c.cancel_by_kind.new.rows c.cancel_by_kind.new.beside) c.deref-in-Some.ensures.value
-    c.cancel_by_kind.ensures.beside)
+invariant_of-kept-clause-beside_rows c = holds_there (λ jobs rows. IsBeside jobs rows c.cancel_by_kind.new.beside) c.deref-in-Some.ensures.value
+    (sym (with_items_is c.args.kept.now.rows c.cancel_by_kind.new.rows (c.cancel_by_kind.auto.rows ∙ c.deref_mut.ensures.len))) c.cancel_by_kind.ensures.beside

@@ -24,20 +24,16 @@ cancel_at-requires-clause-inside c =
 pub returns-in-Some-clause-rows : goal.returns-in-Some-clause-rows
 returns-in-Some-clause-rows c = λ row at.
     let rows = c.args.rows.now in
-    let jobs = c.args.jobs.now in
-    let here = get_or_from_slice_get rows c.args.place row c.index-rows-place.result at in
-    let there = get_or_from_slice_get rows c.args.place row c.index-rows-place-2.result at in
-    let found = ap (λ (other : FileRow). job_at jobs other.job) (sym there) ∙ sym c.in-Some.ensures.job in
+    let read = λ (default : FileRow). get_or_from_slice_get rows c.args.place row default at in
     c.cancel_by_kind.ensures.rows
-    ∙ (ap (λ (other : FileRow). after_file c.args.reason (Some c.in-Some.job.now.kind) c.in-Some.job.now.number other.id rows) here
-    ∙ gone_of_kind c.args.reason jobs c.in-Some.job.now row rows found)
+    ∙ (ap (λ (other : FileRow). after_file c.args.reason (Some c.in-Some.job.now.kind) c.in-Some.job.now.number other.id rows) (read c.index-rows-place.result)
+    ∙ gone_of_kind c.args.reason c.args.jobs.now c.in-Some.job.now row rows
+    (ap (λ (other : FileRow). job_at c.args.jobs.now other.job) (sym (read c.index-rows-place-2.result)) ∙ sym c.in-Some.ensures.job))
 
 pub returns-in-None-clause-rows : goal.returns-in-None-clause-rows
 returns-in-None-clause-rows c = λ row at.
     let rows = c.args.rows.now in
-    let jobs = c.args.jobs.now in
-    let here = get_or_from_slice_get rows c.args.place row c.index-rows-place.result at in
-    let there = get_or_from_slice_get rows c.args.place row c.index-rows-place-2.result at in
-    let none = ap (λ (other : FileRow). job_at jobs other.job) (sym there) ∙ sym c.in-None.ensures.job in
-    c.cancel_at.ensures.rows
-    ∙ (ap (λ (other : FileRow). change_row other.id (cancelled_for c.args.reason) rows) here ∙ gone_of_none c.args.reason jobs row rows none)
+    let read = λ (default : FileRow). get_or_from_slice_get rows c.args.place row default at in
+    c.cancel_at.ensures.rows ∙ (ap (λ (other : FileRow). change_row other.id (cancelled_for c.args.reason) rows) (read c.index-rows-place.result)
+    ∙ gone_of_none c.args.reason c.args.jobs.now row rows
+    (ap (λ (other : FileRow). job_at c.args.jobs.now other.job) (sym (read c.index-rows-place-2.result)) ∙ sym c.in-None.ensures.job))

@@ -1,24 +1,20 @@
-use Rattle.std.proofs.Common.{ap, sym, ◌∙◌, subst}
+use Rattle.std.proofs.Common.{sym, subst}
 use Rattle.std.specs.Prelude.{max}
-use Rattle.fts_tables.specs.Tables.{job_at}
 use Rattle.fts_tables.specs.Step.{Outcomes, cancel_rows}
 use Rattle.fts_desk.specs.Kept.{tables_kept}
-use Rattle.fts_desk.specs.Standing.{StandTogether}
 use Rattle.fts_desk.specs.Prepared.{IsChecked}
 use Rattle.fts_desk.proofs.Found.{on_found}
+use Rattle.fts_desk.proofs.LentTables.{job_lent, together_lent}
 use Rattle.fts_desk.proofs.cancels.check_job.Goals as goal
 
 pub check_rows-requires : goal.check_rows-requires
-check_rows-requires c =
-    let found = sym (c.in-Some.ensures.job ∙ ap (λ jobs. job_at jobs c.args.job) c.deref.ensures.value) in
-    record {
-      together = subst (λ rows. StandTogether rows c.in-Some.job.now) (sym c.deref-in-Some.ensures.value)
-          (c.rows_stand_together.ensures.together (tables_kept c.args.kept.now) c.args.job c.in-Some.job.now c.requires.formed found);
-    }
+check_rows-requires c = record {
+  together = together_lent c.requires.formed c.args.job c.deref.ensures.value c.in-Some.ensures.job c.deref-in-Some.ensures.value;
+}
 
 pub returns-in-Some : goal.returns-in-Some
 returns-in-Some c =
-    let found = sym (c.in-Some.ensures.job ∙ ap (λ jobs. job_at jobs c.args.job) c.deref.ensures.value) in
+    let found = job_lent c.requires.formed c.args.job c.deref.ensures.value c.in-Some.ensures.job in
     let tables = tables_kept c.args.kept.now in
     record {
       answer = λ now. subst (λ (outcome : Outcomes). IsChecked outcome c.check_rows.result)

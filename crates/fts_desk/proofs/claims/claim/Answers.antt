@@ -1,12 +1,12 @@
 -- The row that was changed in its place is the machine's claim.
-use Rattle.std.proofs.Common.{◌+◌, List, Ok, get_or, set, refl, ap, sym, ◌∙◌, subst}
+use Rattle.std.proofs.Common.{◌≡◌, ◌+◌, List, Some, Ok, get_or, set, refl, ap, sym, ◌∙◌, subst}
 use Rattle.std.specs.Prelude.{max, slice_get}
 use Rattle.std.proofs.lemmas.Option.{slice_get-get_or}
 use Rattle.fts_tables.specs.Step.{with_rows}
 use Rattle.fts_tables.specs.declared.commands.Answer.TheVariants.{Claimed}
 use Rattle.fts_desk.specs.Kept.{tables_kept}
 use Rattle.fts_tables.specs.Moves.{claimed}
-use Rattle.fts_tables.specs.Tables.{is_active}
+use Rattle.fts_tables.specs.Tables.{AreNumberedFrom, is_active}
 use Rattle.fts_tables.specs.declared.rows.FileRow.{FileRow}
 use Rattle.fts_tables.specs.declared.rows.JobRow.{JobRow}
 use Rattle.fts_desk.specs.Counted.{AreCountsOf, AreCountsBefore, IsCountedAt}
@@ -15,6 +15,28 @@ use Rattle.fts_desk.proofs.ClaimedParts.{claimed_numbered, claimed_line, claimed
 use Rattle.fts_desk.proofs.Claiming.{claim_at}
 use Rattle.fts_desk.proofs.Counted.{counts_before}
 use Rattle.fts_desk.proofs.claims.claim.Goals as goal
+use Rattle.fts_desk.proofs.claims.claim.Goals.{After-claim_row-answer}
+
+-- the row that was claimed, as it stood
+abbrev before : After-claim_row-answer → FileRow
+before c = get_or c.args.kept.now.rows.items c.args.place c.index_mut.result.now
+
+there : (c : After-claim_row-answer) → slice_get c.args.kept.now.rows.items c.args.place ≡ Some (before c)
+there c = slice_get-get_or c.args.kept.now.rows.items c.args.place c.index_mut.result.now c.requires.place
+
+-- and as it stands then
+changed : (c : After-claim_row-answer) → c.claim_row-answer.new.row ≡ claimed (before c)
+changed c = c.claim_row-answer.ensures.row ∙ ap claimed c.index_mut.ensures.value
+
+stands : (c : After-claim_row-answer) (seen : List FileRow) → seen ≡ set c.args.kept.now.rows.items c.args.place c.claim_row-answer.new.row
+    → (row : FileRow) → slice_get seen c.args.place ≡ Some row → row ≡ claimed (before c)
+stands c seen same = claimed_there c.args.kept.now.rows.items seen c.args.place (before c) c.claim_row-answer.new.row (there c) (changed c) same
+
+-- the rows stay numbered
+numbered : (c : After-claim_row-answer) (seen : List FileRow) → seen ≡ set c.args.kept.now.rows.items c.args.place c.claim_row-answer.new.row
+    → AreNumberedFrom (λ row. row.id) 1 seen
+numbered c seen same = claimed_numbered c.args.kept.now.rows.items seen c.args.place (before c) c.claim_row-answer.new.row (there c) (changed c) same
+    c.requires.formed.rows
 
 pub returns : goal.returns
 returns c =
@@ -30,10 +52,7 @@ returns c =
 
 pub recount-requires-clause-rows_numbered : goal.recount-requires-clause-rows_numbered
 recount-requires-clause-rows_numbered c =
-    let rows = c.args.kept.now.rows.items in
-    claimed_numbered rows c.deref-8.result.now c.args.place (get_or rows c.args.place c.index_mut.result.now) c.claim_row-answer.new.row
-    (slice_get-get_or rows c.args.place c.index_mut.result.now c.requires.place) (c.claim_row-answer.ensures.row ∙ ap claimed c.index_mut.ensures.value)
-    c.deref-8.ensures.value c.requires.formed.rows
+    numbered (goal.at.recount-requires-clause-rows_numbered c).After-claim_row-answer c.deref-8.result.now c.deref-8.ensures.value
 
 pub recount-requires-clause-before : goal.recount-requires-clause-before
 recount-requires-clause-before c =
@@ -51,51 +70,35 @@ recount-requires-clause-before c =
 
 pub start-requires-clause-rows_numbered : goal.start-requires-clause-rows_numbered
 start-requires-clause-rows_numbered c =
-    let rows = c.args.kept.now.rows.items in
-    claimed_numbered rows c.deref-6.result.now c.args.place (get_or rows c.args.place c.index_mut.result.now) c.claim_row-answer.new.row
-    (slice_get-get_or rows c.args.place c.index_mut.result.now c.requires.place) (c.claim_row-answer.ensures.row ∙ ap claimed c.index_mut.ensures.value)
-    c.deref-6.ensures.value c.requires.formed.rows
+    numbered (goal.at.start-requires-clause-rows_numbered c).After-claim_row-answer c.deref-6.result.now c.deref-6.ensures.value
 
 pub start-requires-clause-line : goal.start-requires-clause-line
 start-requires-clause-line c =
-    let rows = c.args.kept.now.rows.items in
-    claimed_line rows c.deref-6.result.now c.args.place (get_or rows c.args.place c.index_mut.result.now) c.claim_row-answer.new.row
-    (slice_get-get_or rows c.args.place c.index_mut.result.now c.requires.place) (c.claim_row-answer.ensures.row ∙ ap claimed c.index_mut.ensures.value)
+    let here = (goal.at.start-requires-clause-line c).After-claim_row-answer in
+    claimed_line c.args.kept.now.rows.items c.deref-6.result.now c.args.place (before here) c.claim_row-answer.new.row (there here) (changed here)
     c.deref-6.ensures.value c.leave.new.parts
     (subst (λ rows. AreInLineParts rows c.leave.new.parts) c.deref-4.ensures.value c.leave.ensures.line)
 
 pub start-requires-clause-runs : goal.start-requires-clause-runs
 start-requires-clause-runs c = λ row at.
-    let tables = tables_kept c.args.kept.now in
-    let before = get_or tables.rows c.args.place c.index_mut.result.now in
-    let there = slice_get-get_or tables.rows c.args.place c.index_mut.result.now c.requires.place in
-    let changed = c.claim_row-answer.ensures.row ∙ ap claimed c.index_mut.ensures.value in
-    let now_there = claimed_there tables.rows c.deref-6.result.now c.args.place before c.claim_row-answer.new.row there changed c.deref-6.ensures.value in
-    ap (λ (row : FileRow). is_active row.state) (now_there row at)
+    let here = (goal.at.start-requires-clause-runs c).After-claim_row-answer in
+    ap (λ (row : FileRow). is_active row.state) (stands here c.deref-6.result.now c.deref-6.ensures.value row at)
 
 pub start-requires-clause-may : goal.start-requires-clause-may
 start-requires-clause-may c = λ row at.
-    let tables = tables_kept c.args.kept.now in
-    let before = get_or tables.rows c.args.place c.index_mut.result.now in
-    let there = slice_get-get_or tables.rows c.args.place c.index_mut.result.now c.requires.place in
-    let changed = c.claim_row-answer.ensures.row ∙ ap claimed c.index_mut.ensures.value in
-    let now_there = claimed_there tables.rows c.deref-6.result.now c.args.place before c.claim_row-answer.new.row there changed c.deref-6.ensures.value in
-    let picked = c.requires.picked.1 ∙ there in
-    let now = max c.args.now tables.moment in
-    let seen = ap (λ rows. slice_get rows c.args.place) c.deref-4.ensures.value ∙ there in
-    subst (λ row. MayRunIn row c.leave.new.parts) (sym (now_there row at))
-    (still_may_run before c.args.kept.now.beside.parts c.leave.new.parts
-    (c.leave.ensures.slots before seen (c.picked_rows_may_run.ensures.idle now c.requires.picked.0 before picked))
-    (c.picked_rows_may_run.ensures.may now c.requires.picked.0 c.args.place before picked there))
+    let here = (goal.at.start-requires-clause-may c).After-claim_row-answer in
+    let picked = c.requires.picked.1 ∙ there here in
+    let now = max c.args.now c.args.kept.now.moment in
+    let seen = ap (λ rows. slice_get rows c.args.place) c.deref-4.ensures.value ∙ there here in
+    subst (λ row. MayRunIn row c.leave.new.parts) (sym (stands here c.deref-6.result.now c.deref-6.ensures.value row at))
+    (still_may_run (before here) c.args.kept.now.beside.parts c.leave.new.parts
+    (c.leave.ensures.slots (before here) seen (c.picked_rows_may_run.ensures.idle now c.requires.picked.0 (before here) picked))
+    (c.picked_rows_may_run.ensures.may now c.requires.picked.0 c.args.place (before here) picked (there here)))
 
 pub start-requires-clause-dest : goal.start-requires-clause-dest
 start-requires-clause-dest c = λ row at.
-    let tables = tables_kept c.args.kept.now in
-    let before = get_or tables.rows c.args.place c.index_mut.result.now in
-    let there = slice_get-get_or tables.rows c.args.place c.index_mut.result.now c.requires.place in
-    let changed = c.claim_row-answer.ensures.row ∙ ap claimed c.index_mut.ensures.value in
-    let now_there = claimed_there tables.rows c.deref-6.result.now c.args.place before c.claim_row-answer.new.row there changed c.deref-6.ensures.value in
-    ap (λ (row : FileRow). row.dest) (now_there row at) ∙ c.requires.dest before there
+    let here = (goal.at.start-requires-clause-dest c).After-claim_row-answer in
+    ap (λ (row : FileRow). row.dest) (stands here c.deref-6.result.now c.deref-6.ensures.value row at) ∙ c.requires.dest (before here) (there here)
 
 pub invariant_of-kept : goal.invariant_of-kept
 invariant_of-kept c =

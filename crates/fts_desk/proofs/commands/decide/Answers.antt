@@ -1,16 +1,11 @@
 -- What was decided answers the command as the machine does, and is all that it needs.
-use Rattle.std.proofs.Common.{sym, subst}
-use Rattle.fts_tables.specs.Step.{step}
-use Rattle.fts_tables.specs.declared.commands.Command.{Command}
 use Rattle.fts_desk.specs.Kept.{tables_kept}
-use Rattle.fts_desk.specs.Prepared.{IsPrepared}
-use Rattle.fts_desk.proofs.Sound.{planned_restart, planned_report, planned_ban}
+use Rattle.fts_desk.proofs.Sound.{answered_as, planned_restart, planned_report, planned_ban}
 use Rattle.fts_desk.proofs.commands.decide.Goals as goal
 
 pub returns-in-Restart-clause-answer : goal.returns-in-Restart-clause-answer
 returns-in-Restart-clause-answer c =
-    subst (λ (command : Command). IsPrepared (step (tables_kept c.args.kept.now) command) c.decide_restart.result) (sym c.in-Restart.is)
-    (c.decide_restart.ensures.answer c.in-Restart.now)
+    answered_as (tables_kept c.args.kept.now) c.args.command.now c.decide_restart.result c.in-Restart.is (c.decide_restart.ensures.answer c.in-Restart.now)
 
 pub returns-in-Restart-clause-planned : goal.returns-in-Restart-clause-planned
 returns-in-Restart-clause-planned c =
@@ -19,12 +14,11 @@ returns-in-Restart-clause-planned c =
 
 pub returns-in-Submit-clause-answer : goal.returns-in-Submit-clause-answer
 returns-in-Submit-clause-answer c =
-    subst (λ (command : Command). IsPrepared (step (tables_kept c.args.kept.now) command) c.make_room.result) (sym c.in-Submit.is)
-    (c.make_room.ensures.answer c.in-Submit.now)
+    answered_as (tables_kept c.args.kept.now) c.args.command.now c.make_room.result c.in-Submit.is (c.make_room.ensures.answer c.in-Submit.now)
 
 pub returns-in-Report-clause-answer : goal.returns-in-Report-clause-answer
 returns-in-Report-clause-answer c =
-    subst (λ (command : Command). IsPrepared (step (tables_kept c.args.kept.now) command) c.decide_report.result) (sym c.in-Report.is)
+    answered_as (tables_kept c.args.kept.now) c.args.command.now c.decide_report.result c.in-Report.is
     (c.decide_report.ensures.answer c.in-Report.now c.in-Report.outcome)
 
 pub returns-in-Report-clause-planned : goal.returns-in-Report-clause-planned
@@ -34,8 +28,7 @@ returns-in-Report-clause-planned c =
 
 pub returns-in-Ban-clause-answer : goal.returns-in-Ban-clause-answer
 returns-in-Ban-clause-answer c =
-    subst (λ (command : Command). IsPrepared (step (tables_kept c.args.kept.now) command) c.decide_ban.result) (sym c.in-Ban.is)
-    (c.decide_ban.ensures.answer c.in-Ban.now c.in-Ban.cancel)
+    answered_as (tables_kept c.args.kept.now) c.args.command.now c.decide_ban.result c.in-Ban.is (c.decide_ban.ensures.answer c.in-Ban.now c.in-Ban.cancel)
 
 pub returns-in-Ban-clause-planned : goal.returns-in-Ban-clause-planned
 returns-in-Ban-clause-planned c =

@@ -1,13 +1,7 @@
-use Rattle.std.proofs.Common.{ap, sym, ◌∙◌, subst}
-use Rattle.fts_tables.specs.Tables.{job_at}
-use Rattle.fts_desk.specs.Kept.{tables_kept}
-use Rattle.fts_desk.specs.Standing.{StandTogether}
+use Rattle.fts_desk.proofs.LentTables.{together_lent}
 use Rattle.fts_desk.proofs.priority.check_priority.Goals as goal
 
 pub rows_of_job-requires : goal.rows_of_job-requires
-rows_of_job-requires c =
-    let found = sym (c.in-Some.ensures.job ∙ ap (λ jobs. job_at jobs c.args.job) c.deref.ensures.value) in
-    record {
-      together = subst (λ rows. StandTogether rows c.in-Some.job.now) (sym c.deref-in-Some.ensures.value)
-          (c.rows_stand_together.ensures.together (tables_kept c.args.kept.now) c.args.job c.in-Some.job.now c.requires.formed found);
-    }
+rows_of_job-requires c = record {
+  together = together_lent c.requires.formed c.args.job c.deref.ensures.value c.in-Some.ensures.job c.deref-in-Some.ensures.value;
+}

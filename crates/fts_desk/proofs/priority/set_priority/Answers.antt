@@ -9,12 +9,12 @@ use Rattle.fts_tables.specs.declared.rows.JobRow.{JobRow}
 use Rattle.fts_desk.specs.Kept.{tables_kept}
 use Rattle.fts_desk.specs.Counted.{AreCountsOf}
 use Rattle.fts_desk.specs.Parts.{AreTiedParts, AreInLineParts}
-use Rattle.fts_desk.specs.Standing.{prioritized, StandTogether}
+use Rattle.fts_desk.specs.Standing.{prioritized}
 use Rattle.fts_desk.proofs.Counted.{counts_prioritized}
 use Rattle.fts_desk.proofs.JobIds.{ids-prioritized}
 use Rattle.fts_desk.proofs.Found.{priority_set, jobs_done, job_inside}
 use Rattle.fts_desk.proofs.Numbered.{number_at}
-use Rattle.fts_desk.proofs.Reported.{found_there}
+use Rattle.fts_desk.proofs.LentTables.{job_there, together_there}
 use Rattle.fts_desk.proofs.priority.set_priority.Goals as goal
 
 pub returns : goal.returns
@@ -41,25 +41,22 @@ prioritize-requires-clause-last c = subst (λ (jobs : List JobRow). c.args.job �
 pub prioritize_waiting-requires-clause-job : goal.prioritize_waiting-requires-clause-job
 prioritize_waiting-requires-clause-job c =
     let job = c.index.result.now in
-    let found = found_there (λ (jobs : List JobRow). job_at jobs c.args.job) c.deref.result.now c.args.kept.now.jobs.items c.in-Some.place job
-    c.deref.ensures.value c.in-Some.ensures.job c.in-Some.ensures.inside.0 c.index.ensures in
+    let found = job_there c.requires.formed c.args.job c.in-Some.place job c.deref.ensures.value c.in-Some.ensures.job c.in-Some.ensures.inside.0
+    c.index.ensures in
     ap (λ (jobs : List JobRow). job_at jobs job.number) c.deref-in-Some.ensures.value
     ∙ ap (job_at c.args.kept.now.jobs.items) (number_at c.args.kept.now.jobs.items c.args.job job found) ∙ found
 
 pub prioritize_waiting-requires-clause-together : goal.prioritize_waiting-requires-clause-together
 prioritize_waiting-requires-clause-together c =
-    let job = c.index.result.now in
-    let found = found_there (λ (jobs : List JobRow). job_at jobs c.args.job) c.deref.result.now c.args.kept.now.jobs.items c.in-Some.place job
-    c.deref.ensures.value c.in-Some.ensures.job c.in-Some.ensures.inside.0 c.index.ensures in
-    subst (λ (rows : List FileRow). StandTogether rows job) (sym c.deref-in-Some-2.ensures.value)
-    (c.rows_stand_together.ensures.together (tables_kept c.args.kept.now) c.args.job job c.requires.formed found)
+    together_there c.requires.formed c.args.job c.in-Some.place c.index.result.now c.deref.ensures.value c.in-Some.ensures.job c.in-Some.ensures.inside.0
+    c.index.ensures c.deref-in-Some-2.ensures.value
 
 pub invariant_of-kept : goal.invariant_of-kept
 invariant_of-kept c =
     let jobs = c.args.kept.now.jobs.items in
     let job = c.index.result.now in
-    let found = found_there (λ (jobs : List JobRow). job_at jobs c.args.job) c.deref.result.now c.args.kept.now.jobs.items c.in-Some.place job
-    c.deref.ensures.value c.in-Some.ensures.job c.in-Some.ensures.inside.0 c.index.ensures in
+    let found = job_there c.requires.formed c.args.job c.in-Some.place job c.deref.ensures.value c.in-Some.ensures.job c.in-Some.ensures.inside.0
+    c.index.ensures in
     let change = prioritized c.args.job c.args.priority in
     let changed = ap (map change) (sym c.deref_mut.ensures.value) ∙ sym c.prioritize.ensures.jobs
     ∙ sym (with_items_is c.args.kept.now.jobs c.prioritize.new.jobs (c.prioritize.auto.jobs ∙ c.deref_mut.ensures.len)) in

@@ -1,12 +1,11 @@
 -- The row and its job are those that the tables have, and only rooms have risen.
-use Rattle.std.proofs.Common.{◌≡◌, List, Some, None, ap, sym, ◌∙◌, subst}
+use Rattle.std.proofs.Common.{◌≡◌, List, Some, None, ap, sym, ◌∙◌}
 use Rattle.std.proofs.lemmas.Option.{same_Some}
 use Rattle.std.proofs.lemmas.Result.{on_ok_weaker}
 use Rattle.fts_tables.specs.Tables.{row_at, job_at}
 use Rattle.fts_tables.specs.declared.rows.FileRow.{FileRow}
 use Rattle.fts_tables.specs.declared.rows.JobRow.{JobRow}
-use Rattle.fts_desk.specs.Kept.{tables_kept}
-use Rattle.fts_desk.specs.Standing.{StandTogether}
+use Rattle.fts_desk.proofs.LentTables.{job_there, together_there}
 use Rattle.fts_desk.proofs.Reported.{found_there}
 use Rattle.fts_desk.proofs.InLineParts.{line_risen}
 use Rattle.fts_desk.proofs.RowsBeside.{risen_tied, risen_limits, same_report}
@@ -18,13 +17,8 @@ never job is = cc
 
 pub make_room_at-requires-clause-together : goal.make_room_at-requires-clause-together
 make_room_at-requires-clause-together c =
-    let row = c.index.result.now in
-    let job = c.index-in-Some-job_place.result.now in
-    let of_job = found_there (λ (jobs : List JobRow). job_at jobs row.job) c.deref-in-Some.result.now c.args.kept.now.jobs.items c.in-Some-job_place.number job
-    c.deref-in-Some.ensures.value
-    c.in-Some-job_place.ensures.job c.in-Some-job_place.ensures.inside.0 c.index-in-Some-job_place.ensures in
-    subst (λ (rows : List FileRow). StandTogether rows job) (sym c.deref-in-Some-job_place.ensures.value)
-    (c.rows_stand_together.ensures.together (tables_kept c.args.kept.now) row.job job c.requires.formed of_job)
+    together_there c.requires.formed c.index.result.now.job c.in-Some-job_place.number c.index-in-Some-job_place.result.now c.deref-in-Some.ensures.value
+    c.in-Some-job_place.ensures.job c.in-Some-job_place.ensures.inside.0 c.index-in-Some-job_place.ensures c.deref-in-Some-job_place.ensures.value
 
 pub invariant_of-kept : goal.invariant_of-kept
 invariant_of-kept c =
@@ -49,15 +43,13 @@ returns-in-Some-job_place-clause-room c =
     let place = c.in-Some.place in
     let row = c.index.result.now in
     let job = c.index-in-Some-job_place.result.now in
-    let found = found_there (λ (some : List FileRow). row_at some c.args.file) c.deref.result.now rows place row c.deref.ensures.value
-    c.in-Some.ensures.row
+    let found = found_there (λ (some : List FileRow). row_at some c.args.file) c.in-Some.place row c.deref.ensures.value c.in-Some.ensures.row
     c.in-Some.ensures.inside.0 c.index.ensures in
-    let of_job = found_there (λ (some : List JobRow). job_at some row.job) c.deref-in-Some.result.now jobs c.in-Some-job_place.number job
-    c.deref-in-Some.ensures.value
-    c.in-Some-job_place.ensures.job c.in-Some-job_place.ensures.inside.0 c.index-in-Some-job_place.ensures in
     on_ok_weaker c.make_room_at.result
     (λ room other owner at owned. same_report jobs rows c.deref-in-Some-job_place.result.now c.args.file place row other job owner c.make_room_at.new.parts
-    c.deref-in-Some-job_place.ensures.value c.in-Some.ensures.inside.1 found of_job room at owned)
+    c.deref-in-Some-job_place.ensures.value c.in-Some.ensures.inside.1 found
+    (job_there c.requires.formed row.job c.in-Some-job_place.number job c.deref-in-Some.ensures.value c.in-Some-job_place.ensures.job
+    c.in-Some-job_place.ensures.inside.0 c.index-in-Some-job_place.ensures) room at owned)
     c.make_room_at.ensures.room
 
 pub returns-in-None-job_place-clause-room : goal.returns-in-None-job_place-clause-room
@@ -65,8 +57,7 @@ returns-in-None-job_place-clause-room c = λ other job at owned.
     let rows = c.args.kept.now.rows.items in
     let jobs = c.args.kept.now.jobs.items in
     let row = c.index.result.now in
-    let found = found_there (λ (some : List FileRow). row_at some c.args.file) c.deref.result.now rows c.in-Some.place row c.deref.ensures.value
-    c.in-Some.ensures.row
+    let found = found_there (λ (some : List FileRow). row_at some c.args.file) c.in-Some.place row c.deref.ensures.value c.in-Some.ensures.row
     c.in-Some.ensures.inside.0 c.index.ensures in
     let same : row ≡ other = same_Some row other (sym found ∙ at) in
     let none : job_at jobs row.job ≡ None =

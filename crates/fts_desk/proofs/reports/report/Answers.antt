@@ -12,21 +12,16 @@ use Rattle.fts_tables.specs.declared.rows.FileRow.{FileRow}
 use Rattle.fts_tables.specs.declared.rows.JobRow.{JobRow}
 use Rattle.fts_desk.specs.Kept.{tables_kept}
 use Rattle.fts_desk.specs.Parts.{HasRoomToReport}
-use Rattle.fts_desk.specs.Standing.{StandTogether}
 use Rattle.fts_desk.proofs.ChangedRows.{number_at_place}
 use Rattle.fts_desk.proofs.Hops.{stands_inside}
+use Rattle.fts_desk.proofs.LentTables.{job_there, together_there}
 use Rattle.fts_desk.proofs.Reported.{found_there, reported_of_job, report_is}
 use Rattle.fts_desk.proofs.reports.report.Goals as goal
 
 pub report_at-requires-clause-together : goal.report_at-requires-clause-together
 report_at-requires-clause-together c =
-    let row = c.index.result.now in
-    let job = c.index-in-Some-job_place.result.now in
-    let of_job = found_there (λ (jobs : List JobRow). job_at jobs row.job) c.deref-in-Some.result.now c.args.kept.now.jobs.items c.in-Some-job_place.number job
-    c.deref-in-Some.ensures.value
-    c.in-Some-job_place.ensures.job c.in-Some-job_place.ensures.inside.0 c.index-in-Some-job_place.ensures in
-    subst (λ (rows : List FileRow). StandTogether rows job) (sym c.deref_mut.ensures.value)
-    (c.rows_stand_together.ensures.together (tables_kept c.args.kept.now) row.job job c.requires.formed of_job)
+    together_there c.requires.formed c.index.result.now.job c.in-Some-job_place.number c.index-in-Some-job_place.result.now c.deref-in-Some.ensures.value
+    c.in-Some-job_place.ensures.job c.in-Some-job_place.ensures.inside.0 c.index-in-Some-job_place.ensures c.deref_mut.ensures.value
 
 pub report_at-requires-clause-owned : goal.report_at-requires-clause-owned
 report_at-requires-clause-owned c =
@@ -36,8 +31,8 @@ report_at-requires-clause-owned c =
     let number = c.in-Some-job_place.number in
     let row = c.index.result.now in
     let job = c.index-in-Some-job_place.result.now in
-    let of_job = found_there (λ (jobs : List JobRow). job_at jobs row.job) c.deref-in-Some.result.now jobs number job c.deref-in-Some.ensures.value
-    c.in-Some-job_place.ensures.job c.in-Some-job_place.ensures.inside.0 c.index-in-Some-job_place.ensures in
+    let of_job = job_there c.requires.formed row.job c.in-Some-job_place.number job c.deref-in-Some.ensures.value c.in-Some-job_place.ensures.job
+    c.in-Some-job_place.ensures.inside.0 c.index-in-Some-job_place.ensures in
     let stand = c.rows_stand_together.ensures.together (tables_kept c.args.kept.now) row.job job c.requires.formed of_job in
     let within : place < length rows = omega (arith, ap length c.deref.ensures.value, c.in-Some.ensures.inside.0) in
     let among : number < length jobs = omega (arith, ap length c.deref-in-Some.ensures.value, c.in-Some-job_place.ensures.inside.0) in
@@ -53,12 +48,10 @@ report_at-requires-clause-room c =
     let parts = c.args.kept.now.beside.parts in
     let row = c.index.result.now in
     let job = c.index-in-Some-job_place.result.now in
-    let found = found_there (λ (some : List FileRow). row_at some c.args.file) c.deref.result.now rows c.in-Some.place row c.deref.ensures.value
-    c.in-Some.ensures.row
+    let found = found_there (λ (some : List FileRow). row_at some c.args.file) c.in-Some.place row c.deref.ensures.value c.in-Some.ensures.row
     c.in-Some.ensures.inside.0 c.index.ensures in
-    let of_job = found_there (λ (jobs : List JobRow). job_at jobs row.job) c.deref-in-Some.result.now c.args.kept.now.jobs.items c.in-Some-job_place.number job
-    c.deref-in-Some.ensures.value
-    c.in-Some-job_place.ensures.job c.in-Some-job_place.ensures.inside.0 c.index-in-Some-job_place.ensures in
+    let of_job = job_there c.requires.formed row.job c.in-Some-job_place.number job c.deref-in-Some.ensures.value c.in-Some-job_place.ensures.job
+    c.in-Some-job_place.ensures.inside.0 c.index-in-Some-job_place.ensures in
     let place : c.args.file - 1 ≡ c.in-Some.place = omega (arith, c.in-Some.ensures.inside.1) in
     subst (λ (some : List FileRow). HasRoomToReport job c.in-Some.place some parts) (sym c.deref_mut.ensures.value)
     (subst (λ at. HasRoomToReport job at rows parts) place (c.requires.room row job found of_job))
@@ -66,8 +59,7 @@ report_at-requires-clause-room c =
 pub unreachable-requires : goal.unreachable-requires
 unreachable-requires c =
     let row = c.index.result.now in
-    let found = found_there (λ (rows : List FileRow). row_at rows c.args.file) c.deref.result.now c.args.kept.now.rows.items c.in-Some.place row
-    c.deref.ensures.value c.in-Some.ensures.row
+    let found = found_there (λ (some : List FileRow). row_at some c.args.file) c.in-Some.place row c.deref.ensures.value c.in-Some.ensures.row
     c.in-Some.ensures.inside.0 c.index.ensures in
     reported_of_job (tables_kept c.args.kept.now) (max c.args.now c.args.kept.now.moment) c.args.file c.args.attempt c.args.outcome row found
     c.requires.accepted
@@ -81,12 +73,10 @@ returns-clause-step c =
     let row = c.index.result.now in
     let job = c.index-in-Some-job_place.result.now in
     let change = reported job now c.args.outcome in
-    let found = found_there (λ (some : List FileRow). row_at some c.args.file) c.deref.result.now rows c.in-Some.place row c.deref.ensures.value
-    c.in-Some.ensures.row
+    let found = found_there (λ (some : List FileRow). row_at some c.args.file) c.in-Some.place row c.deref.ensures.value c.in-Some.ensures.row
     c.in-Some.ensures.inside.0 c.index.ensures in
-    let of_job = found_there (λ (jobs : List JobRow). job_at jobs row.job) c.deref-in-Some.result.now c.args.kept.now.jobs.items c.in-Some-job_place.number job
-    c.deref-in-Some.ensures.value
-    c.in-Some-job_place.ensures.job c.in-Some-job_place.ensures.inside.0 c.index-in-Some-job_place.ensures in
+    let of_job = job_there c.requires.formed row.job c.in-Some-job_place.number job c.deref-in-Some.ensures.value c.in-Some-job_place.ensures.job
+    c.in-Some-job_place.ensures.inside.0 c.index-in-Some-job_place.ensures in
     let lent : c.deref_mut.result.now ≡ rows = c.deref_mut.ensures.value in
     let within : c.in-Some.place < length rows = omega (arith, ap length c.deref.ensures.value, c.in-Some.ensures.inside.0) in
     let at : slice_get c.deref_mut.result.now c.in-Some.place ≡ Some row =

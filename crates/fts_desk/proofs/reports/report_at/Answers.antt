@@ -9,19 +9,21 @@ use Rattle.fts_tables.specs.declared.rows.FileRow.{FileRow}
 use Rattle.fts_states.specs.Afters.{with_follow}
 use Rattle.fts_desk.specs.Standing.{StandTogether}
 use Rattle.fts_desk.proofs.ChangedRows.{change_row-set, id_at}
-use Rattle.fts_desk.proofs.KeptFiles.{reported_file, one_file, numbered-map, together-map}
+use Rattle.fts_desk.proofs.KeptFiles.{reported_file, one_file, together-map}
 use Rattle.fts_desk.proofs.Counted.{counts_before}
 use Rattle.fts_desk.proofs.RowsBeside.{room_fewer, reported_idle, room_to_follow, site_stood, site_file, site_numbered, site_line, site_idle, site_room}
 use Rattle.fts_desk.proofs.reports.report_at.Goals as goal
+use Rattle.fts_desk.proofs.reports.report_at.Goals.{After-report_row-after}
+
+-- the rows stay numbered
+numbered : (c : After-report_row-after) → AreNumberedFrom (λ row. row.id) 1 (set c.args.rows.now c.args.place c.report_row-after.new.row)
+numbered c =
+    let job = c.args.job.now in
+    site_numbered c.args.rows.now c.args.place (reported job c.args.now c.args.outcome.now) (reported_file job c.args.now c.args.outcome.now)
+    c.index-rows-place-2.result c.report_row-after.new.row c.requires.inside c.report_row-after.ensures.row c.requires.numbered
 
 pub follow-requires-clause-numbered : goal.follow-requires-clause-numbered
-follow-requires-clause-numbered c =
-    let change = reported c.args.job.now c.args.now c.args.outcome.now in
-    let written = change_row-set c.args.rows.now c.args.place change c.index-rows-place-2.result c.report_row-after.new.row c.requires.numbered
-    c.requires.inside c.report_row-after.ensures.row in
-    let one = λ (row : FileRow). if row.id == c.args.place + 1 then change row else row in
-    subst (λ (rows : List FileRow). AreNumberedFrom (λ row. row.id) 1 rows) (sym written)
-    (numbered-map one (one_file (c.args.place + 1) change (reported_file c.args.job.now c.args.now c.args.outcome.now)) 1 c.args.rows.now c.requires.numbered)
+follow-requires-clause-numbered c = numbered (goal.at.follow-requires-clause-numbered c).After-report_row-after
 
 pub follow-requires-clause-together : goal.follow-requires-clause-together
 follow-requires-clause-together c =
@@ -59,10 +61,7 @@ returns-clause-answer c = λ row at.
     ∙ ap (Reported row.id) (c.report_row-after.ensures.state ∙ ap (λ (other : FileRow). other.state) (c.report_row-after.ensures.row ∙ ap change there))
 
 pub wait-requires-clause-rows_numbered : goal.wait-requires-clause-rows_numbered
-wait-requires-clause-rows_numbered c =
-    let job = c.args.job.now in
-    site_numbered c.args.rows.now c.args.place (reported job c.args.now c.args.outcome.now) (reported_file job c.args.now c.args.outcome.now)
-    c.index-rows-place-2.result c.report_row-after.new.row c.requires.inside c.report_row-after.ensures.row c.requires.numbered
+wait-requires-clause-rows_numbered c = numbered (goal.at.wait-requires-clause-rows_numbered c).After-report_row-after
 
 pub wait-requires-clause-line : goal.wait-requires-clause-line
 wait-requires-clause-line c =
@@ -90,10 +89,7 @@ wait-requires-clause-room c = λ row at.
     c.leave.ensures.same (room_fewer 1 2 before c.args.beside.now.parts (omega arith) (c.requires.room.own before stood)) row at
 
 pub recount-requires-clause-rows_numbered : goal.recount-requires-clause-rows_numbered
-recount-requires-clause-rows_numbered c =
-    let job = c.args.job.now in
-    site_numbered c.args.rows.now c.args.place (reported job c.args.now c.args.outcome.now) (reported_file job c.args.now c.args.outcome.now)
-    c.index-rows-place-2.result c.report_row-after.new.row c.requires.inside c.report_row-after.ensures.row c.requires.numbered
+recount-requires-clause-rows_numbered c = numbered (goal.at.recount-requires-clause-rows_numbered c).After-report_row-after
 
 pub recount-requires-clause-before : goal.recount-requires-clause-before
 recount-requires-clause-before c =

@@ -11,13 +11,8 @@ use Rattle.fts_desk.proofs.restart.release.Goals.{then-release_at, else-release_
 
 pub release_at-requires-clause-room : goal.release_at-requires-clause-room
 release_at-requires-clause-room c =
-    let all = c.args.rows.now in
-    let rows = c.loop-place.rows in
-    let place = c.loop-place.place in
-    let inv = c.loop-place.invariant in
-    let lt : place < length all = omega (arith, c.loop-place-test.true) in
-    let inside : place < length rows = omega (arith, lt, c.loop-place.auto.rows) in
-    turn_room all rows place lt inside inv.rows c.loop-place.beside.parts inv.room
+    turn_room c.args.rows.now c.loop-place.rows c.loop-place.place (omega (arith, c.loop-place-test.true))
+    (omega (arith, c.loop-place-test.true, c.loop-place.auto.rows)) c.loop-place.invariant.rows c.loop-place.beside.parts c.loop-place.invariant.room
 
 pub loop-place-preserved : goal.loop-place-preserved
 loop-place-preserved c =

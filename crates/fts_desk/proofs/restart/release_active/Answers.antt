@@ -1,5 +1,6 @@
 -- A row that is given up is left before it changes, comes in again behind the change, and counts anew.
 use Rattle.std.proofs.Common.{◌+◌, set, get_or, ap, arith, ◌∙◌}
+use Rattle.fts_tables.specs.Tables.{AreNumberedFrom}
 use Rattle.fts_tables.specs.Step.{released}
 use Rattle.fts_desk.proofs.ChangedRows.{change_at-set}
 use Rattle.fts_desk.proofs.CancelledParts.{same_limits}
@@ -7,11 +8,16 @@ use Rattle.fts_desk.proofs.Counted.{counts_before}
 use Rattle.fts_desk.proofs.Released.{released_file, released_idle}
 use Rattle.fts_desk.proofs.RowsBeside.{room_fewer, room_left, site_numbered, site_line, site_idle, site_room, site_stood}
 use Rattle.fts_desk.proofs.restart.release_active.Goals as goal
+use Rattle.fts_desk.proofs.restart.release_active.Goals.{After-release_row}
 
-pub wait-requires-clause-rows_numbered : goal.wait-requires-clause-rows_numbered
-wait-requires-clause-rows_numbered c =
+-- the rows stay numbered
+numbered : (c : After-release_row) → AreNumberedFrom (λ row. row.id) 1 (set c.args.rows.now c.args.place c.release_row.new.row)
+numbered c =
     site_numbered c.args.rows.now c.args.place released released_file c.index-rows-place.result c.release_row.new.row c.requires.inside
     c.release_row.ensures.row c.requires.numbered
+
+pub wait-requires-clause-rows_numbered : goal.wait-requires-clause-rows_numbered
+wait-requires-clause-rows_numbered c = numbered (goal.at.wait-requires-clause-rows_numbered c).After-release_row
 
 pub wait-requires-clause-line : goal.wait-requires-clause-line
 wait-requires-clause-line c =
@@ -34,9 +40,7 @@ wait-requires-clause-room c = λ row at.
     c.leave.new.parts c.leave.ensures.same (c.requires.room (get_or rows place read) stood) row at
 
 pub recount-requires-clause-rows_numbered : goal.recount-requires-clause-rows_numbered
-recount-requires-clause-rows_numbered c =
-    site_numbered c.args.rows.now c.args.place released released_file c.index-rows-place.result c.release_row.new.row c.requires.inside
-    c.release_row.ensures.row c.requires.numbered
+recount-requires-clause-rows_numbered c = numbered (goal.at.recount-requires-clause-rows_numbered c).After-release_row
 
 pub recount-requires-clause-before : goal.recount-requires-clause-before
 recount-requires-clause-before c =

@@ -1,16 +1,22 @@
 -- A row that is woken at its place, waits among the others, and counts from then on.
 use Rattle.std.proofs.Common.{get_or, set, ap, sym, ◌∙◌}
+use Rattle.fts_tables.specs.Tables.{AreNumberedFrom}
 use Rattle.fts_desk.specs.Places.{woken}
 use Rattle.fts_desk.proofs.ChangedRows.{change_at-set, change_at-past}
 use Rattle.fts_desk.proofs.Counted.{counts_before}
 use Rattle.fts_desk.proofs.RowsBeside.{woken_file, woken_idle, woken_stays, unused_again, site_stood, site_numbered, site_line, site_idle, site_room}
 use Rattle.fts_desk.proofs.waking.wake_counted.Goals as goal
+use Rattle.fts_desk.proofs.waking.wake_counted.Goals.{After-wake}
 use Rattle.fts_desk.proofs.waking.wake_counted.Goals.{else-place-rows-via-then-place-rows+else-is_not_used, else-place-rows-via-else-place-rows}
 
-pub wait-requires-clause-rows_numbered : goal.wait-requires-clause-rows_numbered
-wait-requires-clause-rows_numbered c =
+-- the rows stay numbered
+numbered : (c : After-wake) → AreNumberedFrom (λ row. row.id) 1 (set c.args.rows.now c.args.place c.wake.new.row)
+numbered c =
     site_numbered c.args.rows.now c.args.place woken woken_file c.index-rows-place-then-is_not_used.result c.wake.new.row c.if-place-rows.true
     c.wake.ensures.row c.requires.numbered
+
+pub wait-requires-clause-rows_numbered : goal.wait-requires-clause-rows_numbered
+wait-requires-clause-rows_numbered c = numbered (goal.at.wait-requires-clause-rows_numbered c).After-wake
 
 pub wait-requires-clause-line : goal.wait-requires-clause-line
 wait-requires-clause-line c =
@@ -35,9 +41,7 @@ wait-requires-clause-room c = λ row at.
     c.leave.ensures.same (c.requires.room (get_or rows place read) stood) row at
 
 pub recount-requires-clause-rows_numbered : goal.recount-requires-clause-rows_numbered
-recount-requires-clause-rows_numbered c =
-    site_numbered c.args.rows.now c.args.place woken woken_file c.index-rows-place-then-is_not_used.result c.wake.new.row c.if-place-rows.true
-    c.wake.ensures.row c.requires.numbered
+recount-requires-clause-rows_numbered c = numbered (goal.at.recount-requires-clause-rows_numbered c).After-wake
 
 pub recount-requires-clause-before : goal.recount-requires-clause-before
 recount-requires-clause-before c =

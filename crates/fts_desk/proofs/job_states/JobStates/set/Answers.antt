@@ -2,13 +2,14 @@
 use Rattle.std.proofs.Common.{◌<◌, length, length-set, refl, ap, sym, subst, ◌∙◌, arith}
 use Rattle.std.specs.Vec.{with_item}
 use Rattle.std.proofs.lemmas.Option.{slice_get_read}
-use Rattle.fts_desk.specs.JobLists.{JobList}
+use Rattle.fts_desk.specs.JobLists.{JobList, places_at}
 use Rattle.fts_desk.specs.JobStates.{AreJobStates}
 use Rattle.fts_desk.specs.declared.job_states.JobStates.TheInside.{Inside}
-use Rattle.fts_desk.proofs.JobSets.{may_take, may_put, room_to_put, places_moved, rooms_moved, places_same}
-use Rattle.fts_desk.proofs.job_states.JobStates.set.Goals.{then-was-is, else-was-is}
+use Rattle.fts_desk.proofs.JobSets.{MayComeIn, may_take, may_put, places_moved, rooms_moved, places_same}
+use Rattle.fts_desk.proofs.job_states.JobStates.set.Goals.{After-take_place, then-was-is, else-was-is}
 use Rattle.fts_desk.proofs.job_states.JobStates.set.Goals as goal
 
+-- the place is taken out where it is
 pub take_place-requires-clause-there : goal.take_place-requires-clause-there
 take_place-requires-clause-there c =
     let items = c.self.inside.jobs.items in
@@ -18,25 +19,21 @@ take_place-requires-clause-there c =
     c.rank-is.ensures.rank c.rank-was.ensures.inside c.rank-is.ensures.inside c.if-was-is.true c.self.inside.by_rank c.self.invariant.places
     c.self.invariant.rooms c.self.invariant.few
 
-pub put_place-requires-clause-room : goal.put_place-requires-clause-room
-put_place-requires-clause-room c =
+-- and then may come in among those of the other state
+may_come_in : (c : After-take_place) → MayComeIn c.args.place (places_at c.take_place.new.by_rank c.rank-is.result)
+may_come_in c =
     let items = c.self.inside.jobs.items in
     let inside : c.args.place < length items = omega (arith, c.requires.inside, ap (λ (list : JobList). length list.jobs) c.self.view_is) in
-    let there = slice_get_read items (length items) c.args.place c.index.result.now refl inside c.index.ensures in
-    room_to_put items c.args.place c.index.result.now c.args.now c.rank-was.result c.rank-is.result c.self.inside.room there c.rank-was.ensures.rank
-    c.rank-is.ensures.rank c.rank-was.ensures.inside c.rank-is.ensures.inside c.if-was-is.true c.self.inside.by_rank c.self.invariant.places
-    c.self.invariant.rooms c.self.invariant.few
-    c.take_place.new.by_rank c.take_place.ensures.here c.take_place.ensures.others
+    may_put items c.args.place c.index.result.now c.args.now c.rank-was.result c.rank-is.result c.self.inside.room
+    (slice_get_read items (length items) c.args.place c.index.result.now refl inside c.index.ensures) c.rank-was.ensures.rank c.rank-is.ensures.rank
+    c.rank-was.ensures.inside c.rank-is.ensures.inside c.if-was-is.true c.self.inside.by_rank c.self.invariant.places c.self.invariant.rooms
+    c.self.invariant.few c.take_place.new.by_rank c.take_place.ensures.here c.take_place.ensures.others
+
+pub put_place-requires-clause-room : goal.put_place-requires-clause-room
+put_place-requires-clause-room c = (may_come_in (goal.at.put_place-requires-clause-room c).After-take_place).room
 
 pub put_place-requires-clause-absent : goal.put_place-requires-clause-absent
-put_place-requires-clause-absent c =
-    let items = c.self.inside.jobs.items in
-    let inside : c.args.place < length items = omega (arith, c.requires.inside, ap (λ (list : JobList). length list.jobs) c.self.view_is) in
-    let there = slice_get_read items (length items) c.args.place c.index.result.now refl inside c.index.ensures in
-    may_put items c.args.place c.index.result.now c.args.now c.rank-was.result c.rank-is.result c.self.inside.room there c.rank-was.ensures.rank
-    c.rank-is.ensures.rank c.rank-was.ensures.inside c.rank-is.ensures.inside c.if-was-is.true c.self.inside.by_rank c.self.invariant.places
-    c.self.invariant.rooms c.self.invariant.few
-    c.take_place.new.by_rank c.take_place.ensures.here c.take_place.ensures.others
+put_place-requires-clause-absent c = (may_come_in (goal.at.put_place-requires-clause-absent c).After-take_place).absent
 
 pub invariant_of-self : goal.invariant_of-self
 invariant_of-self c =
