@@ -1,11 +1,11 @@
 -- What a crash leaves at the moments of calls of a disk that are still, or look alone, and what follows from what is left.
-use Rattle.std.proofs.Common.{inl, inr, ⊎_elim, ℕ, ◌≤◌, arith}
+use Rattle.std.proofs.Common.{◌≡◌, inl, inr, ⊎_elim, ℕ, ◌≤◌, ◌∙◌, arith}
 use Rattle.fts_tables.specs.Counts.{Rose}
-use Rattle.fts_disk.specs.Disk.{DiskState, LeavesOnly, IsLawful, Looks}
+use Rattle.fts_disk.specs.Disk.{DiskState, IsTold, LeavesOnly, IsLawful, Looks}
 use Rattle.fts_journal.specs.Loading.{IsQuiet}
 use Rattle.fts_journal.specs.Journal.{IsMaking}
 use Rattle.fts_journal.proofs.Moments.{started, goes_on, joins, weakened}
-use Rattle.fts_delete.specs.Opened.{IsStill}
+use Rattle.fts_delete.specs.Opened.{IsStill, Makes}
 
 -- two runs that are still
 pub still_still : (old mid new : DiskState) → IsStill old mid → IsStill mid new → IsStill old new
@@ -28,11 +28,14 @@ more_still old mid new first lawful only =
     still_still old mid new first (record { images = λ c left. only.each c (lawful.counts_now mid.moment c only.later left); moments = only })
 
 -- behind a look a journal is made as without it
-pub made_behind : (old mid new : DiskState) → IsLawful old → Looks old mid → LeavesOnly mid new (IsMaking mid) → LeavesOnly old new (IsMaking old)
-made_behind old mid new lawful looks only = joins old mid new (IsMaking old)
-    (goes_on old old mid (IsMaking old) (started old lawful (IsMaking old) (λ c there. inl there)) looks.time (λ c there. inl (looks.crash c there)))
-    (weakened mid new (IsMaking mid) (IsMaking old) only
-    (λ c there. ⊎_elim (λ same. inl (looks.crash c same)) (λ torn. inr (torn.0, (looks.crash torn.0 torn.1.0, torn.1.1))) there))
+pub made_behind : {old mid new : DiskState} → (IsTold old → IsLawful old) → (IsTold old → Looks old mid) → mid.told ≡ old.told
+    → (IsTold mid → LeavesOnly mid new (IsMaking mid)) → Makes old new
+made_behind {old} {mid} {new} lawful looks same only told empty =
+    let look = looks told in
+    joins old mid new (IsMaking old)
+    (goes_on old old mid (IsMaking old) (started old (lawful told) (IsMaking old) (λ c there. inl there)) look.time (λ c there. inl (look.crash c there)))
+    (weakened mid new (IsMaking mid) (IsMaking old) (only (same ∙ told))
+    (λ c there. ⊎_elim (λ kept. inl (look.crash c kept)) (λ torn. inr (torn.0, (look.crash torn.0 torn.1.0, torn.1.1))) there))
 
 -- a count that rose later rose
 pub rose_later : (old mid new : ℕ) → old ≤ mid → Rose mid new → Rose old new

@@ -28,9 +28,7 @@ pub readied_list : {D : Type 0} (state : D → DiskState) (faults : D → ℕ) (
 readied_list state faults old new size (Ok done) answer = answer.3
 readied_list state faults old new size (Err DiskFailed) answer = answer.3
 readied_list state faults old new size (Err (JournalFull used)) answer = same_list state old new answer.2
-readied_list state faults old new size (Err Memory) answer = absurd answer
-readied_list state faults old new size (Err (RowsFull rows)) answer = absurd answer
-readied_list state faults old new size (Err (Damaged offset)) answer = absurd answer
+readied_list state faults old new size _ answer = absurd answer
 
 -- recording adds one event or none
 pub added_list : {D : Type 0} (state : D → DiskState) (faults : D → ℕ) (old new : DeletesData D) (event : Event) (result : Result (Unit {0}) DeleteFault)
@@ -38,9 +36,7 @@ pub added_list : {D : Type 0} (state : D → DiskState) (faults : D → ℕ) (ol
 added_list state faults old new event (Ok done) answer told = (event ∷ [], answer.listed told)
 added_list state faults old new event (Err DiskFailed) answer told = ([], answer.2.events ∙ sym (append-nil old.events))
 added_list state faults old new event (Err Memory) answer told = ([], ap (λ (d : DeletesData _). d.events) answer ∙ sym (append-nil old.events))
-added_list state faults old new event (Err (JournalFull used)) answer told = absurd answer
-added_list state faults old new event (Err (RowsFull rows)) answer told = absurd answer
-added_list state faults old new event (Err (Damaged offset)) answer told = absurd answer
+added_list state faults old new event _ answer told = absurd answer
 
 module _ {D : Type 0} (state : D → DiskState) (faults : D → ℕ) (old new : DeletesData D) (kept : IsDeletes state old) where
   -- an image of the list, or of it with its doubt, is one since any opening

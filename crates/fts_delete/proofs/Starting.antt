@@ -50,8 +50,7 @@ module _ {D : Type 0} (state : D → DiskState) (faults : D → ℕ) (lawful : (
       why (Damaged offset) cause = λ told. let c = cause told in (c.0, ⊎_elim (λ no. inl no) (λ cut. inr (inl cut)) c.1)
       why DiskFailed cause = cause
       why Memory cause = tt
-      why (JournalFull used) cause = absurd cause
-      why (RowsFull rows) cause = absurd cause
+      why _ cause = absurd cause
 
   module _ (journal folded : JournalData D) (made : Makes (state disk) (state journal.disk))
       (opens : OpensJournal state faults disk journal) (leaves : LeavesJournal state faults journal folded) where

@@ -23,11 +23,6 @@ Reads result expected = (result ≡ expected) ⊎ (result ≡ Err Memory)
 unfoldable pub asked_items : Data → List Data
 asked_items document = option_map_or list_of (option_and_then as_array (get (codes "delete") document)) []
 
--- what reading a URL gives: its place, or that it is refused
-abbrev pub bad_url : Result Place UrlFault → Result Place DeleteDocFault
-bad_url (Ok place) = Ok place
-bad_url (Err fault) = Err (BadUrl fault)
-
 -- a broken URL is a fault of the document
 abbrev pub url_refused : Option UrlFault → Option DeleteDocFault
 url_refused fault = option_map BadUrl fault

@@ -1,18 +1,16 @@
 //! The document that asks for deletions: a body's bytes, read as places or refused by the least broken of seven rules. JSON (RFC 8259) is what
 //! `serde_json` reads, a URL what `fts_joburl` reads. The answer is one function of the body and the settings (`specs/Documents.antt`).
 //! Order: the value, the list, its texts, their URLs, and whether the settings list each endpoint.
-ghost use Rattle.std.specs.Prelude.{◌≡◌, ◌⊎◌, ◌++◌, ◌∷◌, [], Some, Err, OnOk, IfOk, IfErr, map, option_map};
-ghost use Rattle.std.specs.List.{list_any, list_all, filter_map};
+ghost use Rattle.std.specs.Prelude.{◌≡◌, ◌⊎◌, Some, Err, map};
+ghost use Rattle.std.specs.List.{filter_map};
 ghost use Rattle.serde_json.specs.Find.{as_str};
 ghost use Rattle.serde_json.specs.View.{view};
-ghost use Rattle.fts_jobdoc.specs.Json.{value_of, is_text};
-ghost use Rattle.fts_jobdoc.specs.Ends.{place_read, is_elsewhere};
-ghost use Rattle.fts_delete.specs.Documents.{Reads, asked_items, bad_url, places_read, asked_by, deletes_in, rule_of};
+ghost use Rattle.fts_delete.specs.Documents.{Reads, asked_items, places_read, asked_by, deletes_in, rule_of};
 ghost use Rattle.fts_delete.specs.declared.document.DeleteDocFault.TheVariants.{Memory as TheMemory};
 
 use crate::limits::MAX_ASKED;
-use fts_joburl::{UrlFault, read_surl};
-use fts_tables::rules::is_listed;
+use fts_jobdoc::{DocFault, are_texts, is_some_elsewhere, read_places, read_value};
+use fts_joburl::UrlFault;
 use fts_tables::{Items, Memory, Place, Settings};
 use serde_json::Value;
 use std::alloc::Global;
@@ -79,22 +77,6 @@ pub fn read_deletes(
     }
 }
 
-/// The JSON value of a body, where it has one.
-fn read_value(alloc: Global, body: &[u8]) -> Result<Option<Value>, Memory>
-    ensures { IfOk result (λ value. option_map view value ≡ value_of body.now) }
-{
-    match Value::from_slice(alloc, body) {
-        Ok(value) => Ok(Some(value)),
-        Err(error) => {
-            if error.is_memory() {
-                Err(Memory)
-            } else {
-                Ok(None)
-            }
-        }
-    }
-}
-
 /// What a document asks for, or the least rule that it breaks.
 fn asked_by(
     alloc: Global,
@@ -116,7 +98,7 @@ fn asked_by(
     if !are_texts(items) {
         return Err(DeleteDocFault::NotText);
     }
-    let places = read_places(alloc, items)?;
+    let places = read_asked(alloc, items)?;
     if is_some_elsewhere(settings, places.as_slice()) {
         return Err(DeleteDocFault::UnknownEndpoint);
     }
@@ -137,63 +119,13 @@ fn asked_items(document: &Value) -> &[Value]
     }
 }
 
-fn are_texts(list: &[Value]) -> bool
-    ensures { result ≡ list_all is_text (map view list.now) }
-{
-    list.iter().all(|item| item.is_string())
-}
-
-/// Reads the URLs of a list, of which every text is one.
-fn read_places(alloc: Global, list: &[Value]) -> Result<Items<Place>, DeleteDocFault>
+/// Reads the URLs of a list, of which every text is one, as those of a job are read.
+fn read_asked(alloc: Global, list: &[Value]) -> Result<Items<Place>, DeleteDocFault>
     ensures { Reads result (places_read (filter_map as_str (map view list.now))) }
 {
-    let mut places = Items::new(alloc);
-    for item in list {
-        let Some(text) = item.as_str() else {
-            continue;
-        };
-        let place = read_place(alloc, text)?;
-        add(&mut places, place)?;
-    }
-    Ok(places)
-}
-
-/// Reads a URL.
-#[tactic(auto, unfolding(fts_jobdoc::specs::Ends::place_read))]
-fn read_place(alloc: Global, text: &str) -> Result<Place, DeleteDocFault>
-    ensures { Reads result (bad_url (place_read text.now)) }
-{
-    match read_surl(alloc, text) {
-        Ok(surl) => Ok(Place {
-            endpoint: surl.endpoint,
-            path: surl.path,
-        }),
-        Err(fault) => {
-            if fault == UrlFault::Memory {
-                Err(DeleteDocFault::Memory)
-            } else {
-                Err(DeleteDocFault::BadUrl { fault })
-            }
-        }
-    }
-}
-
-/// Appends a place. At an `Err` the list is as before.
-fn add(places: &mut Items<Place>, place: Place) -> Result<(), DeleteDocFault>
-    ensures ok { OnOk result (places.new ≡ places.old ++ place ∷ []) }
-    ensures err { IfErr result (λ fault. fault ≡ DeleteDocFault.Memory) }
-{
-    match places.push(place) {
-        Ok(()) => Ok(()),
+    match read_places(alloc, list) {
+        Ok(places) => Ok(places),
+        Err(DocFault::BadUrl { fault }) => Err(DeleteDocFault::BadUrl { fault }),
         Err(_) => Err(DeleteDocFault::Memory),
     }
-}
-
-fn is_some_elsewhere(settings: &Settings, places: &[Place]) -> bool
-    ensures { result ≡ list_any (is_elsewhere settings.now) places.now }
-{
-    let endpoints = settings.endpoints.as_slice();
-    places
-        .iter()
-        .any(|place| !is_listed(endpoints, place.endpoint.as_str()))
 }

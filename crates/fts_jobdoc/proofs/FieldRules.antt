@@ -35,15 +35,8 @@ below_end high n false e kept = grind (arith, tests)
 -- what is there is a number of the range, or -1, which is read as none
 pub number_or_none : (high : ℕ) (found : Option Data) → fails (is_from_minus_one high) found ≡ false
     → nat_le (natural_or 0 found) high ≡ true
-number_or_none high None kept = grind (arith, tests)
-number_or_none high (Some null) kept = grind (arith, tests)
-number_or_none high (Some (boolean b)) kept = grind (arith, tests)
 number_or_none high (Some (number (unsigned n))) kept = below_end high n _ (not_minus_one (nat_lt n (2 ^ 63)) n) kept
-number_or_none high (Some (number (negative z))) kept = grind (arith, tests)
-number_or_none high (Some (number (float x))) kept = grind (arith, tests)
-number_or_none high (Some (string text)) kept = grind (arith, tests)
-number_or_none high (Some (array _)) kept = grind (arith, tests)
-number_or_none high (Some (object _)) kept = grind (arith, tests)
+number_or_none high _ kept = grind (arith, tests)
 
 -- a number of a range isn't above its end
 pub within_end : (low high n : ℕ) → is_within low high n ≡ true → n ≤ high
@@ -58,3 +51,7 @@ pub priority_given : (found : Option Data) (low high : ℕ) → not (option_map_
     → fails (is_natural_within low high) found ≡ false
 priority_given None low high given = refl
 priority_given (Some value) low high given = given
+
+-- a number that was read of what is there, or 0, and that no rule fails, isn't above the end either
+pub few_read : (high : ℕ) (found : Option Data) (n : ℕ) → n ≡ natural_or 0 found → fails (is_from_minus_one high) found ≡ false → n ≤ high
+few_read high found n read kept = le_end n high (rw read (number_or_none high found kept))

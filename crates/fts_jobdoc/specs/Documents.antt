@@ -174,16 +174,19 @@ job_of body settings = of_value (λ document. job_in document settings) (value_o
 
 -- ---- a document that asks for another priority
 
--- the rules of such a document, each behind its number
-unfoldable pub priority_rules : Data → List (Option DocFault)
-priority_rules document =
+-- the rules of a document of which one parameter is read, and the rule on that one
+abbrev pub one_param_rules : Data → Option DocFault → List (Option DocFault)
+one_param_rules document rule =
     -- 2
     fault_if (is_no_object document) NotObject
     -- 16
     ∷ fault_if (has_wrong_params document) ParamsNotObject
-    -- 19
-    ∷ fault_if (lacks_priority document) BadPriority
+    ∷ rule
     ∷ []
+
+-- the rules of such a document: its own is 19
+unfoldable pub priority_rules : Data → List (Option DocFault)
+priority_rules document = one_param_rules document (fault_if (lacks_priority document) BadPriority)
 
 -- the priority of such a document, or the least rule that it breaks
 abbrev pub priority_given : Data → Result ℕ DocFault

@@ -39,24 +39,18 @@ size_of file = natural_or 0 (field (codes "filesize") file)
 
 -- a checksum that is none
 abbrev pub is_malformed : Checksum → Bool
-is_malformed NotGiven = false
 is_malformed Malformed = true
-is_malformed Other = false
-is_malformed (Md5 digest) = false
+is_malformed _ = false
 
 -- a checksum of another algorithm
 abbrev pub is_other : Checksum → Bool
-is_other NotGiven = false
-is_other Malformed = false
 is_other Other = true
-is_other (Md5 digest) = false
+is_other _ = false
 
 -- the digest that a checksum asks for
 abbrev pub digest_in : Checksum → Option (List ℕ)
-digest_in NotGiven = None
-digest_in Malformed = None
-digest_in Other = None
 digest_in (Md5 digest) = Some digest
+digest_in _ = None
 
 -- `checksum` is there and not an empty text, and it is none
 unfoldable pub has_bad_checksum : Data → Bool

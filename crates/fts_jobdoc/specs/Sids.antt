@@ -1,23 +1,16 @@
 -- A client's own id in a document, as a client reads it before it sends the document: without settings, and by a few of the rules.
-use Rattle.std.specs.Prelude.{ℕ, List, [], ◌∷◌, Option, Some, None, Result, Ok, Err}
+use Rattle.std.specs.Prelude.{ℕ, List, Option, Some, None, Result, Ok, Err}
 use Rattle.serde_json.specs.Data.{Data}
 use Rattle.fts_tables.specs.FirstFault.{fault_if, first_fault}
 use Rattle.fts_jobdoc.specs.Json.{value_of}
-use Rattle.fts_jobdoc.specs.Fields.{is_no_object, has_wrong_params, has_bad_sid, sid_in}
-use Rattle.fts_jobdoc.specs.Documents.{of_value}
+use Rattle.fts_jobdoc.specs.Fields.{has_bad_sid, sid_in}
+use Rattle.fts_jobdoc.specs.Documents.{one_param_rules, of_value}
 use Rattle.fts_jobdoc.specs.declared.fault.DocFault.{DocFault}
-use Rattle.fts_jobdoc.specs.declared.fault.DocFault.TheVariants.{NotObject, ParamsNotObject, BadSid}
+use Rattle.fts_jobdoc.specs.declared.fault.DocFault.TheVariants.{BadSid}
 
--- the rules that are looked at, each behind its number
+-- the rules that are looked at: the one on the id is 24
 unfoldable pub sid_rules : Data → List (Option DocFault)
-sid_rules document =
-    -- 2
-    fault_if (is_no_object document) NotObject
-    -- 16
-    ∷ fault_if (has_wrong_params document) ParamsNotObject
-    -- 24
-    ∷ fault_if (has_bad_sid document) BadSid
-    ∷ []
+sid_rules document = one_param_rules document (fault_if (has_bad_sid document) BadSid)
 
 -- the own id, where the job's id is made of it; where it isn't, the rule on ids is broken too
 abbrev pub sid_found : Option (List ℕ) → Result (List ℕ) DocFault

@@ -63,7 +63,7 @@ fn read_under(alloc: Global, file: &Value, key: &str) -> Result<Items<Place>, Do
 }
 
 /// Reads the URLs of a list, of which every text is one.
-fn read_places(alloc: Global, list: &[Value]) -> Result<Items<Place>, DocFault>
+pub fn read_places(alloc: Global, list: &[Value]) -> Result<Items<Place>, DocFault>
     ensures { Gives result (places_read (filter_map as_str (map view list.now))) }
 {
     let mut places = Items::new(alloc);
@@ -123,7 +123,8 @@ fn has_unknown_endpoint(settings: &Settings, ends: &FileEnds) -> bool
         || is_some_elsewhere(settings, ends.dests.as_slice())
 }
 
-fn is_some_elsewhere(settings: &Settings, places: &[Place]) -> bool
+/// Whether some place is on an endpoint that isn't in the settings.
+pub fn is_some_elsewhere(settings: &Settings, places: &[Place]) -> bool
     ensures { result ≡ list_any (is_elsewhere settings.now) places.now }
 {
     let endpoints = settings.endpoints.as_slice();

@@ -74,7 +74,8 @@ pub fn has_texts(value: &Value, key: &str, low: usize, high: usize) -> bool
     low <= list.len() && list.len() <= high && are_texts(list)
 }
 
-fn are_texts(list: &[Value]) -> bool
+/// Whether each item of a list is a text.
+pub fn are_texts(list: &[Value]) -> bool
     ensures { result ≡ list_all is_text (map view list.now) }
 {
     list.iter().all(|item| item.is_string())

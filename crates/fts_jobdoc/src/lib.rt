@@ -20,7 +20,9 @@ mod sid;
 
 pub use ban::{BanAsk, BanFault, read_ban, read_storage};
 pub use document::{Document, read_document};
+pub use ends::{is_some_elsewhere, read_places};
 pub use fault::{DocFault, Unoffered};
 pub use ids::sid_id;
 pub use job::{job_under, read_job, read_priority};
+pub use json::{are_texts, read_value};
 pub use sid::read_sid;

@@ -4,7 +4,7 @@
 ghost use Rattle.std.specs.Prelude.{◌≡◌, map, option_map};
 ghost use Rattle.serde_json.specs.View.{view};
 ghost use Rattle.fts_tables.specs.FirstFault.{fault_if, first_fault, unless};
-ghost use Rattle.fts_jobdoc.specs.Documents.{shape_rules, ends_rules, files_rules, params_rules, kind_rules, later_rules, priority_rules, has_replicas_among, has_wrong_hops};
+ghost use Rattle.fts_jobdoc.specs.Documents.{shape_rules, ends_rules, files_rules, params_rules, kind_rules, later_rules, one_param_rules, priority_rules, has_replicas_among, has_wrong_hops};
 ghost use Rattle.fts_jobdoc.specs.Fields.{unoffered_in};
 ghost use Rattle.fts_jobdoc.specs.Sids.{sid_rules};
 
@@ -141,14 +141,21 @@ pub fn check_later(
     check_kind(document, files, ends)
 }
 
+/// The rules of a document of which one parameter is read: 2, 16, and whether that one is broken.
+fn check_one_param(document: &Value, broken: bool, fault: DocFault) -> Result<(), DocFault>
+    ensures { result ≡ unless (first_fault (one_param_rules (view document.now) (fault_if broken fault))) tt }
+{
+    refuse_if(!is_object(document), DocFault::NotObject)?;
+    refuse_if(has_wrong_params(document), DocFault::ParamsNotObject)?;
+    refuse_if(broken, fault)
+}
+
 /// The rules of a document that asks for another priority: 2, 16 and 19.
 #[tactic(auto, unfolding(crate::specs::Documents::priority_rules))]
 pub fn check_priority_document(document: &Value) -> Result<(), DocFault>
     ensures { result ≡ unless (first_fault (priority_rules (view document.now))) tt }
 {
-    refuse_if(!is_object(document), DocFault::NotObject)?;
-    refuse_if(has_wrong_params(document), DocFault::ParamsNotObject)?;
-    refuse_if(lacks_priority(document), DocFault::BadPriority)
+    check_one_param(document, lacks_priority(document), DocFault::BadPriority)
 }
 
 /// The rules of a document as a client looks at it, which sends it under an own id: 2, 16 and 24.
@@ -156,7 +163,5 @@ pub fn check_priority_document(document: &Value) -> Result<(), DocFault>
 pub fn check_sid_document(document: &Value) -> Result<(), DocFault>
     ensures { result ≡ unless (first_fault (sid_rules (view document.now))) tt }
 {
-    refuse_if(!is_object(document), DocFault::NotObject)?;
-    refuse_if(has_wrong_params(document), DocFault::ParamsNotObject)?;
-    refuse_if(has_bad_sid(document), DocFault::BadSid)
+    check_one_param(document, has_bad_sid(document), DocFault::BadSid)
 }
