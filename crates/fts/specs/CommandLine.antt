@@ -48,15 +48,10 @@ DeletesNothing (Some (Follow port tries)) = Unit {0}
 
 -- a service is asked for
 abbrev pub asks_service : Option Asked → Bool
-asks_service None = false
 asks_service (Some Session) = true
-asks_service (Some Show) = false
 asks_service (Some (Load number)) = true
 asks_service (Some (Serve port lanes connections)) = true
-asks_service (Some (Submit port tries)) = false
-asks_service (Some (Query port job tries)) = false
-asks_service (Some Delete) = false
-asks_service (Some (Follow port tries)) = false
+asks_service _ = false
 
 -- the status of the process: that of its run, and 1 where there was no memory to begin one
 abbrev pub exit_status_of : Result Ending Memory → ℕ

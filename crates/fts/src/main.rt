@@ -100,16 +100,7 @@ fn link_for<'a>(rt: &'a HostRuntime, words: &[String]) -> TcpLink<&'a HostRuntim
     let link = TcpLink::new(rt, LinkLimits::of_client());
     match read_words(words) {
         Some(Asked::Follow { .. }) => link.for_many(),
-        Some(
-            Asked::Session
-            | Asked::Show
-            | Asked::Load { .. }
-            | Asked::Serve { .. }
-            | Asked::Submit { .. }
-            | Asked::Query { .. }
-            | Asked::Delete,
-        )
-        | None => link,
+        _ => link,
     }
 }
 
@@ -215,16 +206,7 @@ fn store_for<'a>(machine: Machine<'a>, words: &[String], grid: String) -> GridSt
     let store = FolderStore::over(machine.files(), machine.rt.alloc(), grid);
     match read_words(words) {
         Some(Asked::Delete) => store.for_deletions(),
-        Some(
-            Asked::Session
-            | Asked::Show
-            | Asked::Load { .. }
-            | Asked::Serve { .. }
-            | Asked::Submit { .. }
-            | Asked::Query { .. }
-            | Asked::Follow { .. },
-        )
-        | None => store,
+        _ => store,
     }
 }
 
@@ -282,17 +264,10 @@ fn run_in_folder<R: Threads + Wait + Sync>(
 fn asks_service(words: &[String]) -> bool
     ensures { result ≡ asks_service (asked_in (map string_bytes words.now)) }
 {
-    match read_words(words) {
-        Some(Asked::Session | Asked::Load { .. } | Asked::Serve { .. }) => true,
-        Some(
-            Asked::Show
-            | Asked::Submit { .. }
-            | Asked::Query { .. }
-            | Asked::Delete
-            | Asked::Follow { .. },
-        )
-        | None => false,
-    }
+    matches!(
+        read_words(words),
+        Some(Asked::Session | Asked::Load { .. } | Asked::Serve { .. })
+    )
 }
 
 /// Takes away what earlier services left of their parts in a stand's folder. One that another service holds stays.
@@ -324,8 +299,7 @@ fn disk_for<'a>(machine: Machine<'a>, words: &[String], path: &str) -> LoggedDis
     match read_words(words) {
         Some(Asked::Session | Asked::Load { .. } | Asked::Serve { .. } | Asked::Follow { .. }) =>
             FileDisk::serve(machine.files(), path),
-        Some(Asked::Show | Asked::Submit { .. } | Asked::Query { .. } | Asked::Delete) | None =>
-            FileDisk::look_at(machine.files(), path),
+        _ => FileDisk::look_at(machine.files(), path),
     }
 }
 
@@ -335,16 +309,7 @@ fn deletes_for<'a>(machine: Machine<'a>, words: &[String], path: &str) -> Logged
 {
     match read_words(words) {
         Some(Asked::Delete) => FileDisk::serve(machine.files(), path),
-        Some(
-            Asked::Session
-            | Asked::Show
-            | Asked::Load { .. }
-            | Asked::Serve { .. }
-            | Asked::Submit { .. }
-            | Asked::Query { .. }
-            | Asked::Follow { .. },
-        )
-        | None => FileDisk::look_at(machine.files(), path),
+        _ => FileDisk::look_at(machine.files(), path),
     }
 }
 
@@ -357,16 +322,7 @@ fn has_threads<R: Threads + Wait + Sync>(rt: &HostRuntime, threads: &R, words: &
             rt,
             lanes.saturating_add(MAX_WORKERS),
         ),
-        Some(
-            Asked::Session
-            | Asked::Show
-            | Asked::Load { .. }
-            | Asked::Submit { .. }
-            | Asked::Query { .. }
-            | Asked::Delete
-            | Asked::Follow { .. },
-        )
-        | None => true,
+        _ => true,
     }
 }
 
@@ -377,16 +333,7 @@ fn log_for<'a>(rt: &'a HostRuntime, words: &[String]) -> io::Result<SystemLog<'a
             Some(path) => SystemLog::in_file(rt, path),
             None => Ok(SystemLog::on_standard_error(rt)),
         },
-        Some(
-            Asked::Session
-            | Asked::Show
-            | Asked::Load { .. }
-            | Asked::Submit { .. }
-            | Asked::Query { .. }
-            | Asked::Delete
-            | Asked::Follow { .. },
-        )
-        | None => Ok(SystemLog::silent(rt)),
+        _ => Ok(SystemLog::silent(rt)),
     }
 }
 

@@ -131,10 +131,8 @@ link_objects tables reports =
 
 -- the word for why a row stands as it does, where a copy ended
 abbrev pub reason_word : Reason → List ℕ
-reason_word NoReason = []
-reason_word Cancelled = []
-reason_word Expired = []
 reason_word (Ended outcome) = outcome_word outcome
+reason_word _ = []
 
 -- whether a report gives a reason
 abbrev pub is_for : List ℕ → CopyReport → Bool

@@ -35,16 +35,8 @@ restart_by command = if is_restart command then Some (now_of command) else None
 
 -- the report of a Report, and none of any other command
 abbrev pub report_by : Command → Option CopyReport
-report_by (Restart now settings) = None
-report_by (Submit now job) = None
-report_by (CancelJob now job) = None
-report_by (CancelFile now job file) = None
-report_by (SetPriority now job priority) = None
-report_by (Claim now word) = None
 report_by (Report now file attempt outcome) = Some (record { moment = now; file = file; attempt = attempt; outcome = outcome })
-report_by (Ban now storage cancel) = None
-report_by (Unban now storage) = None
-report_by (Expire now) = None
+report_by _ = None
 
 -- the reports among the entries, in their order
 abbrev pub reports_of : List Entry → List CopyReport
@@ -52,41 +44,22 @@ reports_of entries = filter_map (λ entry. report_by entry.command) entries
 
 -- the claim that an answer names, at a moment
 abbrev pub claim_by : ℕ → Answer → Option FileEvent
-claim_by now (Restarted released) = None
-claim_by now (Submitted job id) = None
-claim_by now (Cancelled job) = None
-claim_by now (PrioritySet job) = None
 claim_by now (Claimed file attempt) = Some (FileClaimed now file attempt)
-claim_by now (Reported file state) = None
-claim_by now (Banned cancelled) = None
-claim_by now Unbanned = None
-claim_by now (Expired cancelled) = None
+claim_by now _ = None
 
 -- the report of this place among all, and the state of its file that an answer names
 abbrev pub ending_by : ℕ → Answer → Option FileEvent
-ending_by place (Restarted released) = None
-ending_by place (Submitted job id) = None
-ending_by place (Cancelled job) = None
-ending_by place (PrioritySet job) = None
-ending_by place (Claimed file attempt) = None
 ending_by place (Reported file state) = Some (FileReported place state)
-ending_by place (Banned cancelled) = None
-ending_by place Unbanned = None
-ending_by place (Expired cancelled) = None
+ending_by place _ = None
 
 -- what a command that was answered so, behind so many reports, did to a file or to a job's files: a claim, the end of a copy, or a cancellation, which names
 -- a job or a file
 abbrev pub event_by : ℕ → Command → Answer → Option FileEvent
-event_by place (Restart now settings) answer = None
-event_by place (Submit now job) answer = None
 event_by place (CancelJob now job) answer = Some (JobCancelled now job)
 event_by place (CancelFile now job file) answer = Some (FileCancelled now job file)
-event_by place (SetPriority now job priority) answer = None
 event_by place (Claim now word) answer = claim_by now answer
 event_by place (Report now file attempt outcome) answer = ending_by place answer
-event_by place (Ban now storage cancel) answer = None
-event_by place (Unban now storage) answer = None
-event_by place (Expire now) answer = None
+event_by place _ answer = None
 
 -- what a step behind so many reports did to a file: nothing, where it was refused
 abbrev pub event_of_step : ℕ → Command → Outcomes → Option FileEvent

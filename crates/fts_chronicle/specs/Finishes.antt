@@ -40,12 +40,10 @@ finishes_with finishes (Restart now settings) tables = finishes_seen (is_job_in 
 finishes_with finishes (Submit now job) tables = finishes ++ 0 ∷ []
 finishes_with finishes (CancelJob now job) tables = finishes_seen (λ number. number == job) tables now 1 finishes
 finishes_with finishes (CancelFile now job file) tables = finishes_seen (λ number. number == job) tables now 1 finishes
-finishes_with finishes (SetPriority now job priority) tables = finishes
-finishes_with finishes (Claim now word) tables = finishes
 finishes_with finishes (Report now file attempt outcome) tables = finishes_seen (is_owner (row_at tables.rows file)) tables now 1 finishes
 finishes_with finishes (Ban now storage cancel) tables = finishes_seen (is_job_in tables) tables now 1 finishes
-finishes_with finishes (Unban now storage) tables = finishes
 finishes_with finishes (Expire now) tables = finishes_seen (is_job_in tables) tables now 1 finishes
+finishes_with finishes _ tables = finishes
 
 -- the finishes behind a step: a refusal changes nothing
 abbrev pub finishes_after : List ℕ → Command → Outcomes → List ℕ

@@ -73,15 +73,7 @@ legal_with entries entry legal may =
 -- another command than a restart leaves the VO's name
 pub vo_kept : (vo : Option (List ℕ)) (command : Command) → is_restart command ≡ false → vo_after vo command ≡ vo
 vo_kept vo (Restart now settings) is = absurd (true≢false is)
-vo_kept vo (Submit now job) is = refl
-vo_kept vo (CancelJob now job) is = refl
-vo_kept vo (CancelFile now job file) is = refl
-vo_kept vo (SetPriority now job priority) is = refl
-vo_kept vo (Claim now word) is = refl
-vo_kept vo (Report now file attempt outcome) is = refl
-vo_kept vo (Ban now storage cancel) is = refl
-vo_kept vo (Unban now storage) is = refl
-vo_kept vo (Expire now) is = refl
+vo_kept vo _ is = refl
 
 pub vo_with : (entries : List Entry) (entry : Entry) → vo_of (entries ++ entry ∷ []) ≡ vo_after (vo_of entries) entry.command
 vo_with entries entry = vo_joined entries (entry ∷ []) None

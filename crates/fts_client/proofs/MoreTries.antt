@@ -65,10 +65,8 @@ is_end : (says : AnswerData → Heard) (most : ℕ) (tries : List Try) (end : Su
     → (is_last end ≡ false → length tries ≡ most) → IsEnd says most tries end
 is_end says most tries (SubmitDone job again) ends few all = (ends, few)
 is_end says most tries (SubmitRefused status) ends few all = (ends, few)
-is_end says most tries SubmitLinkFailed ends few all = (ends, all refl)
-is_end says most tries (SubmitCannotServe status) ends few all = (ends, all refl)
-is_end says most tries SubmitNoAnswer ends few all = (ends, all refl)
 is_end says most tries SubmitMemory ends few all = (ends_on says (λ try. SaysSo says try SubmitMemory) tries ends, few)
+is_end says most tries _ ends few all = (ends, all refl)
 
 module _ {L : Type 0} (says : AnswerData → Heard) (read written : Side L) (port : ℕ) (request : List ℕ) (old between new : LinkData L) (faults_old faults faults_new : ℕ)
     (room_old room room_new : AnswerRoomData) where

@@ -19,10 +19,8 @@ no_rest (byte ∷ rest) more is = cc
 
 -- what is behind a request, and something where none is read
 abbrev rest_of : Next → List ℕ
-rest_of Closed = 1 ∷ []
-rest_of EndsInside = 1 ∷ []
-rest_of (Refuses fault) = 1 ∷ []
 rest_of (Asks request rest) = rest
+rest_of _ = 1 ∷ []
 
 -- where bytes more make bytes a request, they were open before
 pub open_before : (first : Next) (more : List ℕ) (whole : Next) (request : RequestData) → StaysNext first more whole → whole ≡ Asks request [] → more ≢ [] → is_open first ≡ true

@@ -24,10 +24,8 @@ says_to_query answer = shown_in answer.status
 
 -- what a try says, where a response says so much
 abbrev pub said_in : (AnswerData → Heard) → Try → Heard
-said_in says NoLine = NoAnswer
-said_in says NotSent = NoAnswer
 said_in says (Sent (Ok answer)) = says answer
-said_in says (Sent (Err fault)) = NoAnswer
+said_in says _ = NoAnswer
 
 -- a try says this
 abbrev pub Says : (AnswerData → Heard) → Heard → Try → Type 0
@@ -140,9 +138,7 @@ end_without status = if (status == 500) || (status == 503) then SubmitCannotServ
 
 -- an end behind which there is no other try
 abbrev pub is_last : SubmitEnd → Bool
-is_last (SubmitDone job again) = true
-is_last (SubmitRefused status) = true
 is_last SubmitLinkFailed = false
 is_last (SubmitCannotServe status) = false
 is_last SubmitNoAnswer = false
-is_last SubmitMemory = true
+is_last _ = true

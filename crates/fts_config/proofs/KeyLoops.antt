@@ -1,5 +1,5 @@
 -- One more item of a list whose keys go into a set: its key is new, or it is there already.
-use Rattle.std.proofs.Common.{◌≡◌, ◌<◌, ◌+◌, ℕ, Bool, true, false, not, ◌&&◌, ◌||◌, cond, List, [], ◌∷◌, ◌++◌, length, take, get_or, String, string_bytes, refl, sym, ap, ◌∙◌, Global}
+use Rattle.std.proofs.Common.{◌≡◌, ◌<◌, ◌+◌, ℕ, Bool, true, false, not, ◌&&◌, ◌||◌, cond, List, [], ◌∷◌, ◌++◌, length, take, get_or, String, string_bytes, refl, sym, ap, ◌∙◌, Global, arith}
 use Rattle.std.proofs.lemmas.List.{take_more}
 use Rattle.std.proofs.lemmas.List.Folds.{list_all-append, list_any-append}
 use Rattle.std.proofs.lemmas.Map.Text.{btree_set_updates_text}
@@ -7,17 +7,13 @@ use Rattle.std.specs.Prelude.{bytes_eq}
 use Rattle.std.specs.String.{string_cmp}
 use Rattle.std.specs.List.{list_all, list_any}
 use Rattle.std.specs.BTreeSet.{BTreeSet, contains, contains_text, Updates}
+use Rattle.std.proofs.lemmas.Bool.Decides.{nat_tests}
 use Rattle.fts_tables.specs.SettingsData.{are_apart}
 use Rattle.fts_config.specs.Distinct.{is_same_key, IsDistinct, IsTwice}
 
 -- four tests, in two orders
 regrouped : (a b c d : Bool) → (not (a || (b || false)) && (c && not d)) ≡ ((not a && c) && not (b || d))
-regrouped true b c d = refl
-regrouped false true true true = refl
-regrouped false true true false = refl
-regrouped false true false d = refl
-regrouped false false true d = refl
-regrouped false false false d = refl
+regrouped a b c d = grind (arith, nat_tests)
 
 -- a list with one more at its end
 apart-push : {T : Type 0} (same : T → T → Bool) (items : List T) (last : T) → are_apart same (items ++ last ∷ [])
@@ -38,10 +34,7 @@ told_false true told = cc
 told_false false told = refl
 
 either : (b x : Bool) → cond b true x ≡ (x || (b || false))
-either true true = refl
-either true false = refl
-either false true = refl
-either false false = refl
+either b x = grind (arith, nat_tests)
 
 module _ {T : Type 0} (key : T → List ℕ) (proper : T → Bool) (items : List T) (i : ℕ) (item : T) (keys : BTreeSet (String Global)) (text : String Global)
     (inside : i < length items) (is : item ≡ get_or items i item) (so_far : IsDistinct key proper (take i items) keys)

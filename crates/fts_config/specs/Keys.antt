@@ -30,54 +30,37 @@ name_of Weight = codes "weight"
 
 -- the list in whose tables a key stands, and none where it stands in the document itself
 abbrev pub list_of : SettingKey → Option SettingKey
-list_of Vo = None
-list_of Workers = None
-list_of DefaultMaxActive = None
-list_of Storage = None
 list_of Url = Some Storage
 list_of Inbound = Some Storage
 list_of Outbound = Some Storage
-list_of Link = None
 list_of SymbolicName = Some Link
 list_of LinkSource = Some Link
 list_of LinkDestination = Some Link
 list_of MaxActive = Some Link
-list_of Activity = None
 list_of Name = Some Activity
 list_of Weight = Some Activity
+list_of _ = None
 
 -- the type of a key's value: a text, a whole number, or a list of tables
 abbrev pub kind_of : SettingKey → Kind
-kind_of Vo = Text
 kind_of Workers = Number
 kind_of DefaultMaxActive = Number
 kind_of Storage = Tables
-kind_of Url = Text
 kind_of Inbound = Number
 kind_of Outbound = Number
 kind_of Link = Tables
-kind_of SymbolicName = Text
-kind_of LinkSource = Text
-kind_of LinkDestination = Text
 kind_of MaxActive = Number
 kind_of Activity = Tables
-kind_of Name = Text
 kind_of Weight = Number
+kind_of _ = Text
 
 -- whether a key must be there, in each table in which it stands
 abbrev pub is_needed : SettingKey → Bool
-is_needed Vo = true
 is_needed Workers = false
 is_needed DefaultMaxActive = false
-is_needed Storage = true
-is_needed Url = true
 is_needed Inbound = false
 is_needed Outbound = false
 is_needed Link = false
 is_needed SymbolicName = false
-is_needed LinkSource = true
-is_needed LinkDestination = true
-is_needed MaxActive = true
 is_needed Activity = false
-is_needed Name = true
-is_needed Weight = true
+is_needed _ = true

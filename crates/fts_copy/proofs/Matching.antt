@@ -50,11 +50,7 @@ matching_ends order store before after offset wanted size (ReadBackDiffers at) i
     λ knows. piece_differs order store before offset wanted size at (is knows.told).0 inside knows (so_far knows) (is knows.told).1 (is knows.told).2
 matching_ends order store before after offset wanted size StoreFailed inside so_far is = tt
 matching_ends order store before after offset wanted size Stopped inside so_far is = tt
-matching_ends order store before after offset wanted size SourceMissing inside so_far is = is
-matching_ends order store before after offset wanted size DestinationExists inside so_far is = is
-matching_ends order store before after offset wanted size (SourceSize seen) inside so_far is = is
-matching_ends order store before after offset wanted size (SourceDigest seen) inside so_far is = is
-matching_ends order store before after offset wanted size (Verified n digest) inside so_far is = is
+matching_ends order store before after offset wanted size _ inside so_far is = is
 
 -- a source of this size is no longer
 pub no_longer : (source : List ℕ) (size : ℕ) (longer : Bool) → length source ≡ size → longer ≡ nat_lt size (length source) → longer ≡ true → ⊥

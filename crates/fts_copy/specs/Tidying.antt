@@ -11,13 +11,7 @@ use Rattle.fts_copy.specs.Copy.{Order, part_of}
 -- whether a copy that ended so may leave its part; a verified one has made it the destination
 abbrev pub leaves_part : Outcome → Bool
 leaves_part (Verified size digest) = false
-leaves_part SourceMissing = true
-leaves_part DestinationExists = true
-leaves_part (SourceSize seen) = true
-leaves_part (SourceDigest seen) = true
-leaves_part (ReadBackDiffers at) = true
-leaves_part StoreFailed = true
-leaves_part Stopped = true
+leaves_part _ = true
 
 -- One call was made, which removes the part of an order, and it answered so. No other file changed, and where it didn't fail the part is gone.
 pub record RemovesPart (order : Order) (old new : StoreState) (calls called : Option (List Call)) (faults later : ℕ) : Type 0 where

@@ -6,13 +6,7 @@ use Rattle.fts_tables.specs.declared.rows.Outcome.TheVariants.{Verified, SourceM
 -- the size of a verified copy
 abbrev pub size_of : Outcome → Option ℕ
 size_of (Verified size digest) = Some size
-size_of SourceMissing = None
-size_of DestinationExists = None
-size_of (SourceSize seen) = None
-size_of (SourceDigest seen) = None
-size_of (ReadBackDiffers at) = None
-size_of StoreFailed = None
-size_of Stopped = None
+size_of _ = None
 
 -- the file was copied and read back
 abbrev pub is_verified : Outcome → Bool

@@ -1,8 +1,7 @@
 //! What no clause says: how doors at a socket of the file system meet clients over real sockets, and what they do with what stands at its path already.
 //! Each test has a path of its own in the folder that it runs in.
-ghost use Rattle.std.specs.Prelude.{◌<◌, IfOk};
-
-use fts_devices::{LineLimits, SocketDoors, SocketLine, StopFile};
+use crate::sockets::{Opened, load_next, next_line, short_limits};
+use fts_devices::{SocketDoors, StopFile};
 use fts_service::{Doors, DoorsFailed};
 use fts_wire::{Room, Sink, Source, WireFault};
 use std::fs;
@@ -10,22 +9,8 @@ use std::io::{Read, Write};
 use std::os::unix::fs::{FileTypeExt, symlink};
 use std::os::unix::net::{UnixListener, UnixStream};
 use std::test::Fail;
-use std::time::Duration;
-
-/// Doors at a socket.
-type Opened<'a> = SocketDoors<'a, &'a HostRuntime>;
 
 const GET: &[u8] = b"GET /jobs HTTP/1.1\r\n\r\n";
-
-/// Limits under which a client is soon let go.
-fn short_limits() -> LineLimits {
-    LineLimits {
-        wait: Duration::from_secs(1),
-        request: Duration::from_secs(2),
-        drain: Duration::from_secs(1),
-        ..LineLimits::of_service()
-    }
-}
 
 /// Doors at the socket of a path, which don't listen yet.
 fn doors_at<'a>(rt: &'a HostRuntime, path: &'a str) -> Opened<'a> {
@@ -40,25 +25,6 @@ fn open_doors<'a>(rt: &'a HostRuntime, path: &'a str) -> Result<Opened<'a>, Fail
         Ok(()) => Ok(doors),
         Err(DoorsFailed) => Err(Fail::new("no socket")),
     }
-}
-
-/// The next line of the doors.
-fn next_line<'a>(doors: &mut Opened<'a>) -> Result<SocketLine<'a, &'a HostRuntime>, Fail>
-    ensures { IfOk result (λ _. 0 < doors.new.out) }
-{
-    match doors.next() {
-        Ok(Some(line)) => Ok(line),
-        Ok(None) | Err(DoorsFailed) => Err(Fail::new("no line")),
-    }
-}
-
-/// What the next load of a line with one client finds.
-fn load_next(rt: &HostRuntime, doors: &mut Opened<'_>) -> Result<Result<bool, WireFault>, Fail> {
-    let mut room = Room::new(rt.alloc())?;
-    let mut line = next_line(doors)?;
-    let loaded = room.load(&mut line);
-    doors.done(line);
-    Ok(loaded)
 }
 
 /// Whether a client of a path gets a request through to these doors.

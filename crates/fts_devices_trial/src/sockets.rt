@@ -18,11 +18,11 @@ use std::test::Fail;
 use std::time::Duration;
 use std::{io, thread};
 
-/// Doors of a free port.
-type Opened<'a> = SocketDoors<'a, &'a HostRuntime>;
+/// Doors, of a port or at a socket.
+pub type Opened<'a> = SocketDoors<'a, &'a HostRuntime>;
 
 /// Limits under which a client is soon let go.
-fn short_limits() -> LineLimits {
+pub fn short_limits() -> LineLimits {
     LineLimits {
         wait: Duration::from_secs(1),
         request: Duration::from_secs(2),
@@ -46,7 +46,7 @@ fn connect(rt: &HostRuntime, port: u16) -> io::Result<TcpStream> {
 }
 
 /// The next line of the doors.
-fn next_line<'a>(doors: &mut Opened<'a>) -> Result<SocketLine<'a, &'a HostRuntime>, Fail>
+pub fn next_line<'a>(doors: &mut Opened<'a>) -> Result<SocketLine<'a, &'a HostRuntime>, Fail>
     ensures { IfOk result (λ _. 0 < doors.new.out) }
 {
     match doors.next() {
@@ -56,7 +56,10 @@ fn next_line<'a>(doors: &mut Opened<'a>) -> Result<SocketLine<'a, &'a HostRuntim
 }
 
 /// What the next load of a line with one client finds.
-fn load_next(rt: &HostRuntime, doors: &mut Opened<'_>) -> Result<Result<bool, WireFault>, Fail> {
+pub fn load_next(
+    rt: &HostRuntime,
+    doors: &mut Opened<'_>,
+) -> Result<Result<bool, WireFault>, Fail> {
     let mut room = Room::new(rt.alloc())?;
     let mut line = next_line(doors)?;
     let loaded = room.load(&mut line);

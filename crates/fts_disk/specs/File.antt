@@ -14,10 +14,8 @@ use Rattle.fts_disk.specs.declared.file.FileDisk.{FileDisk}
 
 -- it could not be opened or locked
 abbrev pub is_shut : {F H : Type 0} → Opened F H → Bool
-is_shut (Served service) = false
-is_shut (Viewed guard) = false
-is_shut Absent = false
 is_shut Refused = true
+is_shut _ = false
 
 -- the same as a fact
 abbrev pub IsShut : {F H : Type 0} → Opened F H → Type 0
@@ -26,9 +24,7 @@ IsShut opened = IsTrue (is_shut opened)
 -- it is open for looking at most
 abbrev pub cannot_write : {F H : Type 0} → Opened F H → Bool
 cannot_write (Served service) = false
-cannot_write (Viewed guard) = true
-cannot_write Absent = true
-cannot_write Refused = true
+cannot_write _ = true
 
 -- the same as a fact
 abbrev pub CannotWrite : {F H : Type 0} → Opened F H → Type 0
@@ -103,9 +99,7 @@ IsReadOnly disk = CannotWrite disk.opened
 -- what follows the opening for a service: the open file, or its failure
 abbrev pub served_on : {F H : Type 0} → (H → ℕ) → (ℕ → Script) → Opened F H → Script
 served_on number next (Served service) = next (number service.guard.file)
-served_on number next (Viewed guard) = fails
-served_on number next Absent = fails
-served_on number next Refused = fails
+served_on number next _ = fails
 
 -- what follows the opening for looking: the open file, none, or its failure
 abbrev pub viewed_on : {F H : Type 0} → (H → ℕ) → Script → (ℕ → Script) → Opened F H → Script

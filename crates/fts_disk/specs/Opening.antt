@@ -22,10 +22,7 @@ folder_of path = folder_from (path_parent path)
 abbrev pub by_found : (ℕ → Script) → Script → Answer → Script
 by_found next made (Opened file) = next file
 by_found next made (Failed errno) = if is_missing errno then made else fails
-by_found next made Done = fails
-by_found next made (Saw seen) = fails
-by_found next made (Gave bytes) = fails
-by_found next made (Counted count) = fails
+by_found next made _ = fails
 
 -- a file is opened to be written, or made where nothing has its name, a link neither
 unfoldable pub opens_or_makes : List ℕ → (ℕ → Script) → Script

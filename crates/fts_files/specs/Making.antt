@@ -39,10 +39,7 @@ removes_stale path next ended =
 abbrev pub by_name : (Seen → Script) → Script → Answer → Script
 by_name there absent (Saw seen) = there seen
 by_name there absent (Failed errno) = if is_missing errno then absent else fails
-by_name there absent Done = fails
-by_name there absent (Opened file) = fails
-by_name there absent (Gave bytes) = fails
-by_name there absent (Counted count) = fails
+by_name there absent _ = fails
 
 -- the name of a part is taken away from a plain file that nobody holds; where nothing has it, that is done
 unfoldable pub removes_part : List ℕ → Script → Script
@@ -52,10 +49,7 @@ removes_part path next = Does (LookAtName path) (by_name (λ found. by_kind (cle
 abbrev pub by_made : (ℕ → Script) → Script → Answer → Script
 by_made made taken (Opened file) = made file
 by_made made taken (Failed errno) = if is_taken errno then taken else fails
-by_made made taken Done = fails
-by_made made taken (Saw seen) = fails
-by_made made taken (Gave bytes) = fails
-by_made made taken (Counted count) = fails
+by_made made taken _ = fails
 
 -- a part is made where nothing has its name, once what has it has lost it, and held
 unfoldable pub makes_part : List ℕ → (ℕ → Script) → Script
@@ -67,10 +61,7 @@ makes_part path next =
 abbrev pub by_removed : Script → Answer → Script
 by_removed next Done = next
 by_removed next (Failed errno) = if is_missing errno then next else fails
-by_removed next (Opened file) = fails
-by_removed next (Saw seen) = fails
-by_removed next (Gave bytes) = fails
-by_removed next (Counted count) = fails
+by_removed next _ = fails
 
 -- a file is removed
 unfoldable pub removes : List ℕ → Script → Script

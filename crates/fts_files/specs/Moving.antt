@@ -48,10 +48,7 @@ plain_mode Other mode = None
 abbrev pub mode_seen : Answer → Option (Option ℕ)
 mode_seen (Saw seen) = Some (plain_mode seen.kind seen.mode)
 mode_seen (Failed errno) = if is_missing errno then Some None else None
-mode_seen Done = None
-mode_seen (Opened file) = None
-mode_seen (Gave bytes) = None
-mode_seen (Counted count) = None
+mode_seen _ = None
 
 -- looks which rights the file has that is to be replaced
 unfoldable pub sees_mode : List ℕ → (Option ℕ → Script) → Script
@@ -69,20 +66,13 @@ keeps_mode file dest next = sees_mode dest (gets_mode file next)
 -- where no second name can be given: nothing has the name, and then as above
 abbrev pub if_missing : Script → Answer → Script
 if_missing next (Failed errno) = if is_missing errno then next else fails
-if_missing next Done = fails
-if_missing next (Opened file) = fails
-if_missing next (Saw seen) = fails
-if_missing next (Gave bytes) = fails
-if_missing next (Counted count) = fails
+if_missing next _ = fails
 
 -- by what the link answered
 abbrev pub by_link : Script → Script → Answer → Script
 by_link linked unlinked Done = linked
 by_link linked unlinked (Failed errno) = if lacks_links errno then unlinked else fails
-by_link linked unlinked (Opened file) = fails
-by_link linked unlinked (Saw seen) = fails
-by_link linked unlinked (Gave bytes) = fails
-by_link linked unlinked (Counted count) = fails
+by_link linked unlinked _ = fails
 
 -- where nothing has the name: it is given by a link, which fails where something has it; a failure behind that takes the name back
 unfoldable pub links : List ℕ → List ℕ → Seen → List (List ℕ) → Script → Script

@@ -8,11 +8,7 @@ use Rattle.fts_files.specs.Script.{Script, Does, fails, unless_failed}
 -- by what an opening answered: again where too many files are open, and any other answer is the answer
 abbrev pub unless_too_many : (Answer → Script) → Script → Answer → Script
 unless_too_many next again (Failed errno) = if are_too_many errno then again else next (Failed errno)
-unless_too_many next again (Opened file) = next (Opened file)
-unless_too_many next again Done = next Done
-unless_too_many next again (Saw seen) = next (Saw seen)
-unless_too_many next again (Gave bytes) = next (Gave bytes)
-unless_too_many next again (Counted count) = next (Counted count)
+unless_too_many next again other = next other
 
 -- opens; where too many files are open it rests and opens again, so often at most, and then any answer is the answer
 unfoldable pub opens_within : List ℕ → Way → (Answer → Script) → ℕ → Script

@@ -19,10 +19,7 @@ plain_len Other len = None
 abbrev pub size_seen : Answer → Option (Option ℕ)
 size_seen (Saw seen) = plain_len seen.kind seen.len
 size_seen (Failed errno) = if is_missing errno then Some None else None
-size_seen Done = None
-size_seen (Opened file) = None
-size_seen (Gave bytes) = None
-size_seen (Counted count) = None
+size_seen _ = None
 
 -- looks how long a file is
 unfoldable pub sizes : List ℕ → (Option ℕ → Script) → Script
@@ -52,10 +49,7 @@ opens_source path next =
 abbrev pub by_read : (List ℕ → Script) → Script → Answer → Script
 by_read next again (Gave bytes) = next bytes
 by_read next again (Failed errno) = if is_interrupted errno then again else fails
-by_read next again Done = fails
-by_read next again (Opened file) = fails
-by_read next again (Saw seen) = fails
-by_read next again (Counted count) = fails
+by_read next again _ = fails
 
 -- reads once, in at most so many calls
 unfoldable pub reads_once : ℕ → ℕ → ℕ → (List ℕ → Script) → ℕ → Script

@@ -39,29 +39,17 @@ done_end (Err failed) = None
 -- goes on where a call was done, and otherwise ends so
 abbrev pub unless_failed : Script → Script → Answer → Script
 unless_failed next ended Done = next
-unless_failed next ended (Failed errno) = ended
-unless_failed next ended (Opened file) = ended
-unless_failed next ended (Saw seen) = ended
-unless_failed next ended (Gave bytes) = ended
-unless_failed next ended (Counted count) = ended
+unless_failed next ended _ = ended
 
 -- goes on with the file that was opened
 abbrev pub with_open : (ℕ → Script) → Script → Answer → Script
 with_open next ended (Opened file) = next file
-with_open next ended (Failed errno) = ended
-with_open next ended Done = ended
-with_open next ended (Saw seen) = ended
-with_open next ended (Gave bytes) = ended
-with_open next ended (Counted count) = ended
+with_open next ended _ = ended
 
 -- goes on with what was seen
 abbrev pub with_seen : (Seen → Script) → Script → Answer → Script
 with_seen next ended (Saw seen) = next seen
-with_seen next ended (Failed errno) = ended
-with_seen next ended Done = ended
-with_seen next ended (Opened file) = ended
-with_seen next ended (Gave bytes) = ended
-with_seen next ended (Counted count) = ended
+with_seen next ended _ = ended
 
 -- goes on with what a step makes of an answer, where it makes something
 abbrev pub with_value : {T : Type 0} → (T → Script) → Script → Option T → Script

@@ -12,13 +12,9 @@ unless_interrupted errno = if is_interrupted errno then Some 0 else None
 
 -- how many bytes a write took; one that took none has failed
 abbrev pub taken : Answer → Option ℕ
-taken (Counted zero) = None
 taken (Counted (suc count)) = Some (suc count)
 taken (Failed errno) = unless_interrupted errno
-taken Done = None
-taken (Opened file) = None
-taken (Saw seen) = None
-taken (Gave bytes) = None
+taken _ = None
 
 -- a number, unless it is 0
 abbrev pub at_least_one : ℕ → Option ℕ
@@ -29,10 +25,7 @@ at_least_one (suc count) = Some (suc count)
 abbrev pub matched : List ℕ → Answer → Option ℕ
 matched bytes (Gave got) = if starts_with nat_eq bytes got then at_least_one (length got) else None
 matched bytes (Failed errno) = unless_interrupted errno
-matched bytes Done = None
-matched bytes (Opened file) = None
-matched bytes (Saw seen) = None
-matched bytes (Counted count) = None
+matched bytes _ = None
 
 -- goes over these bytes in at most so many calls, each of which deals with some of those that are left
 unfoldable pub goes_over : (ℕ → List ℕ → Asked) → (List ℕ → Answer → Option ℕ) → Script → ℕ → ℕ → List ℕ → Script

@@ -22,16 +22,10 @@ use Rattle.fts_keep.specs.Ending.{entry_bytes, restarts_cost, KeepsFirstLimit, L
 
 -- what settles something has room up to the journal's end
 limit_of_settling : (command : Command) → settles command ≡ true → journal_limit command ≡ JOURNAL_END
-limit_of_settling (Restart now settings) is = refl
 limit_of_settling (Submit now job) is = absurd cc
-limit_of_settling (CancelJob now job) is = refl
-limit_of_settling (CancelFile now job file) is = refl
 limit_of_settling (SetPriority now job priority) is = absurd cc
-limit_of_settling (Claim now word) is = refl
-limit_of_settling (Report now file attempt outcome) is = refl
 limit_of_settling (Ban now storage cancel) is = absurd cc
-limit_of_settling (Unban now storage) is = refl
-limit_of_settling (Expire now) is = refl
+limit_of_settling _ is = refl
 
 -- a block is longer than its body by five bytes
 block_long : (body : List ℕ) → length (block body) ≡ 5 + length body

@@ -165,9 +165,7 @@ pub take_fault : {D : Type 0} (state : D → DiskState) (faults : D → ℕ) (ol
 take_fault state faults old new tables after list longer gate n body so_far here (Damaged offset) takes =
     λ told. folded_fault state old tables list gate n offset body so_far takes told (here told)
 take_fault state faults old new tables after list longer gate n body so_far here Memory takes = tt
-take_fault state faults old new tables after list longer gate n body so_far here DiskFailed takes = absurd takes
-take_fault state faults old new tables after list longer gate n body so_far here (JournalFull used) takes = absurd takes
-take_fault state faults old new tables after list longer gate n body so_far here (Rule refusal) takes = absurd takes
+take_fault state faults old new tables after list longer gate n body so_far here _ takes = absurd takes
 
 -- what holds of a fault holds of the answer that carries it
 pub on_err : {T : Type 0} (result : Result T KeepFault) (fault : KeepFault) (P : KeepFault → Type 0) → IsErrAnd result (λ e. e ≡ fault) → P fault

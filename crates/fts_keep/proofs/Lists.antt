@@ -104,16 +104,8 @@ some_of false one other first second = second
 -- the bytes of a command begin with one of its own
 command_some : (command : Command) → 1 ≤ length (command_bytes command)
 unfolding command_bytes
-command_some (Restart now s) = omega arith
 command_some (Submit now j) = some_of (j.queue_hours == 0) _ _ (omega arith) (omega arith)
-command_some (CancelJob now j) = omega arith
-command_some (CancelFile now j f) = omega arith
-command_some (SetPriority now j priority) = omega arith
-command_some (Claim now word) = omega arith
-command_some (Report now f attempt o) = omega arith
-command_some (Ban now storage cancel) = omega arith
-command_some (Unban now storage) = omega arith
-command_some (Expire now) = omega arith
+command_some _ = omega arith
 
 -- a spelling has a byte
 pub spelled_some : (entry : Entry) → 1 ≤ length (spelled entry)

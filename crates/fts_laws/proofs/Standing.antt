@@ -19,11 +19,9 @@ last_further request (next ∷ requests) goes closes = (goes, closes)
 -- an end behind one request more
 ends_further : (most : ℕ) (request : RequestData) (requests : List RequestData) (rest : List ℕ) (end : InputEnd) → request.close ≡ false
     → EndsBehind most requests rest end → EndsBehind (suc most) (request ∷ requests) rest end
-ends_further most request requests rest Closed goes ends = (((goes, ends.0.0), omega (arith, ends.0.1)), ends.1)
-ends_further most request requests rest EndsInside goes ends = (((goes, ends.0.0), omega (arith, ends.0.1)), ends.1)
-ends_further most request requests rest (Refused fault) goes ends = (((goes, ends.0.0), omega (arith, ends.0.1)), ends.1)
 ends_further most request requests rest SaysClose goes ends = (last_further request requests goes ends.0, omega (arith, ends.1))
 ends_further most request requests rest Many goes ends = ((goes, ends.0), omega (arith, ends.1))
+ends_further most request requests rest _ goes ends = (((goes, ends.0.0), omega (arith, ends.0.1)), ends.1)
 
 -- a request, and what is behind it by whether it says close
 stands_behind : (most : ℕ) (bytes rest : List ℕ) (request : RequestData) (read : Input) (close : Bool) → request.close ≡ close
@@ -39,10 +37,8 @@ stands_behind most bytes rest request read false says first stands = record {
 -- what comes first, and what is behind it
 stands_by : (most : ℕ) (bytes : List ℕ) (next : Next) → next_of bytes ≡ next → ((rest : List ℕ) → Stands most rest (input_of most rest))
     → Stands (suc most) bytes (input_by (input_of most) next)
-stands_by most bytes NextClosed first each = record { rest = bytes; requests = refl; ends = ((tt, omega arith), first) }
-stands_by most bytes NextInside first each = record { rest = bytes; requests = refl; ends = ((tt, omega arith), first) }
-stands_by most bytes (Refuses fault) first each = record { rest = bytes; requests = refl; ends = ((tt, omega arith), first) }
 stands_by most bytes (Asks request rest) first each = stands_behind most bytes rest request (input_of most rest) request.close refl first (each rest)
+stands_by most bytes _ first each = record { rest = bytes; requests = refl; ends = ((tt, omega arith), first) }
 
 -- every input stands in its bytes
 pub input_stands : (most : ℕ) (bytes : List ℕ) → Stands most bytes (input_of most bytes)

@@ -19,16 +19,8 @@ is_given id given = option_map_or (λ other. other == id) given false
 
 -- whether a command submits a job under this id
 abbrev pub submits : ℕ → Command → Bool
-submits id (Restart now settings) = false
 submits id (Submit now job) = is_given id job.id
-submits id (CancelJob now job) = false
-submits id (CancelFile now job file) = false
-submits id (SetPriority now job priority) = false
-submits id (Claim now word) = false
-submits id (Report now file attempt outcome) = false
-submits id (Ban now storage cancel) = false
-submits id (Unban now storage) = false
-submits id (Expire now) = false
+submits id _ = false
 
 -- how many entries submit a job under this id; in a legal list each of them was accepted
 abbrev pub submissions : ℕ → List Entry → ℕ
@@ -47,28 +39,12 @@ is_standard_id id = nat_lt (standard_id 0) id && nat_le id (standard_id MAX_JOBS
 -- whether a command is a restart
 abbrev pub is_restart : Command → Bool
 is_restart (Restart now settings) = true
-is_restart (Submit now job) = false
-is_restart (CancelJob now job) = false
-is_restart (CancelFile now job file) = false
-is_restart (SetPriority now job priority) = false
-is_restart (Claim now word) = false
-is_restart (Report now file attempt outcome) = false
-is_restart (Ban now storage cancel) = false
-is_restart (Unban now storage) = false
-is_restart (Expire now) = false
+is_restart _ = false
 
 -- the VO's name after a command: a restart gives it, and every other command leaves it
 abbrev pub vo_after : Option (List ℕ) → Command → Option (List ℕ)
 vo_after vo (Restart now settings) = Some settings.vo
-vo_after vo (Submit now job) = vo
-vo_after vo (CancelJob now job) = vo
-vo_after vo (CancelFile now job file) = vo
-vo_after vo (SetPriority now job priority) = vo
-vo_after vo (Claim now word) = vo
-vo_after vo (Report now file attempt outcome) = vo
-vo_after vo (Ban now storage cancel) = vo
-vo_after vo (Unban now storage) = vo
-vo_after vo (Expire now) = vo
+vo_after vo _ = vo
 
 -- the VO's name after entries, where this was it before
 abbrev pub vo_from : Option (List ℕ) → List Entry → Option (List ℕ)

@@ -52,9 +52,7 @@ owned_after file files last writer (Claimed claimed attempt) owned among = by (c
         (λ here. absurd (no_test (claimed == file) (eq-eqb claimed file (sym here)) at))
         (among_last file claimed (without claimed files) among)
 owned_after file files last writer (Reported reported state) owned among = owned (among_without file reported files among).0
-owned_after file files last writer (Banned count) owned among = owned among
-owned_after file files last writer Unbanned owned among = owned among
-owned_after file files last writer (Expired count) owned among = owned among
+owned_after file files last writer _ owned among = owned among
 
 owned_step : (file : ℕ) (files : List ℕ) (last : Option Claimant) (writer : ℕ) (came : Outcomes) → (Among file files → HasOwner last)
     → Among file (out_step files came) → HasOwner (claim_step file last writer came)

@@ -48,10 +48,7 @@ came_of : (entries : List Entry) (entry : Entry) (rose : Type 0) (result : Resul
 came_of entries entry rose (Ok answer) came =
     (came.0, step_of (used_of entries) entry (step (tables_of entries) entry.command) (came.0, answer) came.1)
 came_of entries entry rose (Err (Rule refusal)) came = refused_of (used_of entries) entry (step (tables_of entries) entry.command) refusal came
-came_of entries entry rose (Err DiskFailed) came = tt
-came_of entries entry rose (Err (JournalFull used)) came = tt
-came_of entries entry rose (Err Memory) came = tt
-came_of entries entry rose (Err (Damaged offset)) came = tt
+came_of entries entry rose _ came = tt
 
 -- the items that a turn adds stand behind those of others, none of which are the pass's
 items_taken : (old new : PassView Entry) (taken : TakesTurn old new)

@@ -195,11 +195,9 @@ asked_keeps tables (CancelFile now job file) asked =
 asked_keeps tables (SetPriority now job priority) asked =
     on_found IsQuiet tables (job_at tables.jobs job) (λ found. set_priority tables (max now tables.moment) found priority)
     (λ found. priority_keeps tables (max now tables.moment) found priority)
-asked_keeps tables (Claim now word) asked = absurd asked
-asked_keeps tables (Report now file attempt outcome) asked = absurd asked
 asked_keeps tables (Ban now storage cancel) asked = ban_keeps tables (max now tables.moment) storage cancel
 asked_keeps tables (Unban now storage) asked = unban_keeps tables (max now tables.moment) storage
-asked_keeps tables (Expire now) asked = absurd asked
+asked_keeps tables _ asked = absurd asked
 
 -- a claim raises the attempt of its file, which is there, by one, and leaves the others'
 pub record Claims (before : Tables) (command : Command) (after : Tables) (file attempt : ℕ) : Type 0 where
@@ -226,38 +224,19 @@ Behaves before command after (Expired count) = KeepsAttempts before after
 quiet_behaves : (before : Tables) (command : Command) (after : Tables) (answer : Answer) → IsQuiet answer → KeepsAttempts before after
     → Behaves before command after answer
 quiet_behaves before command after (Restarted count) quiet keeps = absurd quiet
-quiet_behaves before command after (Submitted job id) quiet keeps = keeps
-quiet_behaves before command after (Cancelled job) quiet keeps = keeps
-quiet_behaves before command after (PrioritySet job) quiet keeps = keeps
 quiet_behaves before command after (Claimed file attempt) quiet keeps = absurd quiet
 quiet_behaves before command after (Reported file state) quiet keeps = absurd quiet
-quiet_behaves before command after (Banned count) quiet keeps = keeps
-quiet_behaves before command after Unbanned quiet keeps = keeps
-quiet_behaves before command after (Expired count) quiet keeps = keeps
+quiet_behaves before command after _ quiet keeps = keeps
 
 restart_behaves : (before : Tables) (command : Command) (after : Tables) (answer : Answer) → IsRestart command → IsRestarted answer
     → KeepsAttempts before after → Behaves before command after answer
 restart_behaves before command after (Restarted count) is fine keeps = (is, keeps)
-restart_behaves before command after (Submitted job id) is fine keeps = absurd fine
-restart_behaves before command after (Cancelled job) is fine keeps = absurd fine
-restart_behaves before command after (PrioritySet job) is fine keeps = absurd fine
-restart_behaves before command after (Claimed file attempt) is fine keeps = absurd fine
-restart_behaves before command after (Reported file state) is fine keeps = absurd fine
-restart_behaves before command after (Banned count) is fine keeps = absurd fine
-restart_behaves before command after Unbanned is fine keeps = absurd fine
-restart_behaves before command after (Expired count) is fine keeps = absurd fine
+restart_behaves before command after _ is fine keeps = absurd fine
 
 report_behaves : (before : Tables) (now file attempt : ℕ) (outcome : Outcome) (after : Tables) (answer : Answer) → IsReported file answer
     → KeepsAttempts before after → Behaves before (Report now file attempt outcome) after answer
-report_behaves before now file attempt outcome after (Restarted count) fine keeps = absurd fine
-report_behaves before now file attempt outcome after (Submitted job id) fine keeps = absurd fine
-report_behaves before now file attempt outcome after (Cancelled job) fine keeps = absurd fine
-report_behaves before now file attempt outcome after (PrioritySet job) fine keeps = absurd fine
-report_behaves before now file attempt outcome after (Claimed claimed again) fine keeps = absurd fine
 report_behaves before now file attempt outcome after (Reported reported state) fine keeps = (fine, keeps)
-report_behaves before now file attempt outcome after (Banned count) fine keeps = absurd fine
-report_behaves before now file attempt outcome after Unbanned fine keeps = absurd fine
-report_behaves before now file attempt outcome after (Expired count) fine keeps = absurd fine
+report_behaves before now file attempt outcome after _ fine keeps = absurd fine
 
 module _ (picks_stand : PicksStand) (tables : Tables) (formed : AreWellFormed tables) where
   -- so it is found by it

@@ -52,15 +52,8 @@ fresh_state held file state_is.NotUsed ends is = absurd ends
 
 fresh_report : (held file lanes : ℕ) (answer : Answer) → AnswersReport held (Ok answer)
     → ◌≡◌ {A = Turn} (end_by_report held lanes (Ok answer)) (turn_ends.Stale file) → ⊥
-fresh_report held file lanes (Restarted count) answers is = absurd answers
-fresh_report held file lanes (Submitted job id) answers is = absurd answers
-fresh_report held file lanes (Cancelled job) answers is = absurd answers
-fresh_report held file lanes (PrioritySet job) answers is = absurd answers
-fresh_report held file lanes (Claimed claimed attempt) answers is = absurd answers
 fresh_report held file lanes (Reported reported left) answers is = fresh_state held file left answers.1 is
-fresh_report held file lanes (Banned count) answers is = absurd answers
-fresh_report held file lanes Unbanned answers is = absurd answers
-fresh_report held file lanes (Expired count) answers is = absurd answers
+fresh_report held file lanes _ answers is = absurd answers
 
 fresh_idle : (file lanes : ℕ) → ◌≡◌ {A = Turn} (idle_end lanes) (turn_ends.Stale file) → ⊥
 fresh_idle file zero is = absurd cc

@@ -120,9 +120,7 @@ others_leave file files last writer by (Claimed claimed attempt) other among own
         (λ here. absurd (no_test (claimed == file) (eq-eqb claimed file (sym here)) at))
         (among_last file claimed (without claimed files) among)
 others_leave file files last writer by (Reported reported state) other among own = ((among_without file reported files among).0, own)
-others_leave file files last writer by (Banned count) other among own = (among, own)
-others_leave file files last writer by Unbanned other among own = (among, own)
-others_leave file files last writer by (Expired count) other among own = (among, own)
+others_leave file files last writer by _ other among own = (among, own)
 
 module _ (machine : Machine) (opening : List Entry) where
   -- what passes on from entry to entry of a legal list holds behind all of them

@@ -15,15 +15,8 @@ pub record Claimant : Type 0 where
 
 -- the last claim of a file after an answer to a writer: this one where it claims the file, and else the one before it
 abbrev pub claim_after : ℕ → Option Claimant → ℕ → Answer → Option Claimant
-claim_after file last writer (Restarted released) = last
-claim_after file last writer (Submitted job id) = last
-claim_after file last writer (Cancelled job) = last
-claim_after file last writer (PrioritySet job) = last
 claim_after file last writer (Claimed claimed attempt) = if claimed == file then Some (record { writer = writer; attempt = attempt }) else last
-claim_after file last writer (Reported reported state) = last
-claim_after file last writer (Banned cancelled) = last
-claim_after file last writer Unbanned = last
-claim_after file last writer (Expired cancelled) = last
+claim_after file last writer _ = last
 
 -- the same after a step: a refusal changes nothing
 abbrev pub claim_step : ℕ → Option Claimant → ℕ → Outcomes → Option Claimant

@@ -62,13 +62,7 @@ place_text place = place.endpoint.now ++ codes "/" ++ place.path.now
 -- the bytes of a copy that was verified, and 0 of any other
 abbrev pub bytes_of : Outcome → ℕ
 bytes_of (Verified size digest) = size
-bytes_of SourceMissing = 0
-bytes_of DestinationExists = 0
-bytes_of (SourceSize seen) = 0
-bytes_of (SourceDigest seen) = 0
-bytes_of (ReadBackDiffers at) = 0
-bytes_of StoreFailed = 0
-bytes_of Stopped = 0
+bytes_of _ = 0
 
 -- how a copy ended, in the words of the service's replies
 abbrev pub outcome_text : Outcome → List ℕ

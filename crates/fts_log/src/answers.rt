@@ -31,15 +31,7 @@ impl FileCall {
             FileCall::Make => refused.is_taken(),
             FileCall::Link => refused.is_taken() || refused.lacks_links(),
             FileCall::MakeFolder => refused.is_taken() || refused.is_missing(),
-            FileCall::LookAtOpen
-            | FileCall::Read
-            | FileCall::Write
-            | FileCall::SyncData
-            | FileCall::SyncAll
-            | FileCall::Lock
-            | FileCall::Forget
-            | FileCall::Rename
-            | FileCall::SetMode => false,
+            _ => false,
         }
     }
 }

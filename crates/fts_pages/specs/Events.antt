@@ -53,21 +53,14 @@ happening_by NotUsed = Failure
 
 -- the reason that goes with a report, by the state behind it: why a copy failed, or that it was cancelled
 abbrev pub reason_by : FileState → Outcome → Reason
-reason_by Submitted outcome = Ended outcome
-reason_by Active outcome = Ended outcome
 reason_by Finished outcome = NoReason
-reason_by Failed outcome = Ended outcome
 reason_by Canceled outcome = Cancelled
-reason_by NotUsed outcome = Ended outcome
+reason_by _ outcome = Ended outcome
 
 -- the bytes that go with a report, by the state behind it: the size of a file that has finished
 abbrev pub bytes_by : FileState → Outcome → Option ℕ
-bytes_by Submitted outcome = None
-bytes_by Active outcome = None
 bytes_by Finished outcome = size_of outcome
-bytes_by Failed outcome = None
-bytes_by Canceled outcome = None
-bytes_by NotUsed outcome = None
+bytes_by _ outcome = None
 
 -- an event without attempt, reason and bytes
 abbrev pub plain_event : ℕ → Happening → EventShown
@@ -93,10 +86,8 @@ report_event report state = record {
 
 -- whether a reason is that a file was cancelled
 abbrev pub is_cancelled : Reason → Bool
-is_cancelled NoReason = false
 is_cancelled Cancelled = true
-is_cancelled (Ended outcome) = false
-is_cancelled Expired = false
+is_cancelled _ = false
 
 -- what a cancellation did to a row, by how it stands: asked where it was out, cancelled where it waited, and else nothing
 abbrev pub cancel_event : FileRow → ℕ → Option EventShown

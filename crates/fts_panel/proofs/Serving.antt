@@ -25,14 +25,9 @@ answered_for state faults before after request held now old new asked moment is 
 -- what came was refused: its fault is answered
 pub refused : {D : Type 0} (state : D → DiskState) (faults : D → ℕ) (view : Seen D) (room : RoomData) (fault : WireFault) (held now : Option (List ℕ)) (old new : ℕ)
     → IsRefused fault held now old new → Follows state faults room (Err fault) view view held now old new
-refused state faults view room BadHead held now old new is = (refl, is)
-refused state faults view room HeadTooLarge held now old new is = (refl, is)
-refused state faults view room BadLength held now old new is = (refl, is)
-refused state faults view room Chunked held now old new is = (refl, is)
-refused state faults view room BodyTooLarge held now old new is = (refl, is)
-refused state faults view room ForeignOrigin held now old new is = (refl, is)
 refused state faults view room EndsInside held now old new is = absurd (let none = is.has_status in cc)
 refused state faults view room SourceFailed held now old new is = absurd (let none = is.has_status in cc)
+refused state faults view room _ held now old new is = (refl, is)
 
 module _ {D L : Type 0} (state : D → DiskState) (faults : D → ℕ) (read written : Side L) (law : IsLine read written) (line : L) where
   -- one load from an empty room, and what follows of it without another one

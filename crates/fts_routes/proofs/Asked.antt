@@ -62,10 +62,7 @@ asked-outcomes tables (SetPriority now job priority) asked =
     of_job (job_at tables.jobs job) (λ found. set_priority tables _ found priority) (λ found. either (is_settled_job (rows_of_job tables.rows found.number)) _ _ tt tt)
 asked-outcomes tables (Ban now storage cancel) asked = of_ban tables _ storage cancel
 asked-outcomes tables (Unban now storage) asked = either (is_banned tables.banned storage) _ _ tt tt
-asked-outcomes tables (Restart now settings) asked = absurd asked
-asked-outcomes tables (Claim now word) asked = absurd asked
-asked-outcomes tables (Report now file attempt outcome) asked = absurd asked
-asked-outcomes tables (Expire now) asked = absurd asked
+asked-outcomes tables _ asked = absurd asked
 
 -- so its refusal, where it is refused
 pub asked-refusals : (tables : Tables) (command : Command) (refusal : Refusal) → IsAsked command → step tables command ≡ Err refusal → IsOfRequests refusal

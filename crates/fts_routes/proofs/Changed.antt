@@ -52,10 +52,7 @@ id-kept row = id-kept-by row (is_submitted row.state || is_not_used row.state) (
 state-by : FileState → FileState
 state-by Submitted = Canceled
 state-by NotUsed = Canceled
-state-by Active = Active
-state-by Finished = Finished
-state-by Failed = Failed
-state-by Canceled = Canceled
+state-by other = other
 
 state-after : (row : FileRow) → (cancelled row).state ≡ state-by row.state
 unfolding state-by
@@ -92,20 +89,16 @@ begun-itself state is = rw is refl
 
 canceled-by : (state : FileState) → is_live state ≡ true → is_active state ≡ false → is_canceled (state-by state) ≡ true
 unfolding state-by
-canceled-by Submitted live active = refl
-canceled-by NotUsed live active = refl
 canceled-by Active live active = absurd (true≢false active)
 canceled-by Finished live active = absurd (true≢false (sym live))
 canceled-by Failed live active = absurd (true≢false (sym live))
-canceled-by Canceled live active = refl
+canceled-by _ live active = refl
 
 active-by : (state : FileState) (asked : Bool) → is_live state ≡ true → (is_submitted state || is_not_used state || (is_active state && not asked)) ≡ false → is_active state ≡ true
 active-by Submitted asked live fixed = absurd (true≢false fixed)
 active-by NotUsed asked live fixed = absurd (true≢false fixed)
 active-by Active asked live fixed = refl
-active-by Finished asked live fixed = live
-active-by Failed asked live fixed = live
-active-by Canceled asked live fixed = live
+active-by _ asked live fixed = live
 
 -- a row that can't be cancelled is shown as it is
 shown-as-is : (row : FileRow) → is_cancellable row ≡ false → file_object (cancelled row) ≡ file_object row
@@ -407,12 +400,4 @@ file-cancelled tables now job row reply there own reply_is =
 pub shown-anyway : (shown : Data) (tables : Tables) (reply : Reply) → reply ≡ shows shown → (outcome : Outcomes) → ShowsOutcome (λ after. shown) tables reply outcome
 shown-anyway shown tables reply is (Ok done) = is
 shown-anyway shown tables reply is (Err (Unchanged job)) = is
-shown-anyway shown tables reply is (Err NoJob) = tt
-shown-anyway shown tables reply is (Err NoFile) = tt
-shown-anyway shown tables reply is (Err (Duplicate job)) = tt
-shown-anyway shown tables reply is (Err (JobsFull jobs)) = tt
-shown-anyway shown tables reply is (Err (RowsFull rows)) = tt
-shown-anyway shown tables reply is (Err Idle) = tt
-shown-anyway shown tables reply is (Err (Stale state attempt)) = tt
-shown-anyway shown tables reply is (Err NoStorage) = tt
-shown-anyway shown tables reply is (Err NotBanned) = tt
+shown-anyway shown tables reply is _ = tt

@@ -112,16 +112,9 @@ planned tables now request = by_route (route_of request.path)
 
 -- whatever the machine refuses of a request's command
 refused : (tables : Tables) (shown : Tables → Data) (refusal : Refusal) → IsOfRequests refusal → IsSaid (reply_to_refusal tables shown refusal)
-refused tables shown NoJob of_requests = record { phrase = refl; methods = refl; decided = refl }
-refused tables shown NoFile of_requests = record { phrase = refl; methods = refl; decided = refl }
-refused tables shown (Duplicate job) of_requests = record { phrase = refl; methods = refl; decided = refl }
-refused tables shown (JobsFull jobs) of_requests = record { phrase = refl; methods = refl; decided = refl }
-refused tables shown (RowsFull rows) of_requests = record { phrase = refl; methods = refl; decided = refl }
-refused tables shown (Unchanged job) of_requests = record { phrase = refl; methods = refl; decided = refl }
-refused tables shown NoStorage of_requests = record { phrase = refl; methods = refl; decided = refl }
-refused tables shown NotBanned of_requests = record { phrase = refl; methods = refl; decided = refl }
 refused tables shown Idle of_requests = absurd of_requests
 refused tables shown (Stale state attempt) of_requests = absurd of_requests
+refused tables shown _ of_requests = record { phrase = refl; methods = refl; decided = refl }
 
 -- whatever comes of its step
 come-to : (tables : Tables) (shown : Tables → Data) (used : ℕ) (entry : Entry) (outcome : Outcomes) → IsOfRequest outcome

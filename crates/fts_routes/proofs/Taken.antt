@@ -179,15 +179,11 @@ part_between front name rest n m e f =
 
 -- each name with the text that it took
 abbrev taken : Route → List (List ℕ × List ℕ)
-taken ToJobs = []
 taken (ToJob id) = (codes "id", id) ∷ []
 taken (ToFiles id) = (codes "id", id) ∷ []
 taken (ToFile id file) = (codes "id", id) ∷ (codes "file", file) ∷ []
-taken ToLinks = []
-taken ToEndpoints = []
-taken ToShares = []
-taken ToBans = []
 taken (ToEntry number) = (codes "n", number) ∷ []
+taken _ = []
 
 -- a router's row and a path, as a match tells them
 abbrev told : Found → List ℕ → List (List ℕ × List ℕ)
@@ -326,11 +322,8 @@ taken_texts (ToFiles id) u = (text_id, utf8_before id (codes "files") (utf8_behi
 taken_texts (ToFile id file) u =
     let below = utf8_behind (codes "/jobs/") (id ++ (codes "/files/" ++ file)) refl u in
     (text_id, utf8_before id (codes "files/" ++ file) below, (text_file, utf8_behind (codes "/files/") file refl (utf8_after id (codes "files/" ++ file) below), tt))
-taken_texts ToLinks u = tt
-taken_texts ToEndpoints u = tt
-taken_texts ToShares u = tt
-taken_texts ToBans u = tt
 taken_texts (ToEntry number) u = (text_n, utf8_behind (codes "/journal/") number refl u, tt)
+taken_texts _ u = tt
 
 -- the texts that the names took make the route
 routed : (route : Route) → route_at (row_of route).value (λ key. named_in key (taken route)) ≡ Some route

@@ -30,13 +30,8 @@ pub data Asked : Type 0 where
 abbrev pub asked_on : Route → RequestData → Asked
 asked_on Jobs request = if has_method request (codes "POST") || has_method request (codes "PUT") then JobDocument else NoDocument
 asked_on (Job id) request = if has_method request (codes "POST") then PriorityDocument else NoDocument
-asked_on (Files id) request = NoDocument
-asked_on (File id file) request = NoDocument
-asked_on Links request = NoDocument
-asked_on Endpoints request = NoDocument
-asked_on Shares request = NoDocument
 asked_on Bans request = if has_method request (codes "POST") then BanDocument else NoDocument
-asked_on (JournalEntry number) request = NoDocument
+asked_on _ request = NoDocument
 
 -- and where its path has no route, none
 abbrev pub asked_by : RequestData → Asked

@@ -146,13 +146,7 @@ look_at_settings request shown items =
 abbrev pub cancelled_of : Answer → ℕ
 cancelled_of (Banned cancelled) = cancelled
 cancelled_of (Expired cancelled) = cancelled
-cancelled_of Unbanned = 0
-cancelled_of (Restarted released) = 0
-cancelled_of (Submitted job id) = 0
-cancelled_of (Cancelled job) = 0
-cancelled_of (PrioritySet job) = 0
-cancelled_of (Claimed file attempt) = 0
-cancelled_of (Reported file state) = 0
+cancelled_of _ = 0
 
 -- the same of what comes of a command; a refusal cancels nothing
 abbrev pub cancelled_in : Outcomes → ℕ

@@ -38,20 +38,31 @@ pub fn clock(alloc: Global) -> Result<ListClock, Memory> {
 
 /// A store that holds `abc` at `https://a.example/data/f1`.
 fn store(alloc: Global) -> Result<MemoryStore, Memory> {
-    let mut files = Vec::new(alloc);
     let endpoint = EndpointName::read(alloc, "https://a.example")?;
     let path = PathKey::read(alloc, "data/f1")?;
-    if let (Some(endpoint), Some(path)) = (endpoint, path) {
-        let file = StoredFile {
-            place: Place { endpoint, path },
-            bytes: Items::from_vec(b"abc".to_vec(alloc)?),
-        };
-        if files.push(file).is_err() {
-            return Err(Memory);
-        }
+    let (Some(endpoint), Some(path)) = (endpoint, path) else {
+        return Err(Memory);
+    };
+    let file = StoredFile {
+        place: Place { endpoint, path },
+        bytes: Items::from_vec(b"abc".to_vec(alloc)?),
+    };
+    let mut files = Items::new(alloc);
+    match files.push(file) {
+        Ok(()) => Ok(MemoryStore::new(alloc, files, Vec::new(alloc), Vec::new(alloc))),
+        Err(_) => Err(Memory),
     }
-    let files = Items::from_vec(files);
-    Ok(MemoryStore::new(alloc, files, Vec::new(alloc), Vec::new(alloc)))
+}
+
+/// These, where there are so many of them.
+fn exactly<T: Drop>(made: Vec<T>, count: usize) -> Result<Vec<T>, Memory>
+    ensures { IfOk result (λ kept. length kept.items ≡ count) }
+{
+    if made.len() == count {
+        Ok(made)
+    } else {
+        Err(Memory)
+    }
 }
 
 fn hands(alloc: Global) -> Result<Vec<StillHand>, Memory>
@@ -68,11 +79,7 @@ fn hands(alloc: Global) -> Result<Vec<StillHand>, Memory>
             return Err(Memory);
         }
     }
-    if hands.len() == HANDS {
-        Ok(hands)
-    } else {
-        Err(Memory)
-    }
+    exactly(hands, HANDS)
 }
 
 /// Lanes at these doors. There are eight of them.
@@ -89,11 +96,7 @@ fn lanes<A: Doors + Drop>(alloc: Global, doors: Vec<A>) -> Result<Vec<Lane<A, Li
             return Err(Memory);
         }
     }
-    if lanes.len() == LANES {
-        Ok(lanes)
-    } else {
-        Err(Memory)
-    }
+    exactly(lanes, LANES)
 }
 
 /// How a run ended, and what it left.

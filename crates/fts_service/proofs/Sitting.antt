@@ -131,6 +131,20 @@ each_length R [] (new ∷ news) each = absurd each
 each_length R (old ∷ olds) [] each = absurd each
 each_length R (old ∷ olds) (new ∷ news) each = ap suc (each_length R olds news each.1)
 
+-- behind their threads there are as many booths as rooms, and as many stations as benches
+pub seated_counts : (D : Type 0) {A E C W L : Type 0} (Served : Booth D A C L → Booth D A C L → Type 0) (Worked : Station D E C W → Station D E C W → Type 0)
+    (lanes : List (Lane A C L)) (rooms : List RoomData) (hands : List (Hand E C W)) (benches : List BenchData) (passes : List (PassView Entry))
+    (booths booths_left : List (Booth D A C L)) (stations stations_left : List (Station D E C W))
+    → Each Served booths booths_left → booths ≡ booths_of lanes rooms passes
+    → Each Worked stations stations_left → stations ≡ stations_of hands benches (drop (length rooms) passes)
+    → length rooms ≤ length lanes → length benches ≤ length hands → length passes ≡ length rooms + length benches
+    → (length booths_left ≡ length rooms) × (length stations_left ≡ length benches)
+seated_counts D Served Worked lanes rooms hands benches passes booths booths_left stations stations_left served seated worked stationed enough_lanes enough_hands many = (
+  each_length Served booths booths_left served ∙ ap length seated ∙ booths_length D lanes rooms passes enough_lanes (omega (arith, many)),
+  each_length Worked stations stations_left worked ∙ ap length stationed
+      ∙ stations_length D hands benches (drop (length rooms) passes) enough_hands (omega (arith, many, length-drop (length rooms) passes)),
+)
+
 -- the passes of booths and stations, in order, are all that there are
 pub seats_passes : (D : Type 0) {A E C W L : Type 0} (lanes : List (Lane A C L)) (rooms : List RoomData) (hands : List (Hand E C W)) (benches : List BenchData)
     (passes : List (PassView Entry)) → length rooms ≤ length lanes → length benches ≤ length hands → length passes ≡ length rooms + length benches

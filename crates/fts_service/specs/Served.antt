@@ -10,10 +10,8 @@ use Rattle.fts_service.specs.declared.together.ServedEnd.TheVariants as served_e
 
 -- whether a lane's doors failed
 abbrev pub are_doors_failed : Option LaneStop → Bool
-are_doors_failed None = false
-are_doors_failed (Some NoMore) = false
-are_doors_failed (Some (Enough lines)) = false
 are_doors_failed (Some DoorsFailed) = true
+are_doors_failed _ = false
 
 -- how bad an end is: a disk that failed most of all, then a full journal, then want of memory, then a stop
 abbrev pub severity_of : WorkerEnd → ℕ

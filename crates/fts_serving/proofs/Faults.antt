@@ -103,19 +103,9 @@ state_fault file state.NotUsed fault is = absurd cc
 report_fault : (file lanes : ℕ) (result : Result Answer KeepFault) (fault : KeepFault) → fault_of (end_by_report file lanes result) ≡ Some fault
     → result ≡ Err fault
 report_fault file lanes (Ok (Reported reported left)) fault is = absurd (state_fault file left fault is)
-report_fault file lanes (Ok (Restarted released)) fault is = absurd cc
-report_fault file lanes (Ok (Submitted job id)) fault is = absurd cc
-report_fault file lanes (Ok (Cancelled job)) fault is = absurd cc
-report_fault file lanes (Ok (PrioritySet job)) fault is = absurd cc
-report_fault file lanes (Ok (Claimed claimed attempt)) fault is = absurd cc
-report_fault file lanes (Ok (Banned cancelled)) fault is = absurd cc
-report_fault file lanes (Ok Unbanned) fault is = absurd cc
-report_fault file lanes (Ok (Expired cancelled)) fault is = absurd cc
 report_fault file lanes (Err DiskFailed) fault is = cc
 report_fault file lanes (Err (JournalFull used)) fault is = cc
-report_fault file lanes (Err Memory) fault is = absurd cc
-report_fault file lanes (Err (Rule refusal)) fault is = absurd cc
-report_fault file lanes (Err (Damaged offset)) fault is = absurd cc
+report_fault file lanes _ fault is = absurd cc
 
 idle_fault : (lanes : ℕ) (fault : KeepFault) → fault_of (idle_end lanes) ≡ Some fault → ⊥
 idle_fault zero fault is = absurd cc

@@ -19,15 +19,10 @@ AddsWell tables added = (added ≡ []) ⊎ ((entry : Entry) × ((added ≡ entry
 -- what a request may ask for is a command of requests
 is_of_request : (command : Command) → IsAsked command → IsOfRequest command
 is_of_request (Restart now settings) asked = asked
-is_of_request (Submit now job) asked = tt
-is_of_request (CancelJob now job) asked = tt
-is_of_request (CancelFile now job file) asked = tt
-is_of_request (SetPriority now job priority) asked = tt
 is_of_request (Claim now word) asked = asked
 is_of_request (Report now file attempt outcome) asked = asked
-is_of_request (Ban now storage cancel) asked = tt
-is_of_request (Unban now storage) asked = tt
 is_of_request (Expire now) asked = asked
+is_of_request _ asked = tt
 
 adds : (tables : Tables) (added : List Entry) → AddsAsked tables added → AddsWell tables added
 adds tables added (inl none) = inl none

@@ -57,29 +57,19 @@ claims_few entries = few entries
 
 -- a request is no claim
 no_claim : (command : Command) → IsOfRequest command → is_claim command ≡ false
-no_claim (Submit now job) is = refl
-no_claim (CancelJob now job) is = refl
-no_claim (CancelFile now job file) is = refl
-no_claim (SetPriority now job priority) is = refl
 no_claim (Restart now settings) is = absurd is
 no_claim (Claim now word) is = absurd is
 no_claim (Report now file attempt outcome) is = absurd is
-no_claim (Ban now storage cancel) is = refl
-no_claim (Unban now storage) is = refl
 no_claim (Expire now) is = absurd is
+no_claim _ is = refl
 
 -- and reports no copy
 no_copy : (tables : Tables) (command : Command) → IsOfRequest command → copies_in tables command ≡ []
-no_copy tables (Submit now job) is = refl
-no_copy tables (CancelJob now job) is = refl
-no_copy tables (CancelFile now job file) is = refl
-no_copy tables (SetPriority now job priority) is = refl
 no_copy tables (Restart now settings) is = absurd is
 no_copy tables (Claim now word) is = absurd is
 no_copy tables (Report now file attempt outcome) is = absurd is
-no_copy tables (Ban now storage cancel) is = refl
-no_copy tables (Unban now storage) is = refl
 no_copy tables (Expire now) is = absurd is
+no_copy tables _ is = refl
 
 -- the copies of one list and of another one
 pub copies_from-append : (by : ℕ → Bool) (tables : Tables) (entries more : List Entry)

@@ -86,13 +86,7 @@ failure_state job now outcome row = either_state (is_retryable outcome && nat_lt
 
 ended_state : (job : JobRow) (now : ℕ) (outcome : Outcome) (row : FileRow) → IsEndState (reported_without_cancel job now outcome row).state
 ended_state job now (Verified size digest) row = tt
-ended_state job now SourceMissing row = failure_state job now SourceMissing row
-ended_state job now DestinationExists row = failure_state job now DestinationExists row
-ended_state job now (SourceSize seen) row = failure_state job now (SourceSize seen) row
-ended_state job now (SourceDigest seen) row = failure_state job now (SourceDigest seen) row
-ended_state job now (ReadBackDiffers at) row = failure_state job now (ReadBackDiffers at) row
-ended_state job now StoreFailed row = failure_state job now StoreFailed row
-ended_state job now Stopped row = failure_state job now Stopped row
+ended_state job now other row = failure_state job now other row
 
 reported_state : (job : JobRow) (now : ℕ) (outcome : Outcome) (row : FileRow) → IsEndState (reported job now outcome row).state
 reported_state job now outcome row =

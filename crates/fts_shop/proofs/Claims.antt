@@ -87,23 +87,14 @@ module _ {D : Type 0} (disks : disk.Ghosts D) (old new : KeepData D) (writer now
 -- what an expiry is answered is no claimed file, and its fault one that a claim may meet
 expiry_order : (tables : Tables) (answer : Result Answer KeepFault) → AnswersExpiry answer → HasOrder answer (order_claimed tables answer)
 expiry_order tables (Ok (Expired cancelled)) answers = tt
-expiry_order tables (Ok (Restarted released)) answers = absurd answers
-expiry_order tables (Ok (Submitted job id)) answers = absurd answers
-expiry_order tables (Ok (Cancelled job)) answers = absurd answers
-expiry_order tables (Ok (PrioritySet job)) answers = absurd answers
-expiry_order tables (Ok (Claimed file attempt)) answers = absurd answers
-expiry_order tables (Ok (Reported file left)) answers = absurd answers
-expiry_order tables (Ok (Banned cancelled)) answers = absurd answers
-expiry_order tables (Ok Unbanned) answers = absurd answers
 expiry_order tables (Err fault) answers = tt
+expiry_order tables _ answers = absurd answers
 
 expiry_answers : (answer : Result Answer KeepFault) → AnswersExpiry answer → goes_on answer ≡ false → AnswersClaim answer
 expiry_answers (Ok answer) answers stops = absurd cc
 expiry_answers (Err (Rule refusal)) answers stops = answers
-expiry_answers (Err DiskFailed) answers stops = tt
-expiry_answers (Err (JournalFull used)) answers stops = tt
 expiry_answers (Err (Damaged offset)) answers stops = answers
-expiry_answers (Err Memory) answers stops = tt
+expiry_answers _ answers stops = tt
 
 module _ {D : Type 0} (disks : disk.Ghosts D) (old new : KeepData D) (writer now word : ℕ) (expiry : Result Answer KeepFault)
     (claim : Option (Result Answer KeepFault)) (stepped : IsClaimStep disks.state disks.faults writer old new now word expiry claim) where

@@ -91,13 +91,7 @@ failure_asked job now outcome row =
 -- so does every end of one
 ended_asked : (job : JobRow) (now : ℕ) (outcome : Outcome) (row : FileRow) → KeepsAsked row (reported_without_cancel job now outcome row)
 ended_asked job now (Verified size digest) row = record { id = refl; asked = λ asked. asked }
-ended_asked job now SourceMissing row = failure_asked job now SourceMissing row
-ended_asked job now DestinationExists row = failure_asked job now DestinationExists row
-ended_asked job now (SourceSize seen) row = failure_asked job now (SourceSize seen) row
-ended_asked job now (SourceDigest seen) row = failure_asked job now (SourceDigest seen) row
-ended_asked job now (ReadBackDiffers at) row = failure_asked job now (ReadBackDiffers at) row
-ended_asked job now StoreFailed row = failure_asked job now StoreFailed row
-ended_asked job now Stopped row = failure_asked job now Stopped row
+ended_asked job now other row = failure_asked job now other row
 
 -- and a report
 reported_asked : (job : JobRow) (now : ℕ) (outcome : Outcome) (row : FileRow) → KeepsAsked row (reported job now outcome row)

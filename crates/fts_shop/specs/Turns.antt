@@ -86,24 +86,14 @@ end_by_fault file lanes (Damaged offset) = turn_ends.Memory lanes
 -- the end of a turn by the answer to the report of a file; the answers that no report is given end it as stale
 abbrev pub end_by_report : ℕ → ℕ → Result Answer KeepFault → Turn
 end_by_report file lanes (Ok (Reported reported left)) = end_by_state file left
-end_by_report file lanes (Ok (Restarted released)) = turn_ends.Stale file
-end_by_report file lanes (Ok (Submitted job id)) = turn_ends.Stale file
-end_by_report file lanes (Ok (Cancelled job)) = turn_ends.Stale file
-end_by_report file lanes (Ok (PrioritySet job)) = turn_ends.Stale file
-end_by_report file lanes (Ok (Claimed claimed attempt)) = turn_ends.Stale file
-end_by_report file lanes (Ok (Banned cancelled)) = turn_ends.Stale file
-end_by_report file lanes (Ok Unbanned) = turn_ends.Stale file
-end_by_report file lanes (Ok (Expired cancelled)) = turn_ends.Stale file
 end_by_report file lanes (Err fault) = end_by_fault file lanes fault
+end_by_report file lanes _ = turn_ends.Stale file
 
 -- whether a report that was answered so is over, or its file is held on
 abbrev pub is_over : Result Answer KeepFault → Bool
 is_over (Ok answer) = true
 is_over (Err (Rule refusal)) = true
-is_over (Err DiskFailed) = false
-is_over (Err (JournalFull used)) = false
-is_over (Err Memory) = false
-is_over (Err (Damaged offset)) = false
+is_over _ = false
 
 -- the report of a held file that ended so, in one turn and at the next moment
 pub record ReportTurn (old new : PassView Entry) (moments later : Option Coming) (held : Held) (outcome : Outcome) (end : Turn) (left : List Held)

@@ -41,28 +41,12 @@ pub record StepsIn {D : Type 0} (disks : disk.Ghosts D) (writer now word : ℕ) 
 -- what the copy of a claimed file is asked for, by the answer to the claim
 abbrev pub order_claimed : Tables → Result Answer KeepFault → Option Order
 order_claimed tables (Ok (Claimed file attempt)) = option_map (order_in tables) (row_at tables.rows file)
-order_claimed tables (Ok (Restarted released)) = None
-order_claimed tables (Ok (Submitted job id)) = None
-order_claimed tables (Ok (Cancelled job)) = None
-order_claimed tables (Ok (PrioritySet job)) = None
-order_claimed tables (Ok (Reported file state)) = None
-order_claimed tables (Ok (Banned cancelled)) = None
-order_claimed tables (Ok Unbanned) = None
-order_claimed tables (Ok (Expired cancelled)) = None
-order_claimed tables (Err fault) = None
+order_claimed tables _ = None
 
 -- the id of the job of a claimed file, by the answer to the claim
 abbrev pub job_claimed : Tables → Result Answer KeepFault → Option ℕ
 job_claimed tables (Ok (Claimed file attempt)) = job_id_of tables file
-job_claimed tables (Ok (Restarted released)) = None
-job_claimed tables (Ok (Submitted job id)) = None
-job_claimed tables (Ok (Cancelled job)) = None
-job_claimed tables (Ok (PrioritySet job)) = None
-job_claimed tables (Ok (Reported file state)) = None
-job_claimed tables (Ok (Banned cancelled)) = None
-job_claimed tables (Ok Unbanned) = None
-job_claimed tables (Ok (Expired cancelled)) = None
-job_claimed tables (Err fault) = None
+job_claimed tables _ = None
 
 -- an order comes with a claimed file
 abbrev pub HasOrder : Result Answer KeepFault → Option Order → Type 0

@@ -19,21 +19,17 @@ request_bytes port number =
 
 -- what is heard in a try for the entry of a number
 abbrev pub heard_by : ℕ → Try → Heard
-heard_by number NoLine = LinkFailed
-heard_by number NotSent = LinkFailed
 heard_by number (Sent (Ok answer)) = heard_of number answer.status answer.body
 heard_by number (Sent (Err BadResponse)) = NoAnswer
 heard_by number (Sent (Err EndsInside)) = NoAnswer
-heard_by number (Sent (Err SourceFailed)) = LinkFailed
+heard_by number _ = LinkFailed
 
 -- whether there is no other try behind this
 abbrev pub is_final : Heard → Bool
-is_final (Gives entry) = true
-is_final NoneThere = true
-is_final (Refuses status) = true
 is_final (CannotServe status) = false
 is_final NoAnswer = false
 is_final LinkFailed = false
+is_final _ = true
 
 -- behind each of these tries for the entry of a number there is another one
 abbrev pub GoOn : ℕ → List Try → Type 0

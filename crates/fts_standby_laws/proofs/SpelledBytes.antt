@@ -214,13 +214,10 @@ outcome_small : (o : Outcome) → is_proper_outcome o ≡ true → AreSmall (out
 unfolding outcome_bytes is_proper_outcome
 outcome_small (Verified size digest) passed =
     (omega arith, small-append (number_bytes size) digest (number_small size) (digest_small digest (and_parts _ _ passed).1))
-outcome_small SourceMissing passed = (omega arith, tt)
-outcome_small DestinationExists passed = (omega arith, tt)
 outcome_small (SourceSize seen) passed = (omega arith, number_small seen)
 outcome_small (SourceDigest seen) passed = (omega arith, digest_small seen passed)
 outcome_small (ReadBackDiffers place) passed = (omega arith, number_small place)
-outcome_small StoreFailed passed = (omega arith, tt)
-outcome_small Stopped passed = (omega arith, tt)
+outcome_small _ passed = (omega arith, tt)
 
 submit_small : (now : ℕ) (j : JobData) → is_proper_job j ≡ true
     → AreSmall (cond (j.queue_hours == 0) (2 ∷ number_bytes now ++ job_bytes j) (11 ∷ number_bytes now ++ limited_job_bytes j))

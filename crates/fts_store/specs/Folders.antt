@@ -21,10 +21,7 @@ device_of Other device = None
 abbrev pub device_seen : Answer → Option (Option ℕ)
 device_seen (Saw seen) = device_of seen.kind seen.device
 device_seen (Failed errno) = if is_missing errno then Some None else None
-device_seen Done = None
-device_seen (Opened file) = None
-device_seen (Gave bytes) = None
-device_seen (Counted count) = None
+device_seen _ = None
 
 -- whether a folder was there when it was first met; where it was, it has to be on the same device still
 abbrev pub as_met : Option (Option ℕ) → Option ℕ → Option Bool
@@ -58,10 +55,7 @@ if_there there absent None = absent
 abbrev pub by_made_one : Script → Answer → Script
 by_made_one next Done = next
 by_made_one next (Failed errno) = if is_taken errno then next else fails
-by_made_one next (Opened file) = fails
-by_made_one next (Saw seen) = fails
-by_made_one next (Gave bytes) = fails
-by_made_one next (Counted count) = fails
+by_made_one next _ = fails
 
 -- a folder is made where it is missing
 unfoldable pub makes_one : List ℕ → Script → Script
@@ -76,10 +70,7 @@ makes_down (lowest ∷ above) next = makes_down above (makes_one lowest next)
 abbrev pub by_lowest : (Missing → Script) → Script → Answer → Script
 by_lowest next several Done = next Lowest
 by_lowest next several (Failed errno) = if is_taken errno then next Lowest else (if is_missing errno then several else fails)
-by_lowest next several (Opened file) = fails
-by_lowest next several (Saw seen) = fails
-by_lowest next several (Gave bytes) = fails
-by_lowest next several (Counted count) = fails
+by_lowest next several _ = fails
 
 -- the lowest of these folders
 abbrev pub lowest_of : List (List ℕ) → Option (List ℕ)

@@ -17,11 +17,7 @@ names_in listed = filter is_utf8 (slice_split (λ byte. byte == 0) listed)
 -- those that a reading gave; one that was refused gave none
 abbrev pub names_told : Answer → List (List ℕ)
 names_told (Gave listed) = names_in listed
-names_told (Failed errno) = []
-names_told Done = []
-names_told (Opened file) = []
-names_told (Saw seen) = []
-names_told (Counted count) = []
+names_told _ = []
 
 -- the names in a folder are read
 abbrev pub lists : List ℕ → (List (List ℕ) → Script) → Script

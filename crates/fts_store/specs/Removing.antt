@@ -19,10 +19,7 @@ is_folder_kind Other = None
 abbrev pub folder_seen : Answer → Option Bool
 folder_seen (Saw seen) = is_folder_kind seen.kind
 folder_seen (Failed errno) = if is_missing errno then Some false else None
-folder_seen Done = None
-folder_seen (Opened file) = None
-folder_seen (Gave bytes) = None
-folder_seen (Counted count) = None
+folder_seen _ = None
 
 -- looks whether a name is a folder's
 unfoldable pub sees_folder : List ℕ → (Bool → Script) → Script

@@ -8,28 +8,14 @@ use Rattle.fts_top.specs.Runs.{OverDisks}
 
 -- words that don't ask to serve
 pub chooses_alone : (asked : Option Asked) (alone : Type 0) (serves : ℕ → Option ℕ → Type 0) → (IsToServe asked → ⊥) → alone → DoesOrServes asked alone serves
-chooses_alone None alone serves other does = does
-chooses_alone (Some asks.Session) alone serves other does = does
-chooses_alone (Some asks.Show) alone serves other does = does
-chooses_alone (Some (asks.Load number)) alone serves other does = does
 chooses_alone (Some (asks.Serve port lanes connections)) alone serves other does = absurd (other tt)
-chooses_alone (Some (asks.Submit port tries)) alone serves other does = does
-chooses_alone (Some (asks.Query port job tries)) alone serves other does = does
-chooses_alone (Some asks.Delete) alone serves other does = does
-chooses_alone (Some (asks.Follow port tries)) alone serves other does = does
+chooses_alone _ alone serves other does = does
 
 -- words that do
 pub chooses_serving : (asked : Option Asked) (alone : Type 0) (serves more : ℕ → Option ℕ → Type 0) → ((lanes : ℕ) (connections : Option ℕ) → serves lanes connections → more lanes connections)
     → DoesOrServes asked ⊥ serves → DoesOrServes asked alone more
-chooses_serving None alone serves more goes does = absurd does
-chooses_serving (Some asks.Session) alone serves more goes does = absurd does
-chooses_serving (Some asks.Show) alone serves more goes does = absurd does
-chooses_serving (Some (asks.Load number)) alone serves more goes does = absurd does
 chooses_serving (Some (asks.Serve port lanes connections)) alone serves more goes does = goes lanes connections does
-chooses_serving (Some (asks.Submit port tries)) alone serves more goes does = absurd does
-chooses_serving (Some (asks.Query port job tries)) alone serves more goes does = absurd does
-chooses_serving (Some asks.Delete) alone serves more goes does = absurd does
-chooses_serving (Some (asks.Follow port tries)) alone serves more goes does = absurd does
+chooses_serving _ alone serves more goes does = absurd does
 
 -- and what is left as it was beside it
 pub chooses_beside : (asked : Option Asked) (alone : Type 0) (serves : ℕ → Option ℕ → Type 0) (one two three four : Type 0) → one → two → three → four

@@ -305,13 +305,7 @@ module _ {D E : Type 0} (disks : disk.Ghosts D) (stores : store.Ghosts E)
           status = ap status_of is;
         })))
     by_stop NoMemory is stop stops = inr (inl (inr (record { stops = stops; status = ap status_of is })))
-    by_stop (Session session) is stop stops = absurd stop
-    by_stop (Shown whole) is stop stops = absurd stop
-    by_stop SourcesUnmade is stop stops = absurd stop
-    by_stop LineUnwritten is stop stops = absurd stop
-    by_stop DoorsFailed is stop stops = absurd stop
-    by_stop (Served worst) is stop stops = absurd stop
-    by_stop (Errand found) is stop stops = absurd stop
+    by_stop _ is stop stops = absurd stop
 
     run_finishes : IsSessionRun disks stores end tally text before after
         → Finishes disks stores text before after end tally requests
@@ -335,15 +329,7 @@ module _ {D E : Type 0} (disks : disk.Ghosts D) (stores : store.Ghosts E)
       is_good (Some bytes) fault h e = true≢false (sym (subst (λ (r : Result SettingsData SettingsFault). IsOk r) e h))
   by_look_stop DiskFailed is stop unwritten = absurd (disk stop.1)
   by_look_stop (Damaged offset) is stop unwritten = absurd (undamaged offset (stop.1 told))
-  by_look_stop NoCommand is stop unwritten = absurd stop
-  by_look_stop (JournalFull used) is stop unwritten = absurd stop
-  by_look_stop (Session session) is stop unwritten = absurd stop
-  by_look_stop (Shown whole) is stop unwritten = absurd stop
-  by_look_stop SourcesUnmade is stop unwritten = absurd stop
-  by_look_stop LineUnwritten is stop unwritten = absurd stop
-  by_look_stop DoorsFailed is stop unwritten = absurd stop
-  by_look_stop (Served worst) is stop unwritten = absurd stop
-  by_look_stop (Errand found) is stop unwritten = absurd stop
+  by_look_stop _ is stop unwritten = absurd stop
 
   by_whole : (whole : Bool) → end ≡ Shown whole → (shows : Shows disks text before.disk after.disk before.output after.output end tally)
       → WritesText (shown_text shows.tables) before.output after.output whole → FinishedShowing

@@ -51,17 +51,7 @@ pub unset_status : (text : Option (List ℕ)) (end : RunEnd) → HasNoSettings t
 unset_status text NoMemory h = refl
 unset_status text SettingsUnread h = refl
 unset_status text (SettingsRule rule) h = refl
-unset_status text NoCommand h = absurd h
-unset_status text DiskFailed h = absurd h
-unset_status text (Damaged offset) h = absurd h
-unset_status text (JournalFull used) h = absurd h
-unset_status text (Session end) h = absurd h
-unset_status text (Shown whole) h = absurd h
-unset_status text SourcesUnmade h = absurd h
-unset_status text LineUnwritten h = absurd h
-unset_status text DoorsFailed h = absurd h
-unset_status text (Served end) h = absurd h
-unset_status text (Errand end) h = absurd h
+unset_status text _ h = absurd h
 
 -- a status of a run that serves is none of those that it excludes
 pub not_status : (status other : ℕ) → (other == 2 || (other == 5 || other == 6)) ≡ true → IsServingStatus status → status ≢ other

@@ -38,16 +38,12 @@ no_end bytes next request behind is end asks = subst IsEnd (sym is ∙ asks) end
 
 -- the request that comes first, and what is behind it
 abbrev asked_of : Next → RequestData → RequestData
-asked_of Closed other = other
-asked_of EndsInside other = other
-asked_of (Refuses fault) other = other
 asked_of (Asks request behind) other = request
+asked_of _ other = other
 
 abbrev behind_of : Next → List ℕ → List ℕ
-behind_of Closed other = other
-behind_of EndsInside other = other
-behind_of (Refuses fault) other = other
 behind_of (Asks request behind) other = behind
+behind_of _ other = other
 
 pub same_input : (n : ℕ) (bytes : List ℕ) (one other : List RequestData) (end end2 : InputEnd) → Holds n bytes one end → Holds n bytes other end2 → (one ≡ other) × (end ≡ end2)
 same_input n bytes [] [] (Between next) (Between next2) h k = (refl, ap Between (sym h.1.0 ∙ k.1.0))

@@ -55,14 +55,4 @@ pub stop_left : (left after : Option (List ℕ)) (bytes : List ℕ) (end : RunEn
 stop_left left after bytes NoMemory all h = tt
 stop_left left after bytes SettingsUnread all h = tt
 stop_left left after bytes (SettingsRule rule) all h = broken_left left after bytes rule all h
-stop_left left after bytes NoCommand all h = absurd h
-stop_left left after bytes DiskFailed all h = absurd h
-stop_left left after bytes (Damaged offset) all h = absurd h
-stop_left left after bytes (JournalFull used) all h = absurd h
-stop_left left after bytes (Session end) all h = absurd h
-stop_left left after bytes (Shown whole) all h = absurd h
-stop_left left after bytes SourcesUnmade all h = absurd h
-stop_left left after bytes LineUnwritten all h = absurd h
-stop_left left after bytes DoorsFailed all h = absurd h
-stop_left left after bytes (Served end) all h = absurd h
-stop_left left after bytes (Errand end) all h = absurd h
+stop_left left after bytes _ all h = absurd h

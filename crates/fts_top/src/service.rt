@@ -380,15 +380,6 @@ where
             };
             serve(rt, alloc, order, settings, disk, clock, lanes, hands, gate)
         }
-        Some(
-            Asked::Session
-            | Asked::Show
-            | Asked::Load { .. }
-            | Asked::Submit { .. }
-            | Asked::Query { .. }
-            | Asked::Delete
-            | Asked::Follow { .. },
-        )
-        | None => unreachable!(),
+        _ => unreachable!(),
     }
 }

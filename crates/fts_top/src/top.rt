@@ -267,16 +267,7 @@ pub fn run_alone<
 {
     match read_words(words) {
         Some(Asked::Serve { .. }) => return None,
-        Some(
-            Asked::Session
-            | Asked::Show
-            | Asked::Load { .. }
-            | Asked::Submit { .. }
-            | Asked::Query { .. }
-            | Asked::Delete
-            | Asked::Follow { .. },
-        )
-        | None => {}
+        _ => {}
     }
     let Some(disk) = outside.disk.take() else {
         unreachable!();

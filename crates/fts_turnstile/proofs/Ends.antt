@@ -26,14 +26,16 @@ module _ {T I : Type 0} (items : T → List I) (names : I → ℕ) (shows : T �
   pub starts : (x : T) → items x ≡ opening → shows x ≡ opening_shows
       → Rule (record { words = 0 ∷ 0 ∷ 1 ∷ []; homes = some (Some x) ∷ []; views = first_view opening opening_shows ∷ [] })
   starts x xs ms = record {
-    turns = [];
-    tickets = 0;
-    given = 0;
-    hand = 0;
+    counts = record {
+      turns = [];
+      tickets = 0;
+      given = 0;
+      hand = 0;
+      few = (omega arith, omega arith);
+      named = tt;
+      takers = λ i t e. absurd (some-ne-none t (sym e));
+    };
     words = refl;
-    few = (omega arith, omega arith);
-    named = tt;
-    takers = λ i t e. absurd (some-ne-none t (sym e));
     waiting = omega arith;
     living = omega arith;
     each = only (λ _ v. Ok [] 0 0 0 v) (record {

@@ -14,7 +14,7 @@ use Rattle.fts_turnstile.proofs.Words.{Seat, at}
 use Rattle.fts_turnstile.proofs.Lists.{among-append, among_left, among_right, none_twice_left, none_twice-append}
 use Rattle.fts_turnstile.proofs.Histories.{others_since, longer_begins}
 use Rattle.fts_turnstile.proofs.ViewLists.{total_set, total_push, each_set, each_push, owned_set, owned_more, owned_join, apart_less, apart_push, apart_join}
-use Rattle.fts_turnstile.proofs.RuleParts.{share_turned, ticket_turned, still, still_pushed}
+use Rattle.fts_turnstile.proofs.RuleParts.{share_turned, ticket_turned, idle, still_pass, stays, still, still_pushed, told_more}
 
 module _ {T I : Type 0} (items : T → List I) (names : I → ℕ) (shows : T → List ℕ) (opening : List I) (opening_shows : List ℕ) where
   -- the rule of this lock
@@ -32,33 +32,16 @@ module _ {T I : Type 0} (items : T → List I) (names : I → ℕ) (shows : T �
       let f = r.each id v here in
       let wait = r.waiting in
       let live = r.living in
-      record {
-        turns = r.turns;
-        tickets = r.tickets;
-        given = r.given;
-        hand = r.hand;
-        words = r.words;
-        few = r.few;
-        named = r.named;
-        takers = r.takers;
-        waiting = let p = total_push (λ (u : View I). u.waits) s.views (note_of v) in omega arith;
-        living = let p = total_push (λ (u : View I). u.lives) s.views (note_of v) in omega arith;
-        each = each_push (Ok r.turns r.tickets r.given r.hand) s.views (note_of v)
-            (record {
-              seen = f.seen;
-              told = (r.turns, refl);
-              lives = omega arith;
-              waits = omega arith;
-              ticket = λ z. absurd (omega arith);
-              served = λ z. absurd (omega arith);
-              pass = λ z. absurd (omega arith);
-            })
-            r.each;
-        owned = owned_more r.given s.views (note_of v) r.owned;
-        apart = apart_push ShareNumber share_turned s.views (note_of v) r.apart (λ j u _ x. let z : 0 ≡ 1 = x.0 in absurd (omega arith));
-        in_line = apart_push ShareTicket ticket_turned s.views (note_of v) r.in_line (λ j u _ x. let z : 0 ≡ 1 = x.0 in absurd (omega arith));
-        value = still_pushed items names shows opening opening_shows s r.turns (note_of v) (λ z. absurd (omega arith)) r.value;
-      }
+      stays items names shows opening opening_shows s r r.tickets (record { words = s.words; homes = s.homes; views = s.views ++ note_of v ∷ [] }) r.words
+      (let p = total_push (λ (u : View I). u.waits) s.views (note_of v) in omega arith)
+      (let p = total_push (λ (u : View I). u.lives) s.views (note_of v) in omega arith)
+      (each_push (Ok r.turns r.tickets r.given r.hand) s.views (note_of v)
+      (idle opening opening_shows r.turns r.tickets r.given r.hand (note_of v) f.seen (r.turns, refl) (omega arith) refl refl (λ z. absurd (omega arith)))
+      r.each)
+      (owned_more r.given s.views (note_of v) r.owned)
+      (apart_push ShareNumber share_turned s.views (note_of v) r.apart (λ j u _ x. let z : 0 ≡ 1 = x.0 in absurd (omega arith)))
+      (apart_push ShareTicket ticket_turned s.views (note_of v) r.in_line (λ j u _ x. let z : 0 ≡ 1 = x.0 in absurd (omega arith)))
+      (still_pushed items names shows opening opening_shows s r.turns (note_of v) (λ z. absurd (omega arith)) r.value)
 
   -- a note is written
   pub notes : (id : ℕ) (v : View I) → Splits Rule id v v (note_of v)
@@ -81,38 +64,22 @@ module _ {T I : Type 0} (items : T → List I) (names : I → ℕ) (shows : T �
       let l' = total_set (λ (u : View I). u.lives) views other w spent_view there' in
       let wait = r.waiting in
       let live = r.living in
-      record {
-        turns = r.turns;
-        tickets = r.tickets;
-        given = r.given;
-        hand = r.hand;
-        words = r.words;
-        few = r.few;
-        named = r.named;
-        takers = r.takers;
-        waiting = omega arith;
-        living = omega arith;
-        each = each_set (Ok r.turns r.tickets r.given r.hand) views other spent_view
-            (record {
-              seen = (r.turns, refl);
-              told = (r.turns, refl);
-              lives = omega arith;
-              waits = omega arith;
-              ticket = λ z. absurd (omega arith);
-              served = λ z. absurd (omega arith);
-              pass = λ z. absurd (omega arith);
-            })
-            (λ j u _ e. each_set (Ok r.turns r.tickets r.given r.hand) s.views id both fits (λ i x _ e'. r.each i x e') j u e);
-        owned = owned_join r.given s.views id other v w both spent_view here apart there (λ e. lives ∙ e) w_lives v_more w_more r.owned;
-        apart = apart_join ShareNumber share_turned s.views id other v w both spent_view here there r.apart shares
-            (λ u x. let z : 0 ≡ 1 = x.0 in absurd (omega arith));
-        in_line = apart_join ShareTicket ticket_turned s.views id other v w both spent_view here there r.in_line
-            (λ u x. inl (sym waits ∙ x.0, x.1, sym ticket ∙ x.2)) (λ u x. let z : 0 ≡ 1 = x.0 in absurd (omega arith));
-        value = still items names shows opening opening_shows
-            (record { words = s.words; homes = s.homes; views = views }) r.turns other w spent_view s.words there' (λ e. absurd (omega arith))
-            (λ e. absurd (omega arith))
-            (still items names shows opening opening_shows s r.turns id v both s.words here (λ e. absurd (omega arith)) (λ e. absurd (omega arith)) r.value);
-      }
+      stays items names shows opening opening_shows s r r.tickets (record { words = s.words; homes = s.homes; views = set views other spent_view }) r.words
+      (omega arith)
+      (omega arith)
+      (each_set (Ok r.turns r.tickets r.given r.hand) views other spent_view
+      (idle opening opening_shows r.turns r.tickets r.given r.hand spent_view (r.turns, refl) (r.turns, refl) (omega arith) refl refl
+      (λ z. absurd (omega arith)))
+      (λ j u _ e. each_set (Ok r.turns r.tickets r.given r.hand) s.views id both fits (λ i x _ e'. r.each i x e') j u e))
+      (owned_join r.given s.views id other v w both spent_view here apart there (λ e. lives ∙ e) w_lives v_more w_more r.owned)
+      (apart_join ShareNumber share_turned s.views id other v w both spent_view here there r.apart shares
+      (λ u x. let z : 0 ≡ 1 = x.0 in absurd (omega arith)))
+      (apart_join ShareTicket ticket_turned s.views id other v w both spent_view here there r.in_line
+      (λ u x. inl (sym waits ∙ x.0, x.1, sym ticket ∙ x.2)) (λ u x. let z : 0 ≡ 1 = x.0 in absurd (omega arith)))
+      (still items names shows opening opening_shows
+      (record { words = s.words; homes = s.homes; views = views }) r.turns other w spent_view s.words there' (λ e. absurd (omega arith))
+      (λ e. absurd (omega arith))
+      (still items names shows opening opening_shows s r.turns id v both s.words here (λ e. absurd (omega arith)) (λ e. absurd (omega arith)) r.value))
 
   -- a pass takes in another
   pub takes_in : (id : ℕ) (v : View I) (other : ℕ) (w : View I) → v.lives ≡ 1 → v.told_numbers ≡ [] → v.served ≡ 0 → w.lives ≡ 1 → w.told_numbers ≡ []
@@ -125,28 +92,21 @@ module _ {T I : Type 0} (items : T → List I) (names : I → ℕ) (shows : T �
       let g = r.each other w there in
       let q = g.pass w_lives in
       merged s r id v (view_with_pass v w) other w here apart there refl refl refl not_v not_v w_waits not_w
-      (record {
-        seen = f.seen;
-        told = g.seen;
-        lives = f.lives;
-        waits = f.waits;
-        ticket = f.ticket;
-        served = f.served;
-        pass = λ _. record {
-          opening_is = k.opening_is;
-          shows_is = k.shows_is;
-          own = k.own;
-          told_own = q.own;
-          once = none_twice-append (own_numbers v) (own_numbers w) (none_twice_left (own_numbers v) v.told_numbers k.once)
-              (none_twice_left (own_numbers w) w.told_numbers q.once)
-              (λ n x y. apart (sym
-              (r.apart id other v w here there
-              (lives, w_lives, (n, among_left n (own_numbers v) v.told_numbers x, among_left n (own_numbers w) w.told_numbers y)))));
-          given_all = λ n x. ⊎_elim (λ y. k.given_all n (among_left n (own_numbers v) v.told_numbers y))
-              (λ y. q.given_all n (among_left n (own_numbers w) w.told_numbers y)) (among-append n (own_numbers v) (own_numbers w) x);
-          draws = k.draws;
-        };
-      })
+      (told_more opening opening_shows r.turns r.tickets r.given r.hand v w.seen (own_numbers w) f g.seen
+      (λ _. record {
+        opening_is = k.opening_is;
+        shows_is = k.shows_is;
+        own = k.own;
+        told_own = q.own;
+        once = none_twice-append (own_numbers v) (own_numbers w) (none_twice_left (own_numbers v) v.told_numbers k.once)
+            (none_twice_left (own_numbers w) w.told_numbers q.once)
+            (λ n x y. apart (sym
+            (r.apart id other v w here there
+            (lives, w_lives, (n, among_left n (own_numbers v) v.told_numbers x, among_left n (own_numbers w) w.told_numbers y)))));
+        given_all = λ n x. ⊎_elim (λ y. k.given_all n (among_left n (own_numbers v) v.told_numbers y))
+            (λ y. q.given_all n (among_left n (own_numbers w) w.told_numbers y)) (among-append n (own_numbers v) (own_numbers w) x);
+        draws = k.draws;
+      }))
       (λ u x. ⊎_elim (λ y. inl (lives, x.1, (x.2.0, among_left x.2.0 (own_numbers v) v.told_numbers y, x.2.2)))
       (λ y. inr (w_lives, x.1, (x.2.0, among_left x.2.0 (own_numbers w) w.told_numbers y, x.2.2)))
       (among-append x.2.0 (own_numbers v) (own_numbers w) x.2.1))
@@ -164,23 +124,10 @@ module _ {T I : Type 0} (items : T → List I) (names : I → ℕ) (shows : T �
       let f = r.each id v here in
       let g = r.each other w there in
       merged s r id v (view_with_note v w) other w here apart there refl refl refl not_v not_v w_waits not_w
-      (record {
-        seen = f.seen;
-        told = g.seen;
-        lives = f.lives;
-        waits = f.waits;
-        ticket = f.ticket;
-        served = f.served;
-        pass = λ z. let k = f.pass z in record {
-          opening_is = k.opening_is;
-          shows_is = k.shows_is;
-          own = k.own;
-          told_own = λ i t e h x. subst (Among t.number) none_told x;
-          once = k.once;
-          given_all = k.given_all;
-          draws = k.draws;
-        };
-      })
+      (told_more opening opening_shows r.turns r.tickets r.given r.hand v w.seen v.told_numbers f g.seen
+      (λ z. let k = f.pass z in
+      still_pass opening opening_shows r.turns r.turns r.given r.hand v v.seen w.seen v.waits v.ticket v.served k k.own
+      (λ i t e h x. subst (Among t.number) none_told x)))
       (λ u x. inl x)
       (λ e. absurd (omega arith))
       (λ n x. x)
@@ -210,42 +157,34 @@ module _ {T I : Type 0} (items : T → List I) (names : I → ℕ) (shows : T �
         w,
         keeps,
         tt,
-        record {
-          turns = r.turns;
-          tickets = r.tickets;
-          given = r.given;
-          hand = r.hand;
-          words = λ i. set (r.words i) 0 (slice_index (r.words i) 0);
-          few = r.few;
-          named = r.named;
-          takers = r.takers;
-          waiting = omega arith;
-          living = omega arith;
-          each = each_set (Ok r.turns r.tickets r.given r.hand) s.views id w
-              (record {
-                seen = b.2;
-                told = (r.turns, refl);
-                lives = f.lives;
-                waits = f.waits;
-                ticket = f.ticket;
-                served = λ z. absurd (omega arith);
-                pass = λ _. record {
-                  opening_is = k.opening_is;
-                  shows_is = k.shows_is;
-                  own = λ i t e h x. ⊎_elim (λ y. k.own i t e (omega arith) y) (λ y. k.told_own i t e (omega arith) y)
-                      (among-append t.number (own_numbers v) v.told_numbers x);
-                  told_own = λ i t e h x. x;
-                  once = subst NoneTwice (sym (append-nil (all_numbers v))) k.once;
-                  given_all = λ n x. k.given_all n (all n x);
-                  draws = k.draws;
-                };
-              })
-              (λ j u _ e. r.each j u e);
-          owned = owned_set r.given s.views id v w here (λ e. e) (λ n x. among_left n (own_numbers w) [] x) r.owned;
-          apart = apart_less ShareNumber share_turned s.views id v w here r.apart (λ u x. (x.0, x.1, (x.2.0, all x.2.0 x.2.1, x.2.2)));
-          in_line = apart_less ShareTicket ticket_turned s.views id v w here r.in_line (λ u x. x);
-          value = still items names shows opening opening_shows s r.turns id v w ws here (λ e. absurd (omega arith)) (λ e. absurd (omega arith)) r.value;
-        },
+        stays items names shows opening opening_shows s r r.tickets (record { words = ws; homes = s.homes; views = set s.views id w })
+            (λ i. set (r.words i) 0 (slice_index (r.words i) 0))
+            (omega arith)
+            (omega arith)
+            (each_set (Ok r.turns r.tickets r.given r.hand) s.views id w
+            (record {
+              seen = b.2;
+              told = (r.turns, refl);
+              lives = f.lives;
+              waits = f.waits;
+              ticket = f.ticket;
+              served = λ z. absurd (omega arith);
+              pass = λ _. record {
+                opening_is = k.opening_is;
+                shows_is = k.shows_is;
+                own = λ i t e h x. ⊎_elim (λ y. k.own i t e (omega arith) y) (λ y. k.told_own i t e (omega arith) y)
+                    (among-append t.number (own_numbers v) v.told_numbers x);
+                told_own = λ i t e h x. x;
+                once = subst NoneTwice (sym (append-nil (all_numbers v))) k.once;
+                given_all = λ n x. k.given_all n (all n x);
+                draws = k.draws;
+              };
+            })
+            (λ j u _ e. r.each j u e))
+            (owned_set r.given s.views id v w here (λ e. e) (λ n x. among_left n (own_numbers w) [] x) r.owned)
+            (apart_less ShareNumber share_turned s.views id v w here r.apart (λ u x. (x.0, x.1, (x.2.0, all x.2.0 x.2.1, x.2.2))))
+            (apart_less ShareTicket ticket_turned s.views id v w here r.in_line (λ u x. x))
+            (still items names shows opening opening_shows s r.turns id v w ws here (λ e. absurd (omega arith)) (λ e. absurd (omega arith)) r.value),
         (
           refl,
           refl,

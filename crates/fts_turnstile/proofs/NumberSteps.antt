@@ -12,7 +12,7 @@ use Rattle.fts_turnstile.proofs.Words.{Seat}
 use Rattle.fts_turnstile.proofs.Lists.{at_front}
 use Rattle.fts_turnstile.proofs.Histories.{none_all}
 use Rattle.fts_turnstile.proofs.ViewLists.{total_set, total_push, each_set, each_push, owned_set, owned_push, apart_less, apart_push}
-use Rattle.fts_turnstile.proofs.RuleParts.{share_turned, ticket_turned, recounted, still, still_pushed, not_first}
+use Rattle.fts_turnstile.proofs.RuleParts.{share_turned, ticket_turned, idle, recounted, still, still_pushed, not_first}
 
 module _ {T I : Type 0} (items : T → List I) (names : I → ℕ) (shows : T → List ℕ) (opening : List I) (opening_shows : List ℕ) where
   -- the rule of this lock
@@ -48,14 +48,16 @@ module _ {T I : Type 0} (items : T → List I) (names : I → ℕ) (shows : T �
         keeps,
         tt,
         record {
-          turns = r.turns;
-          tickets = r.tickets;
-          given = r.given;
-          hand = 1;
+          counts = record {
+            turns = r.turns;
+            tickets = r.tickets;
+            given = r.given;
+            hand = 1;
+            few = (omega arith, omega arith);
+            named = r.named;
+            takers = r.takers;
+          };
           words = words;
-          few = (omega arith, omega arith);
-          named = r.named;
-          takers = r.takers;
           waiting = omega arith;
           living = omega arith;
           each = each_set (Ok r.turns r.tickets r.given 1) s.views id w
@@ -107,35 +109,30 @@ module _ {T I : Type 0} (items : T → List I) (names : I → ℕ) (shows : T �
       (λ x. ⊎_elim (λ (is : x.2.0 ≡ v.given + 1). let b = k.given_all x.2.0 x.2.2 in absurd (omega arith)) (λ z. z) x.2.1)
       (λ j u _ e x. ⊎_elim (λ (is : x.2.0 ≡ v.given + 1). let b = ((r.each j u e).pass x.1).given_all x.2.0 x.2.2 in absurd (omega arith)) (λ z. z) x.2.1) in
       record {
-        turns = r.turns;
-        tickets = r.tickets;
-        given = r.given + 1;
-        hand = 0;
+        counts = record {
+          turns = r.turns;
+          tickets = r.tickets;
+          given = r.given + 1;
+          hand = 0;
+          few = (omega arith, omega arith);
+          named = r.named;
+          takers = λ i t e. let b = r.takers i t e in omega arith;
+        };
         words = r.words ∙ ap (λ n. (length r.turns % 18446744073709551616) ∷ (r.tickets % 18446744073709551616) ∷ n ∷ [])
             (let e : r.given + 1 + r.hand ≡ r.given + 1 + 1 + 0 = omega arith in e);
-        few = (omega arith, omega arith);
-        named = r.named;
-        takers = λ i t e. let b = r.takers i t e in omega arith;
         waiting = let p = total_push (λ (u : View I). u.waits) views new in omega arith;
         living = let p = total_push (λ (u : View I). u.lives) views new in omega arith;
         each = each_push (Ok r.turns r.tickets (r.given + 1) 0) views new
-            (record {
-              seen = f.seen;
-              told = (r.turns, refl);
-              lives = omega arith;
-              waits = omega arith;
-              ticket = λ z. absurd (omega arith);
-              served = λ z. absurd (omega arith);
-              pass = λ _. record {
-                opening_is = k.opening_is;
-                shows_is = k.shows_is;
-                own = λ i t e _ x. ⊎_elim (λ (is : t.number ≡ v.given + 1). let b = r.takers i t e in absurd (omega arith)) (λ z. z) x;
-                told_own = λ i t e _ x. x;
-                once = ((λ x. x), tt);
-                given_all = λ n x. ⊎_elim (λ (is : n ≡ v.given + 1). omega arith) absurd x;
-                draws = λ z. absurd (omega arith);
-              };
-            })
+            (idle opening opening_shows r.turns r.tickets (r.given + 1) 0 new f.seen (r.turns, refl) (omega arith) refl refl
+            (λ _. record {
+              opening_is = k.opening_is;
+              shows_is = k.shows_is;
+              own = λ i t e _ x. ⊎_elim (λ (is : t.number ≡ v.given + 1). let b = r.takers i t e in absurd (omega arith)) (λ z. z) x;
+              told_own = λ i t e _ x. x;
+              once = ((λ x. x), tt);
+              given_all = λ n x. ⊎_elim (λ (is : n ≡ v.given + 1). omega arith) absurd x;
+              draws = λ z. absurd (omega arith);
+            }))
             fits;
         owned = owned_push r.given views new refl (inl (ap (λ n. n + 1) (sym d0))) (owned_set r.given s.views id v w here (λ e. e) (λ n x. x) r.owned);
         apart = apart_push ShareNumber share_turned views new (apart_less ShareNumber share_turned s.views id v w here r.apart (λ u x. x)) nobody;

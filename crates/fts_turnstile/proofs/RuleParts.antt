@@ -1,12 +1,14 @@
 -- What every step needs of the rule: how many wait, who is pass 0, and where the value is when another view changes.
-use Rattle.std.proofs.Common.{◌≡◌, ◌≢◌, ◌⊎◌, ℕ, ◌+◌, ◌≤◌, List, [], ◌∷◌, ◌++◌, length, set, Option, sym, ◌∙◌, subst, inl, inr, ⊎_elim, arith}
+use Rattle.std.proofs.Common.{◌≡◌, ◌≢◌, ◌⊎◌, ℕ, ◌+◌, ◌%◌, ◌≤◌, List, [], ◌∷◌, ◌++◌, length, set, Option, sym, ◌∙◌, subst, inl, inr, ⊎_elim, arith}
 use mathlib.Core.Option.{some}
 use lib.ListN.{get_elem?}
 use Rattle.atomic_table.specs.Table.{State}
 use Rattle.atomic_table.proofs.Lists.{set_else, at_longer}
 use Rattle.fts_turnstile.specs.declared.turn.LoggedTurn.{LoggedTurn}
 use Rattle.fts_turnstile.specs.declared.view.View.{View}
-use Rattle.fts_turnstile.specs.Rule.{ShareNumber, ShareTicket, IsInOrder, IsHome, IsAway, IsOrderly}
+use Rattle.fts_turnstile.specs.History.{Begins, Among}
+use Rattle.fts_turnstile.specs.Views.{own_numbers}
+use Rattle.fts_turnstile.specs.Rule.{total, ShareNumber, ShareTicket, NoTwo, AllOwned, IsPass, IsInOrder, IsHome, IsAway, IsOrderly}
 use Rattle.fts_turnstile.proofs.Words.{at}
 use Rattle.fts_turnstile.proofs.Lists.{at_one}
 use Rattle.fts_turnstile.proofs.ViewLists.{total_le, each_set, each_push}
@@ -57,6 +59,50 @@ module _ {I : Type 0} (opening : List I) (opening_shows : List ℕ) where
     };
   }
 
+  -- a view that neither waits nor has the value is in order where what it has seen and was told is
+  pub idle : (turns : List (LoggedTurn I)) (tickets given hand : ℕ) (v : View I) → Begins v.seen turns → Begins v.told turns → v.lives ≤ 1 → v.waits ≡ 0
+      → v.served ≡ 0 → (v.lives ≡ 1 → IsPass opening opening_shows turns given hand v) → IsInOrder opening opening_shows turns tickets given hand v
+  idle turns tickets given hand v seen told lives waits served pass = record {
+    seen = seen;
+    told = told;
+    lives = lives;
+    waits = omega arith;
+    ticket = λ z. absurd (omega arith);
+    served = λ z. absurd (omega arith);
+    pass = pass;
+  }
+
+  -- a view that takes in what another has seen is in order where its pass is
+  pub told_more : (turns : List (LoggedTurn I)) (tickets given hand : ℕ) (v : View I) (told : List (LoggedTurn I)) (numbers : List ℕ)
+      → IsInOrder opening opening_shows turns tickets given hand v → Begins told turns
+      → (v.lives ≡ 1 → IsPass opening opening_shows turns given hand (record v { told = told; told_numbers = numbers }))
+      → IsInOrder opening opening_shows turns tickets given hand (record v { told = told; told_numbers = numbers })
+  told_more turns tickets given hand v told numbers f begins pass = record {
+    seen = f.seen;
+    told = begins;
+    lives = f.lives;
+    waits = f.waits;
+    ticket = f.ticket;
+    served = f.served;
+    pass = pass;
+  }
+
+  -- a pass stays one where it has seen or was told other turns, if no later turn has a number of its own or of those
+  pub still_pass : (turns more : List (LoggedTurn I)) (given hand : ℕ) (v : View I) (seen told : List (LoggedTurn I)) (waits ticket served : ℕ)
+      → IsPass opening opening_shows turns given hand v
+      → ((i : ℕ) (turn : LoggedTurn I) → get_elem? more i ≡ some turn → length seen ≤ i → ¬ Among turn.number (own_numbers v))
+      → ((i : ℕ) (turn : LoggedTurn I) → get_elem? more i ≡ some turn → length told ≤ i → ¬ Among turn.number v.told_numbers)
+      → IsPass opening opening_shows more given hand (record v { seen = seen; told = told; waits = waits; ticket = ticket; served = served })
+  still_pass turns more given hand v seen told waits ticket served k own told_own = record {
+    opening_is = k.opening_is;
+    shows_is = k.shows_is;
+    own = own;
+    told_own = told_own;
+    once = k.once;
+    given_all = k.given_all;
+    draws = k.draws;
+  }
+
 module _ {T I : Type 0} (items : T → List I) (names : I → ℕ) (shows : T → List ℕ) (opening : List I) (opening_shows : List ℕ) where
   -- the rule of this lock
   abbrev Rule : State (Option T) (View I) → Type 0
@@ -69,6 +115,25 @@ module _ {T I : Type 0} (items : T → List I) (names : I → ℕ) (shows : T �
   -- where the value is
   abbrev Placed : State (Option T) (View I) → List (LoggedTurn I) → Type 0
   Placed s turns = IsHome items names shows opening opening_shows s turns ⊎ IsAway items names shows opening opening_shows s
+
+  -- the rule holds of other words, views and value where the turns and the numbers are those of before
+  pub stays : (s : State (Option T) (View I)) (r : Rule s) (tickets : ℕ) (next : State (Option T) (View I))
+      → next.words ≡ (length r.turns % 18446744073709551616) ∷ (tickets % 18446744073709551616) ∷ (r.given + 1 + r.hand) ∷ []
+      → length r.turns + total (λ view. view.waits) next.views ≡ tickets → total (λ view. view.lives) next.views ≤ r.given + 1
+      → ((j : ℕ) (view : View I) → get_elem? next.views j ≡ some view → Ok r.turns tickets r.given r.hand view)
+      → AllOwned r.given next.views → NoTwo ShareNumber next.views → NoTwo ShareTicket next.views → Placed next r.turns
+      → Rule next
+  stays s r tickets next words waiting living each owned apart in_line value = record {
+    counts = record (r.counts) { tickets = tickets };
+    words = words;
+    waiting = waiting;
+    living = living;
+    each = each;
+    owned = owned;
+    apart = apart;
+    in_line = in_line;
+    value = value;
+  }
 
   -- there are no more tickets than pass numbers
   pub few_wait : (s : State (Option T) (View I)) (r : Rule s) → r.tickets ≤ length r.turns + (r.given + 1)

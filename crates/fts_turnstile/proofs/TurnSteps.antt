@@ -17,7 +17,7 @@ use Rattle.fts_turnstile.proofs.Words.{Seat, at}
 use Rattle.fts_turnstile.proofs.Lists.{at_below, at_pushed, at_one, begins_self, begins_more, among_left, among_right}
 use Rattle.fts_turnstile.proofs.Histories.{others_since, items_of-push, shown_after-push, named-push}
 use Rattle.fts_turnstile.proofs.ViewLists.{total_set, each_set, owned_set, apart_set, apart_less}
-use Rattle.fts_turnstile.proofs.RuleParts.{share_turned, ticket_turned, few_wait, more_tickets, still}
+use Rattle.fts_turnstile.proofs.RuleParts.{share_turned, ticket_turned, few_wait, more_tickets, idle, still_pass, stays, still}
 
 module _ {T I : Type 0} (items : T → List I) (names : I → ℕ) (shows : T → List ℕ) (opening : List I) (opening_shows : List ℕ) where
   -- the rule of this lock
@@ -47,42 +47,26 @@ module _ {T I : Type 0} (items : T → List I) (names : I → ℕ) (shows : T �
         w,
         keeps,
         tt,
-        record {
-          turns = r.turns;
-          tickets = n + 1;
-          given = r.given;
-          hand = r.hand;
-          words = words;
-          few = r.few;
-          named = r.named;
-          takers = r.takers;
-          waiting = omega arith;
-          living = omega arith;
-          each = each_set (Ok r.turns (n + 1) r.given r.hand) s.views id w
-              (record {
-                seen = f.seen;
-                told = f.told;
-                lives = f.lives;
-                waits = omega arith;
-                ticket = λ _. (omega arith, omega arith);
-                served = λ e. absurd (omega arith);
-                pass = λ e. let k = f.pass e in record {
-                  opening_is = k.opening_is;
-                  shows_is = k.shows_is;
-                  own = k.own;
-                  told_own = k.told_own;
-                  once = k.once;
-                  given_all = k.given_all;
-                  draws = k.draws;
-                };
-              })
-              (λ j u _ e. more_tickets opening opening_shows r.turns n (n + 1) r.given r.hand u (omega arith) (r.each j u e));
-          owned = owned_set r.given s.views id v w here (λ e. e) (λ n x. x) r.owned;
-          apart = apart_less ShareNumber share_turned s.views id v w here r.apart (λ u x. x);
-          in_line = apart_set ShareTicket ticket_turned s.views id w r.in_line
-              (λ j u _ e x. let t = (r.each j u e).ticket x.1 in let same : n ≡ u.ticket = x.2 in absurd (omega arith));
-          value = still items names shows opening opening_shows s r.turns id v w ws here (λ e. absurd (omega arith)) (λ e. absurd (omega arith)) r.value;
-        },
+        stays items names shows opening opening_shows s r (n + 1) (record { words = ws; homes = s.homes; views = set s.views id w }) words
+            (omega arith)
+            (omega arith)
+            (each_set (Ok r.turns (n + 1) r.given r.hand) s.views id w
+            (record {
+              seen = f.seen;
+              told = f.told;
+              lives = f.lives;
+              waits = omega arith;
+              ticket = λ _. (omega arith, omega arith);
+              served = λ e. absurd (omega arith);
+              pass = λ e. let k = f.pass e in
+                  still_pass opening opening_shows r.turns r.turns r.given r.hand v v.seen v.told 1 n v.served k k.own k.told_own;
+            })
+            (λ j u _ e. more_tickets opening opening_shows r.turns n (n + 1) r.given r.hand u (omega arith) (r.each j u e)))
+            (owned_set r.given s.views id v w here (λ e. e) (λ n x. x) r.owned)
+            (apart_less ShareNumber share_turned s.views id v w here r.apart (λ u x. x))
+            (apart_set ShareTicket ticket_turned s.views id w r.in_line
+            (λ j u _ e x. let t = (r.each j u e).ticket x.1 in let same : n ≡ u.ticket = x.2 in absurd (omega arith)))
+            (still items names shows opening opening_shows s r.turns id v w ws here (λ e. absurd (omega arith)) (λ e. absurd (omega arith)) r.value),
         (n, (λ i. slice_index (r.words i) 1), refl, refl),
       )
 
@@ -114,41 +98,25 @@ module _ {T I : Type 0} (items : T → List I) (names : I → ℕ) (shows : T �
         w,
         takes 0 (Some h.0),
         (λ i. get_elem? (h.1 i) 0),
-        record {
-          turns = r.turns;
-          tickets = r.tickets;
-          given = r.given;
-          hand = r.hand;
-          words = words;
-          few = r.few;
-          named = r.named;
-          takers = r.takers;
-          waiting = omega arith;
-          living = omega arith;
-          each = each_set (Ok r.turns r.tickets r.given r.hand) s.views id w
-              (record {
-                seen = begins_self r.turns;
-                told = f.told;
-                lives = f.lives;
-                waits = f.waits;
-                ticket = f.ticket;
-                served = λ _. (waits, sym mine, refl);
-                pass = λ _. record {
-                  opening_is = k.opening_is;
-                  shows_is = k.shows_is;
-                  own = λ i u e' h'. let b = at_below r.turns i u e' in absurd (omega arith);
-                  told_own = k.told_own;
-                  once = k.once;
-                  given_all = k.given_all;
-                  draws = k.draws;
-                };
-              })
-              (λ j u _ e'. r.each j u e');
-          owned = owned_set r.given s.views id v w here (λ e. e) (λ n x. x) r.owned;
-          apart = apart_less ShareNumber share_turned s.views id v w here r.apart (λ u x. x);
-          in_line = apart_less ShareTicket ticket_turned s.views id v w here r.in_line (λ u x. x);
-          value = inr ((λ i. set (h.1 i) 0 none), (id, w, set_here s.views id w (at_below s.views id v here), refl));
-        },
+        stays items names shows opening opening_shows s r r.tickets _ words
+            (omega arith)
+            (omega arith)
+            (each_set (Ok r.turns r.tickets r.given r.hand) s.views id w
+            (record {
+              seen = begins_self r.turns;
+              told = f.told;
+              lives = f.lives;
+              waits = f.waits;
+              ticket = f.ticket;
+              served = λ _. (waits, sym mine, refl);
+              pass = λ _. still_pass opening opening_shows r.turns r.turns r.given r.hand v r.turns v.told v.waits v.ticket 1 k
+                  (λ i u e' h'. let b = at_below r.turns i u e' in absurd (omega arith)) k.told_own;
+            })
+            (λ j u _ e'. r.each j u e'))
+            (owned_set r.given s.views id v w here (λ e. e) (λ n x. x) r.owned)
+            (apart_less ShareNumber share_turned s.views id v w here r.apart (λ u x. x))
+            (apart_less ShareTicket ticket_turned s.views id v w here r.in_line (λ u x. x))
+            (inr ((λ i. set (h.1 i) 0 none), (id, w, set_here s.views id w (at_below s.views id v here), refl))),
         (
           (λ _. (
             r.turns,
@@ -211,40 +179,31 @@ module _ {T I : Type 0} (items : T → List I) (names : I → ℕ) (shows : T �
         gives,
         tt,
         record {
-          turns = turns;
-          tickets = r.tickets;
-          given = r.given;
-          hand = r.hand;
+          counts = record {
+            turns = turns;
+            tickets = r.tickets;
+            given = r.given;
+            hand = r.hand;
+            few = r.few;
+            named = named-push names r.turns t r.named name;
+            takers = λ i u e. ⊎_elim (λ x. r.takers i u x)
+                (λ (x : (i ≡ length r.turns) × (t ≡ u)). subst (λ (z : LoggedTurn I). z.number ≤ r.given) x.1 (k.given_all v.number (inl refl)))
+                (at_pushed r.turns t u i e);
+          };
           words = words;
-          few = r.few;
-          named = named-push names r.turns t r.named name;
-          takers = λ i u e. ⊎_elim (λ x. r.takers i u x)
-              (λ (x : (i ≡ length r.turns) × (t ≡ u)). subst (λ (z : LoggedTurn I). z.number ≤ r.given) x.1 (k.given_all v.number (inl refl)))
-              (at_pushed r.turns t u i e);
           waiting = omega arith;
           living = omega arith;
           each = each_set (Ok turns r.tickets r.given r.hand) s.views id w
-              (record {
-                seen = subst (λ l'. Begins (v.seen ++ t ∷ []) (l' ++ t ∷ [])) g.2 (begins_self (v.seen ++ t ∷ []));
-                told = begins_more v.told r.turns (t ∷ []) f.told;
-                lives = f.lives;
-                waits = omega arith;
-                ticket = λ z. absurd (omega arith);
-                served = λ z. absurd (omega arith);
-                pass = λ _. record {
-                  opening_is = k.opening_is;
-                  shows_is = k.shows_is;
-                  own = λ i u e h.
-                      let b = at_below turns i u e in
-                      let q = length-append v.seen (t ∷ []) in
-                      let p : length v.seen ≡ length r.turns = ap length g.2 in
-                      absurd (omega arith);
-                  told_own = λ i u e h x. subst (Among u.number) none_told x;
-                  once = k.once;
-                  given_all = k.given_all;
-                  draws = k.draws;
-                };
-              })
+              (idle opening opening_shows turns r.tickets r.given r.hand w
+              (subst (λ l'. Begins (v.seen ++ t ∷ []) (l' ++ t ∷ [])) g.2 (begins_self (v.seen ++ t ∷ []))) (begins_more v.told r.turns (t ∷ []) f.told)
+              f.lives refl refl
+              (λ _. still_pass opening opening_shows r.turns turns r.given r.hand v (v.seen ++ t ∷ []) v.told 0 v.ticket 0 k
+              (λ i u e h.
+              let b = at_below turns i u e in
+              let q = length-append v.seen (t ∷ []) in
+              let p : length v.seen ≡ length r.turns = ap length g.2 in
+              absurd (omega arith))
+              (λ i u e h x. subst (Among u.number) none_told x)))
               (λ j u apart e. let o = r.each j u e in record {
                 seen = begins_more u.seen r.turns (t ∷ []) o.seen;
                 told = begins_more u.told r.turns (t ∷ []) o.told;

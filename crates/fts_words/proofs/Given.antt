@@ -1,8 +1,9 @@
 -- The numbers of options, with one option more.
-use Rattle.std.proofs.Common.{◌≡◌, ℕ, Bool, true, false, ◌||◌, if◌then◌else◌, List, [], ◌∷◌, ◌++◌, Option, Some, None, refl, ap, sym, subst, ◌∙◌}
+use Rattle.std.proofs.Common.{◌≡◌, ℕ, Bool, true, false, ◌||◌, if◌then◌else◌, List, [], ◌∷◌, ◌++◌, Option, Some, None, refl, ap, sym, subst, ◌∙◌, arith}
 use Rattle.std.specs.Prelude.{is_some, unwrap_or, option_map}
 use Rattle.std.specs.List.{list_any}
 use Rattle.std.proofs.lemmas.List.Folds.{list_any-append}
+use Rattle.std.proofs.lemmas.Bool.Decides.{nat_tests}
 use Rattle.fts_words.specs.Words.{port_of, lanes_of, connections_of, number_given, tries_of, job_of, first_of, numbers_of, is_same_option}
 use Rattle.fts_words.specs.declared.options.Given.{Given}
 use Rattle.fts_words.specs.declared.options.Given.TheVariants.{Port, Lanes, Connections, Number, Tries, Job, Socket, Log}
@@ -69,10 +70,7 @@ any_more variant before option =
     ∙ either (list_any (is_same_option variant) before) (is_same_option variant option)
   where
     either : (b c : Bool) → (b || (c || false)) ≡ (if c then true else b)
-    either true true = refl
-    either true false = refl
-    either false true = refl
-    either false false = refl
+    either b c = grind (arith, nat_tests)
 
 -- what comes of a value of which one may be given
 abbrev pub Once : Option ℕ → ℕ → Option ℕ → Type 0

@@ -80,10 +80,8 @@ given_ranged Serve name number =
     (within_range IsRanged 1 MAX_LANES Lanes number (λ low high. (low, high)))
     (choice IsRanged (bytes_eq name (codes "--connections")) (within 1 1000000 Connections number) None
     (within_range IsRanged 1 1000000 Connections number (λ low high. low)) tt))
-given_ranged Submit name number = client_ranged name number
-given_ranged Query name number = client_ranged name number
 given_ranged Delete name number = tt
-given_ranged Follow name number = client_ranged name number
+given_ranged _ name number = client_ranged name number
 
 any : {A : Type 0} (first : Option A) → IfSome first (λ a. Unit {0})
 any None = tt

@@ -44,12 +44,7 @@ any_back option (one ∷ done) = rw (same_option one option, any_back option don
 
 -- four tests in two orders
 regrouped : (a b c d : Bool) → (not (a || (b || false)) && (c && not d)) ≡ ((not a && c) && not (b || d))
-regrouped true b c d = refl
-regrouped false true true true = refl
-regrouped false true true false = refl
-regrouped false true false d = refl
-regrouped false false true d = refl
-regrouped false false false d = refl
+regrouped a b c d = grind (arith, nat_tests)
 
 -- a list with one more at its end
 apart_more : (done : List Given) (option : Given) → are_apart is_same_option (done ++ option ∷ [])

@@ -276,14 +276,9 @@ by_path word value option true found = by_socket word value option (bytes_eq wor
 by_path word value option false found = number_is Serve word value option found
 
 pub option_is : (command : Command) (word value : Text) (option : Given) → option_of command word value ≡ Some option → IsOption command word value option
-option_is Session word value option is = number_is Session word value option is
-option_is Show word value option is = number_is Show word value option is
-option_is Load word value option is = number_is Load word value option is
 option_is Serve word value option is = by_path word value option (bytes_eq word (codes "--socket") || bytes_eq word (codes "--log")) is
-option_is Submit word value option is = number_is Submit word value option is
 option_is Query word value option is = by_job word value option (bytes_eq word (codes "--job")) (bytes_eq-Decides word (codes "--job")).0 is
-option_is Delete word value option is = number_is Delete word value option is
-option_is Follow word value option is = number_is Follow word value option is
+option_is other word value option is = number_is other word value option is
 
 -- a word is cut at its equals sign
 cut : (word : Text) → has_value word ≡ true → word ≡ before_first is_equals word ++ 61 ∷ after_first is_equals word

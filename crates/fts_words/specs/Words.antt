@@ -102,21 +102,13 @@ given_by Serve name number =
     if bytes_eq name (codes "--port") then within 1 65535 Port number else
     if bytes_eq name (codes "--lanes") then within 1 MAX_LANES Lanes number else
     if bytes_eq name (codes "--connections") then within 1 1000000 Connections number else None
-given_by Submit name number = given_to_client name number
-given_by Query name number = given_to_client name number
 given_by Delete name number = None
-given_by Follow name number = given_to_client name number
+given_by _ name number = given_to_client name number
 
 -- whether a name is that of the option which names a job
 abbrev pub names_job : Command → List ℕ → Bool
-names_job Session name = false
-names_job Show name = false
-names_job Load name = false
-names_job Serve name = false
-names_job Submit name = false
 names_job Query name = bytes_eq name (codes "--job")
-names_job Delete name = false
-names_job Follow name = false
+names_job _ name = false
 
 -- the job whose id a value is the text of
 abbrev pub job_named : List ℕ → Option Given
@@ -124,14 +116,8 @@ job_named value = option_map (λ id. Job (from_be_bytes w128 id)) (parsed value)
 
 -- whether a command has options whose values are paths
 abbrev pub has_paths : Command → Bool
-has_paths Session = false
-has_paths Show = false
-has_paths Load = false
 has_paths Serve = true
-has_paths Submit = false
-has_paths Query = false
-has_paths Delete = false
-has_paths Follow = false
+has_paths _ = false
 
 -- whether a byte is not zero
 abbrev pub is_no_zero : ℕ → Bool

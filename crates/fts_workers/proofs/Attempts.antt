@@ -65,13 +65,7 @@ failure_attempt job now outcome row =
 -- so does every end of one
 ended_attempt : (job : JobRow) (now : ℕ) (outcome : Outcome) (row : FileRow) → IsSameAttempt row (reported_without_cancel job now outcome row)
 ended_attempt job now (Verified size digest) row = record { id = refl; attempt = refl }
-ended_attempt job now SourceMissing row = failure_attempt job now SourceMissing row
-ended_attempt job now DestinationExists row = failure_attempt job now DestinationExists row
-ended_attempt job now (SourceSize seen) row = failure_attempt job now (SourceSize seen) row
-ended_attempt job now (SourceDigest seen) row = failure_attempt job now (SourceDigest seen) row
-ended_attempt job now (ReadBackDiffers at) row = failure_attempt job now (ReadBackDiffers at) row
-ended_attempt job now StoreFailed row = failure_attempt job now StoreFailed row
-ended_attempt job now Stopped row = failure_attempt job now Stopped row
+ended_attempt job now other row = failure_attempt job now other row
 
 -- and a report, where a cancellation was asked too
 reported_attempt : (job : JobRow) (now : ℕ) (outcome : Outcome) (row : FileRow) → IsSameAttempt row (reported job now outcome row)

@@ -74,11 +74,8 @@ works_full workers (file ∷ files) used walk after (inr stops) =
     full_of walk.used used report (step (tables_of walk.entries) report.command) stops.stops ∙ sym stops.none.filled
 
 pub round_full : (workers : ℕ) (end : RoundEnd) (walk after : Walk) → IsRound workers walk end after → IsFullAt after.used end
-round_full workers Clear walk after round = tt
-round_full workers (Busy held) walk after round = tt
-round_full workers DiskFailed walk after round = tt
 round_full workers (JournalFull used) walk after round = works_full workers (out_of_list walk.entries) used walk after round
-round_full workers Memory walk after round = tt
+round_full workers _ walk after round = tt
 
 -- whether no fault was met
 IsCalm : RoundEnd → Type 0
@@ -97,9 +94,7 @@ fills_calm (suc free) end walk after calm (inr (inl none)) =
     none.1 ∙ ap (λ all. calm_end (length (out_of_list all))) (sym none.0.none.listed)
 fills_calm (suc free) Clear walk after calm (inr (inr stops)) = absurd stops.stops
 fills_calm (suc free) (Busy held) walk after calm (inr (inr stops)) = absurd stops.stops
-fills_calm (suc free) DiskFailed walk after calm (inr (inr stops)) = absurd calm
-fills_calm (suc free) (JournalFull used) walk after calm (inr (inr stops)) = absurd calm
-fills_calm (suc free) Memory walk after calm (inr (inr stops)) = absurd calm
+fills_calm (suc free) _ walk after calm (inr (inr stops)) = absurd calm
 
 expires_calm : (workers : ℕ) (end : RoundEnd) (walk after : Walk) → IsCalm end → ExpiresAndClaims workers walk end after
     → end ≡ calm_end (length (out_of_list after.entries))
@@ -142,9 +137,7 @@ holding : (held : List Held) (end : RoundEnd) → (IsCalm end → end ≡ calm_e
 unfolding IsCalm
 holding held Clear calm = clear_none held (calm tt)
 holding held (Busy count) calm = busy_some held count (calm tt)
-holding held DiskFailed calm = tt
-holding held (JournalFull used) calm = tt
-holding held Memory calm = tt
+holding held _ calm = tt
 
 pub round_holding : (workers : ℕ) (held : List Held) (end : RoundEnd) (walk after : Walk) → length (out_of_list after.entries) ≡ length held
     → IsRound workers walk end after → EndsHolding held end

@@ -156,11 +156,9 @@ request_leaves tables (CancelFile now job file) of =
     (λ found. file_leaves tables (max now tables.moment) found (row_at tables.rows file)) (job_at tables.jobs job) _ refl
 request_leaves tables (SetPriority now job priority) of = job_leaves tables (λ found. set_priority tables (max now tables.moment) found priority)
     (λ found. priority_leaves tables (max now tables.moment) found priority) (job_at tables.jobs job) _ refl
-request_leaves tables (Claim now word) of = absurd of
-request_leaves tables (Report now file attempt outcome) of = absurd of
 request_leaves tables (Ban now storage cancel) of = ban_leaves tables (max now tables.moment) storage cancel
 request_leaves tables (Unban now storage) of = unban_leaves tables (max now tables.moment) storage
-request_leaves tables (Expire now) of = absurd of
+request_leaves tables _ of = absurd of
 
 -- the files that are out are as before
 pub out_left : (entries : List Entry) (entry : Entry) → Leaves (tables_of entries) (step (tables_of entries) entry.command)

@@ -44,14 +44,8 @@ newly_held (first ∷ others) = if is_some first.outcome then 0 else suc (length
 
 -- whether a copy was called off
 abbrev pub is_stopped : Outcome → Bool
-is_stopped (Verified size digest) = false
-is_stopped SourceMissing = false
-is_stopped DestinationExists = false
-is_stopped (SourceSize seen) = false
-is_stopped (SourceDigest seen) = false
-is_stopped (ReadBackDiffers at) = false
-is_stopped StoreFailed = false
 is_stopped Stopped = true
+is_stopped _ = false
 
 -- no copy is kept that was called off
 abbrev pub KeepsNoStop : Option Outcome → Type 0

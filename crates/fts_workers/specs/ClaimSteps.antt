@@ -56,10 +56,7 @@ AnswersClaim (Err Memory) = Unit {0}
 abbrev pub goes_on : Result Answer KeepFault → Bool
 goes_on (Ok answer) = true
 goes_on (Err (Rule refusal)) = true
-goes_on (Err DiskFailed) = false
-goes_on (Err (JournalFull used)) = false
-goes_on (Err (Damaged offset)) = false
-goes_on (Err Memory) = false
+goes_on _ = false
 
 module _ {D : Type 0} (state : D → DiskState) (faults : D → ℕ) (writer : ℕ) where
   -- what each call keeps: the list only grows, by entries of this writer, each image is one of it, and a doubt behind it has its cause

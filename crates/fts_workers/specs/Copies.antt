@@ -41,16 +41,8 @@ copies_of_file tables file outcome = option_to_list (option_map (λ row. record 
 
 -- the copy that a command reports, where it is a report
 abbrev pub copies_in : Tables → Command → List Copy
-copies_in tables (Restart now settings) = []
-copies_in tables (Submit now job) = []
-copies_in tables (CancelJob now job) = []
-copies_in tables (CancelFile now job file) = []
-copies_in tables (SetPriority now job priority) = []
-copies_in tables (Claim now word) = []
 copies_in tables (Report now file attempt outcome) = copies_of_file tables file outcome
-copies_in tables (Ban now storage cancel) = []
-copies_in tables (Unban now storage) = []
-copies_in tables (Expire now) = []
+copies_in tables _ = []
 
 -- the copies that these writers' reports among the entries stand for, in order, from some tables on
 abbrev pub copies_from : (ℕ → Bool) → Tables → List Entry → List Copy

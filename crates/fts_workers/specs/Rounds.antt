@@ -199,16 +199,8 @@ pub record IsWorkedOver {D : Type 0} (keep : KeepData D) (bench : BenchData) (en
 
 -- whether a command is a claim
 abbrev pub is_claim : Command → Bool
-is_claim (Restart now settings) = false
-is_claim (Submit now job) = false
-is_claim (CancelJob now job) = false
-is_claim (CancelFile now job file) = false
-is_claim (SetPriority now job priority) = false
 is_claim (Claim now word) = true
-is_claim (Report now file attempt outcome) = false
-is_claim (Ban now storage cancel) = false
-is_claim (Unban now storage) = false
-is_claim (Expire now) = false
+is_claim _ = false
 
 -- how many of these entries are claims
 abbrev pub claims_among : List Entry → ℕ

@@ -84,7 +84,7 @@ fn cancel_found(
     row: &PlainRow,
     reason: Reason,
 ) -> Result<Answer, Refusal> {
-    match job.kind {
+    match job.terms.kind {
         JobKind::Plain => cancel_row(rows, row, reason),
         JobKind::Replica | JobKind::Multihop => cancel_rows(rows, job, reason),
     }

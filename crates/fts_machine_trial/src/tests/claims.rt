@@ -268,7 +268,7 @@ fn pick_row(
 /// A row in the order of choice.
 fn row_rank(jobs: &[PlainJob], row: &PlainRow) -> RowRank {
     let priority = match job_of(jobs, row.job) {
-        Some(job) => job.priority,
+        Some(job) => job.terms.priority,
         None => 0,
     };
     RowRank {

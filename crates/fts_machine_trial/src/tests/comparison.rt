@@ -37,12 +37,12 @@ fn is_same_course(row: &FileRow, plain: &PlainRow) -> bool {
 fn is_same_job(job: &JobRow, plain: &PlainJob) -> bool {
     job.number == plain.number
         && job.id == plain.id
-        && job.kind == plain.kind
-        && job.strategy == plain.strategy
-        && job.priority == plain.priority
-        && job.retry == plain.retry
-        && job.delay == plain.delay
-        && job.queue_hours == plain.queue_hours
+        && job.kind == plain.terms.kind
+        && job.strategy == plain.terms.strategy
+        && job.priority == plain.terms.priority
+        && job.retry == plain.terms.retry
+        && job.delay == plain.terms.delay
+        && job.queue_hours == plain.terms.queue_hours
         && job.submitted_at == plain.submitted_at
 }
 

@@ -24,8 +24,8 @@ pub fn overdue_files(
 /// Whether the hours of a job are over, where it has any.
 pub fn is_over(jobs: &[PlainJob], job: u32, now: u64) -> bool {
     match job_of(jobs, job) {
-        Some(job) => job.queue_hours > 0
-            && (now == u64::MAX || hours_since(&job, now) >= u64::from(job.queue_hours)),
+        Some(job) => job.terms.queue_hours > 0
+            && (now == u64::MAX || hours_since(&job, now) >= u64::from(job.terms.queue_hours)),
         None => false,
     }
 }

@@ -6,7 +6,7 @@ use super::jobs::job_of;
 use super::machine::PlainMachine;
 use super::plain::{
     DEFAULT_ACTIVITY, PlainCommand, PlainEndpoint, PlainFile, PlainJob, PlainLink, PlainNewJob,
-    PlainPlace, PlainRow, PlainSettings, PlainWeight,
+    PlainPlace, PlainRow, PlainSettings, PlainTerms, PlainWeight,
 };
 use fts_tables::{FileState, JobKind, Outcome, Strategy};
 use rand_pcg::Lcg64Xsh32;
@@ -202,16 +202,15 @@ impl Generator {
             Strategy::Orderly
         };
         let files = self.files(kind)?;
-        Ok(PlainNewJob {
-            id,
+        let terms = PlainTerms {
             kind,
             strategy,
             priority: self.limit(5),
             retry: self.below(3),
             delay: u64::from(self.below(9)),
             queue_hours: self.hours(),
-            files,
-        })
+        };
+        Ok(PlainNewJob { id, terms, files })
     }
 
     /// No id mostly, one of few, or one that stands for a number.
@@ -500,7 +499,7 @@ fn limited_jobs(alloc: Global, machine: &PlainMachine) -> Result<Vec<PlainJob>, 
         .iter()
         .filter(|row| row.state == FileState::Submitted)
         .filter_map(|row| job_of(machine.jobs(), row.job))
-        .filter(|job| 0 < job.queue_hours && job.queue_hours <= 3)
+        .filter(|job| 0 < job.terms.queue_hours && job.terms.queue_hours <= 3)
         .filter(|job| end_of(job) < LAST_BY_HOURS)
         .collect(alloc)
 }
@@ -508,5 +507,5 @@ fn limited_jobs(alloc: Global, machine: &PlainMachine) -> Result<Vec<PlainJob>, 
 /// The second at which the hours of a job are over.
 fn end_of(job: &PlainJob) -> u64 {
     job.submitted_at
-        .saturating_add(u64::from(job.queue_hours.saturating_mul(HOUR)))
+        .saturating_add(u64::from(job.terms.queue_hours.saturating_mul(HOUR)))
 }

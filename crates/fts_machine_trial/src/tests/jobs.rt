@@ -65,7 +65,7 @@ fn settled_state_of(rows: &[PlainRow], job: &PlainJob) -> JobState {
     let all_finished = has_rows_only_in(rows, job.number, FileState::Finished);
     let all_failed = has_rows_only_in(rows, job.number, FileState::Failed);
     let any_finished = has_row_in(rows, job.number, FileState::Finished);
-    match job.kind {
+    match job.terms.kind {
         JobKind::Replica => finished_or(any_finished, JobState::Failed),
         JobKind::Multihop => finished_or(all_finished, JobState::Failed),
         JobKind::Plain if all_failed => JobState::Failed,
@@ -97,7 +97,7 @@ pub fn set_priority(
     }
     for job in jobs.iter_mut() {
         if job.number == number {
-            job.priority = priority;
+            job.terms.priority = priority;
         }
     }
     Ok(Answer::PrioritySet { job: number })

@@ -88,20 +88,11 @@ pub fn lawful_settings(
 
 /// A job of these files, where they keep the rules.
 pub fn lawful_job(plain: &PlainNewJob, files: Items<NewFile>) -> Option<NewJob> {
-    let PlainNewJob {
-        id,
-        kind,
-        strategy,
-        priority,
-        retry,
-        delay,
-        queue_hours,
-        files: _,
-    } = plain;
-    if !is_priority(*priority)
-        || *retry > MAX_RETRY
-        || *delay > MAX_DELAY
-        || *queue_hours > MAX_QUEUE_HOURS
+    let terms = plain.terms;
+    if !is_priority(terms.priority)
+        || terms.retry > MAX_RETRY
+        || terms.delay > MAX_DELAY
+        || terms.queue_hours > MAX_QUEUE_HOURS
     {
         return None;
     }
@@ -111,19 +102,19 @@ pub fn lawful_job(plain: &PlainNewJob, files: Items<NewFile>) -> Option<NewJob> 
     if !all_go_elsewhere(files.as_slice())
         || !have_sizes(files.as_slice())
         || !have_file_labels(files.as_slice())
-        || !has_shape(*kind, files.as_slice())
+        || !has_shape(terms.kind, files.as_slice())
     {
         return None;
     }
     Some(NewJob {
-        id: *id,
-        kind: *kind,
-        strategy: *strategy,
-        priority: *priority,
-        retry: *retry,
-        delay: *delay,
+        id: plain.id,
+        kind: terms.kind,
+        strategy: terms.strategy,
+        priority: terms.priority,
+        retry: terms.retry,
+        delay: terms.delay,
         overwrite: false,
-        queue_hours: *queue_hours,
+        queue_hours: terms.queue_hours,
         files,
     })
 }

@@ -54,23 +54,29 @@ pub struct PlainFile {
     pub activity: u8,
 }
 
-/// A job that is submitted.
-#[derive(Debug, Drop)]
-pub struct PlainNewJob {
-    pub id: Option<u128>,
+/// What a job asks for, beside its files.
+#[derive(Clone, Copy, Debug)]
+pub struct PlainTerms {
     pub kind: JobKind,
     pub strategy: Strategy,
     pub priority: u32,
     pub retry: u32,
     pub delay: u64,
     pub queue_hours: u32,
+}
+
+/// A job that is submitted.
+#[derive(Debug, Drop)]
+pub struct PlainNewJob {
+    pub id: Option<u128>,
+    pub terms: PlainTerms,
     pub files: Vec<PlainFile>,
 }
 
 impl PlainNewJob {
     /// The index of the file at a place: its own, but the sources of a replica job share its one file's.
     pub fn index_at(&self, place: u32) -> u32 {
-        match self.kind {
+        match self.terms.kind {
             JobKind::Plain | JobKind::Multihop => place,
             JobKind::Replica => 0,
         }
@@ -148,20 +154,15 @@ pub struct PlainRow {
 impl PlainRow {
     /// Whether the file waits or is copied.
     pub fn is_live(&self) -> bool {
-        match self.state {
-            FileState::Submitted | FileState::Active => true,
-            FileState::Finished | FileState::Failed | FileState::Canceled | FileState::NotUsed => {
-                false
-            }
-        }
+        matches!(self.state, FileState::Submitted | FileState::Active)
     }
 
     /// Whether the file has ended.
     pub fn is_settled(&self) -> bool {
-        match self.state {
-            FileState::Finished | FileState::Failed | FileState::Canceled => true,
-            FileState::Submitted | FileState::Active | FileState::NotUsed => false,
-        }
+        matches!(
+            self.state,
+            FileState::Finished | FileState::Failed | FileState::Canceled
+        )
     }
 
     /// Whether the file is copied from a storage, or to it.
@@ -180,11 +181,6 @@ impl PlainRow {
 pub struct PlainJob {
     pub number: u32,
     pub id: u128,
-    pub kind: JobKind,
-    pub strategy: Strategy,
-    pub priority: u32,
-    pub retry: u32,
-    pub delay: u64,
-    pub queue_hours: u32,
+    pub terms: PlainTerms,
     pub submitted_at: u64,
 }

@@ -274,7 +274,7 @@ impl<'a> Told<'a> {
     /// Whether a file ended whose hours would have gone on past the greatest moment.
     fn has_ended_early(&self) -> bool {
         self.ended.iter().any(|row| match job_of(self.machine.jobs(), row.job) {
-            Some(job) => job.submitted_at > u64::MAX - 3_600 * u64::from(job.queue_hours),
+            Some(job) => job.submitted_at > u64::MAX - 3_600 * u64::from(job.terms.queue_hours),
             None => false,
         })
     }

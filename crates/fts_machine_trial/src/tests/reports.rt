@@ -52,22 +52,16 @@ fn ended_row(job: &PlainJob, row: PlainRow, outcome: Outcome, now: u64) -> Plain
             ..row
         },
         Outcome::ReadBackDiffers { .. } | Outcome::StoreFailed | Outcome::Stopped
-            if row.retries < job.retry => {
+            if row.retries < job.terms.retry => {
             PlainRow {
                 state: FileState::Submitted,
                 retries: row.retries.saturating_add(1),
-                not_before: now.saturating_add(job.delay),
+                not_before: now.saturating_add(job.terms.delay),
                 reason: Reason::Ended(outcome),
                 ..row
             }
         }
-        Outcome::SourceMissing
-        | Outcome::DestinationExists
-        | Outcome::SourceSize { .. }
-        | Outcome::SourceDigest { .. }
-        | Outcome::ReadBackDiffers { .. }
-        | Outcome::StoreFailed
-        | Outcome::Stopped => PlainRow {
+        _ => PlainRow {
             state: FileState::Failed,
             reason: Reason::Ended(outcome),
             ..row
@@ -77,7 +71,7 @@ fn ended_row(job: &PlainJob, row: PlainRow, outcome: Outcome, now: u64) -> Plain
 
 /// Lets the next hop wait behind a finished one, and the next source behind a failed one.
 fn follow(rows: &mut [PlainRow], job: &PlainJob, ended: &PlainRow) {
-    match job.kind {
+    match job.terms.kind {
         JobKind::Plain => {}
         JobKind::Multihop => {
             if ended.state == FileState::Finished {
@@ -94,7 +88,7 @@ fn follow(rows: &mut [PlainRow], job: &PlainJob, ended: &PlainRow) {
 
 /// Lets the next source of a replica job wait, where there is one.
 fn wake_alternative(rows: &mut [PlainRow], job: &PlainJob) {
-    if let Some(id) = next_alternative(rows, rows, job.number, job.strategy) {
+    if let Some(id) = next_alternative(rows, rows, job.number, job.terms.strategy) {
         wake(rows, job.number, id);
     }
 }

@@ -55,12 +55,7 @@ fn add_job(
     jobs.push(PlainJob {
         number,
         id,
-        kind: new.kind,
-        strategy: new.strategy,
-        priority: new.priority,
-        retry: new.retry,
-        delay: new.delay,
-        queue_hours: new.queue_hours,
+        terms: new.terms,
         submitted_at: now,
     })?;
     Ok(())
@@ -74,16 +69,16 @@ fn rows_of_new(
     new: &PlainNewJob,
 ) -> Result<Vec<PlainRow>, AllocError> {
     let first = next_number(before.len());
-    let state = match new.kind {
+    let state = match new.terms.kind {
         JobKind::Plain => FileState::Submitted,
         JobKind::Replica | JobKind::Multihop => FileState::NotUsed,
     };
     let mut added = made_rows(alloc, job, first, state, new)?;
-    match new.kind {
+    match new.terms.kind {
         JobKind::Plain => {}
         JobKind::Multihop => wake(&mut added, job, first),
         JobKind::Replica => {
-            if let Some(id) = next_alternative(before, &added, job, new.strategy) {
+            if let Some(id) = next_alternative(before, &added, job, new.terms.strategy) {
                 wake(&mut added, job, id);
             }
         }

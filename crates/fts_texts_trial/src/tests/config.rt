@@ -5,7 +5,6 @@ use fts_config::{SettingKey, SettingsFault, read_settings};
 use fts_joburl::UrlFault;
 use fts_tables::{Endpoint, LinkRule, Settings, Weight};
 use std::alloc::{AllocError, Global};
-use std::process::Abort;
 
 /// The fault of a text that ends so.
 fn fault_of(alloc: Global, start: &str, end: &str) -> Result<Option<SettingsFault>, AllocError> {
@@ -142,6 +141,9 @@ fn the_example_gives_its_settings(rt: HostRuntime) {
 /// A row: a sentence, the end of a text, and the key that its fault names.
 type KeyRow = (&'static str, &'static str, SettingKey);
 
+/// A row: a sentence, a text's start and its end, and the key that its fault names.
+type NeedRow = (&'static str, &'static str, &'static str, SettingKey);
+
 /// A row: a sentence, the end of a text, and its fault.
 type FaultRow = (&'static str, &'static str, SettingsFault);
 
@@ -158,47 +160,7 @@ fn has_fault(
     Ok(fault_of(alloc, start, end)? == Some(want))
 }
 
-/// In each row's text the key has another type.
-fn have_other_types(rt: &impl Abort, alloc: Global, rows: &[KeyRow]) {
-    for (case, text, key) in rows {
-        check_found(
-            rt,
-            has_fault(alloc, "", text, SettingsFault::WrongType { key: *key }),
-            case,
-        );
-    }
-}
-
-/// In each row's text, behind this start, the key is missing.
-fn are_missing(rt: &impl Abort, alloc: Global, start: &str, rows: &[KeyRow]) {
-    for (case, text, key) in rows {
-        check_found(
-            rt,
-            has_fault(alloc, start, text, SettingsFault::Missing { key: *key }),
-            case,
-        );
-    }
-}
-
-/// Each row's text, behind the start, has its fault.
-fn have_faults(rt: &impl Abort, alloc: Global, rows: &[FaultRow]) {
-    for (case, text, fault) in rows {
-        check_found(rt, has_fault(alloc, START, text, *fault), case);
-    }
-}
-
-/// Each row's text breaks its rule first.
-fn break_first(rt: &impl Abort, alloc: Global, rows: &[RuleRow]) {
-    for (case, text, rule) in rows {
-        let is_so = match must(rt, fault_of(alloc, "", text), case) {
-            Some(fault) => fault.rule() == *rule,
-            None => false,
-        };
-        check(rt, is_so, case);
-    }
-}
-
-const KEYS_OF_THE_WHOLE: [KeyRow; 4] = [
+const KEYS: [KeyRow; 17] = [
     ("the VO is a number", "vo = 1", SettingKey::Vo),
     (
         "the workers are no whole number",
@@ -215,14 +177,6 @@ const KEYS_OF_THE_WHOLE: [KeyRow; 4] = [
         "storage = 1979-05-27",
         SettingKey::Storage,
     ),
-];
-
-#[test]
-fn a_key_of_the_whole_has_its_type(rt: HostRuntime) {
-    have_other_types(&rt, rt.alloc(), &KEYS_OF_THE_WHOLE);
-}
-
-const KEYS_OF_A_STORAGE: [KeyRow; 4] = [
     (
         "a storage is a number",
         "storage = [1]",
@@ -243,14 +197,6 @@ const KEYS_OF_A_STORAGE: [KeyRow; 4] = [
         "storage = [{ outbound_max_active = 07:32:00 }]",
         SettingKey::Outbound,
     ),
-];
-
-#[test]
-fn a_key_of_a_storage_has_its_type(rt: HostRuntime) {
-    have_other_types(&rt, rt.alloc(), &KEYS_OF_A_STORAGE);
-}
-
-const KEYS_OF_A_LINK: [KeyRow; 6] = [
     ("the links are a table", "link = {}", SettingKey::Link),
     (
         "a link's name is a list",
@@ -277,14 +223,6 @@ const KEYS_OF_A_LINK: [KeyRow; 6] = [
         "link = [{ max_active = \"1\" }, { source = 1 }]",
         SettingKey::LinkSource,
     ),
-];
-
-#[test]
-fn a_key_of_a_link_has_its_type(rt: HostRuntime) {
-    have_other_types(&rt, rt.alloc(), &KEYS_OF_A_LINK);
-}
-
-const KEYS_OF_AN_ACTIVITY: [KeyRow; 3] = [
     (
         "the activities are a table",
         "activity.name = \"default\"",
@@ -303,57 +241,66 @@ const KEYS_OF_AN_ACTIVITY: [KeyRow; 3] = [
 ];
 
 #[test]
-fn a_key_of_an_activity_has_its_type(rt: HostRuntime) {
-    have_other_types(&rt, rt.alloc(), &KEYS_OF_AN_ACTIVITY);
+fn a_key_has_its_type(rt: HostRuntime) {
+    for (case, text, key) in KEYS {
+        let has = has_fault(rt.alloc(), "", text, SettingsFault::WrongType { key });
+        check_found(&rt, has, case);
+    }
 }
 
-const NEEDED_KEYS: [KeyRow; 4] = [
-    ("no VO", "storage = [{ url = \"x://a\" }]", SettingKey::Vo),
-    ("no list of storages", "vo = \"v\"", SettingKey::Storage),
+const NEEDED_KEYS: [NeedRow; 9] = [
+    (
+        "no VO",
+        "",
+        "storage = [{ url = \"x://a\" }]",
+        SettingKey::Vo,
+    ),
+    ("no list of storages", "", "vo = \"v\"", SettingKey::Storage),
     (
         "no storage in the list",
+        "",
         "vo = \"v\"\nstorage = []",
         SettingKey::Storage,
     ),
     (
         "no URL of the second storage",
+        "",
         "vo = \"v\"\nstorage = [{ url = \"x://a\" }, {}]",
         SettingKey::Url,
     ),
-];
-
-#[test]
-fn a_needed_key_is_there(rt: HostRuntime) {
-    are_missing(&rt, rt.alloc(), "", &NEEDED_KEYS);
-}
-
-const NEEDED_KEYS_BELOW: [KeyRow; 5] = [
-    ("no source", "link = [{}]", SettingKey::LinkSource),
+    ("no source", START, "link = [{}]", SettingKey::LinkSource),
     (
         "no destination",
+        START,
         "link = [{ source = \"x://a\" }]",
         SettingKey::LinkDestination,
     ),
     (
         "no limit of a link",
+        START,
         "link = [{ source = \"x://a\", destination = \"x://b\" }]",
         SettingKey::MaxActive,
     ),
     (
         "no name of an activity",
+        START,
         "activity = [{}]",
         SettingKey::Name,
     ),
     (
         "no weight",
+        START,
         "activity = [{ name = \"default\" }]",
         SettingKey::Weight,
     ),
 ];
 
 #[test]
-fn a_needed_key_of_a_link_or_activity_is_there(rt: HostRuntime) {
-    are_missing(&rt, rt.alloc(), START, &NEEDED_KEYS_BELOW);
+fn a_needed_key_is_there(rt: HostRuntime) {
+    for (case, start, text, key) in NEEDED_KEYS {
+        let has = has_fault(rt.alloc(), start, text, SettingsFault::Missing { key });
+        check_found(&rt, has, case);
+    }
 }
 
 /// A sentence, and the end of a text that breaks no rule.
@@ -373,7 +320,7 @@ fn what_breaks_no_rule(rt: HostRuntime) {
     }
 }
 
-const RULES_ON_LINKS: [FaultRow; 4] = [
+const RULES: [FaultRow; 12] = [
     (
         "a destination that is no URL",
         "link = [{ source = \"x://a\", destination = \"no url\", max_active = 1 }]",
@@ -396,14 +343,6 @@ const RULES_ON_LINKS: [FaultRow; 4] = [
         "link = [{ source = \"x://a\", destination = \"x://b\", max_active = 1, symbolicname = \"\" }]",
         SettingsFault::BadLabel,
     ),
-];
-
-#[test]
-fn each_rule_on_links_alone(rt: HostRuntime) {
-    have_faults(&rt, rt.alloc(), &RULES_ON_LINKS);
-}
-
-const RULES_ON_TEXT_AND_LIMITS: [FaultRow; 5] = [
     ("a key with no value", "workers = ", SettingsFault::NotToml),
     (
         "a number of more than 63 bits",
@@ -421,14 +360,6 @@ const RULES_ON_TEXT_AND_LIMITS: [FaultRow; 5] = [
         SettingsFault::LimitRange,
     ),
     ("no worker", "workers = 0", SettingsFault::WorkerRange),
-];
-
-#[test]
-fn each_rule_on_text_and_limits_alone(rt: HostRuntime) {
-    have_faults(&rt, rt.alloc(), &RULES_ON_TEXT_AND_LIMITS);
-}
-
-const RULES_ON_WEIGHTS: [FaultRow; 3] = [
     (
         "a weight above 10,000",
         "activity = [{ name = \"default\", weight = 10001 }]",
@@ -447,11 +378,13 @@ const RULES_ON_WEIGHTS: [FaultRow; 3] = [
 ];
 
 #[test]
-fn each_rule_on_weights_alone(rt: HostRuntime) {
-    have_faults(&rt, rt.alloc(), &RULES_ON_WEIGHTS);
+fn each_rule_alone(rt: HostRuntime) {
+    for (case, text, fault) in RULES {
+        check_found(&rt, has_fault(rt.alloc(), START, text, fault), case);
+    }
 }
 
-const TWO_RULES: [RuleRow; 5] = [
+const TWO_RULES: [RuleRow; 10] = [
     ("a text that is no TOML, and a type", "vo = 1\nworkers =", 1),
     ("a type, and no storage", "vo = 1", 2),
     ("no VO, and a URL", "storage = [{ url = \"no url\" }]", 3),
@@ -466,14 +399,6 @@ const TWO_RULES: [RuleRow; 5] = [
          link = [{ source = \"x://c\", destination = \"x://c\", max_active = 1 }, { source = \"x://c\", destination = \"x://c\", max_active = 1 }]",
         5,
     ),
-];
-
-#[test]
-fn of_two_rules_the_first_is_answered(rt: HostRuntime) {
-    break_first(&rt, rt.alloc(), &TWO_RULES);
-}
-
-const TWO_LATER_RULES: [RuleRow; 5] = [
     (
         "a link twice, and a link of no storage",
         "vo = \"v\"\nstorage = [{ url = \"x://a\" }]\nlink = [{ source = \"x://c\", destination = \"x://c\", max_active = 1 }, { source = \"x://c\", destination = \"x://c\", max_active = 1 }]",
@@ -502,8 +427,14 @@ const TWO_LATER_RULES: [RuleRow; 5] = [
 ];
 
 #[test]
-fn of_two_later_rules_the_first_is_answered(rt: HostRuntime) {
-    break_first(&rt, rt.alloc(), &TWO_LATER_RULES);
+fn of_two_rules_the_first_is_answered(rt: HostRuntime) {
+    for (case, text, rule) in TWO_RULES {
+        let is_so = match must(&rt, fault_of(rt.alloc(), "", text), case) {
+            Some(fault) => fault.rule() == rule,
+            None => false,
+        };
+        check(&rt, is_so, case);
+    }
 }
 
 /// The start, and this many activities of one name, with `more` before them.

@@ -6,7 +6,7 @@ ghost use Rattle.std.specs.Prelude.{◌≡◌, ◌∷◌, [], ◌++◌, IfOk, On
 use super::checks::{check, check_found, must};
 use super::jobdoc_cases::{
     ABC, BANS, BODIES, BodyCase, EXAMPLES, FIELDS, HOURS, KINDS, MULTIHOP, PARAMETERS, PRIORITIES,
-    PairCase, URLS, WITH_CHECKSUM,
+    PairCase, REPLICAS_OF_ONE, URLS, WITH_CHECKSUM,
 };
 use fts_jobdoc::{read_ban, read_job, read_priority, read_storage, sid_id};
 use fts_tables::{
@@ -93,35 +93,33 @@ fn document(alloc: Global, fields: &str, keys: &str) -> Result<String, AllocErro
     )
 }
 
-/// The first document that is answered otherwise.
-fn first_wrong_field(
-    alloc: Global,
-    cases: &[PairCase],
-    settings: &Settings,
-) -> Result<Option<&'static str>, AllocError> {
-    for (case, fields, keys, rule, message) in cases {
-        let body = document(alloc, fields, keys)?;
-        if !is_answered(alloc, body.as_str(), *rule, message, settings) {
-            return Ok(Some(*case));
-        }
-    }
-    Ok(None)
-}
-
 fn between(alloc: Global, source: &str, dest: &str) -> Result<String, AllocError> {
     format!(in alloc;
         "{{\"files\":[{{\"sources\":[\"{source}\"],\"destinations\":[\"{dest}\"]}}]}}"
     )
 }
 
-/// The first pair of URLs that is answered otherwise.
-fn first_wrong_url(
+/// What the two texts of a row are.
+#[derive(Clone, Copy)]
+enum Pair {
+    /// Further fields of the file, and further keys of the document.
+    Fields,
+    /// The source and the destination of the file.
+    Urls,
+}
+
+/// The first document of one file, with these pairs in it, that is answered otherwise.
+fn first_wrong_pair(
     alloc: Global,
+    pair: Pair,
     cases: &[PairCase],
     settings: &Settings,
 ) -> Result<Option<&'static str>, AllocError> {
-    for (case, source, dest, rule, message) in cases {
-        let body = between(alloc, source, dest)?;
+    for (case, first, second, rule, message) in cases {
+        let body = match pair {
+            Pair::Fields => document(alloc, first, second)?,
+            Pair::Urls => between(alloc, first, second)?,
+        };
         if !is_answered(alloc, body.as_str(), *rule, message, settings) {
             return Ok(Some(*case));
         }
@@ -221,14 +219,13 @@ fn wrong_body(alloc: Global, cases: &[BodyCase]) -> Result<Option<&'static str>,
     Ok(first_wrong_body(alloc, cases, &settings))
 }
 
-fn wrong_field(alloc: Global, cases: &[PairCase]) -> Result<Option<&'static str>, Memory> {
+fn wrong_pair(
+    alloc: Global,
+    pair: Pair,
+    cases: &[PairCase],
+) -> Result<Option<&'static str>, Memory> {
     let settings = settings(alloc)?;
-    Ok(first_wrong_field(alloc, cases, &settings)?)
-}
-
-fn wrong_url(alloc: Global, cases: &[PairCase]) -> Result<Option<&'static str>, Memory> {
-    let settings = settings(alloc)?;
-    Ok(first_wrong_url(alloc, cases, &settings)?)
+    Ok(first_wrong_pair(alloc, pair, cases, &settings)?)
 }
 
 /// No row of a table is answered otherwise; the first that is, is told.
@@ -239,28 +236,23 @@ fn is_none(rt: &impl Abort, wrong: Result<Option<&'static str>, Memory>) {
 }
 
 #[test]
-fn a_body_that_is_no_document_breaks_the_least_rule(rt: HostRuntime) {
-    is_none(&rt, wrong_body(rt.alloc(), &BODIES));
-}
-
-#[test]
 fn a_broken_url_has_its_number(rt: HostRuntime) {
-    is_none(&rt, wrong_url(rt.alloc(), &URLS));
+    is_none(&rt, wrong_pair(rt.alloc(), Pair::Urls, &URLS));
 }
 
 #[test]
-fn a_broken_field_breaks_its_rule(rt: HostRuntime) {
-    is_none(&rt, wrong_field(rt.alloc(), &FIELDS));
+fn a_field_or_a_parameter_breaks_its_rule(rt: HostRuntime) {
+    for cases in [&FIELDS[..], &PARAMETERS[..], &REPLICAS_OF_ONE[..]] {
+        is_none(&rt, wrong_pair(rt.alloc(), Pair::Fields, cases));
+    }
 }
 
+// Bodies that are no document, and documents of several files, which break the rules on kinds.
 #[test]
-fn a_broken_parameter_breaks_its_rule(rt: HostRuntime) {
-    is_none(&rt, wrong_field(rt.alloc(), &PARAMETERS));
-}
-
-#[test]
-fn several_files_break_the_rules_on_kinds(rt: HostRuntime) {
-    is_none(&rt, wrong_body(rt.alloc(), &KINDS));
+fn a_body_breaks_the_least_rule(rt: HostRuntime) {
+    for cases in [&BODIES[..], &KINDS[..]] {
+        is_none(&rt, wrong_body(rt.alloc(), cases));
+    }
 }
 
 /// The rule that a document of so many equal files breaks; 0 where it breaks none.

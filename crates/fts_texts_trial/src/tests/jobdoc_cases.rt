@@ -619,8 +619,44 @@ pub const BANS: [BanCase; 20] = [
     ),
 ];
 
+/// The end of a file, and another one with two sources.
+const AND_REPLICAS: &str =
+    "},{\"sources\":[\"https://a.example/f\",\"https://a.example/g\"],\"destinations\":[\"https://b.example/f\"]";
+
+/// Two files, of which the second has two sources.
+pub const REPLICAS_OF_ONE: [PairCase; 4] = [
+    (
+        "a number for the parameters, and replicas of one of two files: no rule between is broken without parameters",
+        AND_REPLICAS,
+        ",\"params\":5",
+        16,
+        "params is not an object",
+    ),
+    (
+        "replicas of one of two files",
+        AND_REPLICAS,
+        ",\"params\":{}",
+        22,
+        "replicas need one file",
+    ),
+    (
+        "replicas of one of two hops",
+        AND_REPLICAS,
+        ",\"params\":{\"multihop\":true}",
+        22,
+        "replicas need one file",
+    ),
+    (
+        "replicas of one of two files, and reuse",
+        AND_REPLICAS,
+        ",\"params\":{\"reuse\":true}",
+        21,
+        "not offered: reuse",
+    ),
+];
+
 /// Bodies of several files.
-pub const KINDS: [BodyCase; 11] = [
+pub const KINDS: [BodyCase; 7] = [
     (
         "a broken URL of the second file, and no size of the first",
         "{\"files\":[{\"sources\":[\"https://a.example/f\"],\"destinations\":[\"https://b.example/f\"],\"filesize\":-1},\
@@ -635,34 +671,6 @@ pub const KINDS: [BodyCase; 11] = [
          \"params\":{\"verify_checksum\":true}}",
         12,
         "bad checksum",
-    ),
-    (
-        "a number for the parameters, and replicas of one of two files: no rule between is broken without parameters",
-        "{\"files\":[{\"sources\":[\"https://a.example/f\"],\"destinations\":[\"https://b.example/f\"]},\
-         {\"sources\":[\"https://a.example/f\",\"https://a.example/g\"],\"destinations\":[\"https://b.example/f\"]}],\"params\":5}",
-        16,
-        "params is not an object",
-    ),
-    (
-        "replicas of one of two files",
-        "{\"files\":[{\"sources\":[\"https://a.example/f\"],\"destinations\":[\"https://b.example/f\"]},\
-         {\"sources\":[\"https://a.example/f\",\"https://a.example/g\"],\"destinations\":[\"https://b.example/f\"]}],\"params\":{}}",
-        22,
-        "replicas need one file",
-    ),
-    (
-        "replicas of one of two hops",
-        "{\"files\":[{\"sources\":[\"https://a.example/f\"],\"destinations\":[\"https://b.example/f\"]},\
-         {\"sources\":[\"https://a.example/f\",\"https://a.example/g\"],\"destinations\":[\"https://b.example/f\"]}],\"params\":{\"multihop\":true}}",
-        22,
-        "replicas need one file",
-    ),
-    (
-        "replicas of one of two files, and reuse",
-        "{\"files\":[{\"sources\":[\"https://a.example/f\"],\"destinations\":[\"https://b.example/f\"]},\
-         {\"sources\":[\"https://a.example/f\",\"https://a.example/g\"],\"destinations\":[\"https://b.example/f\"]}],\"params\":{\"reuse\":true}}",
-        21,
-        "not offered: reuse",
     ),
     (
         "replicas of a hop",

@@ -8,13 +8,14 @@ use fts_tables::Items;
 use fts_wire::{
     Allow, MemoryLine, MemorySink, MemorySource, Reply, Sink, SinkFailed, write_response,
 };
-use std::alloc::AllocError;
+use std::alloc::{AllocError, Global};
+use std::process::Abort;
 
 /// A reply of this status.
-fn reply_of(rt: &HostRuntime, status: u16, allow: Allow, body: &[u8]) -> Result<Reply, AllocError>
+fn reply_of(alloc: Global, status: u16, allow: Allow, body: &[u8]) -> Result<Reply, AllocError>
     ensures { IfOk result (λ r. (r.status ≡ status) × (r.allow ≡ allow)) }
 {
-    let body = Items::from_vec(Vec::from_slice(rt.alloc(), body)?);
+    let body = Items::from_vec(Vec::from_slice(alloc, body)?);
     Ok(Reply {
         status,
         allow,
@@ -24,56 +25,85 @@ fn reply_of(rt: &HostRuntime, status: u16, allow: Allow, body: &[u8]) -> Result<
 
 /// Whether the response of this status to a body of `{}` has these bytes.
 fn is_response(
-    rt: &HostRuntime,
+    alloc: Global,
     status: u16,
     allow: Allow,
-    head_only: bool,
-    close: bool,
+    sent: (bool, bool),
     want: &str,
 ) -> Result<bool, AllocError>
     requires phrase { IsTrue (has_phrase status) }
     requires methods { IsTrue (has_methods status allow) }
 {
-    let reply = reply_of(rt, status, allow, b"{}")?;
-    let mut sink = MemorySink::new(rt.alloc(), Vec::new(rt.alloc()));
-    let sent = write_response(&mut sink, head_only, close, &reply);
-    Ok(sent.is_ok() && sink.bytes() == want.as_bytes())
+    let reply = reply_of(alloc, status, allow, b"{}")?;
+    let mut sink = MemorySink::new(alloc, Vec::new(alloc));
+    let (head_only, close) = sent;
+    let is_sent = write_response(&mut sink, head_only, close, &reply).is_ok();
+    Ok(is_sent && sink.bytes() == want.as_bytes())
+}
+
+/// The response of this status to a body of `{}`, sent without the body, and as the last one, has these bytes.
+fn check_response(
+    rt: &impl Abort,
+    alloc: Global,
+    case: &str,
+    status: u16,
+    allow: Allow,
+    sent: (bool, bool),
+    want: &str,
+)
+    requires phrase { IsTrue (has_phrase status) }
+    requires methods { IsTrue (has_methods status allow) }
+{
+    let is_so = is_response(alloc, status, allow, sent, want);
+    check_found(rt, is_so, case);
 }
 
 #[test]
 fn responses_have_the_bytes_of_the_standard(rt: HostRuntime) {
-    let want = "HTTP/1.1 200 OK\r\nContent-Type: application/json\r\nContent-Length: 2\r\n\r\n{}";
-    check_found(
+    check_response(
         &rt,
-        is_response(&rt, 200, Allow::None, false, false, want),
+        rt.alloc(),
         "a reply",
+        200,
+        Allow::None,
+        (false, false),
+        "HTTP/1.1 200 OK\r\nContent-Type: application/json\r\nContent-Length: 2\r\n\r\n{}",
     );
-    let want = "HTTP/1.1 200 OK\r\nContent-Type: application/json\r\nContent-Length: 0\r\n\r\n";
-    check_found(
+    check_response(
         &rt,
-        is_response(&rt, 200, Allow::None, true, false, want),
+        rt.alloc(),
         "a reply to HEAD",
+        200,
+        Allow::None,
+        (true, false),
+        "HTTP/1.1 200 OK\r\nContent-Type: application/json\r\nContent-Length: 0\r\n\r\n",
     );
-    let want =
-        "HTTP/1.1 501 Not Implemented\r\nContent-Type: application/json\r\nContent-Length: 2\r\nConnection: close\r\n\r\n{}";
-    check_found(
+    check_response(
         &rt,
-        is_response(&rt, 501, Allow::None, false, true, want),
+        rt.alloc(),
         "the last reply",
+        501,
+        Allow::None,
+        (false, true),
+        "HTTP/1.1 501 Not Implemented\r\nContent-Type: application/json\r\nContent-Length: 2\r\nConnection: close\r\n\r\n{}",
     );
-    let want =
-        "HTTP/1.1 405 Method Not Allowed\r\nContent-Type: application/json\r\nContent-Length: 2\r\nAllow: GET, POST, PUT\r\nConnection: close\r\n\r\n{}";
-    check_found(
+    check_response(
         &rt,
-        is_response(&rt, 405, Allow::Jobs, false, true, want),
+        rt.alloc(),
         "a refusal of a method",
+        405,
+        Allow::Jobs,
+        (false, true),
+        "HTTP/1.1 405 Method Not Allowed\r\nContent-Type: application/json\r\nContent-Length: 2\r\nAllow: GET, POST, PUT\r\nConnection: close\r\n\r\n{}",
     );
-    let want =
-        "HTTP/1.1 507 Insufficient Storage\r\nContent-Type: application/json\r\nContent-Length: 2\r\n\r\n{}";
-    check_found(
+    check_response(
         &rt,
-        is_response(&rt, 507, Allow::Job, false, false, want),
+        rt.alloc(),
         "methods at another status",
+        507,
+        Allow::Job,
+        (false, false),
+        "HTTP/1.1 507 Insufficient Storage\r\nContent-Type: application/json\r\nContent-Length: 2\r\n\r\n{}",
     );
 }
 
@@ -117,7 +147,7 @@ const PIECES: [PieceRow; 6] = [
 /// Whether a response goes out in the pieces of a row.
 fn is_sent_in(rt: &HostRuntime, row: &PieceRow) -> Result<bool, AllocError> {
     let body = vec![in rt.alloc(); b' '; row.1]?;
-    let reply = reply_of(rt, 200, Allow::None, body.as_slice())?;
+    let reply = reply_of(rt.alloc(), 200, Allow::None, body.as_slice())?;
     let mut sink = PieceLengths {
         lengths: Vec::new(rt.alloc()),
     };
@@ -152,7 +182,7 @@ fn line_of(rt: &HostRuntime, fail: u64) -> Result<MemoryLine, AllocError> {
 fn is_written_so(rt: &HostRuntime, row: &WriteRow) -> Result<bool, AllocError> {
     let mut line = line_of(rt, row.1)?;
     let body = vec![in rt.alloc(); b' '; 70_000]?;
-    let reply = reply_of(rt, 200, Allow::None, body.as_slice())?;
+    let reply = reply_of(rt.alloc(), 200, Allow::None, body.as_slice())?;
     let is_sent = write_response(&mut line, false, false, &reply).is_ok();
     Ok(is_sent == row.2 && line.bytes().len() == row.3)
 }

@@ -7,7 +7,7 @@ use Rattle.std.proofs.lemmas.List.{length-drop}
 use Rattle.fts_service.specs.Halls.{IsBoothReady, IsStationReady}
 use Rattle.fts_service.specs.Seats.{booths_of, stations_of}
 use Rattle.fts_service.specs.Served.{served_end}
-use Rattle.fts_service.proofs.Sitting.{as_many, booths_ready, stations_ready, AreSame, each_along, same_of_each, same-append, of_same, numbers_same, of_drop, given_length, booths_length, stations_length, each_length, seats_passes}
+use Rattle.fts_service.proofs.Sitting.{as_many, booths_ready, stations_ready, AreSame, each_along, same_of_each, same-append, of_same, numbers_same, of_drop, given_length, seated_counts, seats_passes}
 use Rattle.fts_service.proofs.crew.serve_seated.Goals as goal
 
 pub take_seats-seated-requires-clause-passes : goal.take_seats-seated-requires-clause-passes
@@ -36,17 +36,13 @@ leave_seats-requires g c =
     let benches = c.args.seats.benches.items in
     let seated = c.take_seats-seated.ensures in
     let many : length given ≡ length rooms + length benches = ap length c.requires.passes ∙ given_length (record c.args.first { given = 0 }) c.args.first.given ∙ c.requires.given in
-    let booths : length c.serve_lists.new.booths.items ≡ length rooms =
-    each_length _ _ _ c.serve_lists.ensures.booths ∙ ap length seated.booths
-    ∙ booths_length _ c.args.lanes.now.items rooms given c.requires.lanes (omega (arith, many)) in
-    let stations : length c.serve_lists.new.stations.items ≡ length benches =
-    each_length _ _ _ c.serve_lists.ensures.stations ∙ ap length seated.stations
-    ∙ stations_length _ c.args.hands.now.items benches (drop (length rooms) given) c.requires.hands (omega (arith, many, length-drop (length rooms) given)) in
+    let counts = seated_counts _ _ _ c.args.lanes.now.items rooms c.args.hands.now.items benches given _ _ _ _ c.serve_lists.ensures.booths seated.booths
+    c.serve_lists.ensures.stations seated.stations c.requires.lanes c.requires.hands many in
     record {
-      lanes = omega (arith, booths, c.requires.lanes, ap length seated.lanes, length-drop (length rooms) c.args.lanes.now.items, seated.kept.0, c.args.lanes.now.ok.0, c.args.lanes.now.ok.1);
-      hands = omega (arith, stations, c.requires.hands, ap length seated.hands, length-drop (length benches) c.args.hands.now.items, seated.kept.1, c.args.hands.now.ok.0, c.args.hands.now.ok.1);
+      lanes = omega (arith, counts.0, c.requires.lanes, ap length seated.lanes, length-drop (length rooms) c.args.lanes.now.items, seated.kept.0, c.args.lanes.now.ok.0, c.args.lanes.now.ok.1);
+      hands = omega (arith, counts.1, c.requires.hands, ap length seated.hands, length-drop (length benches) c.args.hands.now.items, seated.kept.1, c.args.hands.now.ok.0, c.args.hands.now.ok.1);
       none = seated.passes;
-      passes = omega (arith, booths, stations, many, seated.kept.2, c.args.passes.ok.0, c.args.passes.ok.1);
+      passes = omega (arith, counts.0, counts.1, many, seated.kept.2, c.args.passes.ok.0, c.args.passes.ok.1);
     }
 
 pub close_with-requires : goal.close_with-requires
@@ -82,12 +78,8 @@ returns g c =
     let rooms = c.args.seats.rooms.items in
     let benches = c.args.seats.benches.items in
     let many : length given ≡ length rooms + length benches = ap length c.requires.passes ∙ given_length (record c.args.first { given = 0 }) c.args.first.given ∙ c.requires.given in
-    let booths : length c.serve_lists.new.booths.items ≡ length rooms =
-    each_length _ _ _ c.serve_lists.ensures.booths ∙ ap length seated.booths
-    ∙ booths_length _ c.args.lanes.now.items rooms given c.requires.lanes (omega (arith, many)) in
-    let stations : length c.serve_lists.new.stations.items ≡ length benches =
-    each_length _ _ _ c.serve_lists.ensures.stations ∙ ap length seated.stations
-    ∙ stations_length _ c.args.hands.now.items benches (drop (length rooms) given) c.requires.hands (omega (arith, many, length-drop (length rooms) given)) in
+    let counts = seated_counts _ _ _ c.args.lanes.now.items rooms c.args.hands.now.items benches given _ _ _ _ c.serve_lists.ensures.booths seated.booths
+    c.serve_lists.ensures.stations seated.stations c.requires.lanes c.requires.hands many in
     let lanes = c.leave_seats.ensures.lanes ∙ ap (λ l. map (λ booth. booth.lane) c.serve_lists.new.booths.items ++ l) seated.lanes in
     let hands = c.leave_seats.ensures.hands ∙ ap (λ l. map (λ station. station.hand) c.serve_lists.new.stations.items ++ l) seated.hands in
     record {
@@ -106,5 +98,5 @@ returns g c =
             ∙ ap (λ l. served_end (map (λ booth. booth.end) l) (map (λ station. station.end) c.deref-2.result.now)) c.deref.ensures.value
             ∙ ap (λ l. served_end (map (λ booth. booth.end) c.serve_lists.new.booths.items) (map (λ station. station.end) l)) c.deref-2.ensures.value;
       };
-      many = (as_many _ _ (length rooms) _ _ booths c.requires.lanes lanes, as_many _ _ (length benches) _ _ stations c.requires.hands hands);
+      many = (as_many _ _ (length rooms) _ _ counts.0 c.requires.lanes lanes, as_many _ _ (length benches) _ _ counts.1 c.requires.hands hands);
     }

@@ -31,10 +31,8 @@ in-no-range Serve name number over =
     either (bytes_eq name (codes "--port")) (within 1 65535 Port number) _ (above 1 65535 Port number (omega arith))
     (either (bytes_eq name (codes "--lanes")) (within 1 MAX_LANES Lanes number) _ (above 1 MAX_LANES Lanes number (omega arith))
     (either (bytes_eq name (codes "--connections")) (within 1 1000000 Connections number) None (above 1 1000000 Connections number (omega arith)) refl))
-in-no-range Submit name number over = client-in-no-range name number over
-in-no-range Query name number over = client-in-no-range name number over
 in-no-range Delete name number over = refl
-in-no-range Follow name number over = client-in-no-range name number over
+in-no-range _ name number over = client-in-no-range name number over
 
 -- a value whose number no `u64` holds gives no option
 over-gives-none : (command : Command) (name : List ℕ) (number : Option ℕ) → IfSome number (λ n. 18446744073709551615 < n) → option_and_then (given_by command name) number ≡ None
