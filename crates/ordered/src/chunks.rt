@@ -3,8 +3,8 @@
 //! of memory: that says where to look, and as each answer of it is looked at, nothing but the time of a search hangs on it.
 //! A key more or less moves only keys of one chunk, or of two neighbours.
 //! Each chunk is at least half full, but for one that stands alone, so there are never more of them than `chunks_for`. A chunk that gets full is split in
-//! halves. One that has a key less than half takes a key from a neighbour that has more than half, or else the two become one. Nothing here takes or
-//! gives back memory.
+//! halves. One that has a key less than half takes a key from a neighbour that has more than half, or else the two become one. Nothing here needs
+//! memory: `make_room` took it, for the ends too.
 //! A place of a key is one word, `IsGapFor`: all in front of it stand before the key, and none from there on does.
 ghost use Rattle.std.specs.Prelude.{
   ◌≡◌,
