@@ -11,9 +11,9 @@ use Rattle.fts_heads.specs.declared.ripe_file.RipeFile.{RipeFile}
 use Rattle.fts_heads.specs.declared.ripe_file.Lined.{Lined}
 use Rattle.fts_heads.specs.RipeFiles.{goes_by_group, goes_in_line, by_group, in_line, is_in}
 use Rattle.fts_heads.specs.Keys.{is_line_before}
-use Rattle.fts_heads.specs.Heads.{leads, is_lined, is_open, AreHeads, IsFirstOf, is_one, goes_ahead}
+use Rattle.fts_heads.specs.Heads.{leads, is_lined, is_open, AreHeads, IsFirstOf, is_one, goes_ahead, start_at}
 use Rattle.fts_heads.proofs.Found.{any_there, no, IsFound, is_found, none_found}
-use Rattle.fts_heads.proofs.Ranges.{start_at, IsNext, next, next_leads, not_before_start, to_false, both_same, leader}
+use Rattle.fts_heads.proofs.Ranges.{IsNext, next, next_leads, not_before_start, to_false, both_same, leader}
 use Rattle.fts_heads.proofs.Upkeep.{lined_waits, passes_on}
 
 -- the files in line without their wrapping

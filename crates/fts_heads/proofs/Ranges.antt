@@ -10,12 +10,8 @@ use Rattle.ordered.proofs.Members.{one_of, itself}
 use Rattle.fts_heads.proofs.Tests.{same_answer}
 use Rattle.fts_heads.specs.declared.ripe_file.RipeFile.{RipeFile}
 use Rattle.fts_heads.specs.RipeFiles.{goes_by_group, by_group}
-use Rattle.fts_heads.specs.Heads.{is_one, goes_ahead, leads, is_within}
+use Rattle.fts_heads.specs.Heads.{is_one, goes_ahead, leads, is_within, start_at}
 use Rattle.fts_heads.proofs.Found.{any_there, is_found, none_found, has_first, has_rest}
-
--- before all files of a destination and a queue
-abbrev pub start_at : ℕ → ℕ → RipeFile
-start_at dest queue = record { queue = queue; dest = dest; rank = 0; file = 0 }
 
 -- a file of the destination and of no lesser queue is not before the start
 pub not_before_start : (dest from other queue rank file : ℕ) → other ≡ dest → from ≤ queue
@@ -23,7 +19,7 @@ pub not_before_start : (dest from other queue rank file : ℕ) → other ≡ des
 not_before_start dest from other queue rank file same least = grind (arith, nat_tests)
 
 -- and one that is not before it is of no lesser queue
-no_lesser : (dest from other queue rank file : ℕ) → other ≡ dest → is_first_by dest other (is_first_by queue from (is_first_by rank 0 (nat_lt file 0))) ≡ false
+pub no_lesser : (dest from other queue rank file : ℕ) → other ≡ dest → is_first_by dest other (is_first_by queue from (is_first_by rank 0 (nat_lt file 0))) ≡ false
     → from ≤ queue
 no_lesser dest from other queue rank file same goes = grind (arith, nat_tests)
 
@@ -61,7 +57,7 @@ before_by_queue : (dest other queue other_queue : ℕ) (rest : Bool) → dest �
     → is_first_by other dest (is_first_by queue other_queue rest) ≡ true
 before_by_queue dest other queue other_queue rest same smaller = grind (arith, nat_tests)
 
-goes_before : (dest other queue other_queue : ℕ) (rest : Bool) → other ≤ dest → (dest ≡ other → queue < other_queue)
+pub goes_before : (dest other queue other_queue : ℕ) (rest : Bool) → other ≤ dest → (dest ≡ other → queue < other_queue)
     → is_first_by other dest (is_first_by queue other_queue rest) ≡ true
 goes_before dest other queue other_queue rest most less = by_case (cases_lt other dest)
   where

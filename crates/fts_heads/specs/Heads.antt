@@ -27,6 +27,10 @@ is_lined line waiter = has_key is_line_before (record { waiter = waiter }) line
 abbrev pub is_within : ℕ → ℕ → ℕ → RipeFile → Bool
 is_within dest from to waiter = (waiter.dest == dest) && (not (nat_lt waiter.queue from) && nat_lt waiter.queue to)
 
+-- before all files of a destination and a queue
+abbrev pub start_at : ℕ → ℕ → RipeFile
+start_at dest queue = record { queue = queue; dest = dest; rank = 0; file = 0 }
+
 -- whether a destination is free
 abbrev pub is_free : List Bool → ℕ → Bool
 is_free busy dest = not (slice_index_or busy dest false)

@@ -1,7 +1,7 @@
 //! The files in line, and how many of them each block of queues has: so it is had at once that a block has none.
 //! Kept in its type (`AreCounted`): each block's number counts its files. Queues behind the last block are in no block.
 //! Order: the first room makes the numbers; no other call takes memory for them. The rest is as in `Ordered`, and contracts see it as one.
-ghost use Rattle.std.specs.Prelude.{◌≡◌, ◌<◌, ◌+◌, ◌-◌, ◌/◌, ◌==◌, [], max, length, replicate, slice_index_or, if◌then◌else◌, IsTrue, IsFalse, OnOk, OnErr};
+ghost use Rattle.std.specs.Prelude.{◌≡◌, ◌<◌, ◌+◌, ◌-◌, ◌/◌, ◌==◌, [], true, false, max, length, replicate, slice_index_or, if◌then◌else◌, IsTrue, IsFalse, OnOk, OnErr};
 ghost use Rattle.std.specs.List.{list_any};
 ghost use Rattle.ordered.specs.Orders.{has_key, put_by, without};
 ghost use Rattle.fts_heads.specs.Keys.{is_line_before};
@@ -134,6 +134,21 @@ impl Counted {
         let _ = self.line.len();
         lower(&mut self.counts, block_of(key));
         self.line.remove(key);
+    }
+
+    /// Takes a file out where it is there, and says whether it was.
+    pub fn take(&mut self, key: &Lined) -> bool
+        ensures answer { result ≡ has_key is_line_before key.now self.old.keys }
+        ensures taken { result ≡ true → self.new ≡ record self.old { keys = without is_line_before key.now self.old.keys } }
+        ensures left { result ≡ false → self.new ≡ self.old }
+    {
+        let _ = self.line.len();
+        let block = block_of(key);
+        if !self.line.take(key) {
+            return false;
+        }
+        lower(&mut self.counts, block);
+        true
     }
 
     /// Whether a file of a block is in line.

@@ -39,7 +39,7 @@ ghost use Rattle.fts_heads.specs.Blocks.{is_in_block};
 use crate::counted::Counted;
 use crate::line::first_in_line;
 use crate::ripe_file::{Lined, RipeFile};
-use crate::walk::{enter, leave, make_way};
+use crate::walk::{enter, follow, leave, make_way};
 use ordered::Ordered;
 use std::alloc::{AllocError, Global};
 use std::marker::Model;
@@ -246,19 +246,13 @@ impl Heads {
     {
         if !is_open(self.busy.as_slice(), file.dest) {
             self.files.remove(&file);
-        } else if !self.line.files().has(&Lined { waiter: file }) {
+        } else if !self.line.take(&Lined { waiter: file }) {
             let _ = self.files.len();
             self.files.remove(&file);
         } else {
-            self.line.remove(&Lined { waiter: file });
-            self.files.remove(&file);
-            enter(
-                &self.files,
-                &mut self.line,
-                file.dest,
-                file.queue,
-                file.queue + 1,
-            );
+            let _ = self.files.len();
+            let next = self.files.take_next(&file);
+            follow(&self.files, &mut self.line, file.dest, file.queue, next);
         }
     }
 }

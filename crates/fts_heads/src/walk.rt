@@ -1,15 +1,42 @@
 //! Who leads, of a destination and a range of queues, and the line with these or without them.
 ghost use Rattle.std.specs.Prelude.{◌≡◌, ◌<◌, ◌≤◌, ◌+◌, ◌&&◌, ◌||◌, not, true, false, IfSome, IfNone};
-ghost use Rattle.ordered.specs.Orders.{has_key, put_by};
+ghost use Rattle.ordered.specs.Orders.{has_key, put_by, first_from};
 ghost use Rattle.fts_heads.specs.RipeFiles.{goes_by_group};
 ghost use Rattle.fts_heads.specs.declared.ripe_file.RipeFile.{RipeFile};
 ghost use Rattle.fts_heads.specs.declared.heads.TheConstants.{MOST_QUEUES};
-ghost use Rattle.fts_heads.specs.Heads.{is_one, leads, is_lined, is_within};
+ghost use Rattle.fts_heads.specs.Heads.{is_one, leads, is_lined, is_within, start_at};
 
 use crate::counted::Counted;
 use crate::heads::MOST_QUEUES;
 use crate::ripe_file::{Lined, RipeFile};
 use ordered::{Key, Ordered};
+
+/// Of the first file from the start of a range on, whether it is of the range: then it leads for the destination in the first queue that has files for it.
+fn head_of(
+    files: &Ordered<RipeFile>,
+    found: Option<RipeFile>,
+    dest: u32,
+    from: u32,
+    to: u32,
+) -> Option<RipeFile>
+    requires found { found ≡ first_from goes_by_group (start_at dest from) files.now.keys }
+    ensures past { IfSome result (λ head. (from ≤ head.queue) × (head.queue < to)) }
+    ensures alone { IfSome result (λ head. (waiter : RipeFile)
+        → (is_within dest from (head.queue + 1) waiter && leads files.now.keys waiter) ≡ is_one head waiter) }
+    ensures none { IfNone result ((waiter : RipeFile) → (is_within dest from to waiter && leads files.now.keys waiter) ≡ false) }
+{
+    let _ = files.len();
+    match found {
+        Some(found) => {
+            if found.dest == dest && found.queue < to {
+                Some(found)
+            } else {
+                None
+            }
+        }
+        None => None,
+    }
+}
 
 /// Who leads for a destination in the first queue of a range that has files for it. None where no queue of the range has.
 fn next_head(files: &Ordered<RipeFile>, dest: u32, from: u32, to: u32) -> Option<RipeFile>
@@ -21,23 +48,13 @@ fn next_head(files: &Ordered<RipeFile>, dest: u32, from: u32, to: u32) -> Option
     if from >= to {
         return None;
     }
-    let _ = files.len();
     let start = RipeFile {
         queue: from,
         dest,
         rank: 0,
         file: 0,
     };
-    match files.first_from(&start) {
-        Some(found) => {
-            if found.dest == dest && found.queue < to {
-                Some(found)
-            } else {
-                None
-            }
-        }
-        None => None,
-    }
+    head_of(files, files.first_from(&start), dest, from, to)
 }
 
 /// Whether a file will lead its queue and destination once it comes in. Then who led there before leaves the line; else nobody leads or leads no more.
@@ -99,5 +116,30 @@ pub fn enter(files: &Ordered<RipeFile>, line: &mut Counted, dest: u32, from: u32
         let _ = line.files().len();
         line.insert(Lined { waiter: head });
         queue = head.queue + 1;
+    }
+}
+
+/// Who leads in a queue for a destination comes into the line, where nobody of them stands in it. What is found from the start of the queue on is known.
+pub fn follow(
+    files: &Ordered<RipeFile>,
+    line: &mut Counted,
+    dest: u32,
+    queue: u32,
+    found: Option<RipeFile>,
+)
+    requires last { queue < MOST_QUEUES }
+    requires found { found ≡ first_from goes_by_group (start_at dest queue) files.now.keys }
+    requires apart { (waiter : RipeFile) → (is_within dest queue (queue + 1) waiter && leads files.now.keys waiter) ≡ true
+        → is_lined line.old.keys waiter ≡ false }
+    requires wait { (waiter : RipeFile) → is_lined line.old.keys waiter ≡ true → has_key goes_by_group waiter files.now.keys ≡ true }
+    requires room { files.now.room ≤ line.old.room }
+    ensures lined { (waiter : RipeFile) → is_lined line.new.keys waiter
+        ≡ (is_lined line.old.keys waiter || (is_within dest queue (queue + 1) waiter && leads files.now.keys waiter)) }
+    ensures room { line.new.room ≡ line.old.room }
+{
+    let _ = files.len();
+    let _ = line.files().len();
+    if let Some(head) = head_of(files, found, dest, queue, queue + 1) {
+        line.insert(Lined { waiter: head });
     }
 }

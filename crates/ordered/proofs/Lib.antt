@@ -3,4 +3,5 @@ pub mod Members
 pub mod ByNumbers
 pub mod Places
 pub mod Fits
+pub mod Kept
 pub mod Edits

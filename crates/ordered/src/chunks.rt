@@ -19,6 +19,7 @@ ghost use Rattle.std.specs.Prelude.{
   take,
   drop,
   insert,
+  remove,
   slice_get,
   slice_set,
   true,
@@ -28,7 +29,7 @@ ghost use Rattle.std.specs.Prelude.{
   vec_capacity,
 };
 ghost use Rattle.ordered.specs.declared.chunk.TheConstants.{CHUNK_HALF};
-ghost use Rattle.ordered.specs.Orders.{AreSortedBy, put_by, without, has_key};
+ghost use Rattle.ordered.specs.Orders.{AreSortedBy, put_by, without, has_key, next_after};
 ghost use Rattle.ordered.specs.Chunks.{joined, chunk_at, ends_before, front_of, back_of, IsGapFor, parted_at, merged_at, AreFit, HasLostOne};
 
 use crate::chunk::{CHUNK_HALF, CHUNK_ROOM, Chunk};
@@ -283,25 +284,94 @@ fn close_up<K: Key>(chunks: &mut Vec<Chunk<K>>, spare: &mut Vec<Chunk<K>>, at: u
     }
 }
 
-/// Takes a key away that is there.
+/// Takes the key away at a place.
+fn take_at<K: Key>(
+    chunks: &mut Vec<Chunk<K>>,
+    spare: &mut Vec<Chunk<K>>,
+    ends: &mut Vec<K>,
+    spot: Spot,
+)
+    requires chunk { spot.chunk < length chunks.old.items }
+    requires at { spot.at < length (chunk_at chunks.old.items spot.chunk) }
+    requires fit { AreFit chunks.old.items }
+    requires memory { length spare.old.items < vec_capacity spare.old }
+    ensures keys { joined chunks.new.items ≡ joined (slice_set chunks.old.items spot.chunk (remove (chunk_at chunks.old.items spot.chunk) spot.at)) }
+    ensures fit { AreFit chunks.new.items }
+    ensures whole { length chunks.new.items + length spare.new.items ≡ length chunks.old.items + length spare.old.items }
+    ensures capacity { vec_capacity chunks.new ≡ vec_capacity chunks.old }
+    ensures spare_capacity { vec_capacity spare.new ≡ vec_capacity spare.old }
+{
+    chunks[spot.chunk].remove(spot.at);
+    close_up(chunks, spare, spot.chunk);
+    note_ends(chunks, ends, spot.chunk);
+}
+
+/// Takes a key away that is there. Answers the least key behind it.
 pub fn take_out<K: Key>(
     chunks: &mut Vec<Chunk<K>>,
     spare: &mut Vec<Chunk<K>>,
     ends: &mut Vec<K>,
     key: &K,
-)
+) -> Option<K>
     requires order { AreSortedBy K.before (joined chunks.old.items) }
     requires fit { AreFit chunks.old.items }
     requires there { IsTrue (has_key K.before key.now (joined chunks.old.items)) }
     requires memory { length spare.old.items < vec_capacity spare.old }
     ensures keys { joined chunks.new.items ≡ without K.before key.now (joined chunks.old.items) }
+    ensures next { result ≡ next_after K.before key.now (joined chunks.old.items) }
     ensures fit { AreFit chunks.new.items }
     ensures whole { length chunks.new.items + length spare.new.items ≡ length chunks.old.items + length spare.old.items }
     ensures capacity { vec_capacity chunks.new ≡ vec_capacity chunks.old }
     ensures spare_capacity { vec_capacity spare.new ≡ vec_capacity spare.old }
 {
     let spot = spot_for(chunks.as_slice(), ends, key);
-    chunks[spot.chunk].remove(spot.at);
-    close_up(chunks, spare, spot.chunk);
-    note_ends(chunks, ends, spot.chunk);
+    let behind = Spot {
+        chunk: spot.chunk,
+        at: spot.at + 1,
+    };
+    let next = key_at(chunks.as_slice(), behind);
+    take_at(chunks, spare, ends, spot);
+    next
+}
+
+/// Whether a key is there, given its place.
+fn is_at<K: Key>(chunks: &[Chunk<K>], spot: Spot, key: &K) -> bool
+    requires chunk { spot.chunk < length chunks.now }
+    requires at { spot.at ≤ length (chunk_at chunks.now spot.chunk) }
+    requires fit { AreFit chunks.now }
+    requires order { AreSortedBy K.before (joined chunks.now) }
+    requires gap { IsGapFor K.before key.now (front_of chunks.now spot.chunk spot.at) (back_of chunks.now spot.chunk spot.at) }
+    ensures answer { result ≡ has_key K.before key.now (joined chunks.now) }
+{
+    match key_at(chunks, spot) {
+        Some(found) => !key.is_before(&found),
+        None => false,
+    }
+}
+
+/// Takes a key away where it is there, and says whether it was.
+pub fn take_if_there<K: Key>(
+    chunks: &mut Vec<Chunk<K>>,
+    spare: &mut Vec<Chunk<K>>,
+    ends: &mut Vec<K>,
+    key: &K,
+) -> bool
+    requires some { 0 < length chunks.old.items }
+    requires order { AreSortedBy K.before (joined chunks.old.items) }
+    requires fit { AreFit chunks.old.items }
+    requires memory { length spare.old.items < vec_capacity spare.old }
+    ensures answer { result ≡ has_key K.before key.now (joined chunks.old.items) }
+    ensures keys { result ≡ true → joined chunks.new.items ≡ without K.before key.now (joined chunks.old.items) }
+    ensures left { result ≡ false → joined chunks.new.items ≡ joined chunks.old.items }
+    ensures fit { AreFit chunks.new.items }
+    ensures whole { length chunks.new.items + length spare.new.items ≡ length chunks.old.items + length spare.old.items }
+    ensures capacity { vec_capacity chunks.new ≡ vec_capacity chunks.old }
+    ensures spare_capacity { vec_capacity spare.new ≡ vec_capacity spare.old }
+{
+    let spot = spot_for(chunks.as_slice(), ends, key);
+    let is_there = is_at(chunks.as_slice(), spot, key);
+    if is_there {
+        take_at(chunks, spare, ends, spot);
+    }
+    is_there
 }

@@ -3,12 +3,12 @@
 //! spare, with memory in both lists for all of them. So an insertion finds a spare chunk where it needs one (`spare_left`). The ends only make searches
 //! short, and are no part of that.
 //! The keys, one chunk after the other, are what contracts see.
-ghost use Rattle.std.specs.Prelude.{◌≡◌, ◌<◌, ◌≤◌, ◌+◌, [], max, length, slice_get, IsTrue, IsFalse, OnOk, OnErr, vec_capacity};
+ghost use Rattle.std.specs.Prelude.{◌≡◌, ◌<◌, ◌≤◌, ◌+◌, [], true, false, max, length, slice_get, IsTrue, IsFalse, OnOk, OnErr, vec_capacity};
 ghost use Rattle.ordered.specs.Orders.{AreSortedBy, put_by, without, has_key, first_from, next_after};
 ghost use Rattle.ordered.specs.Chunks.{chunks_for};
 
 use crate::chunk::{CHUNK_HALF, Chunk};
-use crate::chunks::{Spot, key_at, put, spot_for, take_out};
+use crate::chunks::{Spot, key_at, put, spot_for, take_if_there, take_out};
 use crate::key::Key;
 use std::alloc::{AllocError, Global};
 use std::marker::Model;
@@ -131,8 +131,34 @@ impl<K: Key> Ordered<K> {
         requires there { IsTrue (has_key K.before key.now self.old.keys) }
         ensures keys { self.new ≡ record self.old { keys = without K.before key.now self.old.keys } }
     {
-        take_out(&mut self.chunks, &mut self.spare, &mut self.ends, key);
+        let _ = self.take_next(key);
+    }
+
+    /// Takes a key out that is there, and answers the least key that it stands before, which is not searched for then.
+    pub fn take_next(&mut self, key: &K) -> Option<K>
+        requires there { IsTrue (has_key K.before key.now self.old.keys) }
+        ensures keys { self.new ≡ record self.old { keys = without K.before key.now self.old.keys } }
+        ensures next { result ≡ next_after K.before key.now self.old.keys }
+    {
+        let next = take_out(&mut self.chunks, &mut self.spare, &mut self.ends, key);
         self.len -= 1;
+        next
+    }
+
+    /// Takes a key out where it is there, and says whether it was: one search for both.
+    pub fn take(&mut self, key: &K) -> bool
+        ensures answer { result ≡ has_key K.before key.now self.old.keys }
+        ensures taken { result ≡ true → self.new ≡ record self.old { keys = without K.before key.now self.old.keys } }
+        ensures left { result ≡ false → self.new ≡ self.old }
+    {
+        if self.len == 0 {
+            return false;
+        }
+        let is_there = take_if_there(&mut self.chunks, &mut self.spare, &mut self.ends, key);
+        if is_there {
+            self.len -= 1;
+        }
+        is_there
     }
 
     /// Whether a key is there.
