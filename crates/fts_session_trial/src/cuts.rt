@@ -4,7 +4,7 @@
 //! The first of them is the example for users, `examples/two-submissions.http` and its reply, byte for byte.
 ghost use Rattle.std.specs.Prelude.{◌≤◌, length};
 
-use crate::stand::{Ended, SETTINGS, count_row, empty_disk, hands_with, make_given, run_words};
+use crate::stand::{Ended, SETTINGS, count_row, hands_with, make_given, print_count, run_anew};
 use fts_disk::MemoryDisk;
 use fts_store::MemoryStore;
 use fts_wire::{Source, SourceFailed};
@@ -115,14 +115,9 @@ fn ends_of(alloc: Global, ended: &Ended<MemoryDisk, MemoryStore>) -> io::Result<
 /// Whether a connection that is cut there is answered as it is written.
 fn is_answered(alloc: Global, connection: &Connection, cut: usize) -> io::Result<bool> {
     let input = make_pieces(alloc, connection.input.as_slice(), cut)?;
-    let ended = run_words(
-        alloc,
-        &["session"],
-        make_given(alloc, SETTINGS, input)?,
-        MemoryDisk::new(alloc, Vec::new(alloc)),
-        empty_disk(alloc),
-        hands_with(alloc, &["data/f1"], Vec::new(alloc))?,
-    )?;
+    let given = make_given(alloc, SETTINGS, input)?;
+    let hands = hands_with(alloc, &["data/f1"], Vec::new(alloc))?;
+    let ended = run_anew(alloc, &["session"], given, hands)?;
     let ends = ends_of(alloc, &ended)?;
     Ok(
         ended.output.bytes() == connection.output.as_slice()
@@ -153,6 +148,5 @@ pub fn play_all(rt: &HostRuntime) -> io::Result<()> {
     for name in &CONNECTIONS {
         same = same.saturating_add(play(rt, name)?);
     }
-    println!(rt; "connections in pieces as written: {same}")?;
-    Ok(())
+    print_count(rt, "connections in pieces as written", same)
 }

@@ -5,10 +5,9 @@ ghost use Rattle.std.specs.Prelude.{◌≡◌, false, IfOk};
 ghost use Rattle.fts_client.specs.MemoryLinks.{has_failed};
 
 use crate::stand::{
-    Given, SETTINGS, count_row, empty_disk, hands_with, make_given, no_memory, run_words, source,
+    Given, SETTINGS, count_row, hands_with, make_given, no_memory, print_count, run_anew, source,
 };
 use fts_client::MemoryLink;
-use fts_disk::MemoryDisk;
 use fts_wire::{MemoryLine, MemorySink, MemorySource};
 use std::alloc::Global;
 use std::io;
@@ -30,12 +29,6 @@ const DUPLICATE: &str =
     "HTTP/1.1 409 Conflict\r\nContent-Type: application/json\r\nContent-Length: 94\r\nConnection: close\r\n\r\n\
      {\"job_id\":\"8b35c5cc-fec2-5479-8778-9cbe6f137978\",\"message\":\"duplicate\",\"rule\":34,\"status\":409}";
 
-const NO_JOB: &str =
-    "HTTP/1.1 404 Not Found\r\nContent-Type: application/json\r\nContent-Length: 43\r\nConnection: close\r\n\r\n{\"message\":\"no job\",\"rule\":31,\"status\":404}";
-
-const NO_ENTRY: &str =
-    "HTTP/1.1 404 Not Found\r\nContent-Type: application/json\r\nContent-Length: 45\r\nConnection: close\r\n\r\n{\"message\":\"no entry\",\"rule\":47,\"status\":404}";
-
 const DISK_FAILED: &str =
     "HTTP/1.1 503 Service Unavailable\r\nContent-Type: application/json\r\nContent-Length: 48\r\nConnection: close\r\n\r\n{\"message\":\"disk failed\",\"rule\":35,\"status\":503}";
 
@@ -43,6 +36,7 @@ const FOUND: &str =
     "HTTP/1.1 200 OK\r\nContent-Type: application/json\r\nContent-Length: 13\r\nConnection: close\r\n\r\n{\"job_id\":\"\"}";
 
 /// A whole run, and what is wanted of it.
+#[derive(Clone, Copy)]
 struct Row {
     row: &'static str,
     words: &'static [&'static str],
@@ -55,161 +49,143 @@ struct Row {
     noted: &'static str,
 }
 
+/// A submission that may be tried twice.
+const TWO_TRIES: &[&str] = &["submit", "--port", "8080", "--tries", "2"];
+
+/// A query of the job that `DOCUMENT` makes.
+const QUERY: &[&str] = &[
+    "query",
+    "--port",
+    "8080",
+    "--job",
+    "8b35c5cc-fec2-5479-8778-9cbe6f137978",
+];
+
+/// Deletions of nothing, which end well without a word. What another row does not say is as in this one.
+const NOTHING: Row = Row {
+    row: "an empty input asks for nothing",
+    words: &["delete"],
+    input: "",
+    answers: ["", ""],
+    fail: NO_DIAL,
+    status: 0,
+    output: "",
+    noted: "",
+};
+
 const ROWS: [Row; 14] = [
     Row {
         row: "a first answer that is cut, and a second that names the job",
         words: &["submit", "--port", "8080"],
         input: DOCUMENT,
         answers: [CUT, DUPLICATE],
-        fail: NO_DIAL,
-        status: 0,
         output: "8b35c5cc-fec2-5479-8778-9cbe6f137978\n",
-        noted: "",
+        ..NOTHING
     },
     Row {
         row: "no line",
         words: &["submit", "--port=8080", "--tries=1"],
         input: DOCUMENT,
-        answers: ["", ""],
         fail: 1,
         status: 16,
-        output: "",
         noted: "fts: link failed\n",
+        ..NOTHING
     },
     Row {
         row: "a service that cannot serve",
-        words: &["submit", "--port", "8080", "--tries", "2"],
+        words: TWO_TRIES,
         input: DOCUMENT,
         answers: [DISK_FAILED, DISK_FAILED],
-        fail: NO_DIAL,
         status: 18,
-        output: "",
         noted: "fts: service cannot serve: 503\n",
+        ..NOTHING
     },
     Row {
         row: "no whole answer",
-        words: &["submit", "--port", "8080", "--tries", "2"],
+        words: TWO_TRIES,
         input: DOCUMENT,
         answers: [DISK_FAILED, CUT],
-        fail: NO_DIAL,
         status: 17,
-        output: "",
         noted: "fts: no whole answer\n",
+        ..NOTHING
     },
     Row {
         row: "a document without an own id",
         words: &["submit", "--port", "8080"],
         input: ANONYMOUS,
-        answers: ["", ""],
-        fail: NO_DIAL,
         status: 19,
-        output: "",
         noted: "fts: document rule 24\n",
+        ..NOTHING
     },
     Row {
         row: "a job that is not there",
-        words: &[
-            "query",
-            "--port",
-            "8080",
-            "--job",
-            "8b35c5cc-fec2-5479-8778-9cbe6f137978",
+        words: QUERY,
+        answers: [
+            "HTTP/1.1 404 Not Found\r\nContent-Type: application/json\r\nContent-Length: 43\r\nConnection: close\r\n\r\n{\"message\":\"no job\",\"rule\":31,\"status\":404}",
+            "",
         ],
-        input: "",
-        answers: [NO_JOB, ""],
-        fail: NO_DIAL,
         status: 15,
-        output: "",
         noted: "fts: service refused with 404\n",
+        ..NOTHING
     },
     Row {
         row: "a job that is there",
-        words: &[
-            "query",
-            "--port",
-            "8080",
-            "--job",
-            "8b35c5cc-fec2-5479-8778-9cbe6f137978",
-        ],
-        input: "",
+        words: QUERY,
         answers: [FOUND, ""],
-        fail: NO_DIAL,
-        status: 0,
         output: "{\"job_id\":\"\"}\n",
-        noted: "",
+        ..NOTHING
     },
     Row {
         row: "a job that no id names",
         words: &["query", "--port", "8080", "--job", "8b35c5cc"],
-        input: "",
         answers: [FOUND, ""],
-        fail: NO_DIAL,
         status: 2,
-        output: "",
         noted: "fts: not a command\n",
+        ..NOTHING
     },
     Row {
         row: "eleven tries",
         words: &["submit", "--port", "8080", "--tries", "11"],
         input: DOCUMENT,
         answers: [DUPLICATE, ""],
-        fail: NO_DIAL,
         status: 2,
-        output: "",
         noted: "fts: not a command\n",
+        ..NOTHING
     },
     Row {
         row: "a file that goes, and one that was not there",
-        words: &["delete"],
         input: "{\"delete\":[\"https://a.example/data/f1\",\"https://a.example/data/no\"]}",
-        answers: ["", ""],
-        fail: NO_DIAL,
-        status: 0,
         output: "delete 1 FINISHED https://a.example/data/f1\ndelete 2 FINISHED https://a.example/data/no\n",
-        noted: "",
+        ..NOTHING
     },
     Row {
         row: "no deletions",
-        words: &["delete"],
         input: "{\"delete\":[]}",
-        answers: ["", ""],
-        fail: NO_DIAL,
         status: 20,
-        output: "",
         noted: "fts: delete document rule 3\n",
+        ..NOTHING
     },
-    Row {
-        row: "an empty input asks for nothing",
-        words: &["delete"],
-        input: "",
-        answers: ["", ""],
-        fail: NO_DIAL,
-        status: 0,
-        output: "",
-        noted: "",
-    },
+    NOTHING,
     Row {
         row: "a primary without entries",
         words: &["follow", "--port", "8080"],
-        input: "",
-        answers: [NO_ENTRY, ""],
-        fail: NO_DIAL,
-        status: 0,
+        answers: [
+            "HTTP/1.1 404 Not Found\r\nContent-Type: application/json\r\nContent-Length: 45\r\nConnection: close\r\n\r\n{\"message\":\"no entry\",\"rule\":47,\"status\":404}",
+            "",
+        ],
         output: "caught up at 0\n",
-        noted: "",
+        ..NOTHING
     },
     Row {
         row: "an entry of another number",
         words: &["follow", "--port", "8080", "--tries", "1"],
-        input: "",
         answers: [
             "HTTP/1.1 200 OK\r\nContent-Type: application/json\r\nContent-Length: 48\r\nConnection: close\r\n\r\n{\"body\":\"030380e2cfaa0601\",\"count\":3,\"number\":1}",
             "",
         ],
-        fail: NO_DIAL,
         status: 17,
-        output: "",
         noted: "fts: no whole answer\n",
+        ..NOTHING
     },
 ];
 
@@ -239,9 +215,8 @@ fn is_wanted(alloc: Global, row: &Row) -> io::Result<bool> {
         link: link(alloc, row.answers, row.fail)?,
         ..make_given(alloc, SETTINGS, source(alloc, row.input.as_bytes())?)?
     };
-    let disk = MemoryDisk::new(alloc, Vec::new(alloc));
     let hands = hands_with(alloc, &["data/f1"], Vec::new(alloc))?;
-    let ended = run_words(alloc, row.words, given, disk, empty_disk(alloc), hands)?;
+    let ended = run_anew(alloc, row.words, given, hands)?;
     Ok(
         ended.ending.status == row.status
             && ended.output.bytes() == row.output.as_bytes()
@@ -256,5 +231,5 @@ pub fn play_all(rt: &HostRuntime) -> io::Result<()> {
         let is_wanted = is_wanted(rt.alloc(), row)?;
         same = same.saturating_add(count_row(rt, row.row, is_wanted)?);
     }
-    println!(rt; "errands as wanted: {same}")
+    print_count(rt, "errands as wanted", same)
 }

@@ -1,11 +1,11 @@
 //! Exchanges over a folder: the requests of `NAME.http`, the replies of `NAME.reply.http`, byte for byte, and in `NAME.after` the status of the run
 //! and which file of the grid is then equal to which, or is not there. Each has a new folder with the settings of `fts.toml` and the same sources.
-use crate::stand::{hands_over, no_memory, session};
+use crate::stand::{hands_over, make_given, no_memory, print_count, run_words};
 use fts_disk::{Disk, FileDisk};
 use fts_files::SystemFiles;
 use fts_store::{FolderStore, Store};
 use fts_tables::Memory;
-use fts_wire::{MemorySink, MemorySource};
+use fts_wire::MemorySource;
 use std::{fs, io};
 
 /// The folder that an exchange is played in.
@@ -150,12 +150,12 @@ fn answered<D: Disk + Drop, E: Store + Drop>(
     stores: Vec<E>,
 ) -> io::Result<(u8, bool)> {
     let alloc = rt.alloc();
-    let settings = fs::read(rt, "fts.toml")?;
-    let ended = session(
+    let settings = fs::read_to_string(rt, "fts.toml")?;
+    let input = MemorySource::new(read_part(rt, name, ".http")?, Vec::new(alloc));
+    let ended = run_words(
         alloc,
-        settings.as_slice(),
-        MemorySource::new(read_part(rt, name, ".http")?, Vec::new(alloc)),
-        MemorySink::new(alloc, Vec::new(alloc)),
+        &["session"],
+        make_given(alloc, settings.as_str(), input)?,
         disk,
         deletes,
         hands_over(alloc, stores)?,
@@ -195,6 +195,5 @@ pub fn play_all(rt: &HostRuntime) -> io::Result<()> {
         }
     }
     fs::remove_dir_all(rt, STAND)?;
-    println!(rt; "exchanges as written: {same}")?;
-    Ok(())
+    print_count(rt, "exchanges as written", same)
 }

@@ -3,7 +3,9 @@
 //! What a failed call of the disk leaves in doubt is tried with its gate closed and with it open.
 ghost use Rattle.std.specs.Prelude.{◌≡◌, length, IfOk};
 
-use crate::stand::{SETTINGS, StillHand, empty_disk, hands_with, no_memory, session};
+use crate::stand::{
+    Given, SETTINGS, StillHand, hands_with, make_given, no_memory, print_count, session,
+};
 use crate::wanted::{
     ENDS, ENTRIES, Entry, INPUT, INPUT_WITH_RETRY, NOT_MADE, NOT_WRITTEN, NOTHING_READ, READ,
     READS, REPLIES, REPLIES_WITH_RETRY, START, STORE, STORE_CALLS, STORE_WITH_RETRY,
@@ -125,13 +127,14 @@ fn play(
     wanted: &str,
 ) -> io::Result<u32> {
     let alloc = rt.alloc();
+    let given = Given {
+        output: MemorySink::new(alloc, [trouble.write].to_vec(alloc)?),
+        ..make_given(alloc, SETTINGS, source(alloc, input, trouble.read)?)?
+    };
     let ended = session(
         alloc,
-        SETTINGS.as_bytes(),
-        source(alloc, input, trouble.read)?,
-        MemorySink::new(alloc, [trouble.write].to_vec(alloc)?),
+        given,
         MemoryDisk::new(alloc, trouble.disk),
-        empty_disk(alloc),
         hands(alloc, trouble.store)?,
     )?;
     let left = ended
@@ -140,13 +143,11 @@ fn play(
         .map_err(no_memory)?;
     let written = are_written(ended.output.bytes(), replies);
     let first = ended.ending;
+    let nothing = MemorySource::new(Vec::new(alloc), Vec::new(alloc));
     let next = session(
         alloc,
-        SETTINGS.as_bytes(),
-        MemorySource::new(Vec::new(alloc), Vec::new(alloc)),
-        MemorySink::new(alloc, Vec::new(alloc)),
+        make_given(alloc, SETTINGS, nothing)?,
         MemoryDisk::holding(alloc, left, Vec::new(alloc)),
-        empty_disk(alloc),
         ended.hands,
     )?;
     let line = line_of(alloc, first, next.ending)?;
@@ -296,13 +297,8 @@ fn play_sink(rt: &HostRuntime) -> io::Result<u32> {
 
 /// Plays each failing call, and prints what is otherwise than wanted, and how many sessions were as wanted.
 pub fn play_all(rt: &HostRuntime) -> io::Result<()> {
-    let disk = play_disk(rt)?;
-    println!(rt; "failing calls of the disk as wanted: {disk}")?;
-    let store = play_store(rt)?;
-    println!(rt; "failing calls of the store as wanted: {store}")?;
-    let source = play_source(rt)?;
-    println!(rt; "failing reads as wanted: {source}")?;
-    let sink = play_sink(rt)?;
-    println!(rt; "failing writes as wanted: {sink}")?;
-    Ok(())
+    print_count(rt, "failing calls of the disk as wanted", play_disk(rt)?)?;
+    print_count(rt, "failing calls of the store as wanted", play_store(rt)?)?;
+    print_count(rt, "failing reads as wanted", play_source(rt)?)?;
+    print_count(rt, "failing writes as wanted", play_sink(rt)?)
 }

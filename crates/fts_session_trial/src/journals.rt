@@ -2,7 +2,8 @@
 //! a damaged journal stops the run and stays. The list that a start leaves is written byte for byte, by the format of journals and entries; what `show`
 //! writes stands in `shown.txt`.
 use crate::stand::{
-    Ended, SETTINGS, count_row, empty_disk, hands_with, make_given, no_memory, run_words, source,
+    Ended, SETTINGS, count_row, empty_disk, hands_with, make_given, no_memory, print_count,
+    run_words, source,
 };
 use fts_disk::MemoryDisk;
 use fts_store::{MemoryStore, Store};
@@ -238,6 +239,5 @@ pub fn play_all(rt: &HostRuntime) -> io::Result<()> {
     ] {
         same = same.saturating_add(count_row(rt, row, is_wanted)?);
     }
-    println!(rt; "runs over a journal as wanted: {same}")?;
-    Ok(())
+    print_count(rt, "runs over a journal as wanted", same)
 }

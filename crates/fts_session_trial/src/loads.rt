@@ -1,7 +1,7 @@
 //! Loads: what is seen where a call of the store or a write of its line fails, and which files a load leaves.
 //! The files of number 7 have the sizes that `acceptance/load.py` gives, a program of its own.
 use crate::stand::{
-    Ended, Given, SETTINGS, count_row, empty_disk, hands_with, make_given, run_words, source,
+    Ended, Given, SETTINGS, count_row, hands_with, make_given, print_count, run_anew, source,
 };
 use fts_disk::MemoryDisk;
 use fts_store::{MemoryStore, Store};
@@ -30,6 +30,7 @@ const NONE: Tally = Tally {
 };
 
 /// Which call of the store and which write of the output fail, and what is seen.
+#[derive(Clone, Copy)]
 struct Row {
     row: &'static str,
     call: u32,
@@ -39,6 +40,17 @@ struct Row {
     noted: &'static str,
     tally: Tally,
 }
+
+/// A call of the store that fails while the files are made.
+const STORE_FAILED: Row = Row {
+    row: "the store's first call",
+    call: 1,
+    write: 0,
+    status: 13,
+    output: "",
+    noted: "fts: store failed\n",
+    tally: NONE,
+};
 
 const ROWS: [Row; 4] = [
     Row {
@@ -50,23 +62,11 @@ const ROWS: [Row; 4] = [
         noted: "",
         tally: ALL,
     },
-    Row {
-        row: "the store's first call",
-        call: 1,
-        write: 0,
-        status: 13,
-        output: "",
-        noted: "fts: store failed\n",
-        tally: NONE,
-    },
+    STORE_FAILED,
     Row {
         row: "the append to the last file",
         call: 4000,
-        write: 0,
-        status: 13,
-        output: "",
-        noted: "fts: store failed\n",
-        tally: NONE,
+        ..STORE_FAILED
     },
     Row {
         row: "the third part of the line",
@@ -93,14 +93,8 @@ fn load(
         output: MemorySink::new(alloc, [write].to_vec(alloc)?),
         ..make_given(alloc, SETTINGS, source(alloc, b"never read")?)?
     };
-    run_words(
-        alloc,
-        words,
-        given,
-        MemoryDisk::new(alloc, Vec::new(alloc)),
-        empty_disk(alloc),
-        hands_with(alloc, &[], [call].to_vec(alloc)?)?,
-    )
+    let hands = hands_with(alloc, &[], [call].to_vec(alloc)?)?;
+    run_anew(alloc, words, given, hands)
 }
 
 /// Plays each load.
@@ -139,9 +133,6 @@ fn play_files(rt: &HostRuntime) -> io::Result<u32> {
 
 /// Plays each of them, and prints what is otherwise than wanted, and how many were as wanted.
 pub fn play_all(rt: &HostRuntime) -> io::Result<()> {
-    let loads = play_loads(rt)?;
-    println!(rt; "loads as wanted: {loads}")?;
-    let files = play_files(rt)?;
-    println!(rt; "files of a load as wanted: {files}")?;
-    Ok(())
+    print_count(rt, "loads as wanted", play_loads(rt)?)?;
+    print_count(rt, "files of a load as wanted", play_files(rt)?)
 }

@@ -4,7 +4,9 @@
 ghost use Rattle.std.specs.Prelude.{◌≡◌, ◌≤◌, length, IfOk};
 
 use crate::journals::{ANSWERED, TWO};
-use crate::stand::{NOW, SETTINGS, count_row, lanes, no_link, no_memory, owned, source, store};
+use crate::stand::{
+    NOW, SETTINGS, count_row, exactly, lanes, no_link, no_memory, owned, print_count, source, store,
+};
 use fts_disk::MemoryDisk;
 use fts_store::MemoryStore;
 use fts_tables::{Clock, ListWords, Memory};
@@ -128,11 +130,7 @@ fn noting_hands<'a>(
             return Err(no_memory(Memory));
         }
     }
-    if hands.len() == 16 {
-        Ok(hands)
-    } else {
-        Err(io::Error::from(io::ErrorKind::InvalidInput))
-    }
+    exactly(hands, 16)
 }
 
 /// A clock that notes for each lane.
@@ -193,6 +191,5 @@ fn is_in_order(rt: &HostRuntime) -> io::Result<bool> {
 pub fn play_all(rt: &HostRuntime) -> io::Result<()> {
     let row = "a request is read, timed and answered before the next is read";
     let same = count_row(rt, row, is_in_order(rt)?)?;
-    println!(rt; "orders of reads and moments as wanted: {same}")?;
-    Ok(())
+    print_count(rt, "orders of reads and moments as wanted", same)
 }

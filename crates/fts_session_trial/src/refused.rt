@@ -2,7 +2,7 @@
 //! the line that is noted, or, where that can't be written, a part of it or none.
 use crate::journals::TWO;
 use crate::stand::{
-    Ended, Given, SETTINGS, count_row, empty_disk, hands_with, make_given, run_words, source,
+    Ended, Given, SETTINGS, count_row, hands_with, make_given, print_count, run_anew, source,
 };
 use fts_disk::MemoryDisk;
 use fts_store::MemoryStore;
@@ -97,14 +97,8 @@ fn run_under(
         notes: MemorySink::new(alloc, [note].to_vec(alloc)?),
         ..make_given(alloc, SETTINGS, source(alloc, input.as_slice())?)?
     };
-    run_words(
-        alloc,
-        words,
-        given,
-        MemoryDisk::new(alloc, Vec::new(alloc)),
-        empty_disk(alloc),
-        hands_with(alloc, &["data/f1"], Vec::new(alloc))?,
-    )
+    let hands = hands_with(alloc, &["data/f1"], Vec::new(alloc))?;
+    run_anew(alloc, words, given, hands)
 }
 
 /// Settings of which this read fails.
@@ -153,9 +147,6 @@ fn play_words(rt: &HostRuntime) -> io::Result<u32> {
 
 /// Plays each of them, and prints what is otherwise than wanted, and how many were as wanted.
 pub fn play_all(rt: &HostRuntime) -> io::Result<()> {
-    let stops = play_stops(rt)?;
-    println!(rt; "settings that stop a run as wanted: {stops}")?;
-    let words = play_words(rt)?;
-    println!(rt; "words that are no command as wanted: {words}")?;
-    Ok(())
+    print_count(rt, "settings that stop a run as wanted", play_stops(rt)?)?;
+    print_count(rt, "words that are no command as wanted", play_words(rt)?)
 }

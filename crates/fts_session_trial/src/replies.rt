@@ -6,7 +6,7 @@ ghost use Rattle.std.specs.Prelude.{IfOk, IsTrue};
 ghost use Rattle.fts_record.specs.Proper.{has_priority};
 
 use crate::reply_rows::{ANEW, BETWEEN, REMARK, Row, read_row};
-use crate::stand::{NOW, no_memory};
+use crate::stand::{NOW, no_memory, print_count};
 use fts_disk::MemoryDisk;
 use fts_keep::Keep;
 use fts_record::read_entry;
@@ -213,26 +213,21 @@ fn to_looks_at_entries(rt: &HostRuntime) -> io::Result<u32> {
 pub fn play_all(rt: &HostRuntime) -> io::Result<()> {
     let alloc = rt.alloc();
     let none = over_a_new_keep(rt, Vec::new(alloc), "replies-over-no-job.rows")?;
-    println!(rt; "replies over no job as wanted: {none}")?;
-    let methods = to_each_method(rt)?;
-    println!(rt; "replies to each method as wanted: {methods}")?;
-    let jobs = over_two_jobs(rt)?;
-    println!(rt; "replies over two jobs as wanted: {jobs}")?;
+    print_count(rt, "replies over no job as wanted", none)?;
+    print_count(rt, "replies to each method as wanted", to_each_method(rt)?)?;
+    print_count(rt, "replies over two jobs as wanted", over_two_jobs(rt)?)?;
     let finished = over_a_finished_job(rt)?;
-    println!(rt; "replies over a finished job as wanted: {finished}")?;
+    print_count(rt, "replies over a finished job as wanted", finished)?;
     let own = over_a_new_keep(rt, Vec::new(alloc), "replies-to-an-own-id-twice.rows")?;
-    println!(rt; "replies to an own id twice as wanted: {own}")?;
+    print_count(rt, "replies to an own id twice as wanted", own)?;
     let failing = over_a_new_keep(
         rt,
         [8].to_vec(alloc)?,
         "replies-over-a-disk-that-fails-once.rows",
     )?;
-    println!(rt; "replies over a disk that fails once as wanted: {failing}")?;
-    let changes = to_each_change(rt)?;
-    println!(rt; "replies to each change as wanted: {changes}")?;
-    let bans = to_bans(rt)?;
-    println!(rt; "replies to bans as wanted: {bans}")?;
+    print_count(rt, "replies over a disk that fails once as wanted", failing)?;
+    print_count(rt, "replies to each change as wanted", to_each_change(rt)?)?;
+    print_count(rt, "replies to bans as wanted", to_bans(rt)?)?;
     let looks = to_looks_at_entries(rt)?;
-    println!(rt; "replies to looks at entries as wanted: {looks}")?;
-    Ok(())
+    print_count(rt, "replies to looks at entries as wanted", looks)
 }

@@ -56,6 +56,22 @@ pub fn count_row(rt: &HostRuntime, row: &str, is_wanted: bool) -> io::Result<u32
     Ok(0)
 }
 
+/// Prints how many there were of what is named.
+pub fn print_count(rt: &HostRuntime, what: &str, count: u32) -> io::Result<()> {
+    println!(rt; "{what}: {count}")
+}
+
+/// These, where there are so many of them.
+pub fn exactly<T: Drop>(made: Vec<T>, count: usize) -> io::Result<Vec<T>>
+    ensures { IfOk result (λ kept. length kept.items ≡ count) }
+{
+    if made.len() == count {
+        Ok(made)
+    } else {
+        Err(io::Error::from(io::ErrorKind::InvalidInput))
+    }
+}
+
 fn clock(alloc: Global) -> io::Result<ListClock> {
     Ok(ListClock::new([NOW].to_vec(alloc)?))
 }
@@ -137,11 +153,7 @@ pub fn hands_over<E: Store + Drop>(alloc: Global, stores: Vec<E>) -> io::Result<
             return Err(no_memory(Memory));
         }
     }
-    if hands.len() == 16 {
-        Ok(hands)
-    } else {
-        Err(io::Error::from(io::ErrorKind::InvalidInput))
-    }
+    exactly(hands, 16)
 }
 
 /// Clocks that stand still, one for each lane.
@@ -171,11 +183,7 @@ pub fn lanes<C: Clock + Drop>(
             return Err(no_memory(Memory));
         }
     }
-    if lanes.len() == 8 {
-        Ok(lanes)
-    } else {
-        Err(io::Error::from(io::ErrorKind::InvalidInput))
-    }
+    exactly(lanes, 8)
 }
 
 /// A link that gives no line.
@@ -253,25 +261,35 @@ pub fn run_words<S: Source + Drop, D: Disk + Drop, E: Store + Drop>(
     }
 }
 
-/// Runs a session of this input under these settings.
-pub fn session<D: Disk + Drop, E: Store + Drop>(
+/// Runs these words, which are not to serve, over empty disks in memory.
+pub fn run_anew<S: Source + Drop>(
     alloc: Global,
-    settings: &[u8],
-    input: MemorySource,
-    output: MemorySink,
-    disk: D,
-    deletes: D,
-    hands: Vec<StillHand<E>>,
-) -> io::Result<Ended<D, E>>
+    words: &[&str],
+    given: Given<S>,
+    hands: Vec<StillHand<MemoryStore>>,
+) -> io::Result<Ended<MemoryDisk, MemoryStore>>
     requires { length hands.items ≡ 16 }
     ensures { IfOk result (λ ended. length ended.hands.items ≡ 16) }
 {
-    let given = Given {
-        settings: source(alloc, settings)?,
-        input,
-        output,
-        notes: MemorySink::new(alloc, Vec::new(alloc)),
-        link: no_link(alloc)?,
-    };
-    run_words(alloc, &["session"], given, disk, deletes, hands)
+    run_words(
+        alloc,
+        words,
+        given,
+        empty_disk(alloc),
+        empty_disk(alloc),
+        hands,
+    )
+}
+
+/// Runs a session over a disk and stores in memory.
+pub fn session(
+    alloc: Global,
+    given: Given<MemorySource>,
+    disk: MemoryDisk,
+    hands: Vec<StillHand<MemoryStore>>,
+) -> io::Result<Ended<MemoryDisk, MemoryStore>>
+    requires { length hands.items ≡ 16 }
+    ensures { IfOk result (λ ended. length ended.hands.items ≡ 16) }
+{
+    run_words(alloc, &["session"], given, disk, empty_disk(alloc), hands)
 }

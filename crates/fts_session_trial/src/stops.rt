@@ -2,14 +2,18 @@
 //! What opens behind a stop is the list of what was acknowledged by then, or that and the entry under way, and a Restart behind it (`opens`). An
 //! entry has four calls: its body with a closed gate, a sync, its open gate, a sync. Only behind the third may it be there or not.
 //! A file that was moved and not reported is tried again by the next run, as its second attempt, which finds the destination.
+ghost use Rattle.std.specs.Prelude.{◌≡◌, length, IfOk};
+
 use crate::failing::hands;
-use crate::stand::{NOW, SETTINGS, empty_disk, no_memory, session};
+use crate::stand::{
+    Ended, NOW, SETTINGS, empty_disk, make_given, no_memory, print_count, session, source,
+};
 use fts_disk::MemoryDisk;
 use fts_journal::Journal;
 use fts_keep::Keep;
 use fts_record::read_entry;
+use fts_store::MemoryStore;
 use fts_tables::{Command, Settings};
-use fts_wire::{MemorySink, MemorySource};
 use std::alloc::Global;
 use std::io;
 
@@ -128,18 +132,16 @@ fn opens(alloc: Global, left: Vec<u8>, run: &[Vec<u8>], wanted: usize) -> io::Re
     Ok(are_front(&found, run, wanted))
 }
 
-/// The disk behind a session of this input in which nothing fails.
-fn disk_behind(alloc: Global, input: &str) -> io::Result<MemoryDisk> {
-    let ended = session(
+/// A session of this input over an empty disk, in which nothing fails.
+fn whole_session(alloc: Global, input: &str) -> io::Result<Ended<MemoryDisk, MemoryStore>>
+    ensures { IfOk result (λ ended. length ended.hands.items ≡ 16) }
+{
+    session(
         alloc,
-        SETTINGS.as_bytes(),
-        MemorySource::new(input.as_bytes().to_vec(alloc)?, Vec::new(alloc)),
-        MemorySink::new(alloc, Vec::new(alloc)),
-        MemoryDisk::new(alloc, Vec::new(alloc)),
+        make_given(alloc, SETTINGS, source(alloc, input.as_bytes())?)?,
         empty_disk(alloc),
         hands(alloc, Vec::new(alloc))?,
-    )?;
-    Ok(ended.disk)
+    )
 }
 
 /// Tries each byte behind so many calls, and answers how many were as wanted.
@@ -168,7 +170,7 @@ fn stop_behind(
 /// A stop behind each call of a session of five requests, from the making of its journal on.
 fn stop_everywhere(rt: &HostRuntime) -> io::Result<u32> {
     let alloc = rt.alloc();
-    let disk = disk_behind(alloc, FIVE)?;
+    let disk = whole_session(alloc, FIVE)?.disk;
     let whole = disk.after_stop(disk.calls(), 0).map_err(no_memory)?;
     let run = bodies(alloc, MemoryDisk::holding(alloc, whole, Vec::new(alloc)))?;
     if run.len() != left_by(disk.calls(), 0) {
@@ -183,25 +185,14 @@ fn stop_everywhere(rt: &HostRuntime) -> io::Result<u32> {
 
 /// Whether a run that is stopped behind the move of its file and before the report, and a next one on what it left, show the file so.
 fn ends_so(alloc: Global, input: &str, wanted: &str) -> io::Result<bool> {
-    let ended = session(
-        alloc,
-        SETTINGS.as_bytes(),
-        MemorySource::new(input.as_bytes().to_vec(alloc)?, Vec::new(alloc)),
-        MemorySink::new(alloc, Vec::new(alloc)),
-        MemoryDisk::new(alloc, Vec::new(alloc)),
-        empty_disk(alloc),
-        hands(alloc, Vec::new(alloc))?,
-    )?;
+    let ended = whole_session(alloc, input)?;
     // The report is the last entry, so the file was moved before its first call.
     let calls = ended.disk.calls().saturating_sub(EACH);
     let left = ended.disk.after_stop(calls, 0).map_err(no_memory)?;
     let next = session(
         alloc,
-        SETTINGS.as_bytes(),
-        MemorySource::new(LOOKS.as_bytes().to_vec(alloc)?, Vec::new(alloc)),
-        MemorySink::new(alloc, Vec::new(alloc)),
+        make_given(alloc, SETTINGS, source(alloc, LOOKS.as_bytes())?)?,
         MemoryDisk::holding(alloc, left, Vec::new(alloc)),
-        empty_disk(alloc),
         ended.hands,
     )?;
     Ok(next.ending.status == 0 && next.output.bytes().ends_with(wanted.as_bytes()))
@@ -209,8 +200,7 @@ fn ends_so(alloc: Global, input: &str, wanted: &str) -> io::Result<bool> {
 
 /// Plays each stop, and prints what is otherwise than wanted, and how many were as wanted.
 pub fn play_all(rt: &HostRuntime) -> io::Result<()> {
-    let same = stop_everywhere(rt)?;
-    println!(rt; "stops behind each call as wanted: {same}")?;
+    print_count(rt, "stops behind each call as wanted", stop_everywhere(rt)?)?;
     let mut same: u32 = 0;
     for (input, wanted) in [(KEEPING, EXISTS), (REPLACING, REPLACED)] {
         if ends_so(rt.alloc(), input, wanted)? {
@@ -219,6 +209,5 @@ pub fn play_all(rt: &HostRuntime) -> io::Result<()> {
             println!(rt; "otherwise: a stop before the report of {input}")?;
         }
     }
-    println!(rt; "stops before a report as wanted: {same}")?;
-    Ok(())
+    print_count(rt, "stops before a report as wanted", same)
 }

@@ -49,66 +49,49 @@ impl Disk for Growing {
     }
 }
 
-/// A file, and what a load of it answers: how many bodies, and the offset of the last gate.
-struct Row {
-    case: &'static str,
-    bytes: &'static [u8],
-    ends: &'static [u64],
-    want: Result<(usize, u64), JournalFault>,
-}
-
 // The header, a body of one byte (5), a body of two (6, 7), a closed gate: gates at 8, 14 and 21.
 const TWO_BODIES: &[u8] = b"FTS3JRN1\x01\x01\0\0\0\x05\x01\x02\0\0\0\x06\x07\0";
 
-const ROWS: [Row; 6] = [
-    Row {
-        case: "it stays as long as it is",
-        bytes: TWO_BODIES,
-        ends: &[22],
-        want: Ok((2, 21)),
-    },
-    Row {
-        case: "the second body was appended behind the first look at the length",
-        bytes: TWO_BODIES,
-        ends: &[15, 22],
-        want: Ok((2, 21)),
-    },
-    Row {
-        case: "the end that was known is within the second body, and later one byte farther, and then behind it",
-        bytes: TWO_BODIES,
-        ends: &[19, 20, 22],
-        want: Ok((2, 21)),
-    },
-    Row {
-        case: "the end that was known is where a gate is due",
-        bytes: TWO_BODIES,
-        ends: &[14, 22],
-        want: Ok((2, 21)),
-    },
-    Row {
-        case: "it ends within the second body for good",
-        bytes: TWO_BODIES,
-        ends: &[20],
-        want: Err(JournalFault::Cut { offset: 14 }),
-    },
-    Row {
-        case: "it grows, and still ends within the second body",
-        bytes: TWO_BODIES,
-        ends: &[15, 20],
-        want: Err(JournalFault::Cut { offset: 14 }),
-    },
+/// How long that file is at each look, and what a load of it answers: how many bodies, and the offset of the last gate.
+const ENDS: [(&str, &[u64], Result<(usize, u64), JournalFault>); 6] = [
+    ("it stays as long as it is", &[22], Ok((2, 21))),
+    (
+        "the second body was appended behind the first look at the length",
+        &[15, 22],
+        Ok((2, 21)),
+    ),
+    (
+        "the end that was known is within the second body, and later one byte farther, and then behind it",
+        &[19, 20, 22],
+        Ok((2, 21)),
+    ),
+    (
+        "the end that was known is where a gate is due",
+        &[14, 22],
+        Ok((2, 21)),
+    ),
+    (
+        "it ends within the second body for good",
+        &[20],
+        Err(JournalFault::Cut { offset: 14 }),
+    ),
+    (
+        "it grows, and still ends within the second body",
+        &[15, 20],
+        Err(JournalFault::Cut { offset: 14 }),
+    ),
 ];
 
 #[test]
 fn a_journal_that_grows_is_read_as_it_stands(rt: HostRuntime) -> Result<(), Fail> {
-    for row in &ROWS {
+    for (case, ends, want) in ENDS {
         let disk = Growing {
-            bytes: row.bytes,
-            ends: row.ends,
+            bytes: TWO_BODIES,
+            ends,
             looks: 0,
         };
         let seen = loaded(rt.alloc(), disk);
-        assert!(rt; seen == row.want, "{}", row.case);
+        assert!(rt; seen == want, "{case}");
     }
     Ok(())
 }

@@ -5,6 +5,7 @@ use fts_disk::MemoryDisk;
 use fts_keep::{Keep, KeepFault};
 use fts_tables::{Answer, FileState, Memory};
 use std::alloc::{AllocError, Global};
+use std::process::Abort;
 use std::test::Fail;
 
 /// A submission of a file of 1 byte.
@@ -63,6 +64,15 @@ fn run(alloc: Global, fail: Vec<u32>) -> Result<Result<Ran, KeepFault>, Fail> {
     }))
 }
 
+/// A run in which no call fails, which is fifteen calls.
+fn whole_run(rt: &impl Abort, alloc: Global) -> Result<Ran, Fail> {
+    let Ok(ran) = run(alloc, Vec::new(alloc))? else {
+        panic!(rt; "it starts")
+    };
+    assert!(rt; ran.disk.calls() == 15, "a run is fifteen calls");
+    Ok(ran)
+}
+
 /// Whether the disk is said to have failed exactly where a submission has no row.
 fn are_told(ran: &Ran) -> bool {
     for (answer, size) in ran.answers.iter().zip([1, 2]) {
@@ -72,6 +82,15 @@ fn are_told(ran: &Ran) -> bool {
         }
     }
     true
+}
+
+#[test]
+fn a_start_answers_each_failing_call(rt: HostRuntime) -> Result<(), Fail> {
+    for call in 1..=7 {
+        let fault = run(rt.alloc(), numbers(rt.alloc(), call, call)?)?.err();
+        assert!(rt; fault == Some(KeepFault::DiskFailed), "call {call}");
+    }
+    Ok(())
 }
 
 /// Whether a run whose calls with these numbers fail has rows for files of these sizes, and told so.
@@ -108,15 +127,6 @@ fn a_failing_call_is_answered_and_loses_nothing(rt: HostRuntime) -> Result<(), F
     Ok(())
 }
 
-#[test]
-fn a_start_answers_each_failing_call(rt: HostRuntime) -> Result<(), Fail> {
-    for call in 1..=7 {
-        let fault = run(rt.alloc(), numbers(rt.alloc(), call, call)?)?.err();
-        assert!(rt; fault == Some(KeepFault::DiskFailed), "call {call}");
-    }
-    Ok(())
-}
-
 /// Whether a stop after so many calls leaves rows for files of these sizes: `open` where the rest became the byte of an open gate, `closed` where
 /// it became another.
 fn stop_leaves(
@@ -138,28 +148,21 @@ fn stop_leaves(
     Ok(true)
 }
 
-const ONE: &[u64] = &[1];
-
-const BOTH: &[u64] = &[1, 2];
-
 #[test]
 fn a_stop_leaves_what_was_acknowledged(rt: HostRuntime) -> Result<(), Fail> {
     let alloc = rt.alloc();
-    let Ok(ran) = run(alloc, Vec::new(alloc))? else {
-        panic!(rt; "it starts")
-    };
-    assert!(rt; ran.disk.calls() == 15, "a run is fifteen calls");
+    let ran = whole_run(&rt, alloc)?;
     for (case, calls, closed, open) in [
         ("the journal is made", 3, NONE, NONE),
         ("the Restart stands", 7, NONE, NONE),
         ("the first body is written", 8, NONE, NONE),
         ("the first body is synced", 9, NONE, NONE),
-        ("the gate of the first is written", 10, NONE, ONE),
-        ("the gate of the first is synced", 11, ONE, ONE),
-        ("the second body is written", 12, ONE, ONE),
-        ("the second body is synced", 13, ONE, ONE),
-        ("the gate of the second is written", 14, ONE, BOTH),
-        ("the gate of the second is synced", 15, BOTH, BOTH),
+        ("the gate of the first is written", 10, NONE, &[1]),
+        ("the gate of the first is synced", 11, &[1], &[1]),
+        ("the second body is written", 12, &[1], &[1]),
+        ("the second body is synced", 13, &[1], &[1]),
+        ("the gate of the second is written", 14, &[1], &[1, 2]),
+        ("the gate of the second is synced", 15, &[1, 2], &[1, 2]),
     ] {
         let is_left = stop_leaves(alloc, &ran.disk, calls, closed, open)?;
         assert!(rt; is_left, "{case}");
@@ -282,9 +285,7 @@ fn is_looked_at(alloc: Global, bytes: &[u8], call: u32) -> Result<bool, AllocErr
 #[test]
 fn a_look_answers_each_failing_call(rt: HostRuntime) -> Result<(), Fail> {
     let alloc = rt.alloc();
-    let Ok(ran) = run(alloc, Vec::new(alloc))? else {
-        panic!(rt; "it starts")
-    };
+    let ran = whole_run(&rt, alloc)?;
     assert!(rt; 15 <= ran.disk.calls(), "a run is fifteen calls");
     let bytes = ran.disk.after_stop(15, 0)?;
     for call in 1..=7 {

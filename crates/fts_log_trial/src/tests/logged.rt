@@ -72,34 +72,17 @@ fn ask<F: FileSystem>(files: &mut F, alloc: Global, call: FileCall) -> u32 {
     }
 }
 
-/// How many calls this one takes: one that needs an open file takes two.
-fn calls_of(call: FileCall) -> usize {
-    match call {
-        FileCall::Open
-        | FileCall::Make
-        | FileCall::Look
-        | FileCall::LookAtName
-        | FileCall::Link
-        | FileCall::Rename
-        | FileCall::Unlink
-        | FileCall::MakeFolder
-        | FileCall::Names => 1,
-        FileCall::LookAtOpen
-        | FileCall::Read
-        | FileCall::Write
-        | FileCall::SyncData
-        | FileCall::SyncAll
-        | FileCall::Lock
-        | FileCall::Forget
-        | FileCall::SetMode => 2,
-    }
-}
+/// The calls that one by a name takes.
+const ONE_CALL: usize = 1;
 
-/// Whether of a call that is refused with this number the log is told these lines, and the number is passed on.
-fn is_told(alloc: Global, call: FileCall, errno: u32, want: &str) -> bool {
+/// Those that one on an open file takes: it is opened first.
+const TWO_CALLS: usize = 2;
+
+/// Whether of a call that is refused with this number, the last of so many, the log is told these lines, and the number is passed on.
+fn is_told(alloc: Global, calls: usize, call: FileCall, errno: u32, want: &str) -> bool {
     let log = KeptLog::new(alloc);
     let below = RefusingFiles {
-        refuses_at: calls_of(call),
+        refuses_at: calls,
         errno,
         calls: 0,
     };
@@ -110,9 +93,10 @@ fn is_told(alloc: Global, call: FileCall, errno: u32, want: &str) -> bool {
 /// A call, the number that it is refused with, and the line.
 type Row = (FileCall, u32, &'static str);
 
-fn tell_each<R: Abort>(rt: &R, alloc: Global, rows: &[Row]) {
+/// Wants the line of each of these, which takes so many calls.
+fn tell_each<R: Abort>(rt: &R, alloc: Global, calls: usize, rows: &[Row]) {
     for (call, errno, want) in rows {
-        assert!(rt; is_told(alloc, *call, *errno, want), "{want}");
+        assert!(rt; is_told(alloc, calls, *call, *errno, want), "{want}");
     }
 }
 
@@ -164,11 +148,6 @@ const BY_NAME: [Row; 9] = [
     ),
 ];
 
-#[test]
-fn a_failed_call_by_a_name_is_told(rt: HostRuntime) {
-    tell_each(&rt, rt.alloc(), &BY_NAME);
-}
-
 const ON_OPEN: [Row; 8] = [
     (
         FileCall::LookAtOpen,
@@ -213,8 +192,13 @@ const ON_OPEN: [Row; 8] = [
 ];
 
 #[test]
+fn a_failed_call_by_a_name_is_told(rt: HostRuntime) {
+    tell_each(&rt, rt.alloc(), ONE_CALL, &BY_NAME);
+}
+
+#[test]
 fn a_failed_call_on_an_open_file_is_told_with_its_path(rt: HostRuntime) {
-    tell_each(&rt, rt.alloc(), &ON_OPEN);
+    tell_each(&rt, rt.alloc(), TWO_CALLS, &ON_OPEN);
 }
 
 #[test]
@@ -232,7 +216,7 @@ fn an_answer_is_not_told(rt: HostRuntime) {
         ("folders are missing above it", FileCall::MakeFolder, 2),
         ("a folder that isn't", FileCall::Names, 2),
     ] {
-        assert!(rt; is_told(rt.alloc(), call, errno, ""), "{case}");
+        assert!(rt; is_told(rt.alloc(), ONE_CALL, call, errno, ""), "{case}");
     }
 }
 

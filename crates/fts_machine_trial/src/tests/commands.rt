@@ -64,16 +64,34 @@ fn place_of(alloc: Global, plain: PlainPlace) -> Result<Place, Memory> {
     }
 }
 
+fn endpoint_of(alloc: Global, plain: &PlainEndpoint) -> Result<Endpoint, Memory> {
+    Ok(Endpoint {
+        name: name_of(alloc, plain.name)?,
+        inbound: plain.inbound,
+        outbound: plain.outbound,
+    })
+}
+
+fn link_of(alloc: Global, plain: &PlainLink) -> Result<LinkRule, Memory> {
+    Ok(LinkRule {
+        symbolic: Label::new(alloc, "link")?,
+        source: name_of(alloc, plain.source)?,
+        dest: name_of(alloc, plain.dest)?,
+        max_active: plain.max_active,
+    })
+}
+
+fn weight_of(alloc: Global, plain: &PlainWeight) -> Result<Weight, Memory> {
+    Ok(Weight {
+        name: Label::new(alloc, activity_text(plain.activity))?,
+        weight: plain.weight,
+    })
+}
+
 fn endpoints_of(alloc: Global, plain: &[PlainEndpoint]) -> Result<Items<Endpoint>, Memory> {
     let mut endpoints = Items::new(alloc);
     for endpoint in plain {
-        let name = name_of(alloc, endpoint.name)?;
-        let endpoint = Endpoint {
-            name,
-            inbound: endpoint.inbound,
-            outbound: endpoint.outbound,
-        };
-        add(&mut endpoints, endpoint)?;
+        add(&mut endpoints, endpoint_of(alloc, endpoint)?)?;
     }
     Ok(endpoints)
 }
@@ -81,16 +99,7 @@ fn endpoints_of(alloc: Global, plain: &[PlainEndpoint]) -> Result<Items<Endpoint
 fn links_of(alloc: Global, plain: &[PlainLink]) -> Result<Items<LinkRule>, Memory> {
     let mut links = Items::new(alloc);
     for link in plain {
-        let symbolic = Label::new(alloc, "link")?;
-        let source = name_of(alloc, link.source)?;
-        let dest = name_of(alloc, link.dest)?;
-        let rule = LinkRule {
-            symbolic,
-            source,
-            dest,
-            max_active: link.max_active,
-        };
-        add(&mut links, rule)?;
+        add(&mut links, link_of(alloc, link)?)?;
     }
     Ok(links)
 }
@@ -98,12 +107,7 @@ fn links_of(alloc: Global, plain: &[PlainLink]) -> Result<Items<LinkRule>, Memor
 fn weights_of(alloc: Global, plain: &[PlainWeight]) -> Result<Items<Weight>, Memory> {
     let mut weights = Items::new(alloc);
     for weight in plain {
-        let name = Label::new(alloc, activity_text(weight.activity))?;
-        let weight = Weight {
-            name,
-            weight: weight.weight,
-        };
-        add(&mut weights, weight)?;
+        add(&mut weights, weight_of(alloc, weight)?)?;
     }
     Ok(weights)
 }

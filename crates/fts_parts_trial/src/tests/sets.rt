@@ -74,6 +74,28 @@ fn pairs_stand_in_their_order(rt: HostRuntime) -> Result<(), Fail> {
     Ok(())
 }
 
+#[test]
+fn a_pair_that_goes_tells_the_next(rt: HostRuntime) -> Result<(), Fail> {
+    let mut set: Ordered<Pair> = Ordered::new(rt.alloc());
+    assert!(rt; !set.take(&FIRST), "no pair");
+    set.make_room(2)?;
+    set.insert(FIRST);
+    assert!(rt;
+        !set.take(&SECOND) && set.len() == 1,
+        "one that isn't there"
+    );
+    assert!(rt; set.take_next(&FIRST).is_none(), "none is behind the last");
+    set.insert(LAST);
+    assert!(rt; set.take(&LAST) && set.len() == 0, "one that is there");
+    set.insert(FIRST);
+    set.insert(LAST);
+    assert!(rt;
+        set.take_next(&FIRST) == Some(LAST) && set.len() == 1,
+        "the next"
+    );
+    Ok(())
+}
+
 /// How many pairs there are in the large set.
 const MANY: u32 = 1200;
 
@@ -115,8 +137,9 @@ fn more_pairs_than_a_chunk_holds_come_and_go(rt: HostRuntime) -> Result<(), Fail
     for step in 1..=MANY {
         let number = step * 7919 % 1201;
         let key = pair_of(number);
-        if number % 100 > 0 && set.has(&key) {
-            set.remove(&key);
+        if number % 100 > 0 {
+            let is_there = set.has(&key);
+            assert!(rt; set.take(&key) == is_there, "pair {number} goes");
         }
     }
     are_there(&rt, &set, 100);

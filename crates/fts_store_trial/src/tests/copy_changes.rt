@@ -68,15 +68,15 @@ fn wrong_call(alloc: Global, expected: &Expected) -> Result<usize, Memory> {
     Ok(0)
 }
 
-/// The number of the first call, from `calls.0` up to the one before `calls.1`, at which a source becomes this and isn't verified as so much; 0 where
-/// it is at each.
+/// The number of the first call, from `calls.0` up to the one before `calls.1`, at which a source becomes this and isn't verified as what is left; 0
+/// where it is at each.
 fn wrongly_verified(
     alloc: Global,
     later: &'static str,
     calls: (usize, usize),
-    held: &'static str,
-    digest: [u8; 16],
+    left: Left,
 ) -> Result<usize, Memory> {
+    let (held, digest) = left;
     let expected = Expected {
         later: Some(later.as_bytes()),
         first: calls.0,
@@ -108,45 +108,32 @@ fn wrongly_ended(
     wrong_call(alloc, &expected)
 }
 
-/// What the source becomes, before which calls, what is left at the destination, and the digest of that.
-const VERIFIED: [(&str, &str, (usize, usize), &str, [u8; 16]); 7] = [
-    ("written anew at first", "abc", (1, 2), "abc", ABC),
-    ("cut before its size is asked", "ab", (1, 2), "ab", AB),
-    ("cut behind its second reading", "ab", (7, 11), "abc", ABC),
-    (
-        "grown before its size is asked",
-        "abc+",
-        (1, 2),
-        "abc+",
-        ABC_PLUS,
-    ),
-    (
-        "grown behind the look at its end",
-        "abc+",
-        (9, 11),
-        "abc",
-        ABC,
-    ),
-    (
-        "replaced before its first reading",
-        "ab+",
-        (1, 5),
-        "ab+",
-        AB_PLUS,
-    ),
-    (
-        "replaced behind its second reading",
-        "ab+",
-        (7, 11),
-        "abc",
-        ABC,
-    ),
+/// What is left at the destination, and the digest of that.
+type Left = (&'static str, [u8; 16]);
+
+const OLD: Left = ("abc", ABC);
+
+const CUT: Left = ("ab", AB);
+
+const GROWN: Left = ("abc+", ABC_PLUS);
+
+const NEW: Left = ("ab+", AB_PLUS);
+
+/// What the source becomes, before which calls, and what is left.
+const VERIFIED: [(&str, &str, (usize, usize), Left); 7] = [
+    ("written anew at first", "abc", (1, 2), OLD),
+    ("cut before its size is asked", "ab", (1, 2), CUT),
+    ("cut behind its second reading", "ab", (7, 11), OLD),
+    ("grown before its size is asked", "abc+", (1, 2), GROWN),
+    ("grown behind the look at its end", "abc+", (9, 11), OLD),
+    ("replaced before its first reading", "ab+", (1, 5), NEW),
+    ("replaced behind its second reading", "ab+", (7, 11), OLD),
 ];
 
 #[test]
 fn a_source_that_changes_during_a_copy_that_is_verified(rt: HostRuntime) -> Result<(), Fail> {
-    for (case, later, calls, held, digest) in &VERIFIED {
-        let wrong = wrongly_verified(rt.alloc(), later, *calls, held, *digest)?;
+    for (case, later, calls, left) in &VERIFIED {
+        let wrong = wrongly_verified(rt.alloc(), later, *calls, *left)?;
         assert!(rt; wrong == 0, "a source that is {case}, call {wrong}");
     }
     Ok(())

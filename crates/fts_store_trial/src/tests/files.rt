@@ -410,8 +410,8 @@ fn are_matched<F: FileSystem>(files: &mut F, file: &F::Handle) -> bool {
         && write_whole(files, file, u64::MAX, b"ab").is_err()
 }
 
-fn are_put_in_a_new_file<F: FileSystem>(files: &mut F, path: &str) -> bool {
-    match files.open(path, Way::New) {
+fn are_put_in_a_new_file<F: FileSystem>(files: &mut F) -> bool {
+    match files.open(PART, Way::New) {
         Ok(file) => are_put_and_found(files, &file) && are_matched(files, &file),
         Err(_) => false,
     }
@@ -420,7 +420,7 @@ fn are_put_in_a_new_file<F: FileSystem>(files: &mut F, path: &str) -> bool {
 #[test]
 fn bytes_are_put_and_found_at_an_offset(rt: HostRuntime) -> Result<(), Fail> {
     clear(&rt)?;
-    let is_so = are_put_in_a_new_file(&mut SystemFiles::new(&rt), PART);
+    let is_so = are_put_in_a_new_file(&mut SystemFiles::new(&rt));
     assert!(rt; is_so, "behind two bytes, in front of them, and found so");
     Ok(())
 }
@@ -568,11 +568,6 @@ const DONE_MOVES: [Move; 7] = [
     },
 ];
 
-#[test]
-fn a_move_is_done_by_these_calls(rt: HostRuntime) -> Result<(), Fail> {
-    move_all(&rt, "", &DONE_MOVES)
-}
-
 const REPLACED: Move = Move {
     overwrite: true,
     errno: 5,
@@ -599,12 +594,6 @@ const REPLACING_MOVES: [Move; 3] = [
         ..REPLACED
     },
 ];
-
-// What is replaced leaves its rights: no other call is made, and a refused one is a failure.
-#[test]
-fn what_is_replaced_leaves_its_rights(rt: HostRuntime) -> Result<(), Fail> {
-    move_all(&rt, "old", &REPLACING_MOVES)
-}
 
 const FAILED: Move = Move {
     case: "a write finds no room",
@@ -654,6 +643,17 @@ const FAILED_MOVES: [Move; 6] = [
         ..FAILED
     },
 ];
+
+#[test]
+fn a_move_is_done_by_these_calls(rt: HostRuntime) -> Result<(), Fail> {
+    move_all(&rt, "", &DONE_MOVES)
+}
+
+// What is replaced leaves its rights: no other call is made, and a refused one is a failure.
+#[test]
+fn what_is_replaced_leaves_its_rights(rt: HostRuntime) -> Result<(), Fail> {
+    move_all(&rt, "old", &REPLACING_MOVES)
+}
 
 #[test]
 fn a_move_that_fails_leaves_a_free_name(rt: HostRuntime) -> Result<(), Fail> {

@@ -21,11 +21,12 @@ pub(crate) struct NotingFiles<R: Drop> {
 }
 
 impl<R: Drop> NotingFiles<R> {
-    fn note(&mut self, letter: u8) -> Result<(), Refused> {
+    /// The real files, where the call isn't refused.
+    fn noted(&mut self, letter: u8) -> Result<&mut SystemFiles<R>, Refused> {
         let is_noted = self.letters.push(letter).is_ok();
         let is_refused = self.refuses_at > 0 && self.letters.len() >= self.refuses_at;
         if is_noted && !(is_refused && self.refusals > 0) {
-            return Ok(());
+            return Ok(&mut self.files);
         }
         self.refusals = self.refusals.saturating_sub(1);
         Err(Refused { errno: self.errno })
@@ -42,85 +43,70 @@ impl<R: Files<File = File> + Drop> FileSystem for NotingFiles<R> {
     ghost number = { λ _. 0 };
 
     fn open(&mut self, path: &str, way: Way) -> Result<File, Refused> {
-        self.note(if way == Way::New { b'n' } else { b'o' })?;
-        self.files.open(path, way)
+        let letter = if way == Way::New { b'n' } else { b'o' };
+        self.noted(letter)?.open(path, way)
     }
 
     fn look(&mut self, path: &str) -> Result<Seen, Refused> {
-        self.note(b'l')?;
-        self.files.look(path)
+        self.noted(b'l')?.look(path)
     }
 
     fn look_at_name(&mut self, path: &str) -> Result<Seen, Refused> {
-        self.note(b'L')?;
-        self.files.look_at_name(path)
+        self.noted(b'L')?.look_at_name(path)
     }
 
     fn look_at_open(&mut self, file: &File) -> Result<Seen, Refused> {
-        self.note(b'h')?;
-        self.files.look_at_open(file)
+        self.noted(b'h')?.look_at_open(file)
     }
 
     fn read_at(&mut self, file: &File, offset: u64, into: &mut [u8]) -> Result<usize, Refused> {
-        self.note(b'r')?;
         let most = into.len().min(self.most);
-        self.files.read_at(file, offset, &mut into[..most])
+        self.noted(b'r')?.read_at(file, offset, &mut into[..most])
     }
 
     fn write_at(&mut self, file: &File, offset: u64, bytes: &[u8]) -> Result<usize, Refused> {
-        self.note(b'w')?;
-        self.files
-            .write_at(file, offset, &bytes[..bytes.len().min(self.most)])
+        let most = bytes.len().min(self.most);
+        self.noted(b'w')?.write_at(file, offset, &bytes[..most])
     }
 
     fn sync_data(&mut self, file: &File) -> Result<(), Refused> {
-        self.note(b'd')?;
-        self.files.sync_data(file)
+        self.noted(b'd')?.sync_data(file)
     }
 
     fn sync_all(&mut self, file: &File) -> Result<(), Refused> {
-        self.note(b's')?;
-        self.files.sync_all(file)
+        self.noted(b's')?.sync_all(file)
     }
 
     fn lock(&mut self, file: &File) -> Result<(), Refused> {
-        self.note(b'k')?;
-        self.files.lock(file)
+        self.noted(b'k')?.lock(file)
     }
 
     fn forget(&mut self, file: &File) -> Result<(), Refused> {
-        self.note(b'f')?;
-        self.files.forget(file)
+        self.noted(b'f')?.forget(file)
     }
 
     fn link(&mut self, path: &str, new: &str) -> Result<(), Refused> {
-        self.note(b'+')?;
-        self.files.link(path, new)
+        self.noted(b'+')?.link(path, new)
     }
 
     fn rename(&mut self, path: &str, new: &str) -> Result<(), Refused> {
-        self.note(b'>')?;
-        self.files.rename(path, new)
+        self.noted(b'>')?.rename(path, new)
     }
 
     fn unlink(&mut self, path: &str) -> Result<(), Refused> {
-        self.note(b'-')?;
-        self.files.unlink(path)
+        self.noted(b'-')?.unlink(path)
     }
 
     fn make_folder(&mut self, path: &str) -> Result<(), Refused> {
-        self.note(b'm')?;
-        self.files.make_folder(path)
+        self.noted(b'm')?.make_folder(path)
     }
 
     fn set_mode(&mut self, file: &File, mode: u32) -> Result<(), Refused> {
-        self.note(b'c')?;
-        self.files.set_mode(file, mode)
+        self.noted(b'c')?.set_mode(file, mode)
     }
 
     fn names(&mut self, path: &str, into: &mut Vec<u8>) -> Result<(), Refused> {
-        self.note(b'N')?;
-        self.files.names(path, into)
+        self.noted(b'N')?.names(path, into)
     }
 
     fn rest(&mut self) {

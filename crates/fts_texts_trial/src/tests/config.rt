@@ -1,6 +1,10 @@
 //! Of `fts_config`: the example and the text of a stand, read whole; texts that break one rule alone, and texts that break it with the one that
 //! is answered next. Most are a start, which breaks no rule, with a line more. A row is a sentence, a text, and what is wanted.
 use super::checks::{check, check_found, must};
+use fts_config::SettingsFault::{
+    BadLabel, BadUrl, LimitRange, Missing, NoDefaultWeight, NotToml, TooLong, TooMany, TwiceLink,
+    TwiceWeight, UnknownEndpoint, WeightRange, WorkerRange, WrongType,
+};
 use fts_config::{SettingKey, SettingsFault, read_settings};
 use fts_joburl::UrlFault;
 use fts_tables::{Endpoint, LinkRule, Settings, Weight};
@@ -243,7 +247,7 @@ const KEYS: [KeyRow; 17] = [
 #[test]
 fn a_key_has_its_type(rt: HostRuntime) {
     for (case, text, key) in KEYS {
-        let has = has_fault(rt.alloc(), "", text, SettingsFault::WrongType { key });
+        let has = has_fault(rt.alloc(), "", text, WrongType { key });
         check_found(&rt, has, case);
     }
 }
@@ -298,7 +302,7 @@ const NEEDED_KEYS: [NeedRow; 9] = [
 #[test]
 fn a_needed_key_is_there(rt: HostRuntime) {
     for (case, start, text, key) in NEEDED_KEYS {
-        let has = has_fault(rt.alloc(), start, text, SettingsFault::Missing { key });
+        let has = has_fault(rt.alloc(), start, text, Missing { key });
         check_found(&rt, has, case);
     }
 }
@@ -324,56 +328,52 @@ const RULES: [FaultRow; 12] = [
     (
         "a destination that is no URL",
         "link = [{ source = \"x://a\", destination = \"no url\", max_active = 1 }]",
-        SettingsFault::BadUrl {
+        BadUrl {
             fault: UrlFault::NotUrl,
         },
     ),
     (
         "a link twice",
         "link = [{ source = \"x://a\", destination = \"x://b\", max_active = 1 }, { source = \"x://a\", destination = \"x://b\", max_active = 2 }]",
-        SettingsFault::TwiceLink,
+        TwiceLink,
     ),
     (
         "a link to no storage",
         "link = [{ source = \"x://a\", destination = \"x://c\", max_active = 1 }]",
-        SettingsFault::UnknownEndpoint,
+        UnknownEndpoint,
     ),
     (
         "a link with an empty name",
         "link = [{ source = \"x://a\", destination = \"x://b\", max_active = 1, symbolicname = \"\" }]",
-        SettingsFault::BadLabel,
+        BadLabel,
     ),
-    ("a key with no value", "workers = ", SettingsFault::NotToml),
+    ("a key with no value", "workers = ", NotToml),
     (
         "a number of more than 63 bits",
         "workers = 9223372036854775808",
-        SettingsFault::NotToml,
+        NotToml,
     ),
     (
         "a limit above 1,000",
         "default_max_active = 1001",
-        SettingsFault::LimitRange,
+        LimitRange,
     ),
-    (
-        "a limit below 0",
-        "default_max_active = -1",
-        SettingsFault::LimitRange,
-    ),
-    ("no worker", "workers = 0", SettingsFault::WorkerRange),
+    ("a limit below 0", "default_max_active = -1", LimitRange),
+    ("no worker", "workers = 0", WorkerRange),
     (
         "a weight above 10,000",
         "activity = [{ name = \"default\", weight = 10001 }]",
-        SettingsFault::WeightRange,
+        WeightRange,
     ),
     (
         "no activity named default",
         "activity = []",
-        SettingsFault::NoDefaultWeight,
+        NoDefaultWeight,
     ),
     (
         "an activity twice",
         "activity = [{ name = \"default\", weight = 1 }, { name = \"default\", weight = 2 }]",
-        SettingsFault::TwiceWeight,
+        TwiceWeight,
     ),
 ];
 
@@ -458,21 +458,16 @@ const CROWDS: [CrowdRow; 4] = [
         "no worker, and too many activities",
         "workers = 0",
         65,
-        SettingsFault::WorkerRange,
+        WorkerRange,
     ),
-    (
-        "too many, and an empty name",
-        BAD_NAME,
-        65,
-        SettingsFault::TooMany,
-    ),
+    ("too many, and an empty name", BAD_NAME, 65, TooMany),
     (
         "an empty name, and an activity twice",
         BAD_NAME,
         2,
-        SettingsFault::BadLabel,
+        BadLabel,
     ),
-    ("an activity twice", "", 2, SettingsFault::TwiceWeight),
+    ("an activity twice", "", 2, TwiceWeight),
 ];
 
 #[test]
@@ -486,7 +481,7 @@ fn too_many_stands_between_its_neighbours(rt: HostRuntime) {
 #[test]
 fn a_text_that_is_no_utf_8_is_no_toml(rt: HostRuntime) {
     let fault = read_settings(rt.alloc(), &[b'#', 0xff]).err();
-    let is_so = fault == Some(SettingsFault::NotToml);
+    let is_so = fault == Some(NotToml);
     check(&rt, is_so, "a byte that begins no letter");
 }
 
@@ -495,6 +490,6 @@ fn a_text_that_is_too_long_is_told_first(rt: HostRuntime) {
     let text = vec![in rt.alloc(); b'='; 1_048_577];
     let text = must(&rt, text, "there is memory");
     let fault = read_settings(rt.alloc(), text.as_slice()).err();
-    let is_so = fault == Some(SettingsFault::TooLong);
+    let is_so = fault == Some(TooLong);
     check(&rt, is_so, "a byte more than the limit");
 }
