@@ -5,7 +5,7 @@ use Rattle.std.specs.Prelude.{Bool, filter, count_by, is_some, slice_get, slice_
 use Rattle.std.proofs.lemmas.Bool.{cases_lt}
 use Rattle.std.proofs.lemmas.Option.{same_Some, slice_get-get_or}
 use Rattle.std.proofs.lemmas.List.{length-map, length_push, length-take-le, map-append, take-map, take_more}
-use Rattle.std.proofs.lemmas.List.{get_or_append_left, get_or_past, get_or_push, get_or-take}
+use Rattle.std.proofs.lemmas.List.{get_or_append_left, get_or_past, get_or-take}
 use Rattle.std.proofs.lemmas.List.Sums.{length-filter, count_by-le-length}
 use Rattle.std.proofs.lemmas.List.Quantifiers.{position-Some}
 use Rattle.fts_tables.specs.SettingsData.{SettingsData, IsSettings}
@@ -115,17 +115,6 @@ module _ (rows : List FileRow) (at : ℕ) (row : FileRow) (inside : at < length 
 
   before : length (dests_of (take at rows)) ≡ at
   before = length-map (take at rows) (λ (other : FileRow). other.dest) ∙ length-take-le at rows (omega (arith, inside))
-
-  -- its own has a number among them
-  pub has_a_number : number_of (dests_of (take (at + 1) rows)) row.dest ≡ None → ⊥
-  has_a_number none =
-      let places = dests_of (take at rows) in
-      let here : slice_get (places ++ row.dest ∷ []) at ≡ Some row.dest =
-      slice_get-get_or (places ++ row.dest ∷ []) at row.dest (omega (arith, before, length_push places row.dest))
-      ∙ ap (λ place. Some place) (get_or_push places row.dest row.dest at before) in
-      let listed = number_listed (places ++ row.dest ∷ []) at row.dest here in
-      let clash : Some listed.0 ≡ None = sym listed.1 ∙ (ap (λ others. number_of others row.dest) (sym dests_more) ∙ none) in
-      cc
 
   -- with it the row is in line
   pub row_lined : (number : ℕ) (old new : ClaimParts) → number_of (dests_of (take (at + 1) rows)) row.dest ≡ Some number

@@ -36,9 +36,6 @@ pub fn add_number(parts: &mut ClaimParts, rows: &[FileRow], place: usize)
     ensures slots { parts.new.slots ≡ parts.old.slots }
     ensures busy { parts.new.busy ≡ parts.old.busy }
 {
-    parts.dests.add(rows, place);
-    match parts.dests.number_of(&rows[..=place], &rows[place].dest) {
-        Some(number) => parts.line.add_row(number),
-        None => unreachable!(),
-    }
+    let number = parts.dests.add(rows, place);
+    parts.line.add_row(number);
 }

@@ -8,4 +8,5 @@ pub mod Starts
 pub mod Blocks
 pub mod Numbers
 pub mod Apart
+pub mod Added
 pub mod Leads

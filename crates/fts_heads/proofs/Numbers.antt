@@ -85,7 +85,7 @@ no_lesser_number digest from other number same goes = grind (arith, nat_tests)
 no_earlier : (digest from number : ℕ) → from ≤ number → is_first_by digest digest (nat_lt number from) ≡ false
 no_earlier digest from number least = grind (arith, nat_tests)
 
-goes_first : (digest one other : ℕ) → one < other → is_first_by digest digest (nat_lt one other) ≡ true
+pub goes_first : (digest one other : ℕ) → one < other → is_first_by digest digest (nat_lt one other) ≡ true
 goes_first digest one other less = grind (arith, nat_tests)
 
 goes_past : (digest from other number one : ℕ) → (other ≡ digest → ⊥) → is_first_by other digest (nat_lt number from) ≡ false
@@ -292,7 +292,7 @@ none_left places dests place from number are before between here few =
     (λ other later sooner. goes_elsewhere places dests place other are (between other later sooner)) here other (omega (arith, inside, few))))
 
 -- the destinations of the rows up to one and with it
-dests_more : (rows : List FileRow) (place : ℕ) (row : FileRow) → place < length rows → row ≡ get_or rows place row
+pub dests_more : (rows : List FileRow) (place : ℕ) (row : FileRow) → place < length rows → row ≡ get_or rows place row
     → take (place + 1) (dests_of rows) ≡ take place (dests_of rows) ++ row.dest ∷ []
 dests_more rows place row inside at =
     take_more (dests_of rows) place row.dest (omega (arith, inside, length-map rows (λ (row : FileRow). row.dest)))

@@ -1,10 +1,10 @@
 -- Keys in a strict order: what holds of each, sorted lists, and what a set answers around the place of a key.
-use Rattle.std.proofs.Common.{◌≡◌, ℕ, zero, suc, ◌<◌, ◌≤◌, Bool, true, false, cond, List, [], ◌∷◌, ◌++◌, length, take, drop, get_or, Some, None, refl, ap, sym, ◌∙◌, subst, arith}
+use Rattle.std.proofs.Common.{◌≡◌, ℕ, zero, suc, ◌-◌, ◌<◌, ◌≤◌, Bool, true, false, cond, List, [], ◌∷◌, ◌++◌, length, take, drop, get_or, Some, None, refl, ap, sym, ◌∙◌, subst, arith}
 use Rattle.std.specs.Prelude.{not, ◌||◌, filter, slice_get}
 use Rattle.std.specs.List.{AllByRecursion, AllWithin}
 use Rattle.std.proofs.lemmas.Bool.{or_parts}
 use Rattle.std.proofs.lemmas.Bool.Decides.{nat_tests}
-use Rattle.ordered.specs.Orders.{IsStrictOrder, AreSortedBy, put_by, without, has_key, first_from, next_after}
+use Rattle.ordered.specs.Orders.{IsStrictOrder, AreSortedBy, put_by, without, has_key, first_from, next_after, last_before}
 
 -- what holds up to a place holds of each in front of it
 pub take_within : {A : Type 0} (P : A → Type 0) (items : List A) (n : ℕ) → AllWithin P items 0 n → AllByRecursion P (take n items)
@@ -108,6 +108,22 @@ all_put before P key (first ∷ rest) own all = by_test (before key first) (all_
     by_test : (answer : Bool) → AllByRecursion P (put_by before key rest) → AllByRecursion P (cond answer (key ∷ first ∷ rest) (first ∷ put_by before key rest))
     by_test true behind = (own, all)
     by_test false behind = (all.0, behind)
+
+-- a filter keeps of two lists the one that it passes, where it passes none of the other
+filter_front : {A : Type 0} (passes : A → Bool) (front back : List A) → AllByRecursion (λ item. passes item ≡ true) front
+    → AllByRecursion (λ item. passes item ≡ false) back → filter passes (front ++ back) ≡ front
+filter_front passes [] [] some none = refl
+filter_front passes [] (first ∷ back) some none =
+    ap (λ (test : Bool). cond test (first ∷ filter passes back) (filter passes back)) none.0 ∙ filter_front passes [] back some none.1
+filter_front passes (first ∷ front) back some none =
+    ap (λ (test : Bool). cond test (first ∷ filter passes (front ++ back)) (filter passes (front ++ back))) some.0
+    ∙ ap (λ (later : List _). first ∷ later) (filter_front passes front back some.1 none)
+
+-- so the last in front of a key's place is the greatest that stands before it
+pub last_before_behind : {K : Type 0} (before : K → K → Bool) (key : K) (front back : List K) → AllByRecursion (λ other. before other key ≡ true) front
+    → AllByRecursion (λ other. before other key ≡ false) back → last_before before key (front ++ back) ≡ slice_get front (length front - 1)
+last_before_behind before key front back lesser others =
+    ap (λ (keys : List _). slice_get keys (length keys - 1)) (filter_front (λ other. before other key) front back lesser others)
 
 -- of two keys that differ, one stands first
 one_first : (there back : Bool) → not (there || back) ≡ false → there ≡ false → back ≡ true

@@ -3,11 +3,15 @@
 use Rattle.std.proofs.Common.{◌≡◌, ℕ, ◌+◌, Bool, true, false, cond, List, [], ◌∷◌, Option, Some, None, refl, ap, sym, ◌∙◌, subst, arith}
 use Rattle.std.specs.Prelude.{not, ◌||◌, ◌&&◌, find, filter, count_by}
 use Rattle.std.specs.List.{AllByRecursion, list_any}
+use Rattle.std.specs.Option.{option_map_or}
 use Rattle.std.proofs.lemmas.Bool.{or_parts, not-true}
+use Rattle.std.proofs.lemmas.List.{append-nil}
 use Rattle.std.proofs.lemmas.List.Sums.{sum_by-cons}
 use Rattle.std.proofs.lemmas.Bool.Decides.{nat_tests}
-use Rattle.ordered.specs.Orders.{IsStrictOrder, AreSortedBy, differs, has_key, put_by, without}
-use Rattle.ordered.proofs.Lists.{all_after, without_none}
+use Rattle.ordered.specs.Orders.{IsStrictOrder, AreSortedBy, differs, has_key, put_by, without, last_before}
+use Rattle.ordered.specs.Chunks.{ends_before}
+use Rattle.ordered.proofs.Lists.{all_after, filter_sorted, has_behind, without_none}
+use Rattle.ordered.proofs.Places.{all_end, all_lesser}
 
 -- two tests of which each passes where the other does are one
 same_answer : (one other : Bool) → (one ≡ true → other ≡ true) → (other ≡ true → one ≡ true) → one ≡ other
@@ -110,6 +114,23 @@ find_filter {K} passes keeps (first ∷ rest) = by_test (keeps first) (find_filt
     by_test true behind = ap (λ (later : Option K). cond (passes first) (Some first) later) behind
     by_test false behind = behind
 
+-- what a filter keeps passes it
+all_passing : {K : Type 0} (passes : K → Bool) (keys : List K) → AllByRecursion (λ key. passes key ≡ true) (filter passes keys)
+all_passing passes [] = tt
+all_passing passes (first ∷ rest) = by_test (passes first) refl (all_passing passes rest)
+  where
+    by_test : (answer : Bool) → passes first ≡ answer → AllByRecursion (λ key. passes key ≡ true) (filter passes rest)
+        → AllByRecursion (λ key. passes key ≡ true) (cond answer (first ∷ filter passes rest) (filter passes rest))
+    by_test true is behind = (is, behind)
+    by_test false is behind = behind
+
+-- a key that was found stands before a key, and not before another that does
+pub record IsLastFrom {K : Type 0} (before : K → K → Bool) (one key : K) (found : Option K) : Type 0 where
+  pub last : K
+  pub is : found ≡ Some last
+  pub lesser : before last key ≡ true
+  pub least : before last one ≡ false
+
 module _ {K : Type 0} (before : K → K → Bool) (order : IsStrictOrder before) where
   -- two of which neither stands first are one
   pub one_of : (one other : K) → not (differs before one other) ≡ true → one ≡ other
@@ -194,6 +215,43 @@ module _ {K : Type 0} (before : K → K → Bool) (order : IsStrictOrder before)
               ≡ nearer before key (cond answer (Some first) (find passes rest))
           by_pass true = sym (ap (λ (test : Bool). cond test (Some key) (Some first)) is)
           by_pass false = behind
+
+  -- a key that stands before another is there exactly where it is among those that do
+  among_lesser : (one key : K) (keys : List K) → before one key ≡ true
+      → has_key before one (filter (λ other. before other key) keys) ≡ has_key before one keys
+  among_lesser one key keys goes =
+      any_filter (λ some. not (differs before some one)) (λ other. before other key) keys
+      ∙ any_same (λ some. before some key && not (differs before some one)) (λ some. not (differs before some one)) keys
+      (λ some. passes_both (before some key) (not (differs before some one)) (λ is. ap (λ other. before other key) (one_of some one is) ∙ goes))
+    where
+      passes_both : (less is : Bool) → (is ≡ true → less ≡ true) → (less && is) ≡ is
+      passes_both true is goes = refl
+      passes_both false true goes = goes refl
+      passes_both false false goes = refl
+
+  -- where a key is there that stands before another, the greatest that does is no lesser one
+  pub last_from : (one key : K) (keys : List K) → AreSortedBy before keys → has_key before one keys ≡ true → before one key ≡ true
+      → IsLastFrom before one key (last_before before key keys)
+  last_from one key keys sorted there goes = by_end (ends_before before one lesser) refl
+    where
+      lesser : List K
+      lesser = filter (λ other. before other key) keys
+
+      ends : ends_before before key lesser ≡ true
+      ends = all_end before key lesser (all_passing (λ other. before other key) keys)
+
+      by_last : (last : Option K) → option_map_or (λ other. before other one) last true ≡ false → option_map_or (λ other. before other key) last true ≡ true
+          → IsLastFrom before one key last
+      by_last None not_less less = cc
+      by_last (Some last) not_less less = record { last = last; is = refl; lesser = less; least = not_less }
+
+      by_end : (answer : Bool) → ends_before before one lesser ≡ answer → IsLastFrom before one key (last_before before key keys)
+      by_end false is = by_last (last_before before key keys) is ends
+      by_end true is =
+          let front = all_lesser before order one lesser (filter_sorted before (λ other. before other key) keys sorted) is in
+          let clash : true ≡ false =
+          sym (ap (has_key before one) (append-nil lesser) ∙ (among_lesser one key keys goes ∙ there)) ∙ has_behind before order one lesser [] front in
+          cc
 
   -- one less that does not pass changes nothing
   pub find_without_other : (passes : K → Bool) (key : K) (keys : List K) → passes key ≡ false → find passes (without before key keys) ≡ find passes keys

@@ -29,7 +29,7 @@ ghost use Rattle.std.specs.Prelude.{
   vec_capacity,
 };
 ghost use Rattle.ordered.specs.declared.chunk.TheConstants.{CHUNK_HALF};
-ghost use Rattle.ordered.specs.Orders.{AreSortedBy, put_by, without, has_key, next_after};
+ghost use Rattle.ordered.specs.Orders.{AreSortedBy, put_by, without, has_key, next_after, last_before};
 ghost use Rattle.ordered.specs.Chunks.{joined, chunk_at, ends_before, front_of, back_of, IsGapFor, parted_at, merged_at, AreFit, HasLostOne};
 
 use crate::chunk::{CHUNK_HALF, CHUNK_ROOM, Chunk};
@@ -149,6 +149,22 @@ pub fn key_at<K: Key>(chunks: &[Chunk<K>], spot: Spot) -> Option<K>
     }
 }
 
+/// The key in front of a place. No chunk in front is without keys.
+fn key_in_front<K: Key>(chunks: &[Chunk<K>], spot: Spot) -> Option<K>
+    requires chunk { spot.chunk < length chunks.now }
+    requires at { spot.at ≤ length (chunk_at chunks.now spot.chunk) }
+    requires fit { AreFit chunks.now }
+    ensures key { result ≡ slice_get (front_of chunks.now spot.chunk spot.at) (length (front_of chunks.now spot.chunk spot.at) - 1) }
+{
+    if spot.at > 0 {
+        Some(chunks[spot.chunk].get(spot.at - 1))
+    } else if spot.chunk > 0 {
+        chunks[spot.chunk - 1].last()
+    } else {
+        None
+    }
+}
+
 /// Splits a full chunk: its second half stands behind it, in a spare one.
 fn split<K: Key>(chunks: &mut Vec<Chunk<K>>, at: usize, mut spare: Chunk<K>)
     requires inside { at < length chunks.old.items }
@@ -216,14 +232,20 @@ fn put_first<K: Key>(chunks: &mut Vec<Chunk<K>>, mut spare: Chunk<K>, key: K)
     chunks.push_reserved(spare);
 }
 
-/// Puts a key where it is to stand. A spare chunk is there in case.
-pub fn put<K: Key>(chunks: &mut Vec<Chunk<K>>, spare: &mut Vec<Chunk<K>>, ends: &mut Vec<K>, key: K)
+/// Puts a key where it is to stand. A spare chunk is there in case. Answers the greatest key in front of it.
+pub fn put<K: Key>(
+    chunks: &mut Vec<Chunk<K>>,
+    spare: &mut Vec<Chunk<K>>,
+    ends: &mut Vec<K>,
+    key: K,
+) -> Option<K>
     requires order { AreSortedBy K.before (joined chunks.old.items) }
     requires fit { AreFit chunks.old.items }
     requires absent { IsFalse (has_key K.before key (joined chunks.old.items)) }
     requires spare { 0 < length spare.old.items }
     requires memory { length chunks.old.items < vec_capacity chunks.old }
     ensures keys { joined chunks.new.items ≡ put_by K.before key (joined chunks.old.items) }
+    ensures front { result ≡ last_before K.before key (joined chunks.old.items) }
     ensures fit { AreFit chunks.new.items }
     ensures whole { length chunks.new.items + length spare.new.items ≡ length chunks.old.items + length spare.old.items }
     ensures capacity { vec_capacity chunks.old ≤ vec_capacity chunks.new }
@@ -235,9 +257,10 @@ pub fn put<K: Key>(chunks: &mut Vec<Chunk<K>>, spare: &mut Vec<Chunk<K>>, ends: 
             None => unreachable!(),
         }
         note_ends(chunks, ends, 0);
-        return;
+        return None;
     }
     let spot = spot_for(chunks.as_slice(), ends, &key);
+    let front = key_in_front(chunks.as_slice(), spot);
     chunks[spot.chunk].insert(spot.at, key);
     if chunks[spot.chunk].len() == CHUNK_ROOM {
         match spare.pop() {
@@ -250,6 +273,7 @@ pub fn put<K: Key>(chunks: &mut Vec<Chunk<K>>, spare: &mut Vec<Chunk<K>>, ends: 
     } else {
         note_ends(chunks, ends, spot.chunk);
     }
+    front
 }
 
 /// Sees that the chunks are fit again where one has lost a key.

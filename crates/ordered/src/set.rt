@@ -4,7 +4,7 @@
 //! short, and are no part of that.
 //! The keys, one chunk after the other, are what contracts see.
 ghost use Rattle.std.specs.Prelude.{◌≡◌, ◌<◌, ◌≤◌, ◌+◌, [], true, false, max, length, slice_get, IsTrue, IsFalse, OnOk, OnErr, vec_capacity};
-ghost use Rattle.ordered.specs.Orders.{AreSortedBy, put_by, without, has_key, first_from, next_after};
+ghost use Rattle.ordered.specs.Orders.{AreSortedBy, put_by, without, has_key, first_from, next_after, last_before};
 ghost use Rattle.ordered.specs.Chunks.{chunks_for};
 
 use crate::chunk::{CHUNK_HALF, Chunk};
@@ -122,8 +122,19 @@ impl<K: Key> Ordered<K> {
         requires absent { IsFalse (has_key K.before key self.old.keys) }
         ensures keys { self.new ≡ record self.old { keys = put_by K.before key self.old.keys } }
     {
-        put(&mut self.chunks, &mut self.spare, &mut self.ends, key);
+        let _ = self.insert_behind(key);
+    }
+
+    /// Puts a key in, in room that is there, and answers the greatest key that stands before it, which is not searched for then.
+    pub fn insert_behind(&mut self, key: K) -> Option<K>
+        requires room { length self.old.keys < self.old.room }
+        requires absent { IsFalse (has_key K.before key self.old.keys) }
+        ensures keys { self.new ≡ record self.old { keys = put_by K.before key self.old.keys } }
+        ensures front { result ≡ last_before K.before key self.old.keys }
+    {
+        let front = put(&mut self.chunks, &mut self.spare, &mut self.ends, key);
         self.len += 1;
+        front
     }
 
     /// Takes a key out that is there.

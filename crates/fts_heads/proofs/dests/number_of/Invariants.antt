@@ -2,7 +2,7 @@ use Rattle.std.proofs.Common.{◌≡◌, ◌<◌, ℕ, ◌-◌, false}
 use Rattle.fts_tables.specs.Places.{is_same_place}
 use Rattle.fts_heads.specs.Dests.{dests_of}
 use Rattle.fts_heads.proofs.Numbers.{passes_at}
-use Rattle.fts_heads.proofs.dests.Dests.number_of.Given as goal
+use Rattle.fts_heads.proofs.dests.number_of.Given as goal
 
 -- no row so far goes there
 abbrev pub invariant-loop-number : goal.invariant-loop-number
