@@ -1,7 +1,8 @@
 //! Of `ordered`: each call with ample memory, on pairs of numbers by hand, and on more pairs than a chunk holds, growing and shrinking.
-ghost use Rattle.std.specs.Prelude.{◌≡◌, ◌<◌};
+ghost use Rattle.std.specs.Prelude.{◌≡◌, ◌<◌, ◌≤◌};
 
 use ordered::{Key, Ordered};
+use std::alloc::AllocError;
 use std::process::Abort;
 use std::test::Fail;
 
@@ -96,6 +97,16 @@ fn a_pair_that_goes_tells_the_next(rt: HostRuntime) -> Result<(), Fail> {
     Ok(())
 }
 
+#[test]
+fn a_pair_that_comes_tells_the_one_in_front(rt: HostRuntime) -> Result<(), Fail> {
+    let mut set: Ordered<Pair> = Ordered::new(rt.alloc());
+    set.make_room(3)?;
+    assert!(rt; set.insert_behind(SECOND).is_none(), "it stands alone");
+    assert!(rt; set.insert_behind(FIRST).is_none(), "in front of all");
+    assert!(rt; set.insert_behind(LAST) == Some(SECOND), "behind all");
+    Ok(())
+}
+
 /// How many pairs there are in the large set.
 const MANY: u32 = 1200;
 
@@ -143,5 +154,41 @@ fn more_pairs_than_a_chunk_holds_come_and_go(rt: HostRuntime) -> Result<(), Fail
         }
     }
     are_there(&rt, &set, 100);
+    Ok(())
+}
+
+/// Puts a pair in, and says whether it was told the pair of another number, which stands in front.
+fn comes_behind(set: &mut Ordered<Pair>, number: u32, front: u32) -> Result<bool, AllocError> {
+    let Some(more) = set.len().checked_add(1) else {
+        return Ok(false);
+    };
+    set.make_room(more)?;
+    let key = pair_of(number);
+    if set.has(&key) {
+        return Ok(false);
+    }
+    Ok(set.insert_behind(key) == Some(pair_of(front)))
+}
+
+/// Each second pair comes in, from this one on, behind the pair of an even number.
+fn come_in(rt: &impl Abort, set: &mut Ordered<Pair>, first: u32) -> Result<(), AllocError>
+    requires { first ≤ 2 }
+{
+    for half in 0..MANY / 2 {
+        let number = 2 * half + first;
+        let is_told = comes_behind(set, number, 2 * half)?;
+        assert!(rt; is_told, "pair {number}");
+    }
+    Ok(())
+}
+
+#[test]
+fn each_of_many_pairs_tells_the_one_in_front(rt: HostRuntime) -> Result<(), Fail> {
+    let mut set: Ordered<Pair> = Ordered::new(rt.alloc());
+    set.make_room(1)?;
+    set.insert(pair_of(0));
+    come_in(&rt, &mut set, 2)?;
+    come_in(&rt, &mut set, 1)?;
+    are_there(&rt, &set, 1);
     Ok(())
 }
