@@ -1,5 +1,5 @@
 -- Doors that stay as they are.
-use Rattle.std.proofs.Common.{◌≡◌, ℕ, zero, suc, ◌≤◌, List, [], ◌∷◌, ◌++◌, length, take, drop, refl, sym, ap, ◌∙◌, subst, arith, append-nil}
+use Rattle.std.proofs.Common.{◌≡◌, ℕ, zero, suc, List, [], ◌∷◌, ◌++◌, length, take, drop, refl, sym, ap, ◌∙◌, subst, arith, append-nil}
 use Rattle.std.proofs.lemmas.List.{take_all}
 use Rattle.fts_service.specs.Openings.{AreOpened, SomeRose}
 use Rattle.fts_service.specs.declared.lane.Lane.{Lane}
@@ -25,7 +25,7 @@ behind_all [] = refl
 behind_all (item ∷ items) = behind_all items
 
 -- what a slice of a whole list is written back as
-written_back : {A : Type 0} (n : ℕ) (olds news : List A) → length news ≡ length olds → n ≡ length olds → take n (news ++ drop (length news) olds) ≡ news
+pub written_back : {A : Type 0} (n : ℕ) (olds news : List A) → length news ≡ length olds → n ≡ length olds → take n (news ++ drop (length news) olds) ≡ news
 written_back n olds news e f = ap (λ k. take n (news ++ drop k olds)) e ∙ ap (λ l. take n (news ++ l)) (behind_all olds) ∙ ap (take n) (append-nil news)
     ∙ take_all n news (omega (arith, e, f))
 

@@ -1,5 +1,5 @@
 -- Passes of booths and stations, before and behind their threads.
-use Rattle.std.proofs.Common.{◌≡◌, ◌≢◌, ℕ, zero, suc, ◌+◌, ◌<◌, ◌≤◌, List, [], ◌∷◌, ◌++◌, length, map, take, drop, All, Option, IfSome, refl, sym, ap, ◌∙◌, subst, arith, length-append}
+use Rattle.std.proofs.Common.{◌≡◌, ℕ, zero, suc, ◌+◌, ◌≤◌, List, [], ◌∷◌, ◌++◌, length, map, take, drop, All, Option, IfSome, refl, sym, ap, ◌∙◌, subst, arith, length-append}
 use Rattle.fts_tables.specs.declared.commands.Entry.{Entry}
 use Rattle.fts_turnstile.specs.Passes.{TurnstileView, PassView, IsSame}
 use Rattle.std.proofs.lemmas.List.{length-map, length-drop, take_all, take-append-drop}
@@ -12,6 +12,7 @@ use Rattle.fts_shop.specs.declared.station.Station.{Station}
 use Rattle.fts_service.specs.Halls.{IsBoothReady, IsStationReady}
 use Rattle.fts_shop.specs.Turns.{IsReady}
 use Rattle.fts_service.specs.Seats.{booths_of, stations_of}
+use Rattle.fts_service.proofs.Opened.{written_back}
 use Rattle.fts_service.specs.declared.lane.Booth.{Booth}
 use Rattle.fts_service.specs.declared.lane.Lane.{Lane}
 
@@ -130,6 +131,12 @@ each_length R [] [] each = refl
 each_length R [] (new ∷ news) each = absurd each
 each_length R (old ∷ olds) [] each = absurd each
 each_length R (old ∷ olds) (new ∷ news) each = ap suc (each_length R olds news each.1)
+
+-- what was done to each of a whole list stands once it is written back
+pub each_back : {A : Type 0} (R : A → A → Type 0) (n : ℕ) (seen olds news : List A) → Each R seen news → seen ≡ olds → n ≡ length olds
+    → Each R olds (take n (news ++ drop (length news) olds))
+each_back R n seen olds news each same all =
+    subst (Each R olds) (sym (written_back n olds news (each_length R seen news each ∙ ap length same) all)) (subst (λ l. Each R l news) same each)
 
 -- behind their threads there are as many booths as rooms, and as many stations as benches
 pub seated_counts : (D : Type 0) {A E C W L : Type 0} (Served : Booth D A C L → Booth D A C L → Type 0) (Worked : Station D E C W → Station D E C W → Type 0)

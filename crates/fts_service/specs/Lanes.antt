@@ -1,5 +1,5 @@
 -- Connections over a pass of the lock, and the lanes that serve them one after the other.
-use Rattle.std.specs.Prelude.{◌≡◌, ◌⊎◌, ℕ, ◌-◌, ◌==◌, ◌<◌, ◌≤◌, Bool, true, false, List, [], ◌∷◌, ◌++◌, length, Option, Some, option_map, IfSome, Result, Ok, Err}
+use Rattle.std.specs.Prelude.{◌≡◌, ◌⊎◌, ℕ, ◌-◌, ◌==◌, ◌<◌, ◌≤◌, Bool, false, List, [], ◌∷◌, ◌++◌, length, Option, Some, option_map, IfSome}
 use Rattle.std.specs.Option.{option_map_or}
 use Rattle.fts_tables.specs.Counts.{Rose}
 use Rattle.fts_tables.specs.Coming.{Coming, Gives}
@@ -116,12 +116,6 @@ module _ {L : Type 0} (sides : Sides L) where
   abbrev pub AreLinesServed : Standing → List (L × L) → Standing → Type 0
   AreLinesServed old [] new = new ≡ old
   AreLinesServed old (line ∷ lines) new = (next : Standing) × (IsServed old line next × AreLinesServed next lines new)
-
-  -- what taking the next line comes to: one was served and handed back, none was there, or the doors failed
-  abbrev pub ServesNext : {E : Type 0} → Standing → Standing → DoorsData L → DoorsData L → Type 0 → Result Bool E → Type 0
-  ServesNext old new doors doors_now rose (Ok true) = (line : L × L) × (IsServed old line new × PassThrough doors doors_now (line ∷ []))
-  ServesNext old new doors doors_now rose (Ok false) = (new ≡ old) × ((doors_now ≡ doors) × IfSome doors.coming (λ coming. coming ≡ []))
-  ServesNext old new doors doors_now rose (Err fault) = (new ≡ old) × ((doors_now ≡ doors) × rose)
 
   -- why a lane took no more lines
   abbrev pub IsStop : Option ℕ → ℕ → DoorsData L → Type 0 → LaneStop → Type 0

@@ -1,10 +1,10 @@
 -- How lanes and workers ended together.
-use Rattle.std.specs.Prelude.{ℕ, Bool, true, false, if◌then◌else◌, nat_lt, List, [], ◌∷◌, Option, Some, None, unwrap_or}
+use Rattle.std.specs.Prelude.{ℕ, Bool, true, false, if◌then◌else◌, nat_lt, List, [], ◌∷◌, Option, Some, unwrap_or}
 use Rattle.std.specs.List.{list_any}
 use Rattle.fts_shop.specs.declared.ends.WorkerEnd.{WorkerEnd}
 use Rattle.fts_shop.specs.declared.ends.WorkerEnd.TheVariants as worker_ends
 use Rattle.fts_service.specs.declared.lane.LaneStop.{LaneStop}
-use Rattle.fts_service.specs.declared.lane.LaneStop.TheVariants.{NoMore, Enough, DoorsFailed}
+use Rattle.fts_service.specs.declared.lane.LaneStop.TheVariants.{DoorsFailed}
 use Rattle.fts_service.specs.declared.together.ServedEnd.{ServedEnd}
 use Rattle.fts_service.specs.declared.together.ServedEnd.TheVariants as served_ends
 

@@ -5,16 +5,14 @@
 ghost use Rattle.std.specs.Prelude.{◌≡◌, ◌+◌, ◌≤◌, [], ◌++◌, length, map, drop, All, IfSome, vec_capacity};
 ghost use Rattle.fts_turnstile.specs.Passes.{IsOf};
 ghost use Rattle.fts_passes.specs.Crews.{IsFirst, passes_given};
-ghost use Rattle.fts_shop.specs.Many.{Each};
-ghost use Rattle.fts_service.specs.Halls.{IsBoothServed, IsBoothReady, IsStationWorked, IsStationReady};
 ghost use Rattle.fts_service.specs.Seats.{booths_of, stations_of};
 ghost use Rattle.fts_service.specs.Serving.{RanTogether};
 ghost use Rattle.fts_service.specs.Worlds.{world_of};
-ghost use Rattle.fts_service.specs.Lanes.{sides_of};
 
 use crate::doors::Doors;
 use crate::hall::{Hall, serve_all};
 use crate::lane::{Booth, Lane};
+use crate::locked::Locked;
 use crate::seats::{cycle, leave_booths, leave_stations, seat_hands, seat_lanes};
 use crate::together::{ServedEnd, served};
 use fts_disk::Disk;
@@ -23,7 +21,7 @@ use fts_routes::Routes;
 use fts_shop::{Shop, Station};
 use fts_store::Store;
 use fts_tables::{Clock, Words};
-use fts_turnstile::{Pass, Turnstile};
+use fts_turnstile::Pass;
 use fts_wire::Room;
 use fts_workers::{Bench, Gate, Hand};
 use std::alloc::Global;
@@ -42,31 +40,6 @@ pub struct Seats<D: Disk, A: Doors, E: Store, C: Clock, W: Words> {
 pub struct Served<D: Disk> {
     pub shop: Shop<D>,
     pub end: ServedEnd,
-}
-
-// The same as `serve_all`, of whole lists.
-fn serve_lists<
-    D: Disk + Send,
-    A: Doors + Send,
-    E: Store + Send,
-    C: Clock + Send,
-    W: Words + Send,
-    G: Gate + Sync,
-    R: Threads + Wait + Sync,
->(
-    rt: &R,
-    hall: &Hall<'_, D, G>,
-    booths: &mut Vec<Booth<D, A, C>>,
-    stations: &mut Vec<Station<D, E, C, W>>,
-)
-where
-    A::Line: Send,
-    requires booths { All (IsBoothReady hall.now.shop.now hall.now.connections) booths.old.items }
-    requires stations { All (IsStationReady hall.now.shop.now) stations.old.items }
-    ensures booths { Each (IsBoothServed (sides_of A.Line.Source A.Line.Sink) A.Doors C.Clock hall.now.connections) booths.old.items booths.new.items }
-    ensures stations { Each (IsStationWorked E.Store C.Clock W.Words (G.closes hall.now.gate.now)) stations.old.items stations.new.items }
-{
-    serve_all(rt, hall, booths.as_mut_slice(), stations.as_mut_slice());
 }
 
 // Booths and stations, each with what its thread takes with it.
@@ -131,7 +104,7 @@ fn leave_seats<D: Disk, A: Doors, E: Store, C: Clock, W: Words>(
 
 /// Serves a shop behind its lock, with so many of the lanes as there are rooms and so many of the hands as there are benches. Workers stop where the gate
 /// is closed.
-pub fn serve_seated<
+pub fn serve_shop<
     D: Disk + Send,
     A: Doors + Send,
     E: Store + Send,
@@ -143,9 +116,7 @@ pub fn serve_seated<
     rt: &R,
     alloc: Global,
     routes: &Routes,
-    lock: Turnstile<Shop<D>>,
-    first: Pass<Shop<D>>,
-    mut passes: Vec<Pass<Shop<D>>>,
+    locked: Locked<D>,
     seats: Seats<D, A, E, C, W>,
     lanes: &mut Vec<Lane<A, C>>,
     hands: &mut Vec<Hand<E, C, W>>,
@@ -154,10 +125,10 @@ pub fn serve_seated<
 ) -> Served<D>
 where
     A::Line: Send,
-    requires own { IsOf lock first }
-    requires first { IsFirst first }
-    requires passes { passes.items ≡ passes_given (record first { given = 0 }) first.given }
-    requires given { first.given ≡ length seats.rooms.items + length seats.benches.items }
+    requires own { IsOf locked.lock locked.first }
+    requires first { IsFirst locked.first }
+    requires passes { locked.passes.items ≡ passes_given (record locked.first { given = 0 }) locked.first.given }
+    requires given { locked.first.given ≡ length seats.rooms.items + length seats.benches.items }
     requires lanes { length seats.rooms.items ≤ length lanes.old.items }
     requires hands { length seats.benches.items ≤ length hands.old.items }
     requires empty { (seats.booths.items ≡ []) × (seats.stations.items ≡ []) }
@@ -165,10 +136,15 @@ where
     requires idle { All (λ bench. bench.held ≡ []) seats.benches.items }
     requires some { IfSome connections (λ most. 1 ≤ most) }
     ensures ran { RanTogether (world_of D.Disk E.Store A.Doors A.Line.Source A.Line.Sink C.Clock W.Words (G.closes gate.now))
-        first connections lanes.old.items lanes.new.items hands.old.items hands.new.items
+        locked.first connections lanes.old.items lanes.new.items hands.old.items hands.new.items
         seats.rooms.items seats.benches.items result.shop result.end }
     ensures many { (length lanes.new.items ≡ length lanes.old.items) × (length hands.new.items ≡ length hands.old.items) }
 {
+    let Locked {
+        lock,
+        first,
+        mut passes,
+    } = locked;
     let mut seated = take_seats(seats, lanes, hands, &mut passes);
     let hall = Hall {
         shop: &lock,
@@ -177,7 +153,7 @@ where
         connections,
         gate,
     };
-    serve_lists(rt, &hall, &mut seated.booths, &mut seated.stations);
+    serve_all(rt, &hall, &mut seated.booths, &mut seated.stations);
     let Hall {
         shop: _,
         alloc: _,

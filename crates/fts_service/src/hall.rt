@@ -82,18 +82,21 @@ pub fn serve_all<
 >(
     rt: &R,
     hall: &Hall<'_, D, G>,
-    booths: &mut [Booth<D, A, C>],
-    stations: &mut [Station<D, E, C, W>],
+    booths: &mut Vec<Booth<D, A, C>>,
+    stations: &mut Vec<Station<D, E, C, W>>,
 )
 where
     A::Line: Send,
-    requires booths { All (IsBoothReady hall.now.shop.now hall.now.connections) booths.old }
-    requires stations { All (IsStationReady hall.now.shop.now) stations.old }
-    ensures booths { Each (IsBoothServed (sides_of A.Line.Source A.Line.Sink) A.Doors C.Clock hall.now.connections) booths.old booths.new }
-    ensures stations { Each (IsStationWorked E.Store C.Clock W.Words (G.closes hall.now.gate.now)) stations.old stations.new }
+    requires booths { All (IsBoothReady hall.now.shop.now hall.now.connections) booths.old.items }
+    requires stations { All (IsStationReady hall.now.shop.now) stations.old.items }
+    ensures booths { Each (IsBoothServed (sides_of A.Line.Source A.Line.Sink) A.Doors C.Clock hall.now.connections) booths.old.items booths.new.items }
+    ensures stations { Each (IsStationWorked E.Store C.Clock W.Words (G.closes hall.now.gate.now)) stations.old.items stations.new.items }
 {
     beside::<AtStations, AtBooths, Hall<'_, D, G>, Station<D, E, C, W>, Booth<D, A, C>, R>(
-        rt, hall, stations, booths,
+        rt,
+        hall,
+        stations.as_mut_slice(),
+        booths.as_mut_slice(),
     );
 }
 

@@ -7,7 +7,7 @@ ghost use Rattle.std.specs.Prelude.{◌≡◌, ◌≤◌, IfSome};
 ghost use Rattle.fts_tables.specs.Counts.{Rose};
 ghost use Rattle.fts_turnstile.specs.Passes.{IsOf, IsSame};
 ghost use Rattle.fts_service.specs.Booths.{booth_data};
-ghost use Rattle.fts_service.specs.Lanes.{BoothDone, ServesNext, StopsLines, is_none_left, less_one, standing, sides_of};
+ghost use Rattle.fts_service.specs.Lanes.{BoothDone, StopsLines, is_none_left, less_one, standing, sides_of};
 
 use crate::connection::serve_connection;
 use crate::doors::{Doors, DoorsFailed};
@@ -66,7 +66,7 @@ pub fn serve_lane<D: Disk, A: Doors, C: Clock, R: Wait>(
     booth.end = Some(stop);
 }
 
-/// Serves lines until there are enough, no more come, or the doors fail.
+/// Takes lines, serves each and hands it back, until there are enough, no more come, or the doors fail.
 fn serve_lines<D: Disk, A: Doors, C: Clock, R: Wait>(
     rt: &R,
     alloc: Global,
@@ -88,9 +88,22 @@ fn serve_lines<D: Disk, A: Doors, C: Clock, R: Wait>(
                 lines: connections.unwrap_or(0),
             };
         }
-        match serve_next(rt, alloc, routes, shop, booth) {
-            Ok(true) => left = one_less(left),
-            Ok(false) => return LaneStop::NoMore,
+        match booth.lane.doors.next() {
+            Ok(Some(mut line)) => {
+                serve_connection(
+                    rt,
+                    alloc,
+                    routes,
+                    shop,
+                    &mut booth.pass,
+                    &mut line,
+                    &mut booth.lane.clock,
+                    &mut booth.room,
+                );
+                booth.lane.doors.done(line);
+                left = one_less(left);
+            }
+            Ok(None) => return LaneStop::NoMore,
             Err(DoorsFailed) => return LaneStop::DoorsFailed,
         }
     }
@@ -111,40 +124,5 @@ fn one_less(left: Option<u32>) -> Option<u32>
     match left {
         Some(lines) => Some(lines.saturating_sub(1)),
         None => None,
-    }
-}
-
-/// Takes the next line, serves it, and hands it back. `false` where no more come.
-fn serve_next<D: Disk, A: Doors, C: Clock, R: Wait>(
-    rt: &R,
-    alloc: Global,
-    routes: &Routes,
-    shop: &Turnstile<Shop<D>>,
-    booth: &mut Booth<D, A, C>,
-) -> Result<bool, DoorsFailed>
-    requires own { IsOf shop.now booth.old.pass }
-    ensures same { IsSame booth.old.pass booth.new.pass }
-    ensures serves { ServesNext (sides_of A.Line.Source A.Line.Sink)
-        (standing booth.old.pass (C.moments booth.old.lane.clock)) (standing booth.new.pass (C.moments booth.new.lane.clock))
-        (A.doors booth.old.lane.doors) (A.doors booth.new.lane.doors) (Rose (A.faults booth.old.lane.doors) (A.faults booth.new.lane.doors)) result }
-    ensures keeps { A.faults booth.old.lane.doors ≤ A.faults booth.new.lane.doors }
-{
-    match booth.lane.doors.next() {
-        Ok(Some(mut line)) => {
-            serve_connection(
-                rt,
-                alloc,
-                routes,
-                shop,
-                &mut booth.pass,
-                &mut line,
-                &mut booth.lane.clock,
-                &mut booth.room,
-            );
-            booth.lane.doors.done(line);
-            Ok(true)
-        }
-        Ok(None) => Ok(false),
-        Err(DoorsFailed) => Err(DoorsFailed),
     }
 }

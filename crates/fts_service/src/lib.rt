@@ -1,7 +1,7 @@
 //! Lanes of connections beside workers, in threads, over one keep behind its lock.
 //! Keeps: each reply is the machine's over the list before its request's own turn (`serve_connection`, clause `served`); each lane serves the lines
 //! that its doors give, in order, and hands each back (`serve_lane`); what each lane and each worker did stands in one list of turns
-//! (`serve_seated`, clause `ran`; `specs/Serving.antt`).
+//! (`serve_shop`, clause `ran`; `specs/Serving.antt`).
 //! Order: memory is taken for lanes and workers, a shop is put behind a lock, doors are opened, lanes and hands take their seats, run to their end,
 //! and go back in their order; then the lock is closed.
 #![tactic(auto)]
@@ -18,7 +18,7 @@ mod seats;
 mod together;
 
 pub use connection::serve_connection;
-pub use crew::{Seats, Served, serve_seated};
+pub use crew::{Seats, Served, serve_shop};
 pub use doors::{Doors, DoorsFailed};
 pub use hall::{Hall, run_lanes, serve_all};
 pub use lane::{Booth, Lane, LaneStop, serve_lane};

@@ -1,5 +1,5 @@
 -- What a run does alone, and what it does where it serves.
-use Rattle.std.proofs.Common.{◌≡◌, ℕ, Option, Some, None}
+use Rattle.std.proofs.Common.{◌≡◌, ℕ, Option, Some, None, sym, subst}
 use Rattle.fts_words.specs.Words.{IsToServe}
 use Rattle.fts_words.specs.declared.asked.Asked.{Asked}
 use Rattle.fts_words.specs.declared.asked.Asked.TheVariants as asks
@@ -32,3 +32,19 @@ serves_over None left asked alone serves one two three four first second third f
 serves_over (Some disk) None asked alone serves one two three four first second third fourth over = absurd over
 serves_over (Some disk) (Some left) asked alone serves one two three four first second third fourth over =
     chooses_beside asked (alone disk left) (serves disk left) one two three four first second third fourth over
+
+-- words that ask to serve, by what they name
+pub serves_asked : (asked : Option Asked) (port : Option ℕ) (lanes : ℕ) (connections : Option ℕ) (serves : ℕ → Option ℕ → Type 0)
+    → asked ≡ Some (asks.Serve port lanes connections) → serves lanes connections → DoesOrServes asked ⊥ serves
+serves_asked asked port lanes connections serves is does = subst (λ it. DoesOrServes it ⊥ serves) (sym is) does
+
+-- and whatever they name
+pub serves_any : (asked : Option Asked) (serves : ℕ → Option ℕ → Type 0) → IsToServe asked → ((lanes : ℕ) (connections : Option ℕ) → serves lanes connections)
+    → DoesOrServes asked ⊥ serves
+serves_any (Some (asks.Serve port lanes connections)) serves to_serve does = does lanes connections
+serves_any _ serves to_serve does = to_serve
+
+-- over the disk that was taken and the one that was put back
+pub over_both : {D : Type 0} (before after : Option D) (disk left : D) (P : D → D → Type 0) → before ≡ Some disk → after ≡ Some left → P disk left → OverDisks before after P
+over_both before after disk left P taken given does =
+    subst (λ from. OverDisks from after P) (sym taken) (subst (λ to. OverDisks (Some disk) to P) (sym given) does)

@@ -25,6 +25,7 @@ use Rattle.fts_top.specs.Serves.{Closes, HoldsBehind, StopsUnstarted, WhyNoLane,
 use Rattle.fts_service.specs.Serving.{RanTogether}
 use Rattle.fts_top.specs.Tallies.{no_tally, tally_with}
 use Rattle.fts_top.specs.declared.ends.RunEnd.{RunEnd}
+use Rattle.fts_top.specs.declared.ends.RunEnd.TheVariants.{NoMemory}
 use Rattle.fts_service.specs.declared.lane.Lane.{Lane}
 use Rattle.fts_top.specs.declared.tally.Tally.{Tally}
 use Rattle.fts_service.specs.declared.together.ServedEnd.{ServedEnd}
@@ -150,3 +151,14 @@ unstarted_run world text lanes hands before later disk left closed settings now 
       lanes = refl;
       hands = refl;
     }
+
+-- a run that stopped before its words were taken, for want of memory
+pub unasked_run : {D A E C W L : Type 0} (world : World D A E C W L) (text : Option (List ℕ)) (lanes : List (Lane A C L)) (hands : List (Hand E C W)) (moments : Option Coming)
+    (disk left : D) (end : RunEnd) (tally : Tally) → end ≡ NoMemory → tally ≡ no_tally → left ≡ disk
+    → StopsUnstarted world text (many_threads disk lanes hands moments) (many_threads left lanes hands moments) end tally
+unasked_run world text lanes hands moments disk left end tally ended counted same = record {
+  stop = subst (λ (e : RunEnd). IsStop world.disks text moments moments disk left e) (sym ended) (inl (record { moments_are = refl; disk_is = same }));
+  counted = counted;
+  lanes = refl;
+  hands = refl;
+}

@@ -1,5 +1,5 @@
 -- How a session ends whose input ends well, and that nothing else but a fault stops it.
-use Rattle.std.proofs.Common.{◌≡◌, ◌≢◌, ◌⊎◌, inl, inr, ℕ, ◌+◌, ◌<◌, ◌≤◌, Bool, true, false, true≢false, List, [], ◌∷◌, ◌++◌, length, map, Option, Some, None, Result, Ok, Err, refl, ap, sym, ◌∙◌, subst, arith, append-nil, length-append}
+use Rattle.std.proofs.Common.{◌≡◌, ◌≢◌, ◌⊎◌, inl, inr, ℕ, ◌<◌, ◌≤◌, Bool, true, false, true≢false, List, [], ◌∷◌, ◌++◌, length, Option, Some, None, Result, Ok, Err, refl, ap, sym, ◌∙◌, subst, arith, append-nil, length-append}
 use Rattle.std.specs.Prelude.{IsSomeAnd, IfSome, IsOk, unwrap_or}
 use Rattle.std.specs.List.{Any}
 use Rattle.std.proofs.lemmas.List.{map-append, length-map}
@@ -43,7 +43,7 @@ use Rattle.fts_session.specs.declared.ends.LineEnd.{LineEnd}
 use Rattle.fts_session.specs.declared.ends.LineEnd.TheVariants as line_ends
 use Rattle.fts_session.specs.declared.ends.SessionEnd.{SessionEnd}
 use Rattle.fts_top.specs.declared.ends.RunEnd.{RunEnd}
-use Rattle.fts_top.specs.declared.ends.RunEnd.TheVariants.{NoMemory, NoCommand, SettingsUnread, SettingsRule, DiskFailed, Damaged, JournalFull, Session, Shown, SourcesUnmade, LineUnwritten, DoorsFailed, Served, Errand}
+use Rattle.fts_top.specs.declared.ends.RunEnd.TheVariants.{NoMemory, NoCommand, SettingsUnread, SettingsRule, DiskFailed, Damaged, JournalFull, Session, Shown}
 use Rattle.fts_top.specs.declared.tally.Tally.{Tally}
 use Rattle.fts_top.proofs.Inputs.{InputEnd, Between, ByClose, ByNumber, Holds, EndsSo, IsEnd, same_input, holds_between, holds_all, holds_close, held_well}
 use Rattle.fts_top.proofs.Steady.{served_on, last_rounds_on, stays_within, served_unless_memory, defined_or_wanting, limit_met, last_not_busy}

@@ -1,5 +1,5 @@
 -- How runs that serve may end, and how a shop is closed.
-use Rattle.std.proofs.Common.{◌≡◌, ◌≢◌, ◌≤◌, ◌==◌, ◌||◌, ◌&&◌, Bool, true, false, ℕ, List, Option, refl}
+use Rattle.std.proofs.Common.{◌≡◌, ◌≢◌, ◌≤◌, ◌==◌, ◌||◌, ◌&&◌, Bool, true, false, ℕ, List, Option, refl, sym, ap, ◌∙◌}
 use Rattle.std.specs.Prelude.{nat_le, IsTrue}
 use Rattle.std.proofs.lemmas.Bool.{leb-true}
 use Rattle.fts_tables.specs.SettingsData.{SettingsData, has_worker_range}
@@ -10,7 +10,7 @@ use Rattle.fts_shop.specs.declared.ends.WorkerEnd.TheVariants as worker_ends
 use Rattle.fts_top.specs.Ends.{status_of, worker_status, IsServingStatus, end_when_served}
 use Rattle.fts_top.specs.Runs.{HasNoSettings, start_end}
 use Rattle.fts_top.specs.declared.ends.RunEnd.{RunEnd}
-use Rattle.fts_top.specs.declared.ends.RunEnd.TheVariants.{NoMemory, NoCommand, SettingsUnread, SettingsRule, DiskFailed, Damaged, JournalFull, Session, Shown, SourcesUnmade, LineUnwritten, DoorsFailed, Served, Errand}
+use Rattle.fts_top.specs.declared.ends.RunEnd.TheVariants.{NoMemory, SettingsUnread, SettingsRule}
 use Rattle.fts_service.specs.declared.together.ServedEnd.{ServedEnd}
 use Rattle.fts_service.specs.declared.together.ServedEnd.TheVariants as served_ends
 use Rattle.fts_tables.specs.declared.limits.TheConstants.{MAX_WORKERS}
@@ -56,6 +56,13 @@ unset_status text _ h = absurd h
 -- a status of a run that serves is none of those that it excludes
 pub not_status : (status other : ℕ) → (other == 2 || (other == 5 || other == 6)) ≡ true → IsServingStatus status → status ≢ other
 not_status status other is serving e = cc
+
+-- a status that is not 8 is nothing of which 8 would follow
+pub not_eight : {P : Type 0} (status : ℕ) → (status == 8) ≡ false → status ≡ 8 → P
+not_eight status differs is = absurd (by_test (sym (ap (λ n. n == 8) is) ∙ differs))
+  where
+    by_test : true ≡ false → ⊥
+    by_test e = cc
 
 both_true : (one other : Bool) → (one && other) ≡ true → other ≡ true
 both_true true other e = e

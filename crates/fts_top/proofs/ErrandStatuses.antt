@@ -1,5 +1,5 @@
 -- Which statuses the errands never have.
-use Rattle.std.proofs.Common.{◌≡◌, ◌≢◌}
+use Rattle.std.proofs.Common.{◌≢◌}
 use Rattle.fts_submitting.specs.Ends.{client_status}
 use Rattle.fts_submitting.specs.declared.ends.ClientEnd.{ClientEnd}
 use Rattle.fts_submitting.specs.declared.ends.ClientEnd.TheVariants as client_ends

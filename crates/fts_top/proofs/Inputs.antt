@@ -1,11 +1,9 @@
 -- The requests of an input and its end are one: whoever finds an end behind requests finds the same requests and the same end.
-use Rattle.std.proofs.Common.{◌≡◌, ◌⊎◌, inl, inr, ℕ, zero, suc, ◌+◌, ◌<◌, ◌≤◌, Bool, true, false, List, [], ◌∷◌, ◌++◌, length, map, Option, Some, None, Ok, Err, refl, ap, sym, ◌∙◌, subst, arith, length-append}
-use Rattle.std.specs.Prelude.{All}
-use Rattle.std.proofs.lemmas.List.Elements.{All-head, All-tail, All-nil, All-cons}
+use Rattle.std.proofs.Common.{◌≡◌, ◌⊎◌, inl, inr, ℕ, suc, ◌+◌, ◌<◌, Bool, true, false, List, [], ◌∷◌, ◌++◌, length, refl, ap, sym, ◌∙◌, subst, arith, length-append}
+use Rattle.std.proofs.lemmas.List.Elements.{All-head, All-tail}
 use Rattle.fts_tables.specs.declared.limits.TheConstants.{MAX_REQUESTS}
 use Rattle.fts_wire.specs.RequestData.{RequestData}
 use Rattle.fts_wire.specs.Requests.{Next, Closed, EndsInside, Refuses, Asks, next_of, AreRequests}
-use Rattle.fts_wire.specs.declared.fault.WireFault.{WireFault}
 use Rattle.fts_top.specs.Complete.{NoneCloses, EndsBetween, LastSaysClose, EndsWell}
 
 -- what ends an input behind its requests: what comes next, which is no request, a request that says close, or their number

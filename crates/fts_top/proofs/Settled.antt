@@ -11,7 +11,7 @@ use Rattle.fts_config.specs.declared.fault.SettingsFault.{SettingsFault}
 use Rattle.fts_config.specs.declared.fault.SettingsFault.TheVariants.{TooLong, Memory}
 use Rattle.fts_top.specs.Runs.{AreRead, IsBroken, HasNoSettings, EndsBy}
 use Rattle.fts_top.specs.declared.ends.RunEnd.{RunEnd}
-use Rattle.fts_top.specs.declared.ends.RunEnd.TheVariants.{NoMemory, NoCommand, SettingsUnread, SettingsRule, DiskFailed, Damaged, JournalFull, Session, Shown, SourcesUnmade, LineUnwritten, DoorsFailed, Served, Errand}
+use Rattle.fts_top.specs.declared.ends.RunEnd.TheVariants.{NoMemory, SettingsUnread, SettingsRule}
 
 -- a text that is too long
 too_long : (text : List ℕ) → MAX_SETTINGS_BYTES < length text → settings_of text ≡ Err TooLong

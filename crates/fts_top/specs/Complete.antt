@@ -1,7 +1,7 @@
 -- When a run comes to its end. What it is given is told and breaks no rule, and no device counts a failure: then a session answers all requests
 -- of its input as the machine does and ends with status 0, and `show` shows its tables. Two things are left to stop a session, want of memory, which
 -- is free, and a record that passes the journal's limit; and want of memory alone to stop `show`.
-use Rattle.std.specs.Prelude.{◌≡◌, ◌≢◌, ◌⊎◌, ℕ, ◌<◌, ◌≤◌, Bool, true, false, List, [], ◌∷◌, ◌++◌, length, All, Option, Some, None, IsSomeAnd, IsOk}
+use Rattle.std.specs.Prelude.{◌≡◌, ◌⊎◌, ℕ, ◌<◌, ◌≤◌, Bool, true, false, List, [], ◌∷◌, ◌++◌, length, All, Option, Some, None, IsSomeAnd, IsOk}
 use Rattle.std.specs.List.{Any}
 use Rattle.fts_tables.specs.Coming.{Coming, Gives}
 use Rattle.fts_tables.specs.Counts.{Rose}

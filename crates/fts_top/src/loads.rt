@@ -18,7 +18,7 @@ use crate::Tally;
 use crate::done::{Done, make_tally, stop};
 use crate::ends::RunEnd;
 use crate::reading::load_settings;
-use crate::top::serve;
+use crate::top::hold_session;
 use fts_disk::Disk;
 use fts_keep::Keep;
 use fts_load::{DroppingSink, LoadInput, make_requests, make_sources};
@@ -175,7 +175,7 @@ fn load_over<K: Sink, D: Disk, E: Store, C: Clock, W: Words>(
         claims: 0,
     };
     let mut responses = DroppingSink::new();
-    let done = serve(
+    let done = hold_session(
         alloc,
         &routes,
         working,

@@ -1,21 +1,17 @@
 //! A run that serves: lanes take connections on a port or at a socket, and workers copy, at the same time and over one keep.
-//! Order: the words are taken, the settings are read, memory is taken for lanes and workers, a keep is started on the disk, which has a Restart with
+//! Order: the settings are read, memory is taken for lanes and workers, a keep is started on the disk, which has a Restart with
 //! the settings accepted, the keep goes behind a lock, the doors are opened, lanes and workers run to their end, and the lock is closed.
 //! Keeps: what each lane and each worker did, over one list (`IsServingRun` of `specs/Serves.antt`).
-ghost use Rattle.std.specs.Prelude.{◌≡◌, ◌≢◌, ◌==◌, false, ◌≤◌, ◌+◌, ◌-◌, [], ℕ, length, map, string_bytes, vec_capacity, List, Option, IfOk, IfSome, All};
+ghost use Rattle.std.specs.Prelude.{◌≡◌, ◌==◌, false, ◌≤◌, ◌+◌, ◌-◌, [], length, vec_capacity, List, IfOk, IfSome, All};
 ghost use Rattle.fts_tables.specs.Counts.{Rose};
 ghost use Rattle.fts_tables.specs.declared.limits.TheConstants.{MAX_LANES, MAX_WORKERS};
 ghost use Rattle.fts_tables.specs.declared.commands.Entry.{Entry};
 ghost use Rattle.fts_laws.specs.Attempts.{attempts_in};
-ghost use Rattle.fts_disk.specs.Disk.{IsTold};
 ghost use Rattle.fts_keep.specs.Keeps.{KeepData, IsKeep};
 ghost use Rattle.fts_turnstile.specs.Passes.{IsOf};
 ghost use Rattle.fts_shop.specs.Shops.{shop_of};
-ghost use Rattle.fts_words.specs.Words.{asked_in, IsToServe};
-ghost use Rattle.fts_top.specs.Asked.{DoesOrServes};
 ghost use Rattle.fts_top.specs.Ends.{status_of, IsServingStatus};
 ghost use Rattle.fts_service.specs.Locked.{IsLocked};
-ghost use Rattle.fts_top.specs.Runs.{AreRead};
 ghost use Rattle.fts_top.specs.Serves.{IsServingRun, ServesShop, Closes, many_threads};
 ghost use Rattle.fts_top.specs.Tallies.{tally_with};
 ghost use Rattle.fts_service.specs.Worlds.{world_of};
@@ -23,21 +19,21 @@ ghost use Rattle.fts_service.specs.Worlds.{world_of};
 use crate::done::{Done, make_tally, stop};
 use crate::ends::RunEnd;
 use crate::reading::load_settings;
+use crate::top::Outside;
 use fts_disk::Disk;
 use fts_keep::Keep;
 use fts_laws::{claims_raise_attempts, count_attempts};
 use fts_routes::Routes;
 use fts_service::{
-    Doors, DoorsFailed, Lane, Locked, Seats, Served, lock_shop, make_benches, make_rooms,
-    open_doors, serve_seated, unlock,
+    Doors, DoorsFailed, Locked, Seats, Served, lock_shop, make_benches, make_rooms, open_doors,
+    serve_shop, unlock,
 };
 use fts_shop::Shop;
 use fts_store::Store;
-use fts_tables::{Clock, Memory, Settings, Words};
+use fts_tables::{Clock, Memory, Words};
 use fts_turnstile::items_that_name;
 use fts_wire::Source;
-use fts_words::{Asked, take_words};
-use fts_workers::{Gate, Hand};
+use fts_workers::Gate;
 use std::alloc::Global;
 use std::sync::Wait;
 use std::thread::Threads;
@@ -115,23 +111,26 @@ fn close_shop<D: Disk>(shop: Shop<D>, attempts: u64, end: RunEnd) -> Done<D>
 // Opens the doors of a shop behind its lock, and has lanes and workers run to their end. Where doors fail, none of them begins.
 // Gives the shop, which was closed then, and how the run ends.
 fn serve_locked<
+    F,
+    S,
+    K,
+    N,
     D: Disk + Send,
-    A: Doors + Send,
     E: Store + Send,
     C: Clock + Send,
     W: Words + Send,
+    A: Doors + Send,
+    L,
     G: Gate + Sync,
     R: Threads + Wait + Sync,
 >(
     rt: &R,
     alloc: Global,
-    routes: &Routes,
     order: Order,
+    routes: &Routes,
     locked: Locked<D>,
     seats: Seats<D, A, E, C, W>,
-    lanes: &mut Vec<Lane<A, C>>,
-    hands: &mut Vec<Hand<E, C, W>>,
-    gate: &G,
+    outside: &mut Outside<F, S, K, N, D, E, C, W, A, L, G>,
 ) -> (Shop<D>, RunEnd)
 where
     A::Line: Send,
@@ -139,85 +138,93 @@ where
     requires locked { (keep : KeepData D) × IsLocked D.Disk (shop_of keep order.lanes) (order.lanes + length seats.benches.items)
         locked.lock locked.first locked.passes.items }
     requires rooms { length seats.rooms.items ≡ order.lanes }
-    requires lanes { (1 ≤ order.lanes) × (order.lanes ≤ length lanes.old.items) }
-    requires hands { length seats.benches.items ≤ length hands.old.items }
+    requires lanes { (1 ≤ order.lanes) × (order.lanes ≤ length outside.old.lanes.items) }
+    requires hands { length seats.benches.items ≤ length outside.old.hands.items }
     requires empty { (seats.booths.items ≡ []) × (seats.stations.items ≡ []) }
     requires room { (length seats.rooms.items ≤ vec_capacity seats.booths) × (length seats.benches.items ≤ vec_capacity seats.stations) }
     requires idle { All (λ bench. bench.held ≡ []) seats.benches.items }
     requires some { IfSome order.connections (λ most. 1 ≤ most) }
     ensures closes { (keep : KeepData D) → IsLocked D.Disk (shop_of keep order.lanes) (order.lanes + length seats.benches.items)
-        locked.lock locked.first locked.passes.items → (added : List Entry) × Closes (world_of D.Disk E.Store A.Doors A.Line.Source A.Line.Sink C.Clock W.Words (G.closes gate.now))
-        order.lanes (length seats.benches.items) order.connections keep lanes.old.items hands.old.items lanes.new.items hands.new.items result.0 result.1 added }
+        locked.lock locked.first locked.passes.items → (added : List Entry) × Closes (world_of D.Disk E.Store A.Doors A.Line.Source A.Line.Sink C.Clock W.Words (G.closes outside.old.gate))
+        order.lanes (length seats.benches.items) order.connections keep outside.old.lanes.items outside.old.hands.items
+        outside.new.lanes.items outside.new.hands.items result.0 result.1 added }
     ensures status { IsServingStatus (status_of result.1) × ((status_of result.1 == 8) ≡ false) }
-    ensures lanes { length lanes.new.items ≡ length lanes.old.items }
-    ensures hands { length hands.new.items ≡ length hands.old.items }
+    ensures lanes { length outside.new.lanes.items ≡ length outside.old.lanes.items }
+    ensures hands { length outside.new.hands.items ≡ length outside.old.hands.items }
+    ensures rest { outside.new ≡ record outside.old { lanes = outside.new.lanes; hands = outside.new.hands } }
 {
     // What a writer added are the items of the turns with its number.
     items_that_name::<Shop<D>>();
-    let Locked {
-        lock,
-        first,
-        passes,
-    } = locked;
-    match open_doors(lanes.as_mut_slice(), order.lanes as usize, order.port) {
+    match open_doors(
+        outside.lanes.as_mut_slice(),
+        order.lanes as usize,
+        order.port,
+    ) {
         Ok(()) => {
-            let Served { shop, end } = serve_seated(
+            let Served { shop, end } = serve_shop(
                 rt,
                 alloc,
                 routes,
-                lock,
-                first,
-                passes,
+                locked,
                 seats,
-                lanes,
-                hands,
+                &mut outside.lanes,
+                &mut outside.hands,
                 order.connections,
-                gate,
+                &outside.gate,
             );
             (shop, RunEnd::of_served(end))
         }
         Err(DoorsFailed) => {
             drop_seats(seats);
+            let Locked {
+                lock,
+                first,
+                passes,
+            } = locked;
             (unlock(lock, first, passes), RunEnd::DoorsFailed)
         }
     }
 }
 
-// Serves a keep that was started, and closes it.
+// Puts a keep that was started behind a lock, serves it, and closes it.
 fn serve_keep<
+    F,
+    S,
+    K,
+    N,
     D: Disk + Send,
-    A: Doors + Send,
     E: Store + Send,
     C: Clock + Send,
     W: Words + Send,
+    A: Doors + Send,
+    L,
     G: Gate + Sync,
     R: Threads + Wait + Sync,
 >(
     rt: &R,
     alloc: Global,
-    routes: &Routes,
     order: Order,
+    routes: &Routes,
     keep: Keep<D>,
     seats: Seats<D, A, E, C, W>,
-    lanes: &mut Vec<Lane<A, C>>,
-    hands: &mut Vec<Hand<E, C, W>>,
-    gate: &G,
+    outside: &mut Outside<F, S, K, N, D, E, C, W, A, L, G>,
 ) -> Done<D>
 where
     A::Line: Send,
     requires rooms { length seats.rooms.items ≡ order.lanes }
-    requires lanes { (1 ≤ order.lanes) × (order.lanes ≤ length lanes.old.items) × (length lanes.old.items ≤ MAX_LANES) }
-    requires hands { (length seats.benches.items ≤ length hands.old.items) × (length hands.old.items ≤ MAX_WORKERS) }
+    requires lanes { (1 ≤ order.lanes) × (order.lanes ≤ length outside.old.lanes.items) × (length outside.old.lanes.items ≤ MAX_LANES) }
+    requires hands { (length seats.benches.items ≤ length outside.old.hands.items) × (length outside.old.hands.items ≤ MAX_WORKERS) }
     requires empty { (seats.booths.items ≡ []) × (seats.stations.items ≡ []) }
     requires room { (length seats.rooms.items ≤ vec_capacity seats.booths) × (length seats.benches.items ≤ vec_capacity seats.stations) }
     requires idle { All (λ bench. bench.held ≡ []) seats.benches.items }
     requires some { IfSome order.connections (λ most. 1 ≤ most) }
-    ensures serves { ServesShop (world_of D.Disk E.Store A.Doors A.Line.Source A.Line.Sink C.Clock W.Words (G.closes gate.now))
-        order.lanes (length seats.benches.items) order.connections keep lanes.old.items hands.old.items lanes.new.items hands.new.items
-        result.disk result.end result.tally }
+    ensures serves { ServesShop (world_of D.Disk E.Store A.Doors A.Line.Source A.Line.Sink C.Clock W.Words (G.closes outside.old.gate))
+        order.lanes (length seats.benches.items) order.connections keep outside.old.lanes.items outside.old.hands.items
+        outside.new.lanes.items outside.new.hands.items result.disk result.end result.tally }
     ensures status { IsServingStatus (status_of result.end) × ((status_of result.end == 8) ≡ false) }
-    ensures lanes { length lanes.new.items ≡ length lanes.old.items }
-    ensures hands { length hands.new.items ≡ length hands.old.items }
+    ensures lanes { length outside.new.lanes.items ≡ length outside.old.lanes.items }
+    ensures hands { length outside.new.hands.items ≡ length outside.old.hands.items }
+    ensures rest { outside.new ≡ record outside.old { lanes = outside.new.lanes; hands = outside.new.hands } }
 {
     // Claims are what the rows have more attempts at the end.
     claims_raise_attempts();
@@ -225,9 +232,7 @@ where
     let passes = order.lanes + seats.benches.len() as u32;
     match lock_shop(alloc, Shop::new(keep, order.lanes), passes) {
         Ok(locked) => {
-            let (shop, end) = serve_locked(
-                rt, alloc, routes, order, locked, seats, lanes, hands, gate,
-            );
+            let (shop, end) = serve_locked(rt, alloc, order, routes, locked, seats, outside);
             close_shop(shop, attempts, end)
         }
         Err(shop) => {
@@ -237,39 +242,46 @@ where
     }
 }
 
-// Takes the memory of lanes, workers and routes, starts a keep with these settings, and serves it.
-fn serve_under<
+/// Serves by an order under the settings of the outside's text: memory is taken for lanes, workers and routes, and a keep is started on the disk.
+pub fn serve<
+    F: Source,
+    S,
+    K,
+    N,
     D: Disk + Send,
-    A: Doors + Send,
     E: Store + Send,
     C: Clock + Send,
     W: Words + Send,
+    A: Doors + Send,
+    L,
     G: Gate + Sync,
     R: Threads + Wait + Sync,
 >(
     rt: &R,
     alloc: Global,
     order: Order,
-    settings: Settings,
     disk: D,
-    clock: &mut C,
-    lanes: &mut Vec<Lane<A, C>>,
-    hands: &mut Vec<Hand<E, C, W>>,
-    gate: &G,
+    outside: &mut Outside<F, S, K, N, D, E, C, W, A, L, G>,
 ) -> Done<D>
 where
     A::Line: Send,
     requires order { (1 ≤ order.lanes) × (order.lanes ≤ MAX_LANES) × IfSome order.connections (λ most. 1 ≤ most) }
-    requires lanes { length lanes.old.items ≡ 8 }
-    requires hands { length hands.old.items ≡ 16 }
-    ensures run { (text : Option (List ℕ)) → AreRead text settings → IsServingRun (world_of D.Disk E.Store A.Doors A.Line.Source A.Line.Sink C.Clock W.Words (G.closes gate.now))
-        order.lanes order.connections result.end result.tally text (many_threads disk lanes.old.items hands.old.items (C.moments clock.old))
-        (many_threads result.disk lanes.new.items hands.new.items (C.moments clock.new)) }
-    ensures settings { (status_of result.end == 8) ≡ false }
+    requires lanes { length outside.old.lanes.items ≡ MAX_LANES }
+    requires hands { length outside.old.hands.items ≡ MAX_WORKERS }
+    ensures run { IsServingRun (world_of D.Disk E.Store A.Doors A.Line.Source A.Line.Sink C.Clock W.Words (G.closes outside.old.gate))
+        order.lanes order.connections result.end result.tally (F.left outside.old.settings)
+        (many_threads disk outside.old.lanes.items outside.old.hands.items (C.moments outside.old.clock))
+        (many_threads result.disk outside.new.lanes.items outside.new.hands.items (C.moments outside.new.clock)) }
+    ensures settings { status_of result.end ≡ 8 → Rose (F.faults outside.old.settings) (F.faults outside.new.settings) }
     ensures status { IsServingStatus (status_of result.end) }
-    ensures lanes { length lanes.new.items ≡ 8 }
-    ensures hands { length hands.new.items ≡ 16 }
+    ensures lanes { length outside.new.lanes.items ≡ MAX_LANES }
+    ensures hands { length outside.new.hands.items ≡ MAX_WORKERS }
+    ensures rest { outside.new ≡ record outside.old { settings = outside.new.settings; clock = outside.new.clock; lanes = outside.new.lanes; hands = outside.new.hands } }
 {
+    let settings = match load_settings(alloc, &mut outside.settings) {
+        Ok(settings) => settings,
+        Err(end) => return stop(end, disk),
+    };
     let Ok(seats) = make_seats(alloc, order.lanes, settings.workers) else {
         return stop(RunEnd::NoMemory, disk);
     };
@@ -277,109 +289,12 @@ where
         drop_seats(seats);
         return stop(RunEnd::NoMemory, disk);
     };
-    let now = clock.now();
+    let now = outside.clock.now();
     match Keep::start(alloc, disk, settings, now) {
-        Ok(keep) => serve_keep(rt, alloc, &routes, order, keep, seats, lanes, hands, gate),
+        Ok(keep) => serve_keep(rt, alloc, order, &routes, keep, seats, outside),
         Err((fault, disk)) => {
             drop_seats(seats);
             stop(RunEnd::of_start(fault), disk)
         }
-    }
-}
-
-// Serves under the settings of a source's text.
-fn serve<
-    F: Source,
-    D: Disk + Send,
-    A: Doors + Send,
-    E: Store + Send,
-    C: Clock + Send,
-    W: Words + Send,
-    G: Gate + Sync,
-    R: Threads + Wait + Sync,
->(
-    rt: &R,
-    alloc: Global,
-    order: Order,
-    settings: &mut F,
-    disk: D,
-    clock: &mut C,
-    lanes: &mut Vec<Lane<A, C>>,
-    hands: &mut Vec<Hand<E, C, W>>,
-    gate: &G,
-) -> Done<D>
-where
-    A::Line: Send,
-    requires order { (1 ≤ order.lanes) × (order.lanes ≤ MAX_LANES) × IfSome order.connections (λ most. 1 ≤ most) }
-    requires lanes { length lanes.old.items ≡ 8 }
-    requires hands { length hands.old.items ≡ 16 }
-    ensures run { IsServingRun (world_of D.Disk E.Store A.Doors A.Line.Source A.Line.Sink C.Clock W.Words (G.closes gate.now))
-        order.lanes order.connections result.end result.tally (F.left settings.old) (many_threads disk lanes.old.items hands.old.items (C.moments clock.old))
-        (many_threads result.disk lanes.new.items hands.new.items (C.moments clock.new)) }
-    ensures settings { status_of result.end ≡ 8 → Rose (F.faults settings.old) (F.faults settings.new) }
-    ensures status { IsServingStatus (status_of result.end) }
-    ensures lanes { length lanes.new.items ≡ 8 }
-    ensures hands { length hands.new.items ≡ 16 }
-{
-    match load_settings(alloc, settings) {
-        Ok(settings) => { serve_under(rt, alloc, order, settings, disk, clock, lanes, hands, gate) }
-        Err(end) => stop(end, disk),
-    }
-}
-
-/// Serves as these words ask for, which are accepted as `serve`.
-pub fn serve_as_asked<
-    F: Source,
-    D: Disk + Send,
-    A: Doors + Send,
-    E: Store + Send,
-    C: Clock + Send,
-    W: Words + Send,
-    G: Gate + Sync,
-    R: Threads + Wait + Sync,
->(
-    rt: &R,
-    alloc: Global,
-    words: &[String],
-    settings: &mut F,
-    disk: D,
-    clock: &mut C,
-    lanes: &mut Vec<Lane<A, C>>,
-    hands: &mut Vec<Hand<E, C, W>>,
-    gate: &G,
-) -> Done<D>
-where
-    A::Line: Send,
-    requires asked { IsToServe (asked_in (map string_bytes words.now)) }
-    requires lanes { length lanes.old.items ≡ 8 }
-    requires hands { length hands.old.items ≡ 16 }
-    ensures run { DoesOrServes (asked_in (map string_bytes words.now)) ⊥ (λ lanes_asked connections.
-        IsServingRun (world_of D.Disk E.Store A.Doors A.Line.Source A.Line.Sink C.Clock W.Words (G.closes gate.now))
-        lanes_asked connections result.end result.tally (F.left settings.old) (many_threads disk lanes.old.items hands.old.items (C.moments clock.old))
-        (many_threads result.disk lanes.new.items hands.new.items (C.moments clock.new))) }
-    ensures settings { status_of result.end ≡ 8 → Rose (F.faults settings.old) (F.faults settings.new) }
-    ensures status { IsServingStatus (status_of result.end) }
-    ensures lanes { length lanes.new.items ≡ 8 }
-    ensures hands { length hands.new.items ≡ 16 }
-{
-    let Ok(asked) = take_words(alloc, words) else {
-        return stop(RunEnd::NoMemory, disk);
-    };
-    match asked {
-        Some(
-            Asked::Serve {
-                port,
-                lanes: count,
-                connections,
-            },
-        ) => {
-            let order = Order {
-                port,
-                lanes: count,
-                connections,
-            };
-            serve(rt, alloc, order, settings, disk, clock, lanes, hands, gate)
-        }
-        _ => unreachable!(),
     }
 }

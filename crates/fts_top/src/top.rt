@@ -26,7 +26,7 @@ use crate::loads::run_load;
 use crate::looks::show;
 use crate::notes::write_note;
 use crate::reading::load_settings;
-use crate::service::serve_as_asked;
+use crate::service::{Order, serve};
 use fts_client::Link;
 use fts_disk::Disk;
 use fts_keep::Keep;
@@ -185,17 +185,26 @@ where
     let Some(disk) = outside.disk.take() else {
         unreachable!();
     };
-    let done = serve_as_asked(
-        rt,
-        alloc,
-        words,
-        &mut outside.settings,
-        disk,
-        &mut outside.clock,
-        &mut outside.lanes,
-        &mut outside.hands,
-        &outside.gate,
-    );
+    let done = match take_words(alloc, words) {
+        Ok(
+            Some(
+                Asked::Serve {
+                    port,
+                    lanes,
+                    connections,
+                },
+            ),
+        ) => {
+            let order = Order {
+                port,
+                lanes,
+                connections,
+            };
+            serve(rt, alloc, order, disk, outside)
+        }
+        Ok(_) => unreachable!(),
+        Err(Memory) => stop(RunEnd::NoMemory, disk),
+    };
     let Done { end, tally, disk } = done;
     match outside.disk.replace(disk) {
         None => {}
@@ -356,7 +365,7 @@ fn do_command<F: Source, S: Source, K: Sink, D: Disk, E: Store, C: Clock, W: Wor
     }
 }
 
-/// Reads the settings, and runs a session under them.
+/// Reads the settings, and starts a session under them.
 fn begin_session<F: Source, S: Source, K: Sink, D: Disk, E: Store, C: Clock, W: Words>(
     alloc: Global,
     settings: &mut F,
@@ -377,13 +386,13 @@ fn begin_session<F: Source, S: Source, K: Sink, D: Disk, E: Store, C: Clock, W: 
     ensures disk { status_of result.end ≡ 4 → Rose (D.faults disk) (D.faults result.disk) }
 {
     match load_settings(alloc, settings) {
-        Ok(settings) => serve_under(alloc, settings, input, output, disk, clock, store, draws),
+        Ok(settings) => start_session(alloc, settings, input, output, disk, clock, store, draws),
         Err(end) => stop(end, disk),
     }
 }
 
-/// Takes the memory of the routes, of a connection and of a bench, starts a keep with these settings, and serves it.
-fn serve_under<S: Source, K: Sink, D: Disk, E: Store, C: Clock, W: Words>(
+/// Takes the memory of the routes, of a connection and of a bench, starts a keep with these settings, and holds a session over it.
+fn start_session<S: Source, K: Sink, D: Disk, E: Store, C: Clock, W: Words>(
     alloc: Global,
     settings: Settings,
     input: &mut S,
@@ -419,7 +428,7 @@ fn serve_under<S: Source, K: Sink, D: Disk, E: Store, C: Clock, W: Words>(
                 bench,
                 claims: 0,
             };
-            serve(
+            hold_session(
                 alloc, &routes, working, &mut room, input, output, clock, store, draws,
             )
         }
@@ -427,8 +436,8 @@ fn serve_under<S: Source, K: Sink, D: Disk, E: Store, C: Clock, W: Words>(
     }
 }
 
-/// Runs a session over a keep, and closes it.
-pub fn serve<S: Source, K: Sink, D: Disk, E: Store, C: Clock, W: Words>(
+/// Holds a session over a keep, and closes it.
+pub fn hold_session<S: Source, K: Sink, D: Disk, E: Store, C: Clock, W: Words>(
     alloc: Global,
     routes: &Routes,
     mut working: Working<D>,

@@ -1,5 +1,5 @@
 -- What was at the seats stands before what was not used.
-use Rattle.std.proofs.Common.{◌≡◌, ◌++◌, map, ◌∙◌, arith}
+use Rattle.std.proofs.Common.{map, arith}
 use Rattle.fts_service.proofs.Sitting.{cycled}
 use Rattle.fts_service.proofs.crew.leave_seats.Goals as goal
 

@@ -1,5 +1,5 @@
 -- A lock that nobody took a turn of.
-use Rattle.std.proofs.Common.{◌≡◌, [], ◌++◌, map, sym, ap, ◌∙◌, subst, append-nil}
+use Rattle.std.proofs.Common.{◌++◌, map, sym, ap, ◌∙◌, subst, append-nil}
 use Rattle.fts_turnstile.specs.History.{items_of, shown_after}
 use Rattle.fts_passes.specs.Crews.{AreOf, AreSeenBy}
 use Rattle.fts_passes.proofs.Gathered.{given_are_of, given_numbers}

@@ -43,11 +43,11 @@ returns-in-Ok-clause-serves g c =
 pub returns-in-Err-clause-serves : goal.returns-in-Err-clause-serves
 returns-in-Err-clause-serves g c =
     let closed = c.in-Err.shop in
-    let closes = closes_unserved (world_of g.D.Disk g.E.Store g.A.Doors g.A.Line.Source g.A.Line.Sink g.C.Clock g.W.Words (g.G.Gate.closes c.args.gate.now)) c.args.order.lanes (length c.args.seats.benches.items) c.args.order.connections c.args.keep c.args.lanes.now.items c.args.lanes.now.items
-    c.args.hands.now.items c.args.hands.now.items closed c.close_shop-in-Err.result.end
+    let closes = closes_unserved (world_of g.D.Disk g.E.Store g.A.Doors g.A.Line.Source g.A.Line.Sink g.C.Clock g.W.Words (g.G.Gate.closes c.args.outside.now.gate)) c.args.order.lanes (length c.args.seats.benches.items) c.args.order.connections c.args.keep c.args.outside.now.lanes.items c.args.outside.now.lanes.items
+    c.args.outside.now.hands.items c.args.outside.now.hands.items closed c.close_shop-in-Err.result.end
     (subst (λ shop. IsUntouched g.D.Disk shop closed) c.new.ensures c.in-Err.ensures.back)
-    (opened_none g.A.Doors c.args.order.lanes c.args.lanes.now.items) refl
-    (subst (WhyNoLane g.A.Doors c.args.lanes.now.items c.args.lanes.now.items) (sym c.close_shop-in-Err.ensures.end) tt) in
+    (opened_none g.A.Doors c.args.order.lanes c.args.outside.now.lanes.items) refl
+    (subst (WhyNoLane g.A.Doors c.args.outside.now.lanes.items c.args.outside.now.lanes.items) (sym c.close_shop-in-Err.ensures.end) tt) in
     let attempts : c.count_attempts-attempts.result ≡ attempts_in c.args.keep.tables.rows =
     c.count_attempts-attempts.ensures.sum ∙ ap attempts_in (c.rows.ensures.rows ∙ ap (λ t. t.rows) c.desk.ensures.tables) in
     let counted = c.close_shop-in-Err.ensures.tally ∙ ap (λ n. tally_with (attempts_in closed.keep.tables.rows - n) closed.keep.tables) attempts in

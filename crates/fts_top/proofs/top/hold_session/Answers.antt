@@ -2,7 +2,7 @@
 use Rattle.std.proofs.Common.{refl, ap, ◌∙◌}
 use Rattle.fts_session.specs.Sessions.{thread}
 use Rattle.fts_top.specs.Tallies.{tally_with}
-use Rattle.fts_top.proofs.top.serve.Goals as goal
+use Rattle.fts_top.proofs.top.hold_session.Goals as goal
 
 pub returns-clause-serves : goal.returns-clause-serves
 returns-clause-serves g c = record {
