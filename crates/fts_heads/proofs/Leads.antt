@@ -1,19 +1,19 @@
 -- Of a queue and destination one file leads, and no other; and one more leads there where none goes ahead of it.
-use Rattle.std.proofs.Common.{◌≡◌, ◌⊎◌, inl, inr, ◌+◌, ◌<◌, ◌≤◌, Bool, true, false, List, refl, ap, sym, ◌∙◌, subst, arith}
+use Rattle.std.proofs.Common.{◌≡◌, ◌+◌, Bool, true, false, List, ap, sym, ◌∙◌, subst, arith}
 use Rattle.std.specs.Prelude.{not, ◌||◌, ◌&&◌}
 use Rattle.std.specs.List.{list_any}
-use Rattle.std.proofs.lemmas.Bool.{and_parts, cases_lt}
+use Rattle.std.proofs.lemmas.Bool.{and_parts}
 use Rattle.std.proofs.lemmas.Bool.Decides.{nat_tests}
-use Rattle.ordered.specs.Orders.{AreSortedBy, has_key, put_by, without, differs, first_from, next_after}
-use Rattle.ordered.proofs.Members.{any_put, has_put, itself, one_of, find_filter}
+use Rattle.ordered.specs.Orders.{AreSortedBy, has_key, put_by, without}
+use Rattle.ordered.proofs.Members.{any_put, has_put, itself, one_of}
 use Rattle.fts_heads.specs.declared.ripe_file.RipeFile.{RipeFile}
 use Rattle.fts_heads.specs.declared.ripe_file.Lined.{Lined}
 use Rattle.fts_heads.specs.Keys.{is_line_before}
 use Rattle.fts_heads.specs.RipeFiles.{goes_by_group, by_group}
-use Rattle.fts_heads.specs.Heads.{is_one, goes_ahead, leads, is_lined, is_within, start_at}
+use Rattle.fts_heads.specs.Heads.{is_one, goes_ahead, leads, is_lined, is_within}
 use Rattle.fts_heads.proofs.Tests.{same_answer}
-use Rattle.fts_heads.proofs.Found.{any_there, find_there}
-use Rattle.fts_heads.proofs.Ranges.{within, to_within, leader, IsAhead, ahead, to_false, both_same, none_there, not_before_start, no_lesser, no_greater_dest, goes_before}
+use Rattle.fts_heads.proofs.Found.{any_there}
+use Rattle.fts_heads.proofs.Ranges.{within, to_within, leader, IsAhead, ahead, to_false, both_same, none_there}
 use Rattle.fts_heads.proofs.Walks.{line_put, line_without}
 use Rattle.fts_heads.proofs.Upkeep.{own_range}
 use Rattle.fts_heads.proofs.Firsts.{HasHead, has_head}
@@ -105,50 +105,3 @@ leads_before head file files leading dest queue behind =
         let first : goes_by_group head other ≡ false =
         to_false (goes_by_group head other) (λ goes. sym (by_group.transitive head other file goes parts.goes) ∙ behind) in
         sym (subst (λ some. goes_by_group some file ≡ true) (by_group.total other head second first) parts.goes) ∙ behind
-
--- what stands next to one that leads is what is found in its group, and from there on, once it has gone
-pub heir : (file : RipeFile) (files : List RipeFile) → leads files file ≡ true
-    → next_after goes_by_group file files ≡ first_from goes_by_group (start_at file.dest file.queue) (without goes_by_group file files)
-heir file files leading =
-    find_there goes_by_group by_group (goes_by_group file) (λ other. differs goes_by_group other file && not (goes_by_group other start)) files
-    (λ other there. same_answer (goes_by_group file other) (differs goes_by_group other file && not (goes_by_group other start)) (behind other) (next other there))
-    ∙ sym (find_filter (λ other. not (goes_by_group other start)) (λ other. differs goes_by_group other file) files)
-  where
-    start : RipeFile
-    start = start_at file.dest file.queue
-
-    starts : goes_by_group file start ≡ false
-    starts = not_before_start file.dest file.queue file.dest file.queue file.rank file.file refl (omega arith)
-
-    behind : (other : RipeFile) → goes_by_group file other ≡ true → (differs goes_by_group other file && not (goes_by_group other start)) ≡ true
-    behind other goes =
-        let past : goes_by_group other start ≡ false =
-        to_false (goes_by_group other start) (λ less. sym (by_group.transitive file other start goes less) ∙ starts) in
-        both (goes_by_group other file) (goes_by_group file other) (goes_by_group other start) goes past
-      where
-        both : (one two less : Bool) → two ≡ true → less ≡ false → ((one || two) && not less) ≡ true
-        both one two less is is_too = grind (arith, nat_tests)
-
-    next : (other : RipeFile) → has_key goes_by_group other files ≡ true → (differs goes_by_group other file && not (goes_by_group other start)) ≡ true
-        → goes_by_group file other ≡ true
-    next other there both =
-        let parts = and_parts (differs goes_by_group other file) (not (goes_by_group other start)) both in
-        let past : goes_by_group other start ≡ false = to_false (goes_by_group other start) (λ less. sym parts.1 ∙ ap not less) in
-        by_case (cases_lt other.dest file.dest) (cases_lt file.queue other.queue) past parts.0
-      where
-        by_case : (other.dest < file.dest) ⊎ (file.dest ≤ other.dest) → (file.queue < other.queue) ⊎ (other.queue ≤ file.queue)
-            → goes_by_group other start ≡ false → differs goes_by_group other file ≡ true → goes_by_group file other ≡ true
-        by_case (inl lesser) side past differ = goes_before file.dest other.dest file.queue other.queue _ (omega (arith, lesser)) (λ same. absurd (never same))
-          where
-            never : file.dest ≡ other.dest → ⊥
-            never same = omega (arith, lesser, same)
-        by_case (inr most) (inl later) past differ =
-            goes_before file.dest other.dest file.queue other.queue _ (no_greater_dest file.dest file.queue other.dest other.queue _ past) (λ same. later)
-        by_case (inr most) (inr not_later) past differ =
-            let same : other.dest ≡ file.dest = omega (arith, most, no_greater_dest file.dest file.queue other.dest other.queue _ past) in
-            let queue : other.queue ≡ file.queue =
-            omega (arith, not_later, no_lesser file.dest file.queue other.dest other.queue other.rank other.file same past) in
-            only (goes_by_group other file) (goes_by_group file other) differ (not_before other file files same queue there (leader files file leading).none)
-          where
-            only : (one two : Bool) → (one || two) ≡ true → one ≡ false → two ≡ true
-            only one two is is_too = grind (arith, nat_tests)

@@ -1,4 +1,6 @@
 pub mod Found
+pub mod Owned
+pub mod Leasts
 pub mod Tests
 pub mod Ranges
 pub mod Walks

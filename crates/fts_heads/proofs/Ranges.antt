@@ -1,6 +1,6 @@
 -- The next file that leads, of a destination and from a queue on.
 use Rattle.std.proofs.Common.{◌≡◌, ℕ, ◌<◌, ◌≤◌, ◌+◌, ◌⊎◌, inl, inr, Bool, true, false, List, [], ◌∷◌, Some, None, refl, ap, sym, ◌∙◌, subst, arith}
-use Rattle.std.specs.Prelude.{not, nat_lt, ◌==◌, ◌||◌, ◌&&◌}
+use Rattle.std.specs.Prelude.{not, nat_lt, ◌==◌, ◌||◌, ◌&&◌, find}
 use Rattle.std.specs.List.{list_any}
 use Rattle.std.proofs.lemmas.Bool.{eqb-true, and_parts, cases_lt}
 use Rattle.std.proofs.lemmas.Bool.Decides.{nat_tests}
@@ -11,6 +11,7 @@ use Rattle.fts_heads.proofs.Tests.{same_answer}
 use Rattle.fts_heads.specs.declared.ripe_file.RipeFile.{RipeFile}
 use Rattle.fts_heads.specs.RipeFiles.{goes_by_group, by_group}
 use Rattle.fts_heads.specs.Heads.{is_one, goes_ahead, leads, is_within, start_at}
+use Rattle.fts_heads.specs.Crowd.{is_from}
 use Rattle.fts_heads.proofs.Found.{any_there, is_found, none_found, has_first, has_rest}
 
 -- a file of the destination and of no lesser queue is not before the start
@@ -206,3 +207,38 @@ module _ (files : List RipeFile) (sorted : AreSortedBy goes_by_group files) (des
       let not_passed =
       none_found goes_by_group by_group (λ other. not (goes_by_group other (start_at dest from))) files is waiter first.there in
       sym (ap not (not_before_start dest from waiter.dest waiter.queue waiter.rank waiter.file range.same range.least)) ∙ not_passed)
+
+  -- the same of what is found of the destination alone
+  pub next_for : (found : RipeFile) → find (is_from (start_at dest from)) files ≡ Some found → (IsNext found) × (found.dest ≡ dest)
+  next_for found is =
+      let first = is_found goes_by_group by_group (is_from (start_at dest from)) files found sorted is in
+      let parts = and_parts (found.dest == dest) (not (goes_by_group found (start_at dest from))) first.passing in (
+        record {
+          there = first.there;
+          passing = not_true (goes_by_group found (start_at dest from)) parts.1;
+          least = λ other there same least. first.least other there
+              (passes other.dest (goes_by_group other (start_at dest from)) same
+              (not_before_start dest from other.dest other.queue other.rank other.file same least));
+        },
+        eqb-true found.dest dest parts.0,
+      )
+    where
+      not_true : (test : Bool) → not test ≡ true → test ≡ false
+      not_true true is = cc
+      not_true false is = refl
+
+      passes : (other : ℕ) (goes : Bool) → other ≡ dest → goes ≡ false → ((other == dest) && not goes) ≡ true
+      passes other goes same is = grind (arith, nat_tests)
+
+  pub none_for : (to : ℕ) → find (is_from (start_at dest from)) files ≡ None → (waiter : RipeFile)
+      → (is_within dest from to waiter && leads files waiter) ≡ false
+  none_for to is waiter = to_false (is_within dest from to waiter && leads files waiter) (λ both.
+      let parts = and_parts (is_within dest from to waiter) (leads files waiter) both in
+      let range = within dest from to waiter.dest waiter.queue parts.0 in
+      let first = leader files waiter parts.1 in
+      sym (passes waiter.dest (goes_by_group waiter (start_at dest from)) range.same
+      (not_before_start dest from waiter.dest waiter.queue waiter.rank waiter.file range.same range.least))
+      ∙ none_found goes_by_group by_group (is_from (start_at dest from)) files is waiter first.there)
+    where
+      passes : (other : ℕ) (goes : Bool) → other ≡ dest → goes ≡ false → ((other == dest) && not goes) ≡ true
+      passes other goes same is = grind (arith, nat_tests)

@@ -17,7 +17,7 @@ ghost use Rattle.std.specs.Prelude.{
   false,
   max,
   length,
-  slice_get,
+  find,
   slice_set,
   slice_index_or,
   ◌&&◌,
@@ -37,10 +37,10 @@ ghost use Rattle.fts_heads.specs.Heads.{HeadsData, is_open, IsFirstOf};
 ghost use Rattle.fts_heads.specs.Blocks.{is_in_block};
 
 use crate::counted::Counted;
+use crate::crowd::Crowd;
 use crate::line::first_in_line;
 use crate::ripe_file::{Lined, RipeFile};
 use crate::walk::{enter, follow, leave, make_way};
-use ordered::Ordered;
 use std::alloc::{AllocError, Global};
 use std::marker::Model;
 
@@ -53,7 +53,7 @@ pub const MOST_DESTS: u32 = u32::MAX;
 /// The ripe files, of which those stand in line that go first with their queue and destination, where the destination is known and free.
 #[derive(Drop)]
 pub struct Heads {
-    files: Ordered<RipeFile>,
+    files: Crowd,
     line: Counted,
     busy: Vec<bool>,
 }
@@ -85,7 +85,7 @@ impl Heads {
         ensures empty { result ≡ record { files = []; busy = []; room = 0; dest_room = 0 } }
     {
         Heads {
-            files: Ordered::new(alloc),
+            files: Crowd::new(alloc),
             line: Counted::new(alloc),
             busy: Vec::new(alloc),
         }
@@ -146,21 +146,29 @@ impl Heads {
         self.files.has(file)
     }
 
-    /// The file that stands first among all.
-    pub fn first(&self) -> Option<RipeFile>
-        ensures file { result ≡ slice_get self.now.files 0 }
+    /// The first of the files with the number that no destination has.
+    pub fn first_without_dest(&self) -> Option<RipeFile>
+        ensures first { result ≡ find (λ file. file.dest == MOST_DESTS) self.now.files }
     {
-        self.files.first()
+        self.files.first_without_dest()
     }
 
-    /// The first file that does not stand before one, which need not be there.
+    /// The file that brought a destination, where it is had at once. None says nothing.
+    pub fn own_at(&self, dest: u32) -> Option<RipeFile>
+        ensures there { IfSome result (λ file. has_key goes_by_group file self.now.files ≡ true) }
+        ensures own { IfSome result (λ file. (file.dest ≡ dest) × (file.file ≡ dest + 1)) }
+    {
+        self.files.own_at(dest)
+    }
+
+    /// The first file that does not stand before one, which need not be there. It takes as long as there are destinations between the two.
     pub fn first_from(&self, file: &RipeFile) -> Option<RipeFile>
         ensures file { result ≡ first_from goes_by_group file.now self.now.files }
     {
         self.files.first_from(file)
     }
 
-    /// The first file that stands behind one, which need not be there.
+    /// The first file that stands behind one, which need not be there. It takes as long as there are destinations between the two.
     pub fn next_after(&self, file: &RipeFile) -> Option<RipeFile>
         ensures file { result ≡ next_after goes_by_group file.now self.now.files }
     {
@@ -251,8 +259,8 @@ impl Heads {
             self.files.remove(&file);
         } else {
             let _ = self.files.len();
-            let next = self.files.take_next(&file);
-            follow(&self.files, &mut self.line, file.dest, file.queue, next);
+            self.files.remove(&file);
+            follow(&self.files, &mut self.line, file.dest, file.queue);
         }
     }
 }

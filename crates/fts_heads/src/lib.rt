@@ -5,6 +5,7 @@
 #![tactic(auto)]
 
 mod counted;
+mod crowd;
 mod dests;
 mod digest;
 mod heads;

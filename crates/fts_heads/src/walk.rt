@@ -1,50 +1,25 @@
 //! Who leads, of a destination and a range of queues, and the line with these or without them.
 ghost use Rattle.std.specs.Prelude.{◌≡◌, ◌<◌, ◌≤◌, ◌+◌, ◌&&◌, ◌||◌, not, true, false, IfSome, IfNone};
-ghost use Rattle.ordered.specs.Orders.{has_key, put_by, first_from};
+ghost use Rattle.ordered.specs.Orders.{has_key, put_by};
 ghost use Rattle.fts_heads.specs.RipeFiles.{goes_by_group};
 ghost use Rattle.fts_heads.specs.declared.ripe_file.RipeFile.{RipeFile};
 ghost use Rattle.fts_heads.specs.declared.heads.TheConstants.{MOST_QUEUES};
-ghost use Rattle.fts_heads.specs.Heads.{is_one, leads, is_lined, is_within, start_at};
+ghost use Rattle.fts_heads.specs.Heads.{is_one, leads, is_lined, is_within};
 
 use crate::counted::Counted;
+use crate::crowd::Crowd;
 use crate::heads::MOST_QUEUES;
 use crate::ripe_file::{Lined, RipeFile};
-use ordered::{Key, Ordered};
+use ordered::Key;
 
-/// Of the first file from the start of a range on, whether it is of the range: then it leads for the destination in the first queue that has files for it.
-fn head_of(
-    files: &Ordered<RipeFile>,
-    found: Option<RipeFile>,
-    dest: u32,
-    from: u32,
-    to: u32,
-) -> Option<RipeFile>
-    requires found { found ≡ first_from goes_by_group (start_at dest from) files.now.keys }
+/// Who leads for a destination in the first queue of a range that has files for it. None where no queue of the range has.
+fn next_head(files: &Crowd, dest: u32, from: u32, to: u32) -> Option<RipeFile>
     ensures past { IfSome result (λ head. (from ≤ head.queue) × (head.queue < to)) }
     ensures alone { IfSome result (λ head. (waiter : RipeFile)
         → (is_within dest from (head.queue + 1) waiter && leads files.now.keys waiter) ≡ is_one head waiter) }
     ensures none { IfNone result ((waiter : RipeFile) → (is_within dest from to waiter && leads files.now.keys waiter) ≡ false) }
 {
     let _ = files.len();
-    match found {
-        Some(found) => {
-            if found.dest == dest && found.queue < to {
-                Some(found)
-            } else {
-                None
-            }
-        }
-        None => None,
-    }
-}
-
-/// Who leads for a destination in the first queue of a range that has files for it. None where no queue of the range has.
-fn next_head(files: &Ordered<RipeFile>, dest: u32, from: u32, to: u32) -> Option<RipeFile>
-    ensures past { IfSome result (λ head. (from ≤ head.queue) × (head.queue < to)) }
-    ensures alone { IfSome result (λ head. (waiter : RipeFile)
-        → (is_within dest from (head.queue + 1) waiter && leads files.now.keys waiter) ≡ is_one head waiter) }
-    ensures none { IfNone result ((waiter : RipeFile) → (is_within dest from to waiter && leads files.now.keys waiter) ≡ false) }
-{
     if from >= to {
         return None;
     }
@@ -54,11 +29,14 @@ fn next_head(files: &Ordered<RipeFile>, dest: u32, from: u32, to: u32) -> Option
         rank: 0,
         file: 0,
     };
-    head_of(files, files.first_from(&start), dest, from, to)
+    match files.first_for(&start) {
+        Some(found) => { if found.queue < to { Some(found) } else { None } }
+        None => None,
+    }
 }
 
 /// Whether a file will lead its queue and destination once it comes in. Then who led there before leaves the line; else nobody leads or leads no more.
-pub fn make_way(files: &Ordered<RipeFile>, line: &mut Counted, file: &RipeFile) -> bool
+pub fn make_way(files: &Crowd, line: &mut Counted, file: &RipeFile) -> bool
     requires queue { file.now.queue < MOST_QUEUES }
     requires stand { (waiter : RipeFile) → (is_within file.now.dest file.now.queue (file.now.queue + 1) waiter && leads files.now.keys waiter) ≡ true
         → is_lined line.old.keys waiter ≡ true }
@@ -84,7 +62,7 @@ pub fn make_way(files: &Ordered<RipeFile>, line: &mut Counted, file: &RipeFile) 
 }
 
 /// Those who lead for a destination in a range of queues leave the line, where they all stand in it.
-pub fn leave(files: &Ordered<RipeFile>, line: &mut Counted, dest: u32, from: u32, to: u32)
+pub fn leave(files: &Crowd, line: &mut Counted, dest: u32, from: u32, to: u32)
     requires range { from ≤ to }
     requires stand { (waiter : RipeFile) → (is_within dest from to waiter && leads files.now.keys waiter) ≡ true
         → is_lined line.old.keys waiter ≡ true }
@@ -100,7 +78,7 @@ pub fn leave(files: &Ordered<RipeFile>, line: &mut Counted, dest: u32, from: u32
 }
 
 /// Those who lead for a destination in a range of queues come into the line, where none of them stands in it.
-pub fn enter(files: &Ordered<RipeFile>, line: &mut Counted, dest: u32, from: u32, to: u32)
+pub fn enter(files: &Crowd, line: &mut Counted, dest: u32, from: u32, to: u32)
     requires range { from ≤ to }
     requires apart { (waiter : RipeFile) → (is_within dest from to waiter && leads files.now.keys waiter) ≡ true
         → is_lined line.old.keys waiter ≡ false }
@@ -119,16 +97,9 @@ pub fn enter(files: &Ordered<RipeFile>, line: &mut Counted, dest: u32, from: u32
     }
 }
 
-/// Who leads in a queue for a destination comes into the line, where nobody of them stands in it. What is found from the start of the queue on is known.
-pub fn follow(
-    files: &Ordered<RipeFile>,
-    line: &mut Counted,
-    dest: u32,
-    queue: u32,
-    found: Option<RipeFile>,
-)
+/// Who leads in a queue for a destination comes into the line, where nobody of them stands in it.
+pub fn follow(files: &Crowd, line: &mut Counted, dest: u32, queue: u32)
     requires last { queue < MOST_QUEUES }
-    requires found { found ≡ first_from goes_by_group (start_at dest queue) files.now.keys }
     requires apart { (waiter : RipeFile) → (is_within dest queue (queue + 1) waiter && leads files.now.keys waiter) ≡ true
         → is_lined line.old.keys waiter ≡ false }
     requires wait { (waiter : RipeFile) → is_lined line.old.keys waiter ≡ true → has_key goes_by_group waiter files.now.keys ≡ true }
@@ -139,7 +110,7 @@ pub fn follow(
 {
     let _ = files.len();
     let _ = line.files().len();
-    if let Some(head) = head_of(files, found, dest, queue, queue + 1) {
+    if let Some(head) = next_head(files, dest, queue, queue + 1) {
         line.insert(Lined { waiter: head });
     }
 }

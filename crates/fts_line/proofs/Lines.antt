@@ -1,5 +1,5 @@
 -- What stands in line and what waits: each file that waits has its key, and each key is that of a file that waits.
-use Rattle.std.proofs.Common.{◌≡◌, ◌⊎◌, inl, inr, ◌<◌, ◌≤◌, ◌-◌, ◌++◌, ◌∷◌, [], ℕ, Bool, true, false, cond, List, length, suc, refl, ap, sym, ◌∙◌, subst, arith}
+use Rattle.std.proofs.Common.{◌≡◌, ◌⊎◌, inl, inr, ◌<◌, ◌≤◌, ◌-◌, ◌/◌, ◌%◌, ◌++◌, ◌∷◌, [], ℕ, Bool, true, false, cond, List, length, suc, refl, ap, sym, ◌∙◌, subst, arith}
 use Rattle.std.specs.Prelude.{not, ◌&&◌, ◌||◌, ◌==◌, map, take, drop, slice_index_or}
 use Rattle.std.specs.List.{list_any, AllByRecursion}
 use Rattle.std.proofs.lemmas.Bool.{and_parts, or_left, or_right, eqb-true, eq-eqb, ne_eqb, le-leb, lt-leb}
@@ -8,13 +8,14 @@ use Rattle.std.proofs.lemmas.List.{length_push}
 use Rattle.ordered.specs.Orders.{has_key, differs}
 use Rattle.ordered.proofs.Members.{itself, one_of}
 use Rattle.fts_queue.specs.declared.waiter.Waiter.{Waiter}
-use Rattle.fts_queue.specs.WaitingData.{is_ripe, is_in, in_order, is_same_place, with_waiter, goes_before, AreApart}
+use Rattle.fts_queue.specs.WaitingData.{is_waiting, is_ripe, is_in, in_order, is_same_place, with_waiter, goes_before, AreApart}
 use Rattle.fts_queue.proofs.Sorting.{any_sorted}
 use Rattle.fts_heads.specs.RipeFiles.{goes_by_group, by_group}
 use Rattle.fts_heads.specs.declared.ripe_file.RipeFile.{RipeFile}
+use Rattle.fts_heads.proofs.Found.{any_there}
 use Rattle.fts_line.specs.declared.key.TheConstants.{LATER}
-use Rattle.fts_line.specs.LineData.{IsKnown, dest_of, is_same_waiter}
-use Rattle.fts_line.specs.Keys.{ripe_of, later_of, key_of, is_later, file_of, waiter_of, waiters_of, IsKeyed, AreKeyed, IsDue, AreDue}
+use Rattle.fts_line.specs.LineData.{IsKnown, dest_of, is_on, is_same_waiter}
+use Rattle.fts_line.specs.Keys.{link_at, waiter_at, whole_of, ripe_of, later_of, key_of, is_later, file_of, waiter_of, waiters_of, IsKeyed, AreKeyed, IsDue, AreDue}
 use Rattle.fts_line.proofs.Files.{IsOneOf, any_of, length_with}
 use Rattle.fts_line.proofs.Between.{all_both, map_same}
 use Rattle.fts_line.proofs.Keyed.{number_is, same_numbers}
@@ -248,3 +249,34 @@ key_number moment dests waiter = by_test (is_ripe moment waiter)
     by_test : (answer : Bool) → (cond answer (ripe_of dests waiter) (later_of waiter)).file ≡ waiter.file
     by_test true = refl
     by_test false = refl
+
+-- the file of a key that is there waits
+any_map : (test : Waiter → Bool) (file : RipeFile → Waiter) (keys : List RipeFile) → list_any test (map file keys) ≡ list_any (λ key. test (file key)) keys
+any_map test file [] = refl
+any_map test file (first ∷ rest) = ap (λ (answer : Bool). test (file first) || answer) (any_map test file rest)
+
+pub key_waits : (rests : List ℕ) (keys : List RipeFile) (key : RipeFile) → has_key goes_by_group key keys ≡ true
+    → is_waiting key.file (waiters_of rests keys) ≡ true
+key_waits rests keys key there =
+    any_sorted goes_before (λ waiter. waiter.file == key.file) (map (waiter_of rests) keys)
+    ∙ (any_map (λ waiter. waiter.file == key.file) (waiter_of rests) keys
+    ∙ any_there goes_by_group by_group (λ other. (waiter_of rests other).file == key.file) key keys there
+    (eq-eqb (waiter_of rests key).file key.file (number_is (slice_index_or rests (key.file - 1) 0) key)))
+
+-- and it does so on the link of its queue, where it stands with its destination
+pub key_on : (rests : List ℕ) (keys : List RipeFile) (key : RipeFile) → has_key goes_by_group key keys ≡ true → is_later key ≡ false
+    → list_any (λ waiter. (waiter.file == key.file) && is_on (link_at key.queue) waiter) (waiters_of rests keys) ≡ true
+key_on rests keys key there ripe =
+    any_sorted goes_before (λ waiter. (waiter.file == key.file) && is_on (link_at key.queue) waiter) (map (waiter_of rests) keys)
+    ∙ (any_map (λ waiter. (waiter.file == key.file) && is_on (link_at key.queue) waiter) (waiter_of rests) keys
+    ∙ any_there goes_by_group by_group (λ other. ((waiter_of rests other).file == key.file) && is_on (link_at key.queue) (waiter_of rests other)) key keys
+    there
+    (both _ _ (eq-eqb (waiter_of rests key).file key.file (number_is (slice_index_or rests (key.file - 1) 0) key))
+    (ap (λ (answer : Bool). is_on (link_at key.queue) (cond answer (later (slice_index_or rests (key.file - 1) 0)) (here (slice_index_or rests (key.file - 1) 0)))) ripe
+    ∙ both _ _ (eq-eqb (link_at key.queue).source (link_at key.queue).source refl) (eq-eqb (link_at key.queue).dest (link_at key.queue).dest refl))))
+  where
+    later : ℕ → Waiter
+    later rest = waiter_at key.file (rest / 4294967296) (rest % 4294967296) (whole_of key.queue key.rank)
+
+    here : ℕ → Waiter
+    here rest = waiter_at key.file key.queue key.rank rest

@@ -1,6 +1,6 @@
 -- Keys of files that wait for their moment stand before all others, by their moments; and how many keys a test counts, where one goes.
-use Rattle.std.proofs.Common.{◌≡◌, ◌⊎◌, inl, inr, ℕ, ◌<◌, ◌≤◌, Bool, true, false, cond, List, [], ◌∷◌, Some, None, refl, ap, sym, ◌∙◌, subst, arith}
-use Rattle.std.specs.Prelude.{◌&&◌, ◌||◌, filter, count_by, slice_get}
+use Rattle.std.proofs.Common.{◌≡◌, ◌⊎◌, inl, inr, ℕ, ◌<◌, ◌≤◌, Bool, true, false, cond, List, [], ◌∷◌, Some, refl, ap, sym, ◌∙◌, subst, arith}
+use Rattle.std.specs.Prelude.{◌&&◌, ◌||◌, filter, find, count_by}
 use Rattle.std.specs.List.{AllByRecursion}
 use Rattle.std.proofs.lemmas.Bool.{cases_lt, eqb-true, eq-eqb, ne_eqb, le-leb, lt-leb}
 use Rattle.std.proofs.lemmas.Bool.Decides.{nat_tests}
@@ -11,7 +11,7 @@ use Rattle.ordered.proofs.Members.{count_put}
 use Rattle.fts_queue.specs.declared.waiter.Waiter.{Waiter}
 use Rattle.fts_heads.specs.declared.ripe_file.RipeFile.{RipeFile}
 use Rattle.fts_heads.specs.RipeFiles.{goes_by_group, by_group}
-use Rattle.fts_heads.proofs.Found.{no, is_one_of, has_first, has_rest, of_there}
+use Rattle.fts_heads.proofs.Found.{no, IsFound, is_found, is_one_of, has_first, has_rest, of_there}
 use Rattle.fts_line.specs.declared.key.TheConstants.{LATER}
 use Rattle.fts_line.specs.LineData.{dest_of}
 use Rattle.fts_line.specs.Keys.{whole_of, ripe_of, later_of, key_of, is_later, waiter_of, IsKeyed, AreKeyed, IsDue, AreDue}
@@ -49,46 +49,21 @@ to_there P (first ∷ rest) each = (
   to_there P rest (λ key there. each key (has_rest goes_by_group by_group key first rest there)),
 )
 
--- the first is there, and stands before all others
-pub first_there : (keys : List RipeFile) (key : RipeFile) → slice_get keys 0 ≡ Some key → has_key goes_by_group key keys ≡ true
-first_there [] key is = cc
-first_there (first ∷ rest) key is =
-    let same : first ≡ key = cc in
-    subst (λ some. has_key goes_by_group some (first ∷ rest) ≡ true) same (has_first goes_by_group by_group first rest)
-
-behind_first : (keys : List RipeFile) (first key : RipeFile) → AreSortedBy goes_by_group keys → slice_get keys 0 ≡ Some first
-    → has_key goes_by_group key keys ≡ true → (first ≡ key) ⊎ (goes_by_group first key ≡ true)
-behind_first [] first key sorted is there = no (sym there)
-behind_first (head ∷ rest) first key sorted is there = by_side (is_one_of goes_by_group by_group key head rest there)
-  where
-    same : head ≡ first
-    same = cc
-
-    by_side : (head ≡ key) ⊎ (has_key goes_by_group key rest ≡ true) → (first ≡ key) ⊎ (goes_by_group first key ≡ true)
-    by_side (inl one) = inl (sym same ∙ one)
-    by_side (inr later) =
-        inr (subst (λ some. goes_by_group some key ≡ true) same
-        (of_there goes_by_group by_group (λ other. goes_by_group head other ≡ true) rest key sorted.0 later))
-
--- where the first one's moment is to come, each one's is
-pub none_due : (keys : List RipeFile) (first : RipeFile) (now : ℕ) → AreSortedBy goes_by_group keys → slice_get keys 0 ≡ Some first
-    → first.rank < 4294967296 → first.dest ≤ LATER → (is_later first ≡ true → now < whole_of first.queue first.rank)
+-- where the moment of the first that waits for it is to come, each one's is
+pub none_due : (keys : List RipeFile) (first : RipeFile) (now : ℕ) → AreSortedBy goes_by_group keys → find is_later keys ≡ Some first
+    → first.rank < 4294967296 → now < whole_of first.queue first.rank
     → (key : RipeFile) → has_key goes_by_group key keys ≡ true → is_later key ≡ true → now < whole_of key.queue key.rank
-none_due keys first now sorted is small most past key there later = by_side (behind_first keys first key sorted is there)
+none_due keys first now sorted is small past key there later = by_test (goes_by_group first key) refl
   where
-    by_side : (first ≡ key) ⊎ (goes_by_group first key ≡ true) → now < whole_of key.queue key.rank
-    by_side (inl same) = subst (λ some. is_later some ≡ true → now < whole_of some.queue some.rank) same past later
-    by_side (inr goes) =
-        let dest : key.dest ≡ LATER = eqb-true key.dest LATER later in
-        let least : key.dest ≤ first.dest = no_lesser_dest first.dest key.dest first.queue key.queue _ goes in
-        let own : first.dest ≡ LATER = omega (arith, dest, least, most) in
-        let less = past (eq-eqb first.dest LATER own) in
-        let at_most = no_later first key (own ∙ sym dest) small goes in
-        omega (arith, less, at_most)
+    found : IsFound goes_by_group is_later keys first
+    found = is_found goes_by_group by_group is_later keys first sorted is
 
-pub none_first : (keys : List RipeFile) → slice_get keys 0 ≡ None → (key : RipeFile) → has_key goes_by_group key keys ≡ true → ⊥
-none_first [] is key there = no (sym there)
-none_first (first ∷ rest) is key there = cc
+    by_test : (answer : Bool) → goes_by_group first key ≡ answer → now < whole_of key.queue key.rank
+    by_test true goes =
+        let same : first.dest ≡ key.dest = eqb-true first.dest LATER found.passing ∙ sym (eqb-true key.dest LATER later) in
+        omega (arith, past, no_later first key same small goes)
+    by_test false level =
+        subst (λ some. now < whole_of some.queue some.rank) (by_group.total first key level (found.least key there later)) past
 
 -- the moment of a file that waits for it
 first_moment : (test : Bool) (one other : Waiter) → test ≡ true → (cond test one other).not_before ≡ one.not_before

@@ -114,16 +114,23 @@ pub fn rest_of(waiter: &Waiter, moment: u64) -> u64
     }
 }
 
+/// The link of a queue.
+pub fn link_at(queue: u32) -> LinkAt
+    ensures link { result ≡ link_at queue }
+{
+    LinkAt {
+        source: (queue / 65_536) as u16,
+        dest: (queue / 256 % 256) as u16,
+    }
+}
+
 /// The file of a number, a queue, a rank and a moment.
 fn waiter_at(file: u32, queue: u32, rank: u32, moment: u64) -> Waiter
     ensures waiter { result ≡ waiter_at file queue rank moment }
 {
     Waiter {
         file,
-        link: LinkAt {
-            source: (queue / 65_536) as u16,
-            dest: (queue / 256 % 256) as u16,
-        },
+        link: link_at(queue),
         activity: (queue % 256) as u16,
         priority: u32::MAX - rank,
         not_before: moment,

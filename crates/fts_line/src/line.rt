@@ -20,15 +20,18 @@ ghost use Rattle.std.specs.Prelude.{
   Some,
   IsTrue,
   IsFalse,
+  IfSome,
+  ◌&&◌,
+  ◌==◌,
   OnOk,
   OnErr,
   nat_le,
 };
 ghost use Rattle.std.specs.List.{list_any, prefix_len};
 ghost use Rattle.fts_queue.specs.WaitingData.{with_waiter, without_file, with_room, waiting_in, room_of, is_waiting, AreWaiting, AreQueuesInOrder};
-ghost use Rattle.fts_line.specs.LineData.{IsInside, IsKnown, dest_of, is_same_waiter, may_start_on, first_open};
+ghost use Rattle.fts_line.specs.LineData.{IsInside, IsKnown, dest_of, is_on, is_same_waiter, may_start_on, first_open};
 
-use crate::key::{block_of, dest_of, key_of, queue_of};
+use crate::key::{block_of, dest_of, key_of, link_at, queue_of};
 use crate::moves::{come_in, go_out, ripen, unripen};
 use fts_heads::{Heads, MOST_DESTS};
 use fts_queue::{QueueRoom, Waiter, filters_keep_the_order, raise, rooms_are_raised};
@@ -170,6 +173,43 @@ impl Line {
         let dests = self.dests.as_slice();
         let key = key_of(dests, waiter, self.moment);
         go_out(&mut self.heads, self.rests.as_slice(), dests, key);
+    }
+
+    /// The link of a file where it waits, its moment has come, and it is had at once: it brought its destination. None says nothing.
+    pub fn own_link(&self, file: u32) -> Option<LinkAt>
+        ensures waits { IfSome result (λ link. list_any (λ waiter. (waiter.file == file) && is_on link waiter) self.now.waiting.waiters ≡ true) }
+    {
+        match self.heads.own_at(dest_of(self.dests.as_slice(), file)) {
+            Some(key) => {
+                if key.file == file {
+                    Some(link_at(key.queue))
+                } else {
+                    None
+                }
+            }
+            None => None,
+        }
+    }
+
+    /// Takes a file out where it waits, its moment has come, and it is had at once: it brought its destination. `false` says nothing else.
+    pub fn take_own(&mut self, file: u32) -> bool
+        ensures waits { result ≡ true → is_waiting file self.old.waiting.waiters ≡ true }
+        ensures taken { result ≡ true → self.new
+            ≡ record self.old { waiting = record self.old.waiting { waiters = without_file file self.old.waiting.waiters } } }
+        ensures left { result ≡ false → self.new ≡ self.old }
+    {
+        filters_keep_the_order();
+        let dests = self.dests.as_slice();
+        match self.heads.own_at(dest_of(dests, file)) {
+            Some(key) => {
+                if key.file != file {
+                    return false;
+                }
+                go_out(&mut self.heads, self.rests.as_slice(), dests, key);
+                true
+            }
+            None => false,
+        }
     }
 
     /// Ripens the files whose moment has come. For a lesser moment than before, what was ripe may not be so afterwards: that takes as long as there are files.

@@ -73,9 +73,9 @@ fn first_due(heads: &Heads, now: u64) -> Option<RipeFile>
         → now < whole_of key.queue key.rank) }
 {
     let _ = heads.len();
-    match heads.first() {
+    match heads.first_without_dest() {
         Some(key) => {
-            if is_later(&key) && moment_of(&key) <= now {
+            if moment_of(&key) <= now {
                 Some(key)
             } else {
                 None

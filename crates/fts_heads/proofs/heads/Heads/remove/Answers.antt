@@ -1,17 +1,17 @@
 use Rattle.std.proofs.Common.{◌≡◌, Bool, ◌<◌, ◌+◌, true, false, List, refl, ap, sym, ◌∙◌, subst, arith}
 use Rattle.std.specs.Prelude.{not, ◌&&◌}
 use Rattle.std.proofs.lemmas.Bool.{and_parts}
-use Rattle.ordered.specs.Orders.{KeySet, without, has_key, first_from}
+use Rattle.ordered.specs.Orders.{KeySet, without, has_key}
 use Rattle.fts_heads.specs.declared.heads.TheConstants.{MOST_QUEUES, MOST_DESTS}
 use Rattle.fts_heads.specs.declared.ripe_file.RipeFile.{RipeFile}
 use Rattle.fts_heads.specs.declared.ripe_file.Lined.{Lined}
 use Rattle.fts_heads.specs.RipeFiles.{goes_by_group}
-use Rattle.fts_heads.specs.Heads.{HeadsData, AreKept, is_open, is_lined, is_within, leads, start_at}
+use Rattle.fts_heads.specs.Heads.{HeadsData, AreKept, is_open, is_lined, is_within, leads}
 use Rattle.fts_heads.proofs.Upkeep.{leads_without, kept_same, kept_apart, heads_again, left_apart, left_waits, below_without}
 use Rattle.fts_heads.proofs.Firsts.{leads_less}
-use Rattle.fts_heads.proofs.Leads.{sole_left, heir}
+use Rattle.fts_heads.proofs.Leads.{sole_left}
 use Rattle.fts_heads.proofs.heads.Heads.remove.Goals as goal
-use Rattle.fts_heads.proofs.heads.Heads.remove.Goals.{After-take_next-next}
+use Rattle.fts_heads.proofs.heads.Heads.remove.Goals.{After-remove-else-not-take}
 
 pub invariant_of-self : goal.invariant_of-self
 invariant_of-self c =
@@ -23,16 +23,16 @@ invariant_of-self c =
     (leads_without c.args.file files.keys) (below_without c.args.file files.keys MOST_QUEUES MOST_DESTS c.self.invariant.below))
 
 -- a file less that led, and the line that it has left
-module _ (c : After-take_next-next) where
+module _ (c : After-remove-else-not-take) where
   opens : is_open c.self.inside.busy.items c.args.file.dest ≡ true
   opens =
       ap (λ (busy : List Bool). is_open busy c.args.file.dest) (sym c.as_slice.ensures.value)
       ∙ (sym c.is_open.ensures.open ∙ c.if-not-is_open.false)
 
   changed : (waiter : RipeFile) → is_within c.args.file.dest c.args.file.queue (c.args.file.queue + 1) waiter ≡ false
-      → leads c.take_next-next.new.self.keys waiter ≡ leads c.self.inside.files.keys waiter
+      → leads c.remove-else-not-take.new.self.keys waiter ≡ leads c.self.inside.files.keys waiter
   changed waiter apart =
-      ap (λ (set : KeySet RipeFile). leads set.keys waiter) c.take_next-next.ensures.keys
+      ap (λ (set : KeySet RipeFile). leads set.keys waiter) c.remove-else-not-take.ensures.keys
       ∙ leads_without c.args.file c.self.inside.files.keys waiter apart
 
   leading : leads c.self.inside.files.keys c.args.file ≡ true
@@ -47,42 +47,35 @@ module _ (c : After-take_next-next) where
       ap (λ (set : KeySet Lined). is_lined set.keys waiter) (c.if-not-take.ensures.taken refl)
       ∙ sole_left c.args.file c.self.inside.files.keys c.self.inside.line.keys leading waiter
 
-pub follow-requires-clause-found : goal.follow-requires-clause-found
-follow-requires-clause-found c =
-    let here = (goal.at.follow-requires-clause-found c).After-take_next-next in
-    c.take_next-next.ensures.next
-    ∙ (heir c.args.file c.self.inside.files.keys (leading here)
-    ∙ ap (λ (set : KeySet RipeFile). first_from goes_by_group (start_at c.args.file.dest c.args.file.queue) set.keys) (sym c.take_next-next.ensures.keys))
-
 pub follow-requires-clause-apart : goal.follow-requires-clause-apart
 follow-requires-clause-apart c =
-    let here = (goal.at.follow-requires-clause-apart c).After-take_next-next in
+    let here = (goal.at.follow-requires-clause-apart c).After-remove-else-not-take in
     left_apart c.self.inside.busy.items c.self.inside.files.keys c.self.inside.line.keys c.self.invariant.heads c.args.file.dest c.args.file.queue
-    c.take_next-next.new.self.keys (changed here) c.take.new.self.keys (opens here) (left here)
+    c.remove-else-not-take.new.self.keys (changed here) c.take.new.self.keys (opens here) (left here)
 
 pub follow-requires-clause-wait : goal.follow-requires-clause-wait
 follow-requires-clause-wait c =
-    let here = (goal.at.follow-requires-clause-wait c).After-take_next-next in
+    let here = (goal.at.follow-requires-clause-wait c).After-remove-else-not-take in
     left_waits c.self.inside.busy.items c.self.inside.files.keys c.self.inside.line.keys c.self.invariant.heads c.args.file.dest c.args.file.queue
-    c.take_next-next.new.self.keys (changed here) c.take.new.self.keys (opens here) (left here)
+    c.remove-else-not-take.new.self.keys (changed here) c.take.new.self.keys (opens here) (left here)
 
 pub invariant_of-self-else-not-take : goal.invariant_of-self-else-not-take
 invariant_of-self-else-not-take c =
-    let here = (goal.at.invariant_of-self-else-not-take c).After-take_next-next in
+    let here = (goal.at.invariant_of-self-else-not-take c).After-remove-else-not-take in
     let files = c.self.inside.files.keys in
     record {
       heads = heads_again c.self.inside.busy.items files c.self.inside.line.keys c.self.invariant.heads c.args.file.dest c.args.file.queue
-          c.take_next-next.new.self.keys (changed here) c.take.new.self.keys (opens here) (left here) c.follow.new.line.keys c.follow.ensures.lined;
+          c.remove-else-not-take.new.self.keys (changed here) c.take.new.self.keys (opens here) (left here) c.follow.new.line.keys c.follow.ensures.lined;
       few = c.self.invariant.few;
       below = subst
           (λ (set : KeySet RipeFile). (waiter : RipeFile) → has_key goes_by_group waiter set.keys ≡ true → waiter.dest < MOST_DESTS → waiter.queue < MOST_QUEUES)
-          (sym c.take_next-next.ensures.keys) (below_without c.args.file files MOST_QUEUES MOST_DESTS c.self.invariant.below);
+          (sym c.remove-else-not-take.ensures.keys) (below_without c.args.file files MOST_QUEUES MOST_DESTS c.self.invariant.below);
       room = omega (
         arith,
         c.self.invariant.room,
         c.follow.ensures.room,
         ap (λ (set : KeySet Lined). set.room) (c.if-not-take.ensures.taken refl),
-        ap (λ (set : KeySet RipeFile). set.room) c.take_next-next.ensures.keys,
+        ap (λ (set : KeySet RipeFile). set.room) c.remove-else-not-take.ensures.keys,
       );
     }
 
