@@ -29,6 +29,7 @@ mod RowsBeside
 mod CancelledParts
 mod CanceledCounts
 mod Counted
+mod KeptEnds
 mod Expiring
 mod GoneTogether
 mod SubmittedParts

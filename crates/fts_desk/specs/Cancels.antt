@@ -1,12 +1,12 @@
 -- What a cancellation of a file leaves of the rows: in a plain job of its row alone, else of all rows of the job.
-use Rattle.std.specs.Prelude.{ℕ, ◌==◌, ◌≤◌, if◌then◌else◌, Bool, List, map, length, count_by, Option, Some, None}
+use Rattle.std.specs.Prelude.{ℕ, ◌==◌, ◌≤◌, if◌then◌else◌, Bool, List, map, length, count_by, Option, Some}
 use Rattle.fts_tables.specs.Tables.{AreNumberedFrom, is_canceled}
 use Rattle.fts_tables.specs.Moves.{cancelled_for, change_row}
 use Rattle.fts_tables.specs.Waits.{is_of_a_whole}
 use Rattle.fts_tables.specs.declared.rows.FileRow.{FileRow}
 use Rattle.fts_tables.specs.declared.rows.JobRow.{JobRow}
 use Rattle.fts_tables.specs.declared.rows.JobKind.{JobKind}
-use Rattle.fts_tables.specs.declared.rows.JobKind.TheVariants.{Plain, Replica, Multihop}
+use Rattle.fts_tables.specs.declared.rows.JobKind.TheVariants.{Plain}
 use Rattle.fts_tables.specs.declared.rows.Reason.{Reason}
 
 -- a row, cancelled for a reason where it is of a job

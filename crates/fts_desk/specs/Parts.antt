@@ -7,13 +7,14 @@ use Rattle.fts_tables.specs.declared.rows.FileRow.{FileRow}
 use Rattle.fts_tables.specs.declared.rows.JobRow.{JobRow}
 use Rattle.fts_tables.specs.declared.rows.NewFile.{NewFile}
 use Rattle.fts_tables.specs.declared.rows.JobKind.{JobKind}
+use Rattle.fts_tables.specs.declared.settings.LinkAt.{LinkAt}
 use Rattle.fts_tables.specs.declared.rows.JobKind.TheVariants.{Plain}
 use Rattle.fts_states.specs.declared.reports.Follow.{Follow}
 use Rattle.fts_states.specs.declared.reports.Follow.TheVariants.{Nothing, NextHop, NextAlternative}
 use Rattle.fts_heads.specs.Dests.{dests_of}
 use Rattle.fts_claims.specs.InLine.{AreInLine, HasRoomInLine}
 use Rattle.fts_claims.specs.Ties.{flags_of}
-use Rattle.fts_claims.specs.Changes.{AreTiedTo, HasQueueRoom, IsSameRoom, HaveAtMostMore, HasRoomForFiles, HasRoomForRows, HasRoomsRisen, MayWait, MayRun}
+use Rattle.fts_claims.specs.Changes.{AreTiedTo, IsBetween, HasQueueRoom, IsSameRoom, HaveAtMostMore, HasRoomForFiles, HasRoomForRows, HasRoomsRisen, MayWait, MayRun}
 use Rattle.fts_claims.specs.declared.parts.ClaimParts.{ClaimParts}
 use Rattle.fts_desk.specs.Counted.{AreCountsOf}
 use Rattle.fts_desk.specs.declared.kept.Beside.{Beside}
@@ -30,6 +31,10 @@ flags_in (Some settings) banned = flags_of settings banned
 -- what a claim looks at is tied to these jobs and rows
 abbrev pub AreTiedParts : List JobRow → List FileRow → Option ClaimParts → Type 0
 AreTiedParts jobs rows parts = IfSome parts (λ parts. AreTiedTo jobs rows parts)
+
+-- the ends of a row are the settings' endpoints at the places of a link
+abbrev pub IsBetweenIn : Option SettingsData → LinkAt → FileRow → Type 0
+IsBetweenIn settings link row = IfSome settings (λ settings. IsBetween settings link row)
 
 -- what is in line is so by the destinations of these rows
 abbrev pub AreInLineParts : List FileRow → Option ClaimParts → Type 0

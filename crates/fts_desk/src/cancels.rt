@@ -18,10 +18,10 @@ ghost use Rattle.fts_desk.specs.Kept.{tables_kept};
 ghost use Rattle.fts_desk.specs.Standing.{StandTogether, AreFormed};
 ghost use Rattle.fts_desk.specs.Prepared.{IsChecked};
 
-use crate::counts::{counted, recount};
+use crate::counts::{counted, recount_left};
 use crate::kept::{Beside, Kept};
 use crate::lookups::{find_job, find_row, job_place, rows_of_job, rows_stand_together};
-use crate::parts::{leave, wait};
+use crate::parts::{leave, link_in_line, wait};
 use fts_claims::{ClaimParts, same_parts_stay_tied};
 use fts_states::{CancelStep, after_cancel};
 use fts_tables::laws::found_rows_stand;
@@ -240,8 +240,17 @@ fn cancel_at(
 {
     let place = file as usize - 1;
     let was = counted(jobs, rows, place);
+    let link = link_in_line(&beside.parts, jobs, rows, place);
     let canceled = cancel_place(rows, place, reason, &mut beside.parts, jobs);
-    recount(&mut beside.counts, jobs, rows, place, was);
+    recount_left(
+        &mut beside.counts,
+        &beside.parts,
+        jobs,
+        rows,
+        place,
+        was,
+        link,
+    );
     u32::from(canceled)
 }
 
@@ -291,8 +300,17 @@ fn cancel_if_of(
     ensures limits { limits_of beside.new.parts ≡ limits_of beside.old.parts }
 {
     let was = counted(jobs, rows, place);
+    let link = link_in_line(&beside.parts, jobs, rows, place);
     let canceled = cancel_place_of(rows, place, job, reason, &mut beside.parts, jobs);
-    recount(&mut beside.counts, jobs, rows, place, was);
+    recount_left(
+        &mut beside.counts,
+        &beside.parts,
+        jobs,
+        rows,
+        place,
+        was,
+        link,
+    );
     canceled
 }
 

@@ -1,25 +1,29 @@
 //! What stands beside the rows as counts of them: how many rows wait or run on each link, from when each waiting file is overdue, and how each job stands.
-//! Keeps: they are those of the rows (`AreCountsOf`). A row whose state changes counts anew right behind the change (`recount`), by what it counted for
-//! before it (`counted`); the new rows of a submission come in once they all stand (`count_new`).
-ghost use Rattle.std.specs.Prelude.{◌≡◌, ◌+◌, ◌&&◌, ◌||◌, ◌<◌, ◌≤◌, Some, slice_get, Bool, if◌then◌else◌, length, map, count_by};
+//! Keeps: they are those of the rows (`AreCountsOf`). A row whose state changes counts anew right behind the change (`recount`, `recount_left`), by what it
+//! counted for before it (`counted`); the new rows of a submission come in once they all stand (`count_new`).
+ghost use Rattle.std.specs.Prelude.{◌≡◌, ◌+◌, ◌&&◌, ◌||◌, ◌<◌, ◌≤◌, Some, slice_get, Bool, if◌then◌else◌, length, map, count_by, IfSome};
+ghost use Rattle.fts_tables.specs.SettingsData.{SettingsData};
+ghost use Rattle.fts_slots.specs.SlotsData.{name_at};
 ghost use Rattle.fts_tables.specs.Tables.{AreNumberedFrom, is_active, is_live, is_settled, rows_of_job};
 ghost use Rattle.fts_tables.specs.Moves.{state_of_job};
 ghost use Rattle.fts_tables.specs.declared.limits.TheConstants.{MAX_ROWS};
 ghost use Rattle.fts_tables.specs.declared.rows.FileRow.{FileRow};
-ghost use Rattle.fts_index.specs.Links.{Link};
+ghost use Rattle.fts_index.specs.Links.{Link, link_between};
 ghost use Rattle.fts_index.specs.LiveLinks.{link_of_row, live_links};
 ghost use Rattle.fts_index.specs.RowDues.{due_from};
 ghost use Rattle.fts_desk.specs.Standing.{StandTogether};
-ghost use Rattle.fts_desk.specs.Loaded.{added_by, MayRecount, MayCount};
+ghost use Rattle.fts_desk.specs.Loaded.{MayRecount, MayCount};
+ghost use Rattle.fts_desk.specs.Parts.{limits_of, IsBetweenIn};
 ghost use Rattle.fts_desk.specs.Counted.{AreCountsOf, AreCountsBefore, IsCountedAt, AreStatesOf, AreStatesBefore, is_live_of, progress_of, count_live};
 
 use crate::job_states::{JobStates, Progress};
 use crate::kept::Counts;
 use crate::lookups::{find_job, job_place, rows_of_job, rows_stand_together};
+use fts_claims::ClaimParts;
 use fts_index::Loads;
 use fts_index::laws::{counts_go_by_one, dues_of_a_changed_row};
 use fts_states::{job_state, overdue_from};
-use fts_tables::{FileRow, JobKind, JobRow, JobState};
+use fts_tables::{EndpointName, FileRow, JobKind, JobRow, JobState, LinkAt};
 
 /// What a row counts for: whether it waits or runs, and the moment from which it is overdue, where it waits and its job limits its time.
 #[derive(Clone, Copy)]
@@ -62,9 +66,95 @@ pub fn recount(counts: &mut Counts, jobs: &[JobRow], rows: &[FileRow], place: us
     requires before { AreCountsBefore jobs.now rows.now place was counts.old }
     ensures counts { AreCountsOf jobs.now rows.now counts.new }
 {
+    let row = &rows[place];
+    recount_between(
+        counts,
+        jobs,
+        rows,
+        place,
+        was,
+        &row.source.endpoint,
+        &row.dest.endpoint,
+    );
+}
+
+/// The same of a row whose file has left the line, where that was found there on a link: by the settings' names of its ends. These are in memory at hand,
+/// and the row's are not.
+pub fn recount_left(
+    counts: &mut Counts,
+    parts: &Option<ClaimParts>,
+    jobs: &[JobRow],
+    rows: &[FileRow],
+    place: usize,
+    was: Tally,
+    link: Option<LinkAt>,
+)
+    requires jobs_numbered { AreNumberedFrom (λ job. job.number) 1 jobs.now }
+    requires rows_numbered { AreNumberedFrom (λ row. row.id) 1 rows.now }
+    requires before { AreCountsBefore jobs.now rows.now place was counts.old }
+    requires ends { IfSome link (λ link. (row : FileRow) → slice_get rows.now place ≡ Some row → IsBetweenIn (limits_of parts.now) link row) }
+    ensures counts { AreCountsOf jobs.now rows.now counts.new }
+{
+    let row = &rows[place];
+    match link {
+        Some(link) => {
+            let source = name_at_hand(parts, link.source, &row.source.endpoint);
+            let dest = name_at_hand(parts, link.dest, &row.dest.endpoint);
+            recount_between(counts, jobs, rows, place, was, source, dest);
+        }
+        None => recount(counts, jobs, rows, place, was),
+    }
+}
+
+/// A name, as it stands in the settings at a place, where it stands there.
+fn name_at_hand<'a>(
+    parts: &'a Option<ClaimParts>,
+    place: u16,
+    name: &'a EndpointName,
+) -> &'a EndpointName
+    requires same { (settings : SettingsData) → limits_of parts.now ≡ Some settings → name_at settings place ≡ name.now }
+    ensures name { result.now ≡ name.now }
+{
+    match parts {
+        Some(parts) => match parts
+            .slots
+            .settings()
+            .endpoints
+            .as_slice()
+            .get(usize::from(place))
+        {
+            Some(endpoint) => &endpoint.name,
+            None => name,
+        },
+        None => name,
+    }
+}
+
+/// Counts the row at a place anew, by the names of its ends.
+fn recount_between(
+    counts: &mut Counts,
+    jobs: &[JobRow],
+    rows: &[FileRow],
+    place: usize,
+    was: Tally,
+    source: &EndpointName,
+    dest: &EndpointName,
+)
+    requires jobs_numbered { AreNumberedFrom (λ job. job.number) 1 jobs.now }
+    requires rows_numbered { AreNumberedFrom (λ row. row.id) 1 rows.now }
+    requires before { AreCountsBefore jobs.now rows.now place was counts.old }
+    requires ends { (row : FileRow) → slice_get rows.now place ≡ Some row → link_of_row row ≡ link_between source.now dest.now }
+    ensures counts { AreCountsOf jobs.now rows.now counts.new }
+{
     dues_of_a_changed_row();
     let row = &rows[place];
-    recount_load(&mut counts.loads, was.live, row);
+    recount_load(
+        &mut counts.loads,
+        was.live,
+        row.state.is_live(),
+        source,
+        dest,
+    );
     counts.dues.change(row.id, was.due, due_from(jobs, row));
     restate(&mut counts.states, jobs, rows, place, was.live);
 }
@@ -144,22 +234,27 @@ fn has_begun(row: &FileRow) -> bool
     row.state.is_active() || row.state.is_settled()
 }
 
-/// Counts a row's link anew, given whether the row was live before.
-fn recount_load(loads: &mut Loads, was_live: bool, row: &FileRow)
-    requires may { MayRecount was_live (link_of_row row.now) loads.old }
-    ensures counts { (test : Link → Bool) → count_by test loads.new.links + (if was_live && test (link_of_row row.now) then 1 else 0)
-        ≡ count_by test loads.old.links + added_by test row.now }
+/// Counts a link anew, on which a row was live or wasn't, and is so now or isn't.
+fn recount_load(
+    loads: &mut Loads,
+    was_live: bool,
+    is_live: bool,
+    source: &EndpointName,
+    dest: &EndpointName,
+)
+    requires may { MayRecount was_live (link_between source.now dest.now) loads.old }
+    ensures counts { (test : Link → Bool) → count_by test loads.new.links + (if was_live && test (link_between source.now dest.now) then 1 else 0)
+        ≡ count_by test loads.old.links + (if is_live && test (link_between source.now dest.now) then 1 else 0) }
     ensures known { loads.new.known ≡ loads.old.known }
 {
     counts_go_by_one();
-    let is_live = row.state.is_live();
     if was_live == is_live {
         return;
     }
     if is_live {
-        loads.add(&row.source.endpoint, &row.dest.endpoint);
+        loads.add(source, dest);
     } else {
-        loads.take(&row.source.endpoint, &row.dest.endpoint);
+        loads.take(source, dest);
     }
 }
 
@@ -170,7 +265,13 @@ pub fn count_new(loads: &mut Loads, rows: &[FileRow])
     ensures known { loads.new.known ≡ loads.old.known }
 {
     for row in rows {
-        recount_load(loads, false, row);
+        recount_load(
+            loads,
+            false,
+            row.state.is_live(),
+            &row.source.endpoint,
+            &row.dest.endpoint,
+        );
     }
 }
 

@@ -1,6 +1,6 @@
 //! What a claim looks at, beside the rows, from the first Restart on: before there is none, each of these does nothing.
 //! Order: a row is left before it changes, and comes in again behind its change, by `wait` or by `start`. Room is made as a command is prepared.
-ghost use Rattle.std.specs.Prelude.{◌≡◌, ◌<◌, ◌≤◌, ◌+◌, List, Some, true, false, length, slice_get, take, drop, OnOk};
+ghost use Rattle.std.specs.Prelude.{◌≡◌, ◌<◌, ◌≤◌, ◌+◌, List, Some, true, false, length, slice_get, take, drop, OnOk, IfSome};
 ghost use Rattle.std.specs.List.{AllByRecursion};
 ghost use Rattle.fts_tables.specs.Tables.{AreNumberedFrom, is_active};
 ghost use Rattle.fts_tables.specs.declared.limits.TheConstants.{MAX_ROWS};
@@ -8,6 +8,7 @@ ghost use Rattle.fts_tables.specs.declared.rows.FileRow.{FileRow};
 ghost use Rattle.fts_claims.specs.Changes.{all_but};
 ghost use Rattle.fts_desk.specs.Parts.{
   limits_of,
+  IsBetweenIn,
   AreTiedParts,
   AreInLineParts,
   HasRoomToWait,
@@ -23,7 +24,25 @@ ghost use Rattle.fts_desk.specs.Parts.{
 };
 
 use fts_claims::ClaimParts;
-use fts_tables::{FileRow, JobRow, Memory, NewFile, Place};
+use fts_tables::{FileRow, JobRow, LinkAt, Memory, NewFile, Place};
+
+/// The link of the row at a place, where its file is found in line at once: its ends are the settings' endpoints there. None says nothing.
+pub fn link_in_line(
+    parts: &Option<ClaimParts>,
+    jobs: &[JobRow],
+    rows: &[FileRow],
+    place: usize,
+) -> Option<LinkAt>
+    requires rows_numbered { AreNumberedFrom (λ row. row.id) 1 rows.now }
+    requires inside { place < length rows.now }
+    requires tied { AreTiedParts jobs.now rows.now parts.now }
+    ensures ends { IfSome result (λ link. (row : FileRow) → slice_get rows.now place ≡ Some row → IsBetweenIn (limits_of parts.now) link row) }
+{
+    match parts {
+        Some(parts) => parts.link_in_line(jobs, rows, place),
+        None => None,
+    }
+}
 
 /// Takes out the part of the row at a place.
 pub fn leave(parts: &mut Option<ClaimParts>, jobs: &[JobRow], rows: &[FileRow], place: usize)

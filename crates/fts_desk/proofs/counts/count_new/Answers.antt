@@ -1,5 +1,7 @@
-use Rattle.std.proofs.Common.{length, refl, ◌∙◌}
+use Rattle.std.proofs.Common.{◌≡◌, ◌+◌, Bool, length, refl, subst, ◌∙◌}
+use Rattle.std.specs.Prelude.{◌&&◌, count_by, if◌then◌else◌}
 use Rattle.std.proofs.lemmas.Option.{slice_get_read}
+use Rattle.fts_index.specs.LiveLinks.{link_of_row}
 use Rattle.fts_desk.proofs.Loaded.{may_count_next, counts_next}
 use Rattle.fts_desk.proofs.counts.count_new.Goals as goal
 
@@ -19,6 +21,8 @@ loop-row-preserved c =
     let at = slice_get_read rows (length rows) place row refl c.loop-row-test.true c.row-item.is in
     record {
       counts = counts_next rows place row c.args.loads.now c.loop-row.loads at c.loop-row.invariant.counts c.loop-row.invariant.known c.recount_load.new.loads
-          c.recount_load.ensures.counts;
+          (λ test. subst (λ (live : Bool). count_by test c.recount_load.new.loads.links + 0
+          ≡ count_by test c.loop-row.loads.links + (if live && test (link_of_row row) then 1 else 0)) c.is_live.ensures
+          (c.recount_load.ensures.counts test));
       known = c.recount_load.ensures.known ∙ c.loop-row.invariant.known;
     }
