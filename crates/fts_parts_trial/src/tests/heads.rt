@@ -43,3 +43,50 @@ fn a_claim_meets_no_busy_destination(rt: HostRuntime) -> Result<(), Fail> {
     assert!(rt; heads.has(&near) && !heads.has(&far) && heads.len() == 1 && heads.dests() == 2);
     Ok(())
 }
+
+#[test]
+fn files_that_brought_their_destinations_stand_among_the_others(
+    rt: HostRuntime,
+) -> Result<(), Fail> {
+    let mut heads = Heads::new(rt.alloc());
+    heads.make_dests(2)?;
+    heads.add_dest();
+    heads.add_dest();
+    heads.make_room(3)?;
+    let first = make_file(7, 0, 2, 1);
+    let second = make_file(7, 1, 3, 2);
+    let third = make_file(7, 0, 1, 3);
+    heads.insert(first);
+    assert_eq!(rt;
+        heads.own_at(0),
+        Some(first),
+        "the first file of its destination"
+    );
+    heads.insert(second);
+    heads.insert(third);
+    assert_eq!(rt; heads.own_at(1), Some(second), "the first of another");
+    assert_eq!(rt;
+        heads.first_of(7),
+        Some(third),
+        "the lesser rank goes first"
+    );
+    assert_eq!(rt;
+        heads.first_from(&make_file(0, 9, 0, 0)),
+        Some(second),
+        "of the greatest destination"
+    );
+    assert_eq!(rt;
+        heads.next_after(&second),
+        Some(third),
+        "the next destination"
+    );
+    assert_eq!(rt; heads.next_after(&third), Some(first), "its other file");
+    assert_eq!(rt; heads.next_after(&first), None, "none behind the last");
+    if let Some(found) = heads.own_at(0) {
+        heads.remove(found);
+    }
+    assert_eq!(rt; heads.own_at(0), None, "it went");
+    assert_eq!(rt; heads.next_after(&second), Some(third), "the other stays");
+    assert_eq!(rt; heads.first_without_dest(), None, "each has a destination");
+    Ok(())
+}
