@@ -1,6 +1,8 @@
 pub mod Found
 pub mod Owned
 pub mod Leasts
+pub mod Passed
+pub mod Brought
 pub mod Tests
 pub mod Ranges
 pub mod Walks

@@ -4,7 +4,7 @@ use Rattle.ordered.specs.Orders.{has_key, put_by, KeySet}
 use Rattle.fts_heads.specs.declared.ripe_file.RipeFile.{RipeFile}
 use Rattle.fts_heads.specs.declared.crowd.Own.{Own}
 use Rattle.fts_heads.specs.declared.heads.TheConstants.{MOST_QUEUES, MOST_DESTS}
-use Rattle.fts_heads.specs.RipeFiles.{goes_by_group}
+use Rattle.fts_heads.specs.RipeFiles.{goes_by_group, brought}
 
 -- no file, and whether there is one
 abbrev pub nobody : Own
@@ -73,3 +73,7 @@ pub record AreCrowd (own : List Own) (many room : ℕ) (rest : KeySet RipeFile) 
   pub few : length own ≤ MOST_DESTS
   pub inside : many ≤ room
   pub places : room ≤ rest.room
+
+-- and no file of the set brought its destination, but where one may have
+abbrev pub AreFollowers : Bool → List RipeFile → Type 0
+AreFollowers strays files = strays ≡ false → (file : RipeFile) → has_key goes_by_group file files ≡ true → brought file.dest file ≡ false

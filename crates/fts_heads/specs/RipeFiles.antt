@@ -1,5 +1,5 @@
 -- Files that wait, and the two orders in which they stand: in groups of one queue and one destination, and in the line of their queue.
-use Rattle.std.specs.Prelude.{◌≡◌, ℕ, Bool, nat_lt, ◌==◌}
+use Rattle.std.specs.Prelude.{◌≡◌, ℕ, suc, Bool, nat_lt, ◌==◌, ◌&&◌}
 use Rattle.std.proofs.Common.{ap, ◌∙◌}
 use Rattle.ordered.specs.Orders.{IsStrictOrder}
 use Rattle.ordered.specs.ByNumbers.{is_first_by}
@@ -25,6 +25,10 @@ goes_in_line one other =
 -- whether a file waits in a queue
 abbrev pub is_in : ℕ → RipeFile → Bool
 is_in queue waiter = waiter.queue == queue
+
+-- whether a file brought a destination: files count from 1, and destinations from 0, each with the first file that has it
+abbrev pub brought : ℕ → RipeFile → Bool
+brought dest file = (file.dest == dest) && (file.file == suc dest)
 
 -- files with the same numbers are one
 same_waiter : (one other : RipeFile) → one.queue ≡ other.queue → one.dest ≡ other.dest → one.rank ≡ other.rank → one.file ≡ other.file → one ≡ other

@@ -1,12 +1,13 @@
 //! All files by destination, queue, rank and number. A file that brought its destination stands by that destination's number, which tells which file it is, so
 //! only its queue and its rank are kept there: it comes and goes without a search. All others stand in an ordered set.
-//! Contracts see one list of all. Kept in its type (`AreCrowd`): no file stands in both, and the set has room for all.
+//! Contracts see one list of all. Kept in its type: no file stands in both, and the set has room for all (`AreCrowd`); and files of the set brought no
+//! destination, unless one had to go there that did (`AreFollowers`): where another of its number stood by its destination, or no place was there for that.
 //! Order: `make_room` before `insert`; no other call takes memory.
 ghost use Rattle.std.specs.Prelude.{◌≡◌, ◌<◌, ◌≤◌, ◌+◌, ◌==◌, nat_lt, not, ◌&&◌, [], true, false, max, length, find, IfSome, IfNone, OnOk, OnErr, IsTrue, IsFalse};
 ghost use Rattle.ordered.specs.Orders.{AreSortedBy, has_key, put_by, without, first_from, next_after};
 ghost use Rattle.fts_heads.specs.declared.ripe_file.RipeFile.{RipeFile};
 ghost use Rattle.fts_heads.specs.declared.heads.TheConstants.{MOST_DESTS};
-ghost use Rattle.fts_heads.specs.RipeFiles.{goes_by_group};
+ghost use Rattle.fts_heads.specs.RipeFiles.{goes_by_group, brought};
 ghost use Rattle.fts_heads.specs.Crowd.{own_at, is_own, may_own, is_from, sooner, dest_or_least, IsLeast};
 
 use crate::heads::{MOST_DESTS, MOST_QUEUES};
@@ -22,10 +23,11 @@ pub struct Own {
     pub rank: u32,
 }
 
-/// All files, of which those that brought their destinations stand by these.
+/// All files, of which those that brought their destinations stand by these. `strays`: whether one had to go to the others that did.
 pub struct Crowd {
     own: Vec<Own>,
     rest: Ordered<RipeFile>,
+    strays: bool,
     len: usize,
     room: usize,
 }
@@ -35,6 +37,7 @@ impl Drop for Crowd {
         let Crowd {
             own: _,
             rest: _,
+            strays: _,
             len: _,
             room: _,
         } = self;
@@ -47,11 +50,11 @@ impl Model for Crowd {
 
     ghost Value = { KeySet RipeFile };
 
-    ghost use Rattle.fts_heads.specs.Crowd.{with_own, AreCrowd};
+    ghost use Rattle.fts_heads.specs.Crowd.{with_own, AreCrowd, AreFollowers};
 
     ghost view = { λ crowd. record { keys = with_own crowd.own.items crowd.rest.keys; room = crowd.room } };
 
-    ghost invariant = { λ crowd. AreCrowd crowd.own.items crowd.len crowd.room crowd.rest };
+    ghost invariant = { λ crowd. AreCrowd crowd.own.items crowd.len crowd.room crowd.rest × AreFollowers crowd.strays crowd.rest.keys };
 }
 
 /// The file that stands by a destination.
@@ -204,6 +207,38 @@ fn first_for(files: &Ordered<RipeFile>, start: &RipeFile) -> Option<RipeFile>
     }
 }
 
+/// Whether a file brought a destination.
+fn brought(file: &RipeFile, dest: u32) -> bool
+    ensures answer { result ≡ brought dest file.now }
+{
+    file.dest == dest && file.file != 0 && file.file - 1 == dest
+}
+
+/// A file of a set that brought a destination. It takes as long as the set has files of the destination.
+fn bringer_in(files: &Ordered<RipeFile>, dest: u32) -> Option<RipeFile>
+    ensures there { IfSome result (λ file. has_key goes_by_group file files.now.keys ≡ true) }
+    ensures own { IfSome result (λ file. brought dest file ≡ true) }
+    ensures none { IfNone result ((file : RipeFile) → has_key goes_by_group file files.now.keys ≡ true → brought dest file ≡ false) }
+{
+    let _ = files.len();
+    let mut next = files.first_from(&RipeFile {
+        queue: 0,
+        dest,
+        rank: 0,
+        file: 0,
+    });
+    while let Some(found) = next {
+        if found.dest != dest {
+            return None;
+        }
+        if brought(&found, dest) {
+            return Some(found);
+        }
+        next = files.next_after(&found);
+    }
+    None
+}
+
 /// Which of two stands first.
 fn sooner(one: Option<RipeFile>, other: Option<RipeFile>) -> Option<RipeFile>
     ensures sooner { result ≡ sooner one other }
@@ -229,6 +264,7 @@ impl Crowd {
         Crowd {
             own: Vec::new(alloc),
             rest: Ordered::new(alloc),
+            strays: false,
             len: 0,
             room: 0,
         }
@@ -249,12 +285,22 @@ impl Crowd {
         Ok(())
     }
 
-    /// The file that stands by a destination, which it brought.
+    /// A file that brought a destination; None exactly where none is there. It is had at once, as long as there are no strays.
     pub fn own_at(&self, dest: u32) -> Option<RipeFile>
         ensures there { IfSome result (λ file. has_key goes_by_group file self.now.keys ≡ true) }
-        ensures own { IfSome result (λ file. (file.dest ≡ dest) × (file.file ≡ dest + 1)) }
+        ensures own { IfSome result (λ file. brought dest file ≡ true) }
+        ensures none { IfNone result ((file : RipeFile) → has_key goes_by_group file self.now.keys ≡ true → brought dest file ≡ false) }
     {
-        own_at(self.own.as_slice(), dest)
+        match own_at(self.own.as_slice(), dest) {
+            Some(found) => Some(found),
+            None => {
+                if self.strays {
+                    bringer_in(&self.rest, dest)
+                } else {
+                    None
+                }
+            }
+        }
     }
 
     /// The first of the files with the number that no destination has.
@@ -329,6 +375,7 @@ impl Crowd {
         let _ = self.rest.len();
         self.len += 1;
         if !may_own(self.own.as_slice(), &file) {
+            self.strays |= brought(&file, file.dest);
             self.rest.insert(file);
             return;
         }

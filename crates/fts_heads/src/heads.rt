@@ -32,7 +32,7 @@ ghost use Rattle.ordered.specs.Orders.{AreSortedBy, has_key, put_by, without, fi
 ghost use Rattle.fts_heads.specs.declared.ripe_file.RipeFile.{RipeFile};
 ghost use Rattle.fts_heads.specs.declared.heads.TheConstants.{MOST_QUEUES, MOST_DESTS};
 ghost use Rattle.fts_heads.specs.declared.counted.TheConstants.{BLOCKS};
-ghost use Rattle.fts_heads.specs.RipeFiles.{goes_by_group, is_in};
+ghost use Rattle.fts_heads.specs.RipeFiles.{goes_by_group, is_in, brought};
 ghost use Rattle.fts_heads.specs.Heads.{HeadsData, is_open, IsFirstOf};
 ghost use Rattle.fts_heads.specs.Blocks.{is_in_block};
 
@@ -153,10 +153,12 @@ impl Heads {
         self.files.first_without_dest()
     }
 
-    /// The file that brought a destination, where it is had at once. None says nothing.
+    /// A file that brought a destination; None exactly where none is there. It is had at once, as long as no file came where another of its number was
+    /// there already, nor to a destination of a greater number than there was room for files; from then on None takes as long as the destination has files.
     pub fn own_at(&self, dest: u32) -> Option<RipeFile>
         ensures there { IfSome result (λ file. has_key goes_by_group file self.now.files ≡ true) }
-        ensures own { IfSome result (λ file. (file.dest ≡ dest) × (file.file ≡ dest + 1)) }
+        ensures own { IfSome result (λ file. brought dest file ≡ true) }
+        ensures none { IfNone result ((file : RipeFile) → has_key goes_by_group file self.now.files ≡ true → brought dest file ≡ false) }
     {
         self.files.own_at(dest)
     }

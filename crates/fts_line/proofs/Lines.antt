@@ -1,5 +1,5 @@
 -- What stands in line and what waits: each file that waits has its key, and each key is that of a file that waits.
-use Rattle.std.proofs.Common.{◌≡◌, ◌⊎◌, inl, inr, ◌<◌, ◌≤◌, ◌-◌, ◌/◌, ◌%◌, ◌++◌, ◌∷◌, [], ℕ, Bool, true, false, cond, List, length, suc, refl, ap, sym, ◌∙◌, subst, arith}
+use Rattle.std.proofs.Common.{◌≡◌, ◌⊎◌, inl, inr, ◌<◌, ◌≤◌, ◌+◌, ◌-◌, ◌/◌, ◌%◌, ◌++◌, ◌∷◌, [], ℕ, Bool, true, false, cond, List, length, suc, refl, ap, sym, ◌∙◌, subst, arith}
 use Rattle.std.specs.Prelude.{not, ◌&&◌, ◌||◌, ◌==◌, map, take, drop, slice_index_or}
 use Rattle.std.specs.List.{list_any, AllByRecursion}
 use Rattle.std.proofs.lemmas.Bool.{and_parts, or_left, or_right, eqb-true, eq-eqb, ne_eqb, le-leb, lt-leb}
@@ -15,8 +15,8 @@ use Rattle.fts_heads.specs.declared.ripe_file.RipeFile.{RipeFile}
 use Rattle.fts_heads.proofs.Found.{any_there}
 use Rattle.fts_line.specs.declared.key.TheConstants.{LATER}
 use Rattle.fts_line.specs.LineData.{IsKnown, dest_of, is_on, is_same_waiter}
-use Rattle.fts_line.specs.Keys.{link_at, waiter_at, whole_of, ripe_of, later_of, key_of, is_later, file_of, waiter_of, waiters_of, IsKeyed, AreKeyed, IsDue, AreDue}
-use Rattle.fts_line.proofs.Files.{IsOneOf, any_of, length_with}
+use Rattle.fts_line.specs.Keys.{link_at, waiter_at, whole_of, ripe_of, later_of, key_of, is_later, file_of, waiter_of, waiters_of, is_own_key, IsKeyed, AreKeyed, IsDue, AreDue}
+use Rattle.fts_line.proofs.Files.{IsOneOf, HasOne, has_one, any_of, length_with}
 use Rattle.fts_line.proofs.Between.{all_both, map_same}
 use Rattle.fts_line.proofs.Keyed.{number_is, same_numbers}
 
@@ -280,3 +280,56 @@ key_on rests keys key there ripe =
 
     here : ℕ → Waiter
     here rest = waiter_at key.file key.queue key.rank rest
+
+-- the key of a file that brought its destination: it is the file's, and stands with its destination
+pub own_file : (dests : List ℕ) (file : ℕ) (key : RipeFile) → is_own_key dests file key ≡ true → key.file ≡ file
+own_file dests file key is =
+    eqb-true key.file file (and_parts (key.file == file) ((key.dest == dest_of dests file) && (file == dest_of dests file + 1)) is).0
+
+brought_it : (dests : List ℕ) (file : ℕ) (key : RipeFile) → is_own_key dests file key ≡ true
+    → ((key.dest == dest_of dests file) ≡ true) × ((file == dest_of dests file + 1) ≡ true)
+brought_it dests file key is =
+    and_parts (key.dest == dest_of dests file) (file == dest_of dests file + 1)
+    (and_parts (key.file == file) ((key.dest == dest_of dests file) && (file == dest_of dests file + 1)) is).1
+
+pub own_ripe : (dests : List ℕ) (file : ℕ) (key : RipeFile) → file ≤ LATER → is_own_key dests file key ≡ true → is_later key ≡ false
+own_ripe dests file key fits is = ne_eqb key.dest LATER (λ same. absurd (omega (
+  arith,
+  same,
+  fits,
+  eqb-true key.dest (dest_of dests file) (brought_it dests file key is).0,
+  eqb-true file (dest_of dests file + 1) (brought_it dests file key is).1,
+)))
+
+-- such a file waits, its moment come, exactly where its key is there
+pub own_waits : (dests : List ℕ) (rests : List ℕ) (moment : ℕ) (keys : List RipeFile) → AreDue moment moment rests keys → (file : ℕ) → file ≤ LATER
+    → (key : RipeFile) → has_key goes_by_group key keys ≡ true → is_own_key dests file key ≡ true
+    → list_any (λ waiter. (waiter.file == file) && (is_ripe moment waiter && (file == dest_of dests file + 1))) (waiters_of rests keys) ≡ true
+own_waits dests rests moment keys due file fits key there is =
+    any_of (λ waiter. (waiter.file == file) && (is_ripe moment waiter && (file == dest_of dests file + 1))) (waiters_of rests keys) (waiter_of rests key)
+    (waits_so rests key keys there)
+    (both _ _ (eq-eqb (waiter_of rests key).file file (number_is (slice_index_or rests (key.file - 1) 0) key ∙ own_file dests file key is))
+    (both _ _ (le-leb (waiter_of rests key).not_before moment
+    ((of_key (IsDue moment moment rests) key keys due there).past (own_ripe dests file key fits is)))
+    (brought_it dests file key is).1))
+
+pub none_waits : (dests : List ℕ) (dest_count : ℕ) (rests : List ℕ) (moment : ℕ) (keys : List RipeFile) → AreKeyed dests dest_count rests keys
+    → AreDue moment moment rests keys → (file : ℕ) → ((key : RipeFile) → has_key goes_by_group key keys ≡ true → is_own_key dests file key ≡ false)
+    → list_any (λ waiter. (waiter.file == file) && (is_ripe moment waiter && (file == dest_of dests file + 1))) (waiters_of rests keys) ≡ false
+none_waits dests dest_count rests moment keys are due file none =
+    by_answer (list_any (λ waiter. (waiter.file == file) && (is_ripe moment waiter && (file == dest_of dests file + 1))) (waiters_of rests keys)) refl
+  where
+    never : HasOne (λ waiter. (waiter.file == file) && (is_ripe moment waiter && (file == dest_of dests file + 1))) (waiters_of rests keys) → true ≡ false
+    never has =
+        let parts = and_parts (has.one.file == file) (is_ripe moment has.one && (file == dest_of dests file + 1)) has.passing in
+        let come = and_parts (is_ripe moment has.one) (file == dest_of dests file + 1) parts.1 in
+        let same : has.one.file ≡ file = eqb-true has.one.file file parts.0 in
+        sym (both _ _ parts.0 (both _ _ (eq-eqb (dest_of dests has.one.file) (dest_of dests file) (ap (dest_of dests) same)) come.1))
+        ∙ none (ripe_of dests has.one) (stands_then dests dest_count rests moment keys are due has.one has.among come.0)
+
+    by_answer : (answer : Bool)
+        → list_any (λ waiter. (waiter.file == file) && (is_ripe moment waiter && (file == dest_of dests file + 1))) (waiters_of rests keys) ≡ answer
+        → answer ≡ false
+    by_answer false is = refl
+    by_answer true is =
+        never (has_one (λ waiter. (waiter.file == file) && (is_ripe moment waiter && (file == dest_of dests file + 1))) (waiters_of rests keys) is)

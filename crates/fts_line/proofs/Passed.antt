@@ -1,6 +1,6 @@
 -- Keys that a walk in their order has passed.
 use Rattle.std.proofs.Common.{◌≡◌, ◌⊎◌, inl, inr, ℕ, ◌<◌, ◌≤◌, Bool, true, false, List, Option, Some, None, refl, ap, sym, ◌∙◌, subst, arith}
-use Rattle.std.specs.Prelude.{not, ◌&&◌, ◌||◌, count_by, IfSome, IfNone}
+use Rattle.std.specs.Prelude.{not, ◌&&◌, ◌||◌, IfSome, IfNone}
 use Rattle.std.proofs.lemmas.Bool.{cases_Bool, and_parts, eqb-true, ne_eqb}
 use Rattle.std.proofs.lemmas.Bool.Decides.{nat_tests}
 use Rattle.ordered.specs.ByNumbers.{is_first_by}
@@ -8,63 +8,20 @@ use Rattle.ordered.specs.Orders.{AreSortedBy, differs, has_key, put_by, without,
 use Rattle.ordered.proofs.Members.{one_of, itself, has_put, has_without}
 use Rattle.fts_heads.specs.declared.ripe_file.RipeFile.{RipeFile}
 use Rattle.fts_heads.specs.RipeFiles.{goes_by_group, by_group}
-use Rattle.fts_heads.proofs.Found.{no, is_found, none_found, of_there}
+use Rattle.fts_heads.proofs.Found.{no, is_found, of_there}
+use Rattle.fts_heads.proofs.Passed.{is_passed, left, no_lesser_dest, not_false, passed_before, still_passed, weaker}
 use Rattle.fts_line.specs.declared.key.TheConstants.{LATER}
 use Rattle.fts_line.specs.Keys.{is_later, waiter_of, AreKeyed, AreDue, IsDue}
-use Rattle.fts_line.proofs.Walks.{no_lesser_dest, to_there, ripe_dest, fewer, fewer_moved}
-
--- whether a key stands before the next of a walk
-abbrev pub is_passed : Option RipeFile → RipeFile → Bool
-is_passed None key = true
-is_passed (Some next) key = goes_by_group key next
-
--- how many keys are left
-abbrev pub left : Option RipeFile → List RipeFile → ℕ
-left next keys = count_by (λ key. not (is_passed next key)) keys
+use Rattle.fts_line.proofs.Walks.{to_there, ripe_dest, fewer_moved}
 
 -- each key that was passed is of a file that waits for its moment, or had it
 abbrev pub ArePast : List ℕ → List RipeFile → Option RipeFile → ℕ → Type 0
 ArePast rests keys next now = (key : RipeFile) → has_key goes_by_group key keys ≡ true → is_later key ≡ false → is_passed next key ≡ true
     → (waiter_of rests key).not_before ≤ now
 
-not_false : (test : Bool) → not test ≡ true → test ≡ true → true ≡ false
-not_false true is both = sym is
-not_false false is both = sym both
-
 -- one step: behind a key the next
 module _ (keys : List RipeFile) (sorted : AreSortedBy goes_by_group keys) (key : RipeFile) where
-  -- what is passed was passed, or is the key
-  passed_before : (next : Option RipeFile) → next ≡ next_after goes_by_group key keys → (other : RipeFile) → has_key goes_by_group other keys ≡ true
-      → is_passed next other ≡ true → (goes_by_group other key ≡ true) ⊎ (other ≡ key)
-  passed_before next is other there passed = by_tests (cases_Bool (goes_by_group other key)) (cases_Bool (goes_by_group key other))
-    where
-      never : (some : Option RipeFile) → some ≡ next_after goes_by_group key keys → is_passed some other ≡ true → goes_by_group key other ≡ true → true ≡ false
-      never None found before behind = sym behind ∙ none_found goes_by_group by_group (goes_by_group key) keys (sym found) other there
-      never (Some some) found before behind =
-          sym before ∙ (is_found goes_by_group by_group (goes_by_group key) keys some sorted (sym found)).least other there behind
-
-      by_tests : (goes_by_group other key ≡ true) ⊎ (goes_by_group other key ≡ false) → (goes_by_group key other ≡ true) ⊎ (goes_by_group key other ≡ false)
-          → (goes_by_group other key ≡ true) ⊎ (other ≡ key)
-      by_tests (inl goes) side = inl goes
-      by_tests (inr not_goes) (inl behind) = no (never next is passed behind)
-      by_tests (inr not_goes) (inr not_behind) = inr (by_group.total other key not_goes not_behind)
-
-  -- what was passed still is, and so is the key
-  pub still_passed : (next : Option RipeFile) → next ≡ next_after goes_by_group key keys → (other : RipeFile) → goes_by_group other key ≡ true
-      → is_passed next other ≡ true
-  still_passed None is other goes = refl
-  still_passed (Some next) is other goes =
-      by_group.transitive other key next goes (is_found goes_by_group by_group (goes_by_group key) keys next sorted (sym is)).passing
-
-  pub key_passed : (next : Option RipeFile) → next ≡ next_after goes_by_group key keys → is_passed next key ≡ true
-  key_passed None is = refl
-  key_passed (Some next) is = (is_found goes_by_group by_group (goes_by_group key) keys next sorted (sym is)).passing
-
-  -- the next is there, also after the key has gone and another has come in; and stands with its destination
-  pub next_there : (next : Option RipeFile) → next ≡ next_after goes_by_group key keys → IfSome next (λ some. has_key goes_by_group some keys ≡ true)
-  next_there None is = tt
-  next_there (Some next) is = (is_found goes_by_group by_group (goes_by_group key) keys next sorted (sym is)).there
-
+  -- the next is there, also after the key has gone and another has come in; and it stands with its destination
   pub next_stays : (new : RipeFile) (next : Option RipeFile) → next ≡ next_after goes_by_group key keys
       → IfSome next (λ some. has_key goes_by_group some (put_by goes_by_group new (without goes_by_group key keys)) ≡ true)
   next_stays new None is = tt
@@ -91,7 +48,7 @@ module _ (keys : List RipeFile) (sorted : AreSortedBy goes_by_group keys) (key :
   -- the key's file had its moment: it stays where it is
   pub past_same : (rests : List ℕ) (now : ℕ) (next : Option RipeFile) → next ≡ next_after goes_by_group key keys → ArePast rests keys (Some key) now
       → (waiter_of rests key).not_before ≤ now → ArePast rests keys next now
-  past_same rests now next is past own other there ripe passed = by_side (passed_before next is other there passed)
+  past_same rests now next is past own other there ripe passed = by_side (passed_before keys sorted key next is other there passed)
     where
       by_side : (goes_by_group other key ≡ true) ⊎ (other ≡ key) → (waiter_of rests other).not_before ≤ now
       by_side (inl goes) = past other there ripe goes
@@ -105,7 +62,7 @@ module _ (keys : List RipeFile) (sorted : AreSortedBy goes_by_group keys) (key :
   past_moved rests after now next is past new later same other there ripe passed = by_test (cases_Bool (not (differs goes_by_group new other)))
     where
       stays : has_key goes_by_group other (without goes_by_group key keys) ≡ true → (waiter_of after other).not_before ≤ now
-      stays has = by_side (passed_before next is other parts.0 passed)
+      stays has = by_side (passed_before keys sorted key next is other parts.0 passed)
         where
           parts : (has_key goes_by_group other keys ≡ true) × (differs goes_by_group key other ≡ true)
           parts = and_parts (has_key goes_by_group other keys) (differs goes_by_group key other)
@@ -123,30 +80,12 @@ module _ (keys : List RipeFile) (sorted : AreSortedBy goes_by_group keys) (key :
           stays (sym (has_put goes_by_group new other (without goes_by_group key keys)
           ∙ ap (λ (test : Bool). test || has_key goes_by_group other (without goes_by_group key keys)) differ) ∙ there)
 
-  -- either way fewer are left
-  unpassed : (test : Bool) → not test ≡ true → test ≡ false
-  unpassed true is = no (sym is)
-  unpassed false is = refl
-
-  weaker : (next : Option RipeFile) → next ≡ next_after goes_by_group key keys → (other : RipeFile) → not (is_passed next other) ≡ true
-      → not (is_passed (Some key) other) ≡ true
-  weaker next is other not_passed = by_test (cases_Bool (goes_by_group other key))
-    where
-      by_test : (goes_by_group other key ≡ true) ⊎ (goes_by_group other key ≡ false) → not (goes_by_group other key) ≡ true
-      by_test (inl goes) = no (not_false (is_passed next other) not_passed (still_passed next is other goes))
-      by_test (inr not_goes) = ap not not_goes
-
-  pub fewer_left : (next : Option RipeFile) → next ≡ next_after goes_by_group key keys → has_key goes_by_group key keys ≡ true
-      → left next keys < left (Some key) keys
-  fewer_left next is there =
-      fewer (λ other. not (is_passed (Some key) other)) (λ other. not (is_passed next other)) (weaker next is) key
-      (ap not (by_group.irreflexive key)) (ap not (key_passed next is)) keys there
-
+  -- and fewer are left
   pub fewer_left_moved : (next : Option RipeFile) → next ≡ next_after goes_by_group key keys → has_key goes_by_group key keys ≡ true
       → (new : RipeFile) → is_passed next new ≡ true → left next (put_by goes_by_group new (without goes_by_group key keys)) < left (Some key) keys
   fewer_left_moved next is there new passed =
-      fewer_moved (λ other. not (is_passed (Some key) other)) (λ other. not (is_passed next other)) (weaker next is) key new
-      (ap not (by_group.irreflexive key)) (ap not passed) keys there
+      fewer_moved (λ other. not (is_passed (Some key) other)) (λ other. not (is_passed next other))
+      (weaker keys sorted key next is) key new (ap not (by_group.irreflexive key)) (ap not passed) keys there
 
 -- who waits for its moment stands before each that doesn't
 later_first : (dest other queue other_queue : ℕ) (rest : Bool) → other < dest → is_first_by other dest (is_first_by queue other_queue rest) ≡ true

@@ -11,15 +11,13 @@ use Rattle.ordered.proofs.Members.{count_put}
 use Rattle.fts_queue.specs.declared.waiter.Waiter.{Waiter}
 use Rattle.fts_heads.specs.declared.ripe_file.RipeFile.{RipeFile}
 use Rattle.fts_heads.specs.RipeFiles.{goes_by_group, by_group}
-use Rattle.fts_heads.proofs.Found.{no, IsFound, is_found, is_one_of, has_first, has_rest, of_there}
+use Rattle.fts_heads.proofs.Found.{no, IsFound, is_found, has_first, has_rest, of_there}
+use Rattle.fts_heads.proofs.Passed.{no_bit, fewer}
 use Rattle.fts_line.specs.declared.key.TheConstants.{LATER}
 use Rattle.fts_line.specs.LineData.{dest_of}
 use Rattle.fts_line.specs.Keys.{whole_of, ripe_of, later_of, key_of, is_later, waiter_of, IsKeyed, AreKeyed, IsDue, AreDue}
 
--- what stands first has no lesser destination, of one destination no greater queue, and of one queue no greater rank
-pub no_lesser_dest : (dest other queue other_queue : ℕ) (rest : Bool) → is_first_by other dest (is_first_by queue other_queue rest) ≡ true → other ≤ dest
-no_lesser_dest dest other queue other_queue rest goes = grind (arith, nat_tests)
-
+-- what stands first has of one destination no greater queue, and of one queue no greater rank
 no_greater_queue : (dest other queue other_queue : ℕ) (rest : Bool) → dest ≡ other → is_first_by other dest (is_first_by queue other_queue rest) ≡ true
     → queue ≤ other_queue
 no_greater_queue dest other queue other_queue rest same goes = grind (arith, nat_tests)
@@ -113,57 +111,6 @@ pub due_end : (low now : ℕ) (rests : List ℕ) (keys : List RipeFile) → AreD
 due_end low now rests keys due none = to_there (IsDue now now rests) keys (λ key there.
     let is = of_there goes_by_group by_group (IsDue low now rests) keys key due there in
     record { past = is.past; later = λ later. omega (arith, none key there later, moment_is rests key later) })
-
--- tests that count a key and don't
-one_bit : (test : Bool) → test ≡ true → ◌≡◌ {A = ℕ} (cond test 1 0) 1
-one_bit true is = refl
-one_bit false is = no (sym is)
-
-no_bit : (test : Bool) → test ≡ false → ◌≡◌ {A = ℕ} (cond test 1 0) 0
-no_bit true is = no is
-no_bit false is = refl
-
-no_more_bits : (one other : Bool) → (other ≡ true → one ≡ true) → ◌≤◌ (cond other 1 0) (cond one 1 0)
-no_more_bits true true weaker = omega arith
-no_more_bits true false weaker = omega arith
-no_more_bits false true weaker = no (sym (weaker refl))
-no_more_bits false false weaker = omega arith
-
-no_more : (one other : RipeFile → Bool) → ((key : RipeFile) → other key ≡ true → one key ≡ true) → (keys : List RipeFile)
-    → count_by other keys ≤ count_by one keys
-no_more one other weaker [] = omega arith
-no_more one other weaker (first ∷ rest) = omega (
-  arith,
-  sum_by-cons (λ some. cond (one some) 1 0) first rest,
-  sum_by-cons (λ some. cond (other some) 1 0) first rest,
-  no_more_bits (one first) (other first) (weaker first),
-  no_more one other weaker rest,
-)
-
--- a test that lets less through counts less, where it lets a key that is there not through
-pub fewer : (one other : RipeFile → Bool) → ((key : RipeFile) → other key ≡ true → one key ≡ true) → (key : RipeFile) → one key ≡ true → other key ≡ false
-    → (keys : List RipeFile) → has_key goes_by_group key keys ≡ true → count_by other keys < count_by one keys
-fewer one other weaker key is not_other [] there = no (sym there)
-fewer one other weaker key is not_other (first ∷ rest) there =
-    by_side (fewer one other weaker key is not_other rest) (is_one_of goes_by_group by_group key first rest there)
-  where
-    by_side : (has_key goes_by_group key rest ≡ true → count_by other rest < count_by one rest)
-        → (first ≡ key) ⊎ (has_key goes_by_group key rest ≡ true) → count_by other (first ∷ rest) < count_by one (first ∷ rest)
-    by_side behind (inl same) = omega (
-      arith,
-      sum_by-cons (λ some. cond (one some) 1 0) first rest,
-      sum_by-cons (λ some. cond (other some) 1 0) first rest,
-      one_bit (one first) (ap one same ∙ is),
-      no_bit (other first) (ap other same ∙ not_other),
-      no_more one other weaker rest,
-    )
-    by_side behind (inr later) = omega (
-      arith,
-      sum_by-cons (λ some. cond (one some) 1 0) first rest,
-      sum_by-cons (λ some. cond (other some) 1 0) first rest,
-      no_more_bits (one first) (other first) (weaker first),
-      behind later,
-    )
 
 -- what is counted among those that a filter keeps
 count_filter : (passes keeps : RipeFile → Bool) (keys : List RipeFile)

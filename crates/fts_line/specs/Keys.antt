@@ -1,5 +1,5 @@
 -- A file as it stands in the one set of all: with its destination once its moment has come, else under `LATER` by its moment; and what its key leaves out.
-use Rattle.std.specs.Prelude.{◌≡◌, ℕ, ◌+◌, ◌-◌, ◌*◌, ◌/◌, ◌%◌, ◌<◌, ◌≤◌, Bool, true, false, ◌==◌, List, length, map, slice_index_or, if◌then◌else◌}
+use Rattle.std.specs.Prelude.{◌≡◌, ℕ, ◌+◌, ◌-◌, ◌*◌, ◌/◌, ◌%◌, ◌<◌, ◌≤◌, Bool, true, false, ◌==◌, ◌&&◌, List, length, map, slice_index_or, if◌then◌else◌}
 use Rattle.std.specs.List.{AllByRecursion}
 use Rattle.fts_tables.specs.declared.settings.LinkAt.{LinkAt}
 use Rattle.fts_queue.specs.declared.waiter.Waiter.{Waiter}
@@ -70,6 +70,10 @@ file_of rest key =
 -- and where that stands in a list by the numbers of the files
 abbrev pub waiter_of : List ℕ → RipeFile → Waiter
 waiter_of rests key = file_of (slice_index_or rests (key.file - 1) 0) key
+
+-- whether a key is that of a file that stands with its destination and brought it
+abbrev pub is_own_key : List ℕ → ℕ → RipeFile → Bool
+is_own_key dests file key = (key.file == file) && ((key.dest == dest_of dests file) && (file == dest_of dests file + 1))
 
 -- the files of keys, in the order in which they wait
 abbrev pub waiters_of : List ℕ → List RipeFile → List Waiter

@@ -1,5 +1,6 @@
 -- The files that wait with their destinations, which of these are busy, and the first file of a queue that may start.
-use Rattle.std.specs.Prelude.{ℕ, ◌-◌, ◌<◌, Bool, ◌&&◌, ◌==◌, List, length, find, slice_index_or, Option, option_map}
+use Rattle.std.specs.Prelude.{ℕ, ◌+◌, ◌-◌, ◌<◌, Bool, ◌&&◌, ◌==◌, List, length, find, slice_index_or, Option, option_map}
+use Rattle.std.specs.List.{list_any}
 use Rattle.fts_tables.specs.declared.settings.LinkAt.{LinkAt}
 use Rattle.fts_queue.specs.declared.waiter.Waiter.{Waiter}
 use Rattle.fts_queue.specs.WaitingData.{WaitingData, is_in, is_ripe, is_same_place}
@@ -17,6 +18,13 @@ pub record LineData : Type 0 where
 -- the number of a file's destination
 abbrev pub dest_of : List ℕ → ℕ → ℕ
 dest_of dests file = slice_index_or dests (file - 1) 0
+
+-- whether a file waits whose moment has come and which brought its destination: files count from 1, and destinations from 0
+abbrev pub is_own : LineData → ℕ → Waiter → Bool
+is_own line file waiter = (waiter.file == file) && (is_ripe line.waiting.moment waiter && (file == dest_of line.dests file + 1))
+
+abbrev pub waits_own : LineData → ℕ → Bool
+waits_own line file = list_any (is_own line file) line.waiting.waiters
 
 -- whether a file is another, with the same moment
 abbrev pub is_same_waiter : Waiter → Waiter → Bool

@@ -21,6 +21,8 @@ ghost use Rattle.std.specs.Prelude.{
   IsTrue,
   IsFalse,
   IfSome,
+  IfNone,
+  is_some,
   ◌&&◌,
   ◌==◌,
   OnOk,
@@ -29,11 +31,15 @@ ghost use Rattle.std.specs.Prelude.{
 };
 ghost use Rattle.std.specs.List.{list_any, prefix_len};
 ghost use Rattle.fts_queue.specs.WaitingData.{with_waiter, without_file, with_room, waiting_in, room_of, is_waiting, AreWaiting, AreQueuesInOrder};
-ghost use Rattle.fts_line.specs.LineData.{IsInside, IsKnown, dest_of, is_on, is_same_waiter, may_start_on, first_open};
+ghost use Rattle.fts_line.specs.LineData.{IsInside, IsKnown, dest_of, is_on, is_same_waiter, may_start_on, first_open, waits_own};
+ghost use Rattle.fts_line.specs.Keys.{is_own_key};
+ghost use Rattle.ordered.specs.Orders.{has_key};
+ghost use Rattle.fts_heads.specs.RipeFiles.{goes_by_group};
+ghost use Rattle.fts_heads.specs.declared.ripe_file.RipeFile.{RipeFile};
 
 use crate::key::{block_of, dest_of, key_of, link_at, queue_of};
 use crate::moves::{come_in, go_out, ripen, unripen};
-use fts_heads::{Heads, MOST_DESTS};
+use fts_heads::{Heads, MOST_DESTS, RipeFile};
 use fts_queue::{QueueRoom, Waiter, filters_keep_the_order, raise, rooms_are_raised};
 use fts_tables::{LinkAt, Memory};
 use std::alloc::Global;
@@ -76,6 +82,19 @@ fn count_up_to(rooms: &[QueueRoom], source: u16) -> usize
     ensures inside { result ≤ length rooms.now }
 {
     rooms.partition_point(|room| room.link.source <= source)
+}
+
+/// The key of a file, where it stands with its destination and brought it; None exactly where it doesn't.
+fn own_key(heads: &Heads, dests: &[u32], file: u32) -> Option<RipeFile>
+    ensures there { IfSome result (λ key. has_key goes_by_group key heads.now.files ≡ true) }
+    ensures own { IfSome result (λ key. is_own_key dests.now file key ≡ true) }
+    ensures none { IfNone result ((key : RipeFile) → has_key goes_by_group key heads.now.files ≡ true → is_own_key dests.now file key ≡ false) }
+{
+    let dest = dest_of(dests, file);
+    if file == 0 || file - 1 != dest {
+        return None;
+    }
+    heads.own_at(dest)
 }
 
 impl Line {
@@ -175,24 +194,20 @@ impl Line {
         go_out(&mut self.heads, self.rests.as_slice(), dests, key);
     }
 
-    /// The link of a file where it waits, its moment has come, and it is had at once: it brought its destination. None says nothing.
+    /// The link of a file that waits, where its moment has come and it brought its destination; None exactly where it doesn't.
     pub fn own_link(&self, file: u32) -> Option<LinkAt>
+        ensures answer { is_some result ≡ waits_own self.now file }
         ensures waits { IfSome result (λ link. list_any (λ waiter. (waiter.file == file) && is_on link waiter) self.now.waiting.waiters ≡ true) }
     {
-        match self.heads.own_at(dest_of(self.dests.as_slice(), file)) {
-            Some(key) => {
-                if key.file == file {
-                    Some(link_at(key.queue))
-                } else {
-                    None
-                }
-            }
+        match own_key(&self.heads, self.dests.as_slice(), file) {
+            Some(key) => Some(link_at(key.queue)),
             None => None,
         }
     }
 
-    /// Takes a file out where it waits, its moment has come, and it is had at once: it brought its destination. `false` says nothing else.
+    /// Takes a file out that waits, where its moment has come and it brought its destination, and says whether it did.
     pub fn take_own(&mut self, file: u32) -> bool
+        ensures answer { result ≡ waits_own self.old file }
         ensures waits { result ≡ true → is_waiting file self.old.waiting.waiters ≡ true }
         ensures taken { result ≡ true → self.new
             ≡ record self.old { waiting = record self.old.waiting { waiters = without_file file self.old.waiting.waiters } } }
@@ -200,11 +215,8 @@ impl Line {
     {
         filters_keep_the_order();
         let dests = self.dests.as_slice();
-        match self.heads.own_at(dest_of(dests, file)) {
+        match own_key(&self.heads, dests, file) {
             Some(key) => {
-                if key.file != file {
-                    return false;
-                }
                 go_out(&mut self.heads, self.rests.as_slice(), dests, key);
                 true
             }

@@ -5,7 +5,8 @@ use Rattle.fts_heads.specs.declared.ripe_file.RipeFile.{RipeFile}
 use Rattle.fts_heads.specs.RipeFiles.{goes_by_group}
 use Rattle.fts_line.specs.Keys.{waiter_of, key_of}
 use Rattle.fts_line.proofs.Walks.{due_between, new_later}
-use Rattle.fts_line.proofs.Passed.{left, ArePast, past_start, past_same, past_moved, past_end, next_there, next_stays, next_ripe, new_passed, fewer_left, fewer_left_moved, at_key}
+use Rattle.fts_heads.proofs.Passed.{left, next_there, fewer_left}
+use Rattle.fts_line.proofs.Passed.{ArePast, past_start, past_same, past_moved, past_end, next_stays, next_ripe, new_passed, fewer_left_moved, at_key}
 use Rattle.fts_line.proofs.moves.unripen.Goals as goal
 
 pub loop-next-init : goal.loop-next-init

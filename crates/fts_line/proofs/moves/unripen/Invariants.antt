@@ -3,7 +3,8 @@ use Rattle.std.specs.Prelude.{IfSome}
 use Rattle.ordered.specs.Orders.{has_key}
 use Rattle.fts_heads.specs.RipeFiles.{goes_by_group}
 use Rattle.fts_line.specs.Keys.{is_later, waiters_of, AreKeyed, AreDue}
-use Rattle.fts_line.proofs.Passed.{left, ArePast}
+use Rattle.fts_heads.proofs.Passed.{left}
+use Rattle.fts_line.proofs.Passed.{ArePast}
 use Rattle.fts_line.proofs.moves.unripen.Given as goal
 
 -- what waits is the same; the next key is there, of a file that stands with its destination; and each such file that was passed has had its moment

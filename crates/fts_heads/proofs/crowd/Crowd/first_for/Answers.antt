@@ -11,7 +11,7 @@ pub returns : goal.returns
 returns c = record {
   first = c.sooner.ensures.sooner
       ∙ (with_least c.self.inside.own.items c.self.inside.rest.keys (is_from c.args.start.now) c.own_from.result c.first_for.result c.len.ensures.order
-      c.self.invariant.apart
+      c.self.invariant.0.apart
       (subst (λ (own : List Own). IsLeast (is_own own) (is_from c.args.start.now) c.own_from.result) c.as_slice.ensures.value c.own_from.ensures.least)
       c.first_for.ensures.least
       ∙ ap (λ (set : KeySet RipeFile). find (is_from c.args.start.now) set.keys) c.self.view_is);

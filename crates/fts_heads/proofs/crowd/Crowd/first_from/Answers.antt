@@ -17,7 +17,7 @@ pub returns : goal.returns
 returns c = record {
   file = c.sooner.ensures.sooner
       ∙ (bound_least c.self.inside.own.items c.self.inside.rest.keys (λ other. not (goes_by_group other c.args.file.now)) c.first_own.result
-      c.first_from-found.result c.len.ensures.order c.self.invariant.apart
+      c.first_from-found.result c.len.ensures.order c.self.invariant.0.apart
       (subst (λ n. IsLeast (is_own c.self.inside.own.items) (λ other. not (goes_by_group other c.args.file.now) && not (nat_lt other.dest n)) c.first_own.result)
       c.dest_of.ensures.dest
       (subst (λ (own : List Own). IsLeast (is_own own) (λ other. not (goes_by_group other c.args.file.now) && not (nat_lt other.dest c.dest_of.result))

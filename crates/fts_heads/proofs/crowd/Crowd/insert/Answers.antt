@@ -1,11 +1,12 @@
 use Rattle.std.proofs.Common.{◌≡◌, ℕ, ◌<◌, ◌+◌, true, false, List, length, ap, sym, ◌∙◌, subst, arith}
-use Rattle.std.specs.Prelude.{slice_set}
+use Rattle.std.specs.Prelude.{slice_set, ◌||◌}
 use Rattle.ordered.specs.Orders.{KeySet, has_key, put_by}
 use Rattle.fts_heads.specs.declared.ripe_file.RipeFile.{RipeFile}
 use Rattle.fts_heads.specs.declared.crowd.Own.{Own}
 use Rattle.fts_heads.specs.RipeFiles.{goes_by_group}
-use Rattle.fts_heads.specs.Crowd.{may_own, with_own, AreCrowd}
+use Rattle.fts_heads.specs.Crowd.{may_own, with_own, AreCrowd, AreFollowers}
 use Rattle.fts_heads.proofs.Owned.{fewer, put_own, put_rest, not_rest, IsNow}
+use Rattle.fts_heads.proofs.Brought.{followers_put}
 use Rattle.fts_heads.proofs.crowd.Crowd.insert.Goals as goal
 use Rattle.fts_heads.proofs.crowd.Crowd.insert.Goals.{After-may_own}
 
@@ -20,7 +21,7 @@ module _ (c : After-may_own) where
   less = omega (
     arith,
     c.requires.room,
-    c.self.invariant.count,
+    c.self.invariant.0.count,
     ap (λ (set : KeySet RipeFile). length set.keys) c.self.view_is,
     ap (λ (set : KeySet RipeFile). set.room) c.self.view_is,
   )
@@ -29,13 +30,13 @@ module _ (c : After-may_own) where
       (record c.self.inside.rest { keys = put_by goes_by_group c.args.file c.self.inside.rest.keys })
       (put_by goes_by_group c.args.file (with_own c.self.inside.own.items c.self.inside.rest.keys))
   at_rest =
-      put_rest c.self.inside.own.items c.self.inside.len c.self.inside.room c.self.inside.rest c.self.invariant c.len.ensures.order c.args.file absent less
+      put_rest c.self.inside.own.items c.self.inside.len c.self.inside.room c.self.inside.rest c.self.invariant.0 c.len.ensures.order c.args.file absent less
 
   at_own : c.may_own.result ≡ true
       → IsNow (slice_set c.self.inside.own.items c.args.file.dest (record { queue = c.args.file.queue; rank = c.args.file.rank })) (c.self.inside.len + 1)
       c.self.inside.room c.self.inside.rest (put_by goes_by_group c.args.file (with_own c.self.inside.own.items c.self.inside.rest.keys))
   at_own is =
-      put_own c.self.inside.own.items c.self.inside.len c.self.inside.room c.self.inside.rest c.self.invariant c.len.ensures.order c.args.file absent less
+      put_own c.self.inside.own.items c.self.inside.len c.self.inside.room c.self.inside.rest c.self.invariant.0 c.len.ensures.order c.args.file absent less
       (ap (λ (own : List Own). may_own own c.args.file) (sym c.as_slice.ensures.value) ∙ (sym c.may_own.ensures.answer ∙ is))
 
 pub insert-requires-clause-room : goal.insert-requires-clause-room
@@ -44,22 +45,25 @@ insert-requires-clause-room c =
     omega (
       arith,
       less here,
-      c.self.invariant.places,
-      c.self.invariant.count,
+      c.self.invariant.0.places,
+      c.self.invariant.0.count,
       fewer c.self.inside.own.items (length c.self.inside.own.items) c.self.inside.rest.keys,
     )
 
 pub insert-requires-clause-absent : goal.insert-requires-clause-absent
 insert-requires-clause-absent c =
     let here = (goal.at.insert-requires-clause-absent c).After-may_own in
-    not_rest c.self.inside.own.items c.self.inside.len c.self.inside.room c.self.inside.rest c.self.invariant c.len.ensures.order c.args.file (absent here)
+    not_rest c.self.inside.own.items c.self.inside.len c.self.inside.room c.self.inside.rest c.self.invariant.0 c.len.ensures.order c.args.file (absent here)
     (less here)
 
 pub invariant_of-self : goal.invariant_of-self
 invariant_of-self c =
-    let here = (goal.at.invariant_of-self c).After-may_own in
-    subst (λ (set : KeySet RipeFile). AreCrowd c.self.inside.own.items (c.self.inside.len + 1) c.self.inside.room set) (sym c.insert.ensures.keys)
-    (at_rest here).kept
+    let here = (goal.at.invariant_of-self c).After-may_own in (
+      subst (λ (set : KeySet RipeFile). AreCrowd c.self.inside.own.items (c.self.inside.len + 1) c.self.inside.room set) (sym c.insert.ensures.keys)
+          (at_rest here).kept,
+      subst (λ (set : KeySet RipeFile). AreFollowers (c.self.inside.strays || c.brought.result) set.keys) (sym c.insert.ensures.keys)
+          (followers_put c.self.inside.strays c.brought.result c.args.file c.self.inside.rest.keys c.self.invariant.1 c.brought.ensures.answer),
+    )
 
 pub returns-then-not-may_own : goal.returns-then-not-may_own
 returns-then-not-may_own c =
@@ -73,7 +77,7 @@ returns-then-not-may_own c =
 pub invariant_of-self-2 : goal.invariant_of-self-2
 invariant_of-self-2 c =
     let here = (goal.at.invariant_of-self-2 c).After-may_own in
-    (at_own here c.if-not-may_own.false).kept
+    ((at_own here c.if-not-may_own.false).kept, c.self.invariant.1)
 
 pub returns : goal.returns
 returns c =

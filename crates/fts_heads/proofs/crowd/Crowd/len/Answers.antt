@@ -8,4 +8,4 @@ use Rattle.fts_heads.proofs.crowd.Crowd.len.Goals as goal
 pub returns-clause-order : goal.returns-clause-order
 returns-clause-order c =
     subst (λ (set : KeySet RipeFile). AreSortedBy goes_by_group set.keys) c.self.view_is
-    (sorted_own c.self.inside.own.items c.self.inside.rest.keys c.len.ensures.order c.self.invariant.apart)
+    (sorted_own c.self.inside.own.items c.self.inside.rest.keys c.len.ensures.order c.self.invariant.0.apart)

@@ -2,7 +2,7 @@ use Rattle.std.proofs.Common.{◌≡◌, ℕ, ◌<◌, List, Result, Ok, Err, ma
 use Rattle.std.specs.Prelude.{OnErr}
 use Rattle.ordered.specs.Orders.{KeySet}
 use Rattle.fts_heads.specs.declared.ripe_file.RipeFile.{RipeFile}
-use Rattle.fts_heads.specs.Crowd.{with_own, AreCrowd}
+use Rattle.fts_heads.specs.Crowd.{with_own, AreCrowd, AreFollowers}
 use Rattle.fts_heads.proofs.Owned.{IsNow, same_stands, more_room}
 use Rattle.fts_heads.proofs.crowd.Crowd.make_room.Goals as goal
 use Rattle.fts_heads.proofs.crowd.Crowd.make_room.Goals.{After-add_stands}
@@ -18,11 +18,11 @@ module _ (c : After-add_stands) where
   same : IsNow c.add_stands.new.own.items c.self.inside.len c.self.inside.room c.self.inside.rest
       (with_own c.self.inside.own.items c.self.inside.rest.keys)
   same =
-      same_stands c.self.inside.own.items c.add_stands.new.own.items c.self.inside.len c.self.inside.room c.self.inside.rest c.self.invariant
+      same_stands c.self.inside.own.items c.add_stands.new.own.items c.self.inside.len c.self.inside.room c.self.inside.rest c.self.invariant.0
       c.len.ensures.order c.add_stands.ensures.same c.add_stands.ensures.few
 
 pub invariant_of-self : goal.invariant_of-self
-invariant_of-self c = (same (goal.at.invariant_of-self c).After-add_stands).kept
+invariant_of-self c = ((same (goal.at.invariant_of-self c).After-add_stands).kept, c.self.invariant.1)
 
 pub returns-in_err-add_stands-clause-err : goal.returns-in_err-add_stands-clause-err
 returns-in_err-add_stands-clause-err c =
@@ -30,9 +30,11 @@ returns-in_err-add_stands-clause-err c =
     (ap (set_of c.self.inside.room) (same (goal.at.returns-in_err-add_stands-clause-err c).After-add_stands).are ∙ c.self.view_is)
 
 pub invariant_of-self-in_err-make_room : goal.invariant_of-self-in_err-make_room
-invariant_of-self-in_err-make_room c =
-    subst (AreCrowd c.add_stands.new.own.items c.self.inside.len c.self.inside.room) (sym c.in_err-make_room.ensures.err)
-    (same (goal.at.invariant_of-self-in_err-make_room c).After-add_stands).kept
+invariant_of-self-in_err-make_room c = (
+  subst (AreCrowd c.add_stands.new.own.items c.self.inside.len c.self.inside.room) (sym c.in_err-make_room.ensures.err)
+      (same (goal.at.invariant_of-self-in_err-make_room c).After-add_stands).kept,
+  subst (λ (set : KeySet RipeFile). AreFollowers c.self.inside.strays set.keys) (sym c.in_err-make_room.ensures.err) c.self.invariant.1,
+)
 
 pub returns-in_err-make_room-clause-err : goal.returns-in_err-make_room-clause-err
 returns-in_err-make_room-clause-err c =
@@ -41,10 +43,12 @@ returns-in_err-make_room-clause-err c =
     ∙ (ap (set_of c.self.inside.room) (same (goal.at.returns-in_err-make_room-clause-err c).After-add_stands).are ∙ c.self.view_is))
 
 pub invariant_of-self-2 : goal.invariant_of-self-2
-invariant_of-self-2 c =
-    subst (AreCrowd c.add_stands.new.own.items c.self.inside.len c.args.files) (sym c.in_ok-make_room.ensures.ok)
-    (more_room c.add_stands.new.own.items c.self.inside.len c.self.inside.room c.args.files c.self.inside.rest
-    (same (goal.at.invariant_of-self-2 c).After-add_stands).kept (omega (arith, c.if-files-self.false)))
+invariant_of-self-2 c = (
+  subst (AreCrowd c.add_stands.new.own.items c.self.inside.len c.args.files) (sym c.in_ok-make_room.ensures.ok)
+      (more_room c.add_stands.new.own.items c.self.inside.len c.self.inside.room c.args.files c.self.inside.rest
+      (same (goal.at.invariant_of-self-2 c).After-add_stands).kept (omega (arith, c.if-files-self.false))),
+  subst (λ (set : KeySet RipeFile). AreFollowers c.self.inside.strays set.keys) (sym c.in_ok-make_room.ensures.ok) c.self.invariant.1,
+)
 
 pub returns-clause-ok : goal.returns-clause-ok
 returns-clause-ok c =

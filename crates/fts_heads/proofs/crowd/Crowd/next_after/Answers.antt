@@ -17,7 +17,7 @@ pub returns : goal.returns
 returns c = record {
   file = c.sooner.ensures.sooner
       ∙ (bound_least c.self.inside.own.items c.self.inside.rest.keys (goes_by_group c.args.file.now) c.next_own.result c.next_after-found.result c.len.ensures.order
-      c.self.invariant.apart
+      c.self.invariant.0.apart
       (subst (λ n. IsLeast (is_own c.self.inside.own.items) (λ other. goes_by_group c.args.file.now other && not (nat_lt other.dest n)) c.next_own.result)
       c.dest_of.ensures.dest
       (subst (λ (own : List Own). IsLeast (is_own own) (λ other. goes_by_group c.args.file.now other && not (nat_lt other.dest c.dest_of.result))

@@ -1,12 +1,16 @@
-use Rattle.std.proofs.Common.{◌≡◌, List, length, ap, sym, ◌∙◌, subst}
+use Rattle.std.proofs.Common.{◌≡◌, true, false, ℕ, List, Option, length, ap, sym, ◌∙◌, subst, arith}
+use Rattle.std.specs.Prelude.{IfNone}
+use Rattle.ordered.specs.Orders.{has_key}
 use Rattle.fts_queue.specs.declared.waiter.Waiter.{Waiter}
 use Rattle.fts_queue.specs.WaitingData.{WaitingData, AreWaiting, is_waiting, without_file}
 use Rattle.fts_queue.proofs.QueueRooms.{waiting_less}
+use Rattle.fts_heads.specs.RipeFiles.{goes_by_group}
+use Rattle.fts_heads.specs.declared.ripe_file.RipeFile.{RipeFile}
 use Rattle.fts_heads.specs.Heads.{HeadsData}
-use Rattle.fts_line.specs.LineData.{LineData}
-use Rattle.fts_line.specs.Keys.{AreKeyed, AreDue, waiters_of}
+use Rattle.fts_line.specs.LineData.{LineData, waits_own}
+use Rattle.fts_line.specs.Keys.{AreKeyed, AreDue, waiters_of, is_own_key}
 use Rattle.fts_line.specs.Line.{waiting_of}
-use Rattle.fts_line.proofs.Lines.{key_waits}
+use Rattle.fts_line.proofs.Lines.{key_waits, own_file, own_waits, none_waits}
 use Rattle.fts_line.proofs.line.Line.take_own.Goals as goal
 
 pub invariant_of-self : goal.invariant_of-self
@@ -29,8 +33,27 @@ invariant_of-self c =
       rows = line.rows ∙ sym (ap (λ (some : HeadsData). length some.busy) c.go_out.ensures.heads);
     }
 
-pub returns-else-key-file-clause-waits : goal.returns-else-key-file-clause-waits
-returns-else-key-file-clause-waits c taken =
-    ap (λ n. is_waiting n c.args.self.now.waiting.waiters) (sym c.if-key-file.false)
+pub returns-in-Some-clause-answer : goal.returns-in-Some-clause-answer
+returns-in-Some-clause-answer c =
+    let inside = c.self.inside in
+    sym (ap (λ (view : LineData). waits_own view c.args.file) (sym c.self.view_is)
+    ∙ own_waits inside.dests.items inside.rests.items inside.moment inside.heads.files c.self.invariant.due c.args.file (omega (arith, c.ranges.file.fits))
+    c.in-Some.key c.in-Some.ensures.there
+    (ap (λ (dests : List ℕ). is_own_key dests c.args.file c.in-Some.key) (sym c.as_slice-dests.ensures.value) ∙ c.in-Some.ensures.own))
+
+pub returns-in-Some-clause-waits : goal.returns-in-Some-clause-waits
+returns-in-Some-clause-waits c taken =
+    ap (λ n. is_waiting n c.args.self.now.waiting.waiters)
+    (sym (own_file c.as_slice-dests.result.now c.args.file c.in-Some.key c.in-Some.ensures.own))
     ∙ (ap (λ (view : LineData). is_waiting c.in-Some.key.file view.waiting.waiters) (sym c.self.view_is)
     ∙ key_waits c.self.inside.rests.items c.self.inside.heads.files c.in-Some.key c.in-Some.ensures.there)
+
+pub returns-in-None-clause-answer : goal.returns-in-None-clause-answer
+returns-in-None-clause-answer c =
+    let inside = c.self.inside in
+    sym (ap (λ (view : LineData). waits_own view c.args.file) (sym c.self.view_is)
+    ∙ none_waits inside.dests.items (length inside.heads.busy) inside.rests.items inside.moment inside.heads.files c.self.invariant.keys c.self.invariant.due
+    c.args.file (subst (λ (dests : List ℕ). (key : RipeFile) → has_key goes_by_group key inside.heads.files ≡ true → is_own_key dests c.args.file key ≡ false)
+    c.as_slice-dests.ensures.value
+    (subst (λ (some : Option RipeFile). IfNone some ((key : RipeFile) → has_key goes_by_group key inside.heads.files ≡ true
+    → is_own_key c.as_slice-dests.result.now c.args.file key ≡ false)) c.in-None.is c.own_key.ensures.none)))
