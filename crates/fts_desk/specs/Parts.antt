@@ -1,5 +1,5 @@
 -- What a claim looks at, beside the rows: there from the first Restart on, tied to the rows and jobs, with room for what a command may add.
-use Rattle.std.specs.Prelude.{◌≡◌, ◌≢◌, ℕ, ◌+◌, ◌-◌, ◌<◌, ◌≤◌, Bool, true, List, [], length, slice_get, count_by, Option, Some, None, option_map, IfSome}
+use Rattle.std.specs.Prelude.{◌≡◌, ◌≢◌, ℕ, ◌+◌, ◌-◌, ◌<◌, ◌≤◌, Bool, true, false, List, [], length, slice_get, count_by, Option, Some, None, option_map, IfSome}
 use Rattle.fts_tables.specs.SettingsData.{SettingsData}
 use Rattle.fts_tables.specs.Limits.{has_known_ends}
 use Rattle.fts_tables.specs.Tables.{is_active}
@@ -12,6 +12,7 @@ use Rattle.fts_tables.specs.declared.rows.JobKind.TheVariants.{Plain}
 use Rattle.fts_states.specs.declared.reports.Follow.{Follow}
 use Rattle.fts_states.specs.declared.reports.Follow.TheVariants.{Nothing, NextHop, NextAlternative}
 use Rattle.fts_heads.specs.Dests.{dests_of}
+use Rattle.fts_line.specs.LineData.{waits_own}
 use Rattle.fts_claims.specs.InLine.{AreInLine, HasRoomInLine}
 use Rattle.fts_claims.specs.Ties.{flags_of}
 use Rattle.fts_claims.specs.Changes.{AreTiedTo, IsBetween, HasQueueRoom, IsSameRoom, HaveAtMostMore, HasRoomForFiles, HasRoomForRows, HasRoomsRisen, MayWait, MayRun}
@@ -35,6 +36,11 @@ AreTiedParts jobs rows parts = IfSome parts (λ parts. AreTiedTo jobs rows parts
 -- the ends of a row are the settings' endpoints at the places of a link
 abbrev pub IsBetweenIn : Option SettingsData → LinkAt → FileRow → Type 0
 IsBetweenIn settings link row = IfSome settings (λ settings. IsBetween settings link row)
+
+-- whether a file waits whose moment has come and which brought its destination
+abbrev pub waits_own_in : Option ClaimParts → ℕ → Bool
+waits_own_in None file = false
+waits_own_in (Some parts) file = waits_own parts.line file
 
 -- what is in line is so by the destinations of these rows
 abbrev pub AreInLineParts : List FileRow → Option ClaimParts → Type 0

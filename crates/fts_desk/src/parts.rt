@@ -1,6 +1,6 @@
 //! What a claim looks at, beside the rows, from the first Restart on: before there is none, each of these does nothing.
 //! Order: a row is left before it changes, and comes in again behind its change, by `wait` or by `start`. Room is made as a command is prepared.
-ghost use Rattle.std.specs.Prelude.{◌≡◌, ◌<◌, ◌≤◌, ◌+◌, List, Some, true, false, length, slice_get, take, drop, OnOk, IfSome};
+ghost use Rattle.std.specs.Prelude.{◌≡◌, ◌<◌, ◌≤◌, ◌+◌, List, Some, true, false, length, slice_get, take, drop, OnOk, IfSome, is_some};
 ghost use Rattle.std.specs.List.{AllByRecursion};
 ghost use Rattle.fts_tables.specs.Tables.{AreNumberedFrom, is_active};
 ghost use Rattle.fts_tables.specs.declared.limits.TheConstants.{MAX_ROWS};
@@ -9,6 +9,7 @@ ghost use Rattle.fts_claims.specs.Changes.{all_but};
 ghost use Rattle.fts_desk.specs.Parts.{
   limits_of,
   IsBetweenIn,
+  waits_own_in,
   AreTiedParts,
   AreInLineParts,
   HasRoomToWait,
@@ -26,7 +27,8 @@ ghost use Rattle.fts_desk.specs.Parts.{
 use fts_claims::ClaimParts;
 use fts_tables::{FileRow, JobRow, LinkAt, Memory, NewFile, Place};
 
-/// The link of the row at a place, where its file is found in line at once: its ends are the settings' endpoints there. None says nothing.
+/// The link of the row at a place, where its file waits, its moment has come and it brought its destination; None exactly where it doesn't. The row's ends are the
+/// settings' endpoints at the link's places.
 pub fn link_in_line(
     parts: &Option<ClaimParts>,
     jobs: &[JobRow],
@@ -36,6 +38,7 @@ pub fn link_in_line(
     requires rows_numbered { AreNumberedFrom (λ row. row.id) 1 rows.now }
     requires inside { place < length rows.now }
     requires tied { AreTiedParts jobs.now rows.now parts.now }
+    ensures answer { (row : FileRow) → slice_get rows.now place ≡ Some row → is_some result ≡ waits_own_in parts.now row.id }
     ensures ends { IfSome result (λ link. (row : FileRow) → slice_get rows.now place ≡ Some row → IsBetweenIn (limits_of parts.now) link row) }
 {
     match parts {
