@@ -90,3 +90,28 @@ fn files_that_brought_their_destinations_stand_among_the_others(
     assert_eq!(rt; heads.first_without_dest(), None, "each has a destination");
     Ok(())
 }
+
+#[test]
+fn who_brought_a_destination_is_found_wherever_it_stands(rt: HostRuntime) -> Result<(), Fail> {
+    let mut heads = Heads::new(rt.alloc());
+    heads.make_dests(3)?;
+    heads.add_dest();
+    heads.add_dest();
+    heads.add_dest();
+    heads.make_room(2)?;
+    assert_eq!(rt; heads.own_at(2), None, "nobody is there");
+    let follower = make_file(6, 2, 0, 9);
+    let bringer = make_file(7, 2, 0, 3);
+    heads.insert(follower);
+    assert_eq!(rt; heads.own_at(2), None, "who follows did not bring it");
+    heads.insert(bringer);
+    assert_eq!(rt;
+        heads.own_at(2),
+        Some(bringer),
+        "behind another, of a number past the room"
+    );
+    assert_eq!(rt; heads.own_at(1), None, "of another destination");
+    heads.remove(bringer);
+    assert_eq!(rt; heads.own_at(2), None, "it went");
+    Ok(())
+}

@@ -92,3 +92,27 @@ fn a_better_file_goes_first_once_its_moment_has_come(rt: HostRuntime) -> Result<
     line.remove(&make_waiter(3, 1, 5_000_000_000));
     Ok(())
 }
+
+#[test]
+fn a_file_that_brought_its_destination_goes_by_its_number(rt: HostRuntime) -> Result<(), Fail> {
+    let mut line = Line::new(rt.alloc());
+    line.make_rows(3)?;
+    line.add_row(0);
+    line.add_row(0);
+    line.add_row(2);
+    line.make_room(LINK, 3, 3)?;
+    line.make_places(3)?;
+    line.insert(make_waiter(1, 3, 0));
+    line.insert(make_waiter(2, 5, 0));
+    line.insert(make_waiter(3, 1, 10));
+    assert_eq!(rt; line.own_link(1), Some(LINK), "it waits");
+    assert_eq!(rt; line.own_link(2), None, "it follows to another's");
+    assert_eq!(rt; line.own_link(3), None, "its moment is to come");
+    assert!(rt; !line.take_own(2) && !line.take_own(3) && !line.take_own(4));
+    assert!(rt; line.take_own(1), "it goes");
+    assert!(rt; !line.take_own(1), "it went");
+    assert_eq!(rt; line.first_open(LINK, 3), Some(2), "the other stays");
+    line.ripen(10);
+    assert_eq!(rt; line.own_link(3), Some(LINK), "its moment has come");
+    Ok(())
+}
