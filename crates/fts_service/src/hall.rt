@@ -1,8 +1,7 @@
 //! Lanes and workers at the same time: each lane at its booth and each worker at its station in a thread of its own, where one can be made.
 //! Keeps: what `serve_lane` says of each booth and `worker` of each station, by its own old value alone. Lists are halved until one is left (`spread`
 //! and `beside` of fts_shop).
-ghost use Rattle.std.specs.Prelude.{◌≤◌, IfSome, All};
-ghost use Rattle.fts_turnstile.specs.Passes.{IsOf};
+ghost use Rattle.std.specs.Prelude.{All};
 ghost use Rattle.fts_shop.specs.Many.{Each};
 ghost use Rattle.fts_service.specs.Halls.{IsBoothServed, IsBoothReady, IsStationWorked, IsStationReady};
 ghost use Rattle.fts_service.specs.Lanes.{sides_of};
