@@ -100,11 +100,11 @@ module _ (jobs : List JobRow) (rows : List FileRow) (place : ℕ) (was : Tally) 
       (recounted old_rows place earlier.before row was.live counts.loads new earlier.of_rows.loads there earlier.counted.live same_link more known)
 
   -- its job may stand anew
-  pub states_may : AreStatesBefore jobs rows place was.live counts.states
+  pub states_may : AreStatesBefore jobs rows place was counts.states
   states_may = record {
     before = earlier.before;
     job = λ some there. sym (ap (λ (file : FileOfRow). file.job) (earlier.file some there));
-    live = earlier.counted.live;
+    counted = earlier.counted;
     of_rows = earlier.of_rows.states;
   }
 

@@ -5,16 +5,17 @@ use Rattle.std.specs.List.{list_any}
 use Rattle.std.proofs.lemmas.Bool.{eq-eqb, ne_eqb}
 use Rattle.std.proofs.lemmas.Option.{same_Some, slice_get_cases, slice_get-get_or}
 use Rattle.std.proofs.lemmas.List.Sums.{sum_by-cons}
-use Rattle.fts_tables.specs.Tables.{AreNumberedFrom, RowsFollow, is_live, is_active, is_settled, is_canceled, job_at, rows_of_job}
+use Rattle.fts_tables.specs.Tables.{AreNumberedFrom, RowsFollow, is_live, is_canceled, job_at, rows_of_job}
 use Rattle.fts_tables.specs.Moves.{settled_state, state_of_job}
 use Rattle.fts_tables.specs.declared.rows.FileRow.{FileRow}
+use Rattle.fts_tables.specs.declared.rows.FileState.{FileState}
 use Rattle.fts_tables.specs.declared.rows.JobRow.{JobRow}
 use Rattle.fts_tables.specs.declared.rows.JobKind.{JobKind}
-use Rattle.fts_tables.specs.declared.rows.JobState.{JobState}
 use Rattle.fts_tables.specs.declared.rows.JobState.TheVariants.{Submitted, Active, Canceled}
-use Rattle.fts_desk.specs.Counted.{is_live_of, progress_of, AreStatesOf, AreStatesBefore}
+use Rattle.fts_desk.specs.Counted.{has_begun, is_of, progress_of, AreStatesOf, AreStatesBefore}
 use Rattle.fts_desk.specs.JobLists.{JobList}
 use Rattle.fts_desk.proofs.Numbered.{number_at}
+use Rattle.fts_desk.specs.declared.counts.Tally.{Tally}
 use Rattle.fts_desk.specs.declared.job_states.Progress.{Progress}
 
 -- the first item and the others
@@ -52,28 +53,29 @@ others-set (first ∷ rows) zero number row after at same apart =
 others-set (first ∷ rows) (suc place) number row after at same apart =
     ap (λ rest. cond (first.job == number) (first ∷ rest) rest) (others-set rows place number row after at same apart)
 
--- how a job stands, by its state and its live rows
-pub as_they_are : (state other : JobState) (live more : ℕ) → state ≡ other → live ≡ more
-    → ◌≡◌ {A = Progress} (record { state = state; live = live }) (record { state = other; live = more })
-as_they_are state other live more same count =
-    ap (λ some. record { state = some; live = live }) same ∙ ap (λ some. record { state = other; live = some }) count
+-- how a job stands is its state, its live rows and those that have begun
+pub as_they_are : (one other : Progress) → one.state ≡ other.state → one.live ≡ other.live → one.begun ≡ other.begun → one ≡ other
+as_they_are one other state live begun =
+    ap (λ some. record one { state = some }) state
+    ∙ (ap (λ some. record other { live = some; begun = one.begun }) live ∙ ap (λ some. record other { begun = some }) begun)
 
 -- a job of another number stands as before
 other_stands : (rows : List FileRow) (place : ℕ) (row after : FileRow) (job : JobRow) → slice_get rows place ≡ Some row → after.job ≡ row.job
     → (row.job == job.number) ≡ false → progress_of (set rows place after) job ≡ progress_of rows job
 other_stands rows place row after job at same apart =
-    as_they_are (state_of_job job.kind (rows_of_job (set rows place after) job.number)) (state_of_job job.kind (rows_of_job rows job.number))
-    (count_by (is_live_of job.number) (set rows place after)) (count_by (is_live_of job.number) rows)
-    (ap (state_of_job job.kind) (others-set rows place job.number row after at same apart))
-    (omega (
-      arith,
-      count_by-set (is_live_of job.number) rows place row after at,
-      not_counted row apart,
-      not_counted after (ap (λ some. some == job.number) same ∙ apart),
-    ))
+    as_they_are (progress_of (set rows place after) job) (progress_of rows job)
+    (ap (state_of_job job.kind) (others-set rows place job.number row after at same apart)) (as_many is_live) (as_many has_begun)
   where
-    not_counted : (some : FileRow) → (some.job == job.number) ≡ false → ◌≡◌ {A = ℕ} (cond (is_live_of job.number some) 1 0) 0
-    not_counted some is = ap (λ answer. cond (answer && is_live some.state) 1 0) is
+    not_counted : (are : FileState → Bool) (some : FileRow) → (some.job == job.number) ≡ false → ◌≡◌ {A = ℕ} (cond (is_of job.number are some) 1 0) 0
+    not_counted are some is = ap (λ answer. cond (answer && are some.state) 1 0) is
+
+    as_many : (are : FileState → Bool) → count_by (is_of job.number are) (set rows place after) ≡ count_by (is_of job.number are) rows
+    as_many are = omega (
+      arith,
+      count_by-set (is_of job.number are) rows place row after at,
+      not_counted are row apart,
+      not_counted are after (ap (λ some. some == job.number) same ∙ apart),
+    )
 
 -- where all jobs of other numbers stand as before
 module _ (number : ℕ) (one other : JobRow → Progress) (apart : (job : JobRow) → (number == job.number) ≡ false → one job ≡ other job) where
@@ -119,58 +121,61 @@ mapped_at change [] place item at = cc
 mapped_at change (first ∷ items) zero item at = ap (λ some. Some (change some)) (same_Some first item at)
 mapped_at change (first ∷ items) (suc place) item at = mapped_at change items place item at
 
--- a row of a job that passes a test, and that some row is counted
-pub any_of_job : (test : FileRow → Bool) (rows : List FileRow) (place number : ℕ) (row : FileRow) → slice_get rows place ≡ Some row → row.job ≡ number
-    → test row ≡ true → list_any test (rows_of_job rows number) ≡ true
-any_of_job test [] place number row at own passes = cc
-any_of_job test (first ∷ rows) zero number row at own passes =
-    let here : (first.job == number) ≡ true = eq-eqb first.job number (ap (λ (row : FileRow). row.job) (same_Some first row at) ∙ own) in
-    ap (λ answer. list_any test (cond answer (first ∷ rows_of_job rows number) (rows_of_job rows number))) here
-    ∙ ap (λ answer. answer || list_any test (rows_of_job rows number)) (ap test (same_Some first row at) ∙ passes)
-any_of_job test (first ∷ rows) (suc place) number row at own passes =
-    by_head (first.job == number) (any_of_job test rows place number row at own passes)
+-- where rows of a job are counted, some of its rows are
+any_counted : (are : FileState → Bool) (rows : List FileRow) (number : ℕ) → count_by (is_of number are) rows ≢ 0
+    → list_any (λ (row : FileRow). are row.state) (rows_of_job rows number) ≡ true
+any_counted are [] number some = absurd (some refl)
+any_counted are (row ∷ rows) number some =
+    by_head (row.job == number) (any_counted are rows number) (λ none. some (count_by-cons (is_of number are) row rows ∙ none))
   where
-    by_head : (answer : Bool) → list_any test (rows_of_job rows number) ≡ true
-        → list_any test (cond answer (first ∷ rows_of_job rows number) (rows_of_job rows number)) ≡ true
-    by_head true behind = ap (λ answer. test first || answer) behind ∙ or_true (test first)
-      where
-        or_true : (answer : Bool) → (answer || true) ≡ true
-        or_true true = refl
-        or_true false = refl
-    by_head false behind = behind
+    by_state : (answer : Bool) → (count_by (is_of number are) rows ≢ 0 → list_any (λ (row : FileRow). are row.state) (rows_of_job rows number) ≡ true)
+        → (cond answer 1 0 + count_by (is_of number are) rows ≢ 0)
+        → (answer || list_any (λ (row : FileRow). are row.state) (rows_of_job rows number)) ≡ true
+    by_state true behind some = refl
+    by_state false behind some = behind (λ none. some (omega (arith, none)))
 
-pub any_counted : (rows : List FileRow) (number : ℕ) → count_by (is_live_of number) rows ≢ 0
-    → list_any (λ (row : FileRow). is_live row.state) (rows_of_job rows number) ≡ true
-any_counted [] number some = absurd (some refl)
-any_counted (row ∷ rows) number some =
-    by_head (row.job == number) (any_counted rows number) (λ none. some (count_by-cons (is_live_of number) row rows ∙ none))
-  where
-    by_live : (live : Bool) → (count_by (is_live_of number) rows ≢ 0 → list_any (λ (row : FileRow). is_live row.state) (rows_of_job rows number) ≡ true)
-        → (cond live 1 0 + count_by (is_live_of number) rows ≢ 0)
-        → (live || list_any (λ (row : FileRow). is_live row.state) (rows_of_job rows number)) ≡ true
-    by_live true behind some = refl
-    by_live false behind some = behind (λ none. some (omega (arith, none)))
-
-    by_head : (own : Bool) → (count_by (is_live_of number) rows ≢ 0 → list_any (λ (row : FileRow). is_live row.state) (rows_of_job rows number) ≡ true)
-        → (cond (own && is_live row.state) 1 0 + count_by (is_live_of number) rows ≢ 0)
-        → list_any (λ (row : FileRow). is_live row.state) (cond own (row ∷ rows_of_job rows number) (rows_of_job rows number)) ≡ true
-    by_head true behind some = by_live (is_live row.state) behind some
+    by_head : (own : Bool) → (count_by (is_of number are) rows ≢ 0 → list_any (λ (row : FileRow). are row.state) (rows_of_job rows number) ≡ true)
+        → (cond (own && are row.state) 1 0 + count_by (is_of number are) rows ≢ 0)
+        → list_any (λ (row : FileRow). are row.state) (cond own (row ∷ rows_of_job rows number) (rows_of_job rows number)) ≡ true
+    by_head true behind some = by_state (are row.state) behind some
     by_head false behind some = behind (λ none. some (omega (arith, none)))
 
--- a job of which some row is live and one has begun is ACTIVE
-active_by : (kind : JobKind) (of_job : List FileRow) → list_any (λ (row : FileRow). is_live row.state) of_job ≡ true
-    → list_any (λ (row : FileRow). is_active row.state || is_settled row.state) of_job ≡ true → state_of_job kind of_job ≡ Active
-active_by kind of_job live begun =
-    ap (λ any. cond (not any) (cond (list_any (λ (row : FileRow). is_canceled row.state) of_job) Canceled (settled_state kind of_job))
-    (cond (list_any (λ (row : FileRow). is_active row.state || is_settled row.state) of_job) Active Submitted)) live
-    ∙ ap (λ any. cond any Active Submitted) begun
+-- and where none are counted, none is
+none_counted : (are : FileState → Bool) (rows : List FileRow) (number : ℕ) → count_by (is_of number are) rows ≡ 0
+    → list_any (λ (row : FileRow). are row.state) (rows_of_job rows number) ≡ false
+none_counted are [] number none = refl
+none_counted are (row ∷ rows) number none =
+    by_head (row.job == number) (none_counted are rows number) (sym (count_by-cons (is_of number are) row rows) ∙ none)
+  where
+    by_state : (answer : Bool) → (count_by (is_of number are) rows ≡ 0 → list_any (λ (row : FileRow). are row.state) (rows_of_job rows number) ≡ false)
+        → cond answer 1 0 + count_by (is_of number are) rows ≡ 0
+        → (answer || list_any (λ (row : FileRow). are row.state) (rows_of_job rows number)) ≡ false
+    by_state true behind none = absurd (omega (arith, none))
+    by_state false behind none = behind (omega (arith, none))
 
-pub begun_is_active : (kind : JobKind) (rows : List FileRow) (place number : ℕ) (row : FileRow) → slice_get rows place ≡ Some row → row.job ≡ number
-    → (is_active row.state || is_settled row.state) ≡ true → count_by (is_live_of number) rows ≢ 0
+    by_head : (own : Bool) → (count_by (is_of number are) rows ≡ 0 → list_any (λ (row : FileRow). are row.state) (rows_of_job rows number) ≡ false)
+        → cond (own && are row.state) 1 0 + count_by (is_of number are) rows ≡ 0
+        → list_any (λ (row : FileRow). are row.state) (cond own (row ∷ rows_of_job rows number) (rows_of_job rows number)) ≡ false
+    by_head true behind none = by_state (are row.state) behind none
+    by_head false behind none = behind (omega (arith, none))
+
+-- a job of which some row is live is ACTIVE where one has begun, and SUBMITTED where none has
+state_by : (kind : JobKind) (of_job : List FileRow) (begun : Bool) → list_any (λ (row : FileRow). is_live row.state) of_job ≡ true
+    → list_any (λ (row : FileRow). has_begun row.state) of_job ≡ begun → state_of_job kind of_job ≡ cond begun Active Submitted
+state_by kind of_job begun live is =
+    ap (λ any. cond (not any) (cond (list_any (λ (row : FileRow). is_canceled row.state) of_job) Canceled (settled_state kind of_job))
+    (cond (list_any (λ (row : FileRow). has_begun row.state) of_job) Active Submitted)) live
+    ∙ ap (λ any. cond any Active Submitted) is
+
+pub some_begun : (kind : JobKind) (rows : List FileRow) (number : ℕ) → count_by (is_of number is_live) rows ≢ 0 → count_by (is_of number has_begun) rows ≢ 0
     → Active ≡ state_of_job kind (rows_of_job rows number)
-begun_is_active kind rows place number row at own begun live =
-    sym (active_by kind (rows_of_job rows number) (any_counted rows number live)
-    (any_of_job (λ (row : FileRow). is_active row.state || is_settled row.state) rows place number row at own begun))
+some_begun kind rows number live begun =
+    sym (state_by kind (rows_of_job rows number) true (any_counted is_live rows number live) (any_counted has_begun rows number begun))
+
+pub none_begun : (kind : JobKind) (rows : List FileRow) (number : ℕ) → count_by (is_of number is_live) rows ≢ 0 → count_by (is_of number has_begun) rows ≡ 0
+    → Submitted ≡ state_of_job kind (rows_of_job rows number)
+none_begun kind rows number live none =
+    sym (state_by kind (rows_of_job rows number) false (any_counted is_live rows number live) (none_counted has_begun rows number none))
 
 -- a row that stands among its job's rows
 pub own_rows : (rows : List FileRow) (place number : ℕ) (row : FileRow) → slice_get rows place ≡ Some row → row.job ≡ number
@@ -195,8 +200,8 @@ job_has_rows rows place number inside own = elim (slice_get_cases rows place).1 
 ]
 
 -- jobs that stood as their rows said before one of them changed
-module _ {jobs : List JobRow} {rows : List FileRow} {place : ℕ} {was_live : Bool} {list : JobList} (numbered : AreNumberedFrom (λ job. job.number) 1 jobs)
-    (earlier : AreStatesBefore jobs rows place was_live list) {row : FileRow} (at_row : slice_get rows place ≡ Some row) where
+module _ {jobs : List JobRow} {rows : List FileRow} {place : ℕ} {was : Tally} {list : JobList} (numbered : AreNumberedFrom (λ job. job.number) 1 jobs)
+    (earlier : AreStatesBefore jobs rows place was list) {row : FileRow} (at_row : slice_get rows place ≡ Some row) where
   -- the rows follow the jobs as before
   pub follow_now : RowsFollow jobs rows
   follow_now = record {
@@ -204,25 +209,24 @@ module _ {jobs : List JobRow} {rows : List FileRow} {place : ℕ} {was_live : Bo
     owners = sym (owners-set rows place row earlier.before at_row (earlier.job row at_row)) ∙ earlier.of_rows.follow.owners;
   }
 
-  -- how many rows of the job are live, with the one that changed
-  pub live_now : (number : ℕ) → row.job ≡ number
-      → count_by (is_live_of number) (set rows place earlier.before) + cond (is_live row.state) 1 0
-      ≡ count_by (is_live_of number) rows + cond (is_live earlier.before.state) 1 0
-  live_now number own =
-      let was = counted earlier.before (earlier.job row at_row ∙ own) in
-      omega (arith, count_by-set (is_live_of number) rows place row earlier.before at_row, counted row own, was)
+  -- how many rows of the job are in a state of some, with the one that changed
+  counted_now : (are : FileState → Bool) (number : ℕ) → row.job ≡ number
+      → count_by (is_of number are) (set rows place earlier.before) + cond (are row.state) 1 0
+      ≡ count_by (is_of number are) rows + cond (are earlier.before.state) 1 0
+  counted_now are number own =
+      let was = counts earlier.before (earlier.job row at_row ∙ own) in
+      omega (arith, count_by-set (is_of number are) rows place row earlier.before at_row, counts row own, was)
     where
-      counted : (some : FileRow) → some.job ≡ number → ◌≡◌ {A = ℕ} (cond (is_live_of number some) 1 0) (cond (is_live some.state) 1 0)
-      counted some is = ap (λ answer. cond (answer && is_live some.state) 1 0) (eq-eqb some.job number is)
+      counts : (some : FileRow) → some.job ≡ number → ◌≡◌ {A = ℕ} (cond (is_of number are some) 1 0) (cond (are some.state) 1 0)
+      counts some is = ap (λ answer. cond (answer && are some.state) 1 0) (eq-eqb some.job number is)
 
   -- what is kept of the job at a place
-  pub live_kept : (at : ℕ) (job : JobRow) (kept : Progress) → slice_get jobs at ≡ Some job → slice_get list.jobs at ≡ Some kept
-      → kept.live ≡ count_by (is_live_of job.number) (set rows place earlier.before)
-  live_kept at job kept there is =
-      ap (λ (progress : Progress). progress.live)
-      (same_Some kept (progress_of (set rows place earlier.before) job)
+  kept_at : (at : ℕ) (job : JobRow) (kept : Progress) → slice_get jobs at ≡ Some job → slice_get list.jobs at ≡ Some kept
+      → kept ≡ progress_of (set rows place earlier.before) job
+  kept_at at job kept there is =
+      same_Some kept (progress_of (set rows place earlier.before) job)
       (sym is ∙ (ap (λ (all : List Progress). slice_get all at) earlier.of_rows.stand
-      ∙ mapped_at (progress_of (set rows place earlier.before)) jobs at job there)))
+      ∙ mapped_at (progress_of (set rows place earlier.before)) jobs at job there))
 
   -- the job stands as it does now
   pub restated : (at : ℕ) (job : JobRow) (after : JobList) → row.job ≡ at + 1 → slice_get jobs at ≡ Some job
@@ -249,14 +253,27 @@ module _ {jobs : List JobRow} {rows : List FileRow} {place : ℕ} {was_live : Bo
     pub own_read : row.job ≡ job_read.number
     own_read = sym (number_at jobs row.job job_read found_read)
 
-    pub live_read : (kept : Progress) → slice_get list.jobs at ≡ Some kept → (some : FileRow) → slice_get rows place ≡ Some some
-        → kept.live + cond (is_live some.state) 1 0 ≡ count_by (is_live_of job_read.number) rows + cond was_live 1 0
-    live_read kept read some at_some =
+    -- what was counted of its rows, beside what is
+    counted_read : (are : FileState → Bool) (count : ℕ) (did : Bool) → count ≡ count_by (is_of job_read.number are) (set rows place earlier.before)
+        → did ≡ are earlier.before.state → (some : FileRow) → slice_get rows place ≡ Some some
+        → count + cond (are some.state) 1 0 ≡ count_by (is_of job_read.number are) rows + cond did 1 0
+    counted_read are count did kept before some at_some =
         let same_row : some ≡ row = same_Some some row (sym at_some ∙ at_row) in
-        let now : ◌≡◌ {A = ℕ} (cond (is_live some.state) 1 0) (cond (is_live row.state) 1 0) =
-        ap (λ (row : FileRow). cond (is_live row.state) 1 0) same_row in
-        let was : ◌≡◌ {A = ℕ} (cond was_live 1 0) (cond (is_live earlier.before.state) 1 0) = ap (λ live. cond live 1 0) earlier.live in
-        omega (arith, now, was, live_kept at job_read kept there_read read, live_now job_read.number own_read)
+        let now : ◌≡◌ {A = ℕ} (cond (are some.state) 1 0) (cond (are row.state) 1 0) =
+        ap (λ (row : FileRow). cond (are row.state) 1 0) same_row in
+        let was : ◌≡◌ {A = ℕ} (cond did 1 0) (cond (are earlier.before.state) 1 0) = ap (λ answer. cond answer 1 0) before in
+        omega (arith, now, was, kept, counted_now are job_read.number own_read)
+
+    pub live_read : (kept : Progress) → slice_get list.jobs at ≡ Some kept → (some : FileRow) → slice_get rows place ≡ Some some
+        → kept.live + cond (is_live some.state) 1 0 ≡ count_by (is_of job_read.number is_live) rows + cond was.live 1 0
+    live_read kept read =
+        counted_read is_live kept.live was.live (ap (λ (progress : Progress). progress.live) (kept_at at job_read kept there_read read)) earlier.counted.live
+
+    pub begun_read : (kept : Progress) → slice_get list.jobs at ≡ Some kept → (some : FileRow) → slice_get rows place ≡ Some some
+        → kept.begun + cond (has_begun some.state) 1 0 ≡ count_by (is_of job_read.number has_begun) rows + cond was.begun 1 0
+    begun_read kept read =
+        counted_read has_begun kept.begun was.begun (ap (λ (progress : Progress). progress.begun) (kept_at at job_read kept there_read read))
+        earlier.counted.begun
 
     pub restated_read : (after : JobList) → row.job ≡ at + 1 → (new : Progress) → new ≡ progress_of rows job_read
         → after ≡ record list { jobs = set list.jobs at new } → AreStatesOf jobs rows after

@@ -7,33 +7,34 @@ use Rattle.std.proofs.lemmas.List.{map-append, length-replicate, length-map}
 use Rattle.fts_tables.specs.Tables.{Tables, AreNumberedFrom, AreFirstsFrom, AreWellFormed, RowsFollow, owners, is_live, job_at, rows_of_job}
 use Rattle.fts_tables.specs.Moves.{state_of_job}
 use Rattle.fts_tables.specs.declared.rows.FileRow.{FileRow}
+use Rattle.fts_tables.specs.declared.rows.FileState.{FileState}
 use Rattle.fts_tables.specs.declared.rows.JobRow.{JobRow}
-use Rattle.fts_desk.specs.Counted.{is_live_of, count_live, progress_of, AreStatesOf}
+use Rattle.fts_desk.specs.Counted.{has_begun, is_of, count_in, progress_in, progress_of, AreStatesOf}
 use Rattle.fts_desk.specs.JobLists.{JobList}
 use Rattle.fts_desk.specs.declared.job_states.Progress.{Progress}
 use Rattle.fts_desk.proofs.Numbered.{none_of_job}
 use Rattle.fts_desk.proofs.JobProgress.{count_by-cons, as_they_are}
 
--- the live rows of a job are counted among its rows
-count_of_job : (rows : List FileRow) (number : ℕ) → count_by (is_live_of number) rows ≡ count_live (rows_of_job rows number)
-count_of_job [] number = refl
-count_of_job (row ∷ rows) number =
-    count_by-cons (is_live_of number) row rows ∙ by_head (row.job == number) (count_of_job rows number)
+-- the rows of a job that are in a state of some are counted among its rows
+count_of_job : (are : FileState → Bool) (rows : List FileRow) (number : ℕ) → count_by (is_of number are) rows ≡ count_in are (rows_of_job rows number)
+count_of_job are [] number = refl
+count_of_job are (row ∷ rows) number =
+    count_by-cons (is_of number are) row rows ∙ by_head (row.job == number) (count_of_job are rows number)
   where
-    by_head : (answer : Bool) → count_by (is_live_of number) rows ≡ count_live (rows_of_job rows number)
-        → cond (answer && is_live row.state) 1 0 + count_by (is_live_of number) rows
-        ≡ count_live (cond answer (row ∷ rows_of_job rows number) (rows_of_job rows number))
+    by_head : (answer : Bool) → count_by (is_of number are) rows ≡ count_in are (rows_of_job rows number)
+        → cond (answer && are row.state) 1 0 + count_by (is_of number are) rows
+        ≡ count_in are (cond answer (row ∷ rows_of_job rows number) (rows_of_job rows number))
     by_head true behind =
-        ap (λ count. cond (is_live row.state) 1 0 + count) behind
-        ∙ sym (count_by-cons (λ (other : FileRow). is_live other.state) row (rows_of_job rows number))
+        ap (λ count. cond (are row.state) 1 0 + count) behind
+        ∙ sym (count_by-cons (λ (other : FileRow). are other.state) row (rows_of_job rows number))
     by_head false behind = omega (arith, behind)
 
 -- so a job stands as its rows say
 stands_by : (rows of_job : List FileRow) (job : JobRow) → rows_of_job rows job.number ≡ of_job
-    → progress_of rows job ≡ record { state = state_of_job job.kind of_job; live = count_live of_job }
+    → progress_of rows job ≡ progress_in of_job job.kind
 stands_by rows of_job job same =
-    as_they_are (state_of_job job.kind (rows_of_job rows job.number)) (state_of_job job.kind of_job) (count_by (is_live_of job.number) rows)
-    (count_live of_job) (ap (state_of_job job.kind) same) (count_of_job rows job.number ∙ ap count_live same)
+    as_they_are (progress_of rows job) (progress_in of_job job.kind) (ap (state_of_job job.kind) same)
+    (count_of_job is_live rows job.number ∙ ap (count_in is_live) same) (count_of_job has_begun rows job.number ∙ ap (count_in has_begun) same)
 
 -- the rows of a job among rows and those behind them
 rows-append : (rows more : List FileRow) (number : ℕ) → rows_of_job (rows ++ more) number ≡ rows_of_job rows number ++ rows_of_job more number
@@ -114,7 +115,7 @@ module _ (tables : Tables) (formed : AreWellFormed tables) (job : JobRow) (more 
       tables.jobs formed.jobs (omega (arith, number))
 
   -- and the new one as its rows say
-  new_stands : progress_of (tables.rows ++ more) job ≡ record { state = state_of_job job.kind more; live = count_live more }
+  new_stands : progress_of (tables.rows ++ more) job ≡ progress_in more job.kind
   new_stands =
       stands_by (tables.rows ++ more) more job
       (rows-append tables.rows more job.number
@@ -134,7 +135,7 @@ module _ (tables : Tables) (formed : AreWellFormed tables) (job : JobRow) (more 
   }
 
   -- all stand as the rows say
-  pub states_more : (new : Progress) (after : JobList) → new ≡ record { state = state_of_job job.kind more; live = count_live more }
+  pub states_more : (new : Progress) (after : JobList) → new ≡ progress_in more job.kind
       → after ≡ record list { jobs = list.jobs ++ new ∷ [] } → AreStatesOf (tables.jobs ++ job ∷ []) (tables.rows ++ more) after
   states_more new after is done = record {
     stand = ap (λ (list : JobList). list.jobs) done

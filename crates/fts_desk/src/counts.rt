@@ -1,10 +1,10 @@
 //! What stands beside the rows as counts of them: how many rows wait or run on each link, from when each waiting file is overdue, and how each job stands.
 //! Keeps: they are those of the rows (`AreCountsOf`). A row whose state changes counts anew right behind the change (`recount`, `recount_left`), by what it
 //! counted for before it (`counted`); the new rows of a submission come in once they all stand (`count_new`).
-ghost use Rattle.std.specs.Prelude.{◌≡◌, ◌+◌, ◌&&◌, ◌||◌, ◌<◌, ◌≤◌, Some, slice_get, Bool, if◌then◌else◌, length, map, count_by, IfSome};
+ghost use Rattle.std.specs.Prelude.{◌≡◌, ◌+◌, ◌&&◌, ◌<◌, ◌≤◌, Some, slice_get, Bool, if◌then◌else◌, length, map, count_by, IfSome};
 ghost use Rattle.fts_tables.specs.SettingsData.{SettingsData};
 ghost use Rattle.fts_slots.specs.SlotsData.{name_at};
-ghost use Rattle.fts_tables.specs.Tables.{AreNumberedFrom, is_active, is_live, is_settled, rows_of_job};
+ghost use Rattle.fts_tables.specs.Tables.{AreNumberedFrom, is_live, rows_of_job};
 ghost use Rattle.fts_tables.specs.Moves.{state_of_job};
 ghost use Rattle.fts_tables.specs.declared.limits.TheConstants.{MAX_ROWS};
 ghost use Rattle.fts_tables.specs.declared.rows.FileRow.{FileRow};
@@ -14,7 +14,18 @@ ghost use Rattle.fts_index.specs.RowDues.{due_from};
 ghost use Rattle.fts_desk.specs.Standing.{StandTogether};
 ghost use Rattle.fts_desk.specs.Loaded.{MayRecount, MayCount};
 ghost use Rattle.fts_desk.specs.Parts.{limits_of, IsBetweenIn};
-ghost use Rattle.fts_desk.specs.Counted.{AreCountsOf, AreCountsBefore, IsCountedAt, AreStatesOf, AreStatesBefore, is_live_of, progress_of, count_live};
+ghost use Rattle.fts_desk.specs.Counted.{
+  AreCountsOf,
+  AreCountsBefore,
+  IsCountedAt,
+  AreStatesOf,
+  AreStatesBefore,
+  has_begun,
+  is_of,
+  count_in,
+  progress_in,
+  progress_of,
+};
 
 use crate::job_states::{JobStates, Progress};
 use crate::kept::Counts;
@@ -25,10 +36,12 @@ use fts_index::laws::{counts_go_by_one, dues_of_a_changed_row};
 use fts_states::{job_state, overdue_from};
 use fts_tables::{EndpointName, FileRow, JobKind, JobRow, JobState, LinkAt};
 
-/// What a row counts for: whether it waits or runs, and the moment from which it is overdue, where it waits and its job limits its time.
+/// What a row counts for: whether it waits or runs, whether it runs or is settled, and the moment from which it is overdue, where it waits and its job
+/// limits its time.
 #[derive(Clone, Copy)]
 pub struct Tally {
     pub live: bool,
+    pub begun: bool,
     pub due: Option<u64>,
 }
 
@@ -55,6 +68,7 @@ pub fn counted(jobs: &[JobRow], rows: &[FileRow], place: usize) -> Tally
     let row = &rows[place];
     Tally {
         live: row.state.is_live(),
+        begun: has_begun(row),
         due: due_from(jobs, row),
     }
 }
@@ -156,16 +170,16 @@ fn recount_between(
         dest,
     );
     counts.dues.change(row.id, was.due, due_from(jobs, row));
-    restate(&mut counts.states, jobs, rows, place, was.live);
+    restate(&mut counts.states, jobs, rows, place, was);
 }
 
-/// Lets the job of the row at a place stand as its rows say, where that row has changed since it was live, or wasn't.
-fn restate(states: &mut JobStates, jobs: &[JobRow], rows: &[FileRow], place: usize, was_live: bool)
+/// Lets the job of the row at a place stand as its rows say, where that row has changed since it counted for that.
+fn restate(states: &mut JobStates, jobs: &[JobRow], rows: &[FileRow], place: usize, was: Tally)
     requires jobs_numbered { AreNumberedFrom (λ job. job.number) 1 jobs.now }
     requires rows_numbered { AreNumberedFrom (λ row. row.id) 1 rows.now }
     requires inside { place < length rows.now }
     requires few { length rows.now ≤ MAX_ROWS }
-    requires before { AreStatesBefore jobs.now rows.now place was_live states.old }
+    requires before { AreStatesBefore jobs.now rows.now place was states.old }
     ensures states { AreStatesOf jobs.now rows.now states.new }
 {
     rows_stand_together();
@@ -174,35 +188,48 @@ fn restate(states: &mut JobStates, jobs: &[JobRow], rows: &[FileRow], place: usi
         Some(at) => {
             let job = &jobs[at];
             let before = states.get(at as u32);
-            let now = progress_after(before, job, rows, place, was_live);
+            let now = progress_after(before, job, rows, place, was);
             states.set(at as u32, now);
         }
         None => {}
     }
 }
 
-/// How a job stands behind a change of its row at a place, which was live before it, or wasn't.
+/// How a job stands behind a change of its row at a place, which counted for that before it.
 fn progress_after(
     before: Progress,
     job: &JobRow,
     rows: &[FileRow],
     place: usize,
-    was_live: bool,
+    was: Tally,
 ) -> Progress
     requires inside { place < length rows.now }
     requires few { length rows.now ≤ MAX_ROWS }
     requires together { StandTogether rows.now job.now }
     requires own { (row : FileRow) → slice_get rows.now place ≡ Some row → row.job ≡ job.now.number }
     requires live { (row : FileRow) → slice_get rows.now place ≡ Some row → before.live + (if is_live row.state then 1 else 0)
-        ≡ count_by (is_live_of job.now.number) rows.now + (if was_live then 1 else 0) }
+        ≡ count_by (is_of job.now.number is_live) rows.now + (if was.live then 1 else 0) }
+    requires begun { (row : FileRow) → slice_get rows.now place ≡ Some row → before.begun + (if has_begun row.state then 1 else 0)
+        ≡ count_by (is_of job.now.number has_begun) rows.now + (if was.begun then 1 else 0) }
     ensures progress { result ≡ progress_of rows.now job.now }
 {
-    let is_live = rows[place].state.is_live();
-    let live = before.live + one_if(is_live) - one_if(was_live);
+    let row = &rows[place];
+    let live = count_after(before.live, row.state.is_live(), was.live);
+    let begun = count_after(before.begun, has_begun(row), was.begun);
     Progress {
-        state: state_after(rows, place, job, live),
+        state: state_after(rows, place, job, live, begun),
         live,
+        begun,
     }
+}
+
+/// A count of rows behind a change of one of them, which counts now or doesn't, and did before or didn't.
+fn count_after(before: u32, counts: bool, did: bool) -> u32
+    requires few { before ≤ MAX_ROWS + 1 }
+    requires some { (if did then 1 else 0) ≤ before + (if counts then 1 else 0) }
+    ensures count { result + (if did then 1 else 0) ≡ before + (if counts then 1 else 0) }
+{
+    before + one_if(counts) - one_if(did)
 }
 
 /// One where something is so.
@@ -212,24 +239,28 @@ fn one_if(is_so: bool) -> u32
     if is_so { 1 } else { 0 }
 }
 
-/// The state of a job that has so many live rows, behind a change of its row at a place: where that has begun, it is known without a look at the others.
-fn state_after(rows: &[FileRow], place: usize, job: &JobRow, live: u32) -> JobState
+/// The state of a job that has so many rows that are live and so many that have begun, behind a change of its row at a place:
+/// as long as some are live, it is known without a look at the rows.
+fn state_after(rows: &[FileRow], place: usize, job: &JobRow, live: u32, begun: u32) -> JobState
     requires inside { place < length rows.now }
     requires together { StandTogether rows.now job.now }
     requires own { (row : FileRow) → slice_get rows.now place ≡ Some row → row.job ≡ job.now.number }
-    requires live { live ≡ count_by (is_live_of job.now.number) rows.now }
+    requires live { live ≡ count_by (is_of job.now.number is_live) rows.now }
+    requires begun { begun ≡ count_by (is_of job.now.number has_begun) rows.now }
     ensures state { result ≡ state_of_job job.now.kind (rows_of_job rows.now job.now.number) }
 {
-    if live != 0 && has_begun(&rows[place]) {
-        JobState::Active
-    } else {
+    if live == 0 {
         job_state(rows_of_job(rows, job), job.kind)
+    } else if begun == 0 {
+        JobState::Submitted
+    } else {
+        JobState::Active
     }
 }
 
 /// Whether a file runs or is settled.
 fn has_begun(row: &FileRow) -> bool
-    ensures answer { result ≡ (is_active row.now.state || is_settled row.now.state) }
+    ensures answer { result ≡ has_begun row.now.state }
 {
     row.state.is_active() || row.state.is_settled()
 }
@@ -279,18 +310,27 @@ pub fn count_new(loads: &mut Loads, rows: &[FileRow])
 pub fn progress_of_new(rows: &[FileRow], kind: JobKind) -> Progress
     requires some { 0 < length rows.now }
     requires few { length rows.now ≤ MAX_ROWS }
-    ensures progress { result ≡ record { state = state_of_job kind rows.now; live = count_live rows.now } }
+    ensures progress { result ≡ progress_in rows.now kind }
 {
     Progress {
         state: job_state(rows, kind),
         live: count_live(rows),
+        begun: count_begun(rows),
     }
 }
 
 /// How many rows wait or run.
 fn count_live(rows: &[FileRow]) -> u32
     requires few { length rows.now ≤ MAX_ROWS }
-    ensures count { result ≡ count_live rows.now }
+    ensures count { result ≡ count_in is_live rows.now }
 {
     rows.iter().filter(|row| row.state.is_live()).count() as u32
+}
+
+/// How many rows run or are settled.
+fn count_begun(rows: &[FileRow]) -> u32
+    requires few { length rows.now ≤ MAX_ROWS }
+    ensures count { result ≡ count_in has_begun rows.now }
+{
+    rows.iter().filter(|row| has_begun(row)).count() as u32
 }

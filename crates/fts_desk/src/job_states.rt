@@ -15,11 +15,12 @@ use std::marker::Model;
 /// How many states a job may have.
 pub const JOB_STATES: usize = 6;
 
-/// How a job stands: its state, and how many of its files wait or run.
+/// How a job stands: its state, how many of its files wait or run, and how many of them run or are settled.
 #[derive(Clone, Copy)]
 pub struct Progress {
     pub state: JobState,
     pub live: u32,
+    pub begun: u32,
 }
 
 /// The place of a job, from 0.

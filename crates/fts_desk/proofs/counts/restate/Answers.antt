@@ -2,7 +2,7 @@
 use Rattle.std.proofs.Common.{[], length, None, refl, ap, sym, ◌∙◌}
 use Rattle.std.proofs.lemmas.Option.{slice_get_read, same_Some}
 use Rattle.fts_tables.specs.declared.rows.FileRow.{FileRow}
-use Rattle.fts_desk.proofs.JobProgress.{follow_now, found_read, own_read, live_read, restated_read, restated_none}
+use Rattle.fts_desk.proofs.JobProgress.{follow_now, found_read, own_read, live_read, begun_read, restated_read, restated_none}
 use Rattle.fts_desk.proofs.counts.restate.Goals as goal
 
 pub progress_after-now-requires-clause-together : goal.progress_after-now-requires-clause-together
@@ -28,6 +28,13 @@ pub progress_after-now-requires-clause-live : goal.progress_after-now-requires-c
 progress_after-now-requires-clause-live c =
     let at = slice_get_read c.args.rows.now (length c.args.rows.now) c.args.place _ refl c.requires.inside c.index-rows-place.is in
     live_read c.requires.jobs_numbered c.requires.before at
+    c.in-Some.at _ c.in-Some.ensures.inside.0 c.in-Some.ensures.job c.get-before.result
+    c.get-before.ensures.job
+
+pub progress_after-now-requires-clause-begun : goal.progress_after-now-requires-clause-begun
+progress_after-now-requires-clause-begun c =
+    let at = slice_get_read c.args.rows.now (length c.args.rows.now) c.args.place _ refl c.requires.inside c.index-rows-place.is in
+    begun_read c.requires.jobs_numbered c.requires.before at
     c.in-Some.at _ c.in-Some.ensures.inside.0 c.in-Some.ensures.job c.get-before.result
     c.get-before.ensures.job
 

@@ -1,10 +1,9 @@
 -- The new rows count, their files wait, and their job stands as they say.
 use Rattle.std.proofs.Common.{◌+◌, List, [], ◌∷◌, ◌++◌, length, length-append, ap, sym, ◌∙◌, arith, subst}
-use Rattle.fts_tables.specs.Moves.{state_of_job}
 use Rattle.fts_tables.specs.declared.rows.FileRow.{FileRow}
 use Rattle.fts_tables.specs.declared.rows.JobRow.{JobRow}
 use Rattle.fts_index.specs.RowDues.{MayAdd, HasAdded}
-use Rattle.fts_desk.specs.Counted.{AreStatesOf, count_live}
+use Rattle.fts_desk.specs.Counted.{AreStatesOf, progress_in}
 use Rattle.fts_desk.specs.Parts.{HaveRoomInLine}
 use Rattle.fts_desk.specs.Loaded.{are_known}
 use Rattle.fts_desk.proofs.RowLinks.{links_of_kind}
@@ -77,7 +76,7 @@ returns-clause-beside c =
             (omega (arith, added.files, long, added.long)) (omega (arith, added.first, added.behind)) added.earlier.counts.states
             c.progress_of_new.result c.add.new.self
             (c.progress_of_new.ensures.progress
-            ∙ ap (λ (some : List FileRow). record { state = state_of_job job.kind some; live = count_live some }) here)
+            ∙ ap (λ (some : List FileRow). progress_in some job.kind) here)
             c.add.ensures.jobs));
       };
       parts = c.wait_from.ensures.tied;
