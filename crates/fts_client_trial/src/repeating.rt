@@ -278,7 +278,7 @@ fn bytes_behind_an_answer_are_left_alone(rt: HostRuntime) -> Result<(), Fail> {
     let mut link = link_of_one(rt.alloc(), two.as_str(), NEVER, NEVER)?;
     let mut room = AnswerRoom::new(rt.alloc())?;
     let end = submit_once(rt.alloc(), &mut link, &mut room);
-    assert_eq!(rt; end, DONE, "the first answer counts");
+    assert!(rt; end == DONE, "the first answer counts");
     let tried = tried_on(rt.alloc(), CREATED, 70_000, 2)?;
     assert!(rt; tried == Tried::Sent(Ok(200)), "no second piece is read");
     Ok(())
@@ -391,10 +391,10 @@ fn a_link_gives_its_lines_in_order(rt: HostRuntime) -> Result<(), Fail> {
     let Ok(second) = link.dial(PORT) else {
         return Err(Fail::new("the third dial"));
     };
-    assert_eq!(rt; first.write(b"ab"), Ok(2), "a line is written");
+    assert!(rt; first.write(b"ab") == Ok(2), "a line is written");
     link.done(second);
     link.done(first);
-    assert_eq!(rt; link.back().len(), 2, "both came back");
+    assert!(rt; link.back().len() == 2, "both came back");
     assert!(rt; link.back()[0].bytes().is_empty(), "the second came first");
     assert!(rt;
         link.back()[1].bytes() == b"ab".as_slice(),

@@ -43,9 +43,9 @@ fn a_client_of_a_socket_is_answered(rt: HostRuntime) -> Result<(), Fail> {
     client.write_all(b"ab")?;
     let mut line = next_line(&mut doors)?;
     let mut bytes = [0; 8];
-    assert_eq!(rt; line.read(&mut bytes), Ok(2), "what it sends");
+    assert!(rt; line.read(&mut bytes) == Ok(2), "what it sends");
     assert!(rt; bytes.starts_with(b"ab"), "byte for byte");
-    assert_eq!(rt; line.write(b"cde"), Ok(3), "what it is answered");
+    assert!(rt; line.write(b"cde") == Ok(3), "what it is answered");
     doors.done(line);
     let mut answer = Vec::new(rt.alloc());
     client.read_to_end(&mut answer)?;

@@ -25,21 +25,23 @@ fn a_claim_meets_no_busy_destination(rt: HostRuntime) -> Result<(), Fail> {
     let near = make_file(7, 0, 2, 6);
     let far = make_file(7, 1, 3, 5);
     heads.insert(far);
-    assert_eq!(rt; heads.first_of(7), Some(far));
+    assert!(rt; heads.first_of(7) == Some(far));
     heads.insert(near);
-    assert_eq!(rt; heads.first_of(7), Some(near), "the lesser rank goes first");
+    assert!(rt;
+        heads.first_of(7) == Some(near),
+        "the lesser rank goes first"
+    );
     heads.busy(0);
     assert!(rt; heads.is_busy(0) && !heads.is_busy(1), "one is busy");
-    assert_eq!(rt;
-        heads.first_of(7),
-        Some(far),
+    assert!(rt;
+        heads.first_of(7) == Some(far),
         "the destination of the first is busy"
     );
     heads.remove(far);
-    assert_eq!(rt; heads.first_of(7), None, "none for a free destination");
+    assert!(rt; heads.first_of(7) == None, "none for a free destination");
     heads.free(0);
-    assert_eq!(rt; heads.first_of(7), Some(near));
-    assert_eq!(rt; heads.first_of(6), None, "another queue");
+    assert!(rt; heads.first_of(7) == Some(near));
+    assert!(rt; heads.first_of(6) == None, "another queue");
     assert!(rt; heads.has(&near) && !heads.has(&far) && heads.len() == 1 && heads.dests() == 2);
     Ok(())
 }
@@ -57,37 +59,36 @@ fn files_that_brought_their_destinations_stand_among_the_others(
     let second = make_file(7, 1, 3, 2);
     let third = make_file(7, 0, 1, 3);
     heads.insert(first);
-    assert_eq!(rt;
-        heads.own_at(0),
-        Some(first),
+    assert!(rt;
+        heads.own_at(0) == Some(first),
         "the first file of its destination"
     );
     heads.insert(second);
     heads.insert(third);
-    assert_eq!(rt; heads.own_at(1), Some(second), "the first of another");
-    assert_eq!(rt;
-        heads.first_of(7),
-        Some(third),
+    assert!(rt; heads.own_at(1) == Some(second), "the first of another");
+    assert!(rt;
+        heads.first_of(7) == Some(third),
         "the lesser rank goes first"
     );
-    assert_eq!(rt;
-        heads.first_from(&make_file(0, 9, 0, 0)),
-        Some(second),
+    assert!(rt;
+        heads.first_from(&make_file(0, 9, 0, 0)) == Some(second),
         "of the greatest destination"
     );
-    assert_eq!(rt;
-        heads.next_after(&second),
-        Some(third),
+    assert!(rt;
+        heads.next_after(&second) == Some(third),
         "the next destination"
     );
-    assert_eq!(rt; heads.next_after(&third), Some(first), "its other file");
-    assert_eq!(rt; heads.next_after(&first), None, "none behind the last");
+    assert!(rt; heads.next_after(&third) == Some(first), "its other file");
+    assert!(rt; heads.next_after(&first) == None, "none behind the last");
     if let Some(found) = heads.own_at(0) {
         heads.remove(found);
     }
-    assert_eq!(rt; heads.own_at(0), None, "it went");
-    assert_eq!(rt; heads.next_after(&second), Some(third), "the other stays");
-    assert_eq!(rt; heads.first_without_dest(), None, "each has a destination");
+    assert!(rt; heads.own_at(0) == None, "it went");
+    assert!(rt; heads.next_after(&second) == Some(third), "the other stays");
+    assert!(rt;
+        heads.first_without_dest() == None,
+        "each has a destination"
+    );
     Ok(())
 }
 
@@ -99,19 +100,18 @@ fn who_brought_a_destination_is_found_wherever_it_stands(rt: HostRuntime) -> Res
     heads.add_dest();
     heads.add_dest();
     heads.make_room(2)?;
-    assert_eq!(rt; heads.own_at(2), None, "nobody is there");
+    assert!(rt; heads.own_at(2) == None, "nobody is there");
     let follower = make_file(6, 2, 0, 9);
     let bringer = make_file(7, 2, 0, 3);
     heads.insert(follower);
-    assert_eq!(rt; heads.own_at(2), None, "who follows did not bring it");
+    assert!(rt; heads.own_at(2) == None, "who follows did not bring it");
     heads.insert(bringer);
-    assert_eq!(rt;
-        heads.own_at(2),
-        Some(bringer),
+    assert!(rt;
+        heads.own_at(2) == Some(bringer),
         "behind another, of a number past the room"
     );
-    assert_eq!(rt; heads.own_at(1), None, "of another destination");
+    assert!(rt; heads.own_at(1) == None, "of another destination");
     heads.remove(bringer);
-    assert_eq!(rt; heads.own_at(2), None, "it went");
+    assert!(rt; heads.own_at(2) == None, "it went");
     Ok(())
 }

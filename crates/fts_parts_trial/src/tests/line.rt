@@ -40,12 +40,15 @@ fn files_for_a_busy_destination_are_passed_as_one(rt: HostRuntime) -> Result<(),
     line.insert(make_waiter(1, 3, 0));
     line.insert(make_waiter(2, 5, 0));
     line.insert(make_waiter(3, 1, 0));
-    assert_eq!(rt; line.first_open(LINK, 3), Some(2), "the greatest priority");
+    assert!(rt;
+        line.first_open(LINK, 3) == Some(2),
+        "the greatest priority"
+    );
     line.busy(0);
-    assert_eq!(rt; line.first_open(LINK, 3), Some(3), "both are passed");
+    assert!(rt; line.first_open(LINK, 3) == Some(3), "both are passed");
     line.free(0);
-    assert_eq!(rt; line.first_open(LINK, 3), Some(2));
-    assert_eq!(rt; line.first_open(LINK, 2), None, "another queue");
+    assert!(rt; line.first_open(LINK, 3) == Some(2));
+    assert!(rt; line.first_open(LINK, 2) == None, "another queue");
     let is_one_queue = line.queues() == 1 && line.queue(0) == (LINK, 3);
     assert!(rt; is_one_queue && !line.is_busy(0) && line.rows() == 3);
     Ok(())
@@ -64,29 +67,26 @@ fn a_better_file_goes_first_once_its_moment_has_come(rt: HostRuntime) -> Result<
     line.insert(make_waiter(2, 5, 10));
     line.insert(make_waiter(3, 1, 5_000_000_000));
     line.ripen(9);
-    assert_eq!(rt; line.first_open(LINK, 3), Some(1), "before its moment");
+    assert!(rt; line.first_open(LINK, 3) == Some(1), "before its moment");
     line.ripen(10);
-    assert_eq!(rt; line.first_open(LINK, 3), Some(2), "at its moment");
+    assert!(rt; line.first_open(LINK, 3) == Some(2), "at its moment");
     line.ripen(9);
-    assert_eq!(rt;
-        line.first_open(LINK, 3),
-        Some(1),
+    assert!(rt;
+        line.first_open(LINK, 3) == Some(1),
         "the clock has gone back"
     );
     line.ripen(5_000_000_000);
-    assert_eq!(rt; line.first_open(LINK, 3), Some(2), "and is there again");
+    assert!(rt; line.first_open(LINK, 3) == Some(2), "and is there again");
     line.remove(&make_waiter(2, 5, 10));
-    assert_eq!(rt; line.first_open(LINK, 3), Some(1));
+    assert!(rt; line.first_open(LINK, 3) == Some(1));
     line.busy(0);
-    assert_eq!(rt;
-        line.first_open(LINK, 3),
-        Some(3),
+    assert!(rt;
+        line.first_open(LINK, 3) == Some(3),
         "whose moment takes more than 32 bits"
     );
     line.ripen(0);
-    assert_eq!(rt;
-        line.first_open(LINK, 3),
-        None,
+    assert!(rt;
+        line.first_open(LINK, 3) == None,
         "none is ripe for a free destination"
     );
     line.remove(&make_waiter(3, 1, 5_000_000_000));
@@ -105,14 +105,14 @@ fn a_file_that_brought_its_destination_goes_by_its_number(rt: HostRuntime) -> Re
     line.insert(make_waiter(1, 3, 0));
     line.insert(make_waiter(2, 5, 0));
     line.insert(make_waiter(3, 1, 10));
-    assert_eq!(rt; line.own_link(1), Some(LINK), "it waits");
-    assert_eq!(rt; line.own_link(2), None, "it follows to another's");
-    assert_eq!(rt; line.own_link(3), None, "its moment is to come");
+    assert!(rt; line.own_link(1) == Some(LINK), "it waits");
+    assert!(rt; line.own_link(2) == None, "it follows to another's");
+    assert!(rt; line.own_link(3) == None, "its moment is to come");
     assert!(rt; !line.take_own(2) && !line.take_own(3) && !line.take_own(4));
     assert!(rt; line.take_own(1), "it goes");
     assert!(rt; !line.take_own(1), "it went");
-    assert_eq!(rt; line.first_open(LINK, 3), Some(2), "the other stays");
+    assert!(rt; line.first_open(LINK, 3) == Some(2), "the other stays");
     line.ripen(10);
-    assert_eq!(rt; line.own_link(3), Some(LINK), "its moment has come");
+    assert!(rt; line.own_link(3) == Some(LINK), "its moment has come");
     Ok(())
 }
