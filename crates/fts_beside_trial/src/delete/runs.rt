@@ -1,5 +1,5 @@
 //! Runs of `delete` over a disk, a store, an input and an output in memory: what is written, the status, and the line that is noted.
-use crate::deletes::store_failing;
+use super::deletes::store_failing;
 use fts_config::read_settings;
 use fts_deleting::{DeleteEnd, run_delete, send_delete_note};
 use fts_disk::{Disk, MemoryDisk};

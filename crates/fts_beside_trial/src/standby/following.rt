@@ -1,6 +1,6 @@
 //! Following over links and disks in memory. A row is a sentence, how many entries are held, what the lines answer in order, the dial that fails, how
 //! many tries are allowed, the end that is wanted, how many lines came back, and how many entries there are then.
-use crate::answers::{
+use super::answers::{
     CUT, DISK_FAILED, FIRST, NO_DIAL, NO_ENTRY, NO_ENTRY_BYTES, NO_OBJECT, NO_ROUTE, OTHER_FIRST,
     PORT, SECOND, THIRD, has, journal, link,
 };

@@ -2,7 +2,7 @@
 //! output and the line that it notes. Statuses and texts are those of `docs/API.md`.
 ghost use Rattle.std.specs.Prelude.{◌≤◌};
 
-use crate::answers::{
+use super::answers::{
     CREATED, CUT, DISK_FAILED, DOCUMENT, DUPLICATE, JOB, NEVER, NO_DIAL, NO_MEMORY, NOT_FOUND,
     NOT_JSON, PORT, QUERY, REQUEST, SHOWN, Tries, link,
 };

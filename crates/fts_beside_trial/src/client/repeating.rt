@@ -2,12 +2,12 @@
 //! Ends are those of `docs/API.md`.
 ghost use Rattle.std.specs.Prelude.{◌≤◌};
 
-use crate::answers::{
+use super::answers::{
     CREATED, CUT, DISK_FAILED, DOCUMENT, DUPLICATE, JOB, NEVER, NO_DIAL, NO_ID, NO_MEMORY,
     NOT_FOUND, NOT_JSON, NUMBER_FOR_ID, PORT, QUERY, REQUEST, SHORT_ID, SHOWN, Tries, link,
     link_of_one,
 };
-use crate::commands::is_asked_so;
+use super::commands::is_asked_so;
 use fts_client::{Link, MemoryLink, QueryEnd, SubmitEnd, Tried, query, submit, try_once};
 use fts_wire::{AnswerFault, AnswerRoom, MemoryLine, MemorySink, MemorySource, Sink};
 use std::alloc::Global;

@@ -1,7 +1,7 @@
 //! The command over links and disks in memory: its status, what it writes and notes, and what its journal holds then.
 ghost use Rattle.std.specs.Prelude.{◌≤◌};
 
-use crate::answers::{
+use super::answers::{
     DISK_FAILED, FIRST, NEVER, NO_DIAL, NO_ENTRY, NO_ROUTE, OTHER_FOURTH, PORT, SECOND, THIRD, has,
     journal, link,
 };
