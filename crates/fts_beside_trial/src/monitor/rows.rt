@@ -1,7 +1,7 @@
 //! The rows. A row is a sentence, a file and what it is later, two requests, each on a line of its own, and what each is answered.
 //! Opening a journal with one entry takes five reads, and a look that finds nothing new takes one.
-use crate::disk::Changing;
-use crate::texts::{
+use super::disk::Changing;
+use super::texts::{
     AFTER_THE_CLAIM, AFTER_THE_REPORT, AFTER_THE_START, BAD_QUERY, BEFORE_DAMAGE, CLAIMED, DAMAGED,
     DISK_FAILED, EMPTY, EXPIRED, EXPIRED_JOBS, FAILED, FAILED_JOB, FAILED_JOBS, FOREIGN_ORIGIN,
     HISTORY, JOB, JOBS, NO_JOB, NO_JOBS, NO_METHOD, NO_METHOD_TO_HEAD, NO_ROUTE, NOTHING, OTHER,
