@@ -1,5 +1,0 @@
-use Rattle.fts_turnstile.specs.Passes.{IsSame}
-use Rattle.fts_shop_trial.proofs.turnstile.count_up.Given as goal
-
-abbrev pub invariant-loop-count : goal.invariant-loop-count
-invariant-loop-count g l = IsSame l.initial.pass l.pass
